@@ -1,0 +1,4 @@
+pub mod Net
+pub mod Pairs
+pub mod Start
+pub mod Build

@@ -1,0 +1,9 @@
+pub mod Rows
+pub mod Active
+pub mod Timetable
+pub mod Cost
+pub mod Resolve
+pub mod Refuse
+pub mod History
+pub mod Decide
+pub mod Touch

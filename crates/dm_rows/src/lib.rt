@@ -1,0 +1,9 @@
+//! The rows of a day over a network, the messages that change them, and what every timetable, cost and refusal means.
+//!
+//! It stands on dm_network. Its `specs/` are the definitions that every promise of the dispatcher cites: which
+//! activities bind, which timetables meet the rows, the least one, cycles, costs, refusals and histories.
+#![tactic(auto)]
+
+mod messages;
+
+pub use messages::{At, Change, Choice, Decision, Entry, Flip, Message, Refusal, StartFault};
