@@ -1,0 +1,6 @@
+//! The top call of the dispatcher.
+#![tactic(auto)]
+
+mod files;
+mod numbers;
+mod words;
