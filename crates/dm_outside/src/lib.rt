@@ -1,0 +1,17 @@
+//! The outside of the dispatcher's server: where bytes come from and go to, what shows times, and
+//! where a run may be held up.
+#![tactic(auto)]
+
+mod boards;
+mod faults;
+mod gates;
+mod shelves;
+mod sinks;
+mod sources;
+
+pub use boards::Board;
+pub use faults::{Failed, TakeFault, WriteFault};
+pub use gates::{Gate, OpenGate};
+pub use shelves::Shelf;
+pub use sinks::Sink;
+pub use sources::Source;
