@@ -1,6 +1,15 @@
 //! The top call of the dispatcher.
 #![tactic(auto)]
 
+mod top;
 mod files;
+mod lines;
+mod log;
 mod numbers;
+mod parts;
 mod words;
+
+pub use top::dispatch;
+pub use lines::{Heard, Line};
+pub use log::{FeedLog, FeedStop, LogItem, Reply};
+pub use parts::{Part, Status};
