@@ -2,11 +2,13 @@
 ghost use Rattle.std.specs.Prelude.{◌≡◌, ◌≤◌, IfSome};
 ghost use Rattle.dm_program.specs.Numbers.{is_number, number_up_to};
 
+use dm_base::{NumFault, read_whole};
+
 /// Whether the text is one or more decimal digits.
 pub fn is_number(text: &[u8]) -> bool
     ensures { result ≡ is_number text.now }
 {
-    !text.is_empty() && text.iter().all(|b| b.is_ascii_digit())
+    !matches!(read_whole(text), Err(NumFault::NotANumber))
 }
 
 /// The number that digits spell, where it is not above the largest.
@@ -14,5 +16,8 @@ pub fn number_up_to(largest: u64, text: &[u8]) -> Option<u64>
     ensures number { result ≡ number_up_to largest text.now }
     ensures bound { IfSome result (λ n. n ≤ largest) }
 {
-    None
+    match read_whole(text) {
+        Ok(number) if number <= largest => Some(number),
+        _ => None,
+    }
 }
