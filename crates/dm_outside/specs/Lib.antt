@@ -1,3 +1,5 @@
 pub mod Faults
 pub mod Shelf
 pub mod Board
+pub mod Printing
+pub mod Taking

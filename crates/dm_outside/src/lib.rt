@@ -5,6 +5,8 @@
 mod boards;
 mod faults;
 mod gates;
+mod page;
+mod put;
 mod shelves;
 mod sinks;
 mod sources;
@@ -12,6 +14,8 @@ mod sources;
 pub use boards::Board;
 pub use faults::{Failed, TakeFault, WriteFault};
 pub use gates::{Gate, OpenGate};
+pub use page::{Page, Piece};
+pub use put::put_all;
 pub use shelves::Shelf;
 pub use sinks::Sink;
 pub use sources::Source;
