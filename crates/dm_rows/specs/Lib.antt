@@ -7,3 +7,5 @@ pub mod Refuse
 pub mod History
 pub mod Decide
 pub mod Touch
+pub mod Reach
+pub mod Laws
