@@ -8,4 +8,5 @@ pub mod History
 pub mod Decide
 pub mod Touch
 pub mod Reach
+pub mod Examples
 pub mod Laws
