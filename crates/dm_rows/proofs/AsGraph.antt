@@ -1,13 +1,12 @@
 -- The rows' own definitions agree with those of the graph that they make.
-use Rattle.std.proofs.Common.{◌≡◌, ℕ, ◌+◌, ◌<◌, ◌≤◌, ◌↔◌, List, length, map, Option, Some, None, IsTrue, true, false, arith, refl, Bool, if◌then◌else◌, ◌∙◌}
-use Rattle.std.specs.Prelude.{slice_index_or, unwrap_or, is_some}
+use Rattle.std.proofs.Common.{◌≡◌, ℕ, ◌+◌, ◌<◌, ◌≤◌, List, length, map, Option, Some, None, IsTrue, false, arith, refl, Bool, if◌then◌else◌, ◌∙◌}
+use Rattle.std.specs.Prelude.{unwrap_or, is_some}
 use Rattle.std.specs.List.{range_with_len}
 use Rattle.std.proofs.lemmas.List.FromFn.{get_or-map-range_with_len, length-map-range_with_len}
-use Rattle.dm_graph.specs.Arcs.{Binds}
 use Rattle.dm_graph.specs.Graph.{Graph, Meets as MeetsGraph, IsLeast as IsLeastOfGraph}
 use Rattle.dm_network.specs.Net.{Net, EndsAreKnown, activity_at}
 use Rattle.dm_rows.specs.Rows.{RowsValue, passed_at}
-use Rattle.dm_rows.specs.Active.{IsActive, is_active, has_passed}
+use Rattle.dm_rows.specs.Active.{is_active}
 use Rattle.dm_rows.specs.Timetable.{time_at, planned_time, span_of, Meets, IsLeast, graph_of}
 use Rattle.dm_rows.specs.Laws.{KeepsPassed, LeastAsGraph}
 

@@ -1,6 +1,6 @@
 -- The connection at one station: two trains that meet, a change from the first to the second, and a headway pair of their
 -- departures. Times in seconds, weights in thousandths of passengers.
-use Rattle.std.specs.Prelude.{ℕ, ◌≡◌, Bool, true, false, List, [], ◌∷◌, Option, Some, None}
+use Rattle.std.specs.Prelude.{ℕ, [], ◌∷◌, Option, Some, None}
 use Rattle.dm_base.specs.declared.rows.EventKind.{EventKind}
 use Rattle.dm_base.specs.declared.rows.EventKind.TheVariants.{Departure, Arrival}
 use Rattle.dm_base.specs.declared.rows.ActKind.{ActKind}
@@ -9,7 +9,7 @@ use Rattle.dm_network.specs.declared.parts.Event.{Event}
 use Rattle.dm_network.specs.declared.parts.Activity.{Activity}
 use Rattle.dm_network.specs.Net.{Net}
 use Rattle.dm_rows.specs.Rows.{RowsValue, start_rows_of}
-use Rattle.dm_rows.specs.declared.messages.Message.TheVariants.{DelayEvent, Pass, Keep, Drop, First}
+use Rattle.dm_rows.specs.declared.messages.Message.TheVariants.{DelayEvent, Pass, Drop, First}
 use Rattle.dm_rows.specs.Resolve.{after}
 
 abbrev pub event : ℕ → EventKind → ℕ → ℕ → ℕ → Event

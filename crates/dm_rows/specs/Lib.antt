@@ -8,5 +8,6 @@ pub mod History
 pub mod Decide
 pub mod Touch
 pub mod Reach
+pub mod StartFaults
 pub mod Examples
 pub mod Laws

@@ -1,5 +1,5 @@
 -- Changes whose places and numbers are in range for the rows, as those of every admitted message are.
-use Rattle.std.specs.Prelude.{ℕ, ◌<◌, ◌≤◌, List, length, All}
+use Rattle.std.specs.Prelude.{◌<◌, ◌≤◌, length, All}
 use Rattle.dm_base.specs.declared.limits.TheConstants.{DELAY, PASSED_TIME}
 use Rattle.dm_rows.specs.declared.messages.Flip.{Flip}
 use Rattle.dm_rows.specs.declared.messages.Flip.TheVariants.{Keep, Drop, First}
