@@ -4,6 +4,9 @@
 //! activities bind, which timetables meet the rows, the least one, cycles, costs, refusals and histories.
 #![tactic(auto)]
 
+pub mod laws;
 mod messages;
+mod rows;
 
 pub use messages::{At, Change, Choice, Decision, Entry, Flip, Message, Refusal, StartFault};
+pub use rows::Rows;
