@@ -1,0 +1,4 @@
+pub mod Chains
+pub mod Rounds
+pub mod Timetables
+pub mod Joins
