@@ -2,3 +2,5 @@ pub mod Chains
 pub mod Rounds
 pub mod Timetables
 pub mod Joins
+pub mod WalkSteps
+pub mod WalkGoesOn
