@@ -161,3 +161,7 @@ finds_on_path tails offsets places held walk w e place r lt read not_over is_hel
      is_held = subst (λ p. IsHeldAt held places p) is is_held;
      tail = ap (tail_at tails places) (sym is) ∙ sym on.0;
    }, on.1, on.2)
+
+-- the rank read for an event that is not met
+pub unmet_is : (rank : List ℕ) (e r n : ℕ) → e < length rank → r ≡ slice_index_or rank e r → r ≡ n → slice_index rank e ≡ n
+unmet_is rank e r n lt read is = sym (read ∙ get_or_default_zero rank e r lt) ∙ is

@@ -1,5 +1,5 @@
 -- The walk that searches for an order: the events that are placed, those on the path, and how far each row is looked through.
-use Rattle.std.specs.Prelude.{◌≡◌, ℕ, ◌+◌, ◌-◌, ◌*◌, ◌<◌, ◌≤◌, ◌⊎◌, ◌==◌, Bool, false, IsTrue, List, length, slice_index, slice_index_or, slice_set, sum, count_by}
+use Rattle.std.specs.Prelude.{◌≡◌, ℕ, ◌+◌, ◌-◌, ◌*◌, ◌<◌, ◌≤◌, ◌⊎◌, ◌==◌, Bool, false, IsTrue, List, length, slice_index, slice_index_or, slice_set, take, replicate, sum, count_by}
 use Rattle.dm_graph.specs.Arrays.{InRow, AreRows, AreEnds}
 use Rattle.dm_graph.specs.declared.walk.Walk.{Walk}
 use Rattle.dm_graph.specs.declared.walk.Look.{Look}
@@ -125,3 +125,43 @@ pub record Returns (tails offsets places : List ℕ) (held : List Bool) (old new
   pub as_many : length new.order.items ≡ length old.order.items
   pub is_empty : new.top ≡ length new.order.items
   pub met : KeepsMet old new
+
+-- the lists of the walk have one length
+pub record IsSized (walk : Walk) : Type 0 where
+  pub ranks : length walk.rank.items ≡ length walk.order.items
+  pub nexts : length walk.next.items ≡ length walk.order.items
+
+-- the walk begins: no event is met, and each row is looked at from its first place
+pub record Starts (old : Walk) (offsets : List ℕ) (new : Walk) : Type 0 where
+  pub order : new.order.items ≡ old.order.items
+  pub rank : new.rank.items ≡ replicate (length old.order.items) (length old.order.items)
+  pub next : new.next.items ≡ take (length old.order.items) offsets
+  pub placed : new.placed ≡ 0
+  pub top : new.top ≡ length old.order.items
+
+-- the path is empty again, no event that was met is not met, and the event is met
+pub record Visits (tails offsets places : List ℕ) (held : List Bool) (old : Walk) (e : ℕ) (new : Walk) : Type 0 where
+  pub returns : Returns tails offsets places held old new
+  pub is_met : slice_index new.rank.items e < length new.order.items
+
+-- every event is placed
+pub record PlacesAll (tails offsets places : List ℕ) (held : List Bool) (walk : Walk) : Type 0 where
+  pub holds : IsWalk tails offsets places held walk
+  pub is_empty : walk.top ≡ length walk.order.items
+  pub met : (e : ℕ) → e < length walk.order.items → slice_index walk.rank.items e < length walk.order.items
+
+-- the arc that the walk looks at next for the event at a place of the path
+abbrev pub path_arc : List ℕ → Walk → ℕ → ℕ
+path_arc places walk place = slice_index places (slice_index walk.next.items (slice_index walk.order.items place))
+
+-- the events of the path from its top to this place have each a next place within the rows
+pub record HasPathArcs (places : List ℕ) (walk : Walk) (last : ℕ) : Type 0 where
+  pub on_path : walk.top ≤ last
+  pub within : last < length walk.order.items
+  pub is_event : (place : ℕ) → walk.top ≤ place → place ≤ last → slice_index walk.order.items place < length walk.next.items
+  pub is_place : (place : ℕ) → walk.top ≤ place → place ≤ last → slice_index walk.next.items (slice_index walk.order.items place) < length places
+
+-- the arcs of the path from its top to this place, in its order
+pub record ListsPathArcs (places : List ℕ) (walk : Walk) (last : ℕ) (arcs : List ℕ) : Type 0 where
+  pub as_many : length arcs + walk.top ≡ last + 1
+  pub each : (k : ℕ) → k < length arcs → slice_index arcs k ≡ path_arc places walk (walk.top + k)

@@ -1,7 +1,8 @@
 //! The walk that searches for an order, depth first against the arcs, with its path kept in an array.
 
-ghost use Rattle.std.specs.Prelude.{◌≡◌, ℕ, ◌+◌, ◌^◌, ◌<◌, ◌≤◌, length, slice_index, vec_len, IfErr, OnOk};
-ghost use Rattle.dm_graph.specs.Walk.{IsWalk, Closes, Finds, steps_left, KeepsMet, Enters, Places, Passes, GoesOn, Returns};
+ghost use Rattle.std.specs.Prelude.{◌≡◌, ℕ, ◌+◌, ◌^◌, ◌<◌, ◌≤◌, length, take, slice_index, vec_len, IfErr, OnOk};
+ghost use Rattle.dm_graph.specs.Walk.{IsWalk, Closes, Finds, steps_left, KeepsMet, Enters, Places, Passes, GoesOn, Returns, IsSized, Starts, Visits, PlacesAll, HasPathArcs, ListsPathArcs};
+ghost use Rattle.dm_graph.specs.Arrays.{AreRows, AreEnds};
 
 /// The events that are placed stand at the first places of `order`, those on the path at its last,
 /// the one on top first. `rank` has the place of each, or the number of events where it is not met yet.
@@ -124,5 +125,63 @@ impl Walk {
             self.step(tails, offsets, places, held)?;
         }
         Ok(())
+    }
+
+    /// Begins: no event is met.
+    fn start(&mut self, offsets: &[usize])
+        requires sized { IsSized self.old }
+        requires offsets { length self.old.order.items ≤ length offsets.now }
+        ensures { Starts self.old offsets.now self.new }
+    {
+        let count = self.order.len();
+        self.rank.fill(count);
+        self.next.copy_from_slice(&offsets[..count]);
+        self.placed = 0;
+        self.top = count;
+    }
+
+    /// Places the event, and all that come before it; the error is the place of the event that closes the path.
+    fn visit(&mut self, event: usize, tails: &[usize], offsets: &[usize], places: &[usize], held: &[bool]) -> Result<(), usize>
+        requires walk { IsWalk tails.now offsets.now places.now held.now self.old }
+        requires is_empty { self.old.top ≡ length self.old.order.items }
+        requires event { event < length self.old.order.items }
+        ensures visits { OnOk result (Visits tails.now offsets.now places.now held.now self.old event self.new) }
+        ensures closes { IfErr result (λ place. Closes tails.now offsets.now places.now held.now self.new place) }
+    {
+        if self.rank[event] == self.order.len() {
+            self.enter(event);
+            self.empty_path(tails, offsets, places, held)?;
+        }
+        Ok(())
+    }
+
+    /// Places every event; the error is the place of the event that closes the path.
+    pub fn place_all(&mut self, tails: &[usize], offsets: &[usize], places: &[usize], held: &[bool]) -> Result<(), usize>
+        requires sized { IsSized self.old }
+        requires rows { AreRows (length self.old.order.items) (length tails.now) offsets.now places.now }
+        requires ends { AreEnds (length self.old.order.items) (length tails.now) tails.now held.now }
+        ensures as_many { length self.new.order.items ≡ length self.old.order.items }
+        ensures all { OnOk result (PlacesAll tails.now offsets.now places.now held.now self.new) }
+        ensures closes { IfErr result (λ place. Closes tails.now offsets.now places.now held.now self.new place) }
+    {
+        self.start(offsets);
+        for event in 0..self.order.len() {
+            self.visit(event, tails, offsets, places, held)?;
+        }
+        Ok(())
+    }
+
+    /// Writes the next arcs of the path from its top to this place, and says how many they are.
+    pub fn write_arcs(&self, last: usize, places: &[usize], arcs: &mut [usize]) -> usize
+        requires path { HasPathArcs places.now self.now last }
+        requires room { length arcs.old ≡ length self.now.order.items }
+        ensures within { result ≤ length arcs.new }
+        ensures arcs { ListsPathArcs places.now self.now last (take result arcs.new) }
+    {
+        let count = last + 1 - self.top;
+        for k in 0..count {
+            arcs[k] = places[self.next[self.order[self.top + k]]];
+        }
+        count
     }
 }
