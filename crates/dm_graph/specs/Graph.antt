@@ -44,3 +44,10 @@ pub record AsksNoMore (less more : Graph) : Type 0 where
   pub same_tail : (a : ℕ) → Binds less.shape a → less.shape.tail a ≡ more.shape.tail a
   pub same_head : (a : ℕ) → Binds less.shape a → less.shape.head a ≡ more.shape.head a
   pub spans : (a : ℕ) → Binds less.shape a → less.span a ≤ more.span a
+
+-- a time is the join at an event if it is the least that the event's floor and the arcs into the event allow, whose tails are at x
+pub record IsJoin (g : Graph) (x : ℕ → ℕ) (e time : ℕ) : Type 0 where
+  pub above : g.floor e ≤ time
+  pub along : (a : ℕ) → Binds g.shape a → g.shape.head a ≡ e → x (g.shape.tail a) + g.span a ≤ time
+  pub least : (u : ℕ) → g.floor e ≤ u →
+      ((a : ℕ) → Binds g.shape a → g.shape.head a ≡ e → x (g.shape.tail a) + g.span a ≤ u) → time ≤ u
