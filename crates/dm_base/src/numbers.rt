@@ -73,20 +73,16 @@ fn digits_at_front(text: &[u8]) -> Front
 // The value with one digit more at its end.
 fn with_digit(value: Option<u64>, digit: u8) -> Option<u64>
     requires { IsAsciiDigit digit }
-    ensures { (n : ℕ) → SomeIff value (n < 2 ^ 64) n → let next = n * 10 + (digit - 48) in SomeIff result (next < 2 ^ 64) next }
+    ensures { (n : ℕ) → SomeIff value (n < 2 ^ 64) n
+        → let next = n * 10 + (digit - 48) in SomeIff result (next < 2 ^ 64) next }
 {
-    match value {
-        Some(n) => match n.checked_mul(10) {
-            Some(tens) => tens.checked_add(u64::from(digit - b'0')),
-            None => None,
-        },
-        None => None,
-    }
+    value?.checked_mul(10)?.checked_add(u64::from(digit - b'0'))
 }
 
 // The thousandths that stand after whole digits, or none where something else stands there.
 fn thousandths_after(rest: &[u8]) -> Option<u64>
-    ensures { MatchOption result (¬ IsEnding rest.now) (λ n. IsEnding rest.now × (n ≡ thousandths_value (drop 1 rest.now))) }
+    ensures { MatchOption result (¬ IsEnding rest.now)
+        (λ n. IsEnding rest.now × (n ≡ thousandths_value (drop 1 rest.now))) }
 {
     match rest {
         [] => Some(0),
@@ -98,7 +94,8 @@ fn thousandths_after(rest: &[u8]) -> Option<u64>
 // The thousandths of the digits after a point, or none where something else is among them.
 #[tactic(auto, using(crate::proofs::NumberLemmas::thousandths_value_is))]
 fn thousandths_of(decimals: &[u8]) -> Option<u64>
-    ensures { MatchOption result (¬ All IsAsciiDigit decimals.now) (λ n. All IsAsciiDigit decimals.now × (n ≡ thousandths_value decimals.now)) }
+    ensures { MatchOption result (¬ All IsAsciiDigit decimals.now)
+        (λ n. All IsAsciiDigit decimals.now × (n ≡ thousandths_value decimals.now)) }
 {
     if !decimals.iter().all(|digit| digit.is_ascii_digit()) {
         return None;
@@ -123,13 +120,8 @@ fn decimal_at(decimals: &[u8], place: usize) -> u64
 
 // A number of thousandths, from a number of wholes.
 fn joined(wholes: Option<u64>, thousandths: u64) -> Option<u64>
-    ensures { (n : ℕ) → SomeIff wholes (n < 2 ^ 64) n → let all = 1000 * n + thousandths in SomeIff result (all < 2 ^ 64) all }
+    ensures { (n : ℕ) → SomeIff wholes (n < 2 ^ 64) n
+        → let all = 1000 * n + thousandths in SomeIff result (all < 2 ^ 64) all }
 {
-    match wholes {
-        Some(n) => match n.checked_mul(1000) {
-            Some(all) => all.checked_add(thousandths),
-            None => None,
-        },
-        None => None,
-    }
+    wholes?.checked_mul(1000)?.checked_add(thousandths)
 }
