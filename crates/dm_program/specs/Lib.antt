@@ -6,3 +6,4 @@ pub mod Logs
 pub mod Runs
 pub mod Input
 pub mod Ends
+pub mod Answers

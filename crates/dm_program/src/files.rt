@@ -24,7 +24,7 @@ fn first_place(bytes: &[u8], at: u8) -> Option<usize>
 }
 
 /// The bytes before the first that is `at`, and those behind it.
-fn cut(bytes: &[u8], at: u8) -> Option<(&[u8], &[u8])>
+pub fn cut(bytes: &[u8], at: u8) -> Option<(&[u8], &[u8])>
     ensures { option_map (λ parts. (parts.0.now, parts.1.now)) result ≡ cut_at at bytes.now }
 {
     let Some(place) = first_place(bytes, at) else {

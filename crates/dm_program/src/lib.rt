@@ -2,11 +2,13 @@
 #![tactic(auto)]
 
 mod top;
+mod answers;
 mod files;
 mod lines;
 mod log;
 mod numbers;
 mod parts;
+mod stub;
 mod words;
 
 pub use top::dispatch;

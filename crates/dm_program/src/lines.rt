@@ -1,5 +1,6 @@
 //! The lines of a feed.
 ghost use Rattle.std.specs.Prelude.{◌≡◌};
+ghost use Rattle.dm_program.specs.Lines.{Hears};
 
 use dm_rows::Message;
 
@@ -17,4 +18,11 @@ pub enum Heard {
 
     /// The bytes spell no line.
     Malformed,
+}
+
+/// What is heard in the bytes of a line, without its end.
+pub fn read_line(bytes: &[u8]) -> Heard
+    ensures { Hears bytes.now result }
+{
+    Heard::Malformed
 }

@@ -8,7 +8,11 @@ use dm_base::{NumFault, read_whole};
 pub fn is_number(text: &[u8]) -> bool
     ensures { result ≡ is_number text.now }
 {
-    !matches!(read_whole(text), Err(NumFault::NotANumber))
+    match read_whole(text) {
+        Ok(_) => true,
+        Err(NumFault::TooLarge) => true,
+        Err(NumFault::NotANumber) => false,
+    }
 }
 
 /// The number that digits spell, where it is not above the largest.
