@@ -3,6 +3,7 @@
 #![tactic(auto)]
 
 mod boards;
+mod calls;
 mod faults;
 mod gates;
 mod page;
@@ -10,12 +11,14 @@ mod put;
 mod shelves;
 mod sinks;
 mod sources;
+mod take;
 
 pub use boards::Board;
 pub use faults::{Failed, TakeFault, WriteFault};
 pub use gates::{Gate, OpenGate};
 pub use page::{Page, Piece};
 pub use put::put_all;
-pub use shelves::Shelf;
-pub use sinks::Sink;
-pub use sources::Source;
+pub use shelves::{MemFile, MemShelf, Shelf};
+pub use sinks::{MemSink, Sink};
+pub use sources::{MemSource, Source};
+pub use take::take_all;
