@@ -20,7 +20,7 @@ module _ {S : Type 0} {left : S → Option (List ℕ)} {faults : S → ℕ} {is_
     short = omega (arith, ap length p.behind, length-append bytes p.given, p.exact);
     later = omega (arith, t.later);
     sound = λ h. sound (t.sound h);
-    piece = t.piece
+    piece = t.piece;
   }
 
   -- a read that gave bytes which were lost, or none
@@ -28,5 +28,5 @@ module _ {S : Type 0} {left : S → Option (List ℕ)} {faults : S → ℕ} {is_
   taking_lost {a} {b} {c} {bytes} {limit} {size} {most} t p short = record {
     given = bytes ++ p.given;
     short = omega (arith, length-append bytes p.given, p.short);
-    consumed = Consumes-trans (left a) (left b) (left c) bytes p.given t.consumed p.consumed
+    consumed = Consumes-trans (left a) (left b) (left c) bytes p.given t.consumed p.consumed;
   }

@@ -1,5 +1,5 @@
 -- The calls of a form in memory, numbered from 1. Some numbers are listed: those calls fail.
-use Rattle.std.specs.Prelude.{◌≡◌, ◌≢◌, ℕ, ◌+◌, ◌<◌, ◌≤◌, List, All, Contains, if◌then◌else◌, nat_lt}
+use Rattle.std.specs.Prelude.{ℕ, ◌+◌, ◌<◌, ◌≤◌, List, All, Contains, if◌then◌else◌, nat_lt}
 use Rattle.dm_outside.specs.Faults.{last_count}
 
 -- the number of calls after one more: it stands at its last value

@@ -62,10 +62,10 @@ impl<'a> Model for MemShelf<'a> {
     ghost Value = { ShelfValue };
 
     ghost view = { λ shelf. record {
-        files = shelf.files.now;
-        fails = shelf.fails.now;
-        made = shelf.calls.made;
-        faults = shelf.calls.faults
+      files = shelf.files.now;
+      fails = shelf.fails.now;
+      made = shelf.calls.made;
+      faults = shelf.calls.faults;
     } };
 
     ghost invariant = { λ shelf. All (λ file. 0 < file.piece) shelf.files.now };

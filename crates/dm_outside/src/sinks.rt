@@ -43,12 +43,12 @@ impl Model for MemSink {
     ghost Value = { SinkValue };
 
     ghost view = { λ sink. record {
-        taken = sink.bytes.items;
-        room = sink.room;
-        piece = sink.piece;
-        fails = sink.fails.items;
-        made = sink.calls.made;
-        faults = sink.calls.faults
+      taken = sink.bytes.items;
+      room = sink.room;
+      piece = sink.piece;
+      fails = sink.fails.items;
+      made = sink.calls.made;
+      faults = sink.calls.faults;
     } };
 
     ghost invariant = { λ sink.
@@ -105,7 +105,9 @@ impl Sink for MemSink {
             self.calls.add_fault();
             return Err(Failed);
         }
-        let count = self.piece.min(bytes.len().min(self.room - self.bytes.len()));
+        let count = self
+            .piece
+            .min(bytes.len().min(self.room - self.bytes.len()));
         if count == 0 && !bytes.is_empty() {
             self.calls.add_fault();
             return Err(Failed);

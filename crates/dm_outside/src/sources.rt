@@ -46,11 +46,11 @@ impl<'a> Model for MemSource<'a> {
     ghost Value = { SourceValue };
 
     ghost view = { λ source. record {
-        left = source.rest.now;
-        piece = source.piece;
-        fails = source.fails.now;
-        made = source.calls.made;
-        faults = source.calls.faults
+      left = source.rest.now;
+      piece = source.piece;
+      fails = source.fails.now;
+      made = source.calls.made;
+      faults = source.calls.faults;
     } };
 
     ghost invariant = { λ source. 0 < source.piece };

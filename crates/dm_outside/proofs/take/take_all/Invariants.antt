@@ -1,4 +1,4 @@
-use Rattle.std.proofs.Common.{◌+◌, ◌-◌, ◌≤◌, ◌≡◌, length, vec_len}
+use Rattle.std.proofs.Common.{◌+◌, ◌-◌, vec_len}
 use Rattle.dm_outside.proofs.Taking.{Taking}
 use Rattle.dm_outside.proofs.take.take_all.Given as goal
 
