@@ -1,0 +1,4 @@
+//! Graphs of events and arcs, as timetables are made of.
+#![tactic(auto)]
+
+pub mod laws;
