@@ -3,3 +3,5 @@ pub mod Shelf
 pub mod Board
 pub mod Printing
 pub mod Taking
+pub mod Calls
+pub mod Memory
