@@ -2,3 +2,4 @@ pub mod Net
 pub mod Pairs
 pub mod Start
 pub mod Build
+pub mod Flat

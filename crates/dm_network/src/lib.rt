@@ -4,6 +4,11 @@
 //! [`Network::build`] makes one of the records of two files, or says exactly why there is none.
 #![tactic(auto)]
 
+mod build;
+mod find;
+mod flat;
+mod network;
 mod parts;
 
+pub use network::Network;
 pub use parts::{Activity, Event, NetFault, Pair};
