@@ -1,7 +1,8 @@
 -- Decisions of a list resolved one after another.
-use Rattle.std.proofs.Common.{◌≡◌, ℕ, ◌+◌, ◌<◌, List, [], ◌∷◌, ◌++◌, length, take, get_or, fold, Some, arith, refl, inl, inr, sym, ◌∙◌, subst, ap}
+use Rattle.std.proofs.Common.{◌≡◌, ℕ, ◌+◌, ◌<◌, ◌≤◌, List, [], ◌∷◌, ◌++◌, length, take, get_or, fold, Some, arith, refl, inl, inr, sym, ◌∙◌, subst, ap}
 use Rattle.std.proofs.lemmas.Grind.{common_steps}
 use Rattle.std.proofs.lemmas.Bool.{cases_lt}
+use Rattle.std.proofs.lemmas.List.Elements.{All-push}
 use Rattle.std.proofs.lemmas.List.Sums.{fold_more}
 use Rattle.std.proofs.lemmas.Option.{slice_get-get_or, slice_get_within}
 use Rattle.std.specs.Prelude.{All, slice_get}
@@ -44,15 +45,15 @@ pub one_more_named : (net : Net) (rows : RowsValue) (decisions : List Decision) 
 one_more_named net rows decisions n flips d flip had below is found reaches passes =
     record {
       named = named_more net decisions n flips d flip had.named below is found;
-      reaches = All-append (ReachesFlip rows) flips (flip ∷ []) had.reaches (All-one (ReachesFlip rows) flip reaches);
+      reaches = All-push (ReachesFlip rows) flips flip had.reaches reaches;
       passed = λ k e lt stands.
-        elim (cases_lt k n) [
-          inl before ↦ had.passed k e before stands
-        | inr past ↦
-          let here : k ≡ n = omega arith in
-          let there : slice_get decisions n ≡ Some e = subst (λ (j : ℕ). slice_get decisions j ≡ Some e) here stands in
-          subst (PassesDecision net rows) (same_decision decisions n d e (stands_at decisions n d below is) there) passes
-        ]
+          elim (cases_lt k n) [
+            | inl before ↦ had.passed k e before stands
+            | inr past ↦
+                let here : k ≡ n = omega arith in
+                let there : slice_get decisions n ≡ Some e = subst (λ (j : ℕ). slice_get decisions j ≡ Some e) here stands in
+                subst (PassesDecision net rows) (same_decision decisions n d e (stands_at decisions n d below is) there) passes
+          ];
     }
 
 -- the decision at n is the first that is refused
@@ -65,7 +66,7 @@ refused_at net rows decisions n flips d r had below is refused =
       decision = d;
       stands = stands_at decisions n d below is;
       refused = refused;
-      passed_before = had.passed
+      passed_before = had.passed;
     }
 
 -- nothing refuses a list of which nothing refuses any decision

@@ -102,10 +102,13 @@ RefusesAtOnce net rows (Adopt ds) r = RefusesSome net rows ds r
 abbrev pub PassesAtOnce : Net → RowsValue → Message → Type 0
 PassesAtOnce net rows m = RefusesNothing (RefusesAtOnce net rows m)
 
+abbrev pub IsAdopt : Message → Type 0
+IsAdopt (Adopt ds) = Unit {0}
+IsAdopt _ = ⊥
+
 -- What admission may refuse a message for: what refuses it at once, and an `Adopt` for want of memory.
 abbrev pub RefusesAdmission : Net → RowsValue → Message → Refusal → Type 0
-RefusesAdmission net rows (Adopt ds) OutOfMemory = Unit {0}
-RefusesAdmission net rows m r = RefusesAtOnce net rows m r
+RefusesAdmission net rows m r = RefusesAtOnce net rows m r ⊎ (IsAdopt m × (r ≡ OutOfMemory))
 
 -- The refusal of a message at a history of n entries: the first that applies. After those at once comes a cycle of the
 -- rows after the message, any one of them, and then a full history. Want of memory is left out.

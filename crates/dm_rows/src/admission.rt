@@ -77,10 +77,14 @@ fn flips_of(
 {
     let mut flips = Vec::new(alloc);
     for decision in decisions {
-        let flip = flip_of(net, rows, decision)?;
-        let Ok(()) = flips.push(flip) else {
-            return Err(Refusal::OutOfMemory);
-        };
+        match flip_of(net, rows, decision) {
+            Ok(flip) => {
+                let Ok(()) = flips.push(flip) else {
+                    return Err(Refusal::OutOfMemory);
+                };
+            }
+            Err(refusal) => return Err(refusal),
+        }
     }
     Ok(Items::from_vec(flips))
 }
