@@ -1,2 +1,3 @@
-pub mod FlipLemmas
+pub mod Adopting
 pub mod AsGraph
+pub mod FlipLemmas

@@ -12,12 +12,12 @@ use Rattle.dm_rows.specs.Rows.{RowsValue, start_rows_of}
 use Rattle.dm_rows.specs.declared.messages.Message.TheVariants.{DelayEvent, Pass, Drop, First}
 use Rattle.dm_rows.specs.Resolve.{after}
 
-abbrev pub event : ℕ → EventKind → ℕ → ℕ → ℕ → Event
-event id kind time weight stop =
+abbrev pub event_of : ℕ → EventKind → ℕ → ℕ → ℕ → Event
+event_of id kind time weight stop =
     record { id = record { 0 = id }; kind = kind; time = time; weight = weight; stop = record { 0 = stop } }
 
-abbrev pub activity : ℕ → ActKind → ℕ → ℕ → ℕ → ℕ → Option ℕ → Activity
-activity id kind tail head lower weight pair =
+abbrev pub activity_of : ℕ → ActKind → ℕ → ℕ → ℕ → ℕ → Option ℕ → Activity
+activity_of id kind tail head lower weight pair =
     record {
       id = record { 0 = id };
       kind = kind;
@@ -32,21 +32,21 @@ abbrev pub connection : Net
 connection =
     record {
       events =
-          event 1 Departure 100 10000 1
-          ∷ event 2 Arrival 200 10000 2
-          ∷ event 3 Departure 220 10000 2
-          ∷ event 4 Arrival 300 10000 3
-          ∷ event 5 Departure 230 5000 2
-          ∷ event 6 Arrival 330 5000 4
+          event_of 1 Departure 100 10000 1
+          ∷ event_of 2 Arrival 200 10000 2
+          ∷ event_of 3 Departure 220 10000 2
+          ∷ event_of 4 Arrival 300 10000 3
+          ∷ event_of 5 Departure 230 5000 2
+          ∷ event_of 6 Arrival 330 5000 4
           ∷ [];
       activities =
-          activity 1 Drive 0 1 90 10000 None
-          ∷ activity 2 Wait 1 2 10 10000 None
-          ∷ activity 3 Drive 2 3 80 10000 None
-          ∷ activity 4 Drive 4 5 95 5000 None
-          ∷ activity 5 Change 1 4 20 4000 None
-          ∷ activity 6 Headway 2 4 8 0 (Some 0)
-          ∷ activity 7 Headway 4 2 8 0 (Some 0)
+          activity_of 1 Drive 0 1 90 10000 None
+          ∷ activity_of 2 Wait 1 2 10 10000 None
+          ∷ activity_of 3 Drive 2 3 80 10000 None
+          ∷ activity_of 4 Drive 4 5 95 5000 None
+          ∷ activity_of 5 Change 1 4 20 4000 None
+          ∷ activity_of 6 Headway 2 4 8 0 (Some 0)
+          ∷ activity_of 7 Headway 4 2 8 0 (Some 0)
           ∷ [];
       pairs = record { small = 2; large = 4 } ∷ [];
     }

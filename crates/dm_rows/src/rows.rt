@@ -1,6 +1,6 @@
 //! The rows of a day, and what one message does to them.
 ghost use Rattle.std.specs.Prelude.{◌≡◌, ◌<◌, ◌≤◌, length, All, fold, IfOk, IfSome};
-ghost use Rattle.dm_rows.specs.Rows.{IsWithinLimits, event_delay_at, act_delay_at, passed_at, kept_at, small_first_at};
+ghost use Rattle.dm_rows.specs.Rows.{RowsAreWithinLimits, event_delay_at, act_delay_at, passed_at, kept_at, small_first_at};
 ghost use Rattle.dm_rows.specs.Resolve.{after_change, after_flip};
 ghost use Rattle.dm_rows.specs.Reach.{Reaches, ReachesFlip};
 
@@ -22,7 +22,7 @@ pub struct Rows {
 }
 
 impl Model for Rows {
-    ghost use Rattle.dm_rows.specs.Rows.{RowsValue, AreWithinLimits};
+    ghost use Rattle.dm_rows.specs.Rows.{RowsValue, NumbersAreWithinLimits};
 
     ghost Value = { RowsValue };
 
@@ -34,7 +34,14 @@ impl Model for Rows {
       small_first = r.small_first.items;
     } };
 
-    ghost invariant = { λ r. AreWithinLimits r.event_delays.items r.act_delays.items r.passed.items };
+    ghost invariant = { λ r. NumbersAreWithinLimits r.event_delays.items r.act_delays.items r.passed.items };
+}
+
+/// The rows at an entry of a history.
+#[derive(Drop)]
+pub struct Snapshot {
+    pub entry: u32,
+    pub rows: Rows,
 }
 
 impl Rows {
@@ -84,7 +91,7 @@ impl Rows {
     /// Equal rows.
     pub fn copy(&self) -> Result<Rows, AllocError>
         ensures same { IfOk result (λ rows. rows ≡ self.now) }
-        ensures limits { IsWithinLimits self.now }
+        ensures limits { RowsAreWithinLimits self.now }
     {
         Ok(Rows {
             alloc: self.alloc,
