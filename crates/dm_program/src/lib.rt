@@ -1,6 +1,9 @@
 //! The top call of the dispatcher.
 #![tactic(auto)]
 
+mod reading;
+mod text;
+mod times;
 mod top;
 mod answers;
 mod files;
@@ -8,7 +11,6 @@ mod lines;
 mod log;
 mod numbers;
 mod parts;
-mod stub;
 mod words;
 
 pub use top::dispatch;
