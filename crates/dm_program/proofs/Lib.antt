@@ -6,3 +6,4 @@ pub mod Joining
 pub mod Within
 pub mod Printed
 pub mod Spelled
+pub mod Totals

@@ -171,18 +171,31 @@ no_front bytes none line h = let l = delay_line line bytes h in none (decimal l.
 pub no_cut : (bytes words : List ℕ) → bytes ≡ codes "delay event " ++ words → cut_at 32 words ≡ None → (line : Line) → SpellsLine line bytes → ⊥
 no_cut bytes words e none line h = let l = delay_line line bytes h in let c = line_cut bytes words l e in let n = none in cc
 
-parts_are : (a b c d : List ℕ) → Some (a, b) ≡ Some (c, d) → (a ≡ c) × (b ≡ d)
-parts_are a b c d e = let p : a ≡ c = cc in let q : b ≡ d = cc in (p, q)
+first_of : Option (List ℕ × List ℕ) → List ℕ
+first_of None = []
+first_of (Some p) = p.0
+
+second_of : Option (List ℕ × List ℕ) → List ℕ
+second_of None = []
+second_of (Some p) = p.1
+
+same_first : (a b c d : List ℕ) → ◌≡◌ {A = Option (List ℕ × List ℕ)} (Some (a, b)) (Some (c, d)) → a ≡ c
+unfolding first_of
+same_first a b c d e = ap first_of e
+
+same_second : (a b c d : List ℕ) → ◌≡◌ {A = Option (List ℕ × List ℕ)} (Some (a, b)) (Some (c, d)) → b ≡ d
+unfolding second_of
+same_second a b c d e = ap second_of e
 
 pub no_id : (bytes words id delay : List ℕ) → bytes ≡ codes "delay event " ++ words → cut_at 32 words ≡ Some (id, delay) → ((n : ℕ) → n ≤ 4294967295 → id ≢ decimal n) → (line : Line) → SpellsLine line bytes → ⊥
 no_id bytes words id delay e cut none line h =
     let l = delay_line line bytes h in
-    none l.id (omega (arith, l.small_id)) (parts_are id delay (decimal l.id) (decimal l.delay) (sym cut ∙ line_cut bytes words l e)).0
+    none l.id (omega (arith, l.small_id)) (same_first id delay (decimal l.id) (decimal l.delay) (sym cut ∙ line_cut bytes words l e))
 
 pub no_delay : (bytes words id delay : List ℕ) → bytes ≡ codes "delay event " ++ words → cut_at 32 words ≡ Some (id, delay) → ((n : ℕ) → n ≤ 18446744073709551615 → delay ≢ decimal n) → (line : Line) → SpellsLine line bytes → ⊥
 no_delay bytes words id delay e cut none line h =
     let l = delay_line line bytes h in
-    none l.delay (omega (arith, l.small_delay)) (parts_are id delay (decimal l.id) (decimal l.delay) (sym cut ∙ line_cut bytes words l e)).1
+    none l.delay (omega (arith, l.small_delay)) (same_second id delay (decimal l.id) (decimal l.delay) (sym cut ∙ line_cut bytes words l e))
 
 -- what is cut at the space is put together again
 pub cut_joined : (words id delay : List ℕ) → cut_at 32 words ≡ Some (id, delay) → words ≡ id ++ 32 ∷ delay

@@ -14,7 +14,11 @@ use Rattle.dm_program.specs.declared.parts.Stop.{Stop}
 use Rattle.dm_program.specs.declared.parts.Stop.TheVariants.{Usage, Refused, ReadFault, NoMemory}
 use Rattle.dm_program.specs.Words.{Command}
 use Rattle.dm_program.specs.Files.{lines, rows_of, event_rows, activity_rows}
-use Rattle.dm_program.specs.Input.{Contents, Told, IsHeld, AreHeldBefore, AreHeld, PassesBefore, IsFirstRefusal, GoesBack, AreUnfit}
+use Rattle.dm_program.specs.Input.{Contents, Told, IsHeld, AreHeldBefore, AreHeld, PassesBefore, IsFirstRefusal, AreUnfit, MakesNetwork, AreRowsOf}
+use Rattle.dm_rows.specs.Rows.{start_rows_of}
+use Rattle.dm_program.specs.declared.log.FeedLog.{FeedLog}
+use Rattle.dm_program.specs.Logs.{IsLogOf}
+use Rattle.dm_program.specs.Runs.{Run, IsTrueRun, IsSpelledEntry, IsSpelledItem}
 use Rattle.dm_program.specs.Ends.{part_name}
 
 -- a shelf tells what it told before
@@ -82,12 +86,8 @@ pub record IsNetworkOf (told : Told) (command : Command) (net : Net) : Type 0 wh
   pub held : AreHeld told command contents Network
   pub events : List EventRow
   pub activities : List ActRow
-  pub events_size : length contents.events ≤ FILE
-  pub events_read : event_rows contents.events ≡ Some events
-  pub activities_size : length contents.activities ≤ FILE
-  pub activities_read : activity_rows contents.activities ≡ Some activities
-  pub forward : GoesBack activities → ⊥
-  pub built : IsBuiltFrom events activities net
+  pub rows : AreRowsOf contents events activities
+  pub network : MakesNetwork events activities net
 
 -- the numbers of a record are within the limits
 abbrev pub FitsEvent : EventRow → Type 0
@@ -96,13 +96,34 @@ FitsEvent row = (row.time ≤ TIME) × (row.weight ≤ WEIGHT)
 abbrev pub FitsActivity : ActRow → Type 0
 FitsActivity row = (row.lower ≤ BOUND) × (row.weight ≤ WEIGHT)
 
--- the records make this network, and none of them goes back
-abbrev pub MakesNetwork : List EventRow → List ActRow → Net → Type 0
-MakesNetwork events activities net = (GoesBack activities → ⊥) × IsBuiltFrom events activities net
-
 -- why records make none
 abbrev pub StopsNetwork : List EventRow → List ActRow → Stop → Type 0
 StopsNetwork events activities (Refused part) = (part ≡ Network) × AreUnfit events activities
 StopsNetwork events activities NoMemory = Unit {0}
 StopsNetwork events activities Usage = ⊥
 StopsNetwork events activities (ReadFault part) = ⊥
+
+-- The answers to a feed over a network, from the rows at the start: the log is the feed's, the journal and the log are
+-- true, the times least, the cost theirs, and all have a spelling.
+pub record IsRunOver (net : Net) (feed : List ℕ) (run : Run) : Type 0 where
+  pub same_net : run.journal.net ≡ net
+  pub start_is : run.journal.start ≡ start_rows_of net [] []
+  pub log : FeedLog
+  pub logs_are : run.logs ≡ log ∷ []
+  pub log_of : IsLogOf feed log
+  pub is_true : IsTrueRun run
+  pub entries_spelled : All IsSpelledEntry run.journal.history
+  pub items_spelled : All IsSpelledItem log.items
+
+-- what a run is ready to print
+pub record IsReady (told : Told) (command : Command) (run : Run) : Type 0 where
+  pub contents : Contents
+  pub held : AreHeld told command contents Feed
+  pub events : List EventRow
+  pub activities : List ActRow
+  pub net : Net
+  pub rows : AreRowsOf contents events activities
+  pub network : MakesNetwork events activities net
+  pub feed_size : length contents.feed ≤ FEED
+  pub over : IsRunOver net contents.feed run
+  pub penalty : run.penalty ≡ command.penalty

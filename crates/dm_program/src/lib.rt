@@ -1,11 +1,13 @@
 //! The top call of the dispatcher.
 #![tactic(auto)]
 
+mod prepare;
 mod reading;
 mod text;
 mod times;
 mod top;
 mod answers;
+mod cost;
 mod files;
 mod lines;
 mod log;

@@ -1,10 +1,10 @@
 //! What a run reads: two files and the network that they make.
-ghost use Rattle.std.specs.Prelude.{◌≡◌, ◌⊎◌, ◌++◌, ◌≤◌, ℕ, IfOk, IfErr, IsTrue, ◌↔◌, All, codes};
+ghost use Rattle.std.specs.Prelude.{◌≡◌, ◌⊎◌, ◌++◌, ◌≤◌, ℕ, IfOk, IfErr, IsTrue, false, All};
 ghost use Rattle.dm_program.specs.declared.parts.Part.{Part};
 ghost use Rattle.dm_network.specs.Build.{AreWithinLimits};
 ghost use Rattle.dm_program.specs.Asked.{command_in};
-ghost use Rattle.dm_program.specs.Input.{GoesBack};
-ghost use Rattle.dm_program.specs.Stages.{IsKept, Takes, IsFileOf, StopsAtFile, StopsRun, IsNetworkOf, MakesNetwork, StopsNetwork, FitsEvent, FitsActivity};
+ghost use Rattle.dm_program.specs.Input.{GoesBack, MakesNetwork};
+ghost use Rattle.dm_program.specs.Stages.{IsKept, Takes, IsFileOf, StopsAtFile, StopsRun, IsNetworkOf, StopsNetwork, FitsEvent, FitsActivity};
 
 use dm_base::limits::FILE;
 use dm_base::{ActRow, EventRow};

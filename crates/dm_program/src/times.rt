@@ -1,15 +1,14 @@
 //! The least timetable of rows, and what it costs.
-ghost use Rattle.std.specs.Prelude.{◌≡◌, ◌+◌, ◌*◌, ◌<◌, ◌≤◌, ◌^◌, length, IfOk, sum_by, max, if◌then◌else◌};
-ghost use Rattle.std.specs.List.{range_with_len};
+ghost use Rattle.std.specs.Prelude.{◌≡◌, ◌+◌, ◌*◌, ◌<◌, ◌≤◌, ◌^◌, length, IfOk, max, if◌then◌else◌};
 ghost use Rattle.dm_graph.specs.Graph.{IsJoin};
 ghost use Rattle.dm_network.specs.Net.{activity_at, event_at};
 ghost use Rattle.dm_rows.specs.Active.{is_active};
 ghost use Rattle.dm_rows.specs.Rows.{IsSized, RowsAreWithinLimits};
 ghost use Rattle.dm_rows.specs.Timetable.{time_at, planned_time, span_of, graph_of, IsLeast};
-ghost use Rattle.dm_rows.specs.Cost.{cost_of, event_cost, dropped_weight, missed_weight};
+
 ghost use Rattle.dm_program.specs.Times.{GoesForward, latest, AreInTime, by};
 
-use dm_base::{ActKind, Cost, EventKind, Secs, Steps};
+use dm_base::{Secs, Steps};
 use dm_network::Network;
 use dm_rows::{Rows, is_active};
 use std::alloc::{AllocError, Global};
