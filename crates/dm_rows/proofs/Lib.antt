@@ -1,5 +1,6 @@
 pub mod Adopting
 pub mod AsGraph
+pub mod AtStart
 pub mod FlipLemmas
 pub mod PairEnds
 pub mod StartDelays
