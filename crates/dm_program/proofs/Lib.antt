@@ -7,3 +7,6 @@ pub mod Within
 pub mod Printed
 pub mod Spelled
 pub mod Totals
+pub mod Finished
+pub mod Forward
+pub mod Ending

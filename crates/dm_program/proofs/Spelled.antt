@@ -179,11 +179,14 @@ second_of : Option (List ℕ × List ℕ) → List ℕ
 second_of None = []
 second_of (Some p) = p.1
 
-same_first : (a b c d : List ℕ) → ◌≡◌ {A = Option (List ℕ × List ℕ)} (Some (a, b)) (Some (c, d)) → a ≡ c
+abbrev IsSame : Option (List ℕ × List ℕ) → Option (List ℕ × List ℕ) → Type 0
+IsSame x y = x ≡ y
+
+same_first : (a b c d : List ℕ) → IsSame (Some (a, b)) (Some (c, d)) → a ≡ c
 unfolding first_of
 same_first a b c d e = ap first_of e
 
-same_second : (a b c d : List ℕ) → ◌≡◌ {A = Option (List ℕ × List ℕ)} (Some (a, b)) (Some (c, d)) → b ≡ d
+same_second : (a b c d : List ℕ) → IsSame (Some (a, b)) (Some (c, d)) → b ≡ d
 unfolding second_of
 same_second a b c d e = ap second_of e
 

@@ -17,7 +17,7 @@ total_none f n most =
 pub total_next : (f : ℕ → ℕ) (n most i total new : ℕ) → i < n → new ≤ most → new ≡ f i → IsTotalTo f n most i total → IsTotalTo f n most (i + 1) (total + new)
 total_next f n most i total new lt le is t =
     let e : n - i ≡ suc (n - (i + 1)) = omega arith in
-    let split : sum_by f (range_with_len i (n - i)) ≡ f i + sum_by f (range_with_len (i + 1) (n - (i + 1))) = ap (λ (k : ℕ). sum_by f (range_with_len i k)) e in
+    let split : sum_by f (range_with_len i (n - i)) ≡ f i + sum_by f (range_with_len (i + 1) (n - (i + 1))) = ap (λ (k : ℕ). sum_by f (range_with_len i k)) e ∙ sum_by-cons f i (range_with_len (i + 1) (n - (i + 1))) in
     let old = t.sum in
     let bound = t.bound in
     record { sum = omega (arith, split, is, old); bound = omega arith }

@@ -9,7 +9,7 @@ use Rattle.dm_outside.specs.declared.faults.TakeFault.TheVariants.{ReadFault as 
 use Rattle.dm_network.specs.Net.{Net}
 use Rattle.dm_network.specs.Build.{IsBuiltFrom}
 use Rattle.dm_program.specs.declared.parts.Part.{Part}
-use Rattle.dm_program.specs.declared.parts.Part.TheVariants.{Network}
+use Rattle.dm_program.specs.declared.parts.Part.TheVariants.{Network, Feed}
 use Rattle.dm_program.specs.declared.parts.Stop.{Stop}
 use Rattle.dm_program.specs.declared.parts.Stop.TheVariants.{Usage, Refused, ReadFault, NoMemory}
 use Rattle.dm_program.specs.Words.{Command}

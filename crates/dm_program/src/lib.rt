@@ -11,6 +11,7 @@ mod cost;
 mod files;
 mod lines;
 mod log;
+mod notices;
 mod numbers;
 mod parts;
 mod words;

@@ -2,8 +2,9 @@
 ghost use Rattle.std.specs.Prelude.{◌≡◌, ◌<◌, ◌∷◌, [], length, All, codes};
 ghost use Rattle.std.specs.Fmt.{decimal};
 ghost use Rattle.std.specs.List.{flat_map, range_with_len};
-ghost use Rattle.dm_outside.specs.Printing.{Prints, joined};
-ghost use Rattle.dm_program.specs.Runs.{IsSpelledReason, IsSpelledReply, IsSpelledItem, IsSpelledEntry, line_end, reason_text, reply_text, header_text, entry_text, entries_text, feed_text, item_text, stop_text, heading_text, time_text, ending_text};
+ghost use Rattle.dm_outside.specs.Printing.{Prints, Puts, joined};
+ghost use Rattle.dm_program.specs.Runs.{IsSpelledReason, IsSpelledReply, IsSpelledItem, IsSpelledEntry, line_end, reason_text, reply_text, header_text, entry_text, entries_text, feed_text, item_text, stop_text, heading_text, time_text, ending_text, logs_text, run_text};
+ghost use Rattle.dm_program.specs.Asked.{run_in};
 
 use dm_base::{Cost, EventId, Secs};
 use dm_network::Network;
@@ -12,6 +13,7 @@ use dm_rows::{Entry, Message, Refusal};
 
 use crate::lines::Line;
 use crate::log::{FeedStop, LogItem, Reply};
+use crate::prepare::Answered;
 
 #[tactic(auto, unfolding(crate::specs::Runs::header_text))]
 fn print_header<K: Sink>(
@@ -268,4 +270,70 @@ fn print_times<K: Sink>(
         };
     }
     Ok(())
+}
+
+/// The log of the only feed.
+fn print_log<K: Sink>(
+    sink: &mut K,
+    page: &mut Page,
+    items: &[LogItem],
+) -> Result<(), WriteFault>
+    requires { All IsSpelledItem items.now }
+    ensures { Prints K.taken K.faults sink.old sink.new page.old page.new result (logs_text 1 (record { items = items.now; stop = FeedStop.End } ∷ [])) }
+{
+    let Ok(()) = print_feed(sink, page, items.len()) else {
+        return Err(WriteFault);
+    };
+    let Ok(()) = print_items(sink, page, items) else {
+        return Err(WriteFault);
+    };
+    let Ok(()) = print_stop(sink, page, FeedStop::End) else {
+        return Err(WriteFault);
+    };
+    Ok(())
+}
+
+fn print_parts<K: Sink>(
+    sink: &mut K,
+    page: &mut Page,
+    run: &Answered,
+) -> Result<(), WriteFault>
+    requires entries { All IsSpelledEntry run.now.history.items }
+    requires items { All IsSpelledItem run.now.items.items }
+    requires size { length run.now.times.items ≡ length run.now.net.events }
+    ensures { Prints K.taken K.faults sink.old sink.new page.old page.new result (run_text (run_in run.now)) }
+{
+    let Ok(()) = print_header(sink, page, run.penalty, run.history.len()) else {
+        return Err(WriteFault);
+    };
+    let Ok(()) = print_entries(sink, page, run.history.as_slice()) else {
+        return Err(WriteFault);
+    };
+    let Ok(()) = print_log(sink, page, run.items.as_slice()) else {
+        return Err(WriteFault);
+    };
+    let Ok(()) = print_heading(sink, page, run.history.len()) else {
+        return Err(WriteFault);
+    };
+    let Ok(()) = print_times(sink, page, &run.net, run.times.as_slice()) else {
+        return Err(WriteFault);
+    };
+    let Ok(()) = print_ending(sink, page, run.cost) else {
+        return Err(WriteFault);
+    };
+    Ok(())
+}
+
+/// Prints a run whole: its text, version 1.
+pub fn print_run<K: Sink>(sink: &mut K, run: &Answered) -> Result<(), WriteFault>
+    requires entries { All IsSpelledEntry run.now.history.items }
+    requires items { All IsSpelledItem run.now.items.items }
+    requires size { length run.now.times.items ≡ length run.now.net.events }
+    ensures { Puts K.taken K.faults sink.old sink.new result (run_text (run_in run.now)) }
+{
+    let mut page = Page::new();
+    let Ok(()) = print_parts(sink, &mut page, run) else {
+        return Err(WriteFault);
+    };
+    page.finish(sink)
 }
