@@ -10,3 +10,4 @@ pub mod Totals
 pub mod Finished
 pub mod Forward
 pub mod Ending
+pub mod Staging
