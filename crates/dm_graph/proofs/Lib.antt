@@ -4,3 +4,4 @@ pub mod Timetables
 pub mod Joins
 pub mod WalkSteps
 pub mod WalkGoesOn
+pub mod Found
