@@ -1,12 +1,12 @@
 -- What the walk has found: an order where it placed every event, a cycle where its path closes.
 use Rattle.std.proofs.Common.{◌≡◌, ℕ, zero, suc, ◌+◌, ◌-◌, ◌*◌, ◌<◌, ◌≤◌, Bool, false, cond, List, [], ◌∷◌, length, refl, sym, ap, subst, ◌∙◌, arith, ne_eqb, slice_index, slice_index_or, mul-zero, add-zero, take, ◌++◌}
 use Rattle.std.specs.Prelude.{◌==◌, count_by}
-use Rattle.std.proofs.lemmas.Grind.{get_or_default_zero, common_steps}
-use Rattle.std.proofs.lemmas.Option.{slice_get_within, get_or_from_slice_get}
+use Rattle.std.proofs.lemmas.Grind.{common_steps}
 use Rattle.std.proofs.lemmas.List.Sums.{sum_by-le}
 use Rattle.std.proofs.lemmas.List.Elements.{All-from_get_or}
 use Rattle.dm_graph.specs.Arcs.{Arcs, Binds, Chain, IsCycle, IsOrder}
 use Rattle.dm_graph.specs.Arrays.{InRow, AreArraysOf, AreRanks}
+use Rattle.dm_graph.proofs.Ranks.{order_of_ranks}
 use Rattle.dm_graph.specs.declared.walk.Walk.{Walk}
 use Rattle.dm_graph.specs.Walk.{IsHeldAt, tail_at, AreMarks, LeadsTo, Closes, PlacesAll, path_arc, HasPathArcs, ListsPathArcs}
 
@@ -64,26 +64,8 @@ module _ (tails offsets places : List ℕ) (held : List Bool) (walk : Walk) (p :
 
     pub placed_is_order : IsOrder g walk.order.items
     placed_is_order =
-        let n = events_are in
-        record {
-          as_many = n;
-          has_each = λ e lt.
-              let is_in : e < length walk.order.items = omega arith in
-              let place = p.met e is_in in (
-                slice_index walk.rank.items e,
-                place,
-                get_or_default_zero walk.order.items (slice_index walk.rank.items e) e place ∙ p.holds.marks.ranked e is_in place,
-              );
-          forward = λ a binds i j at_i at_j.
-              let rises = placed_rises a binds in
-              let i_in = slice_get_within walk.order.items i (g.tail a) at_i in
-              let j_in = slice_get_within walk.order.items j (g.head a) at_j in
-              let i_is : slice_index walk.order.items i ≡ g.tail a = get_or_from_slice_get walk.order.items i (g.tail a) 0 at_i in
-              let j_is : slice_index walk.order.items j ≡ g.head a = get_or_from_slice_get walk.order.items j (g.head a) 0 at_j in
-              let i_rank : slice_index walk.rank.items (g.tail a) ≡ i = ap (slice_index walk.rank.items) (sym i_is) ∙ placed_is_ranked.is_ranked i i_in in
-              let j_rank : slice_index walk.rank.items (g.head a) ≡ j = ap (slice_index walk.rank.items) (sym j_is) ∙ placed_is_ranked.is_ranked j j_in in
-              omega arith;
-        }
+        order_of_ranks g walk.order.items walk.rank.items
+        (subst (λ n. AreRanks n walk.order.items walk.rank.items) events_are placed_is_ranked) placed_rises
 
 -- arcs that lead from each of some events to the next are a chain
 chain_of_links : (g : Arcs) (chain : List ℕ) (event : ℕ → ℕ) →

@@ -5,3 +5,6 @@ pub mod Joins
 pub mod WalkSteps
 pub mod WalkGoesOn
 pub mod Found
+pub mod Ranks
+pub mod Transfers
+pub mod Windows
