@@ -1,0 +1,5 @@
+pub mod Net
+pub mod Pairs
+pub mod Start
+pub mod Build
+pub mod Flat

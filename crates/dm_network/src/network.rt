@@ -1,0 +1,141 @@
+//! The network and its readers.
+ghost use Rattle.std.specs.Prelude.{◌≡◌, ◌+◌, ◌<◌, ◌≤◌, length, IfOk, IfErr};
+ghost use Rattle.dm_network.specs.Net.{event_at, activity_at, pair_at, event_place, activity_place, places_into, places_out_of, places_at, IsWithinLimits};
+ghost use Rattle.dm_network.specs.Pairs.{pair_place};
+ghost use Rattle.dm_network.specs.Start.{IsNetwork};
+
+use crate::find;
+use crate::flat::{FlatRows, row};
+use crate::parts::{Activity, Event, Pair};
+use dm_base::limits::{ACTIVITIES, EVENTS};
+use dm_base::{ActId, EventId, Steps, StopId};
+use std::marker::Model;
+use std::sync::ledger::Ledger;
+
+/// Events, activities and pairs, each list in ascending order of ids. Places count from 0.
+#[derive(Debug, Drop)]
+pub struct Network {
+    events: Vec<Event>,
+    activities: Vec<Activity>,
+    pairs: Vec<Pair>,
+
+    /// The places of the activities, in rows by head and in rows by tail.
+    incoming: FlatRows,
+    outgoing: FlatRows,
+
+    /// The places of the events in ascending order of stops, and the stop of each.
+    by_stop: Vec<usize>,
+    stops: Vec<StopId>,
+}
+
+impl Model for Network {
+    ghost use Rattle.dm_network.specs.Net.{Net};
+    ghost use Rattle.dm_network.specs.Flat.{IsHeld};
+
+    ghost Value = { Net };
+
+    ghost view = { λ n. record { events = n.events.items; activities = n.activities.items; pairs = n.pairs.items } };
+
+    ghost invariant = { λ n. IsHeld (record { events = n.events.items; activities = n.activities.items; pairs = n.pairs.items }) n.incoming n.outgoing n.stops.items n.by_stop.items };
+}
+
+impl Network {
+    /// How many events there are.
+    pub fn events(&self) -> usize
+        ensures count { result ≡ length self.now.events }
+        ensures few { result ≤ EVENTS }
+        ensures network { IsNetwork self.now }
+        ensures within { IsWithinLimits self.now }
+    {
+        self.events.len()
+    }
+
+    /// How many activities there are.
+    pub fn activities(&self) -> usize
+        ensures count { result ≡ length self.now.activities }
+        ensures few { result ≤ ACTIVITIES }
+    {
+        self.activities.len()
+    }
+
+    /// How many pairs there are.
+    pub fn pairs(&self) -> usize
+        ensures { result ≡ length self.now.pairs }
+    {
+        self.pairs.len()
+    }
+
+    /// The event at a place.
+    pub fn event(&self, i: usize) -> &Event
+        requires { i < length self.now.events }
+        ensures { result.now ≡ event_at self.now i }
+    {
+        &self.events[i]
+    }
+
+    /// The activity at a place.
+    pub fn activity(&self, a: usize) -> &Activity
+        requires { a < length self.now.activities }
+        ensures { result.now ≡ activity_at self.now a }
+    {
+        &self.activities[a]
+    }
+
+    /// The pair at a place.
+    pub fn pair(&self, p: usize) -> &Pair
+        requires { p < length self.now.pairs }
+        ensures { result.now ≡ pair_at self.now p }
+    {
+        &self.pairs[p]
+    }
+
+    /// The place of the event with this id.
+    pub fn place_of(&self, id: EventId) -> Option<usize>
+        ensures { result ≡ event_place self.now id }
+    {
+        find::event_place(&self.events, id)
+    }
+
+    /// The place of the activity with this id.
+    pub fn act_place(&self, id: ActId) -> Option<usize>
+        ensures { result ≡ activity_place self.now id }
+    {
+        find::activity_place(&self.activities, id)
+    }
+
+    /// The place of the pair that two events form, in either order.
+    pub fn pair_of(&self, i: usize, j: usize) -> Option<usize>
+        requires first { i < length self.now.events }
+        requires second { j < length self.now.events }
+        ensures { result ≡ pair_place self.now i j }
+    {
+        find::pair_place(&self.pairs, i, j)
+    }
+
+    /// The places of the events at a stop, ascending.
+    pub fn at_stop(&self, stop: StopId) -> &[usize]
+        ensures { result.now ≡ places_at self.now stop }
+    {
+        find::places_beside(&self.stops, &self.by_stop, stop)
+    }
+
+    /// The places of the activities with this head, ascending. It counts one step.
+    pub fn in_row<L: Ledger>(&self, i: usize, steps: &mut Steps<L>) -> &[usize]
+        requires { i < length self.now.events }
+        ensures places { result.now ≡ places_into self.now i }
+        ensures counted { steps.new ≡ steps.old + 1 }
+    {
+        steps.tick();
+        row(&self.incoming.offsets, &self.incoming.places, i)
+    }
+
+    /// The places of the activities with this tail, ascending. It counts one step.
+    pub fn out_row<L: Ledger>(&self, i: usize, steps: &mut Steps<L>) -> &[usize]
+        requires { i < length self.now.events }
+        ensures places { result.now ≡ places_out_of self.now i }
+        ensures counted { steps.new ≡ steps.old + 1 }
+    {
+        steps.tick();
+        row(&self.outgoing.offsets, &self.outgoing.places, i)
+    }
+}

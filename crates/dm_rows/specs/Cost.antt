@@ -1,0 +1,45 @@
+-- What a timetable costs, in thousandths of passenger seconds.
+use Rattle.std.specs.Prelude.{ℕ, ◌+◌, ◌-◌, ◌*◌, ◌&&◌, nat_lt, Bool, true, false, not, List, length, if◌then◌else◌, sum_by}
+use Rattle.std.specs.List.{range_with_len}
+use Rattle.dm_base.specs.declared.rows.EventKind.{EventKind}
+use Rattle.dm_base.specs.declared.rows.EventKind.TheVariants.{Departure, Arrival}
+use Rattle.dm_network.specs.Net.{Net, event_at, activity_at, is_change}
+use Rattle.dm_rows.specs.Rows.{RowsValue, kept_at}
+use Rattle.dm_rows.specs.Active.{has_passed}
+use Rattle.dm_rows.specs.Timetable.{time_at, span_of}
+
+abbrev pub is_arrival : EventKind → Bool
+is_arrival Arrival = true
+is_arrival Departure = false
+
+-- how many seconds after its scheduled time an event is, or 0
+abbrev pub lateness : Net → List ℕ → ℕ → ℕ
+lateness net x i = time_at x i - (event_at net i).time
+
+-- the weight of an arrival times its lateness
+abbrev pub event_cost : Net → List ℕ → ℕ → ℕ
+event_cost net x i = if is_arrival (event_at net i).kind then (event_at net i).weight * lateness net x i else 0
+
+-- the weight of a dropped change whose head has not passed
+abbrev pub dropped_weight : Net → RowsValue → ℕ → ℕ
+dropped_weight net rows a =
+    if is_change (activity_at net a).kind && not (kept_at rows a) && not (has_passed rows (activity_at net a).head)
+    then (activity_at net a).weight else 0
+
+-- the timetable does not keep the activity: its head comes too early
+abbrev pub comes_too_early : Net → RowsValue → List ℕ → ℕ → Bool
+comes_too_early net rows x a =
+    nat_lt (time_at x (activity_at net a).head) (time_at x (activity_at net a).tail + span_of net rows a)
+
+-- the weight of a change, kept or dropped, that its passed head has missed for good
+abbrev pub missed_weight : Net → RowsValue → List ℕ → ℕ → ℕ
+missed_weight net rows x a =
+    if is_change (activity_at net a).kind && has_passed rows (activity_at net a).head && comes_too_early net rows x a
+    then (activity_at net a).weight else 0
+
+-- weight times lateness over the arrivals, and the penalty for each dropped change and each frozen miss
+abbrev pub cost_of : Net → RowsValue → List ℕ → ℕ → ℕ
+cost_of net rows x penalty =
+    sum_by (event_cost net x) (range_with_len 0 (length net.events))
+    + penalty * sum_by (dropped_weight net rows) (range_with_len 0 (length net.activities))
+    + penalty * sum_by (missed_weight net rows x) (range_with_len 0 (length net.activities))

@@ -1,0 +1,13 @@
+pub mod Rows
+pub mod Active
+pub mod Timetable
+pub mod Cost
+pub mod Resolve
+pub mod Refuse
+pub mod History
+pub mod Decide
+pub mod Touch
+pub mod Reach
+pub mod StartFaults
+pub mod Examples
+pub mod Laws
