@@ -1,6 +1,6 @@
 use Rattle.std.proofs.Common.{codes}
 use Rattle.dm_outside.proofs.Printing.{prints_fault, prints_then, prints_then_fault, finishes, unfinished}
-use Rattle.dm_cases.specs.Outside.{row_text, table_text}
+use Rattle.dm_cases.specs.Outside.{table_text}
 use Rattle.dm_cases.proofs.outside.print_table.Goals as goal
 
 pub returns : goal.returns
