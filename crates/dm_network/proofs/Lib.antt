@@ -1,3 +1,4 @@
 pub mod Keys
 pub mod PairKeys
 pub mod Windows
+pub mod Filling
