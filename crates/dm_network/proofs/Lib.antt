@@ -2,3 +2,5 @@ pub mod Keys
 pub mod PairKeys
 pub mod Windows
 pub mod Filling
+pub mod Doubles
+pub mod Resolving

@@ -9,6 +9,7 @@ mod find;
 mod flat;
 mod network;
 mod parts;
+mod records;
 
 pub use network::Network;
 pub use parts::{Activity, Event, NetFault, Pair};

@@ -23,6 +23,9 @@ pub struct Network {
     incoming: FlatRows,
     outgoing: FlatRows,
 
+    /// The tail of each activity.
+    tails: Vec<usize>,
+
     /// The places of the events in ascending order of stops, and the stop of each.
     by_stop: Vec<usize>,
     stops: Vec<StopId>,
@@ -36,7 +39,7 @@ impl Model for Network {
 
     ghost view = { λ n. record { events = n.events.items; activities = n.activities.items; pairs = n.pairs.items } };
 
-    ghost invariant = { λ n. IsHeld (record { events = n.events.items; activities = n.activities.items; pairs = n.pairs.items }) n.incoming n.outgoing n.stops.items n.by_stop.items };
+    ghost invariant = { λ n. IsHeld (record { events = n.events.items; activities = n.activities.items; pairs = n.pairs.items }) n.incoming n.outgoing n.tails.items n.stops.items n.by_stop.items };
 }
 
 impl Network {
