@@ -4,3 +4,5 @@ pub mod Windows
 pub mod Filling
 pub mod Doubles
 pub mod Resolving
+pub mod TwoWay
+pub mod Formation

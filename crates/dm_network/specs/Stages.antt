@@ -1,5 +1,6 @@
 -- What the stages of a build pass on to each other.
-use Rattle.std.specs.Prelude.{ℕ, ◌≡◌, ◌<◌, ◌↔◌, List, [], length, map, Option, Some, None, if◌then◌else◌, slice_get, slice_index_or, All, Contains, position, nat_lt}
+use Rattle.std.specs.Prelude.{ℕ, ◌≡◌, ◌-◌, ◌<◌, ◌≤◌, ◌↔◌, ◌&&◌, true, List, [], length, map, Option, Some, None, if◌then◌else◌, slice_get, slice_index_or, All, Contains, position, nat_lt, IsPermutation}
+use Rattle.std.specs.List.Sorted.{IsStrictlyIncreasing}
 use Rattle.dm_base.specs.declared.rows.EventRow.{EventRow}
 use Rattle.dm_base.specs.declared.rows.ActRow.{ActRow}
 use Rattle.dm_network.specs.declared.parts.Event.{Event}
@@ -7,9 +8,9 @@ use Rattle.dm_network.specs.declared.parts.Activity.{Activity}
 use Rattle.dm_network.specs.declared.parts.Pair.{Pair}
 use Rattle.dm_network.specs.declared.parts.NetFault.{NetFault}
 use Rattle.dm_network.specs.declared.parts.NetFault.TheVariants.{TooMany, DoubleEvent, DoubleActivity, UnknownEvent, ZeroHeadway, Cycle, OutOfMemory}
-use Rattle.dm_network.specs.Net.{no_activity, is_headway}
-use Rattle.dm_network.specs.Pairs.{joins}
-use Rattle.dm_network.specs.Build.{event_row, activity_row, NamesNoEvent, IsFirst, HoldsOfNone}
+use Rattle.dm_network.specs.Net.{no_activity, no_pair, is_headway}
+use Rattle.dm_network.specs.Pairs.{joins, ComesBefore}
+use Rattle.dm_network.specs.Build.{event_row, activity_row, event_ids, activity_ids, NamesNoEvent, IsFirst, HoldsOfNone, NoneStandsTwice, IsLeastDouble, IsZeroHeadway}
 
 -- the event of a record
 abbrev pub event_with : EventRow → Event
@@ -45,3 +46,84 @@ RefusesEnds events rows (DoubleEvent id) = ⊥
 RefusesEnds events rows (DoubleActivity id) = ⊥
 RefusesEnds events rows (ZeroHeadway id) = ⊥
 RefusesEnds events rows (Cycle ids) = ⊥
+
+-- a headway from one event to another, by place
+pub record IsHeadwayAmong (activities : List Activity) (i j a : ℕ) : Type 0 where
+  pub is_activity : a < length activities
+  pub headway : is_headway (slice_index_or activities a no_activity).kind ≡ true
+  pub tail : (slice_index_or activities a no_activity).tail ≡ i
+  pub head : (slice_index_or activities a no_activity).head ≡ j
+
+abbrev pub HasHeadway : List Activity → ℕ → ℕ → Type 0
+HasHeadway activities i j = (a : ℕ) × IsHeadwayAmong activities i j a
+
+-- the two events of a headway that leads from the smaller to the larger one, or from the larger to the smaller one
+abbrev pub upward_pair : Activity → Option Pair
+upward_pair a = if is_headway a.kind && nat_lt a.tail a.head then Some (record { small = a.tail; large = a.head }) else None
+
+abbrev pub downward_pair : Activity → Option Pair
+downward_pair a = if is_headway a.kind && nat_lt a.head a.tail then Some (record { small = a.head; large = a.tail }) else None
+
+-- no pair comes before the one before it
+abbrev pub PairsDoNotFall : List Pair → Type 0
+PairsDoNotFall pairs = (i j : ℕ) → i ≤ j → j < length pairs → ComesBefore (slice_index_or pairs j no_pair) (slice_index_or pairs i no_pair) → ⊥
+
+-- a pair stands in one of two lists exactly where it stands in both
+abbrev pub AreCommon : List Pair → List Pair → List Pair → Type 0
+AreCommon xs ys pairs = (p : Pair) → Contains pairs p ↔ (Contains xs p × Contains ys p)
+
+-- the pairs are the two-way headways between different events
+abbrev pub AreTwoWay : List Activity → List Pair → Type 0
+AreTwoWay activities pairs =
+    (p : Pair) → Contains pairs p ↔ ((p.small < p.large) × HasHeadway activities p.small p.large × HasHeadway activities p.large p.small)
+
+-- the activity with the pair that its events form, if it is a headway
+abbrev pub with_pair : List Pair → Activity → Activity
+with_pair pairs a = record a { pair = if is_headway a.kind then position (λ p. joins p a.tail a.head) pairs else None }
+
+-- each pair comes before all later ones
+abbrev pub AscendStrictly : List Pair → Type 0
+AscendStrictly pairs = (i j : ℕ) → i < j → j < length pairs → ComesBefore (slice_index_or pairs i no_pair) (slice_index_or pairs j no_pair)
+
+-- the pair is not the last of the list
+abbrev pub DiffersFromLast : List Pair → Pair → Type 0
+DiffersFromLast pairs p = 0 < length pairs → slice_index_or pairs (length pairs - 1) no_pair ≡ p → ⊥
+
+-- the events of the records, each once, in ascending order
+pub record AreEventsOf (rows : List EventRow) (events : List Event) : Type 0 where
+  pub same : IsPermutation rows (map event_row events)
+  pub ascend : IsStrictlyIncreasing (map (λ e. e.id.0) events)
+  pub once : NoneStandsTwice (event_ids rows)
+
+-- why records make no events: the least id that stands twice, or want of memory
+abbrev pub RefusesEvents : List EventRow → NetFault → Type 0
+RefusesEvents rows (DoubleEvent id) = IsLeastDouble (event_ids rows) id.0
+RefusesEvents rows OutOfMemory = Unit {0}
+RefusesEvents rows TooMany = ⊥
+RefusesEvents rows (DoubleActivity id) = ⊥
+RefusesEvents rows (UnknownEvent id) = ⊥
+RefusesEvents rows (ZeroHeadway id) = ⊥
+RefusesEvents rows (Cycle ids) = ⊥
+
+-- a headway keeps its events apart
+abbrev pub IsApart : Activity → Type 0
+IsApart a = is_headway a.kind ≡ true → 1 ≤ a.lower
+
+-- the activities of the records between these events, each once, in ascending order
+pub record AreActivitiesOf (events : List Event) (rows : List ActRow) (activities : List Activity) : Type 0 where
+  pub same : IsPermutation rows (map (row_with events) activities)
+  pub ascend : IsStrictlyIncreasing (map (λ a. a.id.0) activities)
+  pub ends : All (HasEnds (length events)) activities
+  pub apart : All IsApart activities
+
+-- why records make no activities between these events
+abbrev pub RefusesActivities : List Event → List ActRow → NetFault → Type 0
+RefusesActivities events rows (DoubleActivity id) = IsLeastDouble (activity_ids rows) id.0
+RefusesActivities events rows (UnknownEvent id) =
+    NoneStandsTwice (activity_ids rows) × IsFirst (NamesNoEvent (map event_row events)) rows id
+RefusesActivities events rows (ZeroHeadway id) =
+    NoneStandsTwice (activity_ids rows) × HoldsOfNone (NamesNoEvent (map event_row events)) rows × IsFirst IsZeroHeadway rows id
+RefusesActivities events rows OutOfMemory = Unit {0}
+RefusesActivities events rows TooMany = ⊥
+RefusesActivities events rows (DoubleEvent id) = ⊥
+RefusesActivities events rows (Cycle ids) = ⊥

@@ -7,7 +7,9 @@
 mod build;
 mod find;
 mod flat;
+mod forming;
 mod network;
+mod pairing;
 mod parts;
 mod records;
 
