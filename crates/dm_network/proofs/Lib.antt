@@ -6,3 +6,4 @@ pub mod Doubles
 pub mod Resolving
 pub mod TwoWay
 pub mod Formation
+pub mod Arraying

@@ -1,6 +1,6 @@
 -- What the stages of a build pass on to each other.
-use Rattle.std.specs.Prelude.{ℕ, ◌≡◌, ◌-◌, ◌<◌, ◌≤◌, ◌↔◌, ◌&&◌, true, List, [], length, map, Option, Some, None, if◌then◌else◌, slice_get, slice_index_or, All, Contains, position, nat_lt, IsPermutation}
-use Rattle.std.specs.List.Sorted.{IsStrictlyIncreasing}
+use Rattle.std.specs.Prelude.{ℕ, ◌≡◌, ◌-◌, ◌<◌, ◌≤◌, ◌↔◌, ◌&&◌, true, List, [], length, map, Option, Some, None, if◌then◌else◌, slice_get, slice_index_or, All, Contains, position, nat_lt, nat_le, filter, ◌==◌, IsPermutation}
+use Rattle.std.specs.List.Sorted.{IsStrictlyIncreasing, IsNonDecreasing}
 use Rattle.dm_base.specs.declared.rows.EventRow.{EventRow}
 use Rattle.dm_base.specs.declared.rows.ActRow.{ActRow}
 use Rattle.dm_network.specs.declared.parts.Event.{Event}
@@ -8,7 +8,13 @@ use Rattle.dm_network.specs.declared.parts.Activity.{Activity}
 use Rattle.dm_network.specs.declared.parts.Pair.{Pair}
 use Rattle.dm_network.specs.declared.parts.NetFault.{NetFault}
 use Rattle.dm_network.specs.declared.parts.NetFault.TheVariants.{TooMany, DoubleEvent, DoubleActivity, UnknownEvent, ZeroHeadway, Cycle, OutOfMemory}
-use Rattle.dm_network.specs.Net.{no_activity, no_pair, is_headway}
+use Rattle.dm_base.specs.declared.ids.StopId.{StopId}
+use Rattle.dm_network.specs.declared.forming.Formed.{Formed}
+use Rattle.dm_network.specs.declared.arrays.Standing.{Standing}
+use Rattle.dm_network.specs.Net.{Net, no_event, no_activity, no_pair, pair_at, is_headway, places_into, places_out_of}
+use Rattle.dm_network.specs.declared.arrays.Arrays.{Arrays}
+use Rattle.dm_network.specs.Start.{IsStartCycle, ShowsStartCycle}
+use Rattle.dm_network.specs.Flat.{AreByStop, AreFlatRows}
 use Rattle.dm_network.specs.Pairs.{joins, ComesBefore}
 use Rattle.dm_network.specs.Build.{event_row, activity_row, event_ids, activity_ids, NamesNoEvent, IsFirst, HoldsOfNone, NoneStandsTwice, IsLeastDouble, IsZeroHeadway}
 
@@ -127,3 +133,55 @@ RefusesActivities events rows OutOfMemory = Unit {0}
 RefusesActivities events rows TooMany = ⊥
 RefusesActivities events rows (DoubleEvent id) = ⊥
 RefusesActivities events rows (Cycle ids) = ⊥
+
+-- the network that the parts make
+abbrev pub formed_net : Formed → Net
+formed_net formed = record { events = formed.events.items; activities = formed.activities.items; pairs = formed.pairs.items }
+
+abbrev pub net_with : List Event → List Activity → List Pair → Net
+net_with events activities pairs = record { events = events; activities = activities; pairs = pairs }
+
+-- what stands beside a network
+pub record AreArraysOf (net : Net) (arrays : Arrays) : Type 0 where
+  pub rows_in : AreFlatRows (places_into net) (length net.events) arrays.incoming.offsets.items arrays.incoming.places.items
+  pub rows_out : AreFlatRows (places_out_of net) (length net.events) arrays.outgoing.offsets.items arrays.outgoing.places.items
+  pub tails_are : arrays.tails.items ≡ map (λ a. a.tail) net.activities
+  pub at_stops : AreByStop net arrays.by_stop.stops.items arrays.by_stop.places.items
+
+-- why a network that is formed is refused: a cycle at the start, or want of memory
+abbrev pub RefusesStart : Net → NetFault → Type 0
+RefusesStart net (Cycle ids) = ShowsStartCycle net ids
+RefusesStart net OutOfMemory = Unit {0}
+RefusesStart net TooMany = ⊥
+RefusesStart net (DoubleEvent id) = ⊥
+RefusesStart net (DoubleActivity id) = ⊥
+RefusesStart net (UnknownEvent id) = ⊥
+RefusesStart net (ZeroHeadway id) = ⊥
+
+-- the stop of the event at a place, with the place
+abbrev pub standing_at : List Event → ℕ → Standing
+standing_at events i = record { stop = (slice_index_or events i no_event).stop; place = i }
+
+-- the stops do not fall, and those of one stop stand in their order
+pub record AreSortedByStop (standings sorted : List Standing) : Type 0 where
+  pub same : IsPermutation standings sorted
+  pub ascending : IsNonDecreasing (map (λ s. s.stop.0) sorted)
+  pub stable : (stop : ℕ) → filter (λ s. s.stop.0 == stop) sorted ≡ filter (λ s. s.stop.0 == stop) standings
+
+-- the places of the events by stop, beside their stops
+abbrev pub AreStopsOf : List Event → List StopId → List ℕ → Type 0
+AreStopsOf events stops places = AreByStop (record { events = events; activities = []; pairs = [] }) stops places
+
+-- if the activity has a pair, then it is one, and its two events are events
+abbrev pub KnowsPair : Net → Activity → Type 0
+KnowsPair net a = (p : ℕ) → a.pair ≡ Some p →
+    (p < length net.pairs) × ((pair_at net p).small < length net.events) × ((pair_at net p).large < length net.events)
+
+-- the event of a pair that is first at the start
+abbrev pub first_in : List Event → Pair → ℕ
+first_in events pair =
+    if nat_le (slice_index_or events pair.small no_event).time (slice_index_or events pair.large no_event).time then pair.small else pair.large
+
+-- no list of activities is a cycle at the start
+abbrev pub HasNoStartCycle : Net → Type 0
+HasNoStartCycle net = (cycle : List ℕ) → IsStartCycle net cycle → ⊥

@@ -3,13 +3,21 @@ ghost use Rattle.std.specs.Prelude.{◌≡◌, map, length, IfOk, IfErr};
 ghost use Rattle.std.specs.List.Sorted.{IsStrictlyIncreasing};
 ghost use Rattle.dm_network.specs.Stages.{AreEventsOf, RefusesEvents, AreActivitiesOf, RefusesActivities};
 
-use crate::parts::{Activity, Event, NetFault};
+use crate::parts::{Activity, Event, NetFault, Pair};
 use crate::records::{
     first_zero_headway, ids_of_activities, ids_of_events, least_double, resolved,
     sorted_activities, sorted_events,
 };
 use dm_base::{ActId, ActRow, EventId, EventRow};
 use std::alloc::Global;
+
+/// The parts of a network.
+#[derive(Debug, Drop)]
+pub struct Formed {
+    pub events: Vec<Event>,
+    pub activities: Vec<Activity>,
+    pub pairs: Vec<Pair>,
+}
 
 /// The events of the records, in ascending order of ids.
 pub fn events_from(alloc: Global, rows: Vec<EventRow>) -> Result<Vec<Event>, NetFault>

@@ -4,6 +4,7 @@
 //! [`Network::build`] makes one of the records of two files, or says exactly why there is none.
 #![tactic(auto)]
 
+mod arrays;
 mod build;
 mod find;
 mod flat;
