@@ -7,3 +7,5 @@ pub mod Resolving
 pub mod TwoWay
 pub mod Formation
 pub mod Arraying
+pub mod Starting
+pub mod Making

@@ -142,7 +142,7 @@ abbrev pub net_with : List Event → List Activity → List Pair → Net
 net_with events activities pairs = record { events = events; activities = activities; pairs = pairs }
 
 -- what stands beside a network
-pub record AreArraysOf (net : Net) (arrays : Arrays) : Type 0 where
+pub record StandBeside (net : Net) (arrays : Arrays) : Type 0 where
   pub rows_in : AreFlatRows (places_into net) (length net.events) arrays.incoming.offsets.items arrays.incoming.places.items
   pub rows_out : AreFlatRows (places_out_of net) (length net.events) arrays.outgoing.offsets.items arrays.outgoing.places.items
   pub tails_are : arrays.tails.items ≡ map (λ a. a.tail) net.activities

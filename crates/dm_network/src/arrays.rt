@@ -3,7 +3,7 @@ ghost use Rattle.std.specs.Prelude.{◌≡◌, ◌<◌, ◌≤◌, [], map, leng
 ghost use Rattle.std.specs.List.{range_with_len};
 ghost use Rattle.dm_network.specs.Net.{no_activity};
 ghost use Rattle.dm_network.specs.Start.{binds_at_start, is_start_active};
-ghost use Rattle.dm_network.specs.Stages.{standing_at, AreStopsOf, AreSortedByStop, net_with, AreArraysOf, KnowsPair, HasEnds, first_in};
+ghost use Rattle.dm_network.specs.Stages.{standing_at, AreStopsOf, AreSortedByStop, net_with, StandBeside, KnowsPair, HasEnds, first_in};
 
 use crate::flat::{FlatRows, rows_by};
 use crate::parts::{Activity, Event, Pair};
@@ -39,7 +39,7 @@ pub fn arrays_of(alloc: Global, events: &[Event], activities: &[Activity]) -> Re
     requires few_events { length events.now ≤ EVENTS }
     requires few_activities { length activities.now ≤ ACTIVITIES }
     requires ends { All (HasEnds (length events.now)) activities.now }
-    ensures { IfOk result (λ arrays. AreArraysOf (net_with events.now activities.now []) arrays) }
+    ensures { IfOk result (λ arrays. StandBeside (net_with events.now activities.now []) arrays) }
 {
     let heads = heads(alloc, activities)?;
     let tails = tails(alloc, activities)?;

@@ -3,13 +3,13 @@ ghost use Rattle.std.specs.Prelude.{◌≡◌, IfOk, IfErr, MatchOption};
 ghost use Rattle.dm_network.specs.Build.{AreWithinLimits, AreFew, IsMadeOf, IsBuiltFrom, RefusesRecords};
 ghost use Rattle.dm_network.specs.Net.{IsWithinLimits};
 ghost use Rattle.dm_network.specs.Start.{IsFormed, IsNetwork, ShowsStartCycle};
-ghost use Rattle.dm_network.specs.Stages.{formed_net, AreArraysOf, HasNoStartCycle, RefusesStart};
+ghost use Rattle.dm_network.specs.Stages.{formed_net, net_with, StandBeside, HasNoStartCycle, RefusesStart};
 
 use crate::arrays::{Arrays, arrays_of, held_at_start, ids_at};
 use crate::forming::{Formed, activities_from, events_from};
 use crate::network::{Network, assembled};
 use crate::pairing::{paired, pairs_of};
-use crate::parts::NetFault;
+use crate::parts::{Activity, Event, NetFault, Pair};
 use dm_base::limits::{ACTIVITIES, EVENTS};
 use dm_base::{ActId, ActRow, EventRow, Items};
 use dm_graph::search::Search;
@@ -72,24 +72,24 @@ fn network_of(alloc: Global, formed: Formed) -> Result<Network, NetFault>
     ensures refused { IfErr result (RefusesStart (formed_net formed)) }
 {
     let arrays = arrays_of(alloc, &formed.events, &formed.activities)?;
-    if let Some(ids) = start_cycle(alloc, &formed, &arrays)? {
+    if let Some(ids) = start_cycle(alloc, &formed.events, &formed.activities, &formed.pairs, &arrays)? {
         return Err(NetFault::Cycle(Items::from_vec(ids)));
     }
     Ok(assembled(formed, arrays))
 }
 
 /// The ids of activities that form a cycle at the start, if some do.
-fn start_cycle(alloc: Global, formed: &Formed, arrays: &Arrays) -> Result<Option<Vec<ActId>>, AllocError>
-    requires formed { IsFormed (formed_net formed.now) }
-    requires arrays { AreArraysOf (formed_net formed.now) arrays.now }
-    ensures { IfOk result (λ found. MatchOption found (HasNoStartCycle (formed_net formed.now)) (λ ids. ShowsStartCycle (formed_net formed.now) ids.items)) }
+fn start_cycle(alloc: Global, events: &[Event], activities: &[Activity], pairs: &[Pair], arrays: &Arrays) -> Result<Option<Vec<ActId>>, AllocError>
+    requires formed { IsFormed (net_with events.now activities.now pairs.now) }
+    requires arrays { StandBeside (net_with events.now activities.now pairs.now) arrays.now }
+    ensures { IfOk result (λ found. MatchOption found (HasNoStartCycle (net_with events.now activities.now pairs.now)) (λ ids. ShowsStartCycle (net_with events.now activities.now pairs.now) ids.items)) }
 {
-    let held = held_at_start(alloc, &formed.events, &formed.activities, &formed.pairs)?;
-    let mut search = Search::new(alloc, formed.events.len())?;
+    let held = held_at_start(alloc, events, activities, pairs)?;
+    let mut search = Search::new(alloc, events.len())?;
     match search.search(&arrays.tails, &arrays.incoming.offsets, &arrays.incoming.places, &held) {
         Ok(()) => Ok(None),
         Err(_) => {
-            let ids = ids_at(alloc, &formed.activities, search.cycle())?;
+            let ids = ids_at(alloc, activities, search.cycle())?;
             Ok(Some(ids))
         }
     }

@@ -3,7 +3,7 @@ ghost use Rattle.std.specs.Prelude.{◌≡◌, ◌+◌, ◌<◌, ◌≤◌, leng
 ghost use Rattle.dm_network.specs.Net.{event_at, activity_at, pair_at, event_place, activity_place, places_into, places_out_of, places_at, IsWithinLimits};
 ghost use Rattle.dm_network.specs.Pairs.{pair_place};
 ghost use Rattle.dm_network.specs.Start.{IsNetwork};
-ghost use Rattle.dm_network.specs.Stages.{formed_net, AreArraysOf};
+ghost use Rattle.dm_network.specs.Stages.{formed_net, StandBeside};
 
 use crate::arrays::{Arrays, ByStop};
 use crate::find;
@@ -49,7 +49,7 @@ impl Model for Network {
 pub fn assembled(formed: Formed, arrays: Arrays) -> Network
     requires network { IsNetwork (formed_net formed) }
     requires within { IsWithinLimits (formed_net formed) }
-    requires arrays { AreArraysOf (formed_net formed) arrays }
+    requires arrays { StandBeside (formed_net formed) arrays }
     ensures { result ≡ formed_net formed }
 {
     let Formed {
