@@ -13,7 +13,9 @@ use Rattle.dm_network.specs.declared.parts.Event.{Event}
 use Rattle.dm_network.specs.declared.arrays.Standing.{Standing}
 use Rattle.dm_network.specs.Net.{Net, no_event, no_activity, activity_at, places_into, places_out_of}
 use Rattle.dm_network.specs.Start.{binds_at_start, is_start_active}
-use Rattle.dm_network.specs.Stages.{standing_at, AreSortedByStop, AreStopsOf, net_with, HasEnds}
+use Rattle.dm_network.specs.Stages.{standing_at, AreSortedByStop, AreStopsOf, StandBeside, net_with}
+use Rattle.dm_network.specs.declared.parts.Pair.{Pair}
+use Rattle.dm_network.specs.declared.arrays.Arrays.{Arrays}
 use Rattle.dm_network.specs.declared.parts.Activity.{Activity}
 use Rattle.dm_network.specs.Flat.{AreFlatRows, row_of}
 
@@ -145,3 +147,13 @@ mapped_ends_known f events activities ends z is known a lt =
     let e : get_or ends a 0 ≡ f (get_or activities a no_activity) = ap (λ xs. get_or xs a 0) is ∙ look_up_mapped f z activities a in
     let k = known a (omega arith) in
     omega arith
+
+-- the arrays depend on events and activities alone
+pub stand_beside_same : (events : List Event) (activities : List Activity) (pairs : List Pair) (arrays : Arrays) →
+    StandBeside (net_with events activities []) arrays → StandBeside (net_with events activities pairs) arrays
+stand_beside_same events activities pairs arrays h = record {
+  rows_in = record { offset_count = h.rows_in.offset_count; rises = h.rows_in.rises; within = h.rows_in.within; row = h.rows_in.row };
+  rows_out = record { offset_count = h.rows_out.offset_count; rises = h.rows_out.rises; within = h.rows_out.within; row = h.rows_out.row };
+  tails_are = h.tails_are;
+  at_stops = record { stops_are = h.at_stops.stops_are; ascending = h.at_stops.ascending; lists = h.at_stops.lists };
+}

@@ -154,3 +154,79 @@ module _ (events : List Event) (activities : List Activity) (pairs : List Pair) 
       is_paired = is_paired;
     };
   }
+
+-- what an element of a list was made of stands in the other list
+stands : {X Y : Type 0} (f : X → Y) (rows : List Y) (xs : List X) → IsPermutation rows (map f xs) → (k : ℕ) (d : X) → k < length xs →
+    (place : ℕ) × (slice_get rows place ≡ Some (f (get_or xs k d)))
+stands f rows xs same k d lt =
+    let in' : k < length (map f xs) = rw length-map lt in
+    let e : get_or (map f xs) k (f (get_or xs k d)) ≡ f (get_or xs k d) = get_or-map f xs k d (f (get_or xs k d)) lt in
+    let c = Contains-permutation (map f xs) rows (f (get_or xs k d)) (IsPermutation-sym rows (map f xs) same)
+        (subst (λ r. Contains (map f xs) r) e (Contains-get_or (map f xs) k (f (get_or xs k d)) in')) in
+    (c.0, slice_get-get_or rows c.0 (f (get_or xs k d)) c.1 ∙ ap Some c.2)
+
+pub limits : (event_rows : List EventRow) (rows : List ActRow) (events : List Event) (activities paired : List Activity) (pairs : List Pair) →
+    AreEventsOf event_rows events → AreActivitiesOf events rows activities → paired ≡ map (with_pair pairs) activities →
+    AreWithinLimits event_rows rows → AreFew event_rows rows → IsWithinLimits (net_with events paired pairs)
+limits event_rows rows events activities paired pairs event_is act_is is within few =
+    let event_count : length events ≡ length event_rows = sym (length-map events event_row) ∙ length_permutation event_rows (map event_row events) event_is.same in
+    let act_count : length activities ≡ length rows = sym (length-map activities (row_with events)) ∙ length_permutation rows (map (row_with events) activities) act_is.same in
+    let paired_count : length paired ≡ length activities = ap length is ∙ length-map activities (with_pair pairs) in
+    let fe = few.few_events in
+    let fa = few.few_activities in
+    record {
+      events = omega arith;
+      activities = omega arith;
+      times = λ i. elim (cases_lt i (length events)) [
+        | inl lt ↦ let s = stands event_row event_rows events event_is.same i no_event lt in within.times s.0 (event_row (get_or events i no_event)) s.1
+        | inr past ↦ subst (λ e. e.time ≤ TIME) (sym (get_or_past events i no_event past)) (omega arith)
+      ];
+      event_weights = λ i. elim (cases_lt i (length events)) [
+        | inl lt ↦ let s = stands event_row event_rows events event_is.same i no_event lt in within.event_weights s.0 (event_row (get_or events i no_event)) s.1
+        | inr past ↦ subst (λ e. e.weight ≤ WEIGHT) (sym (get_or_past events i no_event past)) (omega arith)
+      ];
+      bounds = λ a. elim (cases_lt a (length activities)) [
+        | inl lt ↦
+            let s = stands (row_with events) rows activities act_is.same a no_activity lt in
+            let e : get_or paired a no_activity ≡ with_pair pairs (get_or activities a no_activity) =
+                ap (λ xs. get_or xs a no_activity) is ∙ get_or-map (with_pair pairs) activities a no_activity no_activity lt in
+            subst (λ x. x.lower ≤ BOUND) (sym e) (within.bounds s.0 (row_with events (get_or activities a no_activity)) s.1)
+        | inr past ↦ subst (λ x. x.lower ≤ BOUND) (sym (get_or_past paired a no_activity (omega arith))) (omega arith)
+      ];
+      activity_weights = λ a. elim (cases_lt a (length activities)) [
+        | inl lt ↦
+            let s = stands (row_with events) rows activities act_is.same a no_activity lt in
+            let e : get_or paired a no_activity ≡ with_pair pairs (get_or activities a no_activity) =
+                ap (λ xs. get_or xs a no_activity) is ∙ get_or-map (with_pair pairs) activities a no_activity no_activity lt in
+            subst (λ x. x.weight ≤ WEIGHT) (sym e) (within.activity_weights s.0 (row_with events (get_or activities a no_activity)) s.1)
+        | inr past ↦ subst (λ x. x.weight ≤ WEIGHT) (sym (get_or_past paired a no_activity (omega arith))) (omega arith)
+      ];
+    }
+
+no_event_through : (xs ys : List EventRow) → IsPermutation xs ys → (id : EventId) → IsNoEvent xs id → IsNoEvent ys id
+no_event_through xs ys same id none k row here is =
+    let c = Contains-permutation ys xs row (IsPermutation-sym xs ys same) (k, slice_get_within ys k row here, get_or_from_slice_get ys k row row here) in
+    none c.0 row (slice_get-get_or xs c.0 row c.1 ∙ ap Some c.2) is
+
+names_through : (xs ys : List EventRow) → IsPermutation xs ys → (row : ActRow) → NamesNoEvent xs row → NamesNoEvent ys row
+names_through xs ys same row names =
+    elim names [ | inl tail ↦ inl (no_event_through xs ys same row.tail tail) | inr head ↦ inr (no_event_through xs ys same row.head head) ]
+
+pub activities_refused : (event_rows : List EventRow) (rows : List ActRow) (events : List Event) (fault : NetFault) → AreFew event_rows rows →
+    AreEventsOf event_rows events → RefusesActivities events rows fault → RefusesRecords event_rows rows fault
+activities_refused event_rows rows events (DoubleActivity id) few is h = (few, is.once, h)
+activities_refused event_rows rows events (UnknownEvent id) few is (once, first) =
+    (few, is.once, once, record {
+      place = first.place;
+      row = first.row;
+      at_place = first.at_place;
+      holds = names_through (map event_row events) event_rows (IsPermutation-sym event_rows (map event_row events) is.same) first.row first.holds;
+      named = first.named;
+      none_before = λ k other lt here names. first.none_before k other lt here (names_through event_rows (map event_row events) is.same other names);
+    })
+activities_refused event_rows rows events (ZeroHeadway id) few is (once, none, first) =
+    (few, is.once, once, (λ k row here names. none k row here (names_through event_rows (map event_row events) is.same row names)), first)
+activities_refused event_rows rows events OutOfMemory few is h = tt
+activities_refused event_rows rows events TooMany few is h = absurd h
+activities_refused event_rows rows events (DoubleEvent id) few is h = absurd h
+activities_refused event_rows rows events (Cycle ids) few is h = absurd h

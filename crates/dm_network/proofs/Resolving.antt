@@ -28,7 +28,7 @@ same_id : (a b : EventId) → a.0 ≡ b.0 → a ≡ b
 same_id a b h = ap (λ n. record { 0 = n }) h
 
 -- where some element passes, the position is not None
-position_is_some : {X : Type 0} (p : X → Bool) (xs : List X) (k : ℕ) (d : X) → k < length xs → p (get_or xs k d) ≡ true → position p xs ≡ None → ⊥
+pub position_is_some : {X : Type 0} (p : X → Bool) (xs : List X) (k : ℕ) (d : X) → k < length xs → p (get_or xs k d) ≡ true → position p xs ≡ None → ⊥
 position_is_some p xs k d lt passes none =
     elim (cases_lt (position_or_len p xs) (length xs)) [
       | inl first ↦ let e = lt-ltb (position_or_len p xs) (length xs) first in
