@@ -93,15 +93,15 @@ module _ (events : List Event) where
       stops ≡ map (λ s. s.stop) sorted → places ≡ map (λ s. s.place) sorted → AreStopsOf events stops places
   stops_are_sorted standings sorted stops places is by stops_is places_is =
       let tells : All Tells sorted = All-permutation Tells standings sorted by.same
-          (subst (λ xs. All Tells xs) (sym is) (standings_tell (range_with_len 0 (length events)))) in
+      (subst (λ xs. All Tells xs) (sym is) (standings_tell (range_with_len 0 (length events)))) in
       rw (stops_is, places_is) (record {
         stops_are = stops_beside sorted tells;
         ascending = subst (λ xs. IsNonDecreasing xs) (sym (stops_alone sorted)) by.ascending;
         lists = λ stop.
-          places_with stop.0 sorted tells
-          ∙ ap (λ xs. map (λ s. s.place) xs) (by.stable stop.0)
-          ∙ ap (λ xs. map (λ s. s.place) (filter (λ s. eqb s.stop.0 stop.0) xs)) is
-          ∙ places_of_standings stop.0 (range_with_len 0 (length events));
+            places_with stop.0 sorted tells
+            ∙ ap (λ xs. map (λ s. s.place) xs) (by.stable stop.0)
+            ∙ ap (λ xs. map (λ s. s.place) (filter (λ s. eqb s.stop.0 stop.0) xs)) is
+            ∙ places_of_standings stop.0 (range_with_len 0 (length events));
       })
 
 -- what binds depends on events and pairs alone
@@ -133,10 +133,10 @@ rows_of_mapped f z activities ends is count offsets places rows = record {
   rises = rows.rises;
   within = rows.within;
   row = λ i lt.
-    rows.row i lt
-    ∙ filter_agree (λ a. eqb (get_or ends a 0) i) (λ a. eqb (f (get_or activities a no_activity)) i)
+      rows.row i lt
+      ∙ filter_agree (λ a. eqb (get_or ends a 0) i) (λ a. eqb (f (get_or activities a no_activity)) i)
       (λ a. ap (λ x. eqb x i) (ap (λ xs. get_or xs a 0) is ∙ look_up_mapped f z activities a)) (range_with_len 0 (length ends))
-    ∙ ap (λ n. filter (λ a. eqb (f (get_or activities a no_activity)) i) (range_with_len 0 n)) (ap length is ∙ length-map activities f);
+      ∙ ap (λ n. filter (λ a. eqb (f (get_or activities a no_activity)) i) (range_with_len 0 n)) (ap length is ∙ length-map activities f);
 }
 
 pub mapped_ends_known : (f : Activity → ℕ) (events : ℕ) (activities : List Activity) (ends : List ℕ) → f no_activity ≡ 0 → ends ≡ map f activities →

@@ -137,7 +137,7 @@ module _ (events : List Event) (activities : List Activity) (pairs : List Pair) 
   made event_rows rows event_is act_is = record {
     same_events = event_is.same;
     same_activities = subst (λ xs. IsPermutation rows xs)
-      (sym (ap (λ xs. map (activity_row (net_with events paired pairs)) xs) is ∙ rows_kept events paired pairs activities)) act_is.same;
+        (sym (ap (λ xs. map (activity_row (net_with events paired pairs)) xs) is ∙ rows_kept events paired pairs activities)) act_is.same;
     formed = record {
       events_ascend = event_is.ascend;
       activities_ascend = subst (λ ids. IsStrictlyIncreasing ids) (sym (ap (λ xs. map (λ a. a.id.0) xs) is ∙ ids_kept pairs activities)) act_is.ascend;
@@ -146,11 +146,11 @@ module _ (events : List Event) (activities : List Activity) (pairs : List Pair) 
         heads = λ a lt. let n = many in let e = ap (λ x. x.head) (at a (omega arith)) in let k = (act_is.ends a no_activity (omega arith)).head in omega arith;
       };
       headways_are_apart = λ a lt headway.
-        let n = many in
-        let e = at a (omega arith) in
-        let k = act_is.apart a no_activity (omega arith) (sym (ap (λ x. is_headway x.kind) e) ∙ headway) in
-        let l = ap (λ x. x.lower) e in
-        omega arith;
+          let n = many in
+          let e = at a (omega arith) in
+          let k = act_is.apart a no_activity (omega arith) (sym (ap (λ x. is_headway x.kind) e) ∙ headway) in
+          let l = ap (λ x. x.lower) e in
+          omega arith;
       is_paired = is_paired;
     };
   }
@@ -162,7 +162,7 @@ stands f rows xs same k d lt =
     let in' : k < length (map f xs) = rw length-map lt in
     let e : get_or (map f xs) k (f (get_or xs k d)) ≡ f (get_or xs k d) = get_or-map f xs k d (f (get_or xs k d)) lt in
     let c = Contains-permutation (map f xs) rows (f (get_or xs k d)) (IsPermutation-sym rows (map f xs) same)
-        (subst (λ r. Contains (map f xs) r) e (Contains-get_or (map f xs) k (f (get_or xs k d)) in')) in
+    (subst (λ r. Contains (map f xs) r) e (Contains-get_or (map f xs) k (f (get_or xs k d)) in')) in
     (c.0, slice_get-get_or rows c.0 (f (get_or xs k d)) c.1 ∙ ap Some c.2)
 
 pub limits : (event_rows : List EventRow) (rows : List ActRow) (events : List Event) (activities paired : List Activity) (pairs : List Pair) →
@@ -189,7 +189,7 @@ limits event_rows rows events activities paired pairs event_is act_is is within 
         | inl lt ↦
             let s = stands (row_with events) rows activities act_is.same a no_activity lt in
             let e : get_or paired a no_activity ≡ with_pair pairs (get_or activities a no_activity) =
-                ap (λ xs. get_or xs a no_activity) is ∙ get_or-map (with_pair pairs) activities a no_activity no_activity lt in
+            ap (λ xs. get_or xs a no_activity) is ∙ get_or-map (with_pair pairs) activities a no_activity no_activity lt in
             subst (λ x. x.lower ≤ BOUND) (sym e) (within.bounds s.0 (row_with events (get_or activities a no_activity)) s.1)
         | inr past ↦ subst (λ x. x.lower ≤ BOUND) (sym (get_or_past paired a no_activity (omega arith))) (omega arith)
       ];
@@ -197,7 +197,7 @@ limits event_rows rows events activities paired pairs event_is act_is is within 
         | inl lt ↦
             let s = stands (row_with events) rows activities act_is.same a no_activity lt in
             let e : get_or paired a no_activity ≡ with_pair pairs (get_or activities a no_activity) =
-                ap (λ xs. get_or xs a no_activity) is ∙ get_or-map (with_pair pairs) activities a no_activity no_activity lt in
+            ap (λ xs. get_or xs a no_activity) is ∙ get_or-map (with_pair pairs) activities a no_activity no_activity lt in
             subst (λ x. x.weight ≤ WEIGHT) (sym e) (within.activity_weights s.0 (row_with events (get_or activities a no_activity)) s.1)
         | inr past ↦ subst (λ x. x.weight ≤ WEIGHT) (sym (get_or_past paired a no_activity (omega arith))) (omega arith)
       ];
@@ -210,20 +210,24 @@ no_event_through xs ys same id none k row here is =
 
 names_through : (xs ys : List EventRow) → IsPermutation xs ys → (row : ActRow) → NamesNoEvent xs row → NamesNoEvent ys row
 names_through xs ys same row names =
-    elim names [ | inl tail ↦ inl (no_event_through xs ys same row.tail tail) | inr head ↦ inr (no_event_through xs ys same row.head head) ]
+    elim names [ inl tail ↦ inl (no_event_through xs ys same row.tail tail) | inr head ↦ inr (no_event_through xs ys same row.head head) ]
 
 pub activities_refused : (event_rows : List EventRow) (rows : List ActRow) (events : List Event) (fault : NetFault) → AreFew event_rows rows →
     AreEventsOf event_rows events → RefusesActivities events rows fault → RefusesRecords event_rows rows fault
 activities_refused event_rows rows events (DoubleActivity id) few is h = (few, is.once, h)
-activities_refused event_rows rows events (UnknownEvent id) few is (once, first) =
-    (few, is.once, once, record {
-      place = first.place;
-      row = first.row;
-      at_place = first.at_place;
-      holds = names_through (map event_row events) event_rows (IsPermutation-sym event_rows (map event_row events) is.same) first.row first.holds;
-      named = first.named;
-      none_before = λ k other lt here names. first.none_before k other lt here (names_through event_rows (map event_row events) is.same other names);
-    })
+activities_refused event_rows rows events (UnknownEvent id) few is (once, first) = (
+  few,
+  is.once,
+  once,
+  record {
+    place = first.place;
+    row = first.row;
+    at_place = first.at_place;
+    holds = names_through (map event_row events) event_rows (IsPermutation-sym event_rows (map event_row events) is.same) first.row first.holds;
+    named = first.named;
+    none_before = λ k other lt here names. first.none_before k other lt here (names_through event_rows (map event_row events) is.same other names);
+  },
+)
 activities_refused event_rows rows events (ZeroHeadway id) few is (once, none, first) =
     (few, is.once, once, (λ k row here names. none k row here (names_through event_rows (map event_row events) is.same row names)), first)
 activities_refused event_rows rows events OutOfMemory few is h = tt

@@ -58,8 +58,8 @@ module _ (net : Net) (tails offsets places : List ℕ) (held : List Bool)
   start_rows n is =
       subst (λ m. AreRows m (length tails) offsets places) (sym is)
       (subst (λ m. AreRows (length net.events) m offsets places) (sym tails_count)
-       (rows_of_windows (length net.events) (length net.activities) (λ a. (activity_at net a).head) offsets places
-        rows.offset_count rows.rises rows.within rows.row))
+      (rows_of_windows (length net.events) (length net.activities) (λ a. (activity_at net a).head) offsets places
+      rows.offset_count rows.rises rows.within rows.row))
 
   pub start_ends : (n : ℕ) → n ≡ length net.events → AreEnds n (length tails) tails held
   start_ends n is = record {
@@ -75,7 +75,7 @@ module _ (net : Net) (tails offsets places : List ℕ) (held : List Bool)
     same_tail = λ a lt. tail_is a;
     same_held = λ a lt. ap (λ xs. get_or xs a false) held_is ∙ get_or-map-range_with_len (is_start_active net) 0 (length net.activities) a a false lt (omega arith);
     lists = windows_list (length net.events) (length net.activities) (λ a. (activity_at net a).head) offsets places
-      rows.offset_count rows.rises rows.within rows.row;
+        rows.offset_count rows.rises rows.within rows.row;
   }
 
 pub ordered_start : (net : Net) (order : List ℕ) → IsOrder (arcs_of net (is_start_active net)) order → HasNoStartCycle net

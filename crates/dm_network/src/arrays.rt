@@ -35,7 +35,11 @@ pub struct Arrays {
 }
 
 /// The arrays beside these events and activities.
-pub fn arrays_of(alloc: Global, events: &[Event], activities: &[Activity]) -> Result<Arrays, AllocError>
+pub fn arrays_of(
+    alloc: Global,
+    events: &[Event],
+    activities: &[Activity],
+) -> Result<Arrays, AllocError>
     requires few_events { length events.now ≤ EVENTS }
     requires few_activities { length activities.now ≤ ACTIVITIES }
     requires ends { All (HasEnds (length events.now)) activities.now }
@@ -113,7 +117,11 @@ pub fn heads(alloc: Global, activities: &[Activity]) -> Result<Vec<usize>, Alloc
 }
 
 /// The ids of the activities at some places.
-pub fn ids_at(alloc: Global, activities: &[Activity], places: &[usize]) -> Result<Vec<ActId>, AllocError>
+pub fn ids_at(
+    alloc: Global,
+    activities: &[Activity],
+    places: &[usize],
+) -> Result<Vec<ActId>, AllocError>
     requires { All (λ a. a < length activities.now) places.now }
     ensures { IfOk result (λ ids. ids.items ≡ map (λ a. (slice_index_or activities.now a no_activity).id) places.now) }
 {
@@ -125,7 +133,12 @@ pub fn ids_at(alloc: Global, activities: &[Activity], places: &[usize]) -> Resul
 }
 
 /// Whether each activity binds at the start.
-pub fn held_at_start(alloc: Global, events: &[Event], activities: &[Activity], pairs: &[Pair]) -> Result<Vec<bool>, AllocError>
+pub fn held_at_start(
+    alloc: Global,
+    events: &[Event],
+    activities: &[Activity],
+    pairs: &[Pair],
+) -> Result<Vec<bool>, AllocError>
     requires { All (KnowsPair (net_with events.now activities.now pairs.now)) activities.now }
     ensures { IfOk result (λ held. held.items ≡ map (is_start_active (net_with events.now activities.now pairs.now)) (range_with_len 0 (length activities.now))) }
 {

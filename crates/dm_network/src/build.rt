@@ -18,7 +18,11 @@ use std::alloc::{AllocError, Global};
 impl Network {
     /// The network that the records make. The records may stand in any order; what they say is tested in the order of
     /// [`NetFault`].
-    pub fn build(alloc: Global, events: Vec<EventRow>, activities: Vec<ActRow>) -> Result<Network, NetFault>
+    pub fn build(
+        alloc: Global,
+        events: Vec<EventRow>,
+        activities: Vec<ActRow>,
+    ) -> Result<Network, NetFault>
         requires within { AreWithinLimits events.items activities.items }
         ensures built { IfOk result (IsBuiltFrom events.items activities.items) }
         ensures refused { IfErr result (RefusesRecords events.items activities.items) }
@@ -72,21 +76,38 @@ fn network_of(alloc: Global, formed: Formed) -> Result<Network, NetFault>
     ensures refused { IfErr result (RefusesStart (formed_net formed)) }
 {
     let arrays = arrays_of(alloc, &formed.events, &formed.activities)?;
-    if let Some(ids) = start_cycle(alloc, &formed.events, &formed.activities, &formed.pairs, &arrays)? {
+    if let Some(ids) = start_cycle(
+        alloc,
+        &formed.events,
+        &formed.activities,
+        &formed.pairs,
+        &arrays,
+    )? {
         return Err(NetFault::Cycle(Items::from_vec(ids)));
     }
     Ok(assembled(formed, arrays))
 }
 
 /// The ids of activities that form a cycle at the start, if some do.
-fn start_cycle(alloc: Global, events: &[Event], activities: &[Activity], pairs: &[Pair], arrays: &Arrays) -> Result<Option<Vec<ActId>>, AllocError>
+fn start_cycle(
+    alloc: Global,
+    events: &[Event],
+    activities: &[Activity],
+    pairs: &[Pair],
+    arrays: &Arrays,
+) -> Result<Option<Vec<ActId>>, AllocError>
     requires formed { IsFormed (net_with events.now activities.now pairs.now) }
     requires arrays { StandBeside (net_with events.now activities.now pairs.now) arrays.now }
     ensures { IfOk result (λ found. MatchOption found (HasNoStartCycle (net_with events.now activities.now pairs.now)) (λ ids. ShowsStartCycle (net_with events.now activities.now pairs.now) ids.items)) }
 {
     let held = held_at_start(alloc, events, activities, pairs)?;
     let mut search = Search::new(alloc, events.len())?;
-    match search.search(&arrays.tails, &arrays.incoming.offsets, &arrays.incoming.places, &held) {
+    match search.search(
+        &arrays.tails,
+        &arrays.incoming.offsets,
+        &arrays.incoming.places,
+        &held,
+    ) {
         Ok(()) => Ok(None),
         Err(_) => {
             let ids = ids_at(alloc, activities, search.cycle())?;

@@ -13,4 +13,4 @@ pub loop-activity-preserved : goal.loop-activity-preserved
 loop-activity-preserved c =
     c.in_ok-push.ensures.items
     ∙ held_more (net_with c.args.events.now c.args.activities.now c.args.pairs.now) c.loop-activity.activity-index c.loop-activity.held.items c.binds.result
-      c.loop-activity.invariant c.binds.ensures
+    c.loop-activity.invariant c.binds.ensures
