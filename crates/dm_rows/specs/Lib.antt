@@ -7,3 +7,7 @@ pub mod Refuse
 pub mod History
 pub mod Decide
 pub mod Touch
+pub mod Reach
+pub mod StartFaults
+pub mod Examples
+pub mod Laws

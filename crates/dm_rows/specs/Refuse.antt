@@ -1,5 +1,5 @@
 -- Why a message is refused: the first cause that applies, in the order of the refusals.
-use Rattle.std.specs.Prelude.{ℕ, ◌≡◌, ◌<◌, ◌≤◌, ◌⊎◌, true, false, List, [], ◌∷◌, Option, Some, None, IsSome}
+use Rattle.std.specs.Prelude.{ℕ, ◌≡◌, ◌<◌, ◌≤◌, ◌⊎◌, true, false, List, Option, Some, None, IsSome, slice_get}
 use Rattle.std.specs.Option.{option_and_then, IsSomeAnd}
 use Rattle.dm_base.specs.declared.ids.EventId.{EventId}
 use Rattle.dm_base.specs.declared.ids.ActId.{ActId}
@@ -23,6 +23,10 @@ passed_time net rows e = option_and_then (passed_at rows) (event_place net e)
 abbrev pub HeadHasPassed : Net → RowsValue → ℕ → EventId → ℕ → Type 0
 HeadHasPassed net rows a e t =
     (e ≡ (event_at net (activity_at net a).head).id) × (passed_at rows (activity_at net a).head ≡ Some t)
+
+-- nothing is refused
+abbrev pub RefusesNothing : (Refusal → Type 0) → Type 0
+RefusesNothing P = (r : Refusal) → P r → ⊥
 
 -- a number for an event that has not passed, of at most this limit
 abbrev pub RefusesNumberFor : Net → RowsValue → ℕ → EventId → ℕ → Refusal → Type 0
@@ -73,13 +77,15 @@ RefusesDecision net rows (FirstOf i j) r = RefusesFirst net rows i j r
 
 -- nothing refuses the decision
 abbrev pub PassesDecision : Net → RowsValue → Decision → Type 0
-PassesDecision net rows d = (r : Refusal) → RefusesDecision net rows d r → ⊥
+PassesDecision net rows d = RefusesNothing (RefusesDecision net rows d)
 
 -- the first decision of a list that is refused, which none before it is
-abbrev pub RefusesSome : Net → RowsValue → List Decision → Refusal → Type 0
-RefusesSome net rows [] r = ⊥
-RefusesSome net rows (d ∷ ds) r =
-    RefusesDecision net rows d r ⊎ (PassesDecision net rows d × RefusesSome net rows ds r)
+pub record RefusesSome (net : Net) (rows : RowsValue) (decisions : List Decision) (r : Refusal) : Type 0 where
+  pub at : ℕ
+  pub decision : Decision
+  pub stands : slice_get decisions at ≡ Some decision
+  pub refused : RefusesDecision net rows decision r
+  pub passed_before : (k : ℕ) (d : Decision) → k < at → slice_get decisions k ≡ Some d → PassesDecision net rows d
 
 -- what refuses a message for its numbers, its ids and the events that have passed
 abbrev pub RefusesAtOnce : Net → RowsValue → Message → Refusal → Type 0
@@ -94,7 +100,15 @@ RefusesAtOnce net rows (Adopt ds) r = RefusesSome net rows ds r
 
 -- nothing refuses the message at once
 abbrev pub PassesAtOnce : Net → RowsValue → Message → Type 0
-PassesAtOnce net rows m = (r : Refusal) → RefusesAtOnce net rows m r → ⊥
+PassesAtOnce net rows m = RefusesNothing (RefusesAtOnce net rows m)
+
+abbrev pub IsAdopt : Message → Type 0
+IsAdopt (Adopt ds) = Unit {0}
+IsAdopt _ = ⊥
+
+-- What admission may refuse a message for: what refuses it at once, and an `Adopt` for want of memory.
+abbrev pub RefusesAdmission : Net → RowsValue → Message → Refusal → Type 0
+RefusesAdmission net rows m r = RefusesAtOnce net rows m r ⊎ (IsAdopt m × (r ≡ OutOfMemory))
 
 -- The refusal of a message at a history of n entries: the first that applies. After those at once comes a cycle of the
 -- rows after the message, any one of them, and then a full history. Want of memory is left out.

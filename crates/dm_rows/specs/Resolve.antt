@@ -1,8 +1,8 @@
 -- What the ids of a message name, and the rows after it.
-use Rattle.std.specs.Prelude.{ℕ, ◌==◌, Bool, true, false, List, [], ◌∷◌, fold, Option, Some, None, option_map, slice_set}
+use Rattle.std.specs.Prelude.{ℕ, ◌==◌, true, false, List, [], ◌∷◌, ◌++◌, fold, Option, Some, None, option_map, slice_set}
 use Rattle.std.specs.Option.{option_and_then}
 use Rattle.dm_base.specs.declared.ids.EventId.{EventId}
-use Rattle.dm_network.specs.Net.{Net, event_at, pair_at, event_place, activity_place}
+use Rattle.dm_network.specs.Net.{Net, pair_at, event_place, activity_place}
 use Rattle.dm_network.specs.Pairs.{pair_place}
 use Rattle.dm_rows.specs.declared.messages.Decision.{Decision}
 use Rattle.dm_rows.specs.declared.messages.Decision.TheVariants.{Keep as KeepIt, Drop as DropIt, First as FirstOf}
@@ -19,24 +19,27 @@ abbrev pub named_pair : Net → EventId → EventId → Option ℕ
 named_pair net i j =
     option_and_then (λ x. option_and_then (λ y. pair_place net x y) (event_place net j)) (event_place net i)
 
--- whether the event with this id is the one of the pair with the smaller id
-abbrev pub is_small : Net → ℕ → EventId → Bool
-is_small net p i = (event_at net (pair_at net p).small).id.0 == i.0
+-- the first of two events, by place, goes first in their pair
+abbrev pub first_named : Net → Option ℕ → Option ℕ → Option Flip
+first_named net (Some x) (Some y) = option_map (λ p. FirstFlip p ((pair_at net p).small == x)) (pair_place net x y)
+first_named net (Some x) None = None
+first_named net None j = None
 
 -- a decision by place, or None where what it names is not there
 abbrev pub flip_named : Net → Decision → Option Flip
 flip_named net (KeepIt a) = option_map (λ x. KeepFlip x) (activity_place net a)
 flip_named net (DropIt a) = option_map (λ x. DropFlip x) (activity_place net a)
-flip_named net (FirstOf i j) = option_map (λ p. FirstFlip p (is_small net p i)) (named_pair net i j)
+flip_named net (FirstOf i j) = first_named net (event_place net i) (event_place net j)
 
-abbrev pub with_first : Option Flip → Option (List Flip) → Option (List Flip)
-with_first (Some flip) (Some flips) = Some (flip ∷ flips)
-with_first (Some flip) None = None
-with_first None flips = None
+-- the flips so far and one more
+abbrev pub with_next : Option (List Flip) → Option Flip → Option (List Flip)
+with_next (Some flips) (Some flip) = Some (flips ++ flip ∷ [])
+with_next (Some flips) None = None
+with_next None flip = None
 
+-- each decision of a list by place, in order
 abbrev pub flips_named : Net → List Decision → Option (List Flip)
-flips_named net [] = Some []
-flips_named net (d ∷ ds) = with_first (flip_named net d) (flips_named net ds)
+flips_named net ds = fold (λ flips d. with_next flips (flip_named net d)) (Some []) ds
 
 -- a message by place, or None where what it names is not there
 abbrev pub change_named : Net → Message → Option Change

@@ -41,10 +41,13 @@ pub record IsSized (net : Net) (rows : RowsValue) : Type 0 where
   pub small_first : length rows.small_first ≡ length net.pairs
 
 -- delays are at most DELAY, and passed times at most PASSED_TIME
-pub record IsWithinLimits (rows : RowsValue) : Type 0 where
-  pub event_delays : (i : ℕ) → event_delay_at rows i ≤ DELAY
-  pub act_delays : (a : ℕ) → act_delay_at rows a ≤ DELAY
-  pub passed : (i : ℕ) → ForSome (passed_at rows i) (λ t. t ≤ PASSED_TIME)
+pub record NumbersAreWithinLimits (event_delays act_delays : List ℕ) (passed : List (Option ℕ)) : Type 0 where
+  pub of_events : (i : ℕ) → slice_index_or event_delays i 0 ≤ DELAY
+  pub of_activities : (a : ℕ) → slice_index_or act_delays a 0 ≤ DELAY
+  pub of_passed : (i : ℕ) → ForSome (slice_index_or passed i None) (λ t. t ≤ PASSED_TIME)
+
+abbrev pub RowsAreWithinLimits : RowsValue → Type 0
+RowsAreWithinLimits rows = NumbersAreWithinLimits rows.event_delays rows.act_delays rows.passed
 
 -- the delay in the last record of this id, or 0 where there is none
 abbrev pub last_delay : List DelayRow → ℕ → ℕ

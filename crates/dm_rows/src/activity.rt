@@ -1,0 +1,46 @@
+//! Which activities bind.
+ghost use Rattle.std.specs.Prelude.{◌≡◌, ◌<◌, length};
+ghost use Rattle.dm_rows.specs.Rows.{IsSized};
+ghost use Rattle.dm_rows.specs.Active.{is_active, binds_in_pair};
+
+use crate::rows::Rows;
+use dm_base::ActKind;
+use dm_network::Network;
+
+/// Whether the activity at this place binds under the rows.
+pub fn is_active(net: &Network, rows: &Rows, a: usize) -> bool
+    requires sized { IsSized net.now rows.now }
+    requires is_activity { a < length net.now.activities }
+    ensures { result ≡ is_active net.now rows.now a }
+{
+    let _sound = net.events();
+    let activity = net.activity(a);
+    if rows.passed(activity.head).is_some() {
+        return false;
+    }
+    match (activity.kind, activity.pair) {
+        (ActKind::Drive | ActKind::Wait | ActKind::Turnaround, _) => true,
+        (ActKind::Change, _) => rows.kept(a),
+        (ActKind::Headway, None) => true,
+        (ActKind::Headway, Some(p)) => binds_in_pair(net, rows, p, activity.tail),
+    }
+}
+
+/// Whether a headway of this pair with this tail binds into an event that has not passed.
+fn binds_in_pair(net: &Network, rows: &Rows, p: usize, tail: usize) -> bool
+    requires sized { IsSized net.now rows.now }
+    requires is_pair { p < length net.now.pairs }
+    requires is_event { tail < length net.now.events }
+    ensures { result ≡ binds_in_pair net.now rows.now p tail }
+{
+    if rows.passed(tail).is_some() {
+        return true;
+    }
+    let pair = net.pair(p);
+    let first = if rows.small_first(p) {
+        pair.small
+    } else {
+        pair.large
+    };
+    tail == first
+}

@@ -1,0 +1,168 @@
+//! The rows of a day, and what one message does to them.
+ghost use Rattle.std.specs.Prelude.{ℕ, slice_index_or, ◌≡◌, ◌<◌, ◌≤◌, length, All, fold, IfOk, IfSome};
+ghost use Rattle.dm_rows.specs.Rows.{RowsAreWithinLimits, event_delay_at, act_delay_at, passed_at, kept_at, small_first_at};
+ghost use Rattle.dm_rows.specs.StartFaults.{IsStartWith};
+ghost use Rattle.dm_rows.specs.Resolve.{after_change, after_flip};
+ghost use Rattle.dm_rows.specs.Reach.{Reaches, ReachesFlip};
+
+use crate::messages::{Change, Flip};
+use crate::starting::first_events;
+use dm_base::Secs;
+use dm_base::limits::{DELAY, PASSED_TIME};
+use dm_network::Network;
+use std::alloc::{AllocError, Global};
+use std::marker::Model;
+
+/// The source delays, the passed events, the kept changes and the order of each pair, by place.
+#[derive(Drop)]
+pub struct Rows {
+    alloc: Global,
+    event_delays: Vec<u64>,
+    act_delays: Vec<u64>,
+    passed: Vec<Option<u64>>,
+    kept: Vec<bool>,
+    small_first: Vec<bool>,
+}
+
+impl Model for Rows {
+    ghost use Rattle.dm_rows.specs.Rows.{RowsValue, NumbersAreWithinLimits};
+
+    ghost Value = { RowsValue };
+
+    ghost view = { λ r. record {
+      event_delays = r.event_delays.items;
+      act_delays = r.act_delays.items;
+      passed = r.passed.items;
+      kept = r.kept.items;
+      small_first = r.small_first.items;
+    } };
+
+    ghost invariant = { λ r. NumbersAreWithinLimits r.event_delays.items r.act_delays.items r.passed.items };
+}
+
+/// The rows at an entry of a history.
+#[derive(Drop)]
+pub struct Snapshot {
+    pub entry: u32,
+    pub rows: Rows,
+}
+
+impl Rows {
+    /// The rows at the start with these delays.
+    pub(crate) fn at_start(
+        alloc: Global,
+        net: &Network,
+        event_delays: Vec<Secs>,
+        act_delays: Vec<Secs>,
+    ) -> Result<Rows, AllocError>
+        requires events_within { (i : ℕ) → slice_index_or event_delays.items i 0 ≤ DELAY }
+        requires activities_within { (a : ℕ) → slice_index_or act_delays.items a 0 ≤ DELAY }
+        ensures { IfOk result (IsStartWith net.now event_delays.items act_delays.items) }
+    {
+        Ok(Rows {
+            alloc,
+            event_delays,
+            act_delays,
+            passed: vec![in alloc; None; net.events()]?,
+            kept: vec![in alloc; true; net.activities()]?,
+            small_first: first_events(alloc, net)?,
+        })
+    }
+
+    /// The source delay of the event at this place, in seconds.
+    pub fn event_delay(&self, i: usize) -> Secs
+        requires { i < length self.now.event_delays }
+        ensures value { result ≡ event_delay_at self.now i }
+        ensures limit { result ≤ DELAY }
+    {
+        self.event_delays[i]
+    }
+
+    /// The source delay of the activity at this place, in seconds.
+    pub fn act_delay(&self, a: usize) -> Secs
+        requires { a < length self.now.act_delays }
+        ensures value { result ≡ act_delay_at self.now a }
+        ensures limit { result ≤ DELAY }
+    {
+        self.act_delays[a]
+    }
+
+    /// When the event at this place has passed, in seconds, or `None` where it has not.
+    pub fn passed(&self, i: usize) -> Option<Secs>
+        requires { i < length self.now.passed }
+        ensures value { result ≡ passed_at self.now i }
+        ensures limit { IfSome result (λ t. t ≤ PASSED_TIME) }
+    {
+        self.passed[i]
+    }
+
+    /// Whether the change at this place is kept.
+    pub fn kept(&self, a: usize) -> bool
+        requires { a < length self.now.kept }
+        ensures { result ≡ kept_at self.now a }
+    {
+        self.kept[a]
+    }
+
+    /// Whether the event with the smaller id is first in the pair at this place.
+    pub fn small_first(&self, p: usize) -> bool
+        requires { p < length self.now.small_first }
+        ensures { result ≡ small_first_at self.now p }
+    {
+        self.small_first[p]
+    }
+
+    /// Equal rows.
+    pub fn copy(&self) -> Result<Rows, AllocError>
+        ensures same { IfOk result (λ rows. rows ≡ self.now) }
+        ensures limits { RowsAreWithinLimits self.now }
+    {
+        Ok(Rows {
+            alloc: self.alloc,
+            event_delays: Vec::from_slice(self.alloc, &self.event_delays)?,
+            act_delays: Vec::from_slice(self.alloc, &self.act_delays)?,
+            passed: Vec::from_slice(self.alloc, &self.passed)?,
+            kept: Vec::from_slice(self.alloc, &self.kept)?,
+            small_first: Vec::from_slice(self.alloc, &self.small_first)?,
+        })
+    }
+
+    /// Sets one decision.
+    fn set(&mut self, flip: Flip)
+        requires { ReachesFlip self.old flip }
+        ensures { self.new ≡ after_flip self.old flip }
+    {
+        match flip {
+            Flip::Keep { act } => self.kept[act] = true,
+            Flip::Drop { act } => self.kept[act] = false,
+            Flip::First { pair, small } => self.small_first[pair] = small,
+        }
+    }
+
+    /// Sets each decision in turn.
+    fn set_all(&mut self, flips: &[Flip])
+        requires { All (ReachesFlip self.old) flips.now }
+        ensures { self.new ≡ fold after_flip self.old flips.now }
+    {
+        for flip in flips {
+            self.set(*flip);
+        }
+    }
+
+    /// Makes the change of an admitted message.
+    pub fn apply(&mut self, change: &Change)
+        requires { Reaches self.old change.now }
+        ensures { self.new ≡ after_change self.old change.now }
+    {
+        match change {
+            Change::EventDelay { event, delay } => self.event_delays[*event] = *delay,
+            Change::ActDelay { act, delay } => self.act_delays[*act] = *delay,
+            Change::Passed { event, time } => self.passed[*event] = Some(*time),
+            Change::Recalled { event } => self.passed[*event] = None,
+            Change::Flipped(flip) => self.set(*flip),
+            Change::Adopted(flips) => {
+                self.set_all(flips.as_slice());
+            }
+        }
+    }
+}
