@@ -1,0 +1,10 @@
+pub mod Chains
+pub mod Rounds
+pub mod Timetables
+pub mod Joins
+pub mod WalkSteps
+pub mod WalkGoesOn
+pub mod Found
+pub mod Ranks
+pub mod Transfers
+pub mod Windows

@@ -1,0 +1,238 @@
+//! The walk that searches for an order, depth first against the arcs, with its path kept in an array.
+
+ghost use Rattle.std.specs.Prelude.{◌≡◌, ℕ, ◌+◌, ◌^◌, ◌<◌, ◌≤◌, length, take, slice_index, vec_len, IfErr, IfOk, OnOk};
+ghost use Rattle.dm_graph.specs.Walk.{IsWalk, Closes, Finds, steps_left, KeepsMet, Enters, Places, Passes, GoesOn, Returns, IsSized, Starts, Visits, PlacesAll, HasPathArcs, ListsPathArcs};
+ghost use Rattle.dm_graph.specs.Arrays.{AreRows, AreEnds};
+
+use std::alloc::{AllocError, Global};
+
+/// The events that are placed stand at the first places of `order`, those on the path at its last,
+/// the one on top first. `rank` has the place of each, or the number of events where it is not met yet.
+#[derive(Drop)]
+pub struct Walk {
+    pub order: Vec<usize>,
+    pub rank: Vec<usize>,
+    /// The place in its row of the next arc to look at, for each event.
+    pub next: Vec<usize>,
+    /// How many events are placed.
+    pub placed: usize,
+    /// Where the path begins.
+    pub top: usize,
+}
+
+/// What there is to do for the event on top of the path.
+pub enum Look {
+    /// All its arcs are looked at.
+    Over,
+    /// The next arc may be passed over.
+    Free,
+    /// The next arc leaves this event, which is not met yet.
+    Unmet(usize),
+    /// The next arc leaves the event at this place of the path.
+    OnPath(usize),
+}
+
+impl Walk {
+    /// Room to walk over so many events.
+    pub fn new(alloc: Global, events: usize) -> Result<Self, AllocError>
+        ensures sized { IfOk result IsSized }
+        ensures events { IfOk result (λ walk. length walk.order.items ≡ events) }
+    {
+        let order = vec![in alloc; 0; events]?;
+        let rank = vec![in alloc; 0; events]?;
+        let next = vec![in alloc; 0; events]?;
+        Ok(Walk {
+            order,
+            rank,
+            next,
+            placed: 0,
+            top: 0,
+        })
+    }
+
+    /// Looks at the next arc into the event.
+    fn look(
+        &self,
+        event: usize,
+        tails: &[usize],
+        offsets: &[usize],
+        places: &[usize],
+        held: &[bool],
+    ) -> Look
+        requires walk { IsWalk tails.now offsets.now places.now held.now self.now }
+        requires event { event < length self.now.order.items }
+        ensures { Finds tails.now offsets.now places.now held.now self.now event result }
+    {
+        let place = self.next[event];
+        if place == offsets[event + 1] {
+            return Look::Over;
+        }
+        let arc = places[place];
+        if !held[arc] {
+            return Look::Free;
+        }
+        let tail = tails[arc];
+        let rank = self.rank[tail];
+        if rank < self.placed {
+            Look::Free
+        } else if rank == self.rank.len() {
+            Look::Unmet(tail)
+        } else {
+            Look::OnPath(rank)
+        }
+    }
+
+    /// Puts an event that is not met yet on top of the path.
+    fn enter(&mut self, event: usize)
+        requires room { 0 < self.old.top }
+        requires top { self.old.top ≤ vec_len self.old.order }
+        requires event { event < vec_len self.old.rank }
+        ensures { Enters self.old event self.new }
+    {
+        self.top -= 1;
+        self.order[self.top] = event;
+        self.rank[event] = self.top;
+    }
+
+    /// Places the event on top of the path.
+    fn place(&mut self, event: usize)
+        requires top { self.old.top < vec_len self.old.order }
+        requires placed { self.old.placed ≤ self.old.top }
+        requires event { event < vec_len self.old.rank }
+        ensures { Places self.old event self.new }
+    {
+        self.order[self.placed] = event;
+        self.rank[event] = self.placed;
+        self.placed += 1;
+        self.top += 1;
+    }
+
+    /// Passes over the next arc into the event.
+    fn pass(&mut self, event: usize)
+        requires event { event < vec_len self.old.next }
+        requires more { slice_index self.old.next.items event + 1 < 2 ^ 64 }
+        ensures { Passes self.old event self.new }
+    {
+        self.next[event] += 1;
+    }
+
+    /// One step for the event on top of the path; the error is the place of the event that closes the path.
+    fn step(
+        &mut self,
+        tails: &[usize],
+        offsets: &[usize],
+        places: &[usize],
+        held: &[bool],
+    ) -> Result<(), usize>
+        requires walk { IsWalk tails.now offsets.now places.now held.now self.old }
+        requires more { self.old.top < length self.old.order.items }
+        ensures goes_on { OnOk result (GoesOn tails.now offsets.now places.now held.now self.old self.new) }
+        ensures closes { IfErr result (λ place. Closes tails.now offsets.now places.now held.now self.new place) }
+    {
+        let event = self.order[self.top];
+        match self.look(event, tails, offsets, places, held) {
+            Look::Over => {
+                self.place(event);
+                Ok(())
+            }
+            Look::Free => {
+                self.pass(event);
+                Ok(())
+            }
+            Look::Unmet(tail) => {
+                self.enter(tail);
+                Ok(())
+            }
+            Look::OnPath(place) => Err(place),
+        }
+    }
+
+    /// Steps until the path is empty; the error is the place of the event that closes it.
+    fn empty_path(
+        &mut self,
+        tails: &[usize],
+        offsets: &[usize],
+        places: &[usize],
+        held: &[bool],
+    ) -> Result<(), usize>
+        requires { IsWalk tails.now offsets.now places.now held.now self.old }
+        ensures returns { OnOk result (Returns tails.now offsets.now places.now held.now self.old self.new) }
+        ensures closes { IfErr result (λ place. Closes tails.now offsets.now places.now held.now self.new place) }
+    {
+        while self.top < self.order.len() {
+            self.step(tails, offsets, places, held)?;
+        }
+        Ok(())
+    }
+
+    /// Begins: no event is met.
+    fn start(&mut self, offsets: &[usize])
+        requires sized { IsSized self.old }
+        requires offsets { length self.old.order.items ≤ length offsets.now }
+        ensures { Starts self.old offsets.now self.new }
+    {
+        let count = self.order.len();
+        self.rank.fill(count);
+        self.next.copy_from_slice(&offsets[..count]);
+        self.placed = 0;
+        self.top = count;
+    }
+
+    /// Places the event, and all that come before it; the error is the place of the event that closes the path.
+    fn visit(
+        &mut self,
+        event: usize,
+        tails: &[usize],
+        offsets: &[usize],
+        places: &[usize],
+        held: &[bool],
+    ) -> Result<(), usize>
+        requires walk { IsWalk tails.now offsets.now places.now held.now self.old }
+        requires is_empty { self.old.top ≡ length self.old.order.items }
+        requires event { event < length self.old.order.items }
+        ensures visits { OnOk result (Visits tails.now offsets.now places.now held.now self.old event self.new) }
+        ensures closes { IfErr result (λ place. Closes tails.now offsets.now places.now held.now self.new place) }
+    {
+        if self.rank[event] == self.order.len() {
+            self.enter(event);
+            self.empty_path(tails, offsets, places, held)?;
+        }
+        Ok(())
+    }
+
+    /// Places every event; the error is the place of the event that closes the path.
+    pub fn place_all(
+        &mut self,
+        tails: &[usize],
+        offsets: &[usize],
+        places: &[usize],
+        held: &[bool],
+    ) -> Result<(), usize>
+        requires sized { IsSized self.old }
+        requires rows { AreRows (length self.old.order.items) (length tails.now) offsets.now places.now }
+        requires ends { AreEnds (length self.old.order.items) (length tails.now) tails.now held.now }
+        ensures as_many { length self.new.order.items ≡ length self.old.order.items }
+        ensures all { OnOk result (PlacesAll tails.now offsets.now places.now held.now self.new) }
+        ensures closes { IfErr result (λ place. Closes tails.now offsets.now places.now held.now self.new place) }
+    {
+        self.start(offsets);
+        for event in 0..self.order.len() {
+            self.visit(event, tails, offsets, places, held)?;
+        }
+        Ok(())
+    }
+
+    /// Writes the next arcs of the path from its top to this place, and says how many they are.
+    pub fn write_arcs(&self, last: usize, places: &[usize], arcs: &mut [usize]) -> usize
+        requires path { HasPathArcs places.now self.now last }
+        requires room { length arcs.old ≡ length self.now.order.items }
+        ensures within { result ≤ length arcs.new }
+        ensures arcs { ListsPathArcs places.now self.now last (take result arcs.new) }
+    {
+        let count = last + 1 - self.top;
+        for k in 0..count {
+            arcs[k] = places[self.next[self.order[self.top + k]]];
+        }
+        count
+    }
+}
