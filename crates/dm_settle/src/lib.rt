@@ -1,0 +1,10 @@
+//! The pass that computes the times of a day along an order of its events.
+//!
+//! It stands on dm_rows. A pass computes the marked events anew, in the order, and goes on along the active activities
+//! out of every event whose time has changed. With every event marked it computes the least timetable from scratch.
+#![tactic(auto)]
+
+mod marks;
+mod time;
+
+pub use marks::Marks;
