@@ -41,9 +41,9 @@ module _ (net : Net) (rows : RowsValue) (times : List ℕ) (e : ℕ) (row : List
         along = λ k lt is. elim (cases_lt k n) [
           | inl before ↦ let h = had.along k before is in omega arith
           | inr past ↦
-            let here : k ≡ n = omega arith in
-            let same : time_along net rows times (slice_index row k) ≡ time_along net rows times (slice_index row n) = ap (λ (j : ℕ). time_along net rows times (slice_index row j)) here in
-            omega arith
+              let here : k ≡ n = omega arith in
+              let same : time_along net rows times (slice_index row k) ≡ time_along net rows times (slice_index row n) = ap (λ (j : ℕ). time_along net rows times (slice_index row j)) here in
+              omega arith
         ];
         least = λ u floor each.
             let before = had.least u floor (λ k lt is. each k (omega arith) is) in
@@ -58,9 +58,9 @@ module _ (net : Net) (rows : RowsValue) (times : List ℕ) (e : ℕ) (row : List
         along = λ k lt is. elim (cases_lt k n) [
           | inl before ↦ had.along k before is
           | inr past ↦
-            let here : k ≡ n = omega arith in
-            let same : is_active net rows (slice_index row k) ≡ is_active net rows (slice_index row n) = ap (λ (j : ℕ). is_active net rows (slice_index row j)) here in
-            absurd cc
+              let here : k ≡ n = omega arith in
+              let same : is_active net rows (slice_index row k) ≡ is_active net rows (slice_index row n) = ap (λ (j : ℕ). is_active net rows (slice_index row j)) here in
+              absurd cc
         ];
         least = λ u floor each. had.least u floor (λ k lt is. each k (omega arith) is);
       }

@@ -5,6 +5,7 @@
 #![tactic(auto)]
 
 mod marks;
+mod pass;
 mod time;
 
 pub use marks::Marks;

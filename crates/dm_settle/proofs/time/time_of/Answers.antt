@@ -22,14 +22,14 @@ loop-a-preserved g c =
     let joined = HasJoined c.args.net.now c.args.rows.now c.args.times.now c.args.event c.in_row-a-items.result.now (c.loop-a.a-index + 1) in
     elim c.if-is_active.branch [
       | then-is_active w ↦
-        let is = w.time-is ∙ w.max-time.ensures ∙ ap (λ (t : ℕ). max c.loop-a.time t) w.time_along.ensures in
-        subst joined (sym is)
-        (joined_with c.args.net.now c.args.rows.now c.args.times.now c.args.event c.in_row-a-items.result.now c.loop-a.a-index c.loop-a.time
-        c.loop-a.invariant (sym c.is_active.ensures ∙ w.if-is_active.true))
+          let is = w.time-is ∙ w.max-time.ensures ∙ ap (λ (t : ℕ). max c.loop-a.time t) w.time_along.ensures in
+          subst joined (sym is)
+          (joined_with c.args.net.now c.args.rows.now c.args.times.now c.args.event c.in_row-a-items.result.now c.loop-a.a-index c.loop-a.time
+          c.loop-a.invariant (sym c.is_active.ensures ∙ w.if-is_active.true))
       | else-is_active w ↦
-        subst joined (sym w.time-is)
-        (joined_without c.args.net.now c.args.rows.now c.args.times.now c.args.event c.in_row-a-items.result.now c.loop-a.a-index c.loop-a.time
-        c.loop-a.invariant (sym c.is_active.ensures ∙ w.if-is_active.false))
+          subst joined (sym w.time-is)
+          (joined_without c.args.net.now c.args.rows.now c.args.times.now c.args.event c.in_row-a-items.result.now c.loop-a.a-index c.loop-a.time
+          c.loop-a.invariant (sym c.is_active.ensures ∙ w.if-is_active.false))
     ]
 
 pub returns-clause-join : goal.returns-clause-join
