@@ -1,2 +1,6 @@
+pub mod Early
+pub mod Going
 pub mod Joining
 pub mod Marking
+pub mod Passing
+pub mod Reading
