@@ -91,9 +91,9 @@ module _ (net : Net) (rows : RowsValue) (ranks times : List ℕ) (within : IsWit
   settled_before marks e passing f is_event before =
       elim (cases_Bool (is_marked marks (slice_index ranks f))) [
         | inl marked ↦
-          let rank = free_rank-free rows ranks f (passing.unsettled.none_passed f is_event marked) in
-          let later = passing.later (slice_index ranks f) marked in
-          absurd (omega arith)
+            let rank = free_rank-free rows ranks f (passing.unsettled.none_passed f is_event marked) in
+            let later = passing.later (slice_index ranks f) marked in
+            absurd (omega arith)
         | inr clear ↦ passing.unsettled.settled f is_event clear
       ]
 
@@ -118,10 +118,10 @@ module _ (net : Net) (rows : RowsValue) (ranks times : List ℕ) (within : IsWit
   all_are_early order few ranked as_many settled e =
       elim (cases_lt e (length net.events)) [
         | inl is_event ↦
-          let place = ranked.has_place e is_event in
-          let rank = free_rank-le rows ranks e in
-          let early = settled_is_early (suc (suc (slice_index ranks e))) (λ f below _. settled f below)
-          (suc (suc (slice_index ranks e))) e (omega arith) (omega arith) is_event in
-          omega arith
+            let place = ranked.has_place e is_event in
+            let rank = free_rank-le rows ranks e in
+            let early = settled_is_early (suc (suc (slice_index ranks e))) (λ f below _. settled f below)
+            (suc (suc (slice_index ranks e))) e (omega arith) (omega arith) is_event in
+            omega arith
         | inr past ↦ let none : time_at times e ≡ 0 = get_or_past times e 0 (omega arith) in omega arith
       ]

@@ -1,3 +1,4 @@
+pub mod Arrays
 pub mod Early
 pub mod Going
 pub mod Joining

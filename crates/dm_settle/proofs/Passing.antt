@@ -29,9 +29,9 @@ pub marked_else : (marks : List Bool) (place k : ℕ) → place < length marks �
 marked_else marks place k below now =
     elim (cases_eq k place) [
       | inl is ↦
-        let gone : is_marked (slice_set marks place false) k ≡ false =
-        subst (λ (j : ℕ). is_marked (slice_set marks place false) j ≡ false) (sym is) (get_or-set_same marks place false false below) in
-        absurd cc
+          let gone : is_marked (slice_set marks place false) k ≡ false =
+          subst (λ (j : ℕ). is_marked (slice_set marks place false) j ≡ false) (sym is) (get_or-set_same marks place false false below) in
+          absurd cc
       | inr ne ↦ (ne, sym (get_or-set_other marks place k false false ne) ∙ now)
     ]
 
@@ -50,12 +50,11 @@ passing_at net rows ranks marks times from place passing first =
       unsettled = passing.unsettled;
       later = λ k marked. elim (cases_lt k place) [
         | inl before ↦
-          let gone = first.none_between k (passing.later k marked) before in
-          absurd cc
+            let gone = first.none_between k (passing.later k marked) before in
+            absurd cc
         | inr past ↦ past
       ];
     }
-
 
 module _ (net : Net) (rows : RowsValue) (order ranks : List ℕ) (ranked : AreRanks (length net.events) order ranks) (forward : GoesForward net rows ranks)
     (known : EndsAreKnown net) where
@@ -154,17 +153,17 @@ module _ (net : Net) (rows : RowsValue) (order ranks : List ℕ) (ranked : AreRa
         };
         later = λ k now. elim (heads.only k now) [
           | inl was ↦
-            let was_else = marked_else marks (slice_index ranks e) k within was in
-            let later = passing.later k was_else.1 in
-            let other = was_else.0 in
-            omega arith
+              let was_else = marked_else marks (slice_index ranks e) k within was in
+              let later = passing.later k was_else.1 in
+              let other = was_else.0 in
+              omega arith
           | inr leads ↦
-            let free : passed_at rows (activity_at net leads.activity).tail ≡ None =
-            subst (λ (f : ℕ). passed_at rows f ≡ None) (sym leads.tail) (passing.unsettled.none_passed e is_event marked) in
-            let up = forward leads.activity leads.active free in
-            let low : slice_index ranks (activity_at net leads.activity).tail ≡ slice_index ranks e = ap (slice_index ranks) leads.tail in
-            let high = leads.ranked in
-            omega arith
+              let free : passed_at rows (activity_at net leads.activity).tail ≡ None =
+              subst (λ (f : ℕ). passed_at rows f ≡ None) (sym leads.tail) (passing.unsettled.none_passed e is_event marked) in
+              let up = forward leads.activity leads.active free in
+              let low : slice_index ranks (activity_at net leads.activity).tail ≡ slice_index ranks e = ap (slice_index ranks) leads.tail in
+              let high = leads.ranked in
+              omega arith
         ];
       }
 
@@ -179,8 +178,8 @@ module _ (net : Net) (rows : RowsValue) (order ranks : List ℕ) (ranked : AreRa
   all_settled marks times from passing none e lt =
       elim (cases_Bool (is_marked marks (slice_index ranks e))) [
         | inl marked ↦
-          let clear = none (slice_index ranks e) (passing.later (slice_index ranks e) marked) in
-          absurd cc
+            let clear = none (slice_index ranks e) (passing.later (slice_index ranks e) marked) in
+            absurd cc
         | inr clear ↦ passing.unsettled.settled e lt clear
       ]
 

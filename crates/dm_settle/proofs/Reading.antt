@@ -136,7 +136,7 @@ module _ (net : Net) (rows : RowsValue) (order ranks : List ℕ) (ranked : AreRa
       }
     where
       more_for : (f : ℕ) → (is_marked marks0 (slice_index ranks f) ≡ true) ⊎ Follows net rows had.moved f → (is_marked marks0 (slice_index ranks f) ≡ true) ⊎ Follows net rows (e ∷ had.moved) f
-      more_for f h = elim h [ | inl was ↦ inl was | inr follows ↦ inr (follows_more net rows had.moved e f follows) ]
+      more_for f h = elim h [ inl was ↦ inl was | inr follows ↦ inr (follows_more net rows had.moved e f follows) ]
 
 none_distinct : IsDistinct nat_eq []
 unfolding IsDistinct

@@ -1,3 +1,4 @@
 pub mod Free
 pub mod Marked
 pub mod Pass
+pub mod Scratch

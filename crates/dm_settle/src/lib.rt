@@ -4,8 +4,13 @@
 //! out of every event whose time has changed. With every event marked it computes the least timetable from scratch.
 #![tactic(auto)]
 
+mod arcs;
+mod faults;
 mod marks;
 mod pass;
+mod scratch;
 mod time;
 
+pub use faults::NoTimes;
 pub use marks::Marks;
+pub use scratch::least_times;
