@@ -1,15 +1,21 @@
 -- The arrays of the activities, made one at a time.
-use Rattle.std.proofs.Common.{◌≡◌, ℕ, suc, ◌+◌, ◌-◌, ◌<◌, ◌≤◌, Bool, true, false, List, [], ◌∷◌, ◌++◌, length, take, drop, refl, sym, ap, subst, ◌∙◌, inl, inr, arith, slice_index, slice_index_or, slice_range, length-append, length-drop}
-use Rattle.std.proofs.lemmas.Bool.{cases_Bool, cases_lt, cases_eq}
+use Rattle.std.proofs.Common.{◌≡◌, ℕ, zero, suc, ◌+◌, ◌-◌, ◌<◌, ◌≤◌, Bool, false, List, [], ◌∷◌, ◌++◌, length, take, drop, refl, sym, ap, subst, ◌∙◌, inl, inr, arith, slice_index, slice_range, length-append, length-drop}
+use Rattle.std.proofs.lemmas.Bool.{cases_lt}
 use Rattle.std.proofs.lemmas.List.{get_or_append_left, get_or_push, drop-append-le, take-append-le, take_all}
 use Rattle.std.proofs.Math.Seq.{drop-append_seam}
-use Rattle.dm_graph.specs.Arrays.{AreRows, AreEnds, AreArraysOf, ListsArcs}
+use Rattle.dm_base.specs.declared.ids.ActId.{ActId}
+use Rattle.dm_graph.specs.Arcs.{Arcs, Chain, IsCycle}
+use Rattle.dm_graph.specs.Arrays.{AreRows, AreEnds, AreArraysOf}
 use Rattle.dm_graph.proofs.Windows.{rows_of_windows, windows_list}
+use Rattle.dm_graph.proofs.Transfers.{cycle_carries}
 use Rattle.dm_network.specs.Net.{Net, EndsAreKnown, activity_at, places_into}
 use Rattle.dm_network.specs.Flat.{AreFlatRows, row_at}
 use Rattle.dm_rows.specs.Rows.{RowsValue}
+use Rattle.dm_network.specs.Start.{ids_of}
+use Rattle.dm_rows.specs.Active.{ShowsCycle, active_arcs}
 use Rattle.dm_settle.specs.Free.{is_free, free_arcs}
 use Rattle.dm_settle.specs.Scratch.{AreTails, AreHeld}
+use Rattle.dm_settle.proofs.Passing.{free_is_active}
 
 pub held_more : (net : Net) (rows : RowsValue) (n : ℕ) (held : List Bool) (b : Bool) → AreHeld net rows n held → b ≡ is_free net rows n → AreHeld net rows (n + 1) (held ++ b ∷ [])
 held_more net rows n held b had is =
@@ -134,3 +140,44 @@ module _ (net : Net) (rows : RowsValue) (known : EndsAreKnown net) (tails offset
     same_held = are_held.each;
     lists = windows_list (length net.events) (length net.activities) (λ a. (activity_at net a).head) offsets places flat.offset_count flat.rises flat.within flat.row;
   }
+
+-- the same, where the lists are lent
+pub rows_lent : (events arcs : ℕ) (tails offsets places : List ℕ) → AreRows events (length tails) offsets places →
+    (n : ℕ) (ts os ps : List ℕ) → n ≡ events → ts ≡ tails → os ≡ offsets → ps ≡ places → AreRows n (length ts) os ps
+rows_lent events arcs tails offsets places are n ts os ps en et eo ep = rw (en, et, eo, ep) are
+
+pub ends_lent : (events : ℕ) (tails : List ℕ) (held : List Bool) → AreEnds events (length tails) tails held →
+    (n : ℕ) (ts : List ℕ) (hs : List Bool) → n ≡ events → ts ≡ tails → hs ≡ held → AreEnds n (length ts) ts hs
+ends_lent events tails held are n ts hs en et eh = rw (en, et, eh) are
+
+pub arrays_lent : (g : Arcs) (tails offsets places : List ℕ) (held : List Bool) → AreArraysOf g tails offsets places held →
+    (ts os ps : List ℕ) (hs : List Bool) → ts ≡ tails → os ≡ offsets → ps ≡ places → hs ≡ held → AreArraysOf g ts os ps hs
+arrays_lent g tails offsets places held are ts os ps hs et eo ep eh = rw (et, eo, ep, eh) are
+
+-- times that were lent come back whole
+pub lent_back : (n : ℕ) (new old : List ℕ) → length new ≡ n → take n (new ++ drop (length new) old) ≡ new
+lent_back n new old many = take-append-le n new (drop (length new) old) (omega arith) ∙ take_all n new (omega arith)
+
+-- a cycle of free activities names activities alone, and is one of the rows
+chain_names : (net : Net) (rows : RowsValue) (i : ℕ) (chain : List ℕ) (j : ℕ) → Chain (free_arcs net rows) i chain j →
+    (k : ℕ) → k < length chain → slice_index chain k < length net.activities
+chain_names net rows i [] j c k lt = absurd (omega arith)
+chain_names net rows i (a ∷ rest) j c zero lt = c.0.is_arc
+chain_names net rows i (a ∷ rest) j c (suc k) lt = chain_names net rows (activity_at net a).head rest j c.2 k (omega arith)
+
+pub cycle_names : (net : Net) (rows : RowsValue) (cycle : List ℕ) → IsCycle (free_arcs net rows) cycle →
+    (k : ℕ) → k < length cycle → slice_index cycle k < length net.activities
+cycle_names net rows [] c k lt = absurd c
+cycle_names net rows (a ∷ rest) c k lt = chain_names net rows (activity_at net a).tail (a ∷ rest) (activity_at net a).tail c k lt
+
+pub cycle_shown : (net : Net) (rows : RowsValue) (cycle : List ℕ) (ids : List ActId) → IsCycle (free_arcs net rows) cycle → ids ≡ ids_of net cycle → ShowsCycle net rows ids
+cycle_shown net rows cycle ids c named = record {
+  places = cycle;
+  is_cycle = cycle_carries (free_arcs net rows) (active_arcs net rows)
+      (λ a b. record {
+        binds = record { is_arc = b.is_arc; is_held = free_is_active net rows a b.is_held; from_event = b.from_event; to_event = b.to_event };
+        same_tail = refl;
+        same_head = refl;
+      }) cycle c;
+  named = named;
+}

@@ -1,21 +1,20 @@
 -- No time is later than the ranks of the events allow, and so each is below the limit of all times.
-use Rattle.std.proofs.Common.{◌≡◌, ℕ, zero, suc, ◌+◌, ◌*◌, ◌^◌, ◌<◌, ◌≤◌, Bool, true, false, IsTrue, List, length, Option, Some, None, refl, sym, ap, subst, ◌∙◌, inl, inr, arith, slice_index, mul-le-mul_right, suc-mul}
+use Rattle.std.proofs.Common.{◌≡◌, ℕ, zero, suc, ◌+◌, ◌<◌, ◌≤◌, Bool, true, List, length, Option, Some, None, refl, sym, ap, subst, inl, inr, arith, slice_index}
 use Rattle.std.specs.Prelude.{unwrap_or}
 use Rattle.std.specs.Option.{ForSome}
 use Rattle.std.proofs.lemmas.Bool.{cases_Bool, cases_lt}
 use Rattle.std.proofs.lemmas.List.{get_or_past}
-use Rattle.dm_base.specs.declared.limits.TheConstants.{EVENTS, TIME, PASSED_TIME, BOUND, DELAY}
-use Rattle.dm_graph.specs.Graph.{IsJoin}
+use Rattle.dm_base.specs.declared.limits.TheConstants.{EVENTS, PASSED_TIME, BOUND, DELAY}
 use Rattle.dm_graph.specs.Arrays.{AreRanks}
 use Rattle.dm_graph.proofs.Chains.{Rises}
-use Rattle.dm_network.specs.Net.{Net, EndsAreKnown, IsWithinLimits, activity_at, event_at}
-use Rattle.dm_rows.specs.Rows.{RowsValue, RowsAreWithinLimits, passed_at, event_delay_at}
-use Rattle.dm_rows.specs.Active.{IsActive, active_arcs}
+use Rattle.dm_network.specs.Net.{Net, EndsAreKnown, IsWithinLimits, activity_at}
+use Rattle.dm_rows.specs.Rows.{RowsValue, RowsAreWithinLimits, passed_at}
+use Rattle.dm_rows.specs.Active.{active_arcs}
 use Rattle.dm_rows.specs.Timetable.{time_at, graph_of, planned_time, span_of}
 use Rattle.dm_rows.proofs.AsGraph.{head_is_free}
 use Rattle.dm_settle.specs.Free.{GoesForward}
 use Rattle.dm_settle.specs.Marked.{is_marked}
-use Rattle.dm_settle.specs.Pass.{IsSettled, IsAlong, MarksUnsettled, IsPassing, TailsAreEarly, AreEarly, latest}
+use Rattle.dm_settle.specs.Pass.{IsSettled, IsPassing, TailsAreEarly, AreEarly, latest}
 
 -- events that have passed come first, and then the others in their order
 abbrev pub rank_if : Option ℕ → ℕ → ℕ

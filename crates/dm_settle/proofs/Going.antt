@@ -1,12 +1,12 @@
 -- A pass goes on from one marked place to the next.
-use Rattle.std.proofs.Common.{◌≡◌, ℕ, suc, ◌+◌, ◌<◌, ◌≤◌, Bool, true, false, List, length, sym, ap, subst, ◌∙◌, arith, slice_index}
+use Rattle.std.proofs.Common.{◌≡◌, ℕ, ◌+◌, ◌<◌, ◌≤◌, Bool, true, false, List, length, sym, ap, subst, ◌∙◌, arith, slice_index}
 use Rattle.dm_base.specs.declared.limits.TheConstants.{EVENTS}
 use Rattle.dm_graph.specs.Arrays.{AreRanks}
 use Rattle.dm_network.specs.Net.{Net, EndsAreKnown, IsWithinLimits}
 use Rattle.dm_rows.specs.Rows.{RowsValue, RowsAreWithinLimits}
 use Rattle.dm_settle.specs.Free.{GoesForward}
 use Rattle.dm_settle.specs.Marked.{is_marked, IsFirstFrom}
-use Rattle.dm_settle.specs.Pass.{IsPassing, HasRead, Renews, Stays, Moves, TailsAreEarly}
+use Rattle.dm_settle.specs.Pass.{IsPassing, HasRead, Renews, TailsAreEarly}
 use Rattle.dm_settle.proofs.Early.{tails_are_early}
 use Rattle.dm_settle.proofs.Passing.{passing_at, stays_on, moves_on}
 use Rattle.dm_settle.proofs.Reading.{stays_read, moves_read}

@@ -1,15 +1,11 @@
 -- The time of an event, joined along its row.
-use Rattle.std.proofs.Common.{◌≡◌, ℕ, suc, ◌+◌, ◌<◌, ◌≤◌, Bool, true, false, IsTrue, List, length, max, refl, sym, ap, subst, ◌∙◌, inl, inr, arith, eqb-true, eq-eqb, slice_index, filter}
+use Rattle.std.proofs.Common.{◌≡◌, ℕ, ◌+◌, ◌<◌, ◌≤◌, false, IsTrue, List, length, max, sym, ap, subst, inl, inr, arith, eqb-true, eq-eqb, slice_index}
 use Rattle.std.specs.Prelude.{◌==◌}
-use Rattle.std.specs.List.{range_with_len}
-use Rattle.std.proofs.lemmas.Bool.{cases_Bool, cases_lt}
-use Rattle.dm_graph.specs.Graph.{IsJoin}
-use Rattle.dm_graph.specs.Arcs.{Binds}
-use Rattle.dm_graph.proofs.Windows.{Kept, kept_at, StandsAt, stands_in}
-use Rattle.dm_network.specs.Net.{Net, EndsAreKnown, activity_at, places_into, places_out_of}
+use Rattle.std.proofs.lemmas.Bool.{cases_lt}
+use Rattle.dm_graph.proofs.Windows.{kept_at, StandsAt, stands_in}
+use Rattle.dm_network.specs.Net.{Net, EndsAreKnown, activity_at, places_into}
 use Rattle.dm_rows.specs.Rows.{RowsValue}
 use Rattle.dm_rows.specs.Active.{is_active}
-use Rattle.dm_rows.specs.Timetable.{time_at, graph_of}
 use Rattle.dm_settle.specs.Pass.{HasJoined, IsJoinOf, time_along}
 
 -- each place in the row of an event is that of an activity into it

@@ -1,13 +1,13 @@
 -- Marks at the heads of the activities out of an event, set along its row.
-use Rattle.std.proofs.Common.{◌≡◌, ℕ, ◌+◌, ◌<◌, ◌≤◌, Bool, true, false, IsTrue, List, length, set, refl, sym, ap, subst, ◌∙◌, ◌⊎◌, inl, inr, arith, eqb-true, eq-eqb, slice_index, length-set, get_or-set_same, get_or-set_other, ◌≢◌}
+use Rattle.std.proofs.Common.{◌≡◌, ℕ, ◌+◌, ◌<◌, Bool, true, false, IsTrue, List, length, sym, ap, subst, ◌∙◌, ◌⊎◌, inl, inr, arith, eqb-true, eq-eqb, slice_index, length-set, get_or-set_same, get_or-set_other}
 use Rattle.std.specs.Prelude.{◌==◌, slice_set}
-use Rattle.std.proofs.lemmas.Bool.{cases_Bool, cases_lt, cases_eq}
-use Rattle.dm_graph.proofs.Windows.{Kept, kept_at, StandsAt, stands_in}
-use Rattle.dm_network.specs.Net.{Net, EndsAreKnown, activity_at, places_out_of}
+use Rattle.std.proofs.lemmas.Bool.{cases_lt, cases_eq}
+use Rattle.dm_graph.proofs.Windows.{kept_at, StandsAt, stands_in}
+use Rattle.dm_network.specs.Net.{Net, activity_at, places_out_of}
 use Rattle.dm_rows.specs.Rows.{RowsValue}
-use Rattle.dm_rows.specs.Active.{is_active, IsActive}
+use Rattle.dm_rows.specs.Active.{is_active}
 use Rattle.dm_settle.specs.Marked.{is_marked}
-use Rattle.dm_settle.specs.Pass.{HasMarked, MarksHeads, LeadsToRank}
+use Rattle.dm_settle.specs.Pass.{HasMarked, MarksHeads}
 
 -- an activity out of the event
 pub record LeadsOut (net : Net) (e a : ℕ) : Type 0 where

@@ -1,20 +1,19 @@
 -- A pass goes on: what a place leaves, the next one needs, and at the end every event has its time.
-use Rattle.std.proofs.Common.{◌≡◌, ◌≢◌, ℕ, suc, ◌+◌, ◌<◌, ◌≤◌, Bool, true, false, List, length, set, refl, sym, ap, subst, ◌∙◌, ◌⊎◌, inl, inr, arith, slice_index, length-set, get_or-set_same, get_or-set_other, Option, None, Some, if◌then◌else◌}
+use Rattle.std.proofs.Common.{◌≡◌, ◌≢◌, ℕ, ◌+◌, ◌<◌, Bool, true, false, List, length, sym, ap, subst, ◌∙◌, ◌⊎◌, inl, inr, arith, slice_index, length-set, get_or-set_same, get_or-set_other, Option, None, Some, if◌then◌else◌}
 use Rattle.std.specs.Prelude.{slice_set, is_some}
 use Rattle.std.proofs.lemmas.Bool.{cases_Bool, cases_lt, cases_eq}
-use Rattle.dm_graph.specs.Graph.{IsJoin, IsLeast as IsLeastOfGraph}
 use Rattle.dm_graph.specs.Arrays.{AreRanks}
 use Rattle.dm_graph.specs.Arcs.{IsOrder}
 use Rattle.dm_graph.proofs.Joins.{IsJoin-congr, joins_are_least}
 use Rattle.dm_graph.proofs.Ranks.{ranks_rise}
 use Rattle.dm_network.specs.Net.{Net, EndsAreKnown, activity_at}
 use Rattle.dm_rows.specs.Rows.{RowsValue, passed_at}
-use Rattle.dm_rows.specs.Active.{IsActive, is_active, has_passed}
+use Rattle.dm_rows.specs.Active.{IsActive, is_active}
 use Rattle.dm_rows.specs.Timetable.{time_at, graph_of, IsLeast}
 use Rattle.dm_rows.proofs.AsGraph.{head_is_free, least_from_graph}
 use Rattle.dm_settle.specs.Free.{GoesForward, free_arcs, is_free}
 use Rattle.dm_settle.specs.Marked.{is_marked, IsFirstFrom, NoneFrom}
-use Rattle.dm_settle.specs.Pass.{IsSettled, IsJoinOf, MarksUnsettled, IsPassing, MarksHeads, LeadsToRank, Stays, Moves}
+use Rattle.dm_settle.specs.Pass.{IsSettled, IsJoinOf, IsPassing, MarksHeads, LeadsToRank, Stays, Moves}
 use Rattle.dm_settle.proofs.Early.{free_rank, free_rank-rises}
 
 -- events of one rank are one

@@ -1,15 +1,15 @@
 -- Which rows a pass has read so far.
-use Rattle.std.proofs.Common.{◌≡◌, ◌≢◌, ℕ, zero, suc, ◌+◌, ◌<◌, ◌≤◌, Bool, true, false, List, [], ◌∷◌, length, set, refl, sym, ap, subst, ◌∙◌, ◌⊎◌, inl, inr, arith, slice_index, slice_index_or, eqb, get_or-set_same, get_or-set_other}
+use Rattle.std.proofs.Common.{◌≡◌, ◌≢◌, ℕ, zero, suc, ◌+◌, ◌<◌, ◌≤◌, Bool, true, false, List, [], ◌∷◌, length, refl, sym, ap, subst, ◌∙◌, ◌⊎◌, inl, inr, arith, slice_index, slice_index_or, get_or-set_same, get_or-set_other}
 use Rattle.std.specs.Prelude.{slice_set, nat_eq}
 use Rattle.std.specs.List.{Contains, IsDistinct, AllByRecursion}
-use Rattle.std.proofs.lemmas.Bool.{cases_Bool, cases_lt, cases_eq, ne_eqb}
+use Rattle.std.proofs.lemmas.Bool.{ne_eqb}
 use Rattle.std.proofs.lemmas.Map.Keys.{IsDistinct-cons}
 use Rattle.dm_graph.specs.Arrays.{AreRanks}
 use Rattle.dm_network.specs.Net.{Net, EndsAreKnown, activity_at}
 use Rattle.dm_rows.specs.Rows.{RowsValue}
 use Rattle.dm_rows.specs.Timetable.{time_at}
 use Rattle.dm_settle.specs.Marked.{is_marked}
-use Rattle.dm_settle.specs.Pass.{MarksHeads, LeadsToRank, Stays, Moves, Follows, AreReadFor, HasRead}
+use Rattle.dm_settle.specs.Pass.{Stays, Moves, Follows, HasRead}
 use Rattle.dm_settle.proofs.Passing.{one_of_rank, marked_else}
 
 -- what a list with one more in front contains

@@ -4,7 +4,7 @@ use Rattle.std.specs.List.{Contains, IsDistinct}
 use Rattle.dm_base.specs.declared.limits.TheConstants.{PASSED_TIME, BOUND, DELAY}
 use Rattle.dm_graph.specs.Arrays.{AreRanks}
 use Rattle.dm_graph.specs.Graph.{IsJoin}
-use Rattle.dm_network.specs.Net.{Net, activity_at, places_into, places_out_of}
+use Rattle.dm_network.specs.Net.{Net, activity_at}
 use Rattle.dm_rows.specs.Rows.{RowsValue, passed_at}
 use Rattle.dm_rows.specs.Active.{is_active, IsActive}
 use Rattle.dm_rows.specs.Timetable.{time_at, span_of, graph_of}

@@ -50,6 +50,7 @@ fn least_times_with<L: Ledger>(
     ensures no_cycle { OnOk result (HasNoCycle net.now rows.now) }
     ensures refused { IfErr result (RefusesTimes net.now rows.now) }
 {
+    let _sound = net.events();
     let mut steps = Steps::<L>::new(blank);
     let search = search_order(alloc, net, rows, &mut steps)?;
     let mut times = floors_of(alloc, net, rows)?;
@@ -77,6 +78,7 @@ fn search_order<L: Ledger>(
     ensures ranks { IfOk result (λ s. AreRanks (length net.now.events) s.order s.ranks) }
     ensures refused { IfErr result (RefusesTimes net.now rows.now) }
 {
+    let _sound = net.events();
     let tails = tails_of(alloc, net)?;
     let held = held_of(alloc, net, rows)?;
     let row = in_rows(alloc, net, steps)?;

@@ -1,4 +1,4 @@
-use Rattle.std.proofs.Common.{◌≡◌, ◌++◌, ◌∷◌, [], ◌+◌, length, sym, subst, ap, ◌∙◌, slice_index, List, ℕ}
+use Rattle.std.proofs.Common.{◌++◌, ◌∷◌, [], ◌+◌, length, sym, subst, ap, ◌∙◌, slice_index, List, ℕ}
 use Rattle.dm_network.specs.Net.{places_into}
 use Rattle.dm_network.specs.Flat.{AreFlatRows}
 use Rattle.dm_settle.proofs.Arrays.{rows_more, next_last}

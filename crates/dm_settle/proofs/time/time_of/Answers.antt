@@ -1,4 +1,4 @@
-use Rattle.std.proofs.Common.{◌≡◌, ◌<◌, length, true, sym, ◌∙◌, arith, subst, ap, max, slice_index, ℕ, ◌+◌}
+use Rattle.std.proofs.Common.{sym, ◌∙◌, arith, subst, ap, max, ℕ, ◌+◌}
 use Rattle.dm_settle.specs.Pass.{HasJoined}
 use Rattle.dm_settle.proofs.Joining.{leads_into, joined_with, joined_without, joined_whole}
 use Rattle.dm_settle.proofs.time.time_of.Goals as goal

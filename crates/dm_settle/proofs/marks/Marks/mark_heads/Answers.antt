@@ -1,7 +1,6 @@
-use Rattle.std.proofs.Common.{◌≡◌, ◌<◌, length, true, sym, ◌∙◌, arith, subst, slice_index, ℕ, ◌+◌, Bool, List}
-use Rattle.dm_network.specs.Net.{activity_at}
+use Rattle.std.proofs.Common.{sym, ◌∙◌, arith, subst, ◌+◌, Bool, List}
 use Rattle.dm_settle.specs.Pass.{HasMarked}
-use Rattle.dm_settle.proofs.Marking.{LeadsOut, leads_out, marked_with, marked_without, marked_whole}
+use Rattle.dm_settle.proofs.Marking.{leads_out, marked_with, marked_without, marked_whole}
 use Rattle.dm_settle.proofs.marks.Marks.mark_heads.Goals as goal
 use Rattle.dm_settle.proofs.marks.Marks.mark_heads.Goals.{then-is_active, else-is_active}
 

@@ -1,6 +1,4 @@
-use Rattle.std.proofs.Common.{◌≡◌, ℕ, ◌+◌, ◌<◌, ◌≤◌, Bool, List, length, sym, subst, arith, slice_index}
-use Rattle.dm_settle.specs.Free.{GoesForward}
-use Rattle.dm_settle.specs.Marked.{IsFirstFrom}
+use Rattle.std.proofs.Common.{Bool, List, subst, arith, slice_index}
 use Rattle.dm_settle.specs.Pass.{Renews}
 use Rattle.dm_settle.proofs.Early.{all_are_early}
 use Rattle.dm_settle.proofs.Going.{next_tails_are_early, passes_on, reads_on}

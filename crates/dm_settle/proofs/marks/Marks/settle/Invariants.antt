@@ -1,4 +1,4 @@
-use Rattle.std.proofs.Common.{◌≤◌, ◌≡◌, ◌-◌, length}
+use Rattle.std.proofs.Common.{◌-◌, length}
 use Rattle.dm_settle.specs.Pass.{IsPassing, HasRead}
 use Rattle.dm_settle.proofs.marks.Marks.settle.Given as goal
 
