@@ -14,7 +14,8 @@ use Rattle.dm_rows.specs.Timetable.{time_at, graph_of, planned_time, span_of}
 use Rattle.dm_rows.proofs.AsGraph.{head_is_free}
 use Rattle.dm_settle.specs.Free.{GoesForward}
 use Rattle.dm_settle.specs.Marked.{is_marked}
-use Rattle.dm_settle.specs.Pass.{IsSettled, IsPassing, TailsAreEarly, AreEarly, latest}
+use Rattle.dm_settle.specs.Pass.{IsPassing, TailsAreEarly, latest}
+use Rattle.dm_settle.specs.Settling.{IsSettled, AreEarly}
 
 -- events that have passed come first, and then the others in their order
 abbrev pub rank_if : Option ℕ → ℕ → ℕ

@@ -6,7 +6,8 @@ use Rattle.dm_graph.proofs.Windows.{kept_at, StandsAt, stands_in}
 use Rattle.dm_network.specs.Net.{Net, EndsAreKnown, activity_at, places_into}
 use Rattle.dm_rows.specs.Rows.{RowsValue}
 use Rattle.dm_rows.specs.Active.{is_active}
-use Rattle.dm_settle.specs.Pass.{HasJoined, IsJoinOf, time_along}
+use Rattle.dm_settle.specs.Pass.{HasJoined, time_along}
+use Rattle.dm_settle.specs.Settling.{IsJoinOf}
 
 -- each place in the row of an event is that of an activity into it
 pub record LeadsInto (net : Net) (e a : ℕ) : Type 0 where

@@ -13,7 +13,8 @@ use Rattle.dm_rows.specs.Timetable.{time_at, graph_of, IsLeast}
 use Rattle.dm_rows.proofs.AsGraph.{head_is_free, least_from_graph}
 use Rattle.dm_settle.specs.Free.{GoesForward, free_arcs, is_free}
 use Rattle.dm_settle.specs.Marked.{is_marked, IsFirstFrom, NoneFrom}
-use Rattle.dm_settle.specs.Pass.{IsSettled, IsJoinOf, IsPassing, MarksHeads, LeadsToRank, Stays, Moves}
+use Rattle.dm_settle.specs.Pass.{IsPassing, MarksHeads, LeadsToRank, Stays, Moves}
+use Rattle.dm_settle.specs.Settling.{IsSettled, IsJoinOf}
 use Rattle.dm_settle.proofs.Early.{free_rank, free_rank-rises}
 
 -- events of one rank are one

@@ -9,7 +9,8 @@ use Rattle.dm_network.specs.Net.{Net, EndsAreKnown, activity_at}
 use Rattle.dm_rows.specs.Rows.{RowsValue}
 use Rattle.dm_rows.specs.Timetable.{time_at}
 use Rattle.dm_settle.specs.Marked.{is_marked}
-use Rattle.dm_settle.specs.Pass.{Stays, Moves, Follows, HasRead}
+use Rattle.dm_settle.specs.Pass.{Stays, Moves, HasRead}
+use Rattle.dm_settle.specs.Settling.{Follows}
 use Rattle.dm_settle.proofs.Passing.{one_of_rank, marked_else}
 
 -- what a list with one more in front contains
@@ -56,6 +57,9 @@ module _ (net : Net) (rows : RowsValue) (order ranks : List ℕ) (ranked : AreRa
   new_renewed : IsDistinct nat_eq (e ∷ had.renewed)
   new_renewed = distinct_with had.renewed e had.reads.renewed_once (λ f c. other_than f (had.renewed_before f c))
 
+  events_with : (f : ℕ) → Contains (e ∷ had.renewed) f → f < length net.events
+  events_with f c = elim (front_or had.renewed e f c) [ inl is ↦ omega arith | inr was ↦ had.reads.are_events f was ]
+
   before_next : (xs : List ℕ) → ((f : ℕ) → Contains xs f → slice_index ranks f < from) → (f : ℕ) → Contains (e ∷ xs) f → slice_index ranks f < slice_index ranks e + 1
   before_next xs before f c =
       elim (front_or xs e f c) [
@@ -74,6 +78,7 @@ module _ (net : Net) (rows : RowsValue) (order ranks : List ℕ) (ranked : AreRa
         moved = had.moved;
         counted = omega arith;
         reads = record {
+          are_events = events_with;
           renewed_once = new_renewed;
           moved_once = had.reads.moved_once;
           caused = λ f c. elim (front_or had.renewed e f c) [
@@ -104,6 +109,7 @@ module _ (net : Net) (rows : RowsValue) (order ranks : List ℕ) (ranked : AreRa
         moved = e ∷ had.moved;
         counted = omega arith;
         reads = record {
+          are_events = events_with;
           renewed_once = new_renewed;
           moved_once = distinct_with had.moved e had.reads.moved_once (λ f c. other_than f (had.moved_before f c));
           caused = λ f c. elim (front_or had.renewed e f c) [
@@ -150,6 +156,7 @@ none_read net rows ranks marks times steps =
       moved = [];
       counted = omega arith;
       reads = record {
+        are_events = λ e c. let lt = c.1 in absurd (omega arith);
         renewed_once = none_distinct;
         moved_once = none_distinct;
         caused = λ e c. let lt = c.1 in absurd (omega arith);

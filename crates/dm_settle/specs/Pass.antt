@@ -1,24 +1,13 @@
 -- How far a pass along an order has come.
-use Rattle.std.specs.Prelude.{ℕ, ◌≡◌, ◌≢◌, nat_eq, slice_set, ◌+◌, ◌*◌, ◌^◌, ◌<◌, ◌≤◌, ◌⊎◌, Bool, true, false, IsTrue, List, length, None, slice_index}
-use Rattle.std.specs.List.{Contains, IsDistinct}
+use Rattle.std.specs.Prelude.{ℕ, ◌≡◌, ◌≢◌, slice_set, ◌+◌, ◌*◌, ◌^◌, ◌<◌, ◌≤◌, ◌⊎◌, Bool, true, false, IsTrue, List, length, slice_index}
+use Rattle.std.specs.List.{Contains}
 use Rattle.dm_base.specs.declared.limits.TheConstants.{PASSED_TIME, BOUND, DELAY}
-use Rattle.dm_graph.specs.Arrays.{AreRanks}
-use Rattle.dm_graph.specs.Graph.{IsJoin}
 use Rattle.dm_network.specs.Net.{Net, activity_at}
-use Rattle.dm_rows.specs.Rows.{RowsValue, passed_at}
+use Rattle.dm_rows.specs.Rows.{RowsValue}
 use Rattle.dm_rows.specs.Active.{is_active, IsActive}
 use Rattle.dm_rows.specs.Timetable.{time_at, span_of, graph_of}
-use Rattle.dm_settle.specs.Free.{GoesForward}
 use Rattle.dm_settle.specs.Marked.{is_marked}
-
--- a time is the least that the rows allow for an event beside the times of the others: its passed time, or else the
--- least that is not before its scheduled time and delay, nor before any active activity into it allows
-abbrev pub IsJoinOf : Net → RowsValue → List ℕ → ℕ → ℕ → Type 0
-IsJoinOf net rows times e time = IsJoin (graph_of net rows) (time_at times) e time
-
--- the event has that time
-abbrev pub IsSettled : Net → RowsValue → List ℕ → ℕ → Type 0
-IsSettled net rows times e = IsJoinOf net rows times e (time_at times e)
+use Rattle.dm_settle.specs.Settling.{IsJoinOf, IsSettled, MarksUnsettled, Follows, AreReadFor}
 
 -- no event of n can be later than this
 abbrev pub latest : ℕ → ℕ
@@ -39,13 +28,6 @@ pub record HasJoined (net : Net) (rows : RowsValue) (times : List ℕ) (e : ℕ)
   pub along : (k : ℕ) → k < n → IsTrue (is_active net rows (slice_index row k)) → time_along net rows times (slice_index row k) ≤ time
   pub least : (u : ℕ) → (graph_of net rows).floor e ≤ u →
       ((k : ℕ) → k < n → IsTrue (is_active net rows (slice_index row k)) → time_along net rows times (slice_index row k) ≤ u) → time ≤ u
-
--- an active activity leads from one event to another
-pub record LeadsOn (net : Net) (rows : RowsValue) (from to : ℕ) : Type 0 where
-  pub activity : ℕ
-  pub active : IsActive net rows activity
-  pub tail : (activity_at net activity).tail ≡ from
-  pub head : (activity_at net activity).head ≡ to
 
 -- an active activity leads from the event to one of this rank
 pub record LeadsToRank (net : Net) (rows : RowsValue) (ranks : List ℕ) (from place : ℕ) : Type 0 where
@@ -70,19 +52,7 @@ pub record MarksHeads (net : Net) (rows : RowsValue) (ranks : List ℕ) (event :
       is_marked now (slice_index ranks (activity_at net a).head) ≡ true
   pub only : (k : ℕ) → is_marked now k ≡ true → (is_marked before k ≡ true) ⊎ LeadsToRank net rows ranks event k
 
--- an order of the events with their ranks, along which the activities between events that have not passed go forward
-pub record IsAlong (net : Net) (rows : RowsValue) (order ranks : List ℕ) : Type 0 where
-  pub ranked : AreRanks (length net.events) order ranks
-  pub forward : GoesForward net rows ranks
-
--- the marks at the ranks of the events take in every event that may not have its time, and none that has passed
-pub record MarksUnsettled (net : Net) (rows : RowsValue) (ranks : List ℕ) (marks : List Bool) (times : List ℕ) : Type 0 where
-  pub as_many_marks : length marks ≡ length net.events
-  pub as_many_times : length times ≡ length net.events
-  pub none_passed : (e : ℕ) → e < length net.events → is_marked marks (slice_index ranks e) ≡ true → passed_at rows e ≡ None
-  pub settled : (e : ℕ) → e < length net.events → is_marked marks (slice_index ranks e) ≡ false → IsSettled net rows times e
-
--- and none stands before a place
+-- the marks take in every event that may not have its time, and none stands before a place
 pub record IsPassing (net : Net) (rows : RowsValue) (ranks : List ℕ) (marks : List Bool) (times : List ℕ) (from : ℕ) : Type 0 where
   pub unsettled : MarksUnsettled net rows ranks marks times
   pub later : (k : ℕ) → is_marked marks k ≡ true → from ≤ k
@@ -108,27 +78,6 @@ abbrev pub Renews : Bool → Net → RowsValue → List ℕ → ℕ → List Boo
 Renews true net rows ranks event marks0 times0 steps0 marks1 times1 steps1 = Moves net rows ranks event marks0 times0 steps0 marks1 times1 steps1
 Renews false net rows ranks event marks0 times0 steps0 marks1 times1 steps1 = Stays net rows ranks event marks0 times0 steps0 marks1 times1 steps1
 
--- the event is the head of an active activity out of one of these events
-pub record Follows (net : Net) (rows : RowsValue) (events : List ℕ) (e : ℕ) : Type 0 where
-  pub from : ℕ
-  pub among : Contains events from
-  pub leads : LeadsOn net rows from e
-
--- Which rows a pass has read: of each event in `renewed` the one in, of each in `moved` the one out, each once.
--- An event is renewed because it was marked or follows one that has moved. One has moved if its time differs.
-pub record AreReadFor (net : Net) (rows : RowsValue) (ranks : List ℕ) (marks : List Bool) (before after : List ℕ) (renewed moved : List ℕ) : Type 0 where
-  pub renewed_once : IsDistinct nat_eq renewed
-  pub moved_once : IsDistinct nat_eq moved
-  pub caused : (e : ℕ) → Contains renewed e → (is_marked marks (slice_index ranks e) ≡ true) ⊎ Follows net rows moved e
-  pub differs : (e : ℕ) → Contains moved e → time_at before e ≢ time_at after e
-
--- So many rows are read: one for each event that is computed anew, and one for each that has moved.
-pub record ReadsFew (net : Net) (rows : RowsValue) (ranks : List ℕ) (marks : List Bool) (before after : List ℕ) (steps0 steps1 : ℕ) : Type 0 where
-  pub renewed : List ℕ
-  pub moved : List ℕ
-  pub counted : steps1 ≡ steps0 + length renewed + length moved
-  pub reads : AreReadFor net rows ranks marks before after renewed moved
-
 -- the same within a pass, at a place
 pub record HasRead (net : Net) (rows : RowsValue) (ranks : List ℕ) (marks0 : List Bool) (times0 : List ℕ) (steps0 : ℕ) (marks : List Bool) (times : List ℕ) (steps from : ℕ) : Type 0 where
   pub renewed : List ℕ
@@ -140,7 +89,3 @@ pub record HasRead (net : Net) (rows : RowsValue) (ranks : List ℕ) (marks0 : L
   pub same_after : (e : ℕ) → e < length net.events → from ≤ slice_index ranks e → time_at times e ≡ time_at times0 e
   pub marked_for : (e : ℕ) → e < length net.events → is_marked marks (slice_index ranks e) ≡ true →
       (is_marked marks0 (slice_index ranks e) ≡ true) ⊎ Follows net rows moved e
-
--- every time is below the limit of all times
-abbrev pub AreEarly : List ℕ → Type 0
-AreEarly times = (i : ℕ) → time_at times i < 2 ^ 38

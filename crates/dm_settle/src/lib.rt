@@ -6,6 +6,7 @@
 
 mod arcs;
 mod faults;
+pub mod laws;
 mod marks;
 mod pass;
 mod scratch;

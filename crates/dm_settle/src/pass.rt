@@ -7,7 +7,8 @@ ghost use Rattle.dm_rows.specs.Rows.{IsSized};
 ghost use Rattle.dm_rows.specs.Timetable.{IsLeast};
 ghost use Rattle.dm_settle.specs.Free.{free_arcs};
 ghost use Rattle.dm_settle.specs.Marked.{is_marked, NoneFrom};
-ghost use Rattle.dm_settle.specs.Pass.{MarksUnsettled, TailsAreEarly, MarksHeads, Renews, ReadsFew, AreEarly};
+ghost use Rattle.dm_settle.specs.Pass.{TailsAreEarly, MarksHeads, Renews};
+ghost use Rattle.dm_settle.specs.Settling.{MarksUnsettled, ReadsFew, AreEarly};
 
 use crate::marks::Marks;
 use crate::time::time_of;

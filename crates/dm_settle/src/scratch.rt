@@ -7,7 +7,7 @@ ghost use Rattle.dm_rows.specs.Rows.{IsSized};
 ghost use Rattle.dm_rows.specs.Active.{HasNoCycle};
 ghost use Rattle.dm_rows.specs.Timetable.{IsLeast};
 ghost use Rattle.dm_settle.specs.Free.{free_arcs};
-ghost use Rattle.dm_settle.specs.Pass.{AreEarly};
+ghost use Rattle.dm_settle.specs.Settling.{AreEarly};
 ghost use Rattle.dm_settle.specs.Scratch.{RefusesTimes, MarksUnpassed, AreFloors};
 
 use crate::arcs::{held_of, in_rows, tails_of};

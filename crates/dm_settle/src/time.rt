@@ -5,7 +5,8 @@ ghost use Rattle.dm_network.specs.Net.{activity_at};
 ghost use Rattle.dm_rows.specs.Rows.{IsSized};
 ghost use Rattle.dm_rows.specs.Active.{IsActive};
 ghost use Rattle.dm_rows.specs.Timetable.{graph_of, time_at};
-ghost use Rattle.dm_settle.specs.Pass.{IsJoinOf, TailsAreEarly, time_along};
+ghost use Rattle.dm_settle.specs.Pass.{TailsAreEarly, time_along};
+ghost use Rattle.dm_settle.specs.Settling.{IsJoinOf};
 
 use dm_base::{Secs, Steps};
 use dm_network::Network;

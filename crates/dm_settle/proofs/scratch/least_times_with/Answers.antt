@@ -1,7 +1,7 @@
 use Rattle.std.proofs.Common.{◌∙◌, length, sym, ap, subst}
 use Rattle.dm_graph.proofs.Chains.{no_cycle_where_rank_rises}
 use Rattle.dm_rows.specs.Active.{active_arcs}
-use Rattle.dm_settle.specs.Pass.{AreEarly}
+use Rattle.dm_settle.specs.Settling.{AreEarly}
 use Rattle.dm_settle.proofs.Arrays.{lent_back}
 use Rattle.dm_settle.proofs.Early.{free_rank, free_rank-rises}
 use Rattle.dm_settle.proofs.Passing.{order_goes_forward}
