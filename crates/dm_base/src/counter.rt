@@ -6,6 +6,9 @@ use std::sync::ledger::{Blank, Book, Ledger, Share};
 
 /// How many steps were taken, a number that only [`Steps::tick`] changes. It takes no bytes, and no call of it does
 /// anything when the program runs.
+///
+/// A caller that counts nothing still hands one in: it calls a function of any ledger at `Brand` with `Blank::new(1)`,
+/// picks the blank's ledger for it, and makes the counter there.
 #[derive(Drop)]
 pub struct Steps<L: Ledger> {
     book: Book<L>,

@@ -14,5 +14,5 @@ mod rows;
 pub use counter::Steps;
 pub use ids::{ActId, Cost, EventId, Milli, Secs, StopId};
 pub use list::Items;
-pub use numbers::NumFault;
+pub use numbers::{NumFault, read_milli, read_whole};
 pub use rows::{ActKind, ActRow, DelayRow, EventKind, EventRow};

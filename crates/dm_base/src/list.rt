@@ -5,7 +5,7 @@ ghost use Rattle.std.specs.Cmp.Lexicographic.{pointwise, lists_per, lists_equiv}
 use std::marker::Model;
 
 /// The items of a list that stands in a field or a variant. It takes no memory of its own beside the `Vec`.
-#[derive(Debug, Drop)]
+#[derive(Clone, Debug, Drop)]
 pub struct Items<T> {
     held: Vec<T>,
 }
