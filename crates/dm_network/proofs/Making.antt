@@ -19,7 +19,7 @@ use Rattle.dm_network.specs.declared.parts.Pair.{Pair}
 use Rattle.dm_network.specs.declared.parts.NetFault.{NetFault}
 use Rattle.dm_network.specs.declared.parts.NetFault.TheVariants.{TooMany, DoubleEvent, DoubleActivity, UnknownEvent, ZeroHeadway, Cycle, OutOfMemory}
 use Rattle.dm_network.specs.Net.{Net, no_event, no_activity, no_pair, event_at, activity_at, pair_at, is_headway, IsWithinLimits}
-use Rattle.dm_network.specs.Pairs.{joins, pair_place, pair_of, IsHeadwayFrom, FormPair, IsPaired}
+use Rattle.dm_network.specs.Pairs.{joins, pair_place, own_pair, IsHeadwayFrom, FormPair, IsPaired}
 use Rattle.dm_network.specs.Build.{AreWithinLimits, AreFew, IsMadeOf, event_row, activity_row, event_ids, activity_ids, IsNoEvent, NamesNoEvent, IsFirst, IsZeroHeadway, HoldsOfNone, NoneStandsTwice, RefusesRecords}
 use Rattle.dm_network.specs.Start.{IsFormed}
 use Rattle.dm_network.specs.Flat.{ArePairsInOrder}
@@ -119,10 +119,10 @@ module _ (events : List Event) (activities : List Activity) (pairs : List Pair) 
         | inr (inr more) ↦ found i j (record { small = j; large = i }) (placed j i more d' u') (joins-from (record { small = j; large = i }) i j (inr (refl, refl)))
       ]
 
-  belongs : (a : ℕ) → a < length paired → (get_or paired a no_activity).pair ≡ pair_of (net_with events paired pairs) (get_or paired a no_activity)
+  belongs : (a : ℕ) → a < length paired → (get_or paired a no_activity).pair ≡ own_pair (net_with events paired pairs) (get_or paired a no_activity)
   belongs a lt =
       let n = many in
-      subst (λ x. x.pair ≡ pair_of (net_with events paired pairs) x) (sym (at a (omega arith))) refl
+      subst (λ x. x.pair ≡ own_pair (net_with events paired pairs) x) (sym (at a (omega arith))) refl
 
   pub is_paired : IsPaired (net_with events paired pairs)
   is_paired = record {
