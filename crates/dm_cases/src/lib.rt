@@ -8,3 +8,5 @@ mod base;
 mod graph;
 #[cfg(test)]
 mod outside;
+#[cfg(test)]
+mod program;
