@@ -152,7 +152,7 @@ clash c d Network same good bad =
     let events : good.0 ≡ bad.0 = some_is good.0 bad.0 (sym good.3.events_read ∙ (ap event_rows same.0 ∙ bad.2)) in
     let activities : good.1 ≡ bad.1 = some_is good.1 bad.1 (sym good.3.activities_read ∙ (ap activity_rows same.1 ∙ bad.3)) in
     not_unfit bad.0 bad.1 good.2
-    (subst (λ (as : List ActRow). MakesNetwork bad.0 as good.2) activities (subst (λ (es : List EventRow). MakesNetwork es good.1 good.2) events good.4)) bad.4
+    (subst (λ (found : List ActRow). MakesNetwork bad.0 found good.2) activities (subst (λ (es : List EventRow). MakesNetwork es good.1 good.2) events good.4)) bad.4
 clash c d Feed same good long = let e = ap length same in omega (arith, e, long, good)
 
 same_back : (c d : Contents) (p : Part) → SameUpTo c d p → SameUpTo d c p
