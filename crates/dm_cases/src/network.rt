@@ -12,7 +12,11 @@ use std::sync::ledger::{Blank, Ledger};
 use std::test::Fail;
 
 /// The network of the records, or the fault; records past the limits give want of memory.
-fn built(alloc: Global, events: Vec<EventRow>, activities: Vec<ActRow>) -> Result<Network, NetFault> {
+fn built(
+    alloc: Global,
+    events: Vec<EventRow>,
+    activities: Vec<ActRow>,
+) -> Result<Network, NetFault> {
     if small_events(&events) && small_activities(&activities) {
         Network::build(alloc, events, activities)
     } else {
@@ -27,13 +31,15 @@ fn fault(alloc: Global, events: Vec<EventRow>, activities: Vec<ActRow>) -> Optio
 fn small_events(rows: &[EventRow]) -> bool
     ensures { IsTrue result → AreSmallEvents rows.now }
 {
-    rows.iter().all(|row| row.time <= TIME && row.weight <= WEIGHT)
+    rows.iter()
+        .all(|row| row.time <= TIME && row.weight <= WEIGHT)
 }
 
 fn small_activities(rows: &[ActRow]) -> bool
     ensures { IsTrue result → AreSmallActivities rows.now }
 {
-    rows.iter().all(|row| row.lower <= BOUND && row.weight <= WEIGHT)
+    rows.iter()
+        .all(|row| row.lower <= BOUND && row.weight <= WEIGHT)
 }
 
 fn event(id: u32, kind: EventKind, time: u64, weight: u64, stop: u32) -> EventRow {
@@ -65,7 +71,7 @@ fn connection_events(alloc: Global) -> Result<Vec<EventRow>, AllocError> {
         event(2, EventKind::Arrival, 200, 10_000, 2),
         event(3, EventKind::Departure, 220, 10_000, 2),
         event(4, EventKind::Arrival, 300, 10_000, 3),
-        event(6, EventKind::Arrival, 330, 5_000, 4)
+        event(6, EventKind::Arrival, 330, 5_000, 4),
     ]?;
     Ok(events)
 }
@@ -79,7 +85,7 @@ fn connection_activities(alloc: Global, lower: u64) -> Result<Vec<ActRow>, Alloc
         activity(3, ActKind::Drive, 3, 4, 80, 10_000),
         activity(4, ActKind::Drive, 5, 6, 95, 5_000),
         activity(5, ActKind::Change, 2, 5, 20, 4_000),
-        activity(6, ActKind::Headway, 3, 5, lower, 0)
+        activity(6, ActKind::Headway, 3, 5, lower, 0),
     ]?;
     Ok(activities)
 }
@@ -97,7 +103,11 @@ fn enter<L: Ledger>(blank: Blank, network: &Network, i: usize, places: &[usize])
 
 #[test]
 fn the_connection_at_one_station(rt: HostRuntime) -> Result<(), Fail> {
-    let network = built(rt.alloc(), connection_events(rt.alloc())?, connection_activities(rt.alloc(), 8)?)?;
+    let network = built(
+        rt.alloc(),
+        connection_events(rt.alloc())?,
+        connection_activities(rt.alloc(), 8)?,
+    )?;
     assert_eq!(rt; network.events(), 6);
     assert_eq!(rt; network.activities(), 7);
     assert_eq!(rt; network.pairs(), 1);
@@ -123,20 +133,39 @@ fn faults_of_records(rt: HostRuntime) -> Result<(), Fail> {
     let alloc = rt.alloc();
     let mut twice = connection_events(alloc)?;
     twice.push(event(3, EventKind::Arrival, 9, 0, 9))?;
-    assert_eq!(rt; fault(alloc, twice, connection_activities(alloc, 0)?), Some(NetFault::DoubleEvent(EventId(3))));
+    assert_eq!(rt;
+        fault(alloc, twice, connection_activities(alloc, 0)?),
+        Some(NetFault::DoubleEvent(EventId(3)))
+    );
     let mut again = connection_activities(alloc, 0)?;
     again.push(activity(4, ActKind::Drive, 9, 9, 1, 0))?;
-    assert_eq!(rt; fault(alloc, connection_events(alloc)?, again), Some(NetFault::DoubleActivity(ActId(4))));
+    assert_eq!(rt;
+        fault(alloc, connection_events(alloc)?, again),
+        Some(NetFault::DoubleActivity(ActId(4)))
+    );
     let mut unknown = connection_activities(alloc, 0)?;
     unknown.push(activity(9, ActKind::Drive, 1, 8, 1, 0))?;
     unknown.push(activity(8, ActKind::Drive, 8, 1, 1, 0))?;
-    assert_eq!(rt; fault(alloc, connection_events(alloc)?, unknown), Some(NetFault::UnknownEvent(ActId(9))));
-    assert_eq!(rt; fault(alloc, connection_events(alloc)?, connection_activities(alloc, 0)?), Some(NetFault::ZeroHeadway(ActId(6))));
+    assert_eq!(rt;
+        fault(alloc, connection_events(alloc)?, unknown),
+        Some(NetFault::UnknownEvent(ActId(9)))
+    );
+    assert_eq!(rt;
+        fault(
+            alloc,
+            connection_events(alloc)?,
+            connection_activities(alloc, 0)?
+        ),
+        Some(NetFault::ZeroHeadway(ActId(6)))
+    );
     let mut many = Vec::new(alloc);
     for id in 0..100_001u32 {
         many.push(event(id, EventKind::Departure, 0, 0, 0))?;
     }
-    assert_eq!(rt; fault(alloc, many, Vec::new(alloc)), Some(NetFault::TooMany));
+    assert_eq!(rt;
+        fault(alloc, many, Vec::new(alloc)),
+        Some(NetFault::TooMany)
+    );
     Ok(())
 }
 
@@ -148,7 +177,10 @@ fn cycles_at_the_start(rt: HostRuntime) -> Result<(), Fail> {
     let Some(NetFault::Cycle(ids)) = fault(alloc, connection_events(alloc)?, back) else {
         return Err(Fail::from("no cycle"));
     };
-    assert!(rt; ids.as_slice() == [ActId(1), ActId(9)].as_slice() || ids.as_slice() == [ActId(9), ActId(1)].as_slice());
+    assert!(rt;
+        ids.as_slice() == [ActId(1), ActId(9)].as_slice()
+            || ids.as_slice() == [ActId(9), ActId(1)].as_slice()
+    );
     let mut itself = connection_activities(alloc, 8)?;
     itself.push(activity(9, ActKind::Headway, 2, 2, 1, 0))?;
     let Some(NetFault::Cycle(ids)) = fault(alloc, connection_events(alloc)?, itself) else {
