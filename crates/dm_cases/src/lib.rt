@@ -7,6 +7,4 @@ mod base;
 #[cfg(test)]
 mod graph;
 #[cfg(test)]
-mod network;
-#[cfg(test)]
 mod outside;

@@ -1,39 +1,39 @@
 -- The arcs that bind at the start, by arrays.
-use Rattle.std.proofs.Common.{◌≡◌, ℕ, ◌<◌, Bool, false, List, [], ◌∷◌, length, map, get_or, refl, sym, ap, ◌∙◌, subst, inl, inr, arith, Some, None}
+use Rattle.std.proofs.Common.{◌≡◌, ◌≢◌, ℕ, zero, suc, ◌+◌, ◌<◌, ◌≤◌, Bool, true, false, cond, List, [], ◌∷◌, length, map, get_or, refl, sym, ap, ◌∙◌, subst, inl, inr, arith, Some, None, Option, position}
 use Rattle.std.specs.List.{All, range_with_len}
 use Rattle.std.proofs.lemmas.Bool.{cases_Bool}
-use Rattle.std.proofs.lemmas.List.{length-map, get_or_default}
+use Rattle.std.proofs.lemmas.List.{length-map, get_or-map, get_or_default}
 use Rattle.std.proofs.lemmas.List.FromFn.{get_or-map-range_with_len, length-map-range_with_len}
 use Rattle.std.proofs.lemmas.List.Elements.{All-nil, All-cons}
 use Rattle.std.proofs.lemmas.List.Quantifiers.{position-Some}
 use Rattle.dm_base.specs.declared.ids.ActId.{ActId}
-use Rattle.dm_graph.specs.Arcs.{Arcs, Chain, IsCycle, IsOrder}
+use Rattle.dm_graph.specs.Arcs.{Arcs, Binds, Chain, IsCycle, IsOrder}
 use Rattle.dm_graph.specs.Arrays.{AreRows, AreEnds, AreArraysOf}
 use Rattle.dm_graph.proofs.Windows.{rows_of_windows, windows_list}
 use Rattle.dm_graph.proofs.Chains.{no_cycle_where_rank_rises, order_rises, place_in}
 use Rattle.dm_network.specs.declared.parts.Activity.{Activity}
 use Rattle.dm_network.specs.Net.{Net, no_activity, no_pair, activity_at, pair_at, is_headway, places_into, EndsAreKnown}
-use Rattle.dm_network.specs.Pairs.{joins, pair_of, pair_place}
-use Rattle.dm_network.specs.Start.{is_start_active, arcs_of, IsFormed, ShowsStartCycle, ids_of}
+use Rattle.dm_network.specs.Pairs.{joins, own_pair, pair_place}
+use Rattle.dm_network.specs.Start.{is_start_active, arcs_of, IsStartCycle, IsFormed, ShowsStartCycle, ids_of}
 use Rattle.dm_network.specs.Flat.{AreFlatRows}
 use Rattle.dm_network.specs.Stages.{KnowsPair, HasNoStartCycle}
 use Rattle.dm_network.proofs.PairKeys.{joins-true}
 use Rattle.dm_network.proofs.Arraying.{look_up_mapped}
 
 -- a pair that an activity belongs to is that of its ends
-belongs_to : (net : Net) (a : Activity) (p : ℕ) → a.tail < length net.events → a.head < length net.events → a.pair ≡ pair_of net a → a.pair ≡ Some p →
+belongs_to : (net : Net) (a : Activity) (p : ℕ) → a.tail < length net.events → a.head < length net.events → a.pair ≡ own_pair net a → a.pair ≡ Some p →
     (p < length net.pairs) × ((pair_at net p).small < length net.events) × ((pair_at net p).large < length net.events)
 belongs_to net a p tail head is some =
     elim (cases_Bool (is_headway a.kind)) [
       | inl headway ↦
-          let found : pair_place net a.tail a.head ≡ Some p = (let e : pair_of net a ≡ pair_place net a.tail a.head = rw headway refl in sym e ∙ sym is ∙ some) in
+          let found : pair_place net a.tail a.head ≡ Some p = (let e : own_pair net a ≡ pair_place net a.tail a.head = rw headway refl in sym e ∙ sym is ∙ some) in
           let s = position-Some (λ q. joins q a.tail a.head) net.pairs p no_pair found in
           elim (joins-true (pair_at net p) a.tail a.head s.1) [
             | inl straight ↦ let x = straight.0 in let y = straight.1 in (s.0, omega arith, omega arith)
             | inr turned ↦ let x = turned.0 in let y = turned.1 in (s.0, omega arith, omega arith)
           ]
       | inr other ↦
-          let none : pair_of net a ≡ None = rw other refl in
+          let none : own_pair net a ≡ None = rw other refl in
           let never : None ≡ Some p = sym none ∙ sym is ∙ some in
           cc
     ]

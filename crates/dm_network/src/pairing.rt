@@ -119,13 +119,13 @@ pub fn paired(mut activities: Vec<Activity>, pairs: &[Pair]) -> Vec<Activity>
     ensures { result.items ≡ map (with_pair pairs.now) activities.items }
 {
     for activity in activities.iter_mut() {
-        activity.pair = pair_of(activity, pairs);
+        activity.pair = own_pair(activity, pairs);
     }
     activities
 }
 
 /// The pair of an activity's events, if it is a headway.
-fn pair_of(activity: &Activity, pairs: &[Pair]) -> Option<usize>
+fn own_pair(activity: &Activity, pairs: &[Pair]) -> Option<usize>
     requires { ArePairsInOrder pairs.now }
     ensures { result ≡ (with_pair pairs.now activity.now).pair }
 {

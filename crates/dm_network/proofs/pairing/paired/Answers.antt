@@ -7,8 +7,8 @@ loop-activity-init c = rw c.deref_mut-activity-items.ensures.value (paired_none 
 
 pub loop-activity-preserved : goal.loop-activity-preserved
 loop-activity-preserved c =
-    paired_step c.args.pairs.now c.args.activities.items c.loop-activity.activity-index c.loop-activity.activity-items c.pair_of-activity.result
-    c.loop-activity.invariant (let n = c.loop-activity.auto.activity-items in omega arith) c.pair_of-activity.ensures
+    paired_step c.args.pairs.now c.args.activities.items c.loop-activity.activity-index c.loop-activity.activity-items c.own_pair-activity.result
+    c.loop-activity.invariant (let n = c.loop-activity.auto.activity-items in omega arith) c.own_pair-activity.ensures
 
 pub returns : goal.returns
 returns c =
