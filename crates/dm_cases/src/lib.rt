@@ -7,4 +7,6 @@ mod base;
 #[cfg(test)]
 mod graph;
 #[cfg(test)]
+mod network;
+#[cfg(test)]
 mod outside;
