@@ -1,0 +1,4 @@
+//! The network and delay files: events, activities and delays from bytes, exactly.
+#![tactic(auto)]
+
+mod field;
