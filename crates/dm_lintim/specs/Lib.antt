@@ -1,2 +1,3 @@
 pub mod Pieces
 pub mod Split
+pub mod Records
