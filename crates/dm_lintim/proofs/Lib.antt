@@ -1,3 +1,4 @@
 pub mod PieceLemmas
 pub mod SplitLemmas
 pub mod ReaderLemmas
+pub mod ColumnLemmas

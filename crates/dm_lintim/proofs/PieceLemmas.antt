@@ -1,7 +1,7 @@
 -- The pieces of a text: the first one and the others.
-use Rattle.std.proofs.Common.{◌≡◌, ◌≤◌, ◌<◌, ◌+◌, ℕ, Bool, true, false, cond, List, [], ◌∷◌, ◌++◌, length, refl, sym, ap, ◌∙◌, inl, inr, arith}
-use Rattle.std.proofs.lemmas.Bool.{cases_Bool}
-use Rattle.dm_lintim.specs.Pieces.{pieces, put_first}
+use Rattle.std.proofs.Common.{◌≡◌, ◌≤◌, ◌<◌, ◌+◌, ℕ, zero, suc, Bool, true, false, cond, List, [], ◌∷◌, ◌++◌, length, take, drop, get_or, refl, sym, ap, ◌∙◌, inl, inr, arith}
+use Rattle.std.proofs.lemmas.Bool.{cases_Bool, ne_eqb}
+use Rattle.dm_lintim.specs.Pieces.{is_comma, pieces, put_first}
 
 -- what stands before the first byte that cuts
 unfoldable pub first_piece : (ℕ → Bool) → List ℕ → List ℕ
@@ -29,3 +29,28 @@ after_piece-short cuts [] = omega arith
 after_piece-short cuts (c ∷ cs) =
     let more = after_piece-short cuts cs in
     elim (cases_Bool (cuts c)) [ | inl e ↦ rw e (omega arith) | inr e ↦ rw e (omega arith) ]
+
+-- the first piece ends at the first byte that cuts
+pub pieces_cut : (cuts : ℕ → Bool) (xs : List ℕ) (i : ℕ) → i < length xs → ((k : ℕ) → k < i → cuts (get_or xs k 0) ≡ false) → cuts (get_or xs i 0) ≡ true
+    → pieces cuts xs ≡ take i xs ∷ pieces cuts (drop (i + 1) xs)
+unfolding pieces
+pieces_cut cuts [] i h before here = absurd (omega arith)
+pieces_cut cuts (c ∷ cs) zero h before here = rw here refl
+pieces_cut cuts (c ∷ cs) (suc i) h before here =
+    let first = before 0 (omega arith) in
+    let more = pieces_cut cuts cs i (omega arith) (λ k below. before (suc k) (omega arith)) here in
+    let step : suc i + 1 ≡ suc (i + 1) = omega arith in
+    rw (first, more, step) refl
+
+-- where no byte cuts, the text is one piece
+pub pieces_whole : (cuts : ℕ → Bool) (xs : List ℕ) → ((k : ℕ) → k < length xs → cuts (get_or xs k 0) ≡ false) → pieces cuts xs ≡ xs ∷ []
+unfolding pieces
+pieces_whole cuts [] none = refl
+pieces_whole cuts (c ∷ cs) none =
+    let first = none 0 (omega arith) in
+    let more = pieces_whole cuts cs (λ k below. none (suc k) (omega arith)) in
+    rw (first, more) refl
+
+-- where no byte is a comma
+pub no_comma : (xs : List ℕ) (n : ℕ) → ((k : ℕ) → k < n → get_or xs k 0 ≡ 44 → ⊥) → (k : ℕ) → k < n → is_comma (get_or xs k 0) ≡ false
+no_comma xs n none k below = ne_eqb (get_or xs k 0) 44 (none k below)

@@ -1,3 +1,4 @@
 pub mod Pieces
 pub mod Split
 pub mod Records
+pub mod Columns
