@@ -2,3 +2,5 @@ pub mod PieceLemmas
 pub mod SplitLemmas
 pub mod ReaderLemmas
 pub mod ColumnLemmas
+pub mod CellLemmas
+pub mod NumberLemmas

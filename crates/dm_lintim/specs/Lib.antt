@@ -2,3 +2,4 @@ pub mod Pieces
 pub mod Split
 pub mod Records
 pub mod Columns
+pub mod Files

@@ -1,5 +1,5 @@
 -- How `csv` is set up to split a file into records, and what its reader then has left.
-use Rattle.std.specs.Prelude.{ℕ, ◌≡◌, ◌⊎◌, Bool, true, false, List, [], ◌∷◌, Option, None, Some, IsSome, unwrap_or}
+use Rattle.std.specs.Prelude.{ℕ, ◌≡◌, ◌⊎◌, Bool, true, false, List, [], ◌∷◌, map, Option, None, Some, IsSome, unwrap_or}
 use Rattle.std.specs.Borrow.{Bor}
 use Rattle.csv.specs.Reading.{Ready, reader_config, reader_state, reader_trim, source_of}
 use Rattle.csv.specs.declared.parser.Config.{Config}
@@ -8,7 +8,8 @@ use Rattle.csv.specs.declared.parser.State.TheVariants as st
 use Rattle.csv.specs.declared.parser.Terminator.TheVariants as term
 use Rattle.csv.specs.declared.reader.Reader.{Reader}
 use Rattle.csv.specs.declared.reader.Trim.TheVariants as trim
-use Rattle.dm_lintim.specs.Pieces.{split_records}
+use Rattle.csv.specs.Records.{Row, fields_of}
+use Rattle.dm_lintim.specs.Pieces.{split_records, taken}
 
 -- records end at LF, CR LF or CR, fields at a semicolon, and quotes mean nothing
 abbrev pub plain_config : Config
@@ -38,3 +39,7 @@ pub record SplitsPlainly (reader : Reader (Bor (List ℕ))) : Type 0 where
 abbrev pub TakesFirst : Reader (Bor (List ℕ)) → Reader (Bor (List ℕ)) → List (List ℕ) → Bool → Type 0
 TakesFirst old new fields true = SplitsPlainly new × (records_of old ≡ fields ∷ records_of new)
 TakesFirst old new fields false = records_of old ≡ []
+
+-- the fields of a record, as taken
+abbrev pub taken_fields : Row → List (List ℕ)
+taken_fields row = map taken (fields_of row)
