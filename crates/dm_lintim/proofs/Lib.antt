@@ -4,3 +4,5 @@ pub mod ReaderLemmas
 pub mod ColumnLemmas
 pub mod CellLemmas
 pub mod NumberLemmas
+pub mod BoundLemmas
+pub mod RowLemmas

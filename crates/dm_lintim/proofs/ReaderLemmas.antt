@@ -1,21 +1,24 @@
 -- What a read of `csv` does to the records that are left.
-use Rattle.std.proofs.Common.{◌≡◌, ℕ, Bool, true, false, List, [], ◌∷◌, Option, Some, None, refl, sym, ap, ◌∙◌, Bor, inl}
-use Rattle.std.proofs.lemmas.Bool.{true≢false, false≢true}
+use Rattle.std.proofs.Common.{◌≡◌, ℕ, Bool, true, false, List, [], ◌∷◌, Option, Some, None, refl, sym, ap, ◌∙◌, Bor, inl, length, arith}
+use Rattle.std.proofs.lemmas.Bool.{true≢false, false≢true, le-leb}
 use Rattle.std.specs.Prelude.{IsSome}
 use Rattle.csv.specs.Machine.{Read, next_record}
-use Rattle.csv.specs.Reading.{NextIs, ReadRecord, ReadsNext, pending_of, reader_state, strip_bom, took_first}
+use Rattle.csv.specs.Reading.{NextIs, is_bom, ReadRecord, ReadsNext, pending_of, reader_state, strip_bom, took_first}
 use Rattle.csv.specs.declared.parser.State.{State}
 use Rattle.csv.specs.declared.reader.Reader.{Reader}
 use Rattle.dm_lintim.specs.Pieces.{has_byte_order_mark, split_records}
 use Rattle.dm_lintim.specs.Split.{IsBetween, SplitsPlainly, TakesFirst, bytes_left, plain_config, records_of}
 use Rattle.dm_lintim.proofs.SplitLemmas.{IsNext, is_next}
 
+marked : (a b c : ℕ) (rest : List ℕ) → has_byte_order_mark (a ∷ b ∷ c ∷ rest) ≡ is_bom a b c
+marked a b c rest = rw (le-leb 3 (length (a ∷ b ∷ c ∷ rest)) (omega arith)) refl
+
 pub no_mark : (xs : List ℕ) → has_byte_order_mark xs ≡ false → strip_bom xs ≡ xs
-unfolding has_byte_order_mark strip_bom
+unfolding strip_bom
 no_mark [] e = refl
 no_mark (a ∷ []) e = refl
 no_mark (a ∷ b ∷ []) e = refl
-no_mark (a ∷ b ∷ c ∷ rest) e = rw e refl
+no_mark (a ∷ b ∷ c ∷ rest) e = rw (sym (marked a b c rest) ∙ e) refl
 
 -- the record that a read found
 found_is : (xs : List ℕ) (o : Option Read) (fields : List (List ℕ)) (s : State) (ys : List ℕ) → IsNext xs o → NextIs o true fields s ys

@@ -16,7 +16,7 @@ use Rattle.dm_lintim.specs.declared.fault.FileFault.{FileFault}
 use Rattle.dm_lintim.specs.declared.fault.FileKind.{FileKind}
 use Rattle.dm_lintim.specs.declared.fault.FileKind.TheVariants as kind
 use Rattle.dm_lintim.specs.Columns.{is_column}
-use Rattle.dm_lintim.specs.Pieces.{counted_records, has_byte_order_mark}
+use Rattle.dm_lintim.specs.Pieces.{counted_among, counted_records, has_byte_order_mark, is_passed_over}
 
 -- the type words of events and of activities; ASCII letters count in either case
 abbrev pub event_word : EventKind → List ℕ
@@ -189,6 +189,26 @@ AreRows IsRow columns [] [] = Unit {0}
 AreRows IsRow columns [] (x ∷ xs) = ⊥
 AreRows IsRow columns (r ∷ rs) [] = ⊥
 AreRows IsRow columns (r ∷ rs) (x ∷ xs) = IsRow columns r x × AreRows IsRow columns rs xs
+
+-- records were read into these rows, and these are left
+pub record HasRows {R : Type 0} (IsKnown : List ℕ → Type 0) (IsRow : List (Option Column) → List (List ℕ) → R → Type 0) (columns : List (Option Column))
+    (records left : List (List (List ℕ))) (rows : List R) : Type 0 where
+  pub before : List (List (List ℕ))
+  pub records_are : records ≡ before ++ left
+  pub rows_are : AreRows IsRow columns (counted_among before) rows
+  pub good : AllByRecursion (IsGood IsKnown columns) (counted_among before)
+
+-- a record is passed over, or puts its row at the end
+abbrev pub AddsRow : {R : Type 0} → (List ℕ → Type 0) → (List (Option Column) → List (List ℕ) → R → Type 0) → List (Option Column) → List (List ℕ) → List R → List R → Type 0
+AddsRow {R} IsKnown IsRow columns fields old new =
+    ((is_passed_over fields ≡ true) × (new ≡ old))
+    ⊎ ((is_passed_over fields ≡ false) × (x : R) × IsRow columns fields x × IsGood IsKnown columns fields × (new ≡ old ++ (x ∷ [])))
+
+-- a record that counts breaks a rule, where this many rows stand before it
+pub record BreaksFile (IsKnown : List ℕ → Type 0) (columns : List (Option Column)) (fields : List (List ℕ)) (count : ℕ) (fault : FileFault) : Type 0 where
+  pub counts : is_passed_over fields ≡ false
+  pub number : fault.number ≡ count + 1
+  pub breaks : BreaksRecord IsKnown columns fields fault.kind
 
 -- the first of the records that breaks a rule; its number counts from 1
 pub record IsFirstFault (IsKnown : List ℕ → Type 0) (columns : List (Option Column)) (records : List (List (List ℕ))) (fault : FileFault) : Type 0 where

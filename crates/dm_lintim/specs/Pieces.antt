@@ -72,8 +72,6 @@ abbrev pub counted_records : List ℕ → List (List (List ℕ))
 counted_records bytes = counted_among (split_records bytes)
 
 -- the three bytes of a byte order mark at the front
-unfoldable pub has_byte_order_mark : List ℕ → Bool
-has_byte_order_mark [] = false
-has_byte_order_mark (a ∷ []) = false
-has_byte_order_mark (a ∷ b ∷ []) = false
-has_byte_order_mark (a ∷ b ∷ c ∷ rest) = (a == 0xEF) && (b == 0xBB) && (c == 0xBF)
+abbrev pub has_byte_order_mark : List ℕ → Bool
+has_byte_order_mark bytes =
+    nat_le 3 (length bytes) && (slice_index bytes 0 == 0xEF) && (slice_index bytes 1 == 0xBB) && (slice_index bytes 2 == 0xBF)

@@ -1,8 +1,7 @@
 //! Why a file gives no rows.
-ghost use Rattle.std.specs.Prelude.{◌≡◌};
 
 use crate::columns::Column;
-use std::alloc::{AllocError, AllocFailed};
+use std::alloc::AllocError;
 
 /// The first record of a file that breaks a rule, and which rule.
 #[derive(Clone, Copy, PartialEq, Eq, Debug)]
@@ -39,6 +38,11 @@ impl FileFault {
     pub(crate) const NO_MEMORY: FileFault = FileFault {
         number: 0,
         kind: FileKind::OutOfMemory,
+    };
+
+    pub(crate) const BYTE_ORDER_MARK: FileFault = FileFault {
+        number: 0,
+        kind: FileKind::ByteOrderMark,
     };
 }
 
