@@ -1,12 +1,12 @@
 -- The fields of a record, by place and under columns.
 use Rattle.std.proofs.Common.{◌≡◌, ◌≤◌, ◌<◌, ◌+◌, ◌⊎◌, ℕ, zero, suc, Bool, true, false, List, [], ◌∷◌, ◌++◌, length, map, drop, get_or, Option, Some, None, refl, sym, ap, ◌∙◌, inl, inr, arith}
-use Rattle.std.proofs.lemmas.Bool.{cases_Bool}
+use Rattle.std.proofs.lemmas.Bool.{cases_Bool, true≢false}
 use Rattle.std.proofs.lemmas.List.{drop_more}
 use Rattle.csv.specs.Records.{field_at}
 use Rattle.dm_lintim.specs.declared.columns.Column.{Column}
-use Rattle.dm_lintim.specs.declared.fault.FileKind.{FileKind}
+use Rattle.dm_lintim.specs.declared.columns.Column.TheVariants as col
 use Rattle.dm_lintim.specs.Columns.{has_column, is_column}
-use Rattle.dm_lintim.specs.Files.{IsGood, RefusesField, RefusesFirst, TakesField, text_under}
+use Rattle.dm_lintim.specs.Files.{HasNumbers, IsGood, TakesField, text_under}
 use Rattle.dm_lintim.specs.Pieces.{taken}
 use Rattle.dm_lintim.proofs.ColumnLemmas.{same_is}
 
@@ -59,4 +59,33 @@ good_under K (k ∷ ks) (f ∷ fs) c good =
     elim (cases_Bool (is_column c k)) [
       | inl here ↦ rw here (inr (takes_at K c k f here good.0))
       | inr other ↦ rw other (good_under K ks fs c good.1)
+    ]
+
+-- the numbers of a good record are good
+numbers_at : (K : List ℕ → Type 0) (c : Column) (f : List ℕ) → TakesField K (Some c) f → TakesField (λ _. Unit {0}) (Some c) f
+numbers_at K col.Id f t = t
+numbers_at K col.PeriodicId f t = t
+numbers_at K col.Kind f t = tt
+numbers_at K col.Time f t = t
+numbers_at K col.Weight f t = t
+numbers_at K col.Stop f t = t
+numbers_at K col.Tail f t = t
+numbers_at K col.Head f t = t
+numbers_at K col.Lower f t = t
+numbers_at K col.Upper f t = t
+numbers_at K col.Delay f t = t
+
+pub has_numbers : (K : List ℕ → Type 0) (cs : List (Option Column)) (fs : List (List ℕ)) → IsGood K cs fs → HasNumbers cs fs
+has_numbers K [] [] good = tt
+has_numbers K [] (f ∷ fs) good = absurd good
+has_numbers K (c ∷ cs) [] good = absurd good
+has_numbers K (None ∷ cs) (f ∷ fs) good = (tt, has_numbers K cs fs good.1)
+has_numbers K (Some c ∷ cs) (f ∷ fs) good = (numbers_at K c f good.0, has_numbers K cs fs good.1)
+
+-- the type of a good record is a type word, where the file has that column
+pub known_under : (K : List ℕ → Type 0) (cs : List (Option Column)) (fs : List (List ℕ)) → IsGood K cs fs → has_column cs col.Kind ≡ true → K (text_under cs fs col.Kind)
+known_under K cs fs good has =
+    elim (good_under K cs fs col.Kind good) [
+      | inl none ↦ absurd (true≢false (sym has ∙ none.0))
+      | inr takes ↦ takes
     ]

@@ -126,6 +126,10 @@ IsGood IsKnown [] (f ∷ fs) = ⊥
 IsGood IsKnown (c ∷ cs) [] = ⊥
 IsGood IsKnown (c ∷ cs) (f ∷ fs) = TakesField IsKnown c f × IsGood IsKnown cs fs
 
+-- the same but for the type words
+abbrev pub HasNumbers : List (Option Column) → List (List ℕ) → Type 0
+HasNumbers columns fields = IsGood (λ _. Unit {0}) columns fields
+
 -- the first of the columns whose field is refused
 abbrev pub RefusesFirst : (List ℕ → Type 0) → List (Option Column) → List (List ℕ) → FileKind → Type 0
 RefusesFirst IsKnown [] fields why = ⊥

@@ -3,7 +3,7 @@ ghost use Rattle.std.specs.Prelude.{◌≡◌, ◌≤◌, ◌<◌, ◌^◌, [], 
 ghost use Rattle.csv.specs.Records.{fields_of};
 ghost use Rattle.dm_base.specs.Numbers.{IsDigits, IsMilliText, milli_value, whole_value};
 ghost use Rattle.dm_lintim.specs.Columns.{is_column};
-ghost use Rattle.dm_lintim.specs.Files.{HoldsWhole, IsGood, IsNumber, RefusesField, RefusesNumber, TakesField, largest_of, milli_under, text_under, use_of, whole_under};
+ghost use Rattle.dm_lintim.specs.Files.{HasNumbers, HoldsWhole, IsNumber, RefusesNumber, largest_of, milli_under, text_under, whole_under};
 ghost use Rattle.dm_lintim.specs.Pieces.{is_passed_over};
 ghost use Rattle.dm_lintim.specs.Split.{taken_fields};
 
@@ -90,6 +90,30 @@ pub(crate) fn test_milli(column: Column, text: &[u8]) -> Result<(), FileKind>
         }
         Err(NumFault::NotANumber) => Err(FileKind::BadNumber(column)),
         Err(NumFault::TooLarge) => Err(FileKind::TooLarge(column)),
+    }
+}
+
+/// The whole number under a column of a good record, or 0 where the file has no such column.
+pub(crate) fn whole_under(columns: &[Option<Column>], record: &ByteRecord, column: Column) -> u64
+    requires numbers { HasNumbers columns.now (taken_fields record.now) }
+    requires holds { HoldsWhole column }
+    ensures value { result ≡ whole_under columns.now (taken_fields record.now) column }
+    ensures small { result ≤ largest_of column }
+{
+    match read_whole(text_under(columns, record, column)) {
+        Ok(number) => number,
+        Err(_) => 0,
+    }
+}
+
+/// The weight of a good record, in thousandths.
+pub(crate) fn weight_under(columns: &[Option<Column>], record: &ByteRecord) -> u64
+    requires { HasNumbers columns.now (taken_fields record.now) }
+    ensures { result ≡ milli_under columns.now (taken_fields record.now) Column.Weight }
+{
+    match read_milli(text_under(columns, record, Column::Weight)) {
+        Ok(number) => number,
+        Err(_) => 0,
     }
 }
 

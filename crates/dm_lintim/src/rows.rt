@@ -2,17 +2,16 @@
 ghost use Rattle.std.specs.Prelude.{ℕ, ◌≡◌, ◌≤◌, ◌<◌, ◌+◌, ◌^◌, ◌⊎◌, List, Option, Result, Ok, Err, [], ◌∷◌, ◌++◌, false, length, OnOk, IfOk, IfErr, MatchBool};
 ghost use Rattle.csv.specs.Records.{fields_of};
 ghost use Rattle.dm_lintim.specs.declared.columns.Column.{Column};
-ghost use Rattle.dm_lintim.specs.Files.{AddsRow, BreaksFile, BreaksRecord, RefusesFirst, HoldsWhole, IsGood, ReadsFile, RefusesField, TakesField, largest_of, milli_under, no_memory, whole_under};
+ghost use Rattle.dm_lintim.specs.Files.{AddsRow, BreaksFile, BreaksRecord, RefusesFirst, HasNumbers, IsGood, ReadsFile, RefusesField, TakesField, no_memory};
 ghost use Rattle.dm_lintim.specs.Pieces.{has_byte_order_mark};
 ghost use Rattle.dm_lintim.specs.Split.{taken_fields};
 
-use crate::cells::{is_passed_over, taken_field, test_milli, test_whole, text_under};
+use crate::cells::{is_passed_over, taken_field, test_milli, test_whole};
 use crate::columns::Column;
 use crate::fault::{FileFault, FileKind};
 use crate::records::Records;
 use csv::ByteRecord;
 use dm_base::limits::FILE;
-use dm_base::{read_milli, read_whole};
 use std::alloc::Global;
 
 /// A row of one kind of file.
@@ -31,6 +30,7 @@ pub(crate) trait Row: Drop {
 
     fn take(columns: &[Option<Column>], record: &ByteRecord) -> Self
         requires good { IsGood is_known columns.now (taken_fields record.now) }
+        requires numbers { HasNumbers columns.now (taken_fields record.now) }
         requires columns { has_columns columns.now }
         ensures { is_row columns.now (taken_fields record.now) result };
 }
@@ -59,30 +59,6 @@ fn test_field<R: Row>(column: Option<Column>, text: &[u8]) -> Result<(), FileKin
         | Column::Head
         | Column::Lower
         | Column::Delay => test_whole(column, text),
-    }
-}
-
-/// The whole number under a column of a good record, or 0 where the file has no such column.
-pub(crate) fn whole_under<R: Row>(columns: &[Option<Column>], record: &ByteRecord, column: Column) -> u64
-    requires good { IsGood R.is_known columns.now (taken_fields record.now) }
-    requires holds { HoldsWhole column }
-    ensures value { result ≡ whole_under columns.now (taken_fields record.now) column }
-    ensures small { result ≤ largest_of column }
-{
-    match read_whole(text_under(columns, record, column)) {
-        Ok(number) => number,
-        Err(_) => 0,
-    }
-}
-
-/// The weight of a good record, in thousandths.
-pub(crate) fn weight_under<R: Row>(columns: &[Option<Column>], record: &ByteRecord) -> u64
-    requires { IsGood R.is_known columns.now (taken_fields record.now) }
-    ensures { result ≡ milli_under columns.now (taken_fields record.now) Column.Weight }
-{
-    match read_milli(text_under(columns, record, Column::Weight)) {
-        Ok(number) => number,
-        Err(_) => 0,
     }
 }
 
