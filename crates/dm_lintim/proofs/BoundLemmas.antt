@@ -12,7 +12,7 @@ pieces_few cuts [] = omega arith
 pieces_few cuts (c ∷ cs) =
     let more = pieces_few cuts cs in
     let same : length (put_first c (pieces cuts cs)) ≡ length (pieces cuts cs) = rw (pieces_are cuts cs) refl in
-    elim (cases_Bool (cuts c)) [ | inl e ↦ rw e (omega arith) | inr e ↦ rw e (omega arith) ]
+    elim (cases_Bool (cuts c)) [ inl e ↦ rw e (omega arith) | inr e ↦ rw e (omega arith) ]
 
 -- a piece has no more bytes than the text
 first_within : (cuts : ℕ → Bool) (xs : List ℕ) → length (first_piece cuts xs) ≤ length xs
@@ -20,7 +20,7 @@ unfolding first_piece
 first_within cuts [] = omega arith
 first_within cuts (c ∷ cs) =
     let more = first_within cuts cs in
-    elim (cases_Bool (cuts c)) [ | inl e ↦ rw e (omega arith) | inr e ↦ rw e (omega arith) ]
+    elim (cases_Bool (cuts c)) [ inl e ↦ rw e (omega arith) | inr e ↦ rw e (omega arith) ]
 
 abbrev IsWithin : ℕ → List ℕ → Type 0
 IsWithin n p = length p ≤ n
@@ -41,7 +41,7 @@ all_filter : (P : List ℕ → Type 0) (t : List ℕ → Bool) (xs : List (List 
 all_filter P t [] h = tt
 all_filter P t (x ∷ xs) h =
     let more = all_filter P t xs h.1 in
-    elim (cases_Bool (t x)) [ | inl e ↦ rw e (h.0, more) | inr e ↦ rw e more ]
+    elim (cases_Bool (t x)) [ inl e ↦ rw e (h.0, more) | inr e ↦ rw e more ]
 
 -- the fields of each line
 fields_within : (n : ℕ) (ls : List (List ℕ)) → AllByRecursion (IsWithin n) ls → AllByRecursion (λ (r : List (List ℕ)). length r ≤ n + 1) (map (pieces is_semicolon) ls)
@@ -59,7 +59,7 @@ filter-length : (t : List ℕ → Bool) (xs : List (List ℕ)) → length (filte
 filter-length t [] = omega arith
 filter-length t (x ∷ xs) =
     let more = filter-length t xs in
-    elim (cases_Bool (t x)) [ | inl e ↦ rw e (omega arith) | inr e ↦ rw e (omega arith) ]
+    elim (cases_Bool (t x)) [ inl e ↦ rw e (omega arith) | inr e ↦ rw e (omega arith) ]
 
 -- a filled line has a byte of its own
 filter-more : (p : List ℕ) (ps : List (List ℕ)) → length (filter is_filled ps) ≤ length (filter is_filled (p ∷ ps))

@@ -95,10 +95,10 @@ columns_push known ws cs new w good (c, named, is_new, room, is) =
 pub read_more : (known : List Column) (words left : List (List ℕ)) (w : List ℕ) (cs new : List (Option Column))
     → HasRead known words (w ∷ left) cs → AddsColumn known cs w new → HasRead known words left new
 read_more known words left w cs new read adds = record {
-      before = read.before ++ w ∷ [];
-      words_are = read.words_are ∙ sym (append_assoc read.before (w ∷ []) left);
-      good = columns_push known read.before cs new w read.good adds;
-    }
+  before = read.before ++ w ∷ [];
+  words_are = read.words_are ∙ sym (append_assoc read.before (w ∷ []) left);
+  good = columns_push known read.before cs new w read.good adds;
+}
 
 pub read_all : (known : List Column) (words : List (List ℕ)) (cs : List (Option Column)) → HasRead known words [] cs → AreColumns known words cs
 read_all known words cs read = rw (read.words_are, append-nil read.before) read.good

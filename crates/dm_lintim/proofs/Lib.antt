@@ -6,3 +6,4 @@ pub mod CellLemmas
 pub mod NumberLemmas
 pub mod BoundLemmas
 pub mod RowLemmas
+pub mod LawLemmas

@@ -21,14 +21,14 @@ after_piece cuts (c ∷ cs) = cond (cuts c) cs (after_piece cuts cs)
 pub pieces_are : (cuts : ℕ → Bool) (xs : List ℕ) → pieces cuts xs ≡ first_piece cuts xs ∷ more_pieces cuts xs
 unfolding pieces first_piece more_pieces
 pieces_are cuts [] = refl
-pieces_are cuts (c ∷ cs) = elim (cases_Bool (cuts c)) [ | inl e ↦ rw e refl | inr e ↦ rw (e, pieces_are cuts cs) refl ]
+pieces_are cuts (c ∷ cs) = elim (cases_Bool (cuts c)) [ inl e ↦ rw e refl | inr e ↦ rw (e, pieces_are cuts cs) refl ]
 
 pub after_piece-short : (cuts : ℕ → Bool) (xs : List ℕ) → length (after_piece cuts xs) ≤ length xs
 unfolding after_piece
 after_piece-short cuts [] = omega arith
 after_piece-short cuts (c ∷ cs) =
     let more = after_piece-short cuts cs in
-    elim (cases_Bool (cuts c)) [ | inl e ↦ rw e (omega arith) | inr e ↦ rw e (omega arith) ]
+    elim (cases_Bool (cuts c)) [ inl e ↦ rw e (omega arith) | inr e ↦ rw e (omega arith) ]
 
 -- the first piece ends at the first byte that cuts
 pub pieces_cut : (cuts : ℕ → Bool) (xs : List ℕ) (i : ℕ) → i < length xs → ((k : ℕ) → k < i → cuts (get_or xs k 0) ≡ false) → cuts (get_or xs i 0) ≡ true

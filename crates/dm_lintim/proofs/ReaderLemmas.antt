@@ -53,8 +53,7 @@ takes_first old new true fields plain first r =
     let (xs, source) = known_is (bytes_left old) plain.known in
     let read = rw (plain.config, source) at r.0 in
     let (ys, after, split, between) = found_known xs old.state new.state _ fields plain.between read in
-    let left : bytes_left new ≡ Some ys = rw r.1 after in
-    (
+    let left : bytes_left new ≡ Some ys = rw r.1 after in (
       record { ready = inl first; config = r.2 ∙ plain.config; trim = r.3 ∙ plain.trim; between = between; known = rw left refl },
       rw (source, left) split,
     )

@@ -12,7 +12,7 @@ counted-append : (xs ys : List (List (List ℕ))) → counted_among (xs ++ ys) �
 counted-append [] ys = refl
 counted-append (x ∷ xs) ys =
     let more = counted-append xs ys in
-    elim (cases_Bool (is_passed_over (map taken x))) [ | inl e ↦ rw e more | inr e ↦ rw (e, more) refl ]
+    elim (cases_Bool (is_passed_over (map taken x))) [ inl e ↦ rw e more | inr e ↦ rw (e, more) refl ]
 
 counted_passed : (r : List (List ℕ)) (ys : List (List (List ℕ))) → is_passed_over (map taken r) ≡ true → counted_among (r ∷ ys) ≡ counted_among ys
 counted_passed r ys e = rw e refl
@@ -24,7 +24,7 @@ counted_few : (xs : List (List (List ℕ))) → length (counted_among xs) ≤ le
 counted_few [] = omega arith
 counted_few (x ∷ xs) =
     let more = counted_few xs in
-    elim (cases_Bool (is_passed_over (map taken x))) [ | inl e ↦ rw e (omega arith) | inr e ↦ rw e (omega arith) ]
+    elim (cases_Bool (is_passed_over (map taken x))) [ inl e ↦ rw e (omega arith) | inr e ↦ rw e (omega arith) ]
 
 module _ {R : Type 0} (K : List ℕ → Type 0) (IsRow : List (Option Column) → List (List ℕ) → R → Type 0) (cs : List (Option Column)) where
   rows_push : (rs : List (List (List ℕ))) (xs : List R) (r : List (List ℕ)) (x : R) → AreRows IsRow cs rs xs → IsRow cs r x → AreRows IsRow cs (rs ++ r ∷ []) (xs ++ x ∷ [])
@@ -51,7 +51,7 @@ module _ {R : Type 0} (K : List ℕ → Type 0) (IsRow : List (Option Column) �
       → HasRows K IsRow cs all (r ∷ left) xs → AddsRow K IsRow cs (map taken r) xs new → HasRows K IsRow cs all left new
   rows_more all left r xs new has (inl passed) =
       let same : counted_among (has.before ++ r ∷ []) ≡ counted_among has.before =
-          counted-append has.before (r ∷ []) ∙ ap (λ (t : List (List (List ℕ))). counted_among has.before ++ t) (counted_passed r [] passed.0) ∙ append-nil (counted_among has.before) in
+      counted-append has.before (r ∷ []) ∙ ap (λ (t : List (List (List ℕ))). counted_among has.before ++ t) (counted_passed r [] passed.0) ∙ append-nil (counted_among has.before) in
       record {
         before = has.before ++ r ∷ [];
         records_are = has.records_are ∙ sym (append_assoc has.before (r ∷ []) left);
@@ -60,7 +60,7 @@ module _ {R : Type 0} (K : List ℕ → Type 0) (IsRow : List (Option Column) �
       }
   rows_more all left r xs new has (inr (counts, x, row, good, is)) =
       let more : counted_among (has.before ++ r ∷ []) ≡ counted_among has.before ++ (map taken r ∷ []) =
-          counted-append has.before (r ∷ []) ∙ ap (λ (t : List (List (List ℕ))). counted_among has.before ++ t) (counted_counts r [] counts) in
+      counted-append has.before (r ∷ []) ∙ ap (λ (t : List (List (List ℕ))). counted_among has.before ++ t) (counted_counts r [] counts) in
       record {
         before = has.before ++ r ∷ [];
         records_are = has.records_are ∙ sym (append_assoc has.before (r ∷ []) left);
@@ -72,15 +72,15 @@ module _ {R : Type 0} (K : List ℕ → Type 0) (IsRow : List (Option Column) �
   pub first_fault : (all left : List (List (List ℕ))) (r : List (List ℕ)) (xs : List R) (fault : FileFault)
       → HasRows K IsRow cs all (r ∷ left) xs → BreaksFile K cs (map taken r) (length xs) fault → IsFirstFault K cs (counted_among all) fault
   first_fault all left r xs fault has breaks = record {
-        before = counted_among has.before;
-        broken = map taken r;
-        after = counted_among left;
-        records_are = ap counted_among has.records_are ∙ counted-append has.before (r ∷ left)
-          ∙ ap (λ (t : List (List (List ℕ))). counted_among has.before ++ t) (counted_counts r left breaks.counts);
-        good = has.good;
-        number = breaks.number ∙ ap (λ (n : ℕ). n + 1) (rows-length (counted_among has.before) xs has.rows_are);
-        breaks = breaks.breaks;
-      }
+    before = counted_among has.before;
+    broken = map taken r;
+    after = counted_among left;
+    records_are = ap counted_among has.records_are ∙ counted-append has.before (r ∷ left)
+        ∙ ap (λ (t : List (List (List ℕ))). counted_among has.before ++ t) (counted_counts r left breaks.counts);
+    good = has.good;
+    number = breaks.number ∙ ap (λ (n : ℕ). n + 1) (rows-length (counted_among has.before) xs has.rows_are);
+    breaks = breaks.breaks;
+  }
 
   pub rows_all : (all : List (List (List ℕ))) (xs : List R) → HasRows K IsRow cs all [] xs → AreRows IsRow cs (counted_among all) xs
   rows_all all xs has = rw (has.records_are, append-nil has.before) has.rows_are

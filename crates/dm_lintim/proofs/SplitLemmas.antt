@@ -14,7 +14,7 @@ use Rattle.dm_lintim.proofs.PieceLemmas.{after_piece, after_piece-short, first_p
 more_lines : (xs : List ℕ) → filter is_filled (more_pieces ends_line xs) ≡ filled_lines (after_piece ends_line xs)
 unfolding pieces more_pieces after_piece
 more_lines [] = refl
-more_lines (c ∷ cs) = elim (cases_Bool (ends_line c)) [ | inl e ↦ rw e refl | inr e ↦ rw e (more_lines cs) ]
+more_lines (c ∷ cs) = elim (cases_Bool (ends_line c)) [ inl e ↦ rw e refl | inr e ↦ rw e (more_lines cs) ]
 
 lines_skip : (c : ℕ) (cs : List ℕ) → ends_line c ≡ true → filled_lines (c ∷ cs) ≡ filled_lines cs
 unfolding pieces
@@ -37,7 +37,7 @@ unfolding end_state
 end_between [] = inl refl
 end_between (c ∷ cs) =
     elim (cases_Bool (ends_line c)) [
-      | inl e ↦ rw e (elim (cases_Bool (eqb c 13)) [ | inl cr ↦ rw cr (inr refl) | inr lf ↦ rw lf (inl refl) ])
+      | inl e ↦ rw e (elim (cases_Bool (eqb c 13)) [ inl cr ↦ rw cr (inr refl) | inr lf ↦ rw lf (inl refl) ])
       | inr e ↦ rw e (end_between cs)
     ]
 
@@ -62,15 +62,15 @@ in_record fields field (c ∷ cs) =
     elim (cases_Bool (is_semicolon c)) [
       | inl semi ↦
           rw (semi, semicolon_stays c semi) (
-            start_field_is (fields ++ field ∷ []) [] cs ∙ in_record (fields ++ field ∷ []) [] cs
-            ∙ rw (semi, append_assoc fields (field ∷ []) (first_piece is_semicolon line ∷ more_pieces is_semicolon line), append-nil field, pieces_are is_semicolon line) refl
+          start_field_is (fields ++ field ∷ []) [] cs ∙ in_record (fields ++ field ∷ []) [] cs
+          ∙ rw (semi, append_assoc fields (field ∷ []) (first_piece is_semicolon line ∷ more_pieces is_semicolon line), append-nil field, pieces_are is_semicolon line) refl
           )
       | inr plain ↦ elim (cases_Bool (ends_line c)) [
         | inl e ↦ rw (plain, e, append-nil field) refl
         | inr e ↦
             rw (plain, e) (
-              in_record fields (field ++ c ∷ []) cs
-              ∙ rw (plain, append_assoc field (c ∷ []) (first_piece is_semicolon line)) refl
+            in_record fields (field ++ c ∷ []) cs
+            ∙ rw (plain, append_assoc field (c ∷ []) (first_piece is_semicolon line)) refl
             )
       ]
     ]
@@ -99,13 +99,12 @@ unfolding after_piece
 shorter c cs e = rw e (omega (arith, after_piece-short ends_line cs))
 
 is_next-first : (c : ℕ) (cs : List ℕ) → ends_line c ≡ false → IsNext (c ∷ cs) (rest_of_record [] [] (c ∷ cs))
-is_next-first c cs e =
-    (
-      ap (map (pieces is_semicolon)) (lines_first c cs e)
+is_next-first c cs e = (
+  ap (map (pieces is_semicolon)) (lines_first c cs e)
       ∙ ap (λ (r : List (List ℕ)). r ∷ split_records (after_piece ends_line (c ∷ cs))) (pieces_are is_semicolon (first_piece ends_line (c ∷ cs))),
-      end_between (c ∷ cs),
-      shorter c cs e,
-    )
+  end_between (c ∷ cs),
+  shorter c cs e,
+)
 
 none_is_next : IsNext [] (next_record plain_config st.StartRecord [] [] [])
 unfolding next_record pieces

@@ -1,5 +1,5 @@
 //! Files of activities.
-ghost use Rattle.std.specs.Prelude.{◌≡◌, ◌≤◌, ◌⊎◌, List, Result, Ok, Err, length, IfOk, IfErr, IfSome, IfNone};
+ghost use Rattle.std.specs.Prelude.{◌≡◌, ◌≤◌, ◌⊎◌, List, Result, Ok, Err, length, IfOk, IfErr, MatchResult, IfSome, IfNone};
 ghost use Rattle.dm_base.specs.declared.rows.ActRow.{ActRow};
 ghost use Rattle.dm_lintim.specs.declared.fault.FileFault.{FileFault};
 ghost use Rattle.dm_lintim.specs.Columns.{HasAll, activity_required};
@@ -76,10 +76,17 @@ impl Row for ActRow {
 /// The activities of a file, in file order, or the first record that breaks a rule.
 ///
 /// The bytes are at most `FILE`. Memory may run out; whatever else is answered, the bytes determine it.
-pub fn read_activities(alloc: Global, bytes: &[u8], columns: &Columns) -> Result<Vec<ActRow>, FileFault>
+pub fn read_activities(
+    alloc: Global,
+    bytes: &[u8],
+    columns: &Columns,
+) -> Result<Vec<ActRow>, FileFault>
     requires { length bytes.now ≤ FILE }
     ensures rows { IfOk result (λ v. ReadsActivities columns.now.activities bytes.now (Ok v.items)) }
     ensures fault { IfErr result (λ fault. (fault ≡ no_memory) ⊎ ReadsActivities columns.now.activities bytes.now (Err fault)) }
+    // What the grammar reads is what is answered, unless memory runs out.
+    ensures only { (answer : Result (List ActRow) FileFault) → ReadsActivities columns.now.activities bytes.now answer →
+        MatchResult result (λ v. answer ≡ Ok v.items) (λ fault. (fault ≡ no_memory) ⊎ (answer ≡ Err fault)) }
 {
     read_rows(alloc, bytes, columns.activities())
 }

@@ -34,7 +34,11 @@ fn is_column(place: Option<Column>, column: Column) -> bool
 }
 
 /// The field under a column, as taken, or the empty text where the file has no such column.
-pub(crate) fn text_under<'a>(columns: &[Option<Column>], record: &'a ByteRecord, column: Column) -> &'a [u8]
+pub(crate) fn text_under<'a>(
+    columns: &[Option<Column>],
+    record: &'a ByteRecord,
+    column: Column,
+) -> &'a [u8]
     ensures { result.now ≡ text_under columns.now (taken_fields record.now) column }
 {
     for (place, other) in columns.iter().enumerate() {

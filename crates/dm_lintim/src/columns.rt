@@ -76,6 +76,7 @@ const EVENTS: [Column; 6] = [
     Column::Weight,
     Column::Stop,
 ];
+
 const EVENTS_REQUIRED: [Column; 4] = [Column::Id, Column::Kind, Column::Time, Column::Weight];
 
 // The same of a file of activities.
@@ -89,6 +90,7 @@ const ACTIVITIES: [Column; 8] = [
     Column::Upper,
     Column::Weight,
 ];
+
 const ACTIVITIES_REQUIRED: [Column; 6] = [
     Column::Id,
     Column::Kind,

@@ -1,5 +1,5 @@
 //! Files of delays, of events or of activities.
-ghost use Rattle.std.specs.Prelude.{◌≡◌, ◌≤◌, ◌⊎◌, List, Result, Ok, Err, length, IfOk, IfErr};
+ghost use Rattle.std.specs.Prelude.{◌≡◌, ◌≤◌, ◌⊎◌, List, Result, Ok, Err, length, IfOk, IfErr, MatchResult};
 ghost use Rattle.dm_base.specs.declared.rows.DelayRow.{DelayRow};
 ghost use Rattle.dm_lintim.specs.declared.fault.FileFault.{FileFault};
 ghost use Rattle.dm_lintim.specs.Files.{IsDelayRow, IsNoWord, ReadsDelays, no_memory};
@@ -42,6 +42,9 @@ pub fn read_delays(alloc: Global, bytes: &[u8]) -> Result<Vec<DelayRow>, FileFau
     requires { length bytes.now ≤ FILE }
     ensures rows { IfOk result (λ v. ReadsDelays bytes.now (Ok v.items)) }
     ensures fault { IfErr result (λ fault. (fault ≡ no_memory) ⊎ ReadsDelays bytes.now (Err fault)) }
+    // What the grammar reads is what is answered, unless memory runs out.
+    ensures only { (answer : Result (List DelayRow) FileFault) → ReadsDelays bytes.now answer →
+        MatchResult result (λ v. answer ≡ Ok v.items) (λ fault. (fault ≡ no_memory) ⊎ (answer ≡ Err fault)) }
 {
     read_rows(alloc, bytes, &COLUMNS)
 }

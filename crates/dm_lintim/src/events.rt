@@ -1,5 +1,5 @@
 //! Files of events.
-ghost use Rattle.std.specs.Prelude.{◌≡◌, ◌≤◌, ◌⊎◌, List, Result, Ok, Err, length, IfOk, IfErr, IfSome, IfNone};
+ghost use Rattle.std.specs.Prelude.{◌≡◌, ◌≤◌, ◌⊎◌, List, Result, Ok, Err, length, IfOk, IfErr, MatchResult, IfSome, IfNone};
 ghost use Rattle.dm_base.specs.declared.rows.EventRow.{EventRow};
 ghost use Rattle.dm_lintim.specs.declared.fault.FileFault.{FileFault};
 ghost use Rattle.dm_lintim.specs.Columns.{HasAll, event_required};
@@ -66,10 +66,17 @@ impl Row for EventRow {
 /// The events of a file, in file order, or the first record that breaks a rule.
 ///
 /// The bytes are at most `FILE`. Memory may run out; whatever else is answered, the bytes determine it.
-pub fn read_events(alloc: Global, bytes: &[u8], columns: &Columns) -> Result<Vec<EventRow>, FileFault>
+pub fn read_events(
+    alloc: Global,
+    bytes: &[u8],
+    columns: &Columns,
+) -> Result<Vec<EventRow>, FileFault>
     requires { length bytes.now ≤ FILE }
     ensures rows { IfOk result (λ v. ReadsEvents columns.now.events bytes.now (Ok v.items)) }
     ensures fault { IfErr result (λ fault. (fault ≡ no_memory) ⊎ ReadsEvents columns.now.events bytes.now (Err fault)) }
+    // What the grammar reads is what is answered, unless memory runs out.
+    ensures only { (answer : Result (List EventRow) FileFault) → ReadsEvents columns.now.events bytes.now answer →
+        MatchResult result (λ v. answer ≡ Ok v.items) (λ fault. (fault ≡ no_memory) ⊎ (answer ≡ Err fault)) }
 {
     read_rows(alloc, bytes, columns.events())
 }

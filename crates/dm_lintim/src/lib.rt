@@ -14,6 +14,7 @@ mod delays;
 mod events;
 mod fault;
 mod field;
+pub mod laws;
 mod layout;
 mod records;
 mod rows;

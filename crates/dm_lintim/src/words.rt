@@ -100,7 +100,11 @@ fn first_missing(layout: &Layout, required: &[Column]) -> Option<Column>
 }
 
 /// The columns that a text names, of which the known ones may stand there and the required ones must.
-pub(crate) fn read_columns(known: &[Column], required: &[Column], text: &[u8]) -> Result<Layout, ColumnFault>
+pub(crate) fn read_columns(
+    known: &[Column],
+    required: &[Column],
+    text: &[u8],
+) -> Result<Layout, ColumnFault>
     ensures { ReadsColumns known.now required.now text.now result }
 {
     let layout = read_words(known, text)?;

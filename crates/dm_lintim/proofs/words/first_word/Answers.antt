@@ -13,7 +13,7 @@ returns-then-byte-eq44 c =
     let size = length-drop (place + 1) text in
     let whole : length rest ≤ length text - (place + 1) = omega (arith, size) in
     rw (take_all (length text - (place + 1)) rest whole) (
-      pieces_cut is_comma text place (omega arith) (no_comma text place c.loop-place.invariant) (eq-eqb _ 44 c.if-byte-eq44.true)
+    pieces_cut is_comma text place (omega arith) (no_comma text place c.loop-place.invariant) (eq-eqb _ 44 c.if-byte-eq44.true)
     )
 
 pub returns : goal.returns
