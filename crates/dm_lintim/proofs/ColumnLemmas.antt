@@ -58,7 +58,7 @@ has-push (e ∷ cs) c d none other =
     let (here, there) = or_parts (is_column d e) (has_column cs d) none in
     rw here (has-push cs c d there other)
 
-same_sym : (a b : Column) → same_column a b ≡ false → same_column b a ≡ false
+pub same_sym : (a b : Column) → same_column a b ≡ false → same_column b a ≡ false
 same_sym a b e = ne_eqb (column_number b) (column_number a) (λ same. both_ways (same_column a b) e (eq-eqb (column_number a) (column_number b) (sym same)))
 
 -- a column that is new after another is another

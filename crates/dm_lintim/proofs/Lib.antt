@@ -7,3 +7,4 @@ pub mod NumberLemmas
 pub mod BoundLemmas
 pub mod RowLemmas
 pub mod LawLemmas
+pub mod WordLemmas

@@ -6,6 +6,8 @@ ghost use Rattle.dm_base.specs.declared.rows.DelayRow.{DelayRow};
 ghost use Rattle.dm_base.specs.declared.rows.EventRow.{EventRow};
 ghost use Rattle.dm_lintim.specs.declared.columns.Column.{Column};
 ghost use Rattle.dm_lintim.specs.declared.fault.FileFault.{FileFault};
+ghost use Rattle.dm_lintim.specs.declared.columns.ColumnFault.{ColumnFault};
+ghost use Rattle.dm_lintim.specs.Columns.{FileColumns, ReadsFileColumns};
 ghost use Rattle.dm_lintim.specs.Files.{ReadsActivities, ReadsDelays, ReadsEvents};
 ghost use Rattle.dm_lintim.specs.Pieces.{split_records};
 ghost use Rattle.dm_lintim.specs.Split.{plain_config};
@@ -31,4 +33,10 @@ pub fn one_answer_of_activities()
 /// The bytes of a file of delays have one answer at most.
 pub fn one_answer_of_delays()
     ensures { (bytes : List ℕ) (one other : Result (List DelayRow) FileFault) → ReadsDelays bytes one → ReadsDelays bytes other → one ≡ other }
+{}
+
+/// Two texts of column words have one answer at most.
+pub fn one_answer_of_columns()
+    ensures { (events activities : List ℕ) (one other : Result FileColumns ColumnFault) →
+        ReadsFileColumns events activities one → ReadsFileColumns events activities other → one ≡ other }
 {}
