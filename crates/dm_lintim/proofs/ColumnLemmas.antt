@@ -1,11 +1,11 @@
 -- Columns, and the words that name them.
-use Rattle.std.proofs.Common.{◌≡◌, ◌≤◌, ◌<◌, ◌+◌, ℕ, zero, suc, Bool, true, false, List, [], ◌∷◌, ◌++◌, length, map, drop, get_or, Option, Some, None, refl, sym, ap, ◌∙◌, inl, inr, arith, append_assoc, length-append}
+use Rattle.std.proofs.Common.{◌≡◌, ◌<◌, ◌+◌, ℕ, zero, suc, true, false, List, [], ◌∷◌, ◌++◌, length, drop, get_or, Option, Some, None, refl, sym, ap, ◌∙◌, inl, inr, arith, append_assoc, length-append}
 use Rattle.std.proofs.lemmas.List.{append-nil, drop_more}
-use Rattle.std.proofs.lemmas.Bool.{cases_Bool, or_parts, ne_eqb, eqb-true, eq-eqb, or_cases, or_right, or_left, both_ways, false≢true, true≢false}
+use Rattle.std.proofs.lemmas.Bool.{or_parts, ne_eqb, eqb-true, eq-eqb, or_cases, or_right, both_ways, false≢true}
 use Rattle.dm_lintim.specs.declared.columns.Column.{Column}
 use Rattle.dm_lintim.specs.declared.columns.Column.TheVariants as col
 use Rattle.dm_lintim.specs.declared.columns.ColumnFault.{ColumnFault}
-use Rattle.dm_lintim.specs.Columns.{AddsColumn, AreColumns, BreaksWord, FirstMissing, HasAll, HasRead, IsNew, IsOnce, NameAll, Names, StopsAtWord, column_name, column_number, has_column, is_column, is_known, same_column}
+use Rattle.dm_lintim.specs.Columns.{AddsColumn, AreColumns, BreaksWord, FirstMissing, HasAll, HasRead, IsNew, IsOnce, NameAll, Names, StopsAtWord, column_number, has_column, is_column, is_known, same_column}
 
 column_at : ℕ → Column
 column_at n =

@@ -1,5 +1,5 @@
 -- The grammar relates at most one answer to the bytes of a file.
-use Rattle.std.proofs.Common.{◌≡◌, ◌≢◌, ◌≤◌, ◌<◌, ◌+◌, ◌⊎◌, ℕ, zero, suc, Bool, true, false, cond, eqb, List, [], ◌∷◌, ◌++◌, length, get_or, Option, Some, None, Ok, Err, Result, refl, sym, ap, ◌∙◌, inl, inr, arith}
+use Rattle.std.proofs.Common.{◌≡◌, ◌<◌, ◌+◌, ◌⊎◌, ℕ, suc, cond, eqb, List, [], ◌∷◌, ◌++◌, length, get_or, Option, Some, None, Ok, Err, Result, refl, sym, ap, ◌∙◌, inl, inr, arith}
 use Rattle.std.specs.List.{AllByRecursion}
 use Rattle.std.specs.Result.{IfErr, IfOk, MatchResult}
 use Rattle.std.proofs.lemmas.Bool.{true≢false}
@@ -15,7 +15,7 @@ use Rattle.dm_lintim.specs.declared.fault.FileFault.{FileFault}
 use Rattle.dm_lintim.specs.declared.fault.FileKind.{FileKind}
 use Rattle.dm_lintim.specs.declared.fault.FileKind.TheVariants as kind
 use Rattle.dm_lintim.specs.Files.{AreRows, BreaksRecord, IsActivityRow, IsDelayRow, IsEventRow, IsFirstFault, IsGood, IsNumber, IsWord, IsActivityWord, IsEventWord, IsNoWord, ReadsActivities, ReadsDelays, ReadsEvents, ReadsFile, RefusesBy, delay_columns, no_memory, RefusesField, RefusesFirst, RefusesNumber, RefusesWord, TakesBy, TakesField, Use, activity_word, event_word, largest_of, passed_over, thousandths, use_of, whole, word}
-use Rattle.dm_lintim.specs.Pieces.{counted_records, has_byte_order_mark}
+use Rattle.dm_lintim.specs.Pieces.{counted_records}
 
 -- a refused number, by what it is refused for
 number_cases : (F : Type 0) (v : ℕ) (c : Column) (k : FileKind) → RefusesNumber F v c k

@@ -1,11 +1,11 @@
 -- The numbers of a good record.
-use Rattle.std.proofs.Common.{◌≡◌, ◌≤◌, ◌<◌, ◌^◌, ℕ, List, [], Option, Err, refl, subst, inl, inr, arith, lit<}
+use Rattle.std.proofs.Common.{◌≡◌, ◌≤◌, ◌<◌, ◌^◌, ℕ, List, Option, Err, refl, subst, inl, inr, arith, lit<}
 use Rattle.dm_base.specs.Numbers.{IsDigits, IsMilliText, ReadsNumber, milli_value, whole_value}
 use Rattle.dm_base.specs.declared.numbers.NumFault.{NumFault}
 use Rattle.dm_base.specs.declared.numbers.NumFault.TheVariants.{NotANumber, TooLarge}
 use Rattle.dm_lintim.specs.declared.columns.Column.{Column}
 use Rattle.dm_lintim.specs.declared.columns.Column.TheVariants as col
-use Rattle.dm_lintim.specs.Files.{HoldsWhole, IsGood, IsNumber, TakesBy, largest_of, milli_under, text_under, use_of, whole_under}
+use Rattle.dm_lintim.specs.Files.{HoldsWhole, IsGood, IsNumber, largest_of, milli_under, text_under, whole_under}
 use Rattle.dm_lintim.proofs.CellLemmas.{good_under}
 
 largest_fits : (c : Column) → largest_of c < 2 ^ 64

@@ -1,7 +1,7 @@
 -- The pieces of a text: the first one and the others.
-use Rattle.std.proofs.Common.{◌≡◌, ◌≤◌, ◌<◌, ◌+◌, ℕ, zero, suc, Bool, true, false, cond, List, [], ◌∷◌, ◌++◌, length, take, drop, get_or, refl, sym, ap, ◌∙◌, inl, inr, arith}
+use Rattle.std.proofs.Common.{◌≡◌, ◌≤◌, ◌<◌, ◌+◌, ℕ, zero, suc, Bool, true, false, cond, List, [], ◌∷◌, length, take, drop, get_or, refl, inl, inr, arith}
 use Rattle.std.proofs.lemmas.Bool.{cases_Bool, ne_eqb}
-use Rattle.dm_lintim.specs.Pieces.{is_comma, pieces, put_first}
+use Rattle.dm_lintim.specs.Pieces.{is_comma, pieces}
 
 -- what stands before the first byte that cuts
 unfoldable pub first_piece : (ℕ → Bool) → List ℕ → List ℕ

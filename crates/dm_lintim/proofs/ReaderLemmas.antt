@@ -1,13 +1,13 @@
 -- What a read of `csv` does to the records that are left.
-use Rattle.std.proofs.Common.{◌≡◌, ℕ, Bool, true, false, List, [], ◌∷◌, Option, Some, None, refl, sym, ap, ◌∙◌, Bor, inl, length, arith}
+use Rattle.std.proofs.Common.{◌≡◌, ℕ, Bool, true, false, List, [], ◌∷◌, Option, Some, None, refl, sym, ◌∙◌, Bor, inl, length, arith}
 use Rattle.std.proofs.lemmas.Bool.{true≢false, false≢true, le-leb}
 use Rattle.std.specs.Prelude.{IsSome}
 use Rattle.csv.specs.Machine.{Read, next_record}
-use Rattle.csv.specs.Reading.{NextIs, is_bom, ReadRecord, ReadsNext, pending_of, reader_state, strip_bom, took_first}
+use Rattle.csv.specs.Reading.{NextIs, is_bom, ReadRecord, ReadsNext, strip_bom, took_first}
 use Rattle.csv.specs.declared.parser.State.{State}
 use Rattle.csv.specs.declared.reader.Reader.{Reader}
 use Rattle.dm_lintim.specs.Pieces.{has_byte_order_mark, split_records}
-use Rattle.dm_lintim.specs.Split.{IsBetween, SplitsPlainly, TakesFirst, bytes_left, plain_config, records_of}
+use Rattle.dm_lintim.specs.Split.{IsBetween, SplitsPlainly, TakesFirst, bytes_left, plain_config}
 use Rattle.dm_lintim.proofs.SplitLemmas.{IsNext, is_next}
 
 marked : (a b c : ℕ) (rest : List ℕ) → has_byte_order_mark (a ∷ b ∷ c ∷ rest) ≡ is_bom a b c

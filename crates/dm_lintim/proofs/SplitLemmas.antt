@@ -1,12 +1,12 @@
 -- The machine of `csv` splits a text as `pieces` does.
-use Rattle.std.proofs.Common.{◌≡◌, ◌≢◌, ◌≤◌, ◌<◌, ◌+◌, ◌⊎◌, ℕ, zero, suc, Bool, true, false, cond, eqb, ◌||◌, List, [], ◌∷◌, ◌++◌, length, map, filter, Option, Some, None, refl, sym, ap, ◌∙◌, subst, inl, inr, arith, append_assoc}
+use Rattle.std.proofs.Common.{◌≡◌, ◌<◌, ◌+◌, ℕ, zero, suc, true, false, cond, eqb, List, [], ◌∷◌, ◌++◌, length, map, filter, Option, Some, None, refl, sym, ap, ◌∙◌, inl, inr, arith, append_assoc}
 use Rattle.std.proofs.lemmas.List.{append-nil}
-use Rattle.std.proofs.lemmas.Bool.{cases_Bool, eqb-true, eqb-false, eq-eqb, ne_eqb, or_right}
+use Rattle.std.proofs.lemmas.Bool.{cases_Bool, eqb-true}
 use Rattle.csv.specs.Machine.{Read, next_record}
 use Rattle.csv.specs.Reading.{records, records_from, records_next}
 use Rattle.csv.specs.declared.parser.State.{State}
 use Rattle.csv.specs.declared.parser.State.TheVariants as st
-use Rattle.dm_lintim.specs.Pieces.{ends_line, filled_lines, is_filled, is_semicolon, pieces, put_first, split_records}
+use Rattle.dm_lintim.specs.Pieces.{ends_line, filled_lines, is_filled, is_semicolon, pieces, split_records}
 use Rattle.dm_lintim.specs.Split.{IsBetween, plain_config}
 use Rattle.dm_lintim.proofs.PieceLemmas.{after_piece, after_piece-short, first_piece, more_pieces, pieces_are}
 

@@ -1,5 +1,5 @@
 -- A text of column words has at most one answer.
-use Rattle.std.proofs.Common.{◌≡◌, ◌≢◌, ◌≤◌, ◌<◌, ◌+◌, ◌⊎◌, ℕ, zero, suc, Bool, true, false, List, [], ◌∷◌, ◌++◌, length, Option, Some, None, Ok, Err, Result, refl, sym, ap, ◌∙◌, inl, inr, arith, length-append}
+use Rattle.std.proofs.Common.{◌≡◌, ◌<◌, ℕ, true, false, List, [], ◌∷◌, ◌++◌, length, Option, Some, None, Ok, Err, Result, refl, sym, ap, ◌∙◌, inl, inr, arith, length-append}
 use Rattle.std.specs.List.{find}
 use Rattle.std.specs.Str.{bytes_eq}
 use Rattle.std.proofs.lemmas.Bool.{true≢false, or_parts}
@@ -7,7 +7,7 @@ use Rattle.dm_lintim.specs.declared.columns.Column.{Column}
 use Rattle.dm_lintim.specs.declared.columns.Column.TheVariants as col
 use Rattle.dm_lintim.specs.declared.columns.ColumnFault.{ColumnFault}
 use Rattle.dm_lintim.specs.declared.columns.ColumnFault.TheVariants as fault
-use Rattle.dm_lintim.specs.Columns.{AreColumns, BreaksWord, FileColumns, FirstMissing, GivesColumns, HasAll, IsNew, IsOnce, LacksColumn, NameAll, Names, ReadsColumns, ReadsFileColumns, RefusesColumns, StopsAtWord, activity_columns, activity_required, column_name, event_columns, event_required, has_column, is_column, words_of}
+use Rattle.dm_lintim.specs.Columns.{AreColumns, BreaksWord, FileColumns, FirstMissing, GivesColumns, HasAll, IsNew, IsOnce, LacksColumn, NameAll, Names, ReadsFileColumns, RefusesColumns, StopsAtWord, activity_columns, activity_required, column_name, event_columns, event_required, has_column, is_column, words_of}
 use Rattle.dm_lintim.proofs.ColumnLemmas.{same_sym}
 
 -- the column that a word names, none for one that is passed over

@@ -1,8 +1,6 @@
-use Rattle.std.proofs.Common.{◌≡◌, ◌∷◌, List, ℕ, arith, inl, inr, length}
+use Rattle.std.proofs.Common.{◌≡◌, ◌∷◌, arith, inl, inr, length}
 use Rattle.std.proofs.lemmas.Result.{err_from_is_err_and}
 use Rattle.csv.specs.Records.{fields_of}
-use Rattle.dm_lintim.specs.Files.{HasRows}
-use Rattle.dm_lintim.specs.Pieces.{split_records}
 use Rattle.dm_lintim.proofs.BoundLemmas.{HasFewFields, fields_few, records_few}
 use Rattle.dm_lintim.proofs.RowLemmas.{first_fault, record_at, rows_few, rows_more}
 use Rattle.dm_lintim.proofs.rows.read_records.Goals as goal

@@ -1,4 +1,4 @@
-use Rattle.std.proofs.Common.{◌≤◌, ◌+◌, ◌-◌, ◌∙◌, ap, arith, drop, length, take, sym, refl}
+use Rattle.std.proofs.Common.{◌≤◌, ◌+◌, ◌-◌, arith, drop, length}
 use Rattle.std.proofs.lemmas.Bool.{eq-eqb}
 use Rattle.std.proofs.lemmas.List.{length-drop, take_all}
 use Rattle.dm_lintim.proofs.PieceLemmas.{no_comma, pieces_cut, pieces_whole}
