@@ -1,5 +1,5 @@
 //! The fields of a record, under the columns of its file.
-ghost use Rattle.std.specs.Prelude.{◌≡◌, ◌≤◌, ◌<◌, ◌^◌, [], length, slice_index_or, OnOk, IfErr, true};
+ghost use Rattle.std.specs.Prelude.{◌≡◌, ◌≤◌, ◌<◌, ◌^◌, [], length, slice_index_or, OnOk, IfErr, MatchResult, true};
 ghost use Rattle.csv.specs.Records.{fields_of};
 ghost use Rattle.dm_base.specs.Numbers.{IsDigits, IsMilliText, milli_value, whole_value};
 ghost use Rattle.dm_lintim.specs.Columns.{is_column};
@@ -63,20 +63,35 @@ fn largest(column: Column) -> u64
     }
 }
 
+// Why a column refuses a field in which no number was read.
+fn refused(column: Column, fault: NumFault) -> FileKind
+    ensures form { fault ≡ NumFault.NotANumber → result ≡ FileKind.BadNumber column }
+    ensures size { fault ≡ NumFault.TooLarge → result ≡ FileKind.TooLarge column }
+{
+    match fault {
+        NumFault::NotANumber => FileKind::BadNumber(column),
+        NumFault::TooLarge => FileKind::TooLarge(column),
+    }
+}
+
+// Whether a number that was read may stand under a column.
+fn test_number(column: Column, number: u64) -> Result<(), FileKind>
+    ensures { MatchResult result (λ _. number ≤ largest_of column) (λ why. (largest_of column < number) × (why ≡ FileKind.TooLarge column)) }
+{
+    if number <= largest(column) {
+        Ok(())
+    } else {
+        Err(FileKind::TooLarge(column))
+    }
+}
+
 pub(crate) fn test_whole(column: Column, text: &[u8]) -> Result<(), FileKind>
     ensures takes { OnOk result (IsNumber (IsDigits text.now) (whole_value text.now) (largest_of column)) }
     ensures refuses { IfErr result (RefusesNumber (IsDigits text.now) (whole_value text.now) column) }
 {
     match read_whole(text) {
-        Ok(number) => {
-            if number <= largest(column) {
-                Ok(())
-            } else {
-                Err(FileKind::TooLarge(column))
-            }
-        }
-        Err(NumFault::NotANumber) => Err(FileKind::BadNumber(column)),
-        Err(NumFault::TooLarge) => Err(FileKind::TooLarge(column)),
+        Ok(number) => test_number(column, number),
+        Err(fault) => Err(refused(column, fault)),
     }
 }
 
@@ -85,15 +100,8 @@ pub(crate) fn test_milli(column: Column, text: &[u8]) -> Result<(), FileKind>
     ensures refuses { IfErr result (RefusesNumber (IsMilliText text.now) (milli_value text.now) column) }
 {
     match read_milli(text) {
-        Ok(number) => {
-            if number <= largest(column) {
-                Ok(())
-            } else {
-                Err(FileKind::TooLarge(column))
-            }
-        }
-        Err(NumFault::NotANumber) => Err(FileKind::BadNumber(column)),
-        Err(NumFault::TooLarge) => Err(FileKind::TooLarge(column)),
+        Ok(number) => test_number(column, number),
+        Err(fault) => Err(refused(column, fault)),
     }
 }
 
