@@ -15,10 +15,10 @@ use dm_base::limits::{BOUND, DELAY, TIME, WEIGHT};
 use dm_base::{NumFault, read_milli, read_whole};
 
 /// The field at a place, as taken, or the empty text past the last one.
-pub(crate) fn taken_field(record: &ByteRecord, place: usize) -> &[u8]
-    ensures { result.now ≡ slice_index_or (taken_fields record.now) place [] }
+pub(crate) fn taken_field(fields: &ByteRecord, place: usize) -> &[u8]
+    ensures { result.now ≡ slice_index_or (taken_fields fields.now) place [] }
 {
-    match record.get(place) {
+    match fields.get(place) {
         Some(field) => taken(field),
         None => &[],
     }
@@ -36,14 +36,14 @@ fn is_column(place: Option<Column>, column: Column) -> bool
 /// The field under a column, as taken, or the empty text where the file has no such column.
 pub(crate) fn text_under<'a>(
     columns: &[Option<Column>],
-    record: &'a ByteRecord,
+    fields: &'a ByteRecord,
     column: Column,
 ) -> &'a [u8]
-    ensures { result.now ≡ text_under columns.now (taken_fields record.now) column }
+    ensures { result.now ≡ text_under columns.now (taken_fields fields.now) column }
 {
     for (place, other) in columns.iter().enumerate() {
         if is_column(*other, column) {
-            return taken_field(record, place);
+            return taken_field(fields, place);
         }
     }
     &[]
@@ -106,38 +106,38 @@ pub(crate) fn test_milli(column: Column, text: &[u8]) -> Result<(), FileKind>
 }
 
 /// The whole number under a column of a good record, or 0 where the file has no such column.
-pub(crate) fn whole_under(columns: &[Option<Column>], record: &ByteRecord, column: Column) -> u64
-    requires numbers { HasNumbers columns.now (taken_fields record.now) }
+pub(crate) fn whole_under(columns: &[Option<Column>], fields: &ByteRecord, column: Column) -> u64
+    requires numbers { HasNumbers columns.now (taken_fields fields.now) }
     requires holds { HoldsWhole column }
-    ensures value { result ≡ whole_under columns.now (taken_fields record.now) column }
+    ensures value { result ≡ whole_under columns.now (taken_fields fields.now) column }
     ensures small { result ≤ largest_of column }
 {
-    match read_whole(text_under(columns, record, column)) {
+    match read_whole(text_under(columns, fields, column)) {
         Ok(number) => number,
         Err(_) => 0,
     }
 }
 
 /// The weight of a good record, in thousandths.
-pub(crate) fn weight_under(columns: &[Option<Column>], record: &ByteRecord) -> u64
-    requires { HasNumbers columns.now (taken_fields record.now) }
-    ensures { result ≡ milli_under columns.now (taken_fields record.now) Column.Weight }
+pub(crate) fn weight_under(columns: &[Option<Column>], fields: &ByteRecord) -> u64
+    requires { HasNumbers columns.now (taken_fields fields.now) }
+    ensures { result ≡ milli_under columns.now (taken_fields fields.now) Column.Weight }
 {
-    match read_milli(text_under(columns, record, Column::Weight)) {
+    match read_milli(text_under(columns, fields, Column::Weight)) {
         Ok(number) => number,
         Err(_) => 0,
     }
 }
 
 /// Whether a record is passed over: a comment, or one empty field.
-pub(crate) fn is_passed_over(record: &ByteRecord) -> bool
-    ensures { result ≡ is_passed_over (taken_fields record.now) }
+pub(crate) fn is_passed_over(fields: &ByteRecord) -> bool
+    ensures { result ≡ is_passed_over (taken_fields fields.now) }
 {
-    if record.is_empty() {
+    if fields.is_empty() {
         return false;
     }
-    match taken_field(record, 0) {
-        [] => record.len() == 1,
+    match taken_field(fields, 0) {
+        [] => fields.len() == 1,
         [first, ..] => *first == b'#',
     }
 }
