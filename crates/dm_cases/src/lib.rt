@@ -12,3 +12,4 @@ mod network;
 mod outside;
 #[cfg(test)]
 mod program;
+mod lintim;
