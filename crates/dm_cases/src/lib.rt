@@ -7,9 +7,12 @@ mod base;
 #[cfg(test)]
 mod graph;
 #[cfg(test)]
+mod lintim;
+#[cfg(test)]
 mod network;
 #[cfg(test)]
 mod outside;
 #[cfg(test)]
 mod program;
-mod lintim;
+#[cfg(test)]
+mod rows;
