@@ -4,7 +4,9 @@ ghost use Rattle.std.specs.Prelude.{◌<◌};
 use dm_outside::{MemFile, MemShelf, MemSink, OpenGate};
 use dm_program::{Status, dispatch};
 use std::alloc::{AllocError, Global};
+use std::sync::Wait;
 use std::test::Fail;
+use std::thread::Threads;
 
 // The two-leg line: a train leaves, arrives, leaves and arrives.
 const EVENTS: &[u8] =
@@ -54,7 +56,11 @@ fn texts(alloc: Global, words: &[&str]) -> Result<Vec<String>, AllocError> {
     Ok(texts)
 }
 
-fn run_case(rt: &HostRuntime, words: &[&str], case: &Case<'_>) -> Result<(Status, Vec<u8>), Fail> {
+fn run_case<R: Threads + Wait + Sync + AllocGlobal>(
+    rt: &R,
+    words: &[&str],
+    case: &Case<'_>,
+) -> Result<(Status, Vec<u8>), Fail> {
     let files = [
         MemFile {
             name: "net/Events-expanded.giv",
@@ -94,8 +100,8 @@ fn run_case(rt: &HostRuntime, words: &[&str], case: &Case<'_>) -> Result<(Status
 
 const RUN: &[&str] = &["run", "net", "--penalty=10", "f"];
 
-fn ends(
-    rt: &HostRuntime,
+fn ends<R: Threads + Wait + Sync + AllocGlobal>(
+    rt: &R,
     words: &[&str],
     case: &Case<'_>,
     status: Status,
