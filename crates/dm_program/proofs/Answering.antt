@@ -1,5 +1,5 @@
 -- Answering one line more keeps what is known of the lines before it.
-use Rattle.std.proofs.Common.{◌≡◌, ◌≢◌, ℕ, zero, suc, ◌+◌, ◌-◌, ◌<◌, ◌≤◌, Bool, true, false, cond, eqb, List, [], ◌∷◌, ◌++◌, length, get_or, take, drop, Option, Some, None, refl, sym, ap, subst, ◌∙◌, append_assoc, append-nil, arith, inl, inr, length-append, All, slice_get, fold}
+use Rattle.std.proofs.Common.{◌≡◌, ℕ, zero, suc, ◌+◌, ◌-◌, ◌<◌, ◌≤◌, Bool, true, false, cond, eqb, List, [], ◌∷◌, ◌++◌, length, get_or, Some, refl, sym, ap, subst, ◌∙◌, append_assoc, arith, inl, inr, length-append, slice_get, fold}
 use Rattle.std.specs.Prelude.{count_by}
 use Rattle.std.proofs.lemmas.Bool.{cases_lt, eqb-true, eq-eqb}
 use Rattle.std.proofs.lemmas.List.{take-append-le, take_all}
@@ -9,7 +9,7 @@ use Rattle.std.proofs.lemmas.Option.{slice_get_within}
 use Rattle.dm_network.specs.Net.{Net}
 use Rattle.dm_rows.specs.Rows.{RowsValue, IsSized, RowsAreWithinLimits}
 use Rattle.dm_rows.specs.Resolve.{after}
-use Rattle.dm_rows.specs.Refuse.{PassesAtOnce, Refuses}
+use Rattle.dm_rows.specs.Refuse.{PassesAtOnce}
 use Rattle.dm_rows.specs.History.{rows_at}
 use Rattle.dm_rows.specs.declared.messages.Entry.{Entry}
 use Rattle.dm_rows.specs.declared.messages.Message.{Message}
@@ -22,8 +22,8 @@ use Rattle.dm_program.specs.declared.lines.Heard.TheVariants.{Line as Spoken}
 use Rattle.dm_program.specs.Lines.{feed_lines, Hears}
 use Rattle.dm_rows.specs.declared.messages.Message.TheVariants.{DelayEvent, DelayActivity, Pass, Recall, Keep, Drop, First, Adopt}
 use Rattle.dm_program.specs.Runs.{IsSpelledMessage, IsSpelledItem, IsSpelledEntry}
-use Rattle.dm_program.specs.Logs.{Journal, IsTrueAnswer, IsInOrder, names, AreDueItems, IsDueItem}
-use Rattle.dm_program.specs.Answers.{Day, entry_of, Enters, AnswersLine, IsAnsweredTo}
+use Rattle.dm_program.specs.Logs.{IsTrueAnswer, IsInOrder, names, AreDueItems, IsDueItem}
+use Rattle.dm_program.specs.Answers.{Day, entry_of, AnswersLine, IsAnsweredTo}
 
 -- ---- lists with one element more
 

@@ -1,8 +1,7 @@
 -- Where words, files and a feed determine how a run ends.
-use Rattle.std.proofs.Common.{◌≡◌, ◌≢◌, ℕ, ◌<◌, ◌≤◌, List, [], ◌∷◌, length, Option, Some, None, refl, sym, ap, subst, ◌∙◌, inl, inr, arith}
+use Rattle.std.proofs.Common.{◌≡◌, ◌≢◌, ℕ, List, length, Option, Some, None, refl, sym, ap, subst, ◌∙◌, inl, inr, arith}
 use Rattle.std.specs.Prelude.{◌⊎◌, IsSome}
 use Rattle.std.specs.Io.KnownBytes.{Appends}
-use Rattle.dm_base.specs.declared.limits.TheConstants.{FILE, FEED}
 use Rattle.dm_base.specs.declared.rows.EventRow.{EventRow}
 use Rattle.dm_base.specs.declared.rows.ActRow.{ActRow}
 use Rattle.std.proofs.lemmas.Bool.{false≢true}
@@ -15,8 +14,8 @@ use Rattle.dm_program.specs.declared.parts.Status.{Status}
 use Rattle.dm_program.specs.declared.parts.Status.TheVariants.{Ok, Usage, Refused, ReadFault, WriteFault, NoMemory}
 use Rattle.dm_program.specs.Words.{Command, command_of}
 use Rattle.dm_program.specs.Files.{event_rows, activity_rows}
-use Rattle.dm_program.specs.Input.{Contents, Told, IsHeld, AreHeld, AreHeldBefore, Breaks, IsGood, PassesBefore, IsFirstRefusal, IsSoundInput, IsInput, AreUnfit, MakesNetwork}
-use Rattle.dm_program.specs.Ends.{Ends, EndsAt, AreSound, Tells, Writes, IsRunOf, IsUsage, IsRefusal, IsReadFault, IsNotAfter, part_name, refused_line, read_fault_line}
+use Rattle.dm_program.specs.Input.{Contents, Told, IsHeld, AreHeld, AreHeldBefore, Breaks, IsGood, PassesBefore, IsFirstRefusal, IsSoundInput, IsInput, MakesNetwork}
+use Rattle.dm_program.specs.Ends.{Ends, EndsAt, AreSound, Tells, Writes, IsRunOf, IsRefusal, IsReadFault, IsNotAfter, part_name, refused_line, read_fault_line}
 use Rattle.dm_program.proofs.Exact.{not_unfit}
 
 -- ---- the order of the parts

@@ -1,10 +1,10 @@
 -- What each end of a run says of the text that was due.
 use Rattle.std.proofs.Common.{◌≡◌, ℕ, zero, suc, arith, List, [], ◌∷◌, length, Option, Some, None, refl, sym, ap, subst, ◌∙◌, inl, inr, All}
 use Rattle.std.specs.Io.KnownBytes.{Keeps}
-use Rattle.dm_outside.specs.Printing.{TakesAll, TakesFront}
+use Rattle.dm_outside.specs.Printing.{TakesFront}
 use Rattle.dm_program.specs.declared.parts.Part.{Part}
 use Rattle.dm_program.specs.declared.parts.Status.{Status}
-use Rattle.dm_program.specs.declared.parts.Status.TheVariants.{Ok, Usage, Refused, ReadFault, WriteFault, NoMemory}
+use Rattle.dm_program.specs.declared.parts.Status.TheVariants.{Ok, Usage, Refused, ReadFault, WriteFault}
 use Rattle.dm_network.specs.Net.{Net}
 use Rattle.dm_rows.specs.Rows.{RowsValue, start_rows_of}
 use Rattle.dm_rows.specs.declared.messages.Entry.{Entry}
@@ -13,10 +13,10 @@ use Rattle.dm_program.specs.Logs.{Journal}
 use Rattle.dm_program.specs.declared.log.LogItem.{LogItem}
 use Rattle.dm_program.specs.Asked.{run_with, log_with}
 use Rattle.dm_program.specs.Words.{Command, command_of}
-use Rattle.dm_program.specs.Input.{Told, IsInput}
+use Rattle.dm_program.specs.Input.{Told}
 use Rattle.dm_program.specs.Runs.{Run, run_text, IsRunText, IsTrueRun, IsSpelledEntry, IsSpelledItem}
 use Rattle.dm_program.specs.Stages.{IsRefused, IsUnread, IsReady, IsRunOver}
-use Rattle.dm_program.specs.Ends.{Ends, EndsAs, IsDue, IsUsage, IsRefusal, IsReadFault, IsRunOf, Writes, FailsToWrite, WantsMemory, usage_line, refused_line, read_fault_line}
+use Rattle.dm_program.specs.Ends.{Ends, EndsAs, IsDue, IsUsage, IsRefusal, IsReadFault, IsRunOf, WantsMemory, usage_line, refused_line, read_fault_line}
 
 abbrev journal_of : Net → RowsValue → List Entry → Journal
 journal_of net start history = record { net = net; start = start; history = history }

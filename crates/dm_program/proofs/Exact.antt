@@ -1,6 +1,6 @@
 -- A part that is refused is not good.
-use Rattle.std.proofs.Common.{◌≡◌, ◌≢◌, ℕ, zero, suc, ◌+◌, ◌<◌, ◌≤◌, true, List, [], ◌∷◌, length, get_or, Option, Some, None, refl, sym, ap, subst, ◌∙◌, arith, inl, inr, slice_get, map}
-use Rattle.std.specs.Prelude.{IsPermutation, Contains, IsSome}
+use Rattle.std.proofs.Common.{◌≡◌, ◌≢◌, ℕ, ◌<◌, List, [], ◌∷◌, length, get_or, Some, refl, sym, ap, subst, ◌∙◌, arith, inl, inr, slice_get, map}
+use Rattle.std.specs.Prelude.{IsPermutation}
 use Rattle.std.specs.List.Sorted.{IsStrictlyIncreasing}
 use Rattle.std.proofs.lemmas.List.{get_or-map, length-map}
 use Rattle.std.proofs.lemmas.List.Sorted.{IsPermutation-sym, IsPermutation-map, Contains-permutation}
@@ -9,16 +9,14 @@ use Rattle.dm_base.specs.declared.rows.EventRow.{EventRow}
 use Rattle.dm_base.specs.declared.rows.ActRow.{ActRow}
 use Rattle.dm_base.specs.declared.ids.EventId.{EventId}
 use Rattle.dm_graph.proofs.Chains.{no_cycle_where_rank_rises}
-use Rattle.dm_network.specs.declared.parts.Event.{Event}
-use Rattle.dm_network.specs.declared.parts.Activity.{Activity}
 use Rattle.dm_network.specs.declared.parts.NetFault.{NetFault}
 use Rattle.dm_network.specs.declared.parts.NetFault.TheVariants.{TooMany, DoubleEvent, DoubleActivity, UnknownEvent, ZeroHeadway, Cycle, OutOfMemory}
 use Rattle.dm_network.specs.Net.{Net, event_at, activity_at, no_activity, no_event}
 use Rattle.dm_network.specs.Start.{arcs_of, is_start_active}
-use Rattle.dm_network.specs.Build.{IsMadeOf, IsBuiltFrom, RefusesRecords, activity_row, event_row, event_ids, activity_ids, StandsTwice, NoneStandsTwice, IsNoEvent, NamesNoEvent, IsZeroHeadway, IsFirst}
+use Rattle.dm_network.specs.Build.{IsMadeOf, RefusesRecords, activity_row, event_row, event_ids, activity_ids, NoneStandsTwice, IsNoEvent, NamesNoEvent, IsZeroHeadway}
 use Rattle.dm_network.proofs.Keys.{rises_between}
 use Rattle.dm_network.proofs.Doubles.{NoneStandsTwice-permutation}
-use Rattle.dm_program.specs.Input.{Contents, AreUnfit, MakesNetwork}
+use Rattle.dm_program.specs.Input.{AreUnfit, MakesNetwork}
 use Rattle.dm_program.proofs.Forward.{goes_forward}
 
 -- rising numbers have no double

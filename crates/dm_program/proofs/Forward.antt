@@ -1,7 +1,6 @@
 -- Records whose activities all go forward make networks whose activities all lead to a later place.
-use Rattle.std.proofs.Common.{◌≡◌, ℕ, zero, suc, ◌+◌, ◌<◌, ◌≤◌, Bool, List, [], ◌∷◌, length, get_or, Option, Some, None, refl, sym, ap, subst, ◌∙◌, arith, inl, inr, slice_get, map}
-use Rattle.std.specs.Prelude.{IsPermutation, Contains}
-use Rattle.std.specs.List.Sorted.{IsStrictlyIncreasing}
+use Rattle.std.proofs.Common.{◌≡◌, ℕ, ◌<◌, List, length, Some, refl, sym, ap, arith, inl, inr, slice_get, map}
+use Rattle.std.specs.Prelude.{Contains}
 use Rattle.std.proofs.lemmas.Bool.{cases_lt}
 use Rattle.std.proofs.lemmas.List.{get_or-map, length-map}
 use Rattle.std.proofs.lemmas.List.Sorted.{IsPermutation-sym, Contains-permutation}
@@ -10,7 +9,7 @@ use Rattle.dm_network.proofs.Keys.{key_rises}
 use Rattle.dm_base.specs.declared.rows.EventRow.{EventRow}
 use Rattle.dm_base.specs.declared.rows.ActRow.{ActRow}
 use Rattle.dm_network.specs.Net.{Net, event_at, activity_at, no_activity, no_event}
-use Rattle.dm_network.specs.Build.{IsMadeOf, activity_row, event_row}
+use Rattle.dm_network.specs.Build.{IsMadeOf, activity_row}
 use Rattle.dm_program.specs.Input.{GoesBack}
 use Rattle.dm_program.specs.Times.{GoesForward}
 

@@ -1,18 +1,17 @@
 -- Times that are joins, event by event along the places.
-use Rattle.std.proofs.Common.{if◌then◌else◌, ◌≡◌, ℕ, zero, suc, ◌+◌, ◌*◌, ◌<◌, ◌≤◌, Bool, true, false, cond, eqb, IsTrue, max, List, [], ◌∷◌, ◌++◌, length, get_or, take, refl, sym, ap, subst, ◌∙◌, arith, inl, inr, All, length-append}
+use Rattle.std.proofs.Common.{if◌then◌else◌, ◌≡◌, ℕ, zero, suc, ◌+◌, ◌<◌, ◌≤◌, Bool, true, false, cond, eqb, IsTrue, max, List, [], ◌∷◌, ◌++◌, length, get_or, take, refl, sym, ap, subst, ◌∙◌, arith, inl, inr, All, length-append}
 use Rattle.std.specs.List.{range_with_len, filter}
 use Rattle.std.proofs.lemmas.Bool.{cases_Bool, cases_lt, eq-eqb, eqb-true, false≢true}
 use Rattle.std.proofs.lemmas.List.{take_more, take_all, get_or_append_left}
 use Rattle.std.proofs.Math.Seq.{get_or-append_seam}
 use Rattle.std.proofs.lemmas.List.Elements.{All-push, All-nil, filter_passes, All-filter}
 use Rattle.std.proofs.lemmas.List.FromFn.{get_or-range_with_len, length-range_with_len}
-use Rattle.dm_graph.specs.Arcs.{Binds}
-use Rattle.dm_graph.specs.Graph.{IsJoin, IsLeast as IsLeastOfGraph}
+use Rattle.dm_graph.specs.Graph.{IsJoin}
 use Rattle.dm_graph.proofs.Joins.{IsJoin-congr, joins_are_least}
 use Rattle.dm_network.specs.Net.{Net, activity_at, places_into, EndsAreKnown}
 use Rattle.dm_rows.specs.Rows.{RowsValue}
 use Rattle.dm_rows.specs.Active.{is_active}
-use Rattle.dm_rows.specs.Timetable.{time_at, span_of, graph_of, IsLeast}
+use Rattle.dm_rows.specs.Timetable.{time_at, graph_of, IsLeast}
 use Rattle.dm_rows.proofs.AsGraph.{least_from_graph}
 use Rattle.dm_program.specs.Times.{GoesForward, latest, AreInTime, by}
 

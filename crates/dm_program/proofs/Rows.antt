@@ -1,7 +1,7 @@
 -- Reading the rows of a file, one line after the other.
-use Rattle.std.proofs.Common.{if◌then◌else◌, cond, ◌<◌, ◌≡◌, ℕ, Bool, true, false, List, [], ◌∷◌, ◌++◌, length, Option, Some, None, refl, sym, ap, ◌∙◌, append_assoc, append-nil, arith}
+use Rattle.std.proofs.Common.{if◌then◌else◌, ◌≡◌, ℕ, Bool, true, false, List, [], ◌∷◌, ◌++◌, Option, Some, None, refl, sym, ap, ◌∙◌, append_assoc, append-nil}
 use Rattle.dm_program.specs.Files.{◌>>=◌, rows_of, onto, is_comment, lines}
-use Rattle.dm_program.proofs.Cuts.{pieces, pieces_first, HasFirst}
+use Rattle.dm_program.proofs.Cuts.{pieces, pieces_first}
 
 -- rows that were read before, and the others
 abbrev pub with_front : {Row : Type 0} → List Row → Option (List Row) → Option (List Row)

@@ -1,25 +1,23 @@
 -- How the stages of a run follow one another.
-use Rattle.std.proofs.Common.{◌≡◌, ◌≢◌, ℕ, zero, suc, ◌<◌, ◌≤◌, List, [], ◌∷◌, length, get_or, Option, Some, None, Result, Ok, Err, refl, sym, ap, subst, ◌∙◌, inl, inr, arith, All, slice_get}
-use Rattle.std.specs.Prelude.{IsSome, IfOk, Vec}
-use Rattle.std.specs.declared.alloc.Global.{Global}
+use Rattle.std.proofs.Common.{◌≡◌, ◌≢◌, ℕ, ◌≤◌, List, [], length, Option, Some, Result, Ok, Err, refl, sym, subst, ◌∙◌, All, slice_get}
+use Rattle.std.specs.Prelude.{IsSome, IfOk}
 use Rattle.std.proofs.lemmas.Option.{slice_get_within, get_or_from_slice_get}
-use Rattle.dm_base.specs.declared.limits.TheConstants.{FILE, FEED}
+use Rattle.dm_base.specs.declared.limits.TheConstants.{FEED}
 use Rattle.dm_base.specs.declared.rows.EventRow.{EventRow}
 use Rattle.dm_base.specs.declared.rows.ActRow.{ActRow}
 use Rattle.dm_outside.specs.declared.faults.TakeFault.{TakeFault}
 use Rattle.dm_outside.specs.declared.faults.TakeFault.TheVariants.{ReadFault as NotRead, TooLong, OutOfMemory}
 use Rattle.dm_network.specs.Net.{Net}
-use Rattle.dm_network.specs.Build.{AreWithinLimits, IsBuiltFrom}
-use Rattle.dm_program.specs.declared.parts.Part.{Part}
+use Rattle.dm_network.specs.Build.{AreWithinLimits}
 use Rattle.dm_program.specs.declared.parts.Part.TheVariants.{Events, Activities, Network, Feed}
 use Rattle.dm_program.specs.declared.parts.Stop.{Stop}
 use Rattle.dm_program.specs.declared.parts.Stop.TheVariants.{Usage, Refused, ReadFault, NoMemory}
 use Rattle.dm_program.specs.Words.{Command, events_name, activities_name}
 use Rattle.dm_program.specs.Files.{event_of, activity_of, event_rows, activity_rows}
-use Rattle.dm_program.specs.Input.{Contents, Told, IsHeld, AreRowsOf, MakesNetwork, AreUnfit, IsGood}
+use Rattle.dm_program.specs.Input.{Contents, Told, IsHeld, MakesNetwork, IsGood}
 use Rattle.dm_program.specs.Runs.{Run}
 use Rattle.dm_program.specs.Times.{GoesForward}
-use Rattle.dm_program.specs.Stages.{IsKept, IsLong, Takes, IsFileOf, IsBadFile, StopsAtFile, IsRefused, IsUnread, StopsRun, IsNetworkOf, FitsEvent, FitsActivity, StopsNetwork, IsRunOver, IsReady}
+use Rattle.dm_program.specs.Stages.{IsKept, Takes, IsFileOf, StopsAtFile, IsRefused, IsUnread, StopsRun, IsNetworkOf, FitsEvent, FitsActivity, StopsNetwork, IsRunOver, IsReady}
 use Rattle.dm_program.proofs.Forward.{goes_forward}
 
 -- what is kept by one stage and the next is kept by both

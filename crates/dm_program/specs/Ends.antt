@@ -11,9 +11,9 @@ use Rattle.dm_program.specs.declared.parts.Part.TheVariants.{Events, Activities,
 use Rattle.dm_program.specs.declared.parts.Status.{Status}
 use Rattle.dm_program.specs.declared.parts.Status.TheVariants.{Ok, Usage, Refused, ReadFault, WriteFault, NoMemory}
 use Rattle.dm_program.specs.Words.{Command, command_of, events_name, activities_name}
-use Rattle.dm_program.specs.Logs.{Journal, IsLogOf}
+use Rattle.dm_program.specs.Logs.{IsLogOf}
 use Rattle.dm_program.specs.Runs.{line_end, IsRunText}
-use Rattle.dm_program.specs.Input.{Contents, Told, AreHeldBefore, AreHeld, PassesBefore, IsFirstRefusal, IsSoundInput, IsInput}
+use Rattle.dm_program.specs.Input.{Contents, Told, AreHeldBefore, AreHeld, PassesBefore, IsFirstRefusal, IsInput}
 
 abbrev pub usage_line : List ℕ
 usage_line = codes "usage: run DIR FEED.. | check DIR TEXT | gen NUMBER TRAINS" ++ line_end

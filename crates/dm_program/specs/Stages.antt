@@ -7,13 +7,12 @@ use Rattle.dm_base.specs.declared.rows.ActRow.{ActRow}
 use Rattle.dm_outside.specs.declared.faults.TakeFault.{TakeFault}
 use Rattle.dm_outside.specs.declared.faults.TakeFault.TheVariants.{ReadFault as NotRead, TooLong, OutOfMemory}
 use Rattle.dm_network.specs.Net.{Net}
-use Rattle.dm_network.specs.Build.{IsBuiltFrom}
 use Rattle.dm_program.specs.declared.parts.Part.{Part}
 use Rattle.dm_program.specs.declared.parts.Part.TheVariants.{Network, Feed}
 use Rattle.dm_program.specs.declared.parts.Stop.{Stop}
 use Rattle.dm_program.specs.declared.parts.Stop.TheVariants.{Usage, Refused, ReadFault, NoMemory}
 use Rattle.dm_program.specs.Words.{Command}
-use Rattle.dm_program.specs.Files.{lines, rows_of, event_rows, activity_rows}
+use Rattle.dm_program.specs.Files.{lines, rows_of}
 use Rattle.dm_program.specs.Input.{Contents, Told, IsHeld, AreHeldBefore, AreHeld, PassesBefore, IsFirstRefusal, AreUnfit, MakesNetwork, AreRowsOf}
 use Rattle.dm_rows.specs.Rows.{start_rows_of}
 use Rattle.dm_program.specs.declared.log.FeedLog.{FeedLog}

@@ -1,4 +1,4 @@
-use Rattle.std.proofs.Common.{sym, ap, ◌≡◌, ◌<◌, List, [], length, arith}
+use Rattle.std.proofs.Common.{sym, ap, ◌≡◌, length, arith}
 use Rattle.std.proofs.lemmas.Bool.Decides.{nat_tests}
 use Rattle.std.proofs.lemmas.List.Elements.{All-push}
 use Rattle.dm_program.proofs.Cuts.{cut_found, cut_none}

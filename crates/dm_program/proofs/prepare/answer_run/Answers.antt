@@ -1,4 +1,3 @@
-use Rattle.std.proofs.Common.{refl}
 use Rattle.dm_program.proofs.Finished.{run_over}
 use Rattle.dm_program.proofs.prepare.answer_run.Goals as goal
 

@@ -1,5 +1,4 @@
-use Rattle.std.proofs.Common.{◌≡◌, ◌<◌, ◌≤◌, List, [], arith, sym, take, length, get_or, refl, ℕ}
-use Rattle.dm_network.specs.Net.{places_into}
+use Rattle.std.proofs.Common.{◌≤◌, arith, length, get_or, refl}
 use Rattle.dm_program.proofs.Joining.{joins_none, joins_more, joins_all, into_below, into_head}
 use Rattle.dm_program.proofs.times.join.Goals as goal
 
