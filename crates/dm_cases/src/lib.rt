@@ -7,4 +7,9 @@ mod base;
 #[cfg(test)]
 mod graph;
 #[cfg(test)]
+mod network;
+#[cfg(test)]
 mod outside;
+#[cfg(test)]
+mod program;
+mod lintim;
