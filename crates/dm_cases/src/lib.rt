@@ -12,4 +12,6 @@ mod network;
 mod outside;
 #[cfg(test)]
 mod program;
+#[cfg(test)]
+mod settle;
 mod lintim;
