@@ -90,6 +90,17 @@ pub(crate) fn connection_activities(alloc: Global, lower: u64) -> Result<Vec<Act
     Ok(activities)
 }
 
+/// The connection at one station.
+pub fn connection(alloc: Global) -> Result<Network, NetFault> {
+    let Ok(events) = connection_events(alloc) else {
+        return Err(NetFault::OutOfMemory);
+    };
+    let Ok(activities) = connection_activities(alloc, 8) else {
+        return Err(NetFault::OutOfMemory);
+    };
+    built(alloc, events, activities)
+}
+
 /// Whether the activities with this head are those at these places.
 fn enter<L: Ledger>(blank: Blank, network: &Network, i: usize, places: &[usize]) -> bool
     requires name { blank.name ≡ L.name }

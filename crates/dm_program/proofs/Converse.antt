@@ -152,7 +152,7 @@ clash c d Network same good bad =
     let events : good.0 ≡ bad.0 = some_is good.0 bad.0 (sym good.3.events_read ∙ (ap event_rows same.0 ∙ bad.2)) in
     let activities : good.1 ≡ bad.1 = some_is good.1 bad.1 (sym good.3.activities_read ∙ (ap activity_rows same.1 ∙ bad.3)) in
     not_unfit bad.0 bad.1 good.2
-    (subst (λ (as : List ActRow). MakesNetwork bad.0 as good.2) activities (subst (λ (es : List EventRow). MakesNetwork es good.1 good.2) events good.4)) bad.4
+    (subst (λ (found : List ActRow). MakesNetwork bad.0 found good.2) activities (subst (λ (es : List EventRow). MakesNetwork es good.1 good.2) events good.4)) bad.4
 clash c d Feed same good long = let e = ap length same in omega (arith, e, long, good)
 
 same_back : (c d : Contents) (p : Part) → SameUpTo c d p → SameUpTo d c p
@@ -226,8 +226,8 @@ module _ {K : Type 0} (taken : K → Option (List ℕ)) (faults : K → ℕ) (to
         let same = same_command r.command r.asked in
         let held : AreHeld told command r.contents Feed = subst (λ (c : Command). AreHeld told c r.contents Feed) same r.held in
         absurd (clash r.contents contents part
-          (same_contents told command r.contents contents part tells.known (held_all told command r.contents held part) tells.held)
-          (input_good r.contents r.net r.start r.input part) first.breaks)
+        (same_contents told command r.contents contents part tells.known (held_all told command r.contents held part) tells.held)
+        (input_good r.contents r.net r.start r.input part) first.breaks)
     ends_at Usage h = absurd (none_some command (sym h.holds.outside ∙ asked))
     ends_at Refused h = refused_at h.text h.holds h.appended
     ends_at ReadFault h = unread_at h.text h.holds h.appended
@@ -252,8 +252,8 @@ module _ {K : Type 0} (taken : K → Option (List ℕ)) (faults : K → ℕ) (to
       let same = same_command r.command r.asked in
       let held : AreHeld told command r.contents r.part = subst (λ (c : Command). AreHeld told c r.contents r.part) same r.held in
       absurd (clash contents r.contents r.part
-        (same_contents told command contents r.contents r.part tells.known (held_all told command contents tells.held r.part) held)
-        (sound_good contents sound r.part) r.refusal.breaks)
+      (same_contents told command contents r.contents r.part tells.known (held_all told command contents tells.held r.part) held)
+      (sound_good contents sound r.part) r.refusal.breaks)
   ends_well contents tells sound names unrisen ReadFault h =
       let r : IsReadFault told is_sound words h.text = h.holds in
       let same = same_command r.command r.asked in

@@ -33,7 +33,7 @@ text_of : (run : Run) (journal : Journal) (penalty : ℕ) (logs : List FeedLog) 
     → All IsSpelledEntry run.journal.history → All (λ l. All IsSpelledItem l.items) logs → IsRunText journal penalty logs (run_text run)
 text_of run journal penalty logs j p l is_true entries items =
     let same : run ≡ run_of_parts run journal penalty logs =
-        ap (λ (x : Journal). run_of_parts run x run.penalty run.logs) j ∙ (ap (λ (x : ℕ). run_of_parts run journal x run.logs) p ∙ ap (λ (x : List FeedLog). run_of_parts run journal penalty x) l) in
+    ap (λ (x : Journal). run_of_parts run x run.penalty run.logs) j ∙ (ap (λ (x : ℕ). run_of_parts run journal x run.logs) p ∙ ap (λ (x : List FeedLog). run_of_parts run journal penalty x) l) in
     record {
       times = run.times;
       cost = run.cost;
@@ -78,7 +78,7 @@ module _ {K : Type 0} (taken : K → Option (List ℕ)) (faults : K → ℕ) (to
   is_run_of command run asked r =
       let over : IsRunOver r.net r.contents.feed run = r.over in
       let journal_is : run.journal ≡ record { net = r.net; start = start_rows_of r.net [] []; history = run.journal.history } =
-          ap (λ (x : Net). journal_of x run.journal.start run.journal.history) over.same_net ∙ ap (λ (x : RowsValue). journal_of r.net x run.journal.history) over.start_is in
+      ap (λ (x : Net). journal_of x run.journal.start run.journal.history) over.same_net ∙ ap (λ (x : RowsValue). journal_of r.net x run.journal.history) over.start_is in
       record {
         command = command;
         contents = r.contents;

@@ -51,7 +51,7 @@ module _ (events : List EventRow) (activities : List ActRow) (net : Net) (made :
   event_is_known i lt id is none =
       let row : EventRow = event_row (event_at net i) in
       let there = Contains-permutation (map event_row net.events) events row (IsPermutation-sym events (map event_row net.events) made.same_events)
-          (i, omega (arith, length-map net.events event_row), get_or-map event_row net.events i no_event row lt) in
+      (i, omega (arith, length-map net.events event_row), get_or-map event_row net.events i no_event row lt) in
       let at : slice_get events there.0 ≡ Some row = slice_get_read events (length events) there.0 row refl there.1 (sym there.2) in
       none there.0 row at (sym is)
 
@@ -59,7 +59,7 @@ module _ (events : List EventRow) (activities : List ActRow) (net : Net) (made :
   row_of_activity : (k : ℕ) (row : ActRow) → slice_get activities k ≡ Some row → (a : ℕ) × (a < length net.activities) × (row ≡ activity_row net (activity_at net a))
   row_of_activity k row at =
       let there = Contains-permutation activities (map (activity_row net) net.activities) row made.same_activities
-          (k, slice_get_within activities k row at, get_or_from_slice_get activities k row row at) in
+      (k, slice_get_within activities k row at, get_or_from_slice_get activities k row row at) in
       let lt : there.0 < length net.activities = omega (arith, there.1, length-map net.activities (activity_row net)) in
       (there.0, lt, sym there.2 ∙ get_or-map (activity_row net) net.activities there.0 no_activity row lt)
 

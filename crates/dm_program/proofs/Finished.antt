@@ -85,7 +85,6 @@ some_is x y e = cc
 
 module _ (net : Net) (start : RowsValue) (bytes : List ℕ) (day : Day) (items : List LogItem) (lines : ℕ)
     (forward : GoesForward net) (size : length bytes ≤ FEED) (done : IsAnsweredTo net start bytes day items lines []) where
-
   legal : IsLegal net start day.history
   legal =
       record {

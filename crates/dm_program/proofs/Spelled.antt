@@ -141,9 +141,9 @@ cut_words xs ys digits =
     let zs : List ℕ = xs ++ 32 ∷ ys in
     let longer : length zs ≡ length xs + suc (length ys) = length-append xs (32 ∷ ys) in
     let at : position_or_len (is_at 32) zs ≡ length xs =
-        position_or_len_is (is_at 32) zs (length xs) 0 (omega arith)
-        (λ k lt. rw (get_or_append_left xs (32 ∷ ys) 0 k lt) (no_space xs digits k 0 lt))
-        (λ lt. rw (get_or-append_seam xs 32 ys 0) refl) in
+    position_or_len_is (is_at 32) zs (length xs) 0 (omega arith)
+    (λ k lt. rw (get_or_append_left xs (32 ∷ ys) 0 k lt) (no_space xs digits k 0 lt))
+    (λ lt. rw (get_or-append_seam xs 32 ys 0) refl) in
     let found : position (is_at 32) zs ≡ Some (length xs) = rw (at, lt-ltb (length xs) (length zs) (omega arith)) refl in
     ap (option_map (λ i. (take i zs, drop (i + 1) zs))) found
     ∙ (ap (λ (front : List ℕ). Some (front, drop (length xs + 1) zs)) (take_at xs (32 ∷ ys) (length xs) refl)

@@ -258,5 +258,9 @@ pub fn read_rows<R: Record>(alloc: Global, bytes: &[u8]) -> Result<Option<Vec<R>
         };
         rows.push(row)?;
     }
-    if rest.is_empty() { Ok(Some(rows)) } else { Ok(None) }
+    if rest.is_empty() {
+        Ok(Some(rows))
+    } else {
+        Ok(None)
+    }
 }

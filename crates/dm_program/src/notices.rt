@@ -5,11 +5,9 @@ ghost use Rattle.dm_program.specs.Asked.{command_in};
 ghost use Rattle.dm_program.specs.Ends.{usage_line, part_name, refused_line, read_fault_line};
 ghost use Rattle.dm_program.specs.Runs.{line_end};
 
-use dm_outside::{Page, Sink, WriteFault, put_all};
-
 use crate::parts::Part;
 use crate::words::RunWords;
-
+use dm_outside::{Page, Sink, WriteFault, put_all};
 
 /// The usage line.
 pub fn put_usage<K: Sink>(out: &mut K) -> Result<(), WriteFault>

@@ -5,13 +5,6 @@ ghost use Rattle.dm_program.specs.Times.{GoesForward};
 ghost use Rattle.dm_program.specs.Stages.{IsKept, StopsRun, IsRunOver, IsReady};
 ghost use Rattle.dm_base.specs.declared.limits.TheConstants.{FEED as MOST};
 
-use dm_base::limits::FEED;
-use dm_base::Cost;
-use dm_network::Network;
-use dm_outside::Shelf;
-use dm_rows::{Entry, start_rows};
-use std::alloc::Global;
-
 use crate::answers::answer_feed;
 use crate::cost::cost;
 use crate::log::LogItem;
@@ -19,6 +12,12 @@ use crate::parts::{Part, Stop};
 use crate::reading::{read_network, stop_at, take_name};
 use crate::times::least;
 use crate::words::RunWords;
+use dm_base::Cost;
+use dm_base::limits::FEED;
+use dm_network::Network;
+use dm_outside::Shelf;
+use dm_rows::{Entry, start_rows};
+use std::alloc::Global;
 
 /// A run that is answered and not yet printed.
 #[derive(Drop)]
@@ -38,12 +37,7 @@ pub struct Answered {
 }
 
 /// Answers a feed over a network.
-fn answer_run(
-    alloc: Global,
-    net: Network,
-    penalty: u64,
-    feed: &[u8],
-) -> Result<Answered, Stop>
+fn answer_run(alloc: Global, net: Network, penalty: u64, feed: &[u8]) -> Result<Answered, Stop>
     requires forward { GoesForward net }
     requires size { length feed.now ≤ MOST }
     requires penalty { penalty ≤ 1000000 }
@@ -68,11 +62,7 @@ fn answer_run(
 }
 
 /// Reads and answers a run.
-pub fn prepare<H: Shelf>(
-    alloc: Global,
-    shelf: &mut H,
-    run: &RunWords<'_>,
-) -> Result<Answered, Stop>
+pub fn prepare<H: Shelf>(alloc: Global, shelf: &mut H, run: &RunWords<'_>) -> Result<Answered, Stop>
     requires { run.now.penalty ≤ 1000000 }
     ensures kept { IsKept H.files H.is_sound shelf.old shelf.new }
     ensures ready { IfOk result (λ a. IsReady (H.files shelf.old) (command_in run.now) (run_in a)) }

@@ -6,15 +6,14 @@ ghost use Rattle.dm_program.specs.Asked.{command_in};
 ghost use Rattle.dm_program.specs.Input.{GoesBack, MakesNetwork};
 ghost use Rattle.dm_program.specs.Stages.{IsKept, Takes, IsFileOf, StopsAtFile, StopsRun, IsNetworkOf, StopsNetwork, FitsEvent, FitsActivity};
 
+use crate::files::{Record, read_rows};
+use crate::parts::{Part, Stop};
+use crate::words::RunWords;
 use dm_base::limits::FILE;
 use dm_base::{ActRow, EventRow};
 use dm_network::{NetFault, Network};
 use dm_outside::{Shelf, TakeFault, take_all};
 use std::alloc::Global;
-
-use crate::files::{Record, read_rows};
-use crate::parts::{Part, Stop};
-use crate::words::RunWords;
 
 /// Takes all the bytes under a name, if they are at most `limit`.
 pub fn take_name<H: Shelf>(
@@ -113,7 +112,13 @@ pub fn read_network<H: Shelf>(
     ensures network { IfOk result (IsNetworkOf (H.files shelf.old) (command_in run.now)) }
     ensures stops { IfErr result (StopsRun (H.files shelf.old) (H.is_sound shelf.old) (command_in run.now)) }
 {
-    let events = read_file(alloc, shelf, run.folder, "/Events-expanded.giv", Part::Events)?;
+    let events = read_file(
+        alloc,
+        shelf,
+        run.folder,
+        "/Events-expanded.giv",
+        Part::Events,
+    )?;
     let activities = read_file(
         alloc,
         shelf,

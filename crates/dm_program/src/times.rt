@@ -5,7 +5,6 @@ ghost use Rattle.dm_network.specs.Net.{activity_at, event_at};
 ghost use Rattle.dm_rows.specs.Active.{is_active};
 ghost use Rattle.dm_rows.specs.Rows.{IsSized, RowsAreWithinLimits};
 ghost use Rattle.dm_rows.specs.Timetable.{time_at, planned_time, span_of, graph_of, IsLeast};
-
 ghost use Rattle.dm_program.specs.Times.{GoesForward, latest, AreInTime, by};
 
 use dm_base::{Secs, Steps};
@@ -59,14 +58,7 @@ fn time_along(net: &Network, rows: &Rows, times: &[u64], i: usize, a: usize) -> 
 }
 
 /// The time, or when the event can be by the activity where that binds and is later.
-fn no_earlier(
-    net: &Network,
-    rows: &Rows,
-    times: &[u64],
-    i: usize,
-    a: usize,
-    time: Secs,
-) -> Secs
+fn no_earlier(net: &Network, rows: &Rows, times: &[u64], i: usize, a: usize, time: Secs) -> Secs
     requires sized { IsSized net.now rows.now }
     requires within { RowsAreWithinLimits rows.now }
     requires forward { GoesForward net.now }

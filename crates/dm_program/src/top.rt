@@ -8,16 +8,15 @@ ghost use Rattle.dm_program.specs.Input.{Contents, IsFirstRefusal, IsSoundInput}
 ghost use Rattle.dm_program.specs.Runs.{IsSpelledEntry, IsSpelledItem, run_text};
 ghost use Rattle.dm_program.specs.Ends.{IsRunOf, IsUsage, IsRefusal, IsReadFault, IsDue, Writes, FailsToWrite, WantsMemory, Tells, EndsAt, AreSound, Ends, EndsAs, usage_line, refused_line, read_fault_line};
 
-use dm_outside::{Board, Gate, Shelf, Sink, WriteFault};
-use std::alloc::Global;
-use std::sync::Wait;
-use std::thread::Threads;
-
 use crate::notices::{put_read_fault, put_refused, put_usage};
 use crate::parts::{Part, Status, Stop};
 use crate::prepare::{Answered, prepare};
 use crate::text::print_run;
 use crate::words::{RunWords, run_words};
+use dm_outside::{Board, Gate, Shelf, Sink, WriteFault};
+use std::alloc::Global;
+use std::sync::Wait;
+use std::thread::Threads;
 
 /// Does what the words ask, which are those without the program's name, and answers the status to end with.
 pub fn dispatch<R: Threads + Wait + Sync, H: Shelf, K: Sink, G: Gate>(
