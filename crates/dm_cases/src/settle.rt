@@ -1,6 +1,6 @@
 //! Least timetables from scratch: of the connection at one station when event 1 is a minute late, and a cycle.
 
-use crate::network::{activity, built, connection_activities, connection_events};
+use crate::network::{activity, built, connection, connection_activities, connection_events};
 use dm_base::{ActId, ActKind, DelayRow, EventId};
 use dm_network::Network;
 use dm_rows::{Message, admit, start_rows};
@@ -11,11 +11,7 @@ use std::test::Fail;
 #[test]
 fn a_delay_of_a_minute_travels(rt: HostRuntime) -> Result<(), Fail> {
     let alloc = rt.alloc();
-    let net = built(
-        alloc,
-        connection_events(alloc)?,
-        connection_activities(alloc, 8)?,
-    )?;
+    let net = connection(alloc)?;
     let rows = start_rows(alloc, &net, &[DelayRow { id: 1, delay: 60 }], &[])?;
     let times = least_times(alloc, &net, &rows)?;
     assert_eq!(rt; times.as_slice(), [160, 250, 260, 340, 270, 365].as_slice());
@@ -25,11 +21,7 @@ fn a_delay_of_a_minute_travels(rt: HostRuntime) -> Result<(), Fail> {
 #[test]
 fn delayed_activity_into_the_second_train(rt: HostRuntime) -> Result<(), Fail> {
     let alloc = rt.alloc();
-    let net = built(
-        alloc,
-        connection_events(alloc)?,
-        connection_activities(alloc, 8)?,
-    )?;
+    let net = connection(alloc)?;
     let rows = start_rows(alloc, &net, &[], &[DelayRow { id: 4, delay: 40 }])?;
     let times = least_times(alloc, &net, &rows)?;
     assert_eq!(rt; times.as_slice(), [100, 200, 220, 300, 230, 365].as_slice());
