@@ -16,3 +16,5 @@ mod outside;
 mod program;
 #[cfg(test)]
 mod rows;
+#[cfg(test)]
+mod settle;

@@ -12,7 +12,7 @@ use std::sync::ledger::{Blank, Ledger};
 use std::test::Fail;
 
 /// The network of the records, or the fault; records past the limits give want of memory.
-fn built(
+pub(crate) fn built(
     alloc: Global,
     events: Vec<EventRow>,
     activities: Vec<ActRow>,
@@ -52,7 +52,7 @@ fn event(id: u32, kind: EventKind, time: u64, weight: u64, stop: u32) -> EventRo
     }
 }
 
-fn activity(id: u32, kind: ActKind, tail: u32, head: u32, lower: u64, weight: u64) -> ActRow {
+pub(crate) fn activity(id: u32, kind: ActKind, tail: u32, head: u32, lower: u64, weight: u64) -> ActRow {
     ActRow {
         id: ActId(id),
         kind,
@@ -64,7 +64,7 @@ fn activity(id: u32, kind: ActKind, tail: u32, head: u32, lower: u64, weight: u6
 }
 
 /// The events of the connection at one station, with ids out of order.
-fn connection_events(alloc: Global) -> Result<Vec<EventRow>, AllocError> {
+pub(crate) fn connection_events(alloc: Global) -> Result<Vec<EventRow>, AllocError> {
     let events = vec![in alloc;
         event(5, EventKind::Departure, 230, 5_000, 2),
         event(1, EventKind::Departure, 100, 10_000, 1),
@@ -77,7 +77,7 @@ fn connection_events(alloc: Global) -> Result<Vec<EventRow>, AllocError> {
 }
 
 /// Its activities, of which the last headway has the given lower bound.
-fn connection_activities(alloc: Global, lower: u64) -> Result<Vec<ActRow>, AllocError> {
+pub(crate) fn connection_activities(alloc: Global, lower: u64) -> Result<Vec<ActRow>, AllocError> {
     let activities = vec![in alloc;
         activity(7, ActKind::Headway, 5, 3, 8, 0),
         activity(1, ActKind::Drive, 1, 2, 90, 10_000),
