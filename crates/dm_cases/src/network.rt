@@ -52,7 +52,14 @@ fn event(id: u32, kind: EventKind, time: u64, weight: u64, stop: u32) -> EventRo
     }
 }
 
-pub(crate) fn activity(id: u32, kind: ActKind, tail: u32, head: u32, lower: u64, weight: u64) -> ActRow {
+pub(crate) fn activity(
+    id: u32,
+    kind: ActKind,
+    tail: u32,
+    head: u32,
+    lower: u64,
+    weight: u64,
+) -> ActRow {
     ActRow {
         id: ActId(id),
         kind,
