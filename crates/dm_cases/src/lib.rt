@@ -7,6 +7,14 @@ mod base;
 #[cfg(test)]
 mod graph;
 #[cfg(test)]
+mod lintim;
+#[cfg(test)]
+mod network;
+#[cfg(test)]
 mod outside;
 #[cfg(test)]
 mod program;
+#[cfg(test)]
+mod rows;
+#[cfg(test)]
+mod settle;
