@@ -2,8 +2,8 @@
 """Writes a generated day into a folder: python3 bench/day.py NUMBER TRAINS FOLDER [LINES]
 
 FOLDER gets net/Events-expanded.giv, net/Activities-expanded.giv and the feed f, of LINES event delays (500 where the
-words give none). The numbers are drawn from NUMBER. The trains run alike, 30 seconds apart, over ten legs each; headways
-and changes between trains are left out.
+words give none). The numbers are drawn from NUMBER. The trains run alike, 30 seconds apart, over ten legs each. Every
+eighth train shares its tracks, so the departures of its legs are headway pairs; a change joins each train to the next.
 """
 import os
 import sys
@@ -44,6 +44,15 @@ def activities(trains):
             number += 1
             tail = 20 * k + 2 * leg + 2
             yield f'{number}; 0; "wait"; {tail}; {tail + 1}; 40; 0; 0\n'
+    for k in range(trains - 8):
+        for leg in range(10):
+            first, second = 20 * k + 2 * leg + 1, 20 * (k + 8) + 2 * leg + 1
+            for tail, head in ((first, second), (second, first)):
+                number += 1
+                yield f'{number}; 0; "headway"; {tail}; {head}; 120; 0; 0\n'
+    for k in range(trains - 1):
+        number += 1
+        yield f'{number}; 0; "change"; {20 * k + 10}; {20 * (k + 1) + 11}; 60; 0; 5\n'
 
 
 def delays(number, trains, lines):
