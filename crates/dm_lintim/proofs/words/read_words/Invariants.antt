@@ -1,0 +1,10 @@
+use Rattle.std.proofs.Common.{length}
+use Rattle.std.specs.Prelude.{option_map}
+use Rattle.dm_lintim.specs.Columns.{HasRead, words_left, words_of}
+use Rattle.dm_lintim.proofs.words.read_words.Given as goal
+
+abbrev pub invariant-loop-rest : goal.invariant-loop-rest
+invariant-loop-rest l = HasRead l.known (words_of l.fn.text) (words_left (option_map (λ s. s.now) l.rest)) l.layout
+
+abbrev pub decreases-loop-rest : goal.decreases-loop-rest
+decreases-loop-rest l = length (words_left (option_map (λ s. s.now) l.rest))

@@ -1,0 +1,5 @@
+pub mod Pieces
+pub mod Split
+pub mod Records
+pub mod Columns
+pub mod Files

@@ -1,0 +1,92 @@
+//! Files of activities.
+ghost use Rattle.std.specs.Prelude.{◌≡◌, ◌≤◌, ◌⊎◌, List, Result, Ok, Err, length, IfOk, IfErr, MatchResult, IfSome, IfNone};
+ghost use Rattle.dm_base.specs.declared.rows.ActRow.{ActRow};
+ghost use Rattle.dm_lintim.specs.declared.fault.FileFault.{FileFault};
+ghost use Rattle.dm_lintim.specs.Columns.{HasAll, activity_required};
+ghost use Rattle.dm_lintim.specs.Files.{IsActivityRow, IsActivityWord, IsGood, IsWord, ReadsActivities, activity_word, no_memory, text_under};
+ghost use Rattle.dm_lintim.specs.Split.{taken_fields};
+
+use crate::cells::{text_under, weight_under, whole_under};
+use crate::columns::{Column, Columns};
+use crate::fault::FileFault;
+use crate::rows::{Row, read_rows};
+use csv::ByteRecord;
+use dm_base::limits::FILE;
+use dm_base::{ActId, ActKind, ActRow, EventId};
+use std::alloc::Global;
+
+// The kind that a type word names; ASCII letters count in either case.
+fn activity_kind(text: &[u8]) -> Option<ActKind>
+    ensures found { IfSome result (λ k. IsWord (activity_word k) text.now) }
+    ensures none { IfNone result (IsActivityWord text.now → ⊥) }
+{
+    if text.eq_ignore_ascii_case("drive".as_bytes()) {
+        return Some(ActKind::Drive);
+    }
+    if text.eq_ignore_ascii_case("wait".as_bytes()) {
+        return Some(ActKind::Wait);
+    }
+    if text.eq_ignore_ascii_case("turnaround".as_bytes()) {
+        return Some(ActKind::Turnaround);
+    }
+    if text.eq_ignore_ascii_case("change".as_bytes()) {
+        return Some(ActKind::Change);
+    }
+    if text.eq_ignore_ascii_case("headway".as_bytes()) {
+        return Some(ActKind::Headway);
+    }
+    None
+}
+
+// The kind of a good record.
+fn kind_under(columns: &[Option<Column>], record: &ByteRecord) -> ActKind
+    requires good { IsGood IsActivityWord columns.now (taken_fields record.now) }
+    requires columns { HasAll columns.now activity_required }
+    ensures { IsWord (activity_word result) (text_under columns.now (taken_fields record.now) Column.Kind) }
+{
+    match activity_kind(text_under(columns, record, Column::Kind)) {
+        Some(kind) => kind,
+        None => unreachable!(),
+    }
+}
+
+impl Row for ActRow {
+    ghost is_known = { IsActivityWord };
+
+    ghost is_row = { IsActivityRow };
+
+    ghost has_columns = { λ columns. HasAll columns activity_required };
+
+    fn is_type_word(text: &[u8]) -> bool {
+        activity_kind(text).is_some()
+    }
+
+    fn take(columns: &[Option<Column>], record: &ByteRecord) -> ActRow {
+        ActRow {
+            id: ActId(whole_under(columns, record, Column::Id) as u32),
+            kind: kind_under(columns, record),
+            tail: EventId(whole_under(columns, record, Column::Tail) as u32),
+            head: EventId(whole_under(columns, record, Column::Head) as u32),
+            lower: whole_under(columns, record, Column::Lower),
+            weight: weight_under(columns, record),
+        }
+    }
+}
+
+/// The activities of a file, in file order, or the first record that breaks a rule.
+///
+/// The bytes are at most `FILE`. Memory may run out; whatever else is answered, the bytes determine it.
+pub fn read_activities(
+    alloc: Global,
+    bytes: &[u8],
+    columns: &Columns,
+) -> Result<Vec<ActRow>, FileFault>
+    requires { length bytes.now ≤ FILE }
+    ensures rows { IfOk result (λ v. ReadsActivities columns.now.activities bytes.now (Ok v.items)) }
+    ensures fault { IfErr result (λ fault. (fault ≡ no_memory) ⊎ ReadsActivities columns.now.activities bytes.now (Err fault)) }
+    // What the grammar reads is what is answered, unless memory runs out.
+    ensures only { (answer : Result (List ActRow) FileFault) → ReadsActivities columns.now.activities bytes.now answer →
+        MatchResult result (λ v. answer ≡ Ok v.items) (λ fault. (fault ≡ no_memory) ⊎ (answer ≡ Err fault)) }
+{
+    read_rows(alloc, bytes, columns.activities())
+}

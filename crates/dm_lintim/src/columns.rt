@@ -1,0 +1,160 @@
+//! The columns of the files, and the words that name them.
+ghost use Rattle.std.specs.Prelude.{◌≡◌};
+ghost use Rattle.dm_lintim.specs.Columns.{HasAll, ReadsFileColumns, activity_columns, activity_required, event_columns, event_required, standard_columns};
+
+use crate::layout::Layout;
+use crate::words::read_columns;
+use std::marker::Model;
+
+/// A column of a file. The others than these are passed over, as are `PeriodicId` and `Upper`.
+#[derive(Clone, Copy, PartialEq, Eq, Debug)]
+pub enum Column {
+    Id,
+    PeriodicId,
+    Kind,
+    Time,
+    Weight,
+    Stop,
+    Tail,
+    Head,
+    Lower,
+    Upper,
+    Delay,
+}
+
+/// Why a list of column words gives no columns. A place counts the words of its text from 0.
+#[derive(Clone, Copy, PartialEq, Eq, Debug)]
+pub enum ColumnFault {
+    /// The word names no column of the file.
+    UnknownColumn(usize),
+
+    /// The word names a column that an earlier one names.
+    DoubleColumn(usize),
+
+    /// A 17th column.
+    TooMany,
+
+    /// No word names this column, which the file must have.
+    MissingColumn(Column),
+}
+
+impl Column {
+    ghost use Rattle.dm_lintim.specs.Columns.{column_name, same_column};
+
+    /// The word that names the column.
+    pub fn name(self) -> &'static str
+        ensures { result.now ≡ column_name self }
+    {
+        match self {
+            Column::Id => "id",
+            Column::PeriodicId => "periodic-id",
+            Column::Kind => "type",
+            Column::Time => "time",
+            Column::Weight => "weight",
+            Column::Stop => "stop",
+            Column::Tail => "tail",
+            Column::Head => "head",
+            Column::Lower => "lower",
+            Column::Upper => "upper",
+            Column::Delay => "delay",
+        }
+    }
+
+    pub(crate) fn is(self, other: Column) -> bool
+        ensures { result ≡ same_column self other }
+    {
+        self == other
+    }
+}
+
+// The columns that a file of events may have, in the standard order, and those that it must have.
+const EVENTS: [Column; 6] = [
+    Column::Id,
+    Column::PeriodicId,
+    Column::Kind,
+    Column::Time,
+    Column::Weight,
+    Column::Stop,
+];
+
+const EVENTS_REQUIRED: [Column; 4] = [Column::Id, Column::Kind, Column::Time, Column::Weight];
+
+// The same of a file of activities.
+const ACTIVITIES: [Column; 8] = [
+    Column::Id,
+    Column::PeriodicId,
+    Column::Kind,
+    Column::Tail,
+    Column::Head,
+    Column::Lower,
+    Column::Upper,
+    Column::Weight,
+];
+
+const ACTIVITIES_REQUIRED: [Column; 6] = [
+    Column::Id,
+    Column::Kind,
+    Column::Tail,
+    Column::Head,
+    Column::Lower,
+    Column::Weight,
+];
+
+/// The columns of the event files and of the activity files, in the order in which they stand there. It takes no
+/// memory.
+#[derive(Debug, Drop)]
+pub struct Columns {
+    events: Layout,
+    activities: Layout,
+}
+
+impl Model for Columns {
+    ghost use Rattle.dm_lintim.specs.Columns.{FileColumns, HasRequired};
+
+    ghost Value = { FileColumns };
+
+    ghost view = { λ a. record { events = a.events; activities = a.activities } };
+
+    ghost invariant = { λ a. HasRequired a.events a.activities };
+}
+
+impl Columns {
+    /// The standard columns, in the standard order: of events `id,periodic-id,type,time,weight,stop`, of activities
+    /// `id,periodic-id,type,tail,head,lower,upper,weight`.
+    pub fn standard() -> Columns
+        ensures { result ≡ standard_columns }
+    {
+        Columns {
+            events: Layout::of(&EVENTS),
+            activities: Layout::of(&ACTIVITIES),
+        }
+    }
+
+    /// The columns that two texts name, each a list of column words separated by commas: at most 16, in any order,
+    /// none twice but `-`, which passes a column over. The text of the events is tested first. Each text is refused
+    /// at the first word that breaks a rule, or else for the first required column, in the standard order, that no
+    /// word names.
+    pub fn read(events: &str, activities: &str) -> Result<Columns, ColumnFault>
+        ensures { ReadsFileColumns events.now activities.now result }
+    {
+        let events = read_columns(&EVENTS, &EVENTS_REQUIRED, events.as_bytes())?;
+        let activities = read_columns(&ACTIVITIES, &ACTIVITIES_REQUIRED, activities.as_bytes())?;
+        Ok(Columns { events, activities })
+    }
+
+    /// The columns of the events, `None` for one that is passed over.
+    pub(crate) fn events(&self) -> &[Option<Column>]
+        ensures columns { result.now ≡ self.now.events }
+        ensures required { HasAll result.now event_required }
+    {
+        self.events.as_slice()
+    }
+
+    /// The columns of the activities.
+    pub(crate) fn activities(&self) -> &[Option<Column>]
+        ensures columns { result.now ≡ self.now.activities }
+        ensures required { HasAll result.now activity_required }
+    {
+        self.activities.as_slice()
+    }
+}

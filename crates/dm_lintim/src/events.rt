@@ -1,0 +1,82 @@
+//! Files of events.
+ghost use Rattle.std.specs.Prelude.{◌≡◌, ◌≤◌, ◌⊎◌, List, Result, Ok, Err, length, IfOk, IfErr, MatchResult, IfSome, IfNone};
+ghost use Rattle.dm_base.specs.declared.rows.EventRow.{EventRow};
+ghost use Rattle.dm_lintim.specs.declared.fault.FileFault.{FileFault};
+ghost use Rattle.dm_lintim.specs.Columns.{HasAll, event_required};
+ghost use Rattle.dm_lintim.specs.Files.{IsEventRow, IsEventWord, IsGood, IsWord, ReadsEvents, event_word, no_memory, text_under};
+ghost use Rattle.dm_lintim.specs.Split.{taken_fields};
+
+use crate::cells::{text_under, weight_under, whole_under};
+use crate::columns::{Column, Columns};
+use crate::fault::FileFault;
+use crate::rows::{Row, read_rows};
+use csv::ByteRecord;
+use dm_base::limits::FILE;
+use dm_base::{EventId, EventKind, EventRow, StopId};
+use std::alloc::Global;
+
+// The kind that a type word names; ASCII letters count in either case.
+fn event_kind(text: &[u8]) -> Option<EventKind>
+    ensures found { IfSome result (λ k. IsWord (event_word k) text.now) }
+    ensures none { IfNone result (IsEventWord text.now → ⊥) }
+{
+    if text.eq_ignore_ascii_case("departure".as_bytes()) {
+        return Some(EventKind::Departure);
+    }
+    if text.eq_ignore_ascii_case("arrival".as_bytes()) {
+        return Some(EventKind::Arrival);
+    }
+    None
+}
+
+// The kind of a good record.
+fn kind_under(columns: &[Option<Column>], record: &ByteRecord) -> EventKind
+    requires good { IsGood IsEventWord columns.now (taken_fields record.now) }
+    requires columns { HasAll columns.now event_required }
+    ensures { IsWord (event_word result) (text_under columns.now (taken_fields record.now) Column.Kind) }
+{
+    match event_kind(text_under(columns, record, Column::Kind)) {
+        Some(kind) => kind,
+        None => unreachable!(),
+    }
+}
+
+impl Row for EventRow {
+    ghost is_known = { IsEventWord };
+
+    ghost is_row = { IsEventRow };
+
+    ghost has_columns = { λ columns. HasAll columns event_required };
+
+    fn is_type_word(text: &[u8]) -> bool {
+        event_kind(text).is_some()
+    }
+
+    fn take(columns: &[Option<Column>], record: &ByteRecord) -> EventRow {
+        EventRow {
+            id: EventId(whole_under(columns, record, Column::Id) as u32),
+            kind: kind_under(columns, record),
+            time: whole_under(columns, record, Column::Time),
+            weight: weight_under(columns, record),
+            stop: StopId(whole_under(columns, record, Column::Stop) as u32),
+        }
+    }
+}
+
+/// The events of a file, in file order, or the first record that breaks a rule.
+///
+/// The bytes are at most `FILE`. Memory may run out; whatever else is answered, the bytes determine it.
+pub fn read_events(
+    alloc: Global,
+    bytes: &[u8],
+    columns: &Columns,
+) -> Result<Vec<EventRow>, FileFault>
+    requires { length bytes.now ≤ FILE }
+    ensures rows { IfOk result (λ v. ReadsEvents columns.now.events bytes.now (Ok v.items)) }
+    ensures fault { IfErr result (λ fault. (fault ≡ no_memory) ⊎ ReadsEvents columns.now.events bytes.now (Err fault)) }
+    // What the grammar reads is what is answered, unless memory runs out.
+    ensures only { (answer : Result (List EventRow) FileFault) → ReadsEvents columns.now.events bytes.now answer →
+        MatchResult result (λ v. answer ≡ Ok v.items) (λ fault. (fault ≡ no_memory) ⊎ (answer ≡ Err fault)) }
+{
+    read_rows(alloc, bytes, columns.events())
+}

@@ -1,0 +1,63 @@
+//! What is taken of a field: the part without blanks at its ends and without one pair of quotes.
+ghost use Rattle.std.specs.Prelude.{◌≡◌, ◌-◌, ◌+◌, ◌≤◌, length};
+ghost use Rattle.std.specs.List.{prefix_len, suffix_len};
+ghost use Rattle.dm_lintim.specs.Pieces.{is_blank, taken, unquoted, without_front_blanks, without_end_blanks};
+
+fn is_blank(byte: u8) -> bool
+    ensures { result ≡ is_blank byte }
+{
+    byte == b' ' || byte == b'\t'
+}
+
+// How many blanks stand at the front.
+fn front_blanks(text: &[u8]) -> usize
+    ensures count { result ≡ prefix_len is_blank text.now }
+    ensures within { result ≤ length text.now }
+{
+    let mut count = 0;
+    while count < text.len() && is_blank(text[count]) {
+        count += 1;
+    }
+    count
+}
+
+// The place after the last byte that is no blank.
+fn end_without_blanks(text: &[u8]) -> usize
+    ensures { result + suffix_len is_blank text.now ≡ length text.now }
+{
+    let mut end = text.len();
+    while end > 0 && is_blank(text[end - 1]) {
+        end -= 1;
+    }
+    end
+}
+
+fn trim_front(text: &[u8]) -> &[u8]
+    ensures { result.now ≡ without_front_blanks text.now }
+{
+    &text[front_blanks(text)..]
+}
+
+fn trim_end(text: &[u8]) -> &[u8]
+    ensures { result.now ≡ without_end_blanks text.now }
+{
+    &text[..end_without_blanks(text)]
+}
+
+fn unquoted(text: &[u8]) -> &[u8]
+    ensures { result.now ≡ unquoted text.now }
+{
+    let end = text.len();
+    if end >= 2 && text[0] == b'"' && text[end - 1] == b'"' {
+        &text[1..end - 1]
+    } else {
+        text
+    }
+}
+
+/// The field as it is taken.
+pub(crate) fn taken(field: &[u8]) -> &[u8]
+    ensures { result.now ≡ taken field.now }
+{
+    unquoted(trim_end(trim_front(field)))
+}

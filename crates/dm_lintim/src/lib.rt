@@ -1,0 +1,28 @@
+//! The network and delay files: events, activities and delays from bytes, exactly.
+//!
+//! It stands on dm_base, for the rows and the readers of numbers, and on `csv`, which splits a file into records. It
+//! promises that [`read_events`], [`read_activities`] and [`read_delays`] give exactly the rows that the grammar in
+//! `specs/` relates to the bytes, in file order, or the first record that breaks a rule and in it the first column;
+//! that [`Columns::read`] refuses at the first word that breaks a rule; and, in [`laws`], that the grammar relates at
+//! most one answer to given bytes, and that the split of `csv` is the plain one.
+#![tactic(auto)]
+
+mod activities;
+mod cells;
+mod columns;
+mod delays;
+mod events;
+mod fault;
+mod field;
+pub mod laws;
+mod layout;
+mod records;
+mod rows;
+mod words;
+
+pub use activities::read_activities;
+pub use columns::{Column, ColumnFault, Columns};
+pub use delays::read_delays;
+pub use dm_base::{ActKind, ActRow, DelayRow, EventKind, EventRow};
+pub use events::read_events;
+pub use fault::{FileFault, FileKind};
