@@ -1,3 +1,7 @@
 pub mod Adopting
 pub mod AsGraph
+pub mod AtStart
 pub mod FlipLemmas
+pub mod PairEnds
+pub mod StartDelays
+pub mod StartSizes

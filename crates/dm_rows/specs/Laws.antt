@@ -2,7 +2,10 @@
 use Rattle.std.specs.Prelude.{ℕ, ◌≡◌, ◌<◌, ◌↔◌, List, [], ◌∷◌, length, Some}
 use Rattle.dm_graph.specs.Graph.{Meets as MeetsGraph, IsLeast as IsLeastOfGraph}
 use Rattle.dm_network.specs.Net.{Net, EndsAreKnown}
-use Rattle.dm_rows.specs.Rows.{RowsValue, passed_at}
+use Rattle.dm_base.specs.declared.rows.DelayRow.{DelayRow}
+use Rattle.dm_network.specs.Start.{IsFormed, is_start_active}
+use Rattle.dm_rows.specs.Rows.{RowsValue, passed_at, start_rows_of}
+use Rattle.dm_rows.specs.Active.{is_active}
 use Rattle.dm_rows.specs.Cost.{cost_of}
 use Rattle.dm_rows.specs.Examples.{connection, at_start, delayed, with_drop, with_second_first, with_passed}
 use Rattle.dm_rows.specs.Timetable.{Meets, IsLeast, graph_of, time_at}
@@ -37,3 +40,9 @@ pub record CostsOfMisses : Type 0 where
   pub missed : cost_of connection (with_passed 231 delayed) (160 ∷ 250 ∷ 260 ∷ 340 ∷ 231 ∷ 330 ∷ []) 10 ≡ 940000
   pub missed_dropped : cost_of connection (with_passed 215 (with_drop at_start)) (100 ∷ 200 ∷ 223 ∷ 303 ∷ 215 ∷ 330 ∷ []) 10 ≡ 70000
   pub met : cost_of connection (with_passed 400 at_start) (100 ∷ 200 ∷ 408 ∷ 488 ∷ 400 ∷ 495 ∷ []) 10 ≡ 2705000
+
+-- what binds at the start is what is active under the start rows, whatever their delays
+abbrev pub StartActivityAgrees : Type 0
+StartActivityAgrees =
+    (net : Net) (events activities : List DelayRow) (a : ℕ) → IsFormed net → a < length net.activities →
+    is_start_active net a ≡ is_active net (start_rows_of net events activities) a

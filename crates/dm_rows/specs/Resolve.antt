@@ -1,8 +1,8 @@
 -- What the ids of a message name, and the rows after it.
-use Rattle.std.specs.Prelude.{ℕ, ◌==◌, Bool, true, false, List, [], ◌∷◌, ◌++◌, fold, Option, Some, None, option_map, slice_set}
+use Rattle.std.specs.Prelude.{ℕ, ◌==◌, true, false, List, [], ◌∷◌, ◌++◌, fold, Option, Some, None, option_map, slice_set}
 use Rattle.std.specs.Option.{option_and_then}
 use Rattle.dm_base.specs.declared.ids.EventId.{EventId}
-use Rattle.dm_network.specs.Net.{Net, event_at, pair_at, event_place, activity_place}
+use Rattle.dm_network.specs.Net.{Net, pair_at, event_place, activity_place}
 use Rattle.dm_network.specs.Pairs.{pair_place}
 use Rattle.dm_rows.specs.declared.messages.Decision.{Decision}
 use Rattle.dm_rows.specs.declared.messages.Decision.TheVariants.{Keep as KeepIt, Drop as DropIt, First as FirstOf}

@@ -1,6 +1,6 @@
 //! What holds of all rows. A law has no code: it is proved as the contract of an empty function.
 
-ghost use Rattle.dm_rows.specs.Laws.{MeetsAsGraph, LeastAsGraph, CostsOfChoices, CostsOfMisses};
+ghost use Rattle.dm_rows.specs.Laws.{MeetsAsGraph, LeastAsGraph, CostsOfChoices, CostsOfMisses, StartActivityAgrees};
 
 /// A timetable meets the rows exactly where it meets their graph and each passed event has its time.
 pub fn meets_as_graph()
@@ -20,4 +20,9 @@ pub fn costs_of_choices()
 /// What a change costs that its passed head has missed.
 pub fn costs_of_misses()
     ensures { CostsOfMisses }
+{}
+
+/// What binds at the start is what is active under the start rows.
+pub fn start_activity_agrees()
+    ensures { StartActivityAgrees }
 {}

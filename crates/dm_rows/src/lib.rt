@@ -9,8 +9,10 @@ mod admission;
 pub mod laws;
 mod messages;
 mod rows;
+mod starting;
 
 pub use activity::is_active;
 pub use admission::{admit, flip_of};
 pub use messages::{At, Change, Choice, Decision, Entry, Flip, Message, Refusal, StartFault};
 pub use rows::{Rows, Snapshot};
+pub use starting::start_rows;

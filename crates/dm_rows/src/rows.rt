@@ -1,12 +1,15 @@
 //! The rows of a day, and what one message does to them.
-ghost use Rattle.std.specs.Prelude.{◌≡◌, ◌<◌, ◌≤◌, length, All, fold, IfOk, IfSome};
+ghost use Rattle.std.specs.Prelude.{ℕ, slice_index_or, ◌≡◌, ◌<◌, ◌≤◌, length, All, fold, IfOk, IfSome};
 ghost use Rattle.dm_rows.specs.Rows.{RowsAreWithinLimits, event_delay_at, act_delay_at, passed_at, kept_at, small_first_at};
+ghost use Rattle.dm_rows.specs.StartFaults.{IsStartWith};
 ghost use Rattle.dm_rows.specs.Resolve.{after_change, after_flip};
 ghost use Rattle.dm_rows.specs.Reach.{Reaches, ReachesFlip};
 
 use crate::messages::{Change, Flip};
+use crate::starting::first_events;
 use dm_base::Secs;
 use dm_base::limits::{DELAY, PASSED_TIME};
+use dm_network::Network;
 use std::alloc::{AllocError, Global};
 use std::marker::Model;
 
@@ -45,6 +48,27 @@ pub struct Snapshot {
 }
 
 impl Rows {
+    /// The rows at the start with these delays.
+    pub(crate) fn at_start(
+        alloc: Global,
+        net: &Network,
+        event_delays: Vec<Secs>,
+        act_delays: Vec<Secs>,
+    ) -> Result<Rows, AllocError>
+        requires events_within { (i : ℕ) → slice_index_or event_delays.items i 0 ≤ DELAY }
+        requires activities_within { (a : ℕ) → slice_index_or act_delays.items a 0 ≤ DELAY }
+        ensures { IfOk result (IsStartWith net.now event_delays.items act_delays.items) }
+    {
+        Ok(Rows {
+            alloc,
+            event_delays,
+            act_delays,
+            passed: vec![in alloc; None; net.events()]?,
+            kept: vec![in alloc; true; net.activities()]?,
+            small_first: first_events(alloc, net)?,
+        })
+    }
+
     /// The source delay of the event at this place, in seconds.
     pub fn event_delay(&self, i: usize) -> Secs
         requires { i < length self.now.event_delays }

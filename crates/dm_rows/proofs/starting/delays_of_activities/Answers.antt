@@ -1,0 +1,17 @@
+use Rattle.std.proofs.Common.{arith, sym}
+use Rattle.std.proofs.lemmas.List.{get_or_default}
+use Rattle.dm_rows.proofs.StartDelays.{one_more_delay, all_delays, all_known, activity_alone}
+use Rattle.dm_rows.proofs.starting.delays_of_activities.Goals as goal
+
+pub loop-record-preserved : goal.loop-record-preserved
+loop-record-preserved c =
+    one_more_delay _ _ _ c.args.records.now c.loop-record.record-index c.loop-record.delays.items _ c.in-Some.act c.requires
+    c.loop-record.invariant c.loop-record-test.true
+    (get_or_default c.args.records.now c.loop-record.record-index _ _ c.loop-record-test.true)
+    (sym c.in-Some.ensures) (activity_alone c.args.net.now c.events-sound.ensures.network _ c.in-Some.act (sym c.in-Some.ensures))
+
+pub returns-clause-delays : goal.returns-clause-delays
+returns-clause-delays c = all_delays _ _ _ c.args.records.now c.loop-record.record-index _ (omega arith) c.loop-record.invariant
+
+pub returns-clause-known : goal.returns-clause-known
+returns-clause-known c = all_known _ _ _ c.args.records.now c.loop-record.record-index _ (omega arith) c.loop-record.invariant
