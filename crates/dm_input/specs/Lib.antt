@@ -1,0 +1,4 @@
+pub mod Words
+pub mod RunWords
+pub mod Input
+pub mod Lines
