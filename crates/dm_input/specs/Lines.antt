@@ -4,6 +4,7 @@ use Rattle.std.specs.List.{flat_map}
 use Rattle.std.specs.Fmt.{decimal}
 use Rattle.dm_base.specs.declared.ids.ActId.{ActId}
 use Rattle.dm_lintim.specs.Columns.{column_name}
+use Rattle.dm_lintim.specs.declared.fault.FileFault.{FileFault}
 use Rattle.dm_lintim.specs.declared.fault.FileKind.{FileKind}
 use Rattle.dm_lintim.specs.declared.fault.FileKind.TheVariants.{FieldCount, BadNumber, TooLarge, UnknownType, ByteOrderMark, OutOfMemory}
 use Rattle.dm_network.specs.declared.parts.NetFault.{NetFault}
@@ -26,12 +27,12 @@ abbrev pub name_of : Command → Part → List ℕ
 name_of command part = unwrap_or (part_name command part) []
 
 -- the rule that a record breaks; for want of memory nothing is written
-unfoldable pub kind_text : FileKind → List ℕ
+abbrev pub kind_text : FileKind → List ℕ
 kind_text (FieldCount n) = joined (codes " field-count " ∷ decimal n ∷ [])
 kind_text (BadNumber column) = joined (codes " bad-number " ∷ column_name column ∷ [])
 kind_text (TooLarge column) = joined (codes " too-large " ∷ column_name column ∷ [])
-kind_text UnknownType = codes " unknown-type"
-kind_text ByteOrderMark = codes " byte-order-mark"
+kind_text UnknownType = joined (codes " unknown-type" ∷ [])
+kind_text ByteOrderMark = joined (codes " byte-order-mark" ∷ [])
 kind_text OutOfMemory = []
 
 -- an activity's id behind those before it
@@ -42,8 +43,8 @@ id_text id = joined (codes " " ∷ decimal id.0 ∷ [])
 abbrev pub cycle_text : List ActId → List ℕ
 cycle_text ids = codes " cycle" ++ flat_map id_text ids
 
-unfoldable pub network_text : NetFault → List ℕ
-network_text TooMany = codes " too-many"
+abbrev pub network_text : NetFault → List ℕ
+network_text TooMany = joined (codes " too-many" ∷ [])
 network_text (DoubleEvent id) = joined (codes " double-event " ∷ decimal id.0 ∷ [])
 network_text (DoubleActivity id) = joined (codes " double-activity " ∷ decimal id.0 ∷ [])
 network_text (UnknownEvent id) = joined (codes " unknown-event " ∷ decimal id.0 ∷ [])
@@ -51,7 +52,7 @@ network_text (ZeroHeadway id) = joined (codes " zero-headway " ∷ decimal id.0 
 network_text (Cycle ids) = cycle_text ids
 network_text NoNetworkMemory = []
 
-unfoldable pub start_text : StartFault → List ℕ
+abbrev pub start_text : StartFault → List ℕ
 start_text (UnknownDelayedEvent id) = joined (codes " unknown-event " ∷ decimal id.0 ∷ [])
 start_text (UnknownActivity id) = joined (codes " unknown-activity " ∷ decimal id.0 ∷ [])
 start_text NoStartMemory = []
@@ -64,19 +65,29 @@ long_text Activities = codes " too-long"
 long_text EventDelays = codes " too-long"
 long_text ActivityDelays = codes " too-long"
 
+abbrev pub number_text : ℕ → List ℕ
+number_text number = joined (codes " record " ∷ decimal number ∷ [])
+
+-- a record that breaks a rule
+abbrev pub record_text : Command → Part → FileFault → List ℕ
+record_text command part fault = name_of command part ++ (number_text fault.number ++ kind_text fault.kind)
+
+-- a part with too many bytes
+abbrev pub too_long_text : Command → Part → List ℕ
+too_long_text command part = name_of command part ++ long_text part
+
 -- what is refused, and why
-unfoldable pub flaw_text : Command → Flaw → List ℕ
-flaw_text command (Record part fault) =
-    joined (name_of command part ∷ codes " record " ∷ decimal fault.number ∷ kind_text fault.kind ∷ [])
-flaw_text command (TooLong part) = joined (name_of command part ∷ long_text part ∷ [])
-flaw_text command (Network fault) = joined (codes "network" ∷ network_text fault ∷ [])
-flaw_text command (Start fault) = joined (codes "start" ∷ start_text fault ∷ [])
+abbrev pub flaw_text : Command → Flaw → List ℕ
+flaw_text command (Record part fault) = record_text command part fault
+flaw_text command (TooLong part) = too_long_text command part
+flaw_text command (Network fault) = codes "network" ++ network_text fault
+flaw_text command (Start fault) = codes "start" ++ start_text fault
 
 abbrev pub refused_line : Command → Flaw → List ℕ
-refused_line command flaw = joined (codes "refused " ∷ flaw_text command flaw ∷ line_end ∷ [])
+refused_line command flaw = codes "refused " ++ (flaw_text command flaw ++ line_end)
 
 abbrev pub read_fault_line : Command → Part → List ℕ
-read_fault_line command part = joined (codes "read fault " ∷ name_of command part ∷ line_end ∷ [])
+read_fault_line command part = codes "read fault " ++ (name_of command part ++ line_end)
 
 abbrev pub usage_line : List ℕ
 usage_line = codes "usage: run DIR FEED.. | check DIR TEXT | gen NUMBER TRAINS" ++ line_end

@@ -1,20 +1,21 @@
 //! The lines that say why there is no run.
-ghost use Rattle.std.specs.Prelude.{◌≡◌};
+ghost use Rattle.std.specs.Prelude.{◌≡◌, [], ◌++◌, codes, unwrap_or};
+ghost use Rattle.std.specs.Option.{option_map};
+ghost use Rattle.dm_input.specs.Words.{in_folder};
 ghost use Rattle.std.specs.List.{flat_map};
 ghost use Rattle.dm_outside.specs.Printing.{Puts, Prints};
 ghost use Rattle.dm_input.specs.RunWords.{command_of};
-ghost use Rattle.dm_input.specs.Lines.{name_of, kind_text, id_text, cycle_text, network_text, start_text, long_text, flaw_text, refused_line, read_fault_line, usage_line};
+ghost use Rattle.dm_input.specs.Lines.{name_of, kind_text, id_text, cycle_text, network_text, start_text, long_text, record_text, too_long_text, flaw_text, refused_line, read_fault_line, usage_line};
 
 use crate::parts::{Flaw, Part};
 use crate::words::RunWords;
 use dm_base::ActId;
-use dm_lintim::FileKind;
+use dm_lintim::{FileFault, FileKind};
 use dm_network::NetFault;
 use dm_outside::{Page, Piece, Sink, WriteFault, put_all};
 use dm_rows::StartFault;
 
 /// Prints the rule that a record breaks.
-#[tactic(auto, unfolding(crate::specs::Lines::kind_text))]
 fn print_kind<K: Sink>(sink: &mut K, page: &mut Page, kind: FileKind) -> Result<(), WriteFault>
     ensures { Prints K.taken K.faults sink.old sink.new page.old page.new result (kind_text kind) }
 {
@@ -66,7 +67,6 @@ fn print_cycle<K: Sink>(sink: &mut K, page: &mut Page, ids: &[ActId]) -> Result<
 }
 
 /// Prints why records make no network.
-#[tactic(auto, unfolding(crate::specs::Lines::network_text))]
 fn print_network<K: Sink>(
     sink: &mut K,
     page: &mut Page,
@@ -98,7 +98,6 @@ fn print_network<K: Sink>(
 }
 
 /// Prints why delays make no start rows.
-#[tactic(auto, unfolding(crate::specs::Lines::start_text))]
 fn print_start<K: Sink>(
     sink: &mut K,
     page: &mut Page,
@@ -117,4 +116,197 @@ fn print_start<K: Sink>(
         ),
         StartFault::OutOfMemory => page.put(sink, &[]),
     }
+}
+
+/// What is said of a part with too many bytes.
+fn long_text(part: Part) -> &'static str
+    ensures { result.now ≡ long_text part }
+{
+    match part {
+        Part::Feed => "",
+        Part::Events | Part::Activities | Part::EventDelays | Part::ActivityDelays => " too-long",
+    }
+}
+
+/// Prints the name of a part, as it is opened.
+fn print_name<K: Sink>(
+    sink: &mut K,
+    page: &mut Page,
+    run: &RunWords<'_>,
+    part: Part,
+) -> Result<(), WriteFault>
+    ensures { Prints K.taken K.faults sink.old sink.new page.old page.new result (name_of (command_of run.now) part) }
+{
+    match part {
+        Part::Events => print_in_folder(sink, page, run.folder, Some("Events-expanded.giv")),
+        Part::Activities => print_in_folder(sink, page, run.folder, Some("Activities-expanded.giv")),
+        Part::EventDelays => print_in_folder(sink, page, run.folder, run.event_delays),
+        Part::ActivityDelays => print_in_folder(sink, page, run.folder, run.activity_delays),
+        Part::Feed => page.put(sink, &[Piece::Text(run.feed)]),
+    }
+}
+
+/// Prints the name of a file of the folder, or nothing.
+fn print_in_folder<'x, K: Sink>(
+    sink: &mut K,
+    page: &mut Page,
+    folder: &'x str,
+    name: Option<&'x str>,
+) -> Result<(), WriteFault>
+    ensures { Prints K.taken K.faults sink.old sink.new page.old page.new result (unwrap_or (option_map (λ x. folder.now ++ (codes "/" ++ x.now)) name.entry) []) }
+{
+    match name {
+        None => page.put(sink, &[]),
+        Some(name) => page.put(
+            sink,
+            &[
+                Piece::Text(folder),
+                Piece::Text("/"),
+                Piece::Text(name),
+            ],
+        ),
+    }
+}
+
+/// Prints what is refused, and why.
+fn print_flaw<K: Sink>(
+    sink: &mut K,
+    page: &mut Page,
+    run: &RunWords<'_>,
+    flaw: &Flaw,
+) -> Result<(), WriteFault>
+    ensures { Prints K.taken K.faults sink.old sink.new page.old page.new result (flaw_text (command_of run.now) flaw.now) }
+{
+    match flaw {
+        Flaw::Record(part, fault) => print_record(sink, page, run, *part, *fault),
+        Flaw::TooLong(part) => print_long(sink, page, run, *part),
+        Flaw::Network(fault) => {
+            let Ok(()) = page.put(sink, &[Piece::Text("network")]) else {
+                return Err(WriteFault);
+            };
+            print_network(sink, page, fault)
+        }
+        Flaw::Start(fault) => {
+            let Ok(()) = page.put(sink, &[Piece::Text("start")]) else {
+                return Err(WriteFault);
+            };
+            print_start(sink, page, fault)
+        }
+    }
+}
+
+/// Prints that a record breaks a rule.
+fn print_record<K: Sink>(
+    sink: &mut K,
+    page: &mut Page,
+    run: &RunWords<'_>,
+    part: Part,
+    fault: FileFault,
+) -> Result<(), WriteFault>
+    ensures { Prints K.taken K.faults sink.old sink.new page.old page.new result (record_text (command_of run.now) part fault) }
+{
+    let Ok(()) = print_name(sink, page, run, part) else {
+        return Err(WriteFault);
+    };
+    let Ok(()) = page.put(
+        sink,
+        &[
+            Piece::Text(" record "),
+            Piece::Number(fault.number as u128),
+        ],
+    ) else {
+        return Err(WriteFault);
+    };
+    print_kind(sink, page, fault.kind)
+}
+
+/// Prints that a part has too many bytes.
+fn print_long<K: Sink>(
+    sink: &mut K,
+    page: &mut Page,
+    run: &RunWords<'_>,
+    part: Part,
+) -> Result<(), WriteFault>
+    ensures { Prints K.taken K.faults sink.old sink.new page.old page.new result (too_long_text (command_of run.now) part) }
+{
+    let Ok(()) = print_name(sink, page, run, part) else {
+        return Err(WriteFault);
+    };
+    page.put_bytes(sink, long_text(part).as_bytes())
+}
+
+/// Prints the line of what is refused.
+fn print_refused_line<K: Sink>(
+    sink: &mut K,
+    page: &mut Page,
+    run: &RunWords<'_>,
+    flaw: &Flaw,
+) -> Result<(), WriteFault>
+    ensures { Prints K.taken K.faults sink.old sink.new page.old page.new result (refused_line (command_of run.now) flaw.now) }
+{
+    let Ok(()) = page.put(sink, &[Piece::Text("refused ")]) else {
+        return Err(WriteFault);
+    };
+    let Ok(()) = print_flaw(sink, page, run, flaw) else {
+        return Err(WriteFault);
+    };
+    page.put(sink, &[Piece::Text("\n")])
+}
+
+/// Prints the line of what could not be read.
+fn print_read_fault_line<K: Sink>(
+    sink: &mut K,
+    page: &mut Page,
+    run: &RunWords<'_>,
+    part: Part,
+) -> Result<(), WriteFault>
+    ensures { Prints K.taken K.faults sink.old sink.new page.old page.new result (read_fault_line (command_of run.now) part) }
+{
+    let Ok(()) = page.put(sink, &[Piece::Text("read fault ")]) else {
+        return Err(WriteFault);
+    };
+    let Ok(()) = print_name(sink, page, run, part) else {
+        return Err(WriteFault);
+    };
+    page.put(sink, &[Piece::Text("\n")])
+}
+
+/// Puts the line of what is refused.
+pub fn put_refused<K: Sink>(
+    sink: &mut K,
+    run: &RunWords<'_>,
+    flaw: &Flaw,
+) -> Result<(), WriteFault>
+    ensures { Puts K.taken K.faults sink.old sink.new result (refused_line (command_of run.now) flaw.now) }
+{
+    let mut page = Page::new();
+    let Ok(()) = print_refused_line(sink, &mut page, run, flaw) else {
+        return Err(WriteFault);
+    };
+    page.finish(sink)
+}
+
+/// Puts the line of what could not be read.
+pub fn put_read_fault<K: Sink>(
+    sink: &mut K,
+    run: &RunWords<'_>,
+    part: Part,
+) -> Result<(), WriteFault>
+    ensures { Puts K.taken K.faults sink.old sink.new result (read_fault_line (command_of run.now) part) }
+{
+    let mut page = Page::new();
+    let Ok(()) = print_read_fault_line(sink, &mut page, run, part) else {
+        return Err(WriteFault);
+    };
+    page.finish(sink)
+}
+
+/// Puts the usage line.
+pub fn put_usage<K: Sink>(sink: &mut K) -> Result<(), WriteFault>
+    ensures { Puts K.taken K.faults sink.old sink.new result usage_line }
+{
+    put_all(
+        sink,
+        b"usage: run DIR FEED.. | check DIR TEXT | gen NUMBER TRAINS\n",
+    )
 }

@@ -3,4 +3,7 @@ use Rattle.dm_input.proofs.Asking.{asks_same}
 use Rattle.dm_input.proofs.words.read_words.Goals as goal
 
 pub returns : goal.returns
-returns c = let h = c.in-Some.ensures in ?
+returns c =
+    asks_same _ _ _
+    (ap (map string_bytes) c.in-Some.ensures.cases.0 ∙ ap (λ word. word ∷ map string_bytes c.in-Some.rest.now) (sym c.as_str.ensures.value))
+    c.read_with.ensures

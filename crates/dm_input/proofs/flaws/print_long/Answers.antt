@@ -1,0 +1,10 @@
+use Rattle.std.proofs.Common.{sym}
+use Rattle.dm_input.specs.Lines.{long_text}
+use Rattle.dm_outside.proofs.Printing.{prints_fault, prints_last}
+use Rattle.dm_input.proofs.flaws.print_long.Goals as goal
+
+pub returns-in_default : goal.returns-in_default
+returns-in_default g c = prints_fault (long_text c.args.part) c.in_default.ensures
+
+pub returns : goal.returns
+returns g c = ?
