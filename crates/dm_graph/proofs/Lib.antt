@@ -4,3 +4,7 @@ pub mod Timetables
 pub mod Joins
 pub mod WalkSteps
 pub mod WalkGoesOn
+pub mod Found
+pub mod Ranks
+pub mod Transfers
+pub mod Windows

@@ -6,6 +6,7 @@ use Rattle.std.proofs.Math.Nat.{max-eq_left, max-eq_right}
 use Rattle.dm_graph.specs.Arcs.{Arcs, Binds, Chain, HasNoCycle}
 use Rattle.dm_graph.specs.Graph.{Graph, Meets, IsLeast, IsJoin}
 use Rattle.dm_graph.proofs.Chains.{chain_is_short}
+use Rattle.dm_graph.proofs.Transfers.{least_same_times}
 
 -- whether an arc binds and enters the event
 unfoldable pub does_enter : Arcs → ℕ → ℕ → Bool
@@ -209,3 +210,25 @@ round_is_least g none = record {
   };
   earliest = λ y m e lt. round_is_early g y m g.shape.events e lt;
 }
+
+-- times at least those of a round, joined along every arc, are at least those of the next
+pub round_is_below : (g : Graph) (k : ℕ) (y z : ℕ → ℕ) → ((e : ℕ) → e < g.shape.events → round g k e ≤ y e) →
+    ((e : ℕ) → e < g.shape.events → g.floor e ≤ z e) →
+    ((a : ℕ) → Binds g.shape a → y (g.shape.tail a) + g.span a ≤ z (g.shape.head a)) →
+    (e : ℕ) → e < g.shape.events → round g (suc k) e ≤ z e
+round_is_below g k y z below floors joined e lt =
+    (round_is_join g k e).least (z e) (floors e lt)
+    (λ a b is.
+    let before = below (g.shape.tail a) b.from_event in
+    let here = joined a b in
+    let same : z (g.shape.head a) ≡ z e = ap z is in
+    omega arith)
+
+-- times between the last round and all that meets the graph are least
+pub least_from_rounds : (g : Graph) → HasNoCycle g.shape → (y : ℕ → ℕ) →
+    ((e : ℕ) → e < g.shape.events → round g g.shape.events e ≤ y e) →
+    ((x : ℕ → ℕ) → Meets g x → (e : ℕ) → e < g.shape.events → y e ≤ x e) → IsLeast g y
+least_from_rounds g none y above early =
+    let l = round_is_least g none in
+    least_same_times g (round g g.shape.events) y
+    (λ e lt. let a = above e lt in let b = early (round g g.shape.events) l.meets e lt in omega arith) l

@@ -26,10 +26,10 @@ pub meets_less : (less more : Graph) → AsksNoMore less more → (x : ℕ → �
 meets_less less more r x m = record {
   above = λ e lt. let f = r.floors e lt in let s = r.same_events in let h : more.floor e ≤ x e = m.above e (omega arith) in omega arith;
   along = λ a b.
-      let t : x (less.shape.tail a) ≡ x (more.shape.tail a) = ap x (r.same_tail a b) in
-      let h : x (less.shape.head a) ≡ x (more.shape.head a) = ap x (r.same_head a b) in
+      let t : x (less.shape.tail a) ≡ x (more.shape.tail a) = ap x (r.binds a b).same_tail in
+      let h : x (less.shape.head a) ≡ x (more.shape.head a) = ap x (r.binds a b).same_head in
       let s = r.spans a b in
-      let m = m.along a (r.binds a b) in
+      let m = m.along a (r.binds a b).binds in
       omega arith;
 }
 

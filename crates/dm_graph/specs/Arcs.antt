@@ -36,3 +36,9 @@ pub record IsOrder (g : Arcs) (order : List ℕ) : Type 0 where
   pub as_many : length order ≡ g.events
   pub has_each : (e : ℕ) → e < g.events → Contains order e
   pub forward : (a : ℕ) → Binds g a → (i j : ℕ) → slice_get order i ≡ Some (g.tail a) → slice_get order j ≡ Some (g.head a) → i < j
+
+-- an arc binds in h too, and leads between the same events there as in g
+pub record BindsIn (g h : Arcs) (a : ℕ) : Type 0 where
+  pub binds : Binds h a
+  pub same_tail : g.tail a ≡ h.tail a
+  pub same_head : g.head a ≡ h.head a

@@ -1,6 +1,6 @@
 -- Graphs of events with spans between them, and the timetables that keep to the spans. A timetable gives each event a time.
 use Rattle.std.specs.Prelude.{◌≡◌, ℕ, ◌+◌, ◌<◌, ◌≤◌, List, [], ◌∷◌}
-use Rattle.dm_graph.specs.Arcs.{Arcs, Binds, IsCycle}
+use Rattle.dm_graph.specs.Arcs.{Arcs, Binds, BindsIn, IsCycle}
 
 -- arcs, the least span of each from its tail to its head, and the least time of each event by itself
 pub record Graph : Type 0 where
@@ -40,9 +40,7 @@ HasPositiveCycles g = (cycle : List ℕ) → IsCycle g.shape cycle → 0 < total
 pub record AsksNoMore (less more : Graph) : Type 0 where
   pub same_events : less.shape.events ≡ more.shape.events
   pub floors : (e : ℕ) → e < less.shape.events → less.floor e ≤ more.floor e
-  pub binds : (a : ℕ) → Binds less.shape a → Binds more.shape a
-  pub same_tail : (a : ℕ) → Binds less.shape a → less.shape.tail a ≡ more.shape.tail a
-  pub same_head : (a : ℕ) → Binds less.shape a → less.shape.head a ≡ more.shape.head a
+  pub binds : (a : ℕ) → Binds less.shape a → BindsIn less.shape more.shape a
   pub spans : (a : ℕ) → Binds less.shape a → less.span a ≤ more.span a
 
 -- a time is the join at an event if it is the least that the event's floor and the arcs into the event allow, whose tails are at x

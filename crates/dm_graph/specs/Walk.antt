@@ -43,11 +43,11 @@ pub record AreLooks (tails offsets places : List ℕ) (held : List Bool) (n : �
   pub begun : (e : ℕ) → e < n → slice_index offsets e ≤ slice_index next e
   pub not_past : (e : ℕ) → e < n → slice_index next e ≤ slice_index offsets (e + 1)
   pub looked : (e place : ℕ) → e < n → slice_index offsets e ≤ place → place < slice_index next e →
-    IsHeldAt held places place → slice_index rank (tail_at tails places place) < placed
+      IsHeldAt held places place → slice_index rank (tail_at tails places place) < placed
   pub forward : (e place : ℕ) → e < n → slice_index rank e < placed → InRow offsets e place →
-    IsHeldAt held places place → slice_index rank (tail_at tails places place) < slice_index rank e
+      IsHeldAt held places place → slice_index rank (tail_at tails places place) < slice_index rank e
   pub path : (place : ℕ) → top ≤ place → place + 1 < n →
-    LeadsTo tails offsets places held next (slice_index order (place + 1)) (slice_index order place)
+      LeadsTo tails offsets places held next (slice_index order (place + 1)) (slice_index order place)
 
 -- what holds of the walk between its steps
 pub record IsWalk (tails offsets places : List ℕ) (held : List Bool) (walk : Walk) : Type 0 where
@@ -68,25 +68,25 @@ pub record Closes (tails offsets places : List ℕ) (held : List Bool) (walk : W
 abbrev pub Finds : List ℕ → List ℕ → List ℕ → List Bool → Walk → ℕ → Look → Type 0
 Finds tails offsets places held walk e Over = slice_index walk.next.items e ≡ slice_index offsets (e + 1)
 Finds tails offsets places held walk e Free =
-  (slice_index walk.next.items e < slice_index offsets (e + 1)) ×
-  (IsHeldAt held places (slice_index walk.next.items e) →
+    (slice_index walk.next.items e < slice_index offsets (e + 1)) ×
+    (IsHeldAt held places (slice_index walk.next.items e) →
     slice_index walk.rank.items (tail_at tails places (slice_index walk.next.items e)) < walk.placed)
 Finds tails offsets places held walk e (Unmet u) =
-  LeadsTo tails offsets places held walk.next.items e u × (u < length walk.order.items) ×
-  (slice_index walk.rank.items u ≡ length walk.order.items)
+    LeadsTo tails offsets places held walk.next.items e u × (u < length walk.order.items) ×
+    (slice_index walk.rank.items u ≡ length walk.order.items)
 Finds tails offsets places held walk e (OnPath place) =
-  LeadsTo tails offsets places held walk.next.items e (slice_index walk.order.items place) ×
-  (walk.top ≤ place) × (place < length walk.order.items)
+    LeadsTo tails offsets places held walk.next.items e (slice_index walk.order.items place) ×
+    (walk.top ≤ place) × (place < length walk.order.items)
 
 -- at most so many steps are left
 abbrev pub steps_left : List ℕ → Walk → ℕ
 steps_left places walk =
-  length walk.order.items * length places + length walk.order.items + walk.top - (sum walk.next.items + 2 * walk.placed)
+    length walk.order.items * length places + length walk.order.items + walk.top - (sum walk.next.items + 2 * walk.placed)
 
 -- every event that was met before is met after
 abbrev pub KeepsMet : Walk → Walk → Type 0
 KeepsMet old new = (e : ℕ) → e < length old.order.items → slice_index old.rank.items e < length old.order.items →
-  slice_index new.rank.items e < length new.order.items
+    slice_index new.rank.items e < length new.order.items
 
 -- an event goes on top of the path
 pub record Enters (old : Walk) (e : ℕ) (new : Walk) : Type 0 where

@@ -1,9 +1,10 @@
 //! What holds of every graph. A law has no code: it is proved as the contract of an empty function.
 
-ghost use Rattle.std.specs.Prelude.{◌≡◌, ℕ, ◌+◌, ◌<◌, ◌≤◌, ◌↔◌, Bool, List, length};
-ghost use Rattle.dm_graph.specs.Arcs.{Arcs, IsOrder, HasNoCycle};
+ghost use Rattle.std.specs.Prelude.{◌≡◌, ℕ, ◌+◌, ◌<◌, ◌≤◌, ◌↔◌, ◌⊎◌, ◌==◌, Bool, List, length, filter, slice_index, slice_range};
+ghost use Rattle.std.specs.List.{range_with_len};
+ghost use Rattle.dm_graph.specs.Arcs.{Arcs, Binds, BindsIn, IsOrder, HasNoCycle};
 ghost use Rattle.dm_graph.specs.Graph.{Graph, Meets, IsLeast, CanBeMet, HasLeast, HasPositiveCycles, AsksNoMore, IsJoin};
-ghost use Rattle.dm_graph.specs.Arrays.{arcs_of, AreArraysOf, ListsArcs};
+ghost use Rattle.dm_graph.specs.Arrays.{arcs_of, AreArraysOf, AreRows, ListsArcs};
 
 /// At most one timetable is least, at the graph's events.
 pub fn one_is_least()
@@ -41,6 +42,23 @@ pub fn least_for_less_that_meets_more()
 pub fn joins_along_an_order_are_least()
     ensures { (g : Graph) (order : List ℕ) (x : ℕ → ℕ) → IsOrder g.shape order →
         ((e : ℕ) → e < g.shape.events → IsJoin g x e (x e)) → IsLeast g x }
+{}
+
+/// Where each arc has a span of more than 0 or binds among arcs without a cycle, each cycle has a span of more than 0.
+pub fn cycles_are_positive_beyond_arcs_without_one()
+    ensures { (g : Graph) (h : Arcs) → ((a : ℕ) → Binds g.shape a → (0 < g.span a) ⊎ BindsIn g.shape h a) →
+        HasNoCycle h → HasPositiveCycles g }
+{}
+
+/// Windows of one list that hold, for each event, the places of the arcs that end there, are rows that list them.
+pub fn filtered_windows_are_rows()
+    ensures { (events arcs : ℕ) (end : ℕ → ℕ) (offsets places : List ℕ) → length offsets ≡ events + 1 →
+        ((e : ℕ) → e < events → slice_index offsets e ≤ slice_index offsets (e + 1)) →
+        ((e : ℕ) → e < events → slice_index offsets (e + 1) ≤ length places) →
+        ((e : ℕ) → e < events →
+        slice_range places (slice_index offsets e) (slice_index offsets (e + 1))
+        ≡ filter (λ a. end a == e) (range_with_len 0 arcs)) →
+        AreRows events arcs offsets places × ListsArcs events arcs end offsets places }
 {}
 
 /// Arrays whose rows list the arcs by their heads give the arcs of those tails, heads and flags.

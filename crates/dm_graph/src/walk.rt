@@ -1,8 +1,10 @@
 //! The walk that searches for an order, depth first against the arcs, with its path kept in an array.
 
-ghost use Rattle.std.specs.Prelude.{◌≡◌, ℕ, ◌+◌, ◌^◌, ◌<◌, ◌≤◌, length, take, slice_index, vec_len, IfErr, OnOk};
+ghost use Rattle.std.specs.Prelude.{◌≡◌, ℕ, ◌+◌, ◌^◌, ◌<◌, ◌≤◌, length, take, slice_index, vec_len, IfErr, IfOk, OnOk};
 ghost use Rattle.dm_graph.specs.Walk.{IsWalk, Closes, Finds, steps_left, KeepsMet, Enters, Places, Passes, GoesOn, Returns, IsSized, Starts, Visits, PlacesAll, HasPathArcs, ListsPathArcs};
 ghost use Rattle.dm_graph.specs.Arrays.{AreRows, AreEnds};
+
+use std::alloc::{AllocError, Global};
 
 /// The events that are placed stand at the first places of `order`, those on the path at its last,
 /// the one on top first. `rank` has the place of each, or the number of events where it is not met yet.
@@ -31,8 +33,32 @@ pub enum Look {
 }
 
 impl Walk {
+    /// Room to walk over so many events.
+    pub fn new(alloc: Global, events: usize) -> Result<Self, AllocError>
+        ensures sized { IfOk result IsSized }
+        ensures events { IfOk result (λ walk. length walk.order.items ≡ events) }
+    {
+        let order = vec![in alloc; 0; events]?;
+        let rank = vec![in alloc; 0; events]?;
+        let next = vec![in alloc; 0; events]?;
+        Ok(Walk {
+            order,
+            rank,
+            next,
+            placed: 0,
+            top: 0,
+        })
+    }
+
     /// Looks at the next arc into the event.
-    fn look(&self, event: usize, tails: &[usize], offsets: &[usize], places: &[usize], held: &[bool]) -> Look
+    fn look(
+        &self,
+        event: usize,
+        tails: &[usize],
+        offsets: &[usize],
+        places: &[usize],
+        held: &[bool],
+    ) -> Look
         requires walk { IsWalk tails.now offsets.now places.now held.now self.now }
         requires event { event < length self.now.order.items }
         ensures { Finds tails.now offsets.now places.now held.now self.now event result }
@@ -91,7 +117,13 @@ impl Walk {
     }
 
     /// One step for the event on top of the path; the error is the place of the event that closes the path.
-    fn step(&mut self, tails: &[usize], offsets: &[usize], places: &[usize], held: &[bool]) -> Result<(), usize>
+    fn step(
+        &mut self,
+        tails: &[usize],
+        offsets: &[usize],
+        places: &[usize],
+        held: &[bool],
+    ) -> Result<(), usize>
         requires walk { IsWalk tails.now offsets.now places.now held.now self.old }
         requires more { self.old.top < length self.old.order.items }
         ensures goes_on { OnOk result (GoesOn tails.now offsets.now places.now held.now self.old self.new) }
@@ -116,7 +148,13 @@ impl Walk {
     }
 
     /// Steps until the path is empty; the error is the place of the event that closes it.
-    fn empty_path(&mut self, tails: &[usize], offsets: &[usize], places: &[usize], held: &[bool]) -> Result<(), usize>
+    fn empty_path(
+        &mut self,
+        tails: &[usize],
+        offsets: &[usize],
+        places: &[usize],
+        held: &[bool],
+    ) -> Result<(), usize>
         requires { IsWalk tails.now offsets.now places.now held.now self.old }
         ensures returns { OnOk result (Returns tails.now offsets.now places.now held.now self.old self.new) }
         ensures closes { IfErr result (λ place. Closes tails.now offsets.now places.now held.now self.new place) }
@@ -141,7 +179,14 @@ impl Walk {
     }
 
     /// Places the event, and all that come before it; the error is the place of the event that closes the path.
-    fn visit(&mut self, event: usize, tails: &[usize], offsets: &[usize], places: &[usize], held: &[bool]) -> Result<(), usize>
+    fn visit(
+        &mut self,
+        event: usize,
+        tails: &[usize],
+        offsets: &[usize],
+        places: &[usize],
+        held: &[bool],
+    ) -> Result<(), usize>
         requires walk { IsWalk tails.now offsets.now places.now held.now self.old }
         requires is_empty { self.old.top ≡ length self.old.order.items }
         requires event { event < length self.old.order.items }
@@ -156,7 +201,13 @@ impl Walk {
     }
 
     /// Places every event; the error is the place of the event that closes the path.
-    pub fn place_all(&mut self, tails: &[usize], offsets: &[usize], places: &[usize], held: &[bool]) -> Result<(), usize>
+    pub fn place_all(
+        &mut self,
+        tails: &[usize],
+        offsets: &[usize],
+        places: &[usize],
+        held: &[bool],
+    ) -> Result<(), usize>
         requires sized { IsSized self.old }
         requires rows { AreRows (length self.old.order.items) (length tails.now) offsets.now places.now }
         requires ends { AreEnds (length self.old.order.items) (length tails.now) tails.now held.now }

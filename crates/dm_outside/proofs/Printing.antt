@@ -128,14 +128,14 @@ module _ {K : Type 0} {taken : K → Option (List ℕ)} {faults : K → ℕ} whe
   pub prints_past : {a b : K} {p x : List ℕ} → TakesAll taken faults a b (p ++ x) → Gathers taken faults a b p [] x
   prints_past {a} {b} {p} {x} t = record { given = p ++ x; is_text = sym (append-nil (p ++ x)); takes = t }
 
-  -- a text went through a page that was empty at first: when the page is emptied, the text is put
-  pub finishes : {E : Type 0} {a b : K} {held text : List ℕ} (c : K) (result : Result (Unit {0}) E) → Gathers taken faults a b [] held text → Puts taken faults b c result held → Puts taken faults a c result text
-  finishes {E} {a} {b} {held} {text} c (Ok v) f p = subst (TakesAll taken faults a c) (sym f.is_text) (takes_then f.takes p)
-  finishes {E} {a} {b} {held} {text} c (Err e) f p = subst (TakesFront taken faults a c) (sym f.is_text) (takes_fault f.takes p)
+  -- A text went through a page that was empty at first: when the page is finished, the text is put.
+  pub finishes : {E : Type 0} {a b : K} {p held text : List ℕ} (c : K) (result : Result (Unit {0}) E) → p ≡ [] → Gathers taken faults a b p held text → Puts taken faults b c result held → Puts taken faults a c result text
+  finishes {E} {a} {b} {p} {held} {text} c (Ok v) empty f q = subst (TakesAll taken faults a c) (sym f.is_text ∙ ap (λ l. l ++ text) empty) (takes_then f.takes q)
+  finishes {E} {a} {b} {p} {held} {text} c (Err e) empty f q = subst (TakesFront taken faults a c) (sym f.is_text ∙ ap (λ l. l ++ text) empty) (takes_fault f.takes q)
 
   -- a fault on a page that was empty at first
-  pub unfinished : {a b : K} {text : List ℕ} → Breaks taken faults a b [] text → TakesFront taken faults a b text
-  unfinished q = q.takes
+  pub unfinished : {a b : K} {p text : List ℕ} → p ≡ [] → Breaks taken faults a b p text → TakesFront taken faults a b text
+  unfinished {a} {b} {p} {text} empty q = subst (TakesFront taken faults a b) (ap (λ l. l ++ text) empty) q.takes
 
   -- a text, and then what the last printer answers
   pub prints_last : {E : Type 0} {a b : K} {p q x : List ℕ} (c : K) (r y : List ℕ) (result : Result (Unit {0}) E) → Gathers taken faults a b p q x → Prints taken faults b c q r result y → Prints taken faults a c p r result (x ++ y)

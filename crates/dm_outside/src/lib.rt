@@ -1,5 +1,15 @@
-//! The outside of the dispatcher's server: where bytes come from and go to, what shows times, and
-//! where a run may be held up.
+//! The outside of the dispatcher's server: sources and shelves that bytes come from, sinks that they
+//! go to, boards that show times, and gates that may hold a run up.
+//!
+//! Each trait but `Gate` has a count of faults, which never falls and rises where a call fails, until
+//! it stands at its last value, and says what its object can tell: what is left of a source, what a
+//! sink took, what a shelf holds and what a board shows. Sources, shelves and boards may also tell
+//! that no call will fail. The forms in memory tell all of it. The real forms tell nothing: they are
+//! the trusted edge.
+//!
+//! `take_all` takes a whole source up to a limit. `put_all` puts bytes into a sink, and `Page`
+//! gathers the pieces of a long text before the sink takes them. On a fault the sink has taken a
+//! front of the text and not all of it. It stands on `itoa` for the digits of numbers.
 #![tactic(auto)]
 
 mod boards;

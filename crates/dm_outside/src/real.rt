@@ -109,9 +109,28 @@ pub struct FolderShelf<'r, R: Files<File = File>> {
     faults: u64,
 }
 
+impl<'r, R: Files<File = File>> Model for FolderShelf<'r, R> {
+    ghost use Rattle.std.specs.Prelude.{ℕ};
+
+    ghost Value = { ℕ };
+
+    ghost view = { λ shelf. shelf.faults };
+}
+
+impl<'r, R: Files<File = File>> Drop for FolderShelf<'r, R> {
+    fn drop(self) {
+        let FolderShelf {
+            files: _,
+            faults: _,
+        } = self;
+    }
+}
+
 impl<'r, R: Files<File = File>> FolderShelf<'r, R> {
     /// A shelf of the files that this runtime opens.
-    pub fn new(files: &'r R) -> FolderShelf<'r, R> {
+    pub fn new(files: &'r R) -> FolderShelf<'r, R>
+        ensures { result ≡ 0 }
+    {
         FolderShelf { files, faults: 0 }
     }
 }
@@ -123,7 +142,7 @@ impl<'r, R: Files<File = File>> Shelf for FolderShelf<'r, R> {
 
     ghost files = { λ _. None };
 
-    ghost faults = { λ shelf. shelf.faults };
+    ghost faults = { λ count. count };
 
     ghost is_sound = { λ _ _. ⊥ };
 

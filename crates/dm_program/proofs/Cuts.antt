@@ -9,12 +9,12 @@ use Rattle.std.proofs.lemmas.Bool.{ltb-true, ltb-false}
 use Rattle.dm_program.specs.Files.{cut_at}
 use Rattle.dm_program.specs.Lines.{lines_of_pieces, feed_lines}
 
-abbrev is : ℕ → ℕ → Bool
-is at b = eqb b at
+abbrev pub is_at : ℕ → ℕ → Bool
+is_at at b = eqb b at
 
 -- the pieces between the places of a byte
 abbrev pub pieces : ℕ → List ℕ → List (List ℕ)
-pieces at bytes = slice_split (is at) bytes
+pieces at bytes = slice_split (is_at at) bytes
 
 pub record IsCut (at : ℕ) (bytes line after : List ℕ) : Type 0 where
   pub split : pieces at bytes ≡ line ∷ pieces at after
@@ -33,26 +33,26 @@ map_cond : (b : Bool) (i : ℕ) (f : ℕ → List ℕ × List ℕ) → option_ma
 map_cond true i f = refl
 map_cond false i f = refl
 
-cut_parts : (at : ℕ) (bytes : List ℕ) → cut_at at bytes ≡ cond (ltb (position_or_len (is at) bytes) (length bytes)) (Some (take (position_or_len (is at) bytes) bytes, drop (position_or_len (is at) bytes + 1) bytes)) None
-cut_parts at bytes = map_cond (ltb (position_or_len (is at) bytes) (length bytes)) (position_or_len (is at) bytes) (λ i. (take i bytes, drop (i + 1) bytes))
+cut_parts : (at : ℕ) (bytes : List ℕ) → cut_at at bytes ≡ cond (ltb (position_or_len (is_at at) bytes) (length bytes)) (Some (take (position_or_len (is_at at) bytes) bytes, drop (position_or_len (is_at at) bytes + 1) bytes)) None
+cut_parts at bytes = map_cond (ltb (position_or_len (is_at at) bytes) (length bytes)) (position_or_len (is_at at) bytes) (λ i. (take i bytes, drop (i + 1) bytes))
 
 -- what a cut gives
 pub cut_found : (at : ℕ) (bytes line after : List ℕ) → cut_at at bytes ≡ Some (line, after) → IsCut at bytes line after
 cut_found at bytes line after e =
-    let h = some_is (ltb (position_or_len (is at) bytes) (length bytes)) (take (position_or_len (is at) bytes) bytes, drop (position_or_len (is at) bytes + 1) bytes) (line, after) (sym (cut_parts at bytes) ∙ e) in
-    let lt : position_or_len (is at) bytes < length bytes = ltb-true _ _ h.0 in
-    let line-is : take (position_or_len (is at) bytes) bytes ≡ line = ap (λ (p : List ℕ × List ℕ). p.0) h.1 in
-    let after-is : drop (position_or_len (is at) bytes + 1) bytes ≡ after = ap (λ (p : List ℕ × List ℕ). p.1) h.1 in
+    let h = some_is (ltb (position_or_len (is_at at) bytes) (length bytes)) (take (position_or_len (is_at at) bytes) bytes, drop (position_or_len (is_at at) bytes + 1) bytes) (line, after) (sym (cut_parts at bytes) ∙ e) in
+    let lt : position_or_len (is_at at) bytes < length bytes = ltb-true _ _ h.0 in
+    let line-is : take (position_or_len (is_at at) bytes) bytes ≡ line = ap (λ (p : List ℕ × List ℕ). p.0) h.1 in
+    let after-is : drop (position_or_len (is_at at) bytes + 1) bytes ≡ after = ap (λ (p : List ℕ × List ℕ). p.1) h.1 in
     record {
-      split = slice_split_first (is at) bytes 0 lt ∙ (ap (λ (l : List ℕ). l ∷ pieces at (drop (position_or_len (is at) bytes + 1) bytes)) line-is ∙ ap (λ (l : List ℕ). line ∷ pieces at l) after-is);
-      shorter = rw (← after-is) (omega (arith, length-drop (position_or_len (is at) bytes + 1) bytes));
+      split = slice_split_first (is_at at) bytes 0 lt ∙ (ap (λ (l : List ℕ). l ∷ pieces at (drop (position_or_len (is_at at) bytes + 1) bytes)) line-is ∙ ap (λ (l : List ℕ). line ∷ pieces at l) after-is);
+      shorter = rw (← after-is) (omega (arith, length-drop (position_or_len (is_at at) bytes + 1) bytes));
     }
 
 -- where there is no cut, the bytes are one piece
 pub cut_none : (at : ℕ) (bytes : List ℕ) → cut_at at bytes ≡ None → pieces at bytes ≡ bytes ∷ []
 cut_none at bytes e =
-    let h = none_is (ltb (position_or_len (is at) bytes) (length bytes)) (take (position_or_len (is at) bytes) bytes, drop (position_or_len (is at) bytes + 1) bytes) (sym (cut_parts at bytes) ∙ e) in
-    slice_split_none (is at) bytes (λ k d lt. fails_before_first (is at) bytes k d (omega (arith, ltb-false _ _ h)))
+    let h = none_is (ltb (position_or_len (is_at at) bytes) (length bytes)) (take (position_or_len (is_at at) bytes) bytes, drop (position_or_len (is_at at) bytes + 1) bytes) (sym (cut_parts at bytes) ∙ e) in
+    slice_split_none (is_at at) bytes (λ k d lt. fails_before_first (is_at at) bytes k d (omega (arith, ltb-false _ _ h)))
 
 -- there is at least one piece
 pub record HasFirst (xs : List (List ℕ)) : Type 0 where
@@ -65,7 +65,7 @@ has_first [] lt = absurd (omega arith)
 has_first (x ∷ xs) lt = record { first = x; rest = xs; are = refl }
 
 pub pieces_first : (at : ℕ) (bytes : List ℕ) → HasFirst (pieces at bytes)
-pieces_first at bytes = has_first (pieces at bytes) (omega (arith, length-slice_split (is at) bytes))
+pieces_first at bytes = has_first (pieces at bytes) (omega (arith, length-slice_split (is_at at) bytes))
 
 -- ---- the lines of a feed
 

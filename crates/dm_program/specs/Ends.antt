@@ -1,7 +1,7 @@
 -- How a run ends: what is due to be written for each status, and why.
-use Rattle.std.specs.Prelude.{ℕ, ◌≡◌, ◌≢◌, List, [], ◌∷◌, ◌++◌, Option, Some, None, IsSome, codes}
-use Rattle.std.specs.Io.KnownBytes.{Appends}
-use Rattle.dm_outside.specs.Printing.{joined}
+use Rattle.std.specs.Prelude.{ℕ, ◌≡◌, ◌≢◌, ◌⊎◌, List, [], ◌∷◌, ◌++◌, Option, Some, None, IsSome, codes}
+use Rattle.std.specs.Io.KnownBytes.{Appends, Keeps}
+use Rattle.dm_outside.specs.Printing.{joined, TakesAll, TakesFront}
 use Rattle.dm_network.specs.Net.{Net}
 use Rattle.dm_rows.specs.Rows.{RowsValue}
 use Rattle.dm_rows.specs.declared.messages.Entry.{Entry}
@@ -129,3 +129,25 @@ EndsWell WriteFault = Unit {0}
 EndsWell Usage = ⊥
 EndsWell Refused = ⊥
 EndsWell ReadFault = ⊥
+
+-- the sink failed, and took a proper front of a text that was due
+pub record FailsToWrite {K : Type 0} (taken : K → Option (List ℕ)) (faults : K → ℕ) (before now : K) (due : Status → List ℕ → Type 0) : Type 0 where
+  pub status : Status
+  pub text : List ℕ
+  pub is_due : due status text
+  pub front : TakesFront taken faults before now text
+
+-- how a run ends, by its status
+abbrev pub Ends : {K : Type 0} → (K → Option (List ℕ)) → (K → ℕ) → Told → (List ℕ → Type 0) → List (List ℕ) → K → K → Status → Type 0
+Ends taken faults told is_sound words before now Ok = Writes (taken before) (taken now) (IsRunOf told words)
+Ends taken faults told is_sound words before now Usage = Writes (taken before) (taken now) (IsUsage words)
+Ends taken faults told is_sound words before now Refused = Writes (taken before) (taken now) (IsRefusal told words)
+Ends taken faults told is_sound words before now ReadFault = Writes (taken before) (taken now) (IsReadFault told is_sound words)
+Ends taken faults told is_sound words before now WriteFault = FailsToWrite taken faults before now (IsDue told is_sound words)
+Ends taken faults told is_sound words before now NoMemory = Keeps (taken before) (taken now)
+
+-- the text was written whole, and the status is the one of that, or the sink failed
+abbrev pub EndsAs : {K : Type 0} → (K → Option (List ℕ)) → (K → ℕ) → K → K → List ℕ → Status → Status → Type 0
+EndsAs taken faults before now text status result =
+    ((result ≡ status) × TakesAll taken faults before now text)
+    ⊎ ((result ≡ WriteFault) × TakesFront taken faults before now text)

@@ -67,33 +67,48 @@ Breaks contents Network =
     × (activity_rows contents.activities ≡ Some activities) × AreUnfit events activities
 Breaks contents Feed = FEED < length contents.feed
 
--- nothing is refused before this part
+-- the records make this network, and none of them goes back
+pub record MakesNetwork (events : List EventRow) (activities : List ActRow) (net : Net) : Type 0 where
+  pub forward : GoesBack activities → ⊥
+  pub built : IsBuiltFrom events activities net
+
+-- the rows of the two files
+pub record AreRowsOf (contents : Contents) (events : List EventRow) (activities : List ActRow) : Type 0 where
+  pub events_size : length contents.events ≤ FILE
+  pub events_read : event_rows contents.events ≡ Some events
+  pub activities_size : length contents.activities ≤ FILE
+  pub activities_read : activity_rows contents.activities ≡ Some activities
+
+-- a part is good: a file of the form, records that make a network, a feed that is not too long
+abbrev pub IsGood : Contents → Part → Type 0
+IsGood contents Events = (length contents.events ≤ FILE) × IsSome (event_rows contents.events)
+IsGood contents Activities = (length contents.activities ≤ FILE) × IsSome (activity_rows contents.activities)
+IsGood contents Network =
+    (events : List EventRow) × (activities : List ActRow) × (net : Net) × AreRowsOf contents events activities × MakesNetwork events activities net
+IsGood contents Feed = length contents.feed ≤ FEED
+
+-- what comes before this part is good
 abbrev pub PassesBefore : Contents → Part → Type 0
 PassesBefore contents Events = ⊤
-PassesBefore contents Activities = Breaks contents Events → ⊥
-PassesBefore contents Network = (Breaks contents Events → ⊥) × (Breaks contents Activities → ⊥)
-PassesBefore contents Feed =
-    (Breaks contents Events → ⊥) × (Breaks contents Activities → ⊥) × (Breaks contents Network → ⊥)
+PassesBefore contents Activities = IsGood contents Events
+PassesBefore contents Network = IsGood contents Events × IsGood contents Activities
+PassesBefore contents Feed = IsGood contents Events × IsGood contents Activities × IsGood contents Network
 
 -- the part is the first that is refused
 pub record IsFirstRefusal (contents : Contents) (part : Part) : Type 0 where
   pub breaks : Breaks contents part
   pub first : PassesBefore contents part
 
--- no part is refused
+-- every part is good
 pub record IsSoundInput (contents : Contents) : Type 0 where
   pub before_feed : PassesBefore contents Feed
-  pub feed : Breaks contents Feed → ⊥
+  pub feed : IsGood contents Feed
 
 -- the network and the start rows of the files, and a feed that is not too long
 pub record IsInput (contents : Contents) (net : Net) (start : RowsValue) : Type 0 where
   pub events : List EventRow
   pub activities : List ActRow
-  pub events_size : length contents.events ≤ FILE
-  pub events_read : event_rows contents.events ≡ Some events
-  pub activities_size : length contents.activities ≤ FILE
-  pub activities_read : activity_rows contents.activities ≡ Some activities
-  pub forward : GoesBack activities → ⊥
-  pub built : IsBuiltFrom events activities net
+  pub rows : AreRowsOf contents events activities
+  pub network : MakesNetwork events activities net
   pub start_is : start ≡ start_rows_of net [] []
   pub feed_size : length contents.feed ≤ FEED

@@ -7,3 +7,6 @@ pub mod Runs
 pub mod Input
 pub mod Ends
 pub mod Answers
+pub mod Times
+pub mod Asked
+pub mod Stages

@@ -1,5 +1,5 @@
 -- The lines of a feed, and what each says.
-use Rattle.std.specs.Prelude.{ℕ, ◌≡◌, ◌≢◌, ◌<◌, ◌+◌, ◌^◌, ◌==◌, List, [], ◌∷◌, ◌++◌, codes}
+use Rattle.std.specs.Prelude.{Bool, false, ℕ, ◌≡◌, ◌≢◌, ◌<◌, ◌+◌, ◌^◌, ◌==◌, List, [], ◌∷◌, ◌++◌, codes}
 use Rattle.std.specs.List.{slice_split}
 use Rattle.std.specs.Fmt.{decimal}
 use Rattle.dm_rows.specs.declared.messages.Message.{Message}
@@ -34,3 +34,9 @@ SpellsLine (Say message) bytes = SpellsMessage message bytes
 abbrev pub Hears : List ℕ → Heard → Type 0
 Hears bytes (Spoken line) = SpellsLine line bytes
 Hears bytes Malformed = (line : Line) → SpellsLine line bytes → ⊥
+
+-- more than one byte, of which the first is 0
+abbrev pub has_leading_zero : List ℕ → Bool
+has_leading_zero [] = false
+has_leading_zero (c ∷ []) = false
+has_leading_zero (c ∷ d ∷ cs) = c == 48

@@ -1,5 +1,5 @@
 -- When the journal and the logs of a run are true, and when a log is that of a feed's bytes.
-use Rattle.std.specs.Prelude.{ℕ, ◌≡◌, ◌<◌, ◌≤◌, ◌+◌, ◌-◌, ◌==◌, Bool, true, false, List, [], ◌∷◌, ◌++◌, length, Some, slice_get, count_by}
+use Rattle.std.specs.Prelude.{ℕ, ◌≡◌, ◌<◌, ◌≤◌, ◌+◌, ◌-◌, ◌==◌, Bool, true, false, List, [], ◌∷◌, ◌++◌, length, Some, slice_get, count_by, All}
 use Rattle.std.specs.List.{flat_map}
 use Rattle.dm_base.specs.declared.limits.TheConstants.{FEED}
 use Rattle.dm_network.specs.Net.{Net}
@@ -71,7 +71,7 @@ all_items logs = flat_map (λ log. log.items) logs
 
 -- the log of the feed at this place, which is number place + 1, has only true answers, in order
 pub record IsTrueLog (j : Journal) (place : ℕ) (log : FeedLog) : Type 0 where
-  pub answers : (i : ℕ) (item : LogItem) → slice_get log.items i ≡ Some item → IsTrueAnswer j (place + 1) item
+  pub answers : All (IsTrueAnswer j (place + 1)) log.items
   pub in_order : IsInOrder 0 0 log.items
 
 -- every log is true, and every entry is named as accepted by exactly one item

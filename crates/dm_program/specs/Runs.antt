@@ -1,5 +1,5 @@
 -- The text of a run, and when it is true.
-use Rattle.std.specs.Prelude.{ℕ, ◌≡◌, ◌+◌, ◌≤◌, List, [], ◌∷◌, ◌++◌, length, codes}
+use Rattle.std.specs.Prelude.{ℕ, ◌≡◌, ◌+◌, ◌≤◌, List, [], ◌∷◌, ◌++◌, length, codes, All}
 use Rattle.std.specs.List.{flat_map, range_with_len}
 use Rattle.std.specs.Fmt.{decimal}
 use Rattle.dm_base.specs.declared.limits.TheConstants.{FEEDS}
@@ -9,7 +9,7 @@ use Rattle.dm_rows.specs.declared.messages.Entry.{Entry}
 use Rattle.dm_rows.specs.declared.messages.Message.{Message}
 use Rattle.dm_rows.specs.declared.messages.Message.TheVariants.{DelayEvent}
 use Rattle.dm_rows.specs.declared.messages.Refusal.{Refusal}
-use Rattle.dm_rows.specs.declared.messages.Refusal.TheVariants.{Range, UnknownEvent}
+use Rattle.dm_rows.specs.declared.messages.Refusal.TheVariants.{Range, UnknownEvent, Passed}
 use Rattle.dm_rows.specs.Timetable.{time_at, IsLeast}
 use Rattle.dm_rows.specs.Cost.{cost_of}
 use Rattle.dm_rows.specs.History.{rows_at, IsLegal}
@@ -35,11 +35,34 @@ message_text _ = []
 abbrev pub line_text : Line → List ℕ
 line_text (Say message) = message_text message
 
--- why a delay of an event is refused
+-- why a delay of an event is refused; no other reason has a spelling yet
 abbrev pub reason_text : Refusal → List ℕ
 reason_text (Range v) = joined (codes "range " ∷ decimal v ∷ [])
 reason_text (UnknownEvent e) = joined (codes "unknown-event " ∷ decimal e.0 ∷ [])
+reason_text (Passed e t) = joined (codes "passed " ∷ decimal e.0 ∷ codes " " ∷ decimal t ∷ [])
 reason_text _ = []
+
+-- what has a spelling
+abbrev pub IsSpelledMessage : Message → Type 0
+IsSpelledMessage (DelayEvent e d) = Unit {0}
+IsSpelledMessage _ = ⊥
+
+abbrev pub IsSpelledReason : Refusal → Type 0
+IsSpelledReason (Range v) = Unit {0}
+IsSpelledReason (UnknownEvent e) = Unit {0}
+IsSpelledReason (Passed e t) = Unit {0}
+IsSpelledReason _ = ⊥
+
+abbrev pub IsSpelledReply : Reply → Type 0
+IsSpelledReply (Ok n) = Unit {0}
+IsSpelledReply (Refused at) = IsSpelledReason at.why
+
+abbrev pub IsSpelledItem : LogItem → Type 0
+IsSpelledItem (Malformed line) = Unit {0}
+IsSpelledItem (Answered line (Say message) reply) = IsSpelledMessage message × IsSpelledReply reply
+
+abbrev pub IsSpelledEntry : Entry → Type 0
+IsSpelledEntry entry = IsSpelledMessage entry.message
 
 abbrev pub reply_text : Reply → List ℕ
 reply_text (Ok n) = joined (decimal n ∷ codes " ok" ∷ [])
@@ -122,4 +145,6 @@ pub record IsRunText (journal : Journal) (penalty : ℕ) (logs : List FeedLog) (
   pub times : List ℕ
   pub cost : ℕ
   pub is_true : IsTrueRun (record { journal = journal; penalty = penalty; logs = logs; times = times; cost = cost })
+  pub entries_spelled : All IsSpelledEntry journal.history
+  pub items_spelled : All (λ log. All IsSpelledItem log.items) logs
   pub spelled : text ≡ run_text (record { journal = journal; penalty = penalty; logs = logs; times = times; cost = cost })

@@ -1,14 +1,14 @@
 //! One feed, answered line by line over the rows.
 ghost use Rattle.std.specs.Prelude.{◌≡◌, ◌<◌, ◌≤◌, ◌+◌, ◌∷◌, [], ◌^◌, length, vec_len, IfOk, IfSome, IfNone, IsSome, Some, ℕ};
 ghost use Rattle.dm_base.specs.declared.limits.TheConstants.{ENTRIES};
-ghost use Rattle.dm_rows.specs.Rows.{IsSized};
+ghost use Rattle.dm_rows.specs.Rows.{IsSized, RowsAreWithinLimits};
+ghost use Rattle.dm_program.specs.Runs.{IsSpelledMessage};
 ghost use Rattle.dm_program.specs.Lines.{feed_lines, Hears};
-ghost use Rattle.dm_program.specs.Answers.{Day, IsDelay, Enters, AnswersLine, IsAnsweredTo};
+ghost use Rattle.dm_program.specs.Answers.{Day, Enters, AnswersLine, IsAnsweredTo};
 ghost use Rattle.dm_program.specs.declared.lines.Heard.TheVariants.{Line as Spoken};
 
 use dm_network::Network;
-use crate::stub::admit;
-use dm_rows::{At, Entry, Message, Rows};
+use dm_rows::{At, Entry, Message, Rows, admit};
 use std::alloc::{AllocError, Global};
 
 use crate::files::cut;
@@ -17,7 +17,7 @@ use crate::log::{LogItem, Reply};
 
 /// The same message.
 fn same_message(message: &Message) -> Message
-    requires { IsDelay message.now }
+    requires { IsSpelledMessage message.now }
     ensures { result ≡ message.now }
 {
     match message {
@@ -36,8 +36,9 @@ fn reply_to(
     message: &Message,
 ) -> Result<Reply, AllocError>
     requires sized { IsSized net.now rows.old }
+    requires within { RowsAreWithinLimits rows.old }
     requires few { vec_len history.old < ENTRIES }
-    requires delay { IsDelay message.now }
+    requires spelled { IsSpelledMessage message.now }
     ensures { IfOk result (λ reply. Enters net.now (record { rows = rows.old; history = history.old.items }) (record { rows = rows.new; history = history.new.items }) line message.now reply) }
 {
     let entry = history.len() as u32;
@@ -65,6 +66,7 @@ fn answer_line(
     bytes: &[u8],
 ) -> Result<LogItem, AllocError>
     requires sized { IsSized net.now rows.old }
+    requires within { RowsAreWithinLimits rows.old }
     requires few { vec_len history.old < ENTRIES }
     ensures { IfOk result (λ item. AnswersLine net.now (record { rows = rows.old; history = history.old.items }) (record { rows = rows.new; history = history.new.items }) line bytes.now item) }
 {
@@ -108,6 +110,7 @@ pub fn answer_feed(
     bytes: &[u8],
 ) -> Result<Answers, AllocError>
     requires sized { IsSized net.now rows.old }
+    requires within { RowsAreWithinLimits rows.old }
     requires size { length bytes.now < ENTRIES }
     ensures { IfOk result (λ a. (lines : ℕ) × IsAnsweredTo net.now rows.old bytes.now (record { rows = rows.new; history = a.history.items }) a.items.items lines []) }
 {

@@ -1,17 +1,15 @@
 //! The narrow form of the network files, read.
-ghost use Rattle.std.specs.Prelude.{◌≡◌, ◌==◌, ◌∷◌, [], ◌≤◌, length, Option, List, ℕ, IfSome, IfNone, IfOk, position, is_some};
+ghost use Rattle.std.specs.Prelude.{◌≡◌, ◌==◌, ◌∷◌, [], ◌≤◌, length, Option, List, ℕ, IfSome, IfNone, IfOk, position, All};
 ghost use Rattle.std.specs.Option.{option_map};
 ghost use Rattle.std.specs.List.{slice_split};
 ghost use Rattle.dm_program.specs.Numbers.{is_number, number_up_to};
+ghost use Rattle.dm_program.specs.Stages.{FitsEvent, FitsActivity};
 ghost use Rattle.dm_program.specs.Files.{cut_at, spaced, last_number, first_number, number_field, digits_field, event_kind_in, act_kind_in, event_kind_field, act_kind_field, event_of, activity_of, is_comment, rows_of, lines};
 
-use crate::numbers::{is_number, number_up_to};
+use crate::numbers::{LARGEST_ID, is_number, number_up_to};
 use dm_base::limits::{BOUND, TIME};
 use dm_base::{ActId, ActKind, ActRow, EventId, EventKind, EventRow, StopId};
 use std::alloc::{AllocError, Global};
-
-/// The largest id of an event, an activity or a stop.
-const LARGEST_ID: u64 = 4_294_967_295;
 
 /// The largest weight, in whole passengers.
 const LARGEST_WEIGHT: u64 = 1_000_000;
@@ -149,12 +147,18 @@ pub trait Record: Drop {
     /// The row that a line spells, where it has the form.
     ghost row_of: { List ℕ → Option Self };
 
+    /// Its numbers are within the limits.
+    ghost fits: { Self → Type 0 };
+
     fn read(line: &[u8]) -> Option<Self>
-        ensures { result ≡ row_of line.now };
+        ensures row { result ≡ row_of line.now }
+        ensures fits { IfSome result fits };
 }
 
 impl Record for EventRow {
     ghost row_of = { event_of };
+
+    ghost fits = { FitsEvent };
 
     #[tactic(auto, unfolding(crate::specs::Files::event_of))]
     fn read(line: &[u8]) -> Option<EventRow> {
@@ -188,6 +192,8 @@ impl Record for EventRow {
 
 impl Record for ActRow {
     ghost row_of = { activity_of };
+
+    ghost fits = { FitsActivity };
 
     #[tactic(auto, unfolding(crate::specs::Files::activity_of))]
     fn read(line: &[u8]) -> Option<ActRow> {
@@ -237,7 +243,8 @@ fn is_comment(line: &[u8]) -> bool
 
 /// The rows of a file, or none where the file has another form.
 pub fn read_rows<R: Record>(alloc: Global, bytes: &[u8]) -> Result<Option<Vec<R>>, AllocError>
-    ensures { IfOk result (λ rows. option_map (λ v. v.items) rows ≡ rows_of R.row_of (lines bytes.now)) }
+    ensures rows { IfOk result (λ rows. option_map (λ v. v.items) rows ≡ rows_of R.row_of (lines bytes.now)) }
+    ensures fits { IfOk result (λ rows. IfSome rows (λ v. All R.fits v.items)) }
 {
     let mut rows = Vec::new(alloc);
     let mut rest = bytes;

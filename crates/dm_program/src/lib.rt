@@ -1,14 +1,19 @@
 //! The top call of the dispatcher.
 #![tactic(auto)]
 
+mod prepare;
+mod reading;
+mod text;
+mod times;
 mod top;
 mod answers;
+mod cost;
 mod files;
 mod lines;
 mod log;
+mod notices;
 mod numbers;
 mod parts;
-mod stub;
 mod words;
 
 pub use top::dispatch;

@@ -4,6 +4,9 @@ ghost use Rattle.dm_program.specs.Numbers.{is_number, number_up_to};
 
 use dm_base::{NumFault, read_whole};
 
+/// The largest id of an event, an activity or a stop.
+pub const LARGEST_ID: u64 = 4_294_967_295;
+
 /// Whether the text is one or more decimal digits.
 pub fn is_number(text: &[u8]) -> bool
     ensures { result ≡ is_number text.now }

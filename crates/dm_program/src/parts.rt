@@ -1,5 +1,10 @@
 //! What a run reads, in the order of reading, and why it stops.
 
+ghost use Rattle.std.specs.Prelude.{◌≡◌};
+ghost use Rattle.dm_program.specs.declared.parts.Stop.TheVariants.{NoMemory as WantOfMemory};
+
+use std::alloc::AllocError;
+
 /// What a run reads or makes before it answers.
 #[derive(Clone, Copy, PartialEq, Eq, Debug)]
 pub enum Part {
@@ -45,4 +50,12 @@ pub enum Stop {
     Refused(Part),
     ReadFault(Part),
     NoMemory,
+}
+
+impl From<AllocError> for Stop {
+    ghost from_gives = { λ _ stop. stop ≡ WantOfMemory };
+
+    fn from(_: AllocError) -> Stop {
+        Stop::NoMemory
+    }
 }

@@ -1,19 +1,20 @@
 //! The top call.
-ghost use Rattle.std.specs.Prelude.{◌≡◌, ◌⊎◌, ℕ, List, Option, Some, None, map, string_bytes, vec_len};
+ghost use Rattle.std.specs.Prelude.{◌≡◌, map, string_bytes, vec_len, length, All};
 ghost use Rattle.std.specs.Io.KnownBytes.{Keeps};
-ghost use Rattle.dm_outside.specs.Faults.{HasRisen};
-ghost use Rattle.dm_outside.specs.Printing.{TakesFront};
-ghost use Rattle.dm_program.specs.declared.parts.Part.{Part};
-ghost use Rattle.dm_program.specs.Words.{Command, command_of};
-ghost use Rattle.dm_program.specs.Input.{Contents, IsFirstRefusal, IsSoundInput};
-ghost use Rattle.dm_program.specs.Ends.{IsRunOf, IsUsage, IsRefusal, IsReadFault, IsDue, Writes, Tells, EndsAt, AreSound, EndsWell};
+ghost use Rattle.dm_program.specs.Asked.{command_in, run_in};
+ghost use Rattle.dm_program.specs.Runs.{IsSpelledEntry, IsSpelledItem, run_text};
+ghost use Rattle.dm_program.specs.Ends.{IsRunOf, IsUsage, IsRefusal, IsReadFault, IsDue, Writes, FailsToWrite, Ends, EndsAs, usage_line, refused_line, read_fault_line};
 
-use dm_outside::{Board, Gate, Shelf, Sink};
+use dm_outside::{Board, Gate, Shelf, Sink, WriteFault};
 use std::alloc::Global;
 use std::sync::Wait;
 use std::thread::Threads;
 
-use crate::parts::Status;
+use crate::notices::{put_read_fault, put_refused, put_usage};
+use crate::parts::{Part, Status, Stop};
+use crate::prepare::{Answered, prepare};
+use crate::text::print_run;
+use crate::words::{RunWords, run_words};
 
 /// Does what the words ask, which are those without the program's name, and answers the status to end with.
 pub fn dispatch<R: Threads + Wait + Sync, H: Shelf, K: Sink, G: Gate>(
@@ -27,10 +28,70 @@ pub fn dispatch<R: Threads + Wait + Sync, H: Shelf, K: Sink, G: Gate>(
 ) -> Status
     requires { vec_len boards.old ≡ 0 }
 
+    // The text is that of a run whose journal, log, times and cost are true.
     ensures headline { result ≡ Status.Ok → Writes (K.taken out.old) (K.taken out.new) (IsRunOf (H.files shelf.old) (map string_bytes words.now)) }
+
+    // Each other status has its cause.
     ensures usage { result ≡ Status.Usage → Writes (K.taken out.old) (K.taken out.new) (IsUsage (map string_bytes words.now)) }
     ensures refused { result ≡ Status.Refused → Writes (K.taken out.old) (K.taken out.new) (IsRefusal (H.files shelf.old) (map string_bytes words.now)) }
+    ensures read_fault { result ≡ Status.ReadFault → Writes (K.taken out.old) (K.taken out.new) (IsReadFault (H.files shelf.old) (H.is_sound shelf.old) (map string_bytes words.now)) }
+    ensures write_fault { result ≡ Status.WriteFault → FailsToWrite K.taken K.faults out.old out.new (IsDue (H.files shelf.old) (H.is_sound shelf.old) (map string_bytes words.now)) }
     ensures no_memory { result ≡ Status.NoMemory → Keeps (K.taken out.old) (K.taken out.new) }
 {
-    Status::NoMemory
+    run(alloc, words, shelf, out)
+}
+
+/// Does what the words ask, in the calling thread.
+fn run<H: Shelf, K: Sink>(alloc: Global, words: &[String], shelf: &mut H, out: &mut K) -> Status
+    ensures { Ends K.taken K.faults (H.files shelf.old) (H.is_sound shelf.old) (map string_bytes words.now) out.old out.new result }
+{
+    let Some(run) = run_words(words) else {
+        return end_usage(out);
+    };
+    match prepare(alloc, shelf, &run) {
+        Ok(answered) => end_run(&answered, out),
+        Err(Stop::Refused(part)) => end_refused(&run, part, out),
+        Err(Stop::ReadFault(part)) => end_unread(&run, part, out),
+        Err(Stop::NoMemory) => Status::NoMemory,
+        Err(Stop::Usage) => unreachable!(),
+    }
+}
+
+fn end_usage<K: Sink>(out: &mut K) -> Status
+    ensures { EndsAs K.taken K.faults out.old out.new usage_line Status.Usage result }
+{
+    match put_usage(out) {
+        Ok(()) => Status::Usage,
+        Err(WriteFault) => Status::WriteFault,
+    }
+}
+
+fn end_run<K: Sink>(answered: &Answered, out: &mut K) -> Status
+    requires entries { All IsSpelledEntry answered.now.history.items }
+    requires items { All IsSpelledItem answered.now.items.items }
+    requires size { length answered.now.times.items ≡ length answered.now.net.events }
+    ensures { EndsAs K.taken K.faults out.old out.new (run_text (run_in answered.now)) Status.Ok result }
+{
+    match print_run(out, answered) {
+        Ok(()) => Status::Ok,
+        Err(WriteFault) => Status::WriteFault,
+    }
+}
+
+fn end_refused<K: Sink>(run: &RunWords<'_>, part: Part, out: &mut K) -> Status
+    ensures { EndsAs K.taken K.faults out.old out.new (refused_line (command_in run.now) part) Status.Refused result }
+{
+    match put_refused(out, run, part) {
+        Ok(()) => Status::Refused,
+        Err(WriteFault) => Status::WriteFault,
+    }
+}
+
+fn end_unread<K: Sink>(run: &RunWords<'_>, part: Part, out: &mut K) -> Status
+    ensures { EndsAs K.taken K.faults out.old out.new (read_fault_line (command_in run.now) part) Status.ReadFault result }
+{
+    match put_read_fault(out, run, part) {
+        Ok(()) => Status::ReadFault,
+        Err(WriteFault) => Status::WriteFault,
+    }
 }

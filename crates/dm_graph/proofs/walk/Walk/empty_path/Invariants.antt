@@ -1,4 +1,4 @@
-use Rattle.std.proofs.Common.{◌≡◌, ℕ, length}
+use Rattle.std.proofs.Common.{◌≡◌, length}
 use Rattle.dm_graph.specs.Walk.{IsWalk, steps_left, KeepsMet}
 use Rattle.dm_graph.proofs.walk.Walk.empty_path.Given as goal
 

@@ -1,0 +1,4 @@
+// Whole runs over files in memory.
+
+#[cfg(test)]
+mod tests;

@@ -1,0 +1,137 @@
+-- A feed that is answered to its end makes a true run.
+use Rattle.std.proofs.Common.{◌≡◌, ℕ, zero, suc, ◌+◌, ◌<◌, ◌≤◌, Bool, true, List, [], ◌∷◌, ◌++◌, length, get_or, Option, Some, None, refl, sym, ap, subst, ◌∙◌, append-nil, arith, All, slice_get, map, fold, replicate}
+use Rattle.std.specs.Prelude.{count_by, slice_index_or}
+use Rattle.std.specs.List.{range_with_len}
+use Rattle.std.specs.Option.{ForSome}
+use Rattle.std.proofs.lemmas.Option.{slice_get_within}
+use Rattle.dm_base.specs.declared.limits.TheConstants.{DELAY, PASSED_TIME, FEED, ENTRIES, FEEDS}
+use Rattle.dm_graph.proofs.Chains.{no_cycle_where_rank_rises}
+use Rattle.dm_network.specs.Net.{Net, event_at, activity_at}
+use Rattle.dm_rows.specs.Rows.{RowsValue, RowsAreWithinLimits, start_rows_of, last_delay}
+use Rattle.dm_rows.specs.Active.{active_arcs, HasNoCycle}
+use Rattle.dm_rows.specs.Timetable.{IsLeast}
+use Rattle.dm_rows.specs.Cost.{cost_of}
+use Rattle.dm_rows.specs.Refuse.{PassesAtOnce, Refuses}
+use Rattle.dm_rows.specs.History.{rows_at, IsLegal}
+use Rattle.dm_rows.specs.declared.messages.Entry.{Entry}
+use Rattle.dm_rows.specs.declared.messages.Message.{Message}
+use Rattle.dm_rows.specs.declared.messages.Refusal.{Refusal}
+use Rattle.dm_rows.specs.declared.messages.Refusal.TheVariants.{Range, UnknownEvent, UnknownActivity, UnknownChange, UnknownPair, Passed, NotPassed, Cycle, Full, OutOfMemory}
+use Rattle.dm_program.specs.declared.log.LogItem.{LogItem}
+use Rattle.dm_program.specs.declared.log.FeedStop.TheVariants.{End}
+use Rattle.dm_program.specs.declared.log.FeedLog.{FeedLog}
+use Rattle.dm_program.specs.Lines.{feed_lines}
+use Rattle.dm_program.specs.Logs.{Journal, IsTrueLog, AreTrueLogs, IsLogOf, AreDueItems, IsInOrder, all_items, names}
+use Rattle.dm_program.specs.Runs.{Run, IsTrueRun}
+use Rattle.dm_program.specs.Answers.{Day, IsAnsweredTo}
+use Rattle.dm_program.specs.Times.{GoesForward}
+use Rattle.dm_program.specs.Stages.{IsRunOver}
+
+-- ---- the rows at the start
+
+none_some : {X : Type 0} (x : X) → None ≡ Some x → ⊥
+none_some x e = cc
+
+mapped_zero : (f : ℕ → ℕ) → ((x : ℕ) → f x ≡ 0) → (xs : List ℕ) (i : ℕ) → slice_index_or (map f xs) i 0 ≡ 0
+mapped_zero f h [] i = refl
+mapped_zero f h (x ∷ xs) zero = h x
+mapped_zero f h (x ∷ xs) (suc i) = mapped_zero f h xs i
+
+abbrev none_at : Option ℕ
+none_at = None
+
+none_is_small : ForSome none_at (λ t. t ≤ PASSED_TIME)
+none_is_small = λ t e. absurd (none_some t e)
+
+none_passed : (n i : ℕ) → slice_index_or (replicate n None) i None ≡ none_at
+none_passed zero i = refl
+none_passed (suc n) zero = refl
+none_passed (suc n) (suc i) = none_passed n i
+
+pub start_within : (net : Net) → RowsAreWithinLimits (start_rows_of net [] [])
+start_within net =
+    record {
+      of_events = λ i. let e = mapped_zero (λ j. last_delay [] (event_at net j).id.0) (λ j. refl) (range_with_len 0 (length net.events)) i in omega (arith, e);
+      of_activities = λ a. let e = mapped_zero (λ j. last_delay [] (activity_at net j).id.0) (λ j. refl) (range_with_len 0 (length net.activities)) a in omega (arith, e);
+      of_passed = λ i. subst (λ (o : Option ℕ). ForSome o (λ t. t ≤ PASSED_TIME)) (sym (none_passed (length net.events) i)) none_is_small;
+    }
+
+-- ---- the journal is legal
+
+pub forward_no_cycle : (net : Net) (rows : RowsValue) → GoesForward net → HasNoCycle net rows
+forward_no_cycle net rows forward cycle h = no_cycle_where_rank_rises (active_arcs net rows) (λ e. e) (λ a b. forward a b.is_arc) cycle h
+
+nothing_refuses : (net : Net) (rows : RowsValue) (n : ℕ) (m : Message) → GoesForward net → n < ENTRIES → PassesAtOnce net rows m → (r : Refusal) → Refuses net rows n m r → ⊥
+nothing_refuses net rows n m forward few passes (Cycle ids) h = forward_no_cycle net _ forward h.1.places h.1.is_cycle
+nothing_refuses net rows n m forward few passes (Full k) h = omega (arith, h.2, few)
+nothing_refuses net rows n m forward few passes OutOfMemory h = h
+nothing_refuses net rows n m forward few passes (Range v) h = passes (Range v) h
+nothing_refuses net rows n m forward few passes (UnknownEvent e) h = passes (UnknownEvent e) h
+nothing_refuses net rows n m forward few passes (UnknownActivity a) h = passes (UnknownActivity a) h
+nothing_refuses net rows n m forward few passes (UnknownChange a) h = passes (UnknownChange a) h
+nothing_refuses net rows n m forward few passes (UnknownPair i j) h = passes (UnknownPair i j) h
+nothing_refuses net rows n m forward few passes (Passed e t) h = passes (Passed e t) h
+nothing_refuses net rows n m forward few passes (NotPassed e) h = passes (NotPassed e) h
+
+abbrev log_of_items : List LogItem → FeedLog
+log_of_items items = record { items = items; stop = End }
+
+abbrev journal_of : Net → RowsValue → List Entry → Journal
+journal_of net start history = record { net = net; start = start; history = history }
+
+some_is : {X : Type 0} (x y : X) → Some x ≡ Some y → x ≡ y
+some_is x y e = cc
+
+module _ (net : Net) (start : RowsValue) (bytes : List ℕ) (day : Day) (items : List LogItem) (lines : ℕ)
+    (forward : GoesForward net) (size : length bytes ≤ FEED) (done : IsAnsweredTo net start bytes day items lines []) where
+
+  legal : IsLegal net start day.history
+  legal =
+      record {
+        size = omega (arith, done.few_entries, done.few_lines, size);
+        accepted = λ n entry r at h.
+            let within = slice_get_within day.history n entry at in
+            nothing_refuses net (rows_at net start day.history n) n entry.message forward (omega (arith, within, done.few_entries, done.few_lines, size)) (done.passes n entry at) r h;
+      }
+
+  in_order : IsInOrder 0 0 items
+  in_order = subst (IsInOrder 0 0) (append-nil items) (done.in_order [] tt)
+
+  due : AreDueItems 1 (feed_lines bytes) items
+  due = subst (AreDueItems 1 (feed_lines bytes)) (append-nil items) (done.due [] tt)
+
+  log_of : IsLogOf bytes (log_of_items items)
+  log_of = record { stopped = refl; size = size; due = due }
+
+  true_log : IsTrueLog (journal_of net start day.history) 0 (log_of_items items)
+  true_log = record { answers = done.answers; in_order = in_order }
+
+  each_log : (place : ℕ) (l : FeedLog) → slice_get (log_of_items items ∷ []) place ≡ Some l → IsTrueLog (journal_of net start day.history) place l
+  each_log zero l at = subst (IsTrueLog (journal_of net start day.history) 0) (some_is (log_of_items items) l at) true_log
+  each_log (suc place) l at = absurd (none_some l at)
+
+  true_logs : AreTrueLogs (journal_of net start day.history) (log_of_items items ∷ [])
+  true_logs = record { each = each_log; once = λ n some le. ap (count_by (names n)) (append-nil items) ∙ done.named n some le }
+
+  -- with the least times and their cost it is a true run
+  pub run_over : (penalty : ℕ) (times : List ℕ) (cost : ℕ) → start ≡ start_rows_of net [] [] → IsLeast net day.rows times → cost ≡ cost_of net day.rows times penalty
+      → IsRunOver net bytes (record { journal = journal_of net (start_rows_of net [] []) day.history; penalty = penalty; logs = log_of_items items ∷ []; times = times; cost = cost })
+  run_over penalty times cost start-is least cost-is =
+      subst (λ (s : RowsValue). IsRunOver net bytes (record { journal = journal_of net s day.history; penalty = penalty; logs = log_of_items items ∷ []; times = times; cost = cost })) start-is
+      (record {
+        same_net = refl;
+        start_is = start-is;
+        log = log_of_items items;
+        logs_are = refl;
+        log_of = log_of;
+        is_true = record {
+          some_feed = omega arith;
+          few_feeds = omega arith;
+          legal = legal;
+          logs = true_logs;
+          least = subst (λ (r : RowsValue). IsLeast net r times) done.rows_are least;
+          cost = cost-is ∙ ap (λ (r : RowsValue). cost_of net r times penalty) done.rows_are;
+        };
+        entries_spelled = done.entries_spelled;
+        items_spelled = done.items_spelled;
+      })
