@@ -69,6 +69,14 @@ impl Rows {
         })
     }
 
+    /// How many events the rows are of.
+    pub fn events(&self) -> usize
+        ensures count { result ≡ length self.now.event_delays }
+        ensures limits { RowsAreWithinLimits self.now }
+    {
+        self.event_delays.len()
+    }
+
     /// The source delay of the event at this place, in seconds.
     pub fn event_delay(&self, i: usize) -> Secs
         requires { i < length self.now.event_delays }

@@ -1,0 +1,83 @@
+-- The time of an event, joined along its row.
+use Rattle.std.proofs.Common.{◌≡◌, ℕ, ◌+◌, ◌<◌, ◌≤◌, false, IsTrue, List, length, max, sym, ap, subst, inl, inr, arith, eqb-true, eq-eqb, slice_index}
+use Rattle.std.specs.Prelude.{◌==◌}
+use Rattle.std.proofs.lemmas.Bool.{cases_lt}
+use Rattle.dm_graph.proofs.Windows.{kept_at, StandsAt, stands_in}
+use Rattle.dm_network.specs.Net.{Net, EndsAreKnown, activity_at, places_into}
+use Rattle.dm_rows.specs.Rows.{RowsValue}
+use Rattle.dm_rows.specs.Active.{is_active}
+use Rattle.dm_settle.specs.Pass.{HasJoined, time_along}
+use Rattle.dm_settle.specs.Settling.{IsJoinOf}
+
+-- each place in the row of an event is that of an activity into it
+pub record LeadsInto (net : Net) (e a : ℕ) : Type 0 where
+  pub is_activity : a < length net.activities
+  pub head : (activity_at net a).head ≡ e
+
+pub leads_into : (net : Net) (e k : ℕ) (row : List ℕ) → row ≡ places_into net e → k < length row → LeadsInto net e (slice_index row k)
+leads_into net e k row is below =
+    let kept = kept_at (λ a. (activity_at net a).head == e) 0 (length net.activities) k (subst (λ (xs : List ℕ). k < length xs) is below) in
+    let there : LeadsInto net e (slice_index (places_into net e) k) =
+    record { is_activity = let b = kept.below in omega arith; head = eqb-true _ e kept.passes } in
+    subst (λ (xs : List ℕ). LeadsInto net e (slice_index xs k)) (sym is) there
+
+-- each activity into an event stands in its row
+pub stands_into : (net : Net) (e a : ℕ) (row : List ℕ) → row ≡ places_into net e → LeadsInto net e a → StandsAt row a
+stands_into net e a row is leads =
+    let b = leads.is_activity in
+    subst (λ (xs : List ℕ). StandsAt xs a) (sym is)
+    (stands_in (λ b. (activity_at net b).head == e) 0 (length net.activities) a (eq-eqb _ e leads.head) (omega arith) (omega arith))
+
+module _ (net : Net) (rows : RowsValue) (times : List ℕ) (e : ℕ) (row : List ℕ) (n time : ℕ) (had : HasJoined net rows times e row n time) where
+  pub joined_with : IsTrue (is_active net rows (slice_index row n)) →
+      HasJoined net rows times e row (n + 1) (max time (time_along net rows times (slice_index row n)))
+  joined_with active =
+      let above = had.above in
+      record {
+        above = omega arith;
+        along = λ k lt is. elim (cases_lt k n) [
+          | inl before ↦ let h = had.along k before is in omega arith
+          | inr past ↦
+              let here : k ≡ n = omega arith in
+              let same : time_along net rows times (slice_index row k) ≡ time_along net rows times (slice_index row n) = ap (λ (j : ℕ). time_along net rows times (slice_index row j)) here in
+              omega arith
+        ];
+        least = λ u floor each.
+            let before = had.least u floor (λ k lt is. each k (omega arith) is) in
+            let now = each n (omega arith) active in
+            omega arith;
+      }
+
+  pub joined_without : is_active net rows (slice_index row n) ≡ false → HasJoined net rows times e row (n + 1) time
+  joined_without inactive =
+      record {
+        above = had.above;
+        along = λ k lt is. elim (cases_lt k n) [
+          | inl before ↦ had.along k before is
+          | inr past ↦
+              let here : k ≡ n = omega arith in
+              let same : is_active net rows (slice_index row k) ≡ is_active net rows (slice_index row n) = ap (λ (j : ℕ). is_active net rows (slice_index row j)) here in
+              absurd cc
+        ];
+        least = λ u floor each. had.least u floor (λ k lt is. each k (omega arith) is);
+      }
+
+  -- joined along its whole row, it is the join of the graph
+  pub joined_whole : EndsAreKnown net → row ≡ places_into net e → n ≡ length row → e < length net.events → IsJoinOf net rows times e time
+  joined_whole known is all below =
+      record {
+        above = had.above;
+        along = λ a binds head.
+            let s = stands_into net e a row is (record { is_activity = binds.is_arc; head = head }) in
+            let within = s.within in
+            subst (λ (b : ℕ). time_along net rows times b ≤ time) s.is
+            (had.along s.place (omega arith) (subst (λ (b : ℕ). IsTrue (is_active net rows b)) (sym s.is) binds.is_held));
+        least = λ u floor each. had.least u floor (λ k lt active.
+            let leads = leads_into net e k row is (omega arith) in
+            each (slice_index row k) (record {
+              is_arc = leads.is_activity;
+              is_held = active;
+              from_event = known.tails (slice_index row k) leads.is_activity;
+              to_event = known.heads (slice_index row k) leads.is_activity;
+            }) leads.head);
+      }

@@ -1,0 +1,8 @@
+pub mod Arrays
+pub mod Early
+pub mod Going
+pub mod Joining
+pub mod Least
+pub mod Marking
+pub mod Passing
+pub mod Reading

@@ -1,0 +1,105 @@
+-- Marks at the heads of the activities out of an event, set along its row.
+use Rattle.std.proofs.Common.{◌≡◌, ℕ, ◌+◌, ◌<◌, Bool, true, false, IsTrue, List, length, sym, ap, subst, ◌∙◌, ◌⊎◌, inl, inr, arith, eqb-true, eq-eqb, slice_index, length-set, get_or-set_same, get_or-set_other}
+use Rattle.std.specs.Prelude.{◌==◌, slice_set}
+use Rattle.std.proofs.lemmas.Bool.{cases_lt, cases_eq}
+use Rattle.dm_graph.proofs.Windows.{kept_at, StandsAt, stands_in}
+use Rattle.dm_network.specs.Net.{Net, activity_at, places_out_of}
+use Rattle.dm_rows.specs.Rows.{RowsValue}
+use Rattle.dm_rows.specs.Active.{is_active}
+use Rattle.dm_settle.specs.Marked.{is_marked}
+use Rattle.dm_settle.specs.Pass.{HasMarked, MarksHeads}
+
+-- an activity out of the event
+pub record LeadsOut (net : Net) (e a : ℕ) : Type 0 where
+  pub is_activity : a < length net.activities
+  pub tail : (activity_at net a).tail ≡ e
+
+-- each place in the row of an event is that of an activity out of it
+pub leads_out : (net : Net) (e k : ℕ) (row : List ℕ) → row ≡ places_out_of net e → k < length row → LeadsOut net e (slice_index row k)
+leads_out net e k row is below =
+    let kept = kept_at (λ a. (activity_at net a).tail == e) 0 (length net.activities) k (subst (λ (xs : List ℕ). k < length xs) is below) in
+    let there : LeadsOut net e (slice_index (places_out_of net e) k) =
+    record { is_activity = let b = kept.below in omega arith; tail = eqb-true _ e kept.passes } in
+    subst (λ (xs : List ℕ). LeadsOut net e (slice_index xs k)) (sym is) there
+
+-- each activity out of an event stands in its row
+pub stands_out : (net : Net) (e a : ℕ) (row : List ℕ) → row ≡ places_out_of net e → LeadsOut net e a → StandsAt row a
+stands_out net e a row is leads =
+    let b = leads.is_activity in
+    subst (λ (xs : List ℕ). StandsAt xs a) (sym is)
+    (stands_in (λ b. (activity_at net b).tail == e) 0 (length net.activities) a (eq-eqb _ e leads.tail) (omega arith) (omega arith))
+
+-- a place that is marked, and every one that was
+pub marked_here : (marks : List Bool) (place : ℕ) → place < length marks → is_marked (slice_set marks place true) place ≡ true
+marked_here marks place below = get_or-set_same marks place true false below
+
+pub marked_still : (marks : List Bool) (place k : ℕ) → place < length marks → is_marked marks k ≡ true → is_marked (slice_set marks place true) k ≡ true
+marked_still marks place k below was =
+    elim (cases_eq k place) [
+      | inl is ↦ subst (λ (j : ℕ). is_marked (slice_set marks place true) j ≡ true) (sym is) (marked_here marks place below)
+      | inr ne ↦ get_or-set_other marks place k true false ne ∙ was
+    ]
+
+pub marked_if : (marks : List Bool) (place k : ℕ) → is_marked (slice_set marks place true) k ≡ true → (is_marked marks k ≡ true) ⊎ (k ≡ place)
+marked_if marks place k now =
+    elim (cases_eq k place) [
+      | inl is ↦ inr is
+      | inr ne ↦ inl (sym (get_or-set_other marks place k true false ne) ∙ now)
+    ]
+
+module _ (net : Net) (rows : RowsValue) (ranks : List ℕ) (event : ℕ) (row : List ℕ) (n : ℕ) (before now : List Bool)
+    (had : HasMarked net rows ranks event row n before now) where
+  pub marked_with : row ≡ places_out_of net event → n < length row → IsTrue (is_active net rows (slice_index row n)) →
+      slice_index ranks (activity_at net (slice_index row n)).head < length now →
+      HasMarked net rows ranks event row (n + 1) before (slice_set now (slice_index ranks (activity_at net (slice_index row n)).head) true)
+  marked_with is in' active below =
+      let head : ℕ = slice_index ranks (activity_at net (slice_index row n)).head in
+      let leads = leads_out net event n row is in' in
+      record {
+        as_many = length-set now head true ∙ had.as_many;
+        kept = λ k was. marked_still now head k below (had.kept k was);
+        heads = λ k lt holds. elim (cases_lt k n) [
+          | inl earlier ↦ marked_still now head _ below (had.heads k earlier holds)
+          | inr past ↦
+              let here : n ≡ k = omega arith in
+              subst (λ (j : ℕ). is_marked (slice_set now head true) (slice_index ranks (activity_at net (slice_index row j)).head) ≡ true) here (marked_here now head below)
+        ];
+        only = λ k is_now. elim (marked_if now head k is_now) [
+          | inl was ↦ had.only k was
+          | inr here ↦ inr (record {
+            activity = slice_index row n;
+            active = record { is_activity = leads.is_activity; active = active };
+            tail = leads.tail;
+            ranked = sym here;
+          })
+        ];
+      }
+
+  pub marked_without : is_active net rows (slice_index row n) ≡ false → HasMarked net rows ranks event row (n + 1) before now
+  marked_without inactive =
+      record {
+        as_many = had.as_many;
+        kept = had.kept;
+        heads = λ k lt holds. elim (cases_lt k n) [
+          | inl earlier ↦ had.heads k earlier holds
+          | inr past ↦
+              let here : k ≡ n = omega arith in
+              let same : is_active net rows (slice_index row k) ≡ is_active net rows (slice_index row n) = ap (λ (j : ℕ). is_active net rows (slice_index row j)) here in
+              absurd cc
+        ];
+        only = had.only;
+      }
+
+  -- along the whole row, every head is marked
+  pub marked_whole : row ≡ places_out_of net event → n ≡ length row → MarksHeads net rows ranks event before now
+  marked_whole is all =
+      record {
+        as_many = had.as_many;
+        kept = had.kept;
+        heads = λ a active tail.
+            let s = stands_out net event a row is (record { is_activity = active.is_activity; tail = tail }) in
+            let within = s.within in
+            subst (λ (b : ℕ). is_marked now (slice_index ranks (activity_at net b).head) ≡ true) s.is
+            (had.heads s.place (omega arith) (subst (λ (b : ℕ). IsTrue (is_active net rows b)) (sym s.is) active.active));
+        only = had.only;
+      }

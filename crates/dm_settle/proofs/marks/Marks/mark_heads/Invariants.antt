@@ -1,0 +1,5 @@
+use Rattle.dm_settle.specs.Pass.{HasMarked}
+use Rattle.dm_settle.proofs.marks.Marks.mark_heads.Given as goal
+
+abbrev pub invariant-loop-a : goal.invariant-loop-a
+invariant-loop-a g l = HasMarked l.net l.rows l.ranks l.event l.a-items l.a-index l.initial.self l.self

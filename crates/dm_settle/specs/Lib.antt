@@ -1,0 +1,5 @@
+pub mod Free
+pub mod Marked
+pub mod Settling
+pub mod Pass
+pub mod Scratch

@@ -1,0 +1,115 @@
+//! Marks at the places of an order.
+ghost use Rattle.std.specs.Prelude.{ℕ, ◌≡◌, ◌+◌, ◌*◌, ◌/◌, ◌<◌, ◌≤◌, true, false, List, Bool, length, replicate, slice_set, slice_index_or, IfOk, IfSome, IfNone};
+ghost use Rattle.dm_settle.specs.Marked.{is_marked, IsFirstFrom, NoneFrom, NoneBetween};
+
+use std::alloc::{AllocError, Global};
+use std::marker::Model;
+
+/// How many places stand in a block.
+const BLOCK: usize = 256;
+
+/// Which places of an order are marked. The first mark from a place on is found without a look at each place between.
+#[derive(Drop)]
+pub struct Marks {
+    flags: Vec<bool>,
+
+    /// Of each block of places whether it may have a mark.
+    blocks: Vec<bool>,
+}
+
+impl Model for Marks {
+    ghost use Rattle.std.specs.Prelude.{List, Bool};
+    ghost use Rattle.dm_settle.specs.Marked.{AreCovered};
+
+    ghost Value = { List Bool };
+
+    ghost view = { λ m. m.flags.items };
+
+    ghost invariant = { λ m. AreCovered m.flags.items m.blocks.items };
+}
+
+impl Marks {
+    /// Room for the marks of an order of so many events. None is marked.
+    pub fn new(alloc: Global, events: usize) -> Result<Marks, AllocError>
+        ensures { IfOk result (λ m. m ≡ replicate events false) }
+    {
+        let flags = vec![in alloc; false; events]?;
+        let blocks = vec![in alloc; false; events / BLOCK + 1]?;
+        Ok(Marks { flags, blocks })
+    }
+
+    /// How many places there are.
+    pub fn places(&self) -> usize
+        ensures { result ≡ length self.now }
+    {
+        self.flags.len()
+    }
+
+    /// Marks a place.
+    pub fn mark(&mut self, place: usize)
+        requires { place < length self.old }
+        ensures { self.new ≡ slice_set self.old place true }
+    {
+        self.blocks[place / BLOCK] = true;
+        self.flags[place] = true;
+    }
+
+    /// Takes the mark at a place away.
+    pub fn clear(&mut self, place: usize)
+        requires { place < length self.old }
+        ensures { self.new ≡ slice_set self.old place false }
+    {
+        self.flags[place] = false;
+    }
+
+    /// The first place that is marked, from this one on.
+    pub fn first_from(&mut self, from: usize) -> Option<usize>
+        ensures same { self.new ≡ self.old }
+        ensures first { IfSome result (IsFirstFrom self.old from) }
+        ensures none { IfNone result (NoneFrom self.old from) }
+    {
+        let mut start = from;
+        while start < self.flags.len() {
+            let found = self.first_in_block(start);
+            if found.is_some() {
+                return found;
+            }
+            start = start / BLOCK * BLOCK + BLOCK;
+        }
+        None
+    }
+
+    /// The first marked place from this one on, of its block. A block with no mark is not looked through again.
+    fn first_in_block(&mut self, start: usize) -> Option<usize>
+        requires { start < length self.old }
+        ensures same { self.new ≡ self.old }
+        ensures first { IfSome result (IsFirstFrom self.old start) }
+        ensures none { IfNone result (NoneBetween self.old start (start / BLOCK * BLOCK + BLOCK)) }
+    {
+        let block = start / BLOCK;
+        if !self.blocks[block] {
+            return None;
+        }
+        let end = self.flags.len().min(block * BLOCK + BLOCK);
+        let found = first_between(&self.flags, start, end);
+        if found.is_none() && start == block * BLOCK {
+            self.blocks[block] = false;
+        }
+        found
+    }
+}
+
+/// The first marked place from a start up to an end.
+fn first_between(flags: &[bool], start: usize, end: usize) -> Option<usize>
+    requires { end ≤ length flags.now }
+    ensures first { IfSome result (IsFirstFrom flags.now start) }
+    ensures before { IfSome result (λ place. place < end) }
+    ensures none { IfNone result (NoneBetween flags.now start end) }
+{
+    for place in start..end {
+        if flags[place] {
+            return Some(place);
+        }
+    }
+    None
+}
