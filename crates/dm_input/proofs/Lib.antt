@@ -1,2 +1,4 @@
 pub mod WordLists
 pub mod Asking
+pub mod Fits
+pub mod Staging

@@ -1,4 +1,5 @@
 pub mod Words
 pub mod RunWords
 pub mod Input
+pub mod Stages
 pub mod Lines

@@ -2,6 +2,7 @@
 #![tactic(auto)]
 
 mod parts;
+mod reading;
 mod words;
 
 pub use parts::{Flaw, Part, Stop};

@@ -3,6 +3,7 @@
 use dm_lintim::FileFault;
 use dm_network::NetFault;
 use dm_rows::StartFault;
+use std::alloc::AllocError;
 
 /// What a run reads. The network is made of the first two, and the start rows of the network and the delays, before the
 /// feed is read.
@@ -44,4 +45,15 @@ pub enum Stop {
     ReadFault(Part),
 
     NoMemory,
+}
+
+impl From<AllocError> for Stop {
+    ghost use Rattle.std.specs.Prelude.{◌≡◌};
+    ghost use Rattle.dm_input.specs.declared.parts.Stop.TheVariants.{NoMemory};
+
+    ghost from_gives = { λ _ stop. stop ≡ NoMemory };
+
+    fn from(_: AllocError) -> Stop {
+        Stop::NoMemory
+    }
 }
