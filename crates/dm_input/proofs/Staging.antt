@@ -13,8 +13,8 @@ use Rattle.dm_input.specs.declared.parts.Flaw.{Flaw}
 use Rattle.dm_input.specs.declared.parts.Stop.{Stop}
 use Rattle.dm_input.specs.declared.parts.Stop.TheVariants.{Usage, Refused, ReadFault, NoMemory}
 use Rattle.dm_input.specs.Words.{Command}
-use Rattle.dm_input.specs.Input.{Told, FileAnswers, PartAnswers, EventsAnswer, ActivitiesAnswer, EventDelaysAnswer, ActivityDelaysAnswer, FilesAnswer, FileRows, part_name, IsFirstRefusal, PassesBefore}
-use Rattle.dm_input.specs.Stages.{IsKept, StopsAtFile, StopsAtPart, StopsRun, IsUnread}
+use Rattle.dm_input.specs.Input.{Told, FileAnswers, PartAnswers, EventsAnswer, ActivitiesAnswer, EventDelaysAnswer, ActivityDelaysAnswer, FilesAnswer, FileRows, Opening, NetworkAnswers, StartAnswers, FeedAnswers, OpeningAnswer, part_name, IsFirstRefusal, IsInput, PassesBefore}
+use Rattle.dm_input.specs.Stages.{IsKept, StopsAtFile, StopsAtPart, StopsAnswer, StopsAtFeed, StopsRun, IsUnread}
 
 -- what a kept shelf tells, it told before
 pub kept_then : {H : Type 0} {files : H → Told} {is_sound : H → List ℕ → Type 0} {a b c : H} → IsKept files is_sound a b → IsKept files is_sound b c → IsKept files is_sound a c
@@ -71,7 +71,47 @@ module _ (told : Told) (is_sound : List ℕ → Type 0) (command : Command) wher
       stops_at told is_sound command ActivityDelays (part_name command ActivityDelays) ReadsDelays stop refl (events, e, activities, a, delays, d)
       (λ flaw x. inl (inl (inr (events, e, inr (activities, a, inr (delays, d, inl x)))))) h
 
-  pub files_answer : (events : List EventRow) (activities : List ActRow) (event_delays activity_delays : List DelayRow)
-      → EventsAnswer told command (Ok events) → ActivitiesAnswer told command (Ok activities) → EventDelaysAnswer told command (Ok event_delays) → ActivityDelaysAnswer told command (Ok activity_delays)
-      → FilesAnswer told command (Ok (record { events = events; activities = activities; event_delays = event_delays; activity_delays = activity_delays }))
-  files_answer events activities event_delays activity_delays e a d x = (events, e, (activities, a, (event_delays, d, (activity_delays, x, refl))))
+  -- the files are read, and what they make is refused, or the feed after it
+  pub stops_network : (files : FileRows) (stop : Stop) → FilesAnswer told command (Ok files) → StopsAnswer (NetworkAnswers files.events files.activities) stop → StopsRun told is_sound command stop
+  stops_network files (Refused flaw) f h = inl (inr (files, f, inl h))
+  stops_network files (ReadFault part) f h = absurd h
+  stops_network files Usage f h = h
+  stops_network files NoMemory f h = tt
+
+  pub stops_start : (files : FileRows) (net : Net) (stop : Stop) → FilesAnswer told command (Ok files) → NetworkAnswers files.events files.activities (Ok net)
+      → StopsAnswer (StartAnswers net files.event_delays files.activity_delays) stop → StopsRun told is_sound command stop
+  stops_start files net (Refused flaw) f n h = inl (inr (files, f, inr (net, n, inl h)))
+  stops_start files net (ReadFault part) f n h = absurd h
+  stops_start files net Usage f n h = h
+  stops_start files net NoMemory f n h = tt
+
+  pub stops_feed : (opening : Opening) (stop : Stop) → OpeningAnswer told command (Ok opening) → StopsAtFeed told is_sound command.feed stop → StopsRun told is_sound command stop
+  stops_feed opening (Refused flaw) o h = inr (opening, o, inl h)
+  stops_feed opening (ReadFault part) o h = rw h.0 (record { name = command.feed; named = refl; passes = (opening, o); unsound = h.1 })
+  stops_feed opening Usage o h = h
+  stops_feed opening NoMemory o h = tt
+
+pub files_answer : (told : Told) (command : Command) (events : List EventRow) (activities : List ActRow) (event_delays activity_delays : List DelayRow)
+    → EventsAnswer told command (Ok events) → ActivitiesAnswer told command (Ok activities) → EventDelaysAnswer told command (Ok event_delays) → ActivityDelaysAnswer told command (Ok activity_delays)
+    → FilesAnswer told command (Ok (record { events = events; activities = activities; event_delays = event_delays; activity_delays = activity_delays }))
+files_answer told command events activities event_delays activity_delays e a d x = (events, e, (activities, a, (event_delays, d, (activity_delays, x, refl))))
+
+pub opening_answer : (told : Told) (command : Command) (files : FileRows) (net : Net) (rows : RowsValue) → FilesAnswer told command (Ok files)
+    → NetworkAnswers files.events files.activities (Ok net) → StartAnswers net files.event_delays files.activity_delays (Ok rows)
+    → OpeningAnswer told command (Ok (record { net = net; rows = rows }))
+opening_answer told command files net rows f n s = (files, f, (net, n, (rows, s, refl)))
+
+pub input_answer : (told : Told) (command : Command) (opening : Opening) (feed : List ℕ) → OpeningAnswer told command (Ok opening)
+    → FeedAnswers told command.feed (Ok feed) → IsInput told command (record { opening = opening; feed = feed })
+input_answer told command opening feed o f = (opening, o, (feed, f, refl))
+
+pub stops_feed_back : {H : Type 0} {files : H → Told} {is_sound : H → List ℕ → Type 0} {a b : H} (name : List ℕ) (stop : Stop)
+    → IsKept files is_sound a b → StopsAtFeed (files b) (is_sound b) name stop → StopsAtFeed (files a) (is_sound a) name stop
+stops_feed_back name (Refused flaw) kept h = subst (λ told. FeedAnswers told name (Err flaw)) kept.same h
+stops_feed_back name (ReadFault at) kept h = (h.0, λ s. h.1 (kept.sound name s))
+stops_feed_back name Usage kept h = h
+stops_feed_back name NoMemory kept h = h
+
+pub feed_back : {H : Type 0} {files : H → Told} {is_sound : H → List ℕ → Type 0} {a b : H} (name bytes : List ℕ)
+    → IsKept files is_sound a b → FeedAnswers (files b) name (Ok bytes) → FeedAnswers (files a) name (Ok bytes)
+feed_back name bytes kept h = subst (λ told. FeedAnswers told name (Ok bytes)) kept.same h

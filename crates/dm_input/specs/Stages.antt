@@ -10,13 +10,16 @@ use Rattle.dm_outside.specs.declared.faults.TakeFault.{TakeFault}
 use Rattle.dm_outside.specs.declared.faults.TakeFault.TheVariants.{ReadFault as NotRead, TooLong as TooMany, OutOfMemory}
 use Rattle.dm_rows.specs.StartFaults.{DelaysAreWithin}
 use Rattle.dm_input.specs.declared.parts.Part.{Part}
+use Rattle.dm_input.specs.declared.parts.Part.TheVariants.{Feed}
 use Rattle.dm_input.specs.declared.parts.Flaw.{Flaw}
 use Rattle.dm_input.specs.declared.parts.Flaw.TheVariants.{Record}
 use Rattle.dm_input.specs.declared.parts.Stop.{Stop}
 use Rattle.dm_input.specs.declared.parts.Stop.TheVariants.{Usage, Refused, ReadFault, NoMemory}
+use Rattle.dm_input.specs.declared.opening.RunInput.{RunInput}
+use Rattle.dm_input.specs.declared.opening.Opened.{Opened}
 use Rattle.dm_input.specs.declared.reading.Files.{Files}
 use Rattle.dm_input.specs.Words.{Command}
-use Rattle.dm_input.specs.Input.{Told, IsHeld, part_name, FileAnswers, FileRows, PassesBefore, IsFirstRefusal}
+use Rattle.dm_input.specs.Input.{Told, IsHeld, part_name, FileAnswers, FeedAnswers, FileRows, Input, Opening, PassesBefore, IsFirstRefusal}
 
 -- a shelf tells what it told before
 pub record IsKept {H : Type 0} (files : H → Told) (is_sound : H → List ℕ → Type 0) (old new : H) : Type 0 where
@@ -47,6 +50,20 @@ StopsAtFile told is_sound name part Reads NoMemory = Unit {0}
 abbrev pub StopsAtPart : {R : Type 0} → Told → (List ℕ → Type 0) → Option (List ℕ) → Part → (List ℕ → Result (List R) FileFault → Type 0) → Stop → Type 0
 StopsAtPart told is_sound None part Reads stop = stop ≡ NoMemory
 StopsAtPart told is_sound (Some name) part Reads stop = StopsAtFile told is_sound name part Reads stop
+
+-- why what is made of the rows stops the run
+abbrev pub StopsAnswer : {X : Type 0} → (Result X Flaw → Type 0) → Stop → Type 0
+StopsAnswer Answers (Refused flaw) = Answers (Err flaw)
+StopsAnswer Answers (ReadFault at) = ⊥
+StopsAnswer Answers Usage = ⊥
+StopsAnswer Answers NoMemory = Unit {0}
+
+-- why reading the feed stops
+abbrev pub StopsAtFeed : Told → (List ℕ → Type 0) → List ℕ → Stop → Type 0
+StopsAtFeed told is_sound name (Refused flaw) = FeedAnswers told name (Err flaw)
+StopsAtFeed told is_sound name (ReadFault at) = (at ≡ Feed) × (is_sound name → ⊥)
+StopsAtFeed told is_sound name Usage = ⊥
+StopsAtFeed told is_sound name NoMemory = Unit {0}
 
 -- how a fault of a file's records stops the reading
 abbrev pub IsStopBy : Part → FileFault → Stop → Type 0
@@ -91,3 +108,9 @@ StopsRun told is_sound command (Refused flaw) = IsFirstRefusal told command flaw
 StopsRun told is_sound command (ReadFault part) = IsUnread told is_sound command part
 StopsRun told is_sound command Usage = ⊥
 StopsRun told is_sound command NoMemory = Unit {0}
+
+abbrev pub opening_in : Opened → Opening
+opening_in opened = record { net = opened.net; rows = opened.rows }
+
+abbrev pub input_in : RunInput → Input
+input_in input = record { opening = record { net = input.net; rows = input.rows }; feed = input.feed.items }

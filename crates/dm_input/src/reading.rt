@@ -145,9 +145,9 @@ fn read_delay_file<H: Shelf>(
     part: Part,
 ) -> Result<Vec<DelayRow>, Stop>
     ensures kept { IsKept H.files H.is_sound shelf.old shelf.new }
-    ensures rows { IfOk result (λ rows. PartAnswers (H.files shelf.old) (option_map (λ x. folder.now ++ (codes "/" ++ x.now)) file.entry) part ReadsDelays (Ok rows.items)) }
+    ensures rows { IfOk result (λ rows. PartAnswers (H.files shelf.old) (option_map (λ n. folder.now ++ (codes "/" ++ n)) (option_map (λ x. x.now) file.entry)) part ReadsDelays (Ok rows.items)) }
     ensures fit { IfOk result (λ rows. DelaysAreWithin rows.items) }
-    ensures stops { IfErr result (StopsAtPart (H.files shelf.old) (H.is_sound shelf.old) (option_map (λ x. folder.now ++ (codes "/" ++ x.now)) file.entry) part ReadsDelays) }
+    ensures stops { IfErr result (StopsAtPart (H.files shelf.old) (H.is_sound shelf.old) (option_map (λ n. folder.now ++ (codes "/" ++ n)) (option_map (λ x. x.now) file.entry)) part ReadsDelays) }
 {
     match file {
         None => Ok(Vec::new(alloc)),
