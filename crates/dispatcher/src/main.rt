@@ -9,31 +9,29 @@ use dm_program::{Status, dispatch};
 use std::env;
 use std::io::ErrorKind;
 use std::process::ExitCode;
+use std::rt::Env;
 
 fn main(rt: HostRuntime) -> ExitCode {
-    ExitCode::from(run(&rt) as u8)
-}
-
-fn run(rt: &HostRuntime) -> Status {
-    let Some(words) = words(rt) else {
-        return Status::NoMemory;
+    let Some(words) = words(&rt) else {
+        return ExitCode::from(Status::NoMemory as u8);
     };
-    let mut shelf = FolderShelf::new(rt);
+    let mut shelf = FolderShelf::new(&rt);
     let mut boards = Vec::new(rt.alloc());
     let mut out = StdSink::new(rt.stdout());
-    dispatch(
-        rt,
+    let status = dispatch(
+        &rt,
         rt.alloc(),
         words.as_slice(),
         &mut shelf,
         &mut boards,
         &OpenGate,
         &mut out,
-    )
+    );
+    ExitCode::from(status as u8)
 }
 
-/// The words behind the program's name, none where one is no text, or nothing where there is no memory for them.
-fn words(rt: &HostRuntime) -> Option<Vec<String>> {
+/// The words behind the program's name, no words where one is no text, or nothing where there is no memory for them.
+fn words<R: Env + AllocGlobal>(rt: &R) -> Option<Vec<String>> {
     let mut words = Vec::new(rt.alloc());
     let mut args = match env::args(rt) {
         Ok(args) => args,
@@ -42,7 +40,9 @@ fn words(rt: &HostRuntime) -> Option<Vec<String>> {
     };
     let _program = args.next();
     for word in args {
-        words.push(word).ok()?;
+        let Ok(()) = words.push(word) else {
+            return None;
+        };
     }
     Some(words)
 }

@@ -10,3 +10,5 @@ mod graph;
 mod lintim;
 #[cfg(test)]
 mod outside;
+#[cfg(test)]
+mod program;

@@ -1,7 +1,9 @@
 -- Look-ups by a key in a list whose keys ascend.
 use Rattle.std.proofs.Common.{◌≡◌, ◌≢◌, ℕ, zero, suc, ◌+◌, ◌-◌, ◌<◌, ◌≤◌, Bool, true, false, cond, eqb, ltb, List, [], ◌∷◌, length, map, get_or, refl, sym, ap, ◌∙◌, subst, inl, inr, arith, Some, None, position}
 use Rattle.std.specs.List.{AllWithin, position_or_len}
-use Rattle.std.specs.List.Sorted.{IsStrictlyIncreasing, IsNonDecreasingBy, IsPartitionPoint}
+use Rattle.std.specs.List.Sorted.{IsStrictlyIncreasing, IsNonDecreasing, IsNonDecreasingBy, IsPartitionPoint}
+use Rattle.std.proofs.lemmas.Option.{slice_get-get_or}
+use Rattle.dm_network.specs.Build.{NoneStandsTwice}
 use Rattle.std.proofs.lemmas.Bool.{cases_lt, cases_order, cases_eq, ltb-true, ltb-false, ne_eqb, eq-eqb, lt-ltb, le-ltb}
 use Rattle.std.proofs.lemmas.List.{get_or-map, length-map, get_or_default}
 use Rattle.std.proofs.lemmas.List.Sums.{position_or_len_is}
@@ -66,3 +68,27 @@ module _ {X : Type 0} (key : X → ℕ) (xs : List X) (up : IsStrictlyIncreasing
       (λ j lt. ne_eqb (key (get_or xs j d)) k (differs j lt))
       (λ lt. absurd (omega arith)) in
       rw (at, le-ltb (length xs) (length xs) (omega arith))
+
+-- keys that do not fall along a list, as a list
+pub keys_do_not_fall : {X : Type 0} (key : X → ℕ) (xs : List X) → IsNonDecreasingBy key xs → IsNonDecreasing (map key xs)
+keys_do_not_fall key [] up i j d le lt = absurd (omega arith)
+keys_do_not_fall key (x ∷ xs) up i j d le lt =
+    let in' : j < length (x ∷ xs) = simp length-map at lt in
+    let h = up i j x le in' in
+    let a = get_or-map key (x ∷ xs) i x d (omega arith) in
+    let b = get_or-map key (x ∷ xs) j x d in' in
+    omega arith
+
+-- numbers that do not fall and of which none stands twice rise
+pub distinct_rises : (xs : List ℕ) → IsNonDecreasing xs → NoneStandsTwice xs → IsStrictlyIncreasing xs
+distinct_rises xs up once k lt =
+    elim (cases_eq (get_or xs k 0) (get_or xs (k + 1) 0)) [
+      | inl tie ↦ absurd (once (get_or xs (k + 1) 0) (record {
+        first = k;
+        second = k + 1;
+        apart = omega arith;
+        at_first = slice_get-get_or xs k 0 (omega arith) ∙ ap Some tie;
+        at_second = slice_get-get_or xs (k + 1) 0 lt;
+      }))
+      | inr other ↦ let h = up k (k + 1) 0 (omega arith) lt in omega arith
+    ]

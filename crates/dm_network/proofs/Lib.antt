@@ -1,3 +1,11 @@
 pub mod Keys
 pub mod PairKeys
 pub mod Windows
+pub mod Filling
+pub mod Doubles
+pub mod Resolving
+pub mod TwoWay
+pub mod Formation
+pub mod Arraying
+pub mod Starting
+pub mod Making

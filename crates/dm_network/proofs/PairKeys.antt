@@ -33,7 +33,7 @@ pub record PassesOnly (test : Pair → Bool) (small large : ℕ) : Type 0 where
   pub passes : (p : Pair) → p.small ≡ small → p.large ≡ large → test p ≡ true
   pub only : (p : Pair) → p.small < p.large → test p ≡ true → (p.small ≡ small) × (p.large ≡ large)
 
-joins-from : (p : Pair) (i j : ℕ) → ((p.small ≡ i) × (p.large ≡ j)) ⊎ ((p.small ≡ j) × (p.large ≡ i)) → joins p i j ≡ true
+pub joins-from : (p : Pair) (i j : ℕ) → ((p.small ≡ i) × (p.large ≡ j)) ⊎ ((p.small ≡ j) × (p.large ≡ i)) → joins p i j ≡ true
 joins-from p i j h =
     elim h [
       | inl s ↦ or_left (eqb p.small i && eqb p.large j) (eqb p.small j && eqb p.large i)

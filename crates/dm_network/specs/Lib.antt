@@ -3,3 +3,4 @@ pub mod Pairs
 pub mod Start
 pub mod Build
 pub mod Flat
+pub mod Stages

@@ -24,8 +24,8 @@ abbrev pub FormPair : Net → ℕ → ℕ → Type 0
 FormPair net i j = (i ≢ j) × ((a : ℕ) × IsHeadwayFrom net i j a) × ((b : ℕ) × IsHeadwayFrom net j i b)
 
 -- the pair of a headway's two events where they form one, and none for every other activity
-abbrev pub pair_of : Net → Activity → Option ℕ
-pair_of net a = if is_headway a.kind then pair_place net a.tail a.head else None
+abbrev pub own_pair : Net → Activity → Option ℕ
+own_pair net a = if is_headway a.kind then pair_place net a.tail a.head else None
 
 -- ascending order of (smaller event, larger event)
 abbrev pub ComesBefore : Pair → Pair → Type 0
@@ -36,4 +36,4 @@ pub record IsPaired (net : Net) : Type 0 where
   pub exact : (i j : ℕ) → IsSome (pair_place net i j) ↔ FormPair net i j
   pub smaller_first : (p : ℕ) → p < length net.pairs → (pair_at net p).small < (pair_at net p).large
   pub ascending : (p q : ℕ) → p < q → q < length net.pairs → ComesBefore (pair_at net p) (pair_at net q)
-  pub belongs : (a : ℕ) → a < length net.activities → (activity_at net a).pair ≡ pair_of net (activity_at net a)
+  pub belongs : (a : ℕ) → a < length net.activities → (activity_at net a).pair ≡ own_pair net (activity_at net a)

@@ -1,5 +1,5 @@
 -- What binds before any message, and what a network is.
-use Rattle.std.specs.Prelude.{ℕ, ◌≡◌, ◌==◌, nat_le, Bool, true, List, length, map, Option, Some, None, if◌then◌else◌}
+use Rattle.std.specs.Prelude.{ℕ, ◌≡◌, ◌==◌, nat_le, Bool, true, List, length, map, Option, Some, None, if◌then◌else◌, ◌<◌, IsTrue}
 use Rattle.dm_base.specs.declared.ids.ActId.{ActId}
 use Rattle.dm_graph.specs.Arcs.{Arcs, IsCycle}
 use Rattle.dm_network.specs.Net.{Net, event_at, activity_at, pair_at, EventsAscend, ActivitiesAscend, EndsAreKnown, HeadwaysAreApart}
@@ -11,17 +11,22 @@ abbrev pub starts_small_first : Net → ℕ → Bool
 starts_small_first net p = nat_le (event_at net (pair_at net p).small).time (event_at net (pair_at net p).large).time
 
 -- the event that is first in a pair
-abbrev pub first_of : Net → ℕ → Bool → ℕ
-first_of net p small_first = if small_first then (pair_at net p).small else (pair_at net p).large
+abbrev pub first_event : Net → ℕ → Bool → ℕ
+first_event net p small_first = if small_first then (pair_at net p).small else (pair_at net p).large
 
 -- At the start every change is kept and no event has passed. So every activity binds but the headways of a pair whose
 -- tail is not first.
 abbrev pub binds_at_start : Net → Option ℕ → ℕ → Bool
 binds_at_start net None tail = true
-binds_at_start net (Some p) tail = tail == first_of net p (starts_small_first net p)
+binds_at_start net (Some p) tail = tail == first_event net p (starts_small_first net p)
 
 abbrev pub is_start_active : Net → ℕ → Bool
 is_start_active net a = binds_at_start net (activity_at net a).pair (activity_at net a).tail
+
+-- an activity that binds at the start
+pub record IsStartActive (net : Net) (a : ℕ) : Type 0 where
+  pub is_activity : a < length net.activities
+  pub active : IsTrue (is_start_active net a)
 
 -- the events and activities of a network as arcs, of which those in `held` bind
 abbrev pub arcs_of : Net → (ℕ → Bool) → Arcs

@@ -61,7 +61,7 @@ fn pair_from_smaller(pairs: &[Pair], small: usize, large: usize) -> Option<usize
 }
 
 /// Whether a pair stands before the pair of two events.
-fn comes_before(p: &Pair, small: usize, large: usize) -> bool
+pub fn comes_before(p: &Pair, small: usize, large: usize) -> bool
     ensures { result ≡ stands_before p.now small large }
 {
     p.small < small || (p.small == small && p.large < large)

@@ -4,11 +4,15 @@
 //! [`Network::build`] makes one of the records of two files, or says exactly why there is none.
 #![tactic(auto)]
 
+mod arrays;
 mod build;
 mod find;
 mod flat;
+mod forming;
 mod network;
+mod pairing;
 mod parts;
+mod records;
 
 pub use network::Network;
 pub use parts::{Activity, Event, NetFault, Pair};

@@ -3,9 +3,12 @@ ghost use Rattle.std.specs.Prelude.{◌≡◌, ◌+◌, ◌<◌, ◌≤◌, leng
 ghost use Rattle.dm_network.specs.Net.{event_at, activity_at, pair_at, event_place, activity_place, places_into, places_out_of, places_at, IsWithinLimits};
 ghost use Rattle.dm_network.specs.Pairs.{pair_place};
 ghost use Rattle.dm_network.specs.Start.{IsNetwork};
+ghost use Rattle.dm_network.specs.Stages.{formed_net, StandBeside};
 
+use crate::arrays::{Arrays, ByStop};
 use crate::find;
 use crate::flat::{FlatRows, row};
+use crate::forming::Formed;
 use crate::parts::{Activity, Event, Pair};
 use dm_base::limits::{ACTIVITIES, EVENTS};
 use dm_base::{ActId, EventId, Steps, StopId};
@@ -23,6 +26,9 @@ pub struct Network {
     incoming: FlatRows,
     outgoing: FlatRows,
 
+    /// The tail of each activity.
+    tails: Vec<usize>,
+
     /// The places of the events in ascending order of stops, and the stop of each.
     by_stop: Vec<usize>,
     stops: Vec<StopId>,
@@ -36,7 +42,37 @@ impl Model for Network {
 
     ghost view = { λ n. record { events = n.events.items; activities = n.activities.items; pairs = n.pairs.items } };
 
-    ghost invariant = { λ n. IsHeld (record { events = n.events.items; activities = n.activities.items; pairs = n.pairs.items }) n.incoming n.outgoing n.stops.items n.by_stop.items };
+    ghost invariant = { λ n. IsHeld (record { events = n.events.items; activities = n.activities.items; pairs = n.pairs.items }) n.incoming n.outgoing n.tails.items n.stops.items n.by_stop.items };
+}
+
+/// The network of these parts, beside their arrays.
+pub fn assembled(formed: Formed, arrays: Arrays) -> Network
+    requires network { IsNetwork (formed_net formed) }
+    requires within { IsWithinLimits (formed_net formed) }
+    requires arrays { StandBeside (formed_net formed) arrays }
+    ensures { result ≡ formed_net formed }
+{
+    let Formed {
+        events,
+        activities,
+        pairs,
+    } = formed;
+    let Arrays {
+        tails,
+        incoming,
+        outgoing,
+        by_stop: ByStop { stops, places },
+    } = arrays;
+    Network {
+        events,
+        activities,
+        pairs,
+        incoming,
+        outgoing,
+        tails,
+        by_stop: places,
+        stops,
+    }
 }
 
 impl Network {

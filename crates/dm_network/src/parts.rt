@@ -1,6 +1,7 @@
 //! What a network is made of, and why lists of records make none.
 
 use dm_base::{ActId, ActKind, EventId, EventKind, Items, Milli, Secs, StopId};
+use std::alloc::AllocError;
 
 /// An arrival or a departure of a train.
 #[derive(Clone, Copy, PartialEq, Eq, Debug)]
@@ -64,4 +65,15 @@ pub enum NetFault {
 
     /// There is not enough memory.
     OutOfMemory,
+}
+
+impl From<AllocError> for NetFault {
+    ghost use Rattle.std.specs.Prelude.{◌≡◌};
+    ghost use Rattle.dm_network.specs.declared.parts.NetFault.TheVariants.{OutOfMemory};
+
+    ghost from_gives = { λ _ fault. fault ≡ OutOfMemory };
+
+    fn from(_error: AllocError) -> NetFault {
+        NetFault::OutOfMemory
+    }
 }

@@ -10,11 +10,13 @@ use Rattle.dm_rows.specs.Rows.{RowsValue, start_rows_of}
 use Rattle.dm_rows.specs.declared.messages.Entry.{Entry}
 use Rattle.dm_program.specs.declared.log.FeedLog.{FeedLog}
 use Rattle.dm_program.specs.Logs.{Journal}
+use Rattle.dm_program.specs.declared.log.LogItem.{LogItem}
+use Rattle.dm_program.specs.Asked.{run_with, log_with}
 use Rattle.dm_program.specs.Words.{Command, command_of}
 use Rattle.dm_program.specs.Input.{Told, IsInput}
 use Rattle.dm_program.specs.Runs.{Run, run_text, IsRunText, IsTrueRun, IsSpelledEntry, IsSpelledItem}
 use Rattle.dm_program.specs.Stages.{IsRefused, IsUnread, IsReady, IsRunOver}
-use Rattle.dm_program.specs.Ends.{Ends, EndsAs, IsDue, IsUsage, IsRefusal, IsReadFault, IsRunOf, Writes, FailsToWrite, usage_line, refused_line, read_fault_line}
+use Rattle.dm_program.specs.Ends.{Ends, EndsAs, IsDue, IsUsage, IsRefusal, IsReadFault, IsRunOf, Writes, FailsToWrite, WantsMemory, usage_line, refused_line, read_fault_line}
 
 abbrev journal_of : Net → RowsValue → List Entry → Journal
 journal_of net start history = record { net = net; start = start; history = history }
@@ -98,3 +100,26 @@ module _ {K : Type 0} (taken : K → Option (List ℕ)) (faults : K → ℕ) (to
         | inl whole ↦ subst (Ends taken faults told is_sound words before now) (sym whole.0) (record { text = run_text run; holds = due; appended = whole.1.appended })
         | inr front ↦ failed Ok (run_text run) result due front.0 front.1
       ]
+
+-- ---- what is ready to be printed has a spelling
+
+head_is : (x y : FeedLog) → x ∷ [] ≡ y ∷ [] → x ≡ y
+head_is x y e = cc
+
+pub ready_items : (told : Told) (command : Command) (net : Net) (penalty : ℕ) (history : List Entry) (items : List LogItem) (times : List ℕ) (cost : ℕ) → IsReady told command (run_with net penalty history items times cost) → All IsSpelledItem items
+ready_items told command net penalty history items times cost r =
+    subst (λ (l : FeedLog). All IsSpelledItem l.items) (sym (head_is (log_with items) r.over.log r.over.logs_are)) r.over.items_spelled
+
+pub ready_entries : (told : Told) (command : Command) (net : Net) (penalty : ℕ) (history : List Entry) (items : List LogItem) (times : List ℕ) (cost : ℕ) → IsReady told command (run_with net penalty history items times cost) → All IsSpelledEntry history
+ready_entries told command net penalty history items times cost r = r.over.entries_spelled
+
+pub ready_size : (told : Told) (command : Command) (net : Net) (penalty : ℕ) (history : List Entry) (items : List LogItem) (times : List ℕ) (cost : ℕ) → IsReady told command (run_with net penalty history items times cost) → length times ≡ length net.events
+ready_size told command net penalty history items times cost r = r.over.is_true.least.meets.size
+
+Keeps-same : (known : Option (List ℕ)) → Keeps known known
+Keeps-same None = tt
+Keeps-same (Some xs) = refl
+
+-- want of memory
+pub ends_memory : {K : Type 0} (taken : K → Option (List ℕ)) (now : K) (words : List (List ℕ)) (command : Command) → command_of words ≡ Some command → WantsMemory (taken now) (taken now) words
+ends_memory taken now words command asked = record { command = command; asked = asked; kept = Keeps-same (taken now) }

@@ -11,6 +11,7 @@ use Rattle.dm_rows.specs.Rows.{RowsValue, RowsAreWithinLimits, start_rows_of, la
 use Rattle.dm_rows.specs.Active.{active_arcs, HasNoCycle}
 use Rattle.dm_rows.specs.Timetable.{IsLeast}
 use Rattle.dm_rows.specs.Cost.{cost_of}
+use Rattle.dm_rows.specs.Resolve.{after}
 use Rattle.dm_rows.specs.Refuse.{PassesAtOnce, Refuses}
 use Rattle.dm_rows.specs.History.{rows_at, IsLegal}
 use Rattle.dm_rows.specs.declared.messages.Entry.{Entry}
@@ -62,7 +63,7 @@ pub forward_no_cycle : (net : Net) (rows : RowsValue) → GoesForward net → Ha
 forward_no_cycle net rows forward cycle h = no_cycle_where_rank_rises (active_arcs net rows) (λ e. e) (λ a b. forward a b.is_arc) cycle h
 
 nothing_refuses : (net : Net) (rows : RowsValue) (n : ℕ) (m : Message) → GoesForward net → n < ENTRIES → PassesAtOnce net rows m → (r : Refusal) → Refuses net rows n m r → ⊥
-nothing_refuses net rows n m forward few passes (Cycle ids) h = forward_no_cycle net _ forward h.1.places h.1.is_cycle
+nothing_refuses net rows n m forward few passes (Cycle ids) h = forward_no_cycle net (after net rows m) forward h.1.places h.1.is_cycle
 nothing_refuses net rows n m forward few passes (Full k) h = omega (arith, h.2, few)
 nothing_refuses net rows n m forward few passes OutOfMemory h = h
 nothing_refuses net rows n m forward few passes (Range v) h = passes (Range v) h

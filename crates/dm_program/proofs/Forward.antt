@@ -18,7 +18,7 @@ use Rattle.dm_program.specs.Times.{GoesForward}
 row_stands : (events : List EventRow) (activities : List ActRow) (net : Net) → IsMadeOf events activities net → (a : ℕ) → a < length net.activities → Contains activities (activity_row net (activity_at net a))
 row_stands events activities net made a lt =
     Contains-permutation (map (activity_row net) net.activities) activities (activity_row net (activity_at net a)) (IsPermutation-sym activities (map (activity_row net) net.activities) made.same_activities)
-    (a, omega (arith, length-map (activity_row net) net.activities), get_or-map (activity_row net) net.activities a no_activity _ lt)
+    (a, omega (arith, length-map net.activities (activity_row net)), get_or-map (activity_row net) net.activities a no_activity _ lt)
 
 pub goes_forward : (events : List EventRow) (activities : List ActRow) (net : Net) → IsMadeOf events activities net → (GoesBack activities → ⊥) → GoesForward net
 goes_forward events activities net made none a lt =

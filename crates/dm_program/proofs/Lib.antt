@@ -11,3 +11,5 @@ pub mod Finished
 pub mod Forward
 pub mod Ending
 pub mod Staging
+pub mod Exact
+pub mod Converse

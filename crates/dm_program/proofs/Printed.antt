@@ -12,8 +12,10 @@ use Rattle.dm_outside.specs.Printing.{joined}
 use Rattle.dm_rows.specs.declared.messages.Message.TheVariants.{DelayEvent}
 use Rattle.dm_program.specs.declared.lines.Line.TheVariants.{Say}
 use Rattle.dm_program.specs.declared.log.Reply.{Reply}
+use Rattle.dm_program.specs.declared.log.LogItem.{LogItem}
 use Rattle.dm_program.specs.declared.log.LogItem.TheVariants.{Answered}
-use Rattle.dm_program.specs.Runs.{line_end, reply_text, item_text, entry_text, entries_text}
+use Rattle.dm_program.specs.declared.log.FeedStop.TheVariants.{End}
+use Rattle.dm_program.specs.Runs.{line_end, reply_text, item_text, entry_text, entries_text, feed_text, stop_text, logs_text}
 
 -- a front of the whole is printed, and this is still to come
 pub record PrintedTo {K : Type 0} (taken : K → Option (List ℕ)) (faults : K → ℕ) (before now : K) (held_before held_now whole later : List ℕ) : Type 0 where
@@ -40,6 +42,18 @@ module _ {K : Type 0} {taken : K → Option (List ℕ)} {faults : K → ℕ} whe
   pub printed_all : {a b : K} {p q whole later : List ℕ} → PrintedTo taken faults a b p q whole later → later ≡ [] → Gathers taken faults a b p q whole
   printed_all {a} {b} {p} {q} {whole} {later} so_far e =
       subst (Gathers taken faults a b p q) (sym (so_far.is ∙ (ap (λ (l : List ℕ). so_far.front ++ l) e ∙ append-nil so_far.front))) so_far.gathered
+
+-- ---- one log
+
+pub log_parts : (items : List LogItem) → logs_text 1 (record { items = items; stop = End } ∷ []) ≡ feed_text 1 (length items) ++ (flat_map item_text items ++ stop_text End)
+log_parts items = append-nil (feed_text 1 (length items) ++ (flat_map item_text items ++ stop_text End))
+
+module _ {K : Type 0} {taken : K → Option (List ℕ)} {faults : K → ℕ} where
+  pub gathers_as : {a b : K} {p q : List ℕ} (x y : List ℕ) → y ≡ x → Gathers taken faults a b p q x → Gathers taken faults a b p q y
+  gathers_as {a} {b} {p} {q} x y e g = subst (Gathers taken faults a b p q) (sym e) g
+
+  pub breaks_as : {a b : K} {p : List ℕ} (x y : List ℕ) → y ≡ x → Breaks taken faults a b p x → Breaks taken faults a b p y
+  breaks_as {a} {b} {p} x y e g = subst (Breaks taken faults a b p) (sym e) g
 
 -- ---- what is still to come in a loop
 

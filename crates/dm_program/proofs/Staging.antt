@@ -1,6 +1,6 @@
 -- How the stages of a run follow one another.
 use Rattle.std.proofs.Common.{◌≡◌, ◌≢◌, ℕ, zero, suc, ◌<◌, ◌≤◌, List, [], ◌∷◌, length, get_or, Option, Some, None, Result, Ok, Err, refl, sym, ap, subst, ◌∙◌, inl, inr, arith, All, slice_get}
-use Rattle.std.specs.Prelude.{IsSome, Vec}
+use Rattle.std.specs.Prelude.{IsSome, IfOk, Vec}
 use Rattle.std.specs.declared.alloc.Global.{Global}
 use Rattle.std.proofs.lemmas.Option.{slice_get_within, get_or_from_slice_get}
 use Rattle.dm_base.specs.declared.limits.TheConstants.{FILE, FEED}
@@ -169,3 +169,8 @@ ready told later command net feed run same n held size over penalty =
 
 pub stops_for_memory : (told : Told) (is_sound : List ℕ → Type 0) (command : Command) (stop : Stop) → stop ≡ NoMemory → StopsRun told is_sound command stop
 stops_for_memory told is_sound command stop e = subst (StopsRun told is_sound command) (sym e) tt
+
+-- two facts of one value
+pub both_ok : {T E : Type 0} (r : Result T E) (P Q R : T → Type 0) → ((x : T) → P x → Q x → R x) → IfOk r P → IfOk r Q → IfOk r R
+both_ok (Ok x) P Q R f p q = f x p q
+both_ok (Err e) P Q R f p q = tt

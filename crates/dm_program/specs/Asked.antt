@@ -1,6 +1,9 @@
 -- What the words of a run, and its answers, are seen as.
-use Rattle.std.specs.Prelude.{List, [], ◌∷◌}
+use Rattle.std.specs.Prelude.{ℕ, List, [], ◌∷◌}
+use Rattle.dm_network.specs.Net.{Net}
 use Rattle.dm_rows.specs.Rows.{start_rows_of}
+use Rattle.dm_rows.specs.declared.messages.Entry.{Entry}
+use Rattle.dm_program.specs.declared.log.LogItem.{LogItem}
 use Rattle.dm_program.specs.declared.words.RunWords.{RunWords}
 use Rattle.dm_program.specs.declared.prepare.Answered.{Answered}
 use Rattle.dm_program.specs.declared.log.FeedStop.TheVariants.{End}
@@ -12,15 +15,18 @@ abbrev pub command_in : RunWords → Command
 command_in run = record { folder = run.folder.now; feed = run.feed.now; penalty = run.penalty }
 
 -- the log of the only feed
-abbrev pub log_in : Answered → FeedLog
-log_in a = record { items = a.items.items; stop = End }
+abbrev pub log_with : List LogItem → FeedLog
+log_with items = record { items = items; stop = End }
+
+abbrev pub run_with : Net → ℕ → List Entry → List LogItem → List ℕ → ℕ → Run
+run_with net penalty history items times cost =
+    record {
+      journal = record { net = net; start = start_rows_of net [] []; history = history };
+      penalty = penalty;
+      logs = log_with items ∷ [];
+      times = times;
+      cost = cost;
+    }
 
 abbrev pub run_in : Answered → Run
-run_in a =
-    record {
-      journal = record { net = a.net; start = start_rows_of a.net [] []; history = a.history.items };
-      penalty = a.penalty;
-      logs = log_in a ∷ [];
-      times = a.times.items;
-      cost = a.cost;
-    }
+run_in a = run_with a.net a.penalty a.history.items a.items.items a.times.items a.cost

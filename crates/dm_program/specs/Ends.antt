@@ -121,21 +121,18 @@ pub record AreSound (is_sound : List ℕ → Type 0) (command : Command) : Type 
   pub activities : is_sound (activities_name command)
   pub feed : is_sound command.feed
 
--- how a run ends whose words, files and feed are good and told sound
-abbrev pub EndsWell : Status → Type 0
-EndsWell Ok = Unit {0}
-EndsWell NoMemory = Unit {0}
-EndsWell WriteFault = Unit {0}
-EndsWell Usage = ⊥
-EndsWell Refused = ⊥
-EndsWell ReadFault = ⊥
-
 -- the sink failed, and took a proper front of a text that was due
 pub record FailsToWrite {K : Type 0} (taken : K → Option (List ℕ)) (faults : K → ℕ) (before now : K) (due : Status → List ℕ → Type 0) : Type 0 where
   pub status : Status
   pub text : List ℕ
   pub is_due : due status text
   pub front : TakesFront taken faults before now text
+
+-- the words ask for a run, for which there was not enough memory, and nothing was written
+pub record WantsMemory (before now : Option (List ℕ)) (words : List (List ℕ)) : Type 0 where
+  pub command : Command
+  pub asked : command_of words ≡ Some command
+  pub kept : Keeps before now
 
 -- how a run ends, by its status
 abbrev pub Ends : {K : Type 0} → (K → Option (List ℕ)) → (K → ℕ) → Told → (List ℕ → Type 0) → List (List ℕ) → K → K → Status → Type 0
@@ -144,7 +141,7 @@ Ends taken faults told is_sound words before now Usage = Writes (taken before) (
 Ends taken faults told is_sound words before now Refused = Writes (taken before) (taken now) (IsRefusal told words)
 Ends taken faults told is_sound words before now ReadFault = Writes (taken before) (taken now) (IsReadFault told is_sound words)
 Ends taken faults told is_sound words before now WriteFault = FailsToWrite taken faults before now (IsDue told is_sound words)
-Ends taken faults told is_sound words before now NoMemory = Keeps (taken before) (taken now)
+Ends taken faults told is_sound words before now NoMemory = WantsMemory (taken before) (taken now) words
 
 -- the text was written whole, and the status is the one of that, or the sink failed
 abbrev pub EndsAs : {K : Type 0} → (K → Option (List ℕ)) → (K → ℕ) → K → K → List ℕ → Status → Status → Type 0

@@ -4,7 +4,7 @@ ghost use Rattle.std.specs.Fmt.{decimal};
 ghost use Rattle.std.specs.List.{flat_map, range_with_len};
 ghost use Rattle.dm_outside.specs.Printing.{Prints, Puts, joined};
 ghost use Rattle.dm_program.specs.Runs.{IsSpelledReason, IsSpelledReply, IsSpelledItem, IsSpelledEntry, line_end, reason_text, reply_text, header_text, entry_text, entries_text, feed_text, item_text, stop_text, heading_text, time_text, ending_text, logs_text, run_text};
-ghost use Rattle.dm_program.specs.Asked.{run_in};
+ghost use Rattle.dm_program.specs.Asked.{run_in, run_with};
 
 use dm_base::{Cost, EventId, Secs};
 use dm_network::Network;
@@ -293,7 +293,44 @@ fn print_log<K: Sink>(
     Ok(())
 }
 
+#[allow(clippy::too_many_arguments)]
 fn print_parts<K: Sink>(
+    sink: &mut K,
+    page: &mut Page,
+    net: &Network,
+    penalty: u64,
+    history: &[Entry],
+    items: &[LogItem],
+    times: &[u64],
+    cost: Cost,
+) -> Result<(), WriteFault>
+    requires entries { All IsSpelledEntry history.now }
+    requires items { All IsSpelledItem items.now }
+    requires size { length times.now ≡ length net.now.events }
+    ensures { Prints K.taken K.faults sink.old sink.new page.old page.new result (run_text (run_with net.now penalty history.now items.now times.now cost)) }
+{
+    let Ok(()) = print_header(sink, page, penalty, history.len()) else {
+        return Err(WriteFault);
+    };
+    let Ok(()) = print_entries(sink, page, history) else {
+        return Err(WriteFault);
+    };
+    let Ok(()) = print_log(sink, page, items) else {
+        return Err(WriteFault);
+    };
+    let Ok(()) = print_heading(sink, page, history.len()) else {
+        return Err(WriteFault);
+    };
+    let Ok(()) = print_times(sink, page, net, times) else {
+        return Err(WriteFault);
+    };
+    let Ok(()) = print_ending(sink, page, cost) else {
+        return Err(WriteFault);
+    };
+    Ok(())
+}
+
+fn print_whole<K: Sink>(
     sink: &mut K,
     page: &mut Page,
     run: &Answered,
@@ -303,25 +340,16 @@ fn print_parts<K: Sink>(
     requires size { length run.now.times.items ≡ length run.now.net.events }
     ensures { Prints K.taken K.faults sink.old sink.new page.old page.new result (run_text (run_in run.now)) }
 {
-    let Ok(()) = print_header(sink, page, run.penalty, run.history.len()) else {
-        return Err(WriteFault);
-    };
-    let Ok(()) = print_entries(sink, page, run.history.as_slice()) else {
-        return Err(WriteFault);
-    };
-    let Ok(()) = print_log(sink, page, run.items.as_slice()) else {
-        return Err(WriteFault);
-    };
-    let Ok(()) = print_heading(sink, page, run.history.len()) else {
-        return Err(WriteFault);
-    };
-    let Ok(()) = print_times(sink, page, &run.net, run.times.as_slice()) else {
-        return Err(WriteFault);
-    };
-    let Ok(()) = print_ending(sink, page, run.cost) else {
-        return Err(WriteFault);
-    };
-    Ok(())
+    print_parts(
+        sink,
+        page,
+        &run.net,
+        run.penalty,
+        run.history.as_slice(),
+        run.items.as_slice(),
+        run.times.as_slice(),
+        run.cost,
+    )
 }
 
 /// Prints a run whole: its text, version 1.
@@ -332,7 +360,7 @@ pub fn print_run<K: Sink>(sink: &mut K, run: &Answered) -> Result<(), WriteFault
     ensures { Puts K.taken K.faults sink.old sink.new result (run_text (run_in run.now)) }
 {
     let mut page = Page::new();
-    let Ok(()) = print_parts(sink, &mut page, run) else {
+    let Ok(()) = print_whole(sink, &mut page, run) else {
         return Err(WriteFault);
     };
     page.finish(sink)

@@ -1,9 +1,12 @@
 //! The top call.
-ghost use Rattle.std.specs.Prelude.{◌≡◌, map, string_bytes, vec_len, length, All};
-ghost use Rattle.std.specs.Io.KnownBytes.{Keeps};
-ghost use Rattle.dm_program.specs.Asked.{command_in, run_in};
+ghost use Rattle.std.specs.Prelude.{◌≡◌, ◌⊎◌, map, string_bytes, vec_len, length, All};
+ghost use Rattle.dm_outside.specs.Faults.{HasRisen};
+ghost use Rattle.dm_program.specs.declared.parts.Part.{Part};
+ghost use Rattle.dm_program.specs.Words.{Command, command_of};
+ghost use Rattle.dm_program.specs.Asked.{run_in, command_in};
+ghost use Rattle.dm_program.specs.Input.{Contents, IsFirstRefusal, IsSoundInput};
 ghost use Rattle.dm_program.specs.Runs.{IsSpelledEntry, IsSpelledItem, run_text};
-ghost use Rattle.dm_program.specs.Ends.{IsRunOf, IsUsage, IsRefusal, IsReadFault, IsDue, Writes, FailsToWrite, Ends, EndsAs, usage_line, refused_line, read_fault_line};
+ghost use Rattle.dm_program.specs.Ends.{IsRunOf, IsUsage, IsRefusal, IsReadFault, IsDue, Writes, FailsToWrite, WantsMemory, Tells, EndsAt, AreSound, Ends, EndsAs, usage_line, refused_line, read_fault_line};
 
 use dm_outside::{Board, Gate, Shelf, Sink, WriteFault};
 use std::alloc::Global;
@@ -36,7 +39,17 @@ pub fn dispatch<R: Threads + Wait + Sync, H: Shelf, K: Sink, G: Gate>(
     ensures refused { result ≡ Status.Refused → Writes (K.taken out.old) (K.taken out.new) (IsRefusal (H.files shelf.old) (map string_bytes words.now)) }
     ensures read_fault { result ≡ Status.ReadFault → Writes (K.taken out.old) (K.taken out.new) (IsReadFault (H.files shelf.old) (H.is_sound shelf.old) (map string_bytes words.now)) }
     ensures write_fault { result ≡ Status.WriteFault → FailsToWrite K.taken K.faults out.old out.new (IsDue (H.files shelf.old) (H.is_sound shelf.old) (map string_bytes words.now)) }
-    ensures no_memory { result ≡ Status.NoMemory → Keeps (K.taken out.old) (K.taken out.new) }
+    ensures no_memory { result ≡ Status.NoMemory → WantsMemory (K.taken out.old) (K.taken out.new) (map string_bytes words.now) }
+
+    // Words outside the two forms, and the first refusal, come exactly where they are, but for the faults that go before.
+    ensures outside { command_of (map string_bytes words.now) ≡ None → (result ≡ Status.Usage) ⊎ (result ≡ Status.WriteFault) }
+    ensures first_refusal { (command : Command) (contents : Contents) (part : Part) → command_of (map string_bytes words.now) ≡ Some command
+        → Tells (H.files shelf.old) command contents part → IsFirstRefusal contents part → EndsAt command part (K.taken out.old) (K.taken out.new) result }
+
+    // Good words, files and feed, a sound shelf and a sink without a fault give a run, or want of memory.
+    ensures complete { (command : Command) (contents : Contents) → command_of (map string_bytes words.now) ≡ Some command
+        → Tells (H.files shelf.old) command contents Part.Feed → IsSoundInput contents → AreSound (H.is_sound shelf.old) command
+        → (HasRisen (K.faults out.old) (K.faults out.new) → ⊥) → (result ≡ Status.Ok) ⊎ (result ≡ Status.NoMemory) }
 {
     run(alloc, words, shelf, out)
 }

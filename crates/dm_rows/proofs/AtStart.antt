@@ -10,7 +10,7 @@ use Rattle.dm_base.specs.declared.rows.ActKind.{ActKind}
 use Rattle.dm_base.specs.declared.rows.ActKind.TheVariants.{Drive, Wait, Turnaround, Change, Headway}
 use Rattle.dm_network.specs.Net.{Net, activity_at, is_headway, no_pair}
 use Rattle.dm_network.specs.Pairs.{pair_place, joins}
-use Rattle.dm_network.specs.Start.{binds_at_start, starts_small_first, first_of}
+use Rattle.dm_network.specs.Start.{binds_at_start, starts_small_first, first_event}
 use Rattle.dm_rows.specs.Rows.{RowsValue, kept_at, small_first_at, start_rows_of}
 use Rattle.dm_rows.specs.Active.{has_passed, binds}
 use Rattle.dm_rows.specs.Laws.{StartActivityAgrees}
@@ -29,7 +29,7 @@ record SaysStart (net : Net) (rows : RowsValue) (pair : Option ℕ) (a : ℕ) : 
   first : (p : ℕ) → pair ≡ Some p → small_first_at rows p ≡ starts_small_first net p
 
 paired : (net : Net) (rows : RowsValue) (p tail : ℕ) → has_passed rows tail ≡ false → small_first_at rows p ≡ starts_small_first net p →
-    (tail == first_of net p (starts_small_first net p)) ≡ cond (has_passed rows tail) true (tail == first_of net p (small_first_at rows p))
+    (tail == first_event net p (starts_small_first net p)) ≡ cond (has_passed rows tail) true (tail == first_event net p (small_first_at rows p))
 paired net rows p tail free first = rw (free, first) refl
 
 binds_alike : (net : Net) (rows : RowsValue) (kind : ActKind) (pair : Option ℕ) (tail a : ℕ) → SaysStart net rows pair a →

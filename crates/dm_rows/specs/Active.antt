@@ -5,7 +5,7 @@ use Rattle.dm_base.specs.declared.rows.ActKind.{ActKind}
 use Rattle.dm_base.specs.declared.rows.ActKind.TheVariants.{Drive, Wait, Turnaround, Change, Headway}
 use Rattle.dm_graph.specs.Arcs.{Arcs, IsCycle as IsCycleOfArcs}
 use Rattle.dm_network.specs.Net.{Net, activity_at}
-use Rattle.dm_network.specs.Start.{first_of, arcs_of, ids_of}
+use Rattle.dm_network.specs.Start.{first_event, arcs_of, ids_of}
 use Rattle.dm_rows.specs.Rows.{RowsValue, passed_at, kept_at, small_first_at}
 
 abbrev pub has_passed : RowsValue → ℕ → Bool
@@ -13,7 +13,7 @@ has_passed rows i = is_some (passed_at rows i)
 
 -- the event goes first in the pair
 abbrev pub is_first : Net → RowsValue → ℕ → ℕ → Bool
-is_first net rows p i = i == first_of net p (small_first_at rows p)
+is_first net rows p i = i == first_event net p (small_first_at rows p)
 
 -- a paired headway binds if its tail has passed or goes first
 abbrev pub binds_in_pair : Net → RowsValue → ℕ → ℕ → Bool

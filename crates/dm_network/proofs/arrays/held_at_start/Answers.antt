@@ -1,0 +1,16 @@
+use Rattle.std.proofs.Common.{ap, ◌∙◌, ◌≡◌, length, arith, map}
+use Rattle.std.specs.List.{range_with_len}
+use Rattle.dm_network.specs.Net.{no_activity}
+use Rattle.dm_network.specs.Start.{is_start_active}
+use Rattle.dm_network.specs.Stages.{net_with}
+use Rattle.dm_network.proofs.Arraying.{held_more}
+use Rattle.dm_network.proofs.arrays.held_at_start.Goals as goal
+
+pub binds-requires : goal.binds-requires
+binds-requires c = c.requires c.loop-activity.activity-index no_activity c.loop-activity-test.true
+
+pub loop-activity-preserved : goal.loop-activity-preserved
+loop-activity-preserved c =
+    c.in_ok-push.ensures.items
+    ∙ held_more (net_with c.args.events.now c.args.activities.now c.args.pairs.now) c.loop-activity.activity-index c.loop-activity.held.items c.binds.result
+    c.loop-activity.invariant c.binds.ensures
