@@ -3,8 +3,8 @@ use Rattle.std.proofs.Common.{◌≡◌, ℕ, zero, suc, arith, List, [], ◌∷
 use Rattle.std.specs.Io.KnownBytes.{Keeps}
 use Rattle.dm_outside.specs.Printing.{TakesAll, TakesFront}
 use Rattle.dm_program.specs.declared.parts.Part.{Part}
-use Rattle.dm_program.specs.declared.parts.Status.{Status}
-use Rattle.dm_program.specs.declared.parts.Status.TheVariants.{Ok, Usage, Refused, ReadFault, WriteFault, NoMemory}
+use Rattle.dm_program.specs.declared.status.Status.{Status}
+use Rattle.dm_program.specs.declared.status.Status.TheVariants.{Ok, Usage, Refused, ReadFault, WriteFault, NoMemory}
 use Rattle.dm_network.specs.Net.{Net}
 use Rattle.dm_rows.specs.Rows.{RowsValue, start_rows_of}
 use Rattle.dm_rows.specs.declared.messages.Entry.{Entry}

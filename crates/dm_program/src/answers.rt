@@ -11,7 +11,7 @@ use dm_network::Network;
 use dm_rows::{At, Entry, Message, Rows, admit};
 use std::alloc::{AllocError, Global};
 
-use crate::files::cut;
+use crate::cuts::cut;
 use crate::lines::{Heard, Line, read_line};
 use crate::log::{LogItem, Reply};
 

@@ -6,7 +6,7 @@ ghost use Rattle.dm_program.specs.Lines.{has_leading_zero, Hears};
 use dm_base::EventId;
 use dm_rows::Message;
 
-use crate::files::cut;
+use crate::cuts::cut;
 use crate::numbers::{LARGEST_ID, number_up_to};
 
 /// What a line asks.

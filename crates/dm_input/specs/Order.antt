@@ -1,0 +1,31 @@
+-- The order in which parts are read and made, and what is one refusal.
+use Rattle.std.specs.Prelude.{ℕ, ◌≡◌, List, []}
+use Rattle.dm_network.specs.declared.parts.NetFault.{NetFault}
+use Rattle.dm_network.specs.declared.parts.NetFault.TheVariants.{TooMany, DoubleEvent, DoubleActivity, UnknownEvent, ZeroHeadway, Cycle, OutOfMemory}
+use Rattle.dm_input.specs.declared.parts.Part.{Part}
+use Rattle.dm_input.specs.declared.parts.Part.TheVariants.{Events, Activities, EventDelays, ActivityDelays, Feed}
+use Rattle.dm_input.specs.declared.parts.Flaw.{Flaw}
+use Rattle.dm_input.specs.declared.parts.Flaw.TheVariants.{Record, TooLong, Network, Start}
+
+-- where a part stands in the order of reading; the network and the start rows are made before the feed is read
+abbrev pub part_place : Part → ℕ
+part_place Events = 0
+part_place Activities = 1
+part_place EventDelays = 2
+part_place ActivityDelays = 3
+part_place Feed = 6
+
+abbrev pub flaw_place : Flaw → ℕ
+flaw_place (Record part fault) = part_place part
+flaw_place (TooLong part) = part_place part
+flaw_place (Network fault) = 4
+flaw_place (Start fault) = 5
+
+-- the same refusal, but for which cycle is shown
+abbrev pub SameFault : NetFault → NetFault → Type 0
+SameFault (Cycle ids) (Cycle others) = Unit {0}
+SameFault fault other = fault ≡ other
+
+abbrev pub SameFlaw : Flaw → Flaw → Type 0
+SameFlaw (Network fault) (Network other) = SameFault fault other
+SameFlaw flaw other = flaw ≡ other
