@@ -1,4 +1,4 @@
-pub mod Cuts
+pub mod Cutting
 pub mod Digits
 pub mod Answering
 pub mod Within
@@ -8,3 +8,4 @@ pub mod Totals
 pub mod Finished
 pub mod Ending
 pub mod Arcs
+pub mod Converse

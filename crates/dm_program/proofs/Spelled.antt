@@ -22,7 +22,7 @@ use Rattle.dm_rows.specs.declared.messages.Message.TheVariants.{DelayEvent, Dela
 use Rattle.dm_program.specs.declared.lines.Line.{Line}
 use Rattle.dm_program.specs.declared.lines.Line.TheVariants.{Say}
 use Rattle.dm_program.specs.Lines.{SpellsMessage, SpellsLine, has_leading_zero}
-use Rattle.dm_program.proofs.Cuts.{is_at, cut_found, pieces_first}
+use Rattle.dm_program.proofs.Cutting.{is_at, cut_found, pieces_first}
 use Rattle.dm_program.proofs.Digits.{number_is, digits-from_number}
 
 -- digits, by place
