@@ -74,7 +74,7 @@ pub fn prepare<H: Shelf>(
     shelf: &mut H,
     run: &RunWords<'_>,
 ) -> Result<Answered, Stop>
-    requires { run.now.penalty ≤ 1000000 }
+    requires penalty { run.now.penalty ≤ 1000000 }
     ensures kept { IsKept H.files H.is_sound shelf.old shelf.new }
     ensures ready { IfOk result (IsReadyRun (H.files shelf.old) (command_of run.now)) }
     ensures stops { IfErr result (StopsRun (H.files shelf.old) (H.is_sound shelf.old) (command_of run.now)) }

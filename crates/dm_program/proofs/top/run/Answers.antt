@@ -7,8 +7,8 @@ use Rattle.dm_program.proofs.top.run.Goals as goal
 pub returns-in_default : goal.returns-in_default
 returns-in_default g c = ends_usage g.K.Sink.taken g.K.Sink.faults _ _ _ c.args.out.now c.end_usage.new.out c.end_usage.result c.in_default.ensures c.end_usage.ensures
 
-pub prepare-requires : goal.prepare-requires
-prepare-requires g c = asked_penalty_fits _ (command_of c.in-Some.run') c.in-Some.ensures
+pub prepare-requires-clause-penalty : goal.prepare-requires-clause-penalty
+prepare-requires-clause-penalty g c = λ κs s. asked_penalty_fits _ (command_of c.in-Some.run') c.in-Some.ensures
 
 pub end_run-requires-clause-items : goal.end_run-requires-clause-items
 end_run-requires-clause-items g c =
