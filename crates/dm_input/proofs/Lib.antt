@@ -2,3 +2,4 @@ pub mod WordLists
 pub mod Asking
 pub mod Fits
 pub mod Staging
+pub mod OneNetwork

@@ -2,6 +2,7 @@
 #![tactic(auto)]
 
 mod flaws;
+pub mod laws;
 mod opening;
 mod parts;
 mod reading;

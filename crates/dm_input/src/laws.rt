@@ -1,0 +1,11 @@
+//! What the definitions of inputs say, whatever the words and files: each function's contract is a law, and its body is empty.
+ghost use Rattle.std.specs.Prelude.{◌≡◌, List};
+ghost use Rattle.dm_base.specs.declared.rows.ActRow.{ActRow};
+ghost use Rattle.dm_base.specs.declared.rows.EventRow.{EventRow};
+ghost use Rattle.dm_network.specs.Build.{IsMadeOf};
+ghost use Rattle.dm_network.specs.Net.{Net};
+
+/// The records of two files make one network at most.
+pub fn records_make_one_network()
+    ensures { (events : List EventRow) (activities : List ActRow) (one other : Net) → IsMadeOf events activities one → IsMadeOf events activities other → one ≡ other }
+{}
