@@ -11,15 +11,20 @@ use std::test::Fail;
 use std::thread::Threads;
 
 // The connection at one station: two trains, a change from the first to the second, and a headway pair.
-const EVENTS: &[u8] = b"# event-id; periodic-id; type; time; passengers; stop-id\n1; 1; \"departure\"; 100; 10; 1\n2; 2; \"arrival\"; 200; 10; 2\n3; 3; \"departure\"; 220; 10; 2\n4; 4; \"arrival\"; 300; 10; 3\n5; 5; \"departure\"; 230; 5; 2\n6; 6; \"arrival\"; 330; 5; 4\n";
+const EVENTS: &[u8] =
+    b"# event-id; periodic-id; type; time; passengers; stop-id\n1; 1; \"departure\"; 100; 10; 1\n2; 2; \"arrival\"; 200; 10; 2\n3; 3; \"departure\"; 220; 10; 2\n4; 4; \"arrival\"; 300; 10; 3\n5; 5; \"departure\"; 230; 5; 2\n6; 6; \"arrival\"; 330; 5; 4\n";
 
-const ACTIVITIES: &[u8] = b"# activity-id; periodic-id; type; tail; head; lower; upper; passengers\n1; 1; \"drive\"; 1; 2; 90; 100; 10\n2; 2; \"wait\"; 2; 3; 10; 30; 10\n3; 3; \"drive\"; 3; 4; 80; 100; 10\n4; 4; \"drive\"; 5; 6; 95; 110; 5\n5; 5; \"change\"; 2; 5; 20; 79; 4\n6; 6; \"headway\"; 3; 5; 8; 60; 0\n7; 7; \"headway\"; 5; 3; 8; 60; 0\n";
+const ACTIVITIES: &[u8] =
+    b"# activity-id; periodic-id; type; tail; head; lower; upper; passengers\n1; 1; \"drive\"; 1; 2; 90; 100; 10\n2; 2; \"wait\"; 2; 3; 10; 30; 10\n3; 3; \"drive\"; 3; 4; 80; 100; 10\n4; 4; \"drive\"; 5; 6; 95; 110; 5\n5; 5; \"change\"; 2; 5; 20; 79; 4\n6; 6; \"headway\"; 3; 5; 8; 60; 0\n7; 7; \"headway\"; 5; 3; 8; 60; 0\n";
 
-const PUNCTUAL: &[u8] = b"dm-run 1\npenalty 10\nfeeds 1\nentries 0\nfeed 1 0\nend\nboards 0\ntimes 0\n1; 100\n2; 200\n3; 220\n4; 300\n5; 230\n6; 330\ncost 0\ndone\n";
+const PUNCTUAL: &[u8] =
+    b"dm-run 1\npenalty 10\nfeeds 1\nentries 0\nfeed 1 0\nend\nboards 0\ntimes 0\n1; 100\n2; 200\n3; 220\n4; 300\n5; 230\n6; 330\ncost 0\ndone\n";
 
-const LATE: &[u8] = b"dm-run 1\npenalty 10\nfeeds 1\nentries 1\nentry 1 feed 1 line 1 delay event 1 60\nfeed 1 1\n1 delay event 1 60 -> 1 ok\nend\nboards 0\ntimes 1\n1; 160\n2; 250\n3; 260\n4; 340\n5; 270\n6; 365\ncost 1075000\ndone\n";
+const LATE: &[u8] =
+    b"dm-run 1\npenalty 10\nfeeds 1\nentries 1\nentry 1 feed 1 line 1 delay event 1 60\nfeed 1 1\n1 delay event 1 60 -> 1 ok\nend\nboards 0\ntimes 1\n1; 160\n2; 250\n3; 260\n4; 340\n5; 270\n6; 365\ncost 1075000\ndone\n";
 
-const CORRECTED: &[u8] = b"dm-run 1\npenalty 10\nfeeds 1\nentries 2\nentry 1 feed 1 line 1 delay event 1 60\nentry 2 feed 1 line 2 delay event 1 5\nfeed 1 2\n1 delay event 1 60 -> 1 ok\n2 delay event 1 5 -> 2 ok\nend\nboards 0\ntimes 2\n1; 105\n2; 200\n3; 220\n4; 300\n5; 230\n6; 330\ncost 0\ndone\n";
+const CORRECTED: &[u8] =
+    b"dm-run 1\npenalty 10\nfeeds 1\nentries 2\nentry 1 feed 1 line 1 delay event 1 60\nentry 2 feed 1 line 2 delay event 1 5\nfeed 1 2\n1 delay event 1 60 -> 1 ok\n2 delay event 1 5 -> 2 ok\nend\nboards 0\ntimes 2\n1; 105\n2; 200\n3; 220\n4; 300\n5; 230\n6; 330\ncost 0\ndone\n";
 
 // What the shelf of a run holds and how it fails. The delay files are `net/d` and `net/e`.
 #[derive(Clone, Copy)]
@@ -115,7 +120,14 @@ fn run_case<R: Threads + Wait + Sync + AllocGlobal>(
 
 const RUN: &[&str] = &["run", "net", "--penalty=10", "f"];
 
-const DELAYED: &[&str] = &["run", "--event-delays=d", "net", "--activity-delays=e", "f", "--penalty=10"];
+const DELAYED: &[&str] = &[
+    "run",
+    "--event-delays=d",
+    "net",
+    "--activity-delays=e",
+    "f",
+    "--penalty=10",
+];
 
 fn ends<R: Threads + Wait + Sync + AllocGlobal>(
     rt: &R,
@@ -192,7 +204,13 @@ fn columns_in_another_order(rt: HostRuntime) -> Result<(), Fail> {
         activities: b"",
         ..GOOD
     };
-    let words = ["run", "net", "f", "--event-columns=time,id,type,weight,stop", "--penalty=10"];
+    let words = [
+        "run",
+        "net",
+        "f",
+        "--event-columns=time,id,type,weight,stop",
+        "--penalty=10",
+    ];
     let text =
         b"dm-run 1\npenalty 10\nfeeds 1\nentries 0\nfeed 1 0\nend\nboards 0\ntimes 0\n1; 100\n2; 200\ncost 0\ndone\n";
     assert!(rt; ends(&rt, &words, &case, Status::Ok, text)?);
@@ -202,12 +220,30 @@ fn columns_in_another_order(rt: HostRuntime) -> Result<(), Fail> {
 #[test]
 fn bad_files_are_refused(rt: HostRuntime) -> Result<(), Fail> {
     for (events, text) in [
-        (b"1; 1; departure; 100; 10\n".as_slice(), b"refused net/Events-expanded.giv record 1 field-count 5\n".as_slice()),
-        (b"1; 1; departure; 100; 1.0E-4; 1\n".as_slice(), b"refused net/Events-expanded.giv record 1 bad-number weight\n".as_slice()),
-        (b"1; 1; departure; 1000000001; 1; 1\n".as_slice(), b"refused net/Events-expanded.giv record 1 too-large time\n".as_slice()),
-        (b"\xef\xbb\xbf1; 1; departure; 1; 1; 1\n".as_slice(), b"refused net/Events-expanded.giv record 0 byte-order-mark\n".as_slice()),
-        (b"3; 1; departure; 1; 1; 1\n3; 1; departure; 1; 1; 1\n".as_slice(), b"refused network double-event 3\n".as_slice()),
-        (b"".as_slice(), b"refused network unknown-event 1\n".as_slice()),
+        (
+            b"1; 1; departure; 100; 10\n".as_slice(),
+            b"refused net/Events-expanded.giv record 1 field-count 5\n".as_slice(),
+        ),
+        (
+            b"1; 1; departure; 100; 1.0E-4; 1\n".as_slice(),
+            b"refused net/Events-expanded.giv record 1 bad-number weight\n".as_slice(),
+        ),
+        (
+            b"1; 1; departure; 1000000001; 1; 1\n".as_slice(),
+            b"refused net/Events-expanded.giv record 1 too-large time\n".as_slice(),
+        ),
+        (
+            b"\xef\xbb\xbf1; 1; departure; 1; 1; 1\n".as_slice(),
+            b"refused net/Events-expanded.giv record 0 byte-order-mark\n".as_slice(),
+        ),
+        (
+            b"3; 1; departure; 1; 1; 1\n3; 1; departure; 1; 1; 1\n".as_slice(),
+            b"refused network double-event 3\n".as_slice(),
+        ),
+        (
+            b"".as_slice(),
+            b"refused network unknown-event 1\n".as_slice(),
+        ),
     ] {
         let case = Case { events, ..GOOD };
         assert!(rt; ends(&rt, RUN, &case, Status::Refused, text)?);
@@ -218,10 +254,22 @@ fn bad_files_are_refused(rt: HostRuntime) -> Result<(), Fail> {
 #[test]
 fn bad_networks_are_refused(rt: HostRuntime) -> Result<(), Fail> {
     for (activities, text) in [
-        (b"1; 1; drive; 1; 2; 90; 1; 1\n2; 1; wait; 2; 3; 1; 1; 1\n3; 1; sync; 2; 3; 1; 1; 1\n".as_slice(), b"refused net/Activities-expanded.giv record 3 unknown-type\n".as_slice()),
-        (b"1; 1; drive; 1; 2; 90; 1; 1\n1; 1; wait; 2; 3; 1; 1; 1\n".as_slice(), b"refused network double-activity 1\n".as_slice()),
-        (b"6; 6; headway; 3; 5; 0; 60; 0\n".as_slice(), b"refused network zero-headway 6\n".as_slice()),
-        (b"7; 7; drive; 3; 3; 0; 60; 0\n".as_slice(), b"refused network cycle 7\n".as_slice()),
+        (
+            b"1; 1; drive; 1; 2; 90; 1; 1\n2; 1; wait; 2; 3; 1; 1; 1\n3; 1; sync; 2; 3; 1; 1; 1\n".as_slice(),
+            b"refused net/Activities-expanded.giv record 3 unknown-type\n".as_slice(),
+        ),
+        (
+            b"1; 1; drive; 1; 2; 90; 1; 1\n1; 1; wait; 2; 3; 1; 1; 1\n".as_slice(),
+            b"refused network double-activity 1\n".as_slice(),
+        ),
+        (
+            b"6; 6; headway; 3; 5; 0; 60; 0\n".as_slice(),
+            b"refused network zero-headway 6\n".as_slice(),
+        ),
+        (
+            b"7; 7; drive; 3; 3; 0; 60; 0\n".as_slice(),
+            b"refused network cycle 7\n".as_slice(),
+        ),
     ] {
         let case = Case { activities, ..GOOD };
         assert!(rt; ends(&rt, RUN, &case, Status::Refused, text)?);
@@ -232,9 +280,21 @@ fn bad_networks_are_refused(rt: HostRuntime) -> Result<(), Fail> {
 #[test]
 fn bad_delays_are_refused(rt: HostRuntime) -> Result<(), Fail> {
     for (event_delays, activity_delays, text) in [
-        (b"1; 1000001\n".as_slice(), b"".as_slice(), b"refused net/d record 1 too-large delay\n".as_slice()),
-        (b"9; 5\n".as_slice(), b"9; 5\n".as_slice(), b"refused start unknown-event 9\n".as_slice()),
-        (b"1; 5\n".as_slice(), b"9; 5\n".as_slice(), b"refused start unknown-activity 9\n".as_slice()),
+        (
+            b"1; 1000001\n".as_slice(),
+            b"".as_slice(),
+            b"refused net/d record 1 too-large delay\n".as_slice(),
+        ),
+        (
+            b"9; 5\n".as_slice(),
+            b"9; 5\n".as_slice(),
+            b"refused start unknown-event 9\n".as_slice(),
+        ),
+        (
+            b"1; 5\n".as_slice(),
+            b"9; 5\n".as_slice(),
+            b"refused start unknown-activity 9\n".as_slice(),
+        ),
     ] {
         let case = Case {
             event_delays,
@@ -257,24 +317,60 @@ fn files_past_the_limit(rt: HostRuntime) -> Result<(), Fail> {
         events: &long,
         ..GOOD
     };
-    assert!(rt; ends(&rt, DELAYED, &case, Status::Refused, b"refused net/Events-expanded.giv too-long\n")?);
+    assert!(rt;
+        ends(
+            &rt,
+            DELAYED,
+            &case,
+            Status::Refused,
+            b"refused net/Events-expanded.giv too-long\n"
+        )?
+    );
     let case = Case {
         activity_delays: &long,
         ..GOOD
     };
-    assert!(rt; ends(&rt, DELAYED, &case, Status::Refused, b"refused net/e too-long\n")?);
+    assert!(rt;
+        ends(
+            &rt,
+            DELAYED,
+            &case,
+            Status::Refused,
+            b"refused net/e too-long\n"
+        )?
+    );
     Ok(())
 }
 
 #[test]
 fn what_cannot_be_read(rt: HostRuntime) -> Result<(), Fail> {
     for (opens, reads, text) in [
-        ([1].as_slice(), [].as_slice(), b"read fault net/Events-expanded.giv\n".as_slice()),
-        ([2].as_slice(), [].as_slice(), b"read fault net/Activities-expanded.giv\n".as_slice()),
-        ([3].as_slice(), [].as_slice(), b"read fault net/d\n".as_slice()),
-        ([4].as_slice(), [].as_slice(), b"read fault net/e\n".as_slice()),
+        (
+            [1].as_slice(),
+            [].as_slice(),
+            b"read fault net/Events-expanded.giv\n".as_slice(),
+        ),
+        (
+            [2].as_slice(),
+            [].as_slice(),
+            b"read fault net/Activities-expanded.giv\n".as_slice(),
+        ),
+        (
+            [3].as_slice(),
+            [].as_slice(),
+            b"read fault net/d\n".as_slice(),
+        ),
+        (
+            [4].as_slice(),
+            [].as_slice(),
+            b"read fault net/e\n".as_slice(),
+        ),
         ([5].as_slice(), [].as_slice(), b"read fault f\n".as_slice()),
-        ([].as_slice(), [1].as_slice(), b"read fault net/Events-expanded.giv\n".as_slice()),
+        (
+            [].as_slice(),
+            [1].as_slice(),
+            b"read fault net/Events-expanded.giv\n".as_slice(),
+        ),
     ] {
         let case = Case {
             opens,
