@@ -3,3 +3,4 @@ pub mod Asking
 pub mod Fits
 pub mod Staging
 pub mod OneNetwork
+pub mod OneAnswer
