@@ -4,3 +4,4 @@ pub mod Fits
 pub mod Staging
 pub mod OneNetwork
 pub mod OneAnswer
+pub mod OneInput
