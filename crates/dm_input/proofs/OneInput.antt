@@ -26,7 +26,7 @@ use Rattle.dm_input.specs.declared.parts.Part.{Part}
 use Rattle.dm_input.specs.declared.parts.Part.TheVariants.{Events, Activities, EventDelays, ActivityDelays, Feed}
 use Rattle.dm_input.specs.declared.parts.Flaw.{Flaw}
 use Rattle.dm_input.specs.declared.parts.Flaw.TheVariants.{Record, TooLong, Network, Start}
-use Rattle.dm_input.specs.Words.{Command, Asks, AsksBehind, Gives as GivesOption, values_of, IsPenalty, event_words, activity_words}
+use Rattle.dm_input.specs.Words.{penalty_option, event_columns_option, activity_columns_option, event_delays_option, activity_delays_option, Command, Asks, AsksBehind, Gives as GivesOption, values_of, IsPenalty, event_words, activity_words}
 use Rattle.dm_input.specs.Order.{SameFault, SameFlaw, SameAnswer, IsOne, part_place, flaw_place}
 use Rattle.dm_input.specs.Input.{Told, IsHeld, part_name, AnswersRows, FileAnswers, PartAnswers, EventsAnswer, ActivitiesAnswer, EventDelaysAnswer, ActivityDelaysAnswer, NetworkAnswers, StartAnswers, FeedAnswers, Then, Gives, FileRows, FilesAnswer, Opening, OpeningAnswer, Input, InputAnswer, IsFirstRefusal, PassesBefore}
 use Rattle.dm_input.proofs.OneNetwork.{one_network}
@@ -244,6 +244,18 @@ feed_one told name known (Ok x) (Err g) p q = let e = ap length (held_is told na
 feed_one told name known (Err f) (Ok y) p q = let e = ap length (held_is told name y p.0.bytes known q.held p.0.held) in let le = q.size in let gt = p.0.long in omega arith
 feed_one told name known (Err f) (Err g) p q = subst (λ h. SameFlaw f h) (p.1 ∙ sym q.1) (same_flaw f)
 
+network_place : (events : List EventRow) (activities : List ActRow) (flaw : Flaw) → NetworkAnswers events activities (Err flaw) → 4 ≤ flaw_place flaw
+network_place events activities (Network f) h = omega arith
+network_place events activities (TooLong at) h = absurd h
+network_place events activities (Record at f) h = absurd h
+network_place events activities (Start f) h = absurd h
+
+start_place : (net : Net) (events activities : List DelayRow) (flaw : Flaw) → StartAnswers net events activities (Err flaw) → 4 ≤ flaw_place flaw
+start_place net events activities (Start f) h = omega arith
+start_place net events activities (TooLong at) h = absurd h
+start_place net events activities (Record at f) h = absurd h
+start_place net events activities (Network f) h = absurd h
+
 -- ---- the whole
 
 module _ (told : Told) (command : Command) (known : IsSome told) where
@@ -276,3 +288,137 @@ module _ (told : Told) (command : Command) (known : IsSome told) where
   input_is_one =
       then_one (OpeningAnswer told command) _ opening_is_one (λ opening.
       then_one (FeedAnswers told command.feed) _ (feed_one told command.feed known) (λ feed. gives_one _))
+
+  -- what is refused of the files is refused of one of them
+  refused_file : (flaw : Flaw) → FilesAnswer told command (Err flaw)
+      → EventsAnswer told command (Err flaw) ⊎ (ActivitiesAnswer told command (Err flaw) ⊎ (EventDelaysAnswer told command (Err flaw) ⊎ ActivityDelaysAnswer told command (Err flaw)))
+  refused_file flaw (inl e) = inl e
+  refused_file flaw (inr p) = elim p.2 [
+    | inl a ↦ inr (inl a)
+    | inr q ↦ elim q.2 [
+      | inl d ↦ inr (inr (inl d))
+      | inr r ↦ elim r.2 [ inl x ↦ inr (inr (inr x)) | inr t ↦ let e = t.2 in absurd (cc e) ]
+    ]
+  ]
+
+  -- or comes after all files
+  late_or_file : (flaw : Flaw) → IsFirstRefusal told command flaw → FilesAnswer told command (Err flaw) ⊎ (4 ≤ flaw_place flaw)
+  late_or_file flaw (inl (inl f)) = inl f
+  late_or_file flaw (inl (inr p)) = elim p.2 [
+    | inl n ↦ inr (network_place p.0.events p.0.activities flaw n)
+    | inr q ↦ elim q.2 [
+      | inl s ↦ inr (start_place q.0 p.0.event_delays p.0.activity_delays flaw s)
+      | inr r ↦ let e = r.2 in absurd (cc e)
+    ]
+  ]
+  late_or_file flaw (inr p) = elim p.2 [
+    | inl f ↦ inr (let e = ap flaw_place f.1 in omega arith)
+    | inr q ↦ let e = q.2 in absurd (cc e)
+  ]
+
+  module _ (flaw : Flaw) (first : IsFirstRefusal told command flaw) where
+    place_events : EventsAnswer told command (Err flaw) → flaw_place flaw ≡ 0
+    place_events e = place_of_part Events (ReadsEvents command.columns.events) (events_one command.columns.events) told (part_name command Events) flaw e
+
+    place_activities : ActivitiesAnswer told command (Err flaw) → flaw_place flaw ≡ 1
+    place_activities a = place_of_part Activities (ReadsActivities command.columns.activities) (activities_one command.columns.activities) told (part_name command Activities) flaw a
+
+    place_event_delays : EventDelaysAnswer told command (Err flaw) → flaw_place flaw ≡ 2
+    place_event_delays d = place_of_part EventDelays ReadsDelays delays_one told (part_name command EventDelays) flaw d
+
+    place_activity_delays : ActivityDelaysAnswer told command (Err flaw) → flaw_place flaw ≡ 3
+    place_activity_delays x = place_of_part ActivityDelays ReadsDelays delays_one told (part_name command ActivityDelays) flaw x
+
+    feed_not_after : IsFirstRefusal told command flaw → PassesBefore told command Feed → part_place Feed ≤ flaw_place flaw
+    feed_not_after (inl o) passes = absurd (opening_is_one (Ok passes.0) (Err flaw) passes.1 o)
+    feed_not_after (inr p) passes = elim p.2 [
+      | inl f ↦ let e = ap flaw_place f.1 in omega arith
+      | inr q ↦ let e = q.2 in absurd (cc e)
+    ]
+
+    -- a part before which nothing is refused is not after the first refusal
+    pub not_after : (part : Part) → PassesBefore told command part → part_place part ≤ flaw_place flaw
+    not_after Events passes = omega arith
+    not_after Activities passes = elim (late_or_file flaw first) [
+      | inl f ↦ elim (refused_file flaw f) [
+        | inl e ↦ absurd (events_are_one (Ok passes.0) (Err flaw) passes.1 e)
+        | inr rest ↦ elim rest [
+          | inl a ↦ let e = place_activities a in omega arith
+          | inr rest2 ↦ elim rest2 [ inl d ↦ let e = place_event_delays d in omega arith | inr x ↦ let e = place_activity_delays x in omega arith ]
+        ]
+      ]
+      | inr late ↦ omega arith
+    ]
+    not_after EventDelays passes = elim (late_or_file flaw first) [
+      | inl f ↦ elim (refused_file flaw f) [
+        | inl e ↦ absurd (events_are_one (Ok passes.0) (Err flaw) passes.1 e)
+        | inr rest ↦ elim rest [
+          | inl a ↦ absurd (activities_are_one (Ok passes.2) (Err flaw) passes.3 a)
+          | inr rest2 ↦ elim rest2 [ inl d ↦ let e = place_event_delays d in omega arith | inr x ↦ let e = place_activity_delays x in omega arith ]
+        ]
+      ]
+      | inr late ↦ omega arith
+    ]
+    not_after ActivityDelays passes = elim (late_or_file flaw first) [
+      | inl f ↦ elim (refused_file flaw f) [
+        | inl e ↦ absurd (events_are_one (Ok passes.0) (Err flaw) passes.1 e)
+        | inr rest ↦ elim rest [
+          | inl a ↦ absurd (activities_are_one (Ok passes.2) (Err flaw) passes.3 a)
+          | inr rest2 ↦ elim rest2 [ inl d ↦ absurd (event_delays_are_one (Ok passes.4) (Err flaw) passes.5 d) | inr x ↦ let e = place_activity_delays x in omega arith ]
+        ]
+      ]
+      | inr late ↦ omega arith
+    ]
+    not_after Feed passes = feed_not_after first passes
+
+-- ---- the words
+
+given_one : (option : List ℕ) (words : List (List ℕ)) (a b : Option (List ℕ)) → GivesOption option words a → GivesOption option words b → a ≡ b
+given_one option words None None p q = refl
+given_one option words None (Some y) p q = let e = p in let f = q.0 in cc (e, f)
+given_one option words (Some x) None p q = let e = p.0 in let f = q in cc (e, f)
+given_one option words (Some x) (Some y) p q = let e = p.0 in let f = q.0 in cc (e, f)
+
+penalty_one : (given : Option (List ℕ)) (a b : ℕ) → IsPenalty given a → IsPenalty given b → a ≡ b
+penalty_one None a b p q = p ∙ sym q
+penalty_one (Some text) a b p q = p.1 ∙ sym q.1
+
+abbrev columns_read : FileColumns → Result FileColumns ColumnFault
+columns_read columns = Ok columns
+
+read_is : (a b : FileColumns) → columns_read a ≡ columns_read b → a ≡ b
+read_is a b e = cc
+
+first_name : (a b c d : List ℕ) → a ∷ b ∷ [] ≡ c ∷ d ∷ [] → a ≡ c
+first_name a b c d e = cc
+
+second_name : (a b c d : List ℕ) → a ∷ b ∷ [] ≡ c ∷ d ∷ [] → b ≡ d
+second_name a b c d e = cc
+
+command_is : (x y : Command) → x.folder ≡ y.folder → x.feed ≡ y.feed → x.penalty ≡ y.penalty → x.columns ≡ y.columns → x.event_delays ≡ y.event_delays → x.activity_delays ≡ y.activity_delays → x ≡ y
+command_is x y folder feed penalty columns events activities =
+    ap (λ v. record x { folder = v }) folder
+    ∙ (ap (λ v. record x { folder = y.folder; feed = v }) feed
+    ∙ (ap (λ v. record x { folder = y.folder; feed = y.feed; penalty = v }) penalty
+    ∙ (ap (λ v. record x { folder = y.folder; feed = y.feed; penalty = y.penalty; columns = v }) columns
+    ∙ (ap (λ v. record x { folder = y.folder; feed = y.feed; penalty = y.penalty; columns = y.columns; event_delays = v }) events
+    ∙ ap (λ v. record y { activity_delays = v }) activities))))
+
+asked_behind_one : (words : List (List ℕ)) (x y : Command) → AsksBehind words x → AsksBehind words y → x ≡ y
+asked_behind_one words x y p q =
+    let names = sym p.names ∙ q.names in
+    let penalty = given_one penalty_option words p.penalty q.penalty p.gives_penalty q.gives_penalty in
+    let events = given_one event_columns_option words p.events q.events p.gives_events q.gives_events in
+    let activities = given_one activity_columns_option words p.activities q.activities p.gives_activities q.gives_activities in
+    let columns = columns_one (event_words q.events) (activity_words q.activities) (Ok x.columns) (Ok y.columns)
+        (subst (λ (a : Option (List ℕ)). ReadsFileColumns (event_words q.events) (activity_words a) (Ok x.columns)) activities
+        (subst (λ (e : Option (List ℕ)). ReadsFileColumns (event_words e) (activity_words p.activities) (Ok x.columns)) events p.are_columns)) q.are_columns in
+    command_is x y (first_name x.folder x.feed y.folder y.feed names) (second_name x.folder x.feed y.folder y.feed names)
+    (penalty_one q.penalty x.penalty y.penalty (subst (λ (g : Option (List ℕ)). IsPenalty g x.penalty) penalty p.is_penalty) q.is_penalty)
+    (read_is x.columns y.columns columns)
+    (given_one event_delays_option words x.event_delays y.event_delays p.gives_event_delays q.gives_event_delays)
+    (given_one activity_delays_option words x.activity_delays y.activity_delays p.gives_activity_delays q.gives_activity_delays)
+
+pub one_command : (words : List (List ℕ)) (x y : Command) → Asks words x → Asks words y → x ≡ y
+one_command [] x y p q = absurd p
+one_command (word ∷ words) x y p q = asked_behind_one words x y p.1 q.1
