@@ -9,6 +9,12 @@ mod graph;
 #[cfg(test)]
 mod lintim;
 #[cfg(test)]
+mod network;
+#[cfg(test)]
 mod outside;
 #[cfg(test)]
 mod program;
+#[cfg(test)]
+mod rows;
+#[cfg(test)]
+mod settle;

@@ -39,12 +39,12 @@ fn activity_kind(text: &[u8]) -> Option<ActKind>
 }
 
 // The kind of a good record.
-fn kind_under(columns: &[Option<Column>], record: &ByteRecord) -> ActKind
-    requires good { IsGood IsActivityWord columns.now (taken_fields record.now) }
+fn kind_under(columns: &[Option<Column>], fields: &ByteRecord) -> ActKind
+    requires good { IsGood IsActivityWord columns.now (taken_fields fields.now) }
     requires columns { HasAll columns.now activity_required }
-    ensures { IsWord (activity_word result) (text_under columns.now (taken_fields record.now) Column.Kind) }
+    ensures { IsWord (activity_word result) (text_under columns.now (taken_fields fields.now) Column.Kind) }
 {
-    match activity_kind(text_under(columns, record, Column::Kind)) {
+    match activity_kind(text_under(columns, fields, Column::Kind)) {
         Some(kind) => kind,
         None => unreachable!(),
     }
@@ -61,14 +61,14 @@ impl Row for ActRow {
         activity_kind(text).is_some()
     }
 
-    fn take(columns: &[Option<Column>], record: &ByteRecord) -> ActRow {
+    fn take(columns: &[Option<Column>], fields: &ByteRecord) -> ActRow {
         ActRow {
-            id: ActId(whole_under(columns, record, Column::Id) as u32),
-            kind: kind_under(columns, record),
-            tail: EventId(whole_under(columns, record, Column::Tail) as u32),
-            head: EventId(whole_under(columns, record, Column::Head) as u32),
-            lower: whole_under(columns, record, Column::Lower),
-            weight: weight_under(columns, record),
+            id: ActId(whole_under(columns, fields, Column::Id) as u32),
+            kind: kind_under(columns, fields),
+            tail: EventId(whole_under(columns, fields, Column::Tail) as u32),
+            head: EventId(whole_under(columns, fields, Column::Head) as u32),
+            lower: whole_under(columns, fields, Column::Lower),
+            weight: weight_under(columns, fields),
         }
     }
 }

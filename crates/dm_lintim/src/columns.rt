@@ -6,19 +6,40 @@ use crate::layout::Layout;
 use crate::words::read_columns;
 use std::marker::Model;
 
-/// A column of a file. The others than these are passed over, as are `PeriodicId` and `Upper`.
+/// A column of a file.
 #[derive(Clone, Copy, PartialEq, Eq, Debug)]
 pub enum Column {
+    /// The number of an event or an activity, up to 4294967295.
     Id,
+
+    /// Passed over unread.
     PeriodicId,
+
+    /// A type word; ASCII letters count in either case. It is named `type`.
     Kind,
+
+    /// The scheduled time, in seconds, up to 1000000000.
     Time,
+
+    /// Passengers, up to 1000000, as a decimal text; it is read in thousandths.
     Weight,
+
+    /// The number of a stop, up to 4294967295.
     Stop,
+
+    /// The number of the event where an activity begins, up to 4294967295.
     Tail,
+
+    /// The number of the event where an activity ends, up to 4294967295.
     Head,
+
+    /// The least time from the tail to the head, in seconds, up to 1000000.
     Lower,
+
+    /// Passed over unread.
     Upper,
+
+    /// A source delay, in seconds, up to 1000000.
     Delay,
 }
 

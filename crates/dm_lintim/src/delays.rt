@@ -27,10 +27,10 @@ impl Row for DelayRow {
         false
     }
 
-    fn take(columns: &[Option<Column>], record: &ByteRecord) -> DelayRow {
+    fn take(columns: &[Option<Column>], fields: &ByteRecord) -> DelayRow {
         DelayRow {
-            id: whole_under(columns, record, Column::Id) as u32,
-            delay: whole_under(columns, record, Column::Delay),
+            id: whole_under(columns, fields, Column::Id) as u32,
+            delay: whole_under(columns, fields, Column::Delay),
         }
     }
 }

@@ -30,12 +30,12 @@ fn event_kind(text: &[u8]) -> Option<EventKind>
 }
 
 // The kind of a good record.
-fn kind_under(columns: &[Option<Column>], record: &ByteRecord) -> EventKind
-    requires good { IsGood IsEventWord columns.now (taken_fields record.now) }
+fn kind_under(columns: &[Option<Column>], fields: &ByteRecord) -> EventKind
+    requires good { IsGood IsEventWord columns.now (taken_fields fields.now) }
     requires columns { HasAll columns.now event_required }
-    ensures { IsWord (event_word result) (text_under columns.now (taken_fields record.now) Column.Kind) }
+    ensures { IsWord (event_word result) (text_under columns.now (taken_fields fields.now) Column.Kind) }
 {
-    match event_kind(text_under(columns, record, Column::Kind)) {
+    match event_kind(text_under(columns, fields, Column::Kind)) {
         Some(kind) => kind,
         None => unreachable!(),
     }
@@ -52,13 +52,13 @@ impl Row for EventRow {
         event_kind(text).is_some()
     }
 
-    fn take(columns: &[Option<Column>], record: &ByteRecord) -> EventRow {
+    fn take(columns: &[Option<Column>], fields: &ByteRecord) -> EventRow {
         EventRow {
-            id: EventId(whole_under(columns, record, Column::Id) as u32),
-            kind: kind_under(columns, record),
-            time: whole_under(columns, record, Column::Time),
-            weight: weight_under(columns, record),
-            stop: StopId(whole_under(columns, record, Column::Stop) as u32),
+            id: EventId(whole_under(columns, fields, Column::Id) as u32),
+            kind: kind_under(columns, fields),
+            time: whole_under(columns, fields, Column::Time),
+            weight: weight_under(columns, fields),
+            stop: StopId(whole_under(columns, fields, Column::Stop) as u32),
         }
     }
 }

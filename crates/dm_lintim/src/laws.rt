@@ -1,5 +1,5 @@
 //! What the grammar of files says, whatever the bytes: each function's contract is a law, and its body is empty.
-ghost use Rattle.std.specs.Prelude.{ℕ, ◌≡◌, List, Option, Result};
+ghost use Rattle.std.specs.Prelude.{ℕ, ◌≡◌, codes, List, Option, Result, Ok};
 ghost use Rattle.csv.specs.Reading.{records};
 ghost use Rattle.dm_base.specs.declared.rows.ActRow.{ActRow};
 ghost use Rattle.dm_base.specs.declared.rows.DelayRow.{DelayRow};
@@ -7,7 +7,7 @@ ghost use Rattle.dm_base.specs.declared.rows.EventRow.{EventRow};
 ghost use Rattle.dm_lintim.specs.declared.columns.Column.{Column};
 ghost use Rattle.dm_lintim.specs.declared.fault.FileFault.{FileFault};
 ghost use Rattle.dm_lintim.specs.declared.columns.ColumnFault.{ColumnFault};
-ghost use Rattle.dm_lintim.specs.Columns.{FileColumns, ReadsFileColumns};
+ghost use Rattle.dm_lintim.specs.Columns.{FileColumns, ReadsFileColumns, standard_columns};
 ghost use Rattle.dm_lintim.specs.Files.{ReadsActivities, ReadsDelays, ReadsEvents};
 ghost use Rattle.dm_lintim.specs.Pieces.{split_records};
 ghost use Rattle.dm_lintim.specs.Split.{plain_config};
@@ -39,4 +39,10 @@ pub fn one_answer_of_delays()
 pub fn one_answer_of_columns()
     ensures { (events activities : List ℕ) (one other : Result FileColumns ColumnFault) →
         ReadsFileColumns events activities one → ReadsFileColumns events activities other → one ≡ other }
+{}
+
+/// The texts of the standard order give the standard columns.
+pub fn standard_texts_give_standard_columns()
+    ensures { ReadsFileColumns (codes "id,periodic-id,type,time,weight,stop")
+        (codes "id,periodic-id,type,tail,head,lower,upper,weight") (Ok standard_columns) }
 {}

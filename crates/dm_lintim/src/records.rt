@@ -9,11 +9,11 @@ use std::alloc::{AllocError, Global};
 use std::marker::Model;
 
 // Every error is one of memory: the text lies in memory, and records may have any number of fields.
-fn read_one(reader: &mut Reader<&[u8]>, record: &mut ByteRecord) -> Result<bool, AllocError>
+fn read_one(reader: &mut Reader<&[u8]>, fields: &mut ByteRecord) -> Result<bool, AllocError>
     requires { SplitsPlainly reader.old }
-    ensures { IfOk result (TakesFirst reader.old reader.new (fields_of record.new)) }
+    ensures { IfOk result (TakesFirst reader.old reader.new (fields_of fields.new)) }
 {
-    match reader.read_byte_record(record) {
+    match reader.read_byte_record(fields) {
         Ok(found) => Ok(found),
         Err(_) => Err(AllocError),
     }
@@ -59,14 +59,14 @@ impl<'a> Records<'a> {
     }
 
     /// Takes the next record, where there is one.
-    pub(crate) fn next(&mut self, record: &mut ByteRecord) -> Result<bool, AllocError>
-        ensures { IfOk result (λ found. MatchBool found (self.old ≡ fields_of record.new ∷ self.new) (self.old ≡ [])) }
+    pub(crate) fn next(&mut self, fields: &mut ByteRecord) -> Result<bool, AllocError>
+        ensures { IfOk result (λ found. MatchBool found (self.old ≡ fields_of fields.new ∷ self.new) (self.old ≡ [])) }
     {
         if self.done {
             return Ok(false);
         }
         self.done = true;
-        let found = read_one(&mut self.reader, record)?;
+        let found = read_one(&mut self.reader, fields)?;
         self.done = !found;
         Ok(found)
     }

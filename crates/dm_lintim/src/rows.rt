@@ -28,11 +28,11 @@ pub(crate) trait Row: Drop {
     fn is_type_word(text: &[u8]) -> bool
         ensures { MatchBool result (is_known text.now) (is_known text.now → ⊥) };
 
-    fn take(columns: &[Option<Column>], record: &ByteRecord) -> Self
-        requires good { IsGood is_known columns.now (taken_fields record.now) }
-        requires numbers { HasNumbers columns.now (taken_fields record.now) }
+    fn take(columns: &[Option<Column>], fields: &ByteRecord) -> Self
+        requires good { IsGood is_known columns.now (taken_fields fields.now) }
+        requires numbers { HasNumbers columns.now (taken_fields fields.now) }
         requires columns { has_columns columns.now }
-        ensures { is_row columns.now (taken_fields record.now) result };
+        ensures { is_row columns.now (taken_fields fields.now) result };
 }
 
 fn test_field<R: Row>(column: Option<Column>, text: &[u8]) -> Result<(), FileKind>
@@ -63,31 +63,31 @@ fn test_field<R: Row>(column: Option<Column>, text: &[u8]) -> Result<(), FileKin
 }
 
 // Tests the fields of a record under each column.
-fn test_fields<R: Row>(columns: &[Option<Column>], record: &ByteRecord) -> Result<(), FileKind>
-    requires { length (taken_fields record.now) ≡ length columns.now }
-    ensures good { OnOk result (IsGood R.is_known columns.now (taken_fields record.now)) }
-    ensures refuses { IfErr result (RefusesFirst R.is_known columns.now (taken_fields record.now)) }
+fn test_fields<R: Row>(columns: &[Option<Column>], fields: &ByteRecord) -> Result<(), FileKind>
+    requires { length (taken_fields fields.now) ≡ length columns.now }
+    ensures good { OnOk result (IsGood R.is_known columns.now (taken_fields fields.now)) }
+    ensures refuses { IfErr result (RefusesFirst R.is_known columns.now (taken_fields fields.now)) }
 {
     for (place, column) in columns.iter().enumerate() {
-        test_field::<R>(*column, taken_field(record, place))?;
+        test_field::<R>(*column, taken_field(fields, place))?;
     }
     Ok(())
 }
 
 // The row of a record.
-fn read_row<R: Row>(columns: &[Option<Column>], record: &ByteRecord) -> Result<R, FileKind>
+fn read_row<R: Row>(columns: &[Option<Column>], fields: &ByteRecord) -> Result<R, FileKind>
     requires columns { R.has_columns columns.now }
-    requires few { length (fields_of record.now) < 2 ^ 32 }
-    ensures row { IfOk result (R.is_row columns.now (taken_fields record.now)) }
-    ensures good { OnOk result (IsGood R.is_known columns.now (taken_fields record.now)) }
-    ensures breaks { IfErr result (BreaksRecord R.is_known columns.now (taken_fields record.now)) }
+    requires few { length (fields_of fields.now) < 2 ^ 32 }
+    ensures row { IfOk result (R.is_row columns.now (taken_fields fields.now)) }
+    ensures good { OnOk result (IsGood R.is_known columns.now (taken_fields fields.now)) }
+    ensures breaks { IfErr result (BreaksRecord R.is_known columns.now (taken_fields fields.now)) }
 {
-    let found = record.len();
+    let found = fields.len();
     if found != columns.len() {
         return Err(FileKind::FieldCount(found as u32));
     }
-    test_fields::<R>(columns, record)?;
-    Ok(R::take(columns, record))
+    test_fields::<R>(columns, fields)?;
+    Ok(R::take(columns, fields))
 }
 
 fn push_row<R: Drop>(rows: &mut Vec<R>, row: R) -> Result<(), FileFault>
@@ -103,21 +103,21 @@ fn push_row<R: Drop>(rows: &mut Vec<R>, row: R) -> Result<(), FileFault>
 // Puts the row of a record that counts at the end of the rows.
 fn add_record<R: Row>(
     columns: &[Option<Column>],
-    record: &ByteRecord,
+    fields: &ByteRecord,
     rows: &mut Vec<R>,
 ) -> Result<(), FileFault>
     requires columns { R.has_columns columns.now }
-    requires few { length (fields_of record.now) < 2 ^ 32 }
+    requires few { length (fields_of fields.now) < 2 ^ 32 }
     requires room { length rows.old.items + 1 < 2 ^ 32 }
-    ensures adds { OnOk result (AddsRow R.is_known R.is_row columns.now (taken_fields record.now) rows.old.items rows.new.items) }
+    ensures adds { OnOk result (AddsRow R.is_known R.is_row columns.now (taken_fields fields.now) rows.old.items rows.new.items) }
     ensures breaks { IfErr result (λ fault. (fault ≡ no_memory)
-        ⊎ BreaksFile R.is_known columns.now (taken_fields record.now) (length rows.old.items) fault) }
+        ⊎ BreaksFile R.is_known columns.now (taken_fields fields.now) (length rows.old.items) fault) }
 {
-    if is_passed_over(record) {
+    if is_passed_over(fields) {
         return Ok(());
     }
     let number = rows.as_slice().len() as u32 + 1;
-    match read_row::<R>(columns, record) {
+    match read_row::<R>(columns, fields) {
         Ok(row) => push_row(rows, row),
         Err(kind) => Err(FileFault { number, kind }),
     }
@@ -136,10 +136,10 @@ fn read_records<R: Row>(
     ensures fault { IfErr result (λ fault. (fault ≡ no_memory) ⊎ ReadsFile R.is_known R.is_row columns.now bytes.now (Err fault)) }
 {
     let mut records = Records::new(alloc, bytes);
-    let mut record = ByteRecord::new(alloc);
+    let mut fields = ByteRecord::new(alloc);
     let mut rows = Vec::new(alloc);
-    while records.next(&mut record)? {
-        add_record(columns, &record, &mut rows)?;
+    while records.next(&mut fields)? {
+        add_record(columns, &fields, &mut rows)?;
     }
     Ok(rows)
 }

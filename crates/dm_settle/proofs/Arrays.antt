@@ -49,7 +49,7 @@ module _ (rows : ℕ → List ℕ) (n : ℕ) (offsets places row : List ℕ) (ha
   before : (i : ℕ) → i ≤ n → slice_index (offsets ++ length (places ++ row) ∷ []) i ≡ slice_index offsets i
   before i le = let c = had.offset_count in get_or_append_left offsets (length (places ++ row) ∷ []) 0 i (omega arith)
 
-  pub next_last : slice_index (offsets ++ length (places ++ row) ∷ []) (n + 1) ≡ length (places ++ row)
+  next_last : slice_index (offsets ++ length (places ++ row) ∷ []) (n + 1) ≡ length (places ++ row)
   next_last = let c = had.offset_count in get_or_push offsets (length (places ++ row)) 0 (n + 1) (omega arith)
 
   more_row : (i : ℕ) → i < n + 1 → row_at (offsets ++ length (places ++ row) ∷ []) (places ++ row) i ≡ rows i
@@ -69,7 +69,7 @@ module _ (rows : ℕ → List ℕ) (n : ℕ) (offsets places row : List ℕ) (ha
             ∙ is)
       ]
 
-  pub rows_more : AreFlatRows rows (n + 1) (offsets ++ length (places ++ row) ∷ []) (places ++ row)
+  rows_more : AreFlatRows rows (n + 1) (offsets ++ length (places ++ row) ∷ []) (places ++ row)
   rows_more =
       let total = length-append places row in
       let count = had.offset_count in
@@ -103,14 +103,20 @@ module _ (rows : ℕ → List ℕ) (n : ℕ) (offsets places row : List ℕ) (ha
         row = more_row;
       }
 
--- the first row begins at 0
-pub no_rows : (rows : ℕ → List ℕ) → AreFlatRows rows 0 (0 ∷ []) []
-no_rows rows = record {
-  offset_count = refl;
-  rises = λ i lt. absurd (omega arith);
-  within = λ i lt. absurd (omega arith);
-  row = λ i lt. absurd (omega arith);
-}
+-- the same for lists that are given by what was pushed
+pub record HasRows (rows : ℕ → List ℕ) (n : ℕ) (offsets places : List ℕ) : Type 0 where
+  pub are : AreFlatRows rows n offsets places
+  pub last : slice_index offsets n ≡ length places
+
+pub rows_pushed : (rows : ℕ → List ℕ) (n : ℕ) (offsets places row offsets1 places1 : List ℕ) (end : ℕ) → AreFlatRows rows n offsets places →
+    slice_index offsets n ≡ length places → row ≡ rows n → places1 ≡ places ++ row → end ≡ length places1 → offsets1 ≡ offsets ++ end ∷ [] →
+    HasRows rows (n + 1) offsets1 places1
+rows_pushed rows n offsets places row offsets1 places1 end had last is places_are end_is offsets_are =
+    let ends : end ≡ length (places ++ row) = end_is ∙ ap length places_are in
+    let pushed : offsets1 ≡ offsets ++ length (places ++ row) ∷ [] = offsets_are ∙ ap (λ (k : ℕ). offsets ++ k ∷ []) ends in
+    subst (HasRows rows (n + 1) offsets1) (sym places_are)
+    (subst (λ (os : List ℕ). HasRows rows (n + 1) os (places ++ row)) (sym pushed)
+    (record { are = rows_more rows n offsets places row had last is; last = next_last rows n offsets places row had last is }))
 
 -- the arrays give the free activities as arcs, and may be searched
 module _ (net : Net) (rows : RowsValue) (known : EndsAreKnown net) (tails offsets places : List ℕ) (held : List Bool)

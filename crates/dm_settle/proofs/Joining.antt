@@ -1,5 +1,5 @@
 -- The time of an event, joined along its row.
-use Rattle.std.proofs.Common.{◌≡◌, ℕ, ◌+◌, ◌<◌, ◌≤◌, false, IsTrue, List, length, max, sym, ap, subst, inl, inr, arith, eqb-true, eq-eqb, slice_index}
+use Rattle.std.proofs.Common.{◌∙◌, ◌≡◌, ℕ, ◌+◌, ◌<◌, ◌≤◌, false, IsTrue, List, length, max, sym, ap, subst, inl, inr, arith, eqb-true, eq-eqb, slice_index}
 use Rattle.std.specs.Prelude.{◌==◌}
 use Rattle.std.proofs.lemmas.Bool.{cases_lt}
 use Rattle.dm_graph.proofs.Windows.{kept_at, StandsAt, stands_in}
@@ -29,7 +29,7 @@ stands_into net e a row is leads =
     (stands_in (λ b. (activity_at net b).head == e) 0 (length net.activities) a (eq-eqb _ e leads.head) (omega arith) (omega arith))
 
 module _ (net : Net) (rows : RowsValue) (times : List ℕ) (e : ℕ) (row : List ℕ) (n time : ℕ) (had : HasJoined net rows times e row n time) where
-  pub joined_with : IsTrue (is_active net rows (slice_index row n)) →
+  joined_with : IsTrue (is_active net rows (slice_index row n)) →
       HasJoined net rows times e row (n + 1) (max time (time_along net rows times (slice_index row n)))
   joined_with active =
       let above = had.above in
@@ -48,7 +48,13 @@ module _ (net : Net) (rows : RowsValue) (times : List ℕ) (e : ℕ) (row : List
             omega arith;
       }
 
-  pub joined_without : is_active net rows (slice_index row n) ≡ false → HasJoined net rows times e row (n + 1) time
+  -- the same for a time that is given as the later of the two
+  pub joined_by : IsTrue (is_active net rows (slice_index row n)) → (along later : ℕ) → along ≡ time_along net rows times (slice_index row n) →
+      later ≡ max time along → HasJoined net rows times e row (n + 1) later
+  joined_by active along later is latest =
+      subst (HasJoined net rows times e row (n + 1)) (sym (latest ∙ ap (max time) is)) (joined_with active)
+
+  joined_without : is_active net rows (slice_index row n) ≡ false → HasJoined net rows times e row (n + 1) time
   joined_without inactive =
       record {
         above = had.above;
@@ -61,6 +67,9 @@ module _ (net : Net) (rows : RowsValue) (times : List ℕ) (e : ℕ) (row : List
         ];
         least = λ u floor each. had.least u floor (λ k lt is. each k (omega arith) is);
       }
+
+  pub joined_still : is_active net rows (slice_index row n) ≡ false → (later : ℕ) → later ≡ time → HasJoined net rows times e row (n + 1) later
+  joined_still inactive later same = subst (HasJoined net rows times e row (n + 1)) (sym same) (joined_without inactive)
 
   -- joined along its whole row, it is the join of the graph
   pub joined_whole : EndsAreKnown net → row ≡ places_into net e → n ≡ length row → e < length net.events → IsJoinOf net rows times e time

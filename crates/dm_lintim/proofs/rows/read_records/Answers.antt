@@ -7,7 +7,7 @@ use Rattle.dm_lintim.proofs.rows.read_records.Goals as goal
 
 pub add_record-requires-clause-few : goal.add_record-requires-clause-few
 add_record-requires-clause-few g c =
-    let took : c.loop-rows.records ≡ fields_of c.next.new.record ∷ c.next.new.self = rw c.if-branch.true at c.in_ok-next.ensures in
+    let took : c.loop-rows.records ≡ fields_of c.next.new.fields ∷ c.next.new.self = rw c.if-branch.true at c.in_ok-next.ensures in
     let has = rw took at c.loop-rows.invariant in
     let few = record_at g.R.Row.is_known g.R.Row.is_row c.args.columns.now (HasFewFields (length c.args.bytes.now)) _ _ _ _ has (fields_few c.args.bytes.now) in
     omega (arith, few, c.requires.size)
@@ -19,13 +19,13 @@ add_record-requires-clause-room g c =
 
 pub loop-rows-preserved : goal.loop-rows-preserved
 loop-rows-preserved g c =
-    let took : c.loop-rows.records ≡ fields_of c.next.new.record ∷ c.next.new.self = rw c.if-branch.true at c.in_ok-next.ensures in
+    let took : c.loop-rows.records ≡ fields_of c.next.new.fields ∷ c.next.new.self = rw c.if-branch.true at c.in_ok-next.ensures in
     let has = rw took at c.loop-rows.invariant in
     rows_more g.R.Row.is_known g.R.Row.is_row c.args.columns.now _ _ _ _ _ has c.in_ok-add_record.ensures.adds
 
 pub returns-in_err-add_record-clause-fault : goal.returns-in_err-add_record-clause-fault
 returns-in_err-add_record-clause-fault g c =
-    let took : c.loop-rows.records ≡ fields_of c.next.new.record ∷ c.next.new.self = rw c.if-branch.true at c.in_ok-next.ensures in
+    let took : c.loop-rows.records ≡ fields_of c.next.new.fields ∷ c.next.new.self = rw c.if-branch.true at c.in_ok-next.ensures in
     let has = rw took at c.loop-rows.invariant in
     let p = err_from_is_err_and c.from_residual-in_err-add_record.result c.from_residual-in_err-add_record.ensures.1 in
     let b = c.in_err-add_record.ensures.breaks in

@@ -6,6 +6,6 @@ use Rattle.dm_lintim.proofs.rows.test_fields.Given as goal
 
 abbrev pub invariant-loop-place : goal.invariant-loop-place
 invariant-loop-place g l =
-    let fields = taken_fields l.record in
+    let fields = taken_fields l.fields in
     (IsGood g.R.Row.is_known (drop l.place l.columns) (drop l.place fields) → IsGood g.R.Row.is_known l.columns fields)
     × ((k : FileKind) → RefusesFirst g.R.Row.is_known (drop l.place l.columns) (drop l.place fields) k → RefusesFirst g.R.Row.is_known l.columns fields k)

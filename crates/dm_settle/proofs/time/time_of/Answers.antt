@@ -1,6 +1,5 @@
-use Rattle.std.proofs.Common.{sym, ◌∙◌, arith, subst, ap, max, ℕ, ◌+◌}
-use Rattle.dm_settle.specs.Pass.{HasJoined}
-use Rattle.dm_settle.proofs.Joining.{leads_into, joined_with, joined_without, joined_whole}
+use Rattle.std.proofs.Common.{sym, ◌∙◌, arith}
+use Rattle.dm_settle.proofs.Joining.{leads_into, joined_by, joined_still, joined_whole}
 use Rattle.dm_settle.proofs.time.time_of.Goals as goal
 use Rattle.dm_settle.proofs.time.time_of.Goals.{then-is_active, else-is_active}
 
@@ -19,17 +18,14 @@ time_along-requires-clause-early g c =
 
 pub loop-a-preserved : goal.loop-a-preserved
 loop-a-preserved g c =
-    let joined = HasJoined c.args.net.now c.args.rows.now c.args.times.now c.args.event c.in_row-a-items.result.now (c.loop-a.a-index + 1) in
     elim c.if-is_active.branch [
       | then-is_active w ↦
-          let is = w.time-is ∙ w.max-time.ensures ∙ ap (λ (t : ℕ). max c.loop-a.time t) w.time_along.ensures in
-          subst joined (sym is)
-          (joined_with c.args.net.now c.args.rows.now c.args.times.now c.args.event c.in_row-a-items.result.now c.loop-a.a-index c.loop-a.time
-          c.loop-a.invariant (sym c.is_active.ensures ∙ w.if-is_active.true))
+          joined_by c.args.net.now c.args.rows.now c.args.times.now c.args.event c.in_row-a-items.result.now c.loop-a.a-index c.loop-a.time
+          c.loop-a.invariant (sym c.is_active.ensures ∙ w.if-is_active.true) w.time_along.result c.if-is_active.time w.time_along.ensures
+          (w.time-is ∙ w.max-time.ensures)
       | else-is_active w ↦
-          subst joined (sym w.time-is)
-          (joined_without c.args.net.now c.args.rows.now c.args.times.now c.args.event c.in_row-a-items.result.now c.loop-a.a-index c.loop-a.time
-          c.loop-a.invariant (sym c.is_active.ensures ∙ w.if-is_active.false))
+          joined_still c.args.net.now c.args.rows.now c.args.times.now c.args.event c.in_row-a-items.result.now c.loop-a.a-index c.loop-a.time
+          c.loop-a.invariant (sym c.is_active.ensures ∙ w.if-is_active.false) c.if-is_active.time w.time-is
     ]
 
 pub returns-clause-join : goal.returns-clause-join
