@@ -3,3 +3,5 @@ pub mod Asking
 pub mod Fits
 pub mod Staging
 pub mod OneNetwork
+pub mod OneAnswer
+pub mod OneInput

@@ -93,11 +93,11 @@ module _ {R : Type 0} (id : R → ℕ) where
       (λ z c. Contains-permutation records ys z q (Contains-permutation xs records z (IsPermutation-sym records xs p) c))
       (λ z c. Contains-permutation records xs z p (Contains-permutation ys records z (IsPermutation-sym records ys q) c))
 
-event_ids : (events : List Event) → map (λ row. row.id.0) (map event_row events) ≡ map (λ e. e.id.0) events
+pub event_ids : (events : List Event) → map (λ row. row.id.0) (map event_row events) ≡ map (λ e. e.id.0) events
 event_ids [] = refl
 event_ids (e ∷ es) = ap (λ l. e.id.0 ∷ l) (event_ids es)
 
-activity_ids : (net : Net) (activities : List Activity) → map (λ row. row.id.0) (map (activity_row net) activities) ≡ map (λ a. a.id.0) activities
+pub activity_ids : (net : Net) (activities : List Activity) → map (λ row. row.id.0) (map (activity_row net) activities) ≡ map (λ a. a.id.0) activities
 activity_ids net [] = refl
 activity_ids net (a ∷ rest) = ap (λ l. a.id.0 ∷ l) (activity_ids net rest)
 

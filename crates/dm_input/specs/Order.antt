@@ -1,5 +1,5 @@
 -- The order in which parts are read and made, and what is one refusal.
-use Rattle.std.specs.Prelude.{ℕ, ◌≡◌, List, []}
+use Rattle.std.specs.Prelude.{ℕ, ◌≡◌, Result, Ok, Err}
 use Rattle.dm_network.specs.declared.parts.NetFault.{NetFault}
 use Rattle.dm_network.specs.declared.parts.NetFault.TheVariants.{TooMany, DoubleEvent, DoubleActivity, UnknownEvent, ZeroHeadway, Cycle, OutOfMemory}
 use Rattle.dm_input.specs.declared.parts.Part.{Part}
@@ -29,3 +29,14 @@ SameFault fault other = fault ≡ other
 abbrev pub SameFlaw : Flaw → Flaw → Type 0
 SameFlaw (Network fault) (Network other) = SameFault fault other
 SameFlaw flaw other = flaw ≡ other
+
+-- the same answer, but for which cycle is shown
+abbrev pub SameAnswer : {X : Type 0} → Result X Flaw → Result X Flaw → Type 0
+SameAnswer (Ok x) (Ok y) = x ≡ y
+SameAnswer (Err f) (Err g) = SameFlaw f g
+SameAnswer (Ok x) (Err g) = ⊥
+SameAnswer (Err f) (Ok y) = ⊥
+
+-- all answers are the same
+abbrev pub IsOne : {X : Type 0} → (Result X Flaw → Type 0) → Type 0
+IsOne {X} Answers = (a b : Result X Flaw) → Answers a → Answers b → SameAnswer a b

@@ -1,5 +1,5 @@
 -- Answering one line more keeps what is known of the lines before it.
-use Rattle.std.proofs.Common.{◌≡◌, ◌≢◌, ℕ, zero, suc, ◌+◌, ◌-◌, ◌<◌, ◌≤◌, Bool, true, false, cond, eqb, List, [], ◌∷◌, ◌++◌, length, get_or, take, drop, Option, Some, None, refl, sym, ap, subst, ◌∙◌, append_assoc, append-nil, arith, inl, inr, length-append, All, slice_get, fold}
+use Rattle.std.proofs.Common.{◌≡◌, ℕ, zero, suc, ◌+◌, ◌-◌, ◌<◌, ◌≤◌, Bool, true, false, cond, eqb, List, [], ◌∷◌, ◌++◌, length, get_or, Some, refl, sym, ap, subst, ◌∙◌, append_assoc, arith, inl, inr, length-append, slice_get, fold}
 use Rattle.std.specs.Prelude.{count_by}
 use Rattle.std.proofs.lemmas.Bool.{cases_lt, eqb-true, eq-eqb}
 use Rattle.std.proofs.lemmas.List.{take-append-le, take_all}
@@ -9,7 +9,7 @@ use Rattle.std.proofs.lemmas.Option.{slice_get_within}
 use Rattle.dm_network.specs.Net.{Net}
 use Rattle.dm_rows.specs.Rows.{RowsValue, IsSized, RowsAreWithinLimits}
 use Rattle.dm_rows.specs.Resolve.{after}
-use Rattle.dm_rows.specs.Refuse.{PassesAtOnce, Refuses}
+use Rattle.dm_rows.specs.Refuse.{PassesAtOnce}
 use Rattle.dm_rows.specs.History.{rows_at}
 use Rattle.dm_rows.specs.declared.messages.Entry.{Entry}
 use Rattle.dm_rows.specs.declared.messages.Message.{Message}
@@ -22,8 +22,8 @@ use Rattle.dm_program.specs.declared.lines.Heard.TheVariants.{Line as Spoken}
 use Rattle.dm_program.specs.Lines.{feed_lines, Hears}
 use Rattle.dm_rows.specs.declared.messages.Message.TheVariants.{DelayEvent, DelayActivity, Pass, Recall, Keep, Drop, First, Adopt}
 use Rattle.dm_program.specs.Runs.{IsSpelledMessage, IsSpelledItem, IsSpelledEntry}
-use Rattle.dm_program.specs.Logs.{Journal, IsTrueAnswer, IsInOrder, names, AreDueItems, IsDueItem}
-use Rattle.dm_program.specs.Answers.{Day, entry_of, Enters, AnswersLine, IsAnsweredTo}
+use Rattle.dm_program.specs.Logs.{IsTrueAnswer, IsInOrder, names, AreDueItems, IsDueItem}
+use Rattle.dm_program.specs.Answers.{Day, entry_of, AnswersLine, IsAnsweredTo}
 
 -- ---- lists with one element more
 
@@ -93,7 +93,6 @@ heard_spelled (Adopt ds) text h = h
 
 module _ (net : Net) (start : RowsValue) (bytes : List ℕ) (day : Day) (items : List LogItem) (lines : ℕ) (left text later : List ℕ)
     (done : IsAnsweredTo net start bytes day items lines left) (next : feed_lines left ≡ text ∷ feed_lines later) (shorter : length later < length left) where
-
   due_then : (item : LogItem) → IsDueItem (lines + 1) text item → (tail : List LogItem) → AreDueItems (lines + 1 + 1) (feed_lines later) tail → AreDueItems 1 (feed_lines bytes) ((items ++ item ∷ []) ++ tail)
   due_then item h tail t = rw (append_assoc items (item ∷ []) tail) (done.due (item ∷ tail) (rw next (h, t)))
 
@@ -171,7 +170,7 @@ reply_next net start bytes day new items lines left text later done next shorter
     let item : LogItem = Answered here (Say m) (Refused at) in
     let true_answer : IsTrueAnswer (record { net = net; start = start; history = day.history }) 1 item = (omega (arith, h.2.0), rw (h.2.0, ← done.rows_are) h.2.1) in
     let kept = stays net start bytes day items lines left text later done next shorter item (heard_spelled m text h.1, h.2.4) true_answer (h.0, h.1)
-        (λ tail t. (omega (arith, h.0), omega (arith, h.2.0), rw (h.0, h.2.0) t)) (λ n. refl) in
+    (λ tail t. (omega (arith, h.0), omega (arith, h.2.0), rw (h.0, h.2.0) t)) (λ n. refl) in
     subst (λ (d : Day). IsAnsweredTo net start bytes d (items ++ item ∷ []) (lines + 1) later) (same_day day.rows new.rows day.history new.history (sym h.2.3) (sym h.2.2)) kept
 
 -- one line more
@@ -180,7 +179,7 @@ pub answered_next : (net : Net) (start : RowsValue) (bytes : List ℕ) (day new 
     → (item : LogItem) → AnswersLine net day new (lines + 1) text item → IsAnsweredTo net start bytes new (items ++ item ∷ []) (lines + 1) later
 answered_next net start bytes day new items lines left text later done next shorter (Malformed here) h =
     let kept = stays net start bytes day items lines left text later done next shorter (Malformed here) tt tt (h.0, h.1)
-        (λ tail t. (omega (arith, h.0), rw h.0 t)) (λ n. refl) in
+    (λ tail t. (omega (arith, h.0), rw h.0 t)) (λ n. refl) in
     subst (λ (d : Day). IsAnsweredTo net start bytes d (items ++ Malformed here ∷ []) (lines + 1) later) (same_day day.rows new.rows day.history new.history (sym h.3) (sym h.2)) kept
 answered_next net start bytes day new items lines left text later done next shorter (Answered here (Say m) reply) h =
     reply_next net start bytes day new items lines left text later done next shorter here m reply h

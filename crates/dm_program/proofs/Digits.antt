@@ -1,6 +1,5 @@
 -- The test for digits against the form that the reader of numbers names.
-use Rattle.std.proofs.Common.{◌≡◌, ℕ, ◌<◌, ◌≤◌, Bool, true, false, ◌&&◌, not, eqb, List, [], ◌∷◌, length, get_or, leb, Option, Some, None, refl, sym, ap, ◌∙◌, arith}
-use Rattle.std.specs.List.{list_all, AllPass}
+use Rattle.std.proofs.Common.{◌≡◌, ℕ, ◌<◌, ◌≤◌, Bool, true, false, ◌&&◌, not, eqb, List, length, Some, None, refl, ap, arith}
 use Rattle.std.specs.Char.{is_ascii_digit, IsAsciiDigit}
 use Rattle.std.proofs.lemmas.List.Sums.{AllPass-from_list_all, list_all-from_AllPass}
 use Rattle.std.proofs.lemmas.Bool.{le-leb, lt-leb}

@@ -1,5 +1,5 @@
 -- The printed spelling of a number, and of a delay of an event.
-use Rattle.std.proofs.Common.{◌≡◌, ◌≢◌, ℕ, zero, suc, ◌+◌, ◌-◌, ◌*◌, ◌^◌, ◌<◌, ◌≤◌, Bool, true, false, cond, ltb, leb, eqb, ◌&&◌, List, [], ◌∷◌, ◌++◌, length, take, drop, get_or, Option, Some, None, refl, sym, ap, subst, ◌∙◌, append_assoc, arith, inl, inr, All, length-append}
+use Rattle.std.proofs.Common.{◌≡◌, ◌≢◌, ℕ, zero, suc, ◌+◌, ◌^◌, ◌<◌, ◌≤◌, Bool, true, false, cond, leb, ◌&&◌, List, [], ◌∷◌, ◌++◌, length, take, drop, get_or, Option, Some, None, refl, sym, ap, subst, ◌∙◌, arith, inl, inr, length-append}
 use Rattle.std.specs.Prelude.{codes}
 use Rattle.std.specs.Fmt.{decimal}
 use Rattle.std.specs.Char.{IsAsciiDigit}
@@ -7,7 +7,7 @@ use Rattle.std.specs.Int.{IsInRange}
 use Rattle.std.specs.List.{position, position_or_len}
 use Rattle.std.specs.Option.{option_map}
 use Rattle.std.proofs.lemmas.Bool.{false≢true, cases_Bool, lt-ltb, eqb-true, eq-eqb}
-use Rattle.std.proofs.lemmas.List.{get_or_default, take_at, drop_at, get_or_append_left}
+use Rattle.std.proofs.lemmas.List.{get_or_default, take_at, get_or_append_left}
 use Rattle.std.proofs.lemmas.List.Sums.{position_or_len_is}
 use Rattle.std.proofs.lemmas.Str.Parse.{IsNumeralModel, WeighsDigits, tells_by_index, numerals_by_weight}
 use Rattle.std.proofs.lemmas.Fmt.{digits_decimal, digits_value-decimal, decimal-digits_value, decimal_nonempty, first_decimal, decimal_digit}
@@ -141,9 +141,9 @@ cut_words xs ys digits =
     let zs : List ℕ = xs ++ 32 ∷ ys in
     let longer : length zs ≡ length xs + suc (length ys) = length-append xs (32 ∷ ys) in
     let at : position_or_len (is_at 32) zs ≡ length xs =
-        position_or_len_is (is_at 32) zs (length xs) 0 (omega arith)
-        (λ k lt. rw (get_or_append_left xs (32 ∷ ys) 0 k lt) (no_space xs digits k 0 lt))
-        (λ lt. rw (get_or-append_seam xs 32 ys 0) refl) in
+    position_or_len_is (is_at 32) zs (length xs) 0 (omega arith)
+    (λ k lt. rw (get_or_append_left xs (32 ∷ ys) 0 k lt) (no_space xs digits k 0 lt))
+    (λ lt. rw (get_or-append_seam xs 32 ys 0) refl) in
     let found : position (is_at 32) zs ≡ Some (length xs) = rw (at, lt-ltb (length xs) (length zs) (omega arith)) refl in
     ap (option_map (λ i. (take i zs, drop (i + 1) zs))) found
     ∙ (ap (λ (front : List ℕ). Some (front, drop (length xs + 1) zs)) (take_at xs (32 ∷ ys) (length xs) refl)

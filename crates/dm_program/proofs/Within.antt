@@ -1,14 +1,13 @@
 -- Delays stay within the limits.
-use Rattle.std.proofs.Common.{◌≡◌, ℕ, zero, suc, ◌≤◌, List, [], ◌∷◌, get_or, Option, Some, None, refl, sym, ap, subst, arith}
+use Rattle.std.proofs.Common.{◌≡◌, ℕ, zero, suc, ◌≤◌, List, [], ◌∷◌, Option, Some, None, refl, subst}
 use Rattle.std.specs.Prelude.{slice_set, slice_index_or}
 use Rattle.std.specs.Option.{option_map}
 use Rattle.dm_base.specs.declared.limits.TheConstants.{DELAY}
 use Rattle.dm_base.specs.declared.ids.EventId.{EventId}
 use Rattle.dm_network.specs.Net.{Net, event_place}
-use Rattle.dm_rows.specs.declared.messages.Message.{Message}
 use Rattle.dm_rows.specs.declared.messages.Message.TheVariants.{DelayEvent}
 use Rattle.dm_rows.specs.declared.messages.Change.{Change}
-use Rattle.dm_rows.specs.declared.messages.Change.TheVariants.{EventDelay, ActDelay, Passed, Recalled, Flipped, Adopted}
+use Rattle.dm_rows.specs.declared.messages.Change.TheVariants.{EventDelay}
 use Rattle.dm_rows.specs.Rows.{RowsValue, RowsAreWithinLimits}
 use Rattle.dm_rows.specs.Resolve.{change_named, after_change}
 use Rattle.dm_rows.specs.Reach.{Reaches}

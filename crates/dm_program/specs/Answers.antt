@@ -15,7 +15,7 @@ use Rattle.dm_program.specs.declared.log.LogItem.{LogItem}
 use Rattle.dm_program.specs.declared.log.LogItem.TheVariants.{Malformed, Answered}
 use Rattle.dm_program.specs.Lines.{feed_lines, Hears}
 use Rattle.dm_program.specs.Runs.{IsSpelledReason, IsSpelledItem, IsSpelledEntry}
-use Rattle.dm_program.specs.Logs.{Journal, IsTrueAnswer, IsInOrder, names, AreDueItems}
+use Rattle.dm_program.specs.Logs.{IsTrueAnswer, IsInOrder, names, AreDueItems}
 
 -- the rows and the entries
 pub record Day : Type 0 where

@@ -1,7 +1,7 @@
 -- How a run ends: what is due to be written for each status, and why.
 use Rattle.std.specs.Prelude.{ℕ, ◌≡◌, ◌≤◌, ◌⊎◌, List, [], ◌∷◌, Option, Some, None}
 use Rattle.std.specs.Io.KnownBytes.{Appends, Keeps}
-use Rattle.dm_input.specs.Input.{Told, Input, IsInput, IsFirstRefusal}
+use Rattle.dm_input.specs.Input.{Told, Input, IsInput, IsFirstRefusal, part_name}
 use Rattle.dm_input.specs.Lines.{usage_line, refused_line, read_fault_line}
 use Rattle.dm_input.specs.Order.{part_place, flaw_place, SameFlaw}
 use Rattle.dm_input.specs.Stages.{IsUnread}
@@ -103,3 +103,7 @@ EndsAt command flaw before now WriteFault = Unit {0}
 EndsAt command flaw before now NoMemory = Unit {0}
 EndsAt command flaw before now Ok = ⊥
 EndsAt command flaw before now Usage = ⊥
+
+-- the shelf tells each name of the run sound
+abbrev pub AreSound : (List ℕ → Type 0) → Command → Type 0
+AreSound is_sound command = (part : Part) (name : List ℕ) → part_name command part ≡ Some name → is_sound name

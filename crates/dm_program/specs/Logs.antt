@@ -1,5 +1,5 @@
 -- When the journal and the logs of a run are true, and when a log is that of a feed's bytes.
-use Rattle.std.specs.Prelude.{ℕ, ◌≡◌, ◌<◌, ◌≤◌, ◌+◌, ◌-◌, ◌==◌, Bool, true, false, List, [], ◌∷◌, ◌++◌, length, Some, slice_get, count_by, All}
+use Rattle.std.specs.Prelude.{ℕ, ◌≡◌, ◌<◌, ◌≤◌, ◌+◌, ◌-◌, ◌==◌, Bool, false, List, [], ◌∷◌, length, Some, slice_get, count_by, All}
 use Rattle.std.specs.List.{flat_map}
 use Rattle.dm_base.specs.declared.limits.TheConstants.{FEED}
 use Rattle.dm_network.specs.Net.{Net}
@@ -8,7 +8,6 @@ use Rattle.dm_rows.specs.Refuse.{Refuses}
 use Rattle.dm_rows.specs.History.{rows_at}
 use Rattle.dm_rows.specs.declared.messages.Entry.{Entry}
 use Rattle.dm_rows.specs.declared.messages.Message.{Message}
-use Rattle.dm_program.specs.declared.lines.Line.{Line}
 use Rattle.dm_program.specs.declared.lines.Line.TheVariants.{Say}
 use Rattle.dm_program.specs.declared.lines.Heard.TheVariants.{Line as Spoken, Malformed as Unheard}
 use Rattle.dm_program.specs.declared.log.Reply.{Reply}

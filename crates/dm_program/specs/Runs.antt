@@ -124,12 +124,12 @@ pub record Run : Type 0 where
 abbrev pub run_text : Run → List ℕ
 run_text run =
     joined (header_text run.penalty (length run.logs) (length run.journal.history)
-      ∷ entries_text 1 run.journal.history
-      ∷ logs_text 1 run.logs
-      ∷ heading_text (length run.journal.history)
-      ∷ flat_map (time_text run.journal.net run.times) (range_with_len 0 (length run.journal.net.events))
-      ∷ ending_text run.cost
-      ∷ [])
+    ∷ entries_text 1 run.journal.history
+    ∷ logs_text 1 run.logs
+    ∷ heading_text (length run.journal.history)
+    ∷ flat_map (time_text run.journal.net run.times) (range_with_len 0 (length run.journal.net.events))
+    ∷ ending_text run.cost
+    ∷ [])
 
 -- The history is legal, every log is true, the times are least after all entries, and the cost is theirs.
 pub record IsTrueRun (run : Run) : Type 0 where

@@ -6,14 +6,13 @@ ghost use Rattle.dm_outside.specs.Printing.{Prints, Puts, joined};
 ghost use Rattle.dm_program.specs.Runs.{IsSpelledReason, IsSpelledReply, IsSpelledItem, IsSpelledEntry, line_end, reason_text, reply_text, header_text, entry_text, entries_text, feed_text, item_text, stop_text, heading_text, time_text, ending_text, logs_text, run_text};
 ghost use Rattle.dm_program.specs.Asked.{run_in, run_with};
 
+use crate::lines::Line;
+use crate::log::{FeedStop, LogItem, Reply};
+use crate::prepare::Answered;
 use dm_base::{Cost, EventId, Secs};
 use dm_network::Network;
 use dm_outside::{Page, Piece, Sink, WriteFault};
 use dm_rows::{Entry, Message, Refusal};
-
-use crate::lines::Line;
-use crate::log::{FeedStop, LogItem, Reply};
-use crate::prepare::Answered;
 
 #[tactic(auto, unfolding(crate::specs::Runs::header_text))]
 fn print_header<K: Sink>(
@@ -24,15 +23,18 @@ fn print_header<K: Sink>(
 ) -> Result<(), WriteFault>
     ensures { Prints K.taken K.faults sink.old sink.new page.old page.new result (header_text penalty 1 entries) }
 {
-    page.put(sink, &[
-        Piece::Text("dm-run 1\npenalty "),
-        Piece::Number(penalty as u128),
-        Piece::Text("\nfeeds "),
-        Piece::Number(1),
-        Piece::Text("\nentries "),
-        Piece::Number(entries as u128),
-        Piece::Text("\n"),
-    ])
+    page.put(
+        sink,
+        &[
+            Piece::Text("dm-run 1\npenalty "),
+            Piece::Number(penalty as u128),
+            Piece::Text("\nfeeds "),
+            Piece::Number(1),
+            Piece::Text("\nentries "),
+            Piece::Number(entries as u128),
+            Piece::Text("\n"),
+        ],
+    )
 }
 
 #[tactic(auto, unfolding(crate::specs::Runs::entry_text))]
@@ -46,19 +48,22 @@ fn print_entry<K: Sink>(
     ensures { Prints K.taken K.faults sink.old sink.new page.old page.new result (entry_text number entry.now) }
 {
     match &entry.message {
-        Message::DelayEvent(event, delay) => page.put(sink, &[
-            Piece::Text("entry "),
-            Piece::Number(number as u128),
-            Piece::Text(" feed "),
-            Piece::Number(entry.feed as u128),
-            Piece::Text(" line "),
-            Piece::Number(entry.line as u128),
-            Piece::Text(" delay event "),
-            Piece::Number(event.0 as u128),
-            Piece::Text(" "),
-            Piece::Number(*delay as u128),
-            Piece::Text("\n"),
-        ]),
+        Message::DelayEvent(event, delay) => page.put(
+            sink,
+            &[
+                Piece::Text("entry "),
+                Piece::Number(number as u128),
+                Piece::Text(" feed "),
+                Piece::Number(entry.feed as u128),
+                Piece::Text(" line "),
+                Piece::Number(entry.line as u128),
+                Piece::Text(" delay event "),
+                Piece::Number(event.0 as u128),
+                Piece::Text(" "),
+                Piece::Number(*delay as u128),
+                Piece::Text("\n"),
+            ],
+        ),
         _ => unreachable!(),
     }
 }
@@ -109,26 +114,35 @@ fn print_refusal<K: Sink>(
     ensures { Prints K.taken K.faults sink.old sink.new page.old page.new result (joined (decimal entry ∷ codes " refused " ∷ reason_text why.now ∷ line_end ∷ [])) }
 {
     match why {
-        Refusal::Range(value) => page.put(sink, &[
-            Piece::Number(entry as u128),
-            Piece::Text(" refused range "),
-            Piece::Number(*value as u128),
-            Piece::Text("\n"),
-        ]),
-        Refusal::UnknownEvent(event) => page.put(sink, &[
-            Piece::Number(entry as u128),
-            Piece::Text(" refused unknown-event "),
-            Piece::Number(event.0 as u128),
-            Piece::Text("\n"),
-        ]),
-        Refusal::Passed(event, time) => page.put(sink, &[
-            Piece::Number(entry as u128),
-            Piece::Text(" refused passed "),
-            Piece::Number(event.0 as u128),
-            Piece::Text(" "),
-            Piece::Number(*time as u128),
-            Piece::Text("\n"),
-        ]),
+        Refusal::Range(value) => page.put(
+            sink,
+            &[
+                Piece::Number(entry as u128),
+                Piece::Text(" refused range "),
+                Piece::Number(*value as u128),
+                Piece::Text("\n"),
+            ],
+        ),
+        Refusal::UnknownEvent(event) => page.put(
+            sink,
+            &[
+                Piece::Number(entry as u128),
+                Piece::Text(" refused unknown-event "),
+                Piece::Number(event.0 as u128),
+                Piece::Text("\n"),
+            ],
+        ),
+        Refusal::Passed(event, time) => page.put(
+            sink,
+            &[
+                Piece::Number(entry as u128),
+                Piece::Text(" refused passed "),
+                Piece::Number(event.0 as u128),
+                Piece::Text(" "),
+                Piece::Number(*time as u128),
+                Piece::Text("\n"),
+            ],
+        ),
         _ => unreachable!(),
     }
 }
@@ -152,20 +166,26 @@ fn print_item<K: Sink>(sink: &mut K, page: &mut Page, item: &LogItem) -> Result<
 fn print_malformed<K: Sink>(sink: &mut K, page: &mut Page, line: u32) -> Result<(), WriteFault>
     ensures { Prints K.taken K.faults sink.old sink.new page.old page.new result (item_text (LogItem.Malformed line)) }
 {
-    page.put(sink, &[Piece::Number(line as u128), Piece::Text(" malformed\n")])
+    page.put(
+        sink,
+        &[Piece::Number(line as u128), Piece::Text(" malformed\n")],
+    )
 }
 
 #[tactic(auto, unfolding(crate::specs::Runs::feed_text))]
 fn print_feed<K: Sink>(sink: &mut K, page: &mut Page, items: usize) -> Result<(), WriteFault>
     ensures { Prints K.taken K.faults sink.old sink.new page.old page.new result (feed_text 1 items) }
 {
-    page.put(sink, &[
-        Piece::Text("feed "),
-        Piece::Number(1),
-        Piece::Text(" "),
-        Piece::Number(items as u128),
-        Piece::Text("\n"),
-    ])
+    page.put(
+        sink,
+        &[
+            Piece::Text("feed "),
+            Piece::Number(1),
+            Piece::Text(" "),
+            Piece::Number(items as u128),
+            Piece::Text("\n"),
+        ],
+    )
 }
 
 #[tactic(auto, unfolding(crate::specs::Runs::stop_text))]
@@ -178,18 +198,17 @@ fn print_stop<K: Sink>(sink: &mut K, page: &mut Page, stop: FeedStop) -> Result<
 }
 
 #[tactic(auto, unfolding(crate::specs::Runs::heading_text))]
-fn print_heading<K: Sink>(
-    sink: &mut K,
-    page: &mut Page,
-    entries: usize,
-) -> Result<(), WriteFault>
+fn print_heading<K: Sink>(sink: &mut K, page: &mut Page, entries: usize) -> Result<(), WriteFault>
     ensures { Prints K.taken K.faults sink.old sink.new page.old page.new result (heading_text entries) }
 {
-    page.put(sink, &[
-        Piece::Text("boards 0\ntimes "),
-        Piece::Number(entries as u128),
-        Piece::Text("\n"),
-    ])
+    page.put(
+        sink,
+        &[
+            Piece::Text("boards 0\ntimes "),
+            Piece::Number(entries as u128),
+            Piece::Text("\n"),
+        ],
+    )
 }
 
 #[tactic(auto, unfolding(crate::specs::Runs::time_text))]
@@ -204,23 +223,29 @@ fn print_time<K: Sink>(
     requires has_time { i < length times.now }
     ensures { Prints K.taken K.faults sink.old sink.new page.old page.new result (time_text net.now times.now i) }
 {
-    page.put(sink, &[
-        Piece::Number(net.event(i).id.0 as u128),
-        Piece::Text("; "),
-        Piece::Number(times[i] as u128),
-        Piece::Text("\n"),
-    ])
+    page.put(
+        sink,
+        &[
+            Piece::Number(net.event(i).id.0 as u128),
+            Piece::Text("; "),
+            Piece::Number(times[i] as u128),
+            Piece::Text("\n"),
+        ],
+    )
 }
 
 #[tactic(auto, unfolding(crate::specs::Runs::ending_text))]
 fn print_ending<K: Sink>(sink: &mut K, page: &mut Page, cost: Cost) -> Result<(), WriteFault>
     ensures { Prints K.taken K.faults sink.old sink.new page.old page.new result (ending_text cost) }
 {
-    page.put(sink, &[
-        Piece::Text("cost "),
-        Piece::Number(cost),
-        Piece::Text("\ndone\n"),
-    ])
+    page.put(
+        sink,
+        &[
+            Piece::Text("cost "),
+            Piece::Number(cost),
+            Piece::Text("\ndone\n"),
+        ],
+    )
 }
 
 fn print_entries<K: Sink>(
@@ -239,11 +264,7 @@ fn print_entries<K: Sink>(
     Ok(())
 }
 
-fn print_items<K: Sink>(
-    sink: &mut K,
-    page: &mut Page,
-    items: &[LogItem],
-) -> Result<(), WriteFault>
+fn print_items<K: Sink>(sink: &mut K, page: &mut Page, items: &[LogItem]) -> Result<(), WriteFault>
     requires { All IsSpelledItem items.now }
     ensures { Prints K.taken K.faults sink.old sink.new page.old page.new result (flat_map item_text items.now) }
 {
@@ -273,11 +294,7 @@ fn print_times<K: Sink>(
 }
 
 /// The log of the only feed.
-fn print_log<K: Sink>(
-    sink: &mut K,
-    page: &mut Page,
-    items: &[LogItem],
-) -> Result<(), WriteFault>
+fn print_log<K: Sink>(sink: &mut K, page: &mut Page, items: &[LogItem]) -> Result<(), WriteFault>
     requires { All IsSpelledItem items.now }
     ensures { Prints K.taken K.faults sink.old sink.new page.old page.new result (logs_text 1 (record { items = items.now; stop = FeedStop.End } ∷ [])) }
 {
@@ -330,11 +347,7 @@ fn print_parts<K: Sink>(
     Ok(())
 }
 
-fn print_whole<K: Sink>(
-    sink: &mut K,
-    page: &mut Page,
-    run: &Answered,
-) -> Result<(), WriteFault>
+fn print_whole<K: Sink>(sink: &mut K, page: &mut Page, run: &Answered) -> Result<(), WriteFault>
     requires entries { All IsSpelledEntry run.now.history.items }
     requires items { All IsSpelledItem run.now.items.items }
     requires size { length run.now.times.items ≡ length run.now.net.events }

@@ -1,12 +1,14 @@
 //! The top call.
-ghost use Rattle.std.specs.Prelude.{◌≡◌, ◌⊎◌, map, string_bytes, vec_len, length, All};
+ghost use Rattle.std.specs.Prelude.{◌≡◌, ◌⊎◌, IsSome, map, string_bytes, vec_len, length, All};
 ghost use Rattle.dm_outside.specs.Faults.{HasRisen};
 ghost use Rattle.dm_input.specs.Lines.{usage_line, refused_line, read_fault_line};
+ghost use Rattle.dm_input.specs.declared.parts.Flaw.{Flaw};
+ghost use Rattle.dm_input.specs.Input.{Input, IsInput, IsFirstRefusal};
 ghost use Rattle.dm_input.specs.RunWords.{command_of};
-ghost use Rattle.dm_input.specs.Words.{AsksNothing};
+ghost use Rattle.dm_input.specs.Words.{Asks, AsksNothing, Command};
 ghost use Rattle.dm_program.specs.Asked.{run_in};
 ghost use Rattle.dm_program.specs.Runs.{IsSpelledEntry, IsSpelledItem, run_text};
-ghost use Rattle.dm_program.specs.Ends.{IsRunOf, IsUsage, IsRefusal, IsReadFault, IsDue, Writes, FailsToWrite, WantsMemory, Ends, EndsAs};
+ghost use Rattle.dm_program.specs.Ends.{IsRunOf, IsUsage, IsRefusal, IsReadFault, IsDue, Writes, FailsToWrite, WantsMemory, EndsAt, AreSound, Ends, EndsAs};
 
 use dm_input::{Flaw, Part, RunWords, Stop, put_read_fault, put_refused, put_usage, read_words};
 use dm_outside::{Board, Gate, Shelf, Sink, WriteFault};
@@ -42,6 +44,15 @@ pub fn dispatch<R: Threads + Wait + Sync, H: Shelf, K: Sink, G: Gate>(
 
     // Words outside the tables come to the usage line, but for a write fault.
     ensures outside { AsksNothing (map string_bytes words.now) → (result ≡ Status.Usage) ⊎ (result ≡ Status.WriteFault) }
+
+    // The first refusal comes exactly where it is, but for the faults that go before.
+    ensures first_refusal { (command : Command) (flaw : Flaw) → Asks (map string_bytes words.now) command → IsSome (H.files shelf.old)
+        → IsFirstRefusal (H.files shelf.old) command flaw → EndsAt command flaw (K.taken out.old) (K.taken out.new) result }
+
+    // Good words, files and feed, a sound shelf and a sink without a fault give a run, or want of memory.
+    ensures complete { (command : Command) (input : Input) → Asks (map string_bytes words.now) command → IsSome (H.files shelf.old)
+        → IsInput (H.files shelf.old) command input → AreSound (H.is_sound shelf.old) command
+        → (HasRisen (K.faults out.old) (K.faults out.new) → ⊥) → (result ≡ Status.Ok) ⊎ (result ≡ Status.NoMemory) }
 {
     run(alloc, words, shelf, out)
 }

@@ -1,6 +1,4 @@
-use Rattle.std.proofs.Common.{◌≡◌, ◌+◌, ◌-◌, ◌*◌, ◌≤◌, length, ℕ}
-use Rattle.std.specs.Prelude.{sum_by}
-use Rattle.std.specs.List.{range_with_len}
+use Rattle.std.proofs.Common.{length}
 use Rattle.dm_rows.specs.Cost.{dropped_weight}
 use Rattle.dm_program.proofs.Totals.{IsTotalTo}
 use Rattle.dm_program.proofs.cost.dropped_weights.Given as goal

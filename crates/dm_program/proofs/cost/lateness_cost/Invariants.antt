@@ -1,6 +1,4 @@
-use Rattle.std.proofs.Common.{◌≡◌, ◌+◌, ◌-◌, ◌*◌, ◌≤◌, length, ℕ}
-use Rattle.std.specs.Prelude.{sum_by}
-use Rattle.std.specs.List.{range_with_len}
+use Rattle.std.proofs.Common.{length}
 use Rattle.dm_rows.specs.Cost.{event_cost}
 use Rattle.dm_program.proofs.Totals.{IsTotalTo}
 use Rattle.dm_program.proofs.cost.lateness_cost.Given as goal

@@ -1,4 +1,4 @@
-use Rattle.std.proofs.Common.{sym, arith, ◌<◌, ◌^◌}
+use Rattle.std.proofs.Common.{sym}
 use Rattle.dm_program.proofs.Spelled.{zero_not_printed, not_printed, number_printed}
 use Rattle.dm_program.proofs.lines.printed_number.Goals as goal
 

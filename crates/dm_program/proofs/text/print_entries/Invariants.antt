@@ -1,6 +1,5 @@
-use Rattle.std.proofs.Common.{◌+◌, ◌-◌, drop, length}
-use Rattle.std.specs.List.{flat_map, range_with_len}
-use Rattle.dm_program.specs.Runs.{entries_text, item_text, time_text}
+use Rattle.std.proofs.Common.{◌+◌, drop}
+use Rattle.dm_program.specs.Runs.{entries_text}
 use Rattle.dm_program.proofs.Printed.{PrintedTo}
 use Rattle.dm_program.proofs.text.print_entries.Given as goal
 

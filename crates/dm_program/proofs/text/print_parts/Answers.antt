@@ -1,4 +1,3 @@
-use Rattle.std.proofs.Common.{sym, append-nil}
 use Rattle.dm_outside.proofs.Printing.{prints_none, prints_then, prints_fault, prints_fault_at, prints_then_fault}
 use Rattle.dm_program.proofs.text.print_parts.Goals as goal
 

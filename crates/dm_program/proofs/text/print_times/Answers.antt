@@ -1,4 +1,4 @@
-use Rattle.std.proofs.Common.{ℕ, ◌≡◌, ◌<◌, ◌≤◌, ◌+◌, ◌-◌, refl, ap, arith, length, sym}
+use Rattle.std.proofs.Common.{◌<◌, ◌≤◌, ◌+◌, ◌-◌, arith, length}
 use Rattle.std.specs.List.{flat_map, range_with_len}
 use Rattle.dm_program.specs.Runs.{time_text}
 use Rattle.dm_program.proofs.Printed.{printed_none, printed_next, printed_fault, printed_all, range_more, range_end, range_start}

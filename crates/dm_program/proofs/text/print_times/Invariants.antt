@@ -1,6 +1,6 @@
-use Rattle.std.proofs.Common.{◌+◌, ◌-◌, drop, length}
+use Rattle.std.proofs.Common.{◌-◌, length}
 use Rattle.std.specs.List.{flat_map, range_with_len}
-use Rattle.dm_program.specs.Runs.{entries_text, item_text, time_text}
+use Rattle.dm_program.specs.Runs.{time_text}
 use Rattle.dm_program.proofs.Printed.{PrintedTo}
 use Rattle.dm_program.proofs.text.print_times.Given as goal
 
