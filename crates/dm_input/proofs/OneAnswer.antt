@@ -60,8 +60,8 @@ module _ (events : List EventRow) (activities : List ActRow) (net : Net) (made :
   known_event i lt none =
       let row = event_row (event_at net i) in
       let at : slice_get (map event_row net.events) i ≡ Some row =
-          slice_get-get_or (map event_row net.events) i row (let size = length-map net.events event_row in omega arith)
-          ∙ ap Some (get_or-map event_row net.events i no_event row lt) in
+      slice_get-get_or (map event_row net.events) i row (let size = length-map net.events event_row in omega arith)
+      ∙ ap Some (get_or-map event_row net.events i no_event row lt) in
       let c = moved (map event_row net.events) events i row (IsPermutation-sym events (map event_row net.events) made.same_events) at in
       none c.0 row (slice_get-get_or events c.0 row c.1 ∙ ap Some c.2) refl
 

@@ -411,8 +411,8 @@ asked_behind_one words x y p q =
     let events = given_one event_columns_option words p.events q.events p.gives_events q.gives_events in
     let activities = given_one activity_columns_option words p.activities q.activities p.gives_activities q.gives_activities in
     let columns = columns_one (event_words q.events) (activity_words q.activities) (Ok x.columns) (Ok y.columns)
-        (subst (λ (a : Option (List ℕ)). ReadsFileColumns (event_words q.events) (activity_words a) (Ok x.columns)) activities
-        (subst (λ (e : Option (List ℕ)). ReadsFileColumns (event_words e) (activity_words p.activities) (Ok x.columns)) events p.are_columns)) q.are_columns in
+    (subst (λ (a : Option (List ℕ)). ReadsFileColumns (event_words q.events) (activity_words a) (Ok x.columns)) activities
+    (subst (λ (e : Option (List ℕ)). ReadsFileColumns (event_words e) (activity_words p.activities) (Ok x.columns)) events p.are_columns)) q.are_columns in
     command_is x y (first_name x.folder x.feed y.folder y.feed names) (second_name x.folder x.feed y.folder y.feed names)
     (penalty_one q.penalty x.penalty y.penalty (subst (λ (g : Option (List ℕ)). IsPenalty g x.penalty) penalty p.is_penalty) q.is_penalty)
     (read_is x.columns y.columns columns)

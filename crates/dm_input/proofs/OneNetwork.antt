@@ -64,8 +64,8 @@ module _ {X : Type 0} (Lt : X → X → Type 0) (asym : (x y : X) → Lt x y →
   one_rising (x ∷ xs) (y ∷ ys) rx ry f g =
       let same : x ≡ y = same_heads x xs y ys rx ry (f x (head_is_in x xs)) (g y (head_is_in y ys)) in
       let tails : xs ≡ ys = one_rising xs ys
-          (λ i j d lt in'. rx (suc i) (suc j) d (omega arith) (omega arith)) (λ i j d lt in'. ry (suc i) (suc j) d (omega arith) (omega arith))
-          (λ z c. tail_in x xs y ys same rx z c (f z (is_in x xs z c))) (λ z c. tail_in y ys x xs (sym same) ry z c (g z (is_in y ys z c))) in
+      (λ i j d lt in'. rx (suc i) (suc j) d (omega arith) (omega arith)) (λ i j d lt in'. ry (suc i) (suc j) d (omega arith) (omega arith))
+      (λ z c. tail_in x xs y ys same rx z c (f z (is_in x xs z c))) (λ z c. tail_in y ys x xs (sym same) ry z c (g z (is_in y ys z c))) in
       ap (λ w. w ∷ xs) same ∙ ap (λ l. y ∷ l) tails
 
 -- lists with the same elements at the same places
@@ -130,8 +130,8 @@ module _ (events : List EventRow) (activities : List ActRow) (m n : Net) (made :
   same_events : m.events ≡ n.events
   same_events =
       let rows : map event_row m.events ≡ map event_row n.events =
-          one_by_id (λ row. row.id.0) events (map event_row m.events) (map event_row n.events) made.same_events other.same_events
-          (subst IsStrictlyIncreasing (sym (event_ids m.events)) made.formed.events_ascend) (subst IsStrictlyIncreasing (sym (event_ids n.events)) other.formed.events_ascend) in
+      one_by_id (λ row. row.id.0) events (map event_row m.events) (map event_row n.events) made.same_events other.same_events
+      (subst IsStrictlyIncreasing (sym (event_ids m.events)) made.formed.events_ascend) (subst IsStrictlyIncreasing (sym (event_ids n.events)) other.formed.events_ascend) in
       sym (event_back m.events) ∙ (ap (map event_with) rows ∙ event_back n.events)
 
   same_rows : map (activity_row m) m.activities ≡ map (activity_row n) n.activities
@@ -152,7 +152,7 @@ module _ (events : List EventRow) (activities : List ActRow) (m n : Net) (made :
   same_place : (i j : ℕ) → i < length m.events → j < length n.events → (event_at m i).id ≡ (event_at n j).id → i ≡ j
   same_place i j lt in' e =
       let here = key_is_found (λ (x : Event). x.id.0) n.events other.formed.events_ascend (event_at n j).id.0 i no_event (let s = ap length same_events in omega arith)
-          (ap (λ es. (get_or es i no_event).id.0) (sym same_events) ∙ ap (λ id. id.0) e) in
+      (ap (λ es. (get_or es i no_event).id.0) (sym same_events) ∙ ap (λ id. id.0) e) in
       let there = key_is_found (λ (x : Event). x.id.0) n.events other.formed.events_ascend (event_at n j).id.0 j no_event in' refl in
       some_is i j (sym here ∙ there)
 
@@ -184,11 +184,11 @@ module _ (events : List EventRow) (activities : List ActRow) (m n : Net) (made :
       let up : z.small < z.large = subst (λ (p : Pair). p.small < p.large) at (made.formed.is_paired.smaller_first c.0 c.1) in
       let test = joins_forward z.small z.large (omega arith) in
       let found : IsSome (pair_place m z.small z.large) =
-          is_some_from (pair_place m z.small z.large) (position_is_some (λ p. joins p z.small z.large) m.pairs c.0 z c.1 (test.passes (get_or m.pairs c.0 z) (ap (λ p. p.small) c.2) (ap (λ p. p.large) c.2))) in
+      is_some_from (pair_place m z.small z.large) (position_is_some (λ p. joins p z.small z.large) m.pairs c.0 z c.1 (test.passes (get_or m.pairs c.0 z) (ap (λ p. p.small) c.2) (ap (λ p. p.large) c.2))) in
       let there = placed (pair_place n z.small z.large) ((other.formed.is_paired.exact z.small z.large).1 (pair_too z.small z.large ((made.formed.is_paired.exact z.small z.large).0 found))) in
       let p = position-Some (λ p. joins p z.small z.large) n.pairs there.place z there.is in
       let rises : (get_or n.pairs there.place z).small < (get_or n.pairs there.place z).large =
-          subst (λ (q : Pair). q.small < q.large) (get_or_default n.pairs there.place no_pair z p.0) (other.formed.is_paired.smaller_first there.place p.0) in
+      subst (λ (q : Pair). q.small < q.large) (get_or_default n.pairs there.place no_pair z p.0) (other.formed.is_paired.smaller_first there.place p.0) in
       let only = test.only (get_or n.pairs there.place z) rises p.1 in
       let is : record { small = (get_or n.pairs there.place z).small; large = (get_or n.pairs there.place z).large } ≡ z = rw (only.0, only.1) refl in
       (there.place, p.0, is)
@@ -222,10 +222,10 @@ module _ (events : List EventRow) (activities : List ActRow) (m n : Net) (made :
       let tail = same_tail events activities m n made other a lt in
       let head = same_head events activities m n made other a lt in
       let middle : pair_by (activity_at m a).kind (activity_at m a).tail (activity_at m a).head m.pairs ≡ pair_by (activity_at n a).kind (activity_at n a).tail (activity_at n a).head n.pairs =
-          ap (λ k. pair_by k (activity_at m a).tail (activity_at m a).head m.pairs) kind
-          ∙ (ap (λ i. pair_by (activity_at n a).kind i (activity_at m a).head m.pairs) tail
-          ∙ (ap (λ j. pair_by (activity_at n a).kind (activity_at n a).tail j m.pairs) head
-          ∙ ap (λ ps. pair_by (activity_at n a).kind (activity_at n a).tail (activity_at n a).head ps) same_pairs)) in
+      ap (λ k. pair_by k (activity_at m a).tail (activity_at m a).head m.pairs) kind
+      ∙ (ap (λ i. pair_by (activity_at n a).kind i (activity_at m a).head m.pairs) tail
+      ∙ (ap (λ j. pair_by (activity_at n a).kind (activity_at n a).tail j m.pairs) head
+      ∙ ap (λ ps. pair_by (activity_at n a).kind (activity_at n a).tail (activity_at n a).head ps) same_pairs)) in
       made.formed.is_paired.belongs a lt ∙ (middle ∙ sym (other.formed.is_paired.belongs a (let s = as_many events activities m n made other in omega arith)))
 
   same_activity : (a : ℕ) → a < length m.activities → activity_at m a ≡ activity_at n a

@@ -30,8 +30,8 @@ pub behind_none : (text word : List ℕ) → ((rest : List ℕ) → drop 0 word 
 behind_none text word lacks =
     elim (cases_Bool (bytes_eq (take (length text) word) text)) [
       | inl e ↦
-        let front : take (length text) word ≡ text = (bytes_eq-Decides (take (length text) word) text).0 e in
-        absurd (lacks (drop (length text) word) (sym (take-append-drop (length text) word) ∙ ap (λ l. l ++ drop (length text) word) front))
+          let front : take (length text) word ≡ text = (bytes_eq-Decides (take (length text) word) text).0 e in
+          absurd (lacks (drop (length text) word) (sym (take-append-drop (length text) word) ∙ ap (λ l. l ++ drop (length text) word) front))
       | inr e ↦ rw e refl
     ]
 

@@ -67,11 +67,7 @@ fn print_cycle<K: Sink>(sink: &mut K, page: &mut Page, ids: &[ActId]) -> Result<
 }
 
 /// Prints why records make no network.
-fn print_network<K: Sink>(
-    sink: &mut K,
-    page: &mut Page,
-    fault: &NetFault,
-) -> Result<(), WriteFault>
+fn print_network<K: Sink>(sink: &mut K, page: &mut Page, fault: &NetFault) -> Result<(), WriteFault>
     ensures { Prints K.taken K.faults sink.old sink.new page.old page.new result (network_text fault.now) }
 {
     match fault {
@@ -82,7 +78,10 @@ fn print_network<K: Sink>(
         ),
         NetFault::DoubleActivity(id) => page.put(
             sink,
-            &[Piece::Text(" double-activity "), Piece::Number(id.0 as u128)],
+            &[
+                Piece::Text(" double-activity "),
+                Piece::Number(id.0 as u128),
+            ],
         ),
         NetFault::UnknownEvent(id) => page.put(
             sink,
@@ -98,11 +97,7 @@ fn print_network<K: Sink>(
 }
 
 /// Prints why delays make no start rows.
-fn print_start<K: Sink>(
-    sink: &mut K,
-    page: &mut Page,
-    fault: &StartFault,
-) -> Result<(), WriteFault>
+fn print_start<K: Sink>(sink: &mut K, page: &mut Page, fault: &StartFault) -> Result<(), WriteFault>
     ensures { Prints K.taken K.faults sink.old sink.new page.old page.new result (start_text fault.now) }
 {
     match fault {
@@ -112,7 +107,10 @@ fn print_start<K: Sink>(
         ),
         StartFault::UnknownActivity(id) => page.put(
             sink,
-            &[Piece::Text(" unknown-activity "), Piece::Number(id.0 as u128)],
+            &[
+                Piece::Text(" unknown-activity "),
+                Piece::Number(id.0 as u128),
+            ],
         ),
         StartFault::OutOfMemory => page.put(sink, &[]),
     }
@@ -139,7 +137,12 @@ fn print_name<K: Sink>(
 {
     match part {
         Part::Events => print_in_folder(sink, page, run.folder, Some("Events-expanded.giv")),
-        Part::Activities => print_in_folder(sink, page, run.folder, Some("Activities-expanded.giv")),
+        Part::Activities => print_in_folder(
+            sink,
+            page,
+            run.folder,
+            Some("Activities-expanded.giv"),
+        ),
         Part::EventDelays => print_in_folder(sink, page, run.folder, run.event_delays),
         Part::ActivityDelays => print_in_folder(sink, page, run.folder, run.activity_delays),
         Part::Feed => page.put(sink, &[Piece::Text(run.feed)]),
@@ -159,11 +162,7 @@ fn print_in_folder<'x, K: Sink>(
         None => page.put(sink, &[]),
         Some(name) => page.put(
             sink,
-            &[
-                Piece::Text(folder),
-                Piece::Text("/"),
-                Piece::Text(name),
-            ],
+            &[Piece::Text(folder), Piece::Text("/"), Piece::Text(name)],
         ),
     }
 }
@@ -210,10 +209,7 @@ fn print_record<K: Sink>(
     };
     let Ok(()) = page.put(
         sink,
-        &[
-            Piece::Text(" record "),
-            Piece::Number(fault.number as u128),
-        ],
+        &[Piece::Text(" record "), Piece::Number(fault.number as u128)],
     ) else {
         return Err(WriteFault);
     };
@@ -272,11 +268,7 @@ fn print_read_fault_line<K: Sink>(
 }
 
 /// Puts the line of what is refused.
-pub fn put_refused<K: Sink>(
-    sink: &mut K,
-    run: &RunWords<'_>,
-    flaw: &Flaw,
-) -> Result<(), WriteFault>
+pub fn put_refused<K: Sink>(sink: &mut K, run: &RunWords<'_>, flaw: &Flaw) -> Result<(), WriteFault>
     ensures { Puts K.taken K.faults sink.old sink.new result (refused_line (command_of run.now) flaw.now) }
 {
     let mut page = Page::new();

@@ -7,16 +7,15 @@ ghost use Rattle.dm_input.specs.RunWords.{command_of};
 ghost use Rattle.dm_input.specs.Input.{NetworkAnswers, StartAnswers, OpeningAnswer, FeedAnswers, IsInput};
 ghost use Rattle.dm_input.specs.Stages.{IsKept, EventsFit, ActivitiesFit, StopsAnswer, StopsAtFeed, StopsRun, opening_in, input_in};
 
+use crate::parts::{Flaw, Part, Stop};
+use crate::reading::{read_files, stop_at, take_name};
+use crate::words::RunWords;
 use dm_base::limits::FEED;
 use dm_base::{ActRow, DelayRow, EventRow};
 use dm_network::{NetFault, Network};
 use dm_outside::Shelf;
 use dm_rows::{Rows, StartFault, start_rows};
 use std::alloc::Global;
-
-use crate::parts::{Flaw, Part, Stop};
-use crate::reading::{read_files, stop_at, take_name};
-use crate::words::RunWords;
 
 /// The network that the records make.
 fn make_network(
@@ -64,11 +63,7 @@ pub(crate) struct Opened {
 }
 
 /// The network and the start rows of a run.
-fn read_opening<H: Shelf>(
-    alloc: Global,
-    shelf: &mut H,
-    run: &RunWords<'_>,
-) -> Result<Opened, Stop>
+fn read_opening<H: Shelf>(alloc: Global, shelf: &mut H, run: &RunWords<'_>) -> Result<Opened, Stop>
     ensures kept { IsKept H.files H.is_sound shelf.old shelf.new }
     ensures opening { IfOk result (λ opened. OpeningAnswer (H.files shelf.old) (command_of run.now) (Ok (opening_in opened))) }
     ensures sized { IfOk result (λ opened. IsSized opened.net opened.rows) }

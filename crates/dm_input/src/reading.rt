@@ -12,14 +12,13 @@ ghost use Rattle.dm_input.specs.Words.{in_folder};
 ghost use Rattle.dm_input.specs.Input.{FileAnswers, PartAnswers, EventsAnswer, ActivitiesAnswer, FilesAnswer, part_name};
 ghost use Rattle.dm_input.specs.Stages.{IsKept, Takes, StopsAtFile, StopsAtPart, IsStopBy, EventsFit, ActivitiesFit, AllFit, rows_in, StopsRun};
 
+use crate::parts::{Flaw, Part, Stop};
+use crate::words::RunWords;
 use dm_base::limits::FILE;
 use dm_base::{ActRow, DelayRow, EventRow};
 use dm_lintim::{Columns, FileFault, FileKind, read_activities, read_delays, read_events};
 use dm_outside::{Shelf, TakeFault, take_all};
 use std::alloc::{AllocError, Global};
-
-use crate::parts::{Flaw, Part, Stop};
-use crate::words::RunWords;
 
 /// Takes all the bytes under a name, if they are at most `limit`.
 pub(crate) fn take_name<H: Shelf>(
@@ -212,8 +211,13 @@ pub(crate) fn read_files<H: Shelf>(
 {
     let events = read_event_file(alloc, shelf, run)?;
     let activities = read_activity_file(alloc, shelf, run)?;
-    let event_delays =
-        read_delay_file(alloc, shelf, run.folder, run.event_delays, Part::EventDelays)?;
+    let event_delays = read_delay_file(
+        alloc,
+        shelf,
+        run.folder,
+        run.event_delays,
+        Part::EventDelays,
+    )?;
     let activity_delays = read_delay_file(
         alloc,
         shelf,

@@ -4,7 +4,6 @@ ghost use Rattle.std.specs.Option.{option_map};
 ghost use Rattle.std.specs.List.{list_all};
 ghost use Rattle.dm_lintim.specs.Columns.{FileColumns, ReadsFileColumns};
 ghost use Rattle.dm_input.specs.Words.{Asks, AsksBehind, AsksNothing, Command, Gives, IsPenalty, behind, is_name, is_option, values_of, event_words, activity_words};
-
 ghost use Rattle.dm_input.specs.RunWords.{command_of};
 
 use dm_base::limits::PENALTY;
@@ -13,9 +12,13 @@ use dm_lintim::Columns;
 
 /// How the word of each option begins.
 const PENALTY_OPTION: &str = "--penalty=";
+
 const EVENT_COLUMNS: &str = "--event-columns=";
+
 const ACTIVITY_COLUMNS: &str = "--activity-columns=";
+
 const EVENT_DELAYS: &str = "--event-delays=";
+
 const ACTIVITY_DELAYS: &str = "--activity-delays=";
 
 /// The penalty where the words give none, in seconds for each passenger.
@@ -23,6 +26,7 @@ const STANDARD_PENALTY: u64 = 3_600;
 
 /// The columns of the files where the words give none.
 const STANDARD_EVENTS: &str = "id,periodic-id,type,time,weight,stop";
+
 const STANDARD_ACTIVITIES: &str = "id,periodic-id,type,tail,head,lower,upper,weight";
 
 /// What stands behind the text, where the word begins with it.

@@ -35,8 +35,8 @@ no_cycle_alike net a b same none =
     let mixed : RowsValue = record b { passed = a.passed; kept = a.kept; small_first = a.small_first } in
     let none_mixed : HasNoCycle net mixed = none in
     let is : mixed ≡ b =
-        ap (λ p. record b { passed = p; kept = a.kept; small_first = a.small_first }) same.passed
-        ∙ (ap (λ k. record b { kept = k; small_first = a.small_first }) same.kept ∙ ap (λ f. record b { small_first = f }) same.small_first) in
+    ap (λ p. record b { passed = p; kept = a.kept; small_first = a.small_first }) same.passed
+    ∙ (ap (λ k. record b { kept = k; small_first = a.small_first }) same.kept ∙ ap (λ f. record b { small_first = f }) same.small_first) in
     subst (HasNoCycle net) is none_mixed
 
 delayed_alike : (rows : RowsValue) (o : Option ℕ) (d : ℕ) → BindAlike rows (after_named rows (option_map (λ i. EventDelay i d) o))
@@ -81,15 +81,15 @@ pub start_has_none : (net : Net) (rows : RowsValue) → IsNetwork net → IsAtSt
 start_has_none net rows network at cycle c =
     let start : RowsValue = start_rows_of net at.event_delays at.activity_delays in
     let same : (a : ℕ) → Binds (active_arcs net start) a → BindsIn (active_arcs net start) (arcs_of net (is_start_active net)) a =
-        λ a b. record {
-          binds = record {
-            is_arc = b.is_arc;
-            is_held = subst IsTrue (sym (start_activity_agrees net at.event_delays at.activity_delays a network.formed b.is_arc)) b.is_held;
-            from_event = b.from_event;
-            to_event = b.to_event;
-          };
-          same_tail = refl;
-          same_head = refl;
-        } in
+    λ a b. record {
+      binds = record {
+        is_arc = b.is_arc;
+        is_held = subst IsTrue (sym (start_activity_agrees net at.event_delays at.activity_delays a network.formed b.is_arc)) b.is_held;
+        from_event = b.from_event;
+        to_event = b.to_event;
+      };
+      same_tail = refl;
+      same_head = refl;
+    } in
     let none : HasNoCycle net start = λ cs h. network.no_start_cycle cs (cycle_carries (active_arcs net start) (arcs_of net (is_start_active net)) same cs h) in
     subst (HasNoCycle net) (sym at.are) none cycle c

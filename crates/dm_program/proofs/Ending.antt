@@ -45,7 +45,7 @@ text_of : (run : Run) (journal : Journal) (penalty : ℕ) (logs : List FeedLog) 
     → All IsSpelledEntry run.journal.history → All (λ l. All IsSpelledItem l.items) logs → IsRunText journal penalty logs (run_text run)
 text_of run journal penalty logs j p l is_true entries items =
     let same : run ≡ run_of_parts run journal penalty logs =
-        ap (λ (x : Journal). run_of_parts run x run.penalty run.logs) j ∙ (ap (λ (x : ℕ). run_of_parts run journal x run.logs) p ∙ ap (λ (x : List FeedLog). run_of_parts run journal penalty x) l) in
+    ap (λ (x : Journal). run_of_parts run x run.penalty run.logs) j ∙ (ap (λ (x : ℕ). run_of_parts run journal x run.logs) p ∙ ap (λ (x : List FeedLog). run_of_parts run journal penalty x) l) in
     record {
       times = run.times;
       cost = run.cost;

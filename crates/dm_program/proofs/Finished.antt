@@ -57,7 +57,6 @@ some_is x y e = cc
 
 module _ (net : Net) (start : RowsValue) (bytes : List ℕ) (day : Day) (items : List LogItem) (lines : ℕ)
     (none : HasNoCycle net start) (size : length bytes ≤ FEED) (done : IsAnsweredTo net start bytes day items lines []) where
-
   legal : IsLegal net start day.history
   legal =
       record {

@@ -7,13 +7,12 @@ ghost use Rattle.dm_program.specs.Lines.{feed_lines, Hears};
 ghost use Rattle.dm_program.specs.Answers.{Day, Enters, AnswersLine, IsAnsweredTo};
 ghost use Rattle.dm_program.specs.declared.lines.Heard.TheVariants.{Line as Spoken};
 
-use dm_network::Network;
-use dm_rows::{At, Entry, Message, Rows, admit};
-use std::alloc::{AllocError, Global};
-
 use crate::cuts::cut;
 use crate::lines::{Heard, Line, read_line};
 use crate::log::{LogItem, Reply};
+use dm_network::Network;
+use dm_rows::{At, Entry, Message, Rows, admit};
+use std::alloc::{AllocError, Global};
 
 /// The same message.
 fn same_message(message: &Message) -> Message

@@ -3,11 +3,10 @@ ghost use Rattle.std.specs.Prelude.{◌≡◌, ◌≢◌, ◌≤◌, ◌++◌, �
 ghost use Rattle.std.specs.Fmt.{decimal};
 ghost use Rattle.dm_program.specs.Lines.{has_leading_zero, Hears};
 
-use dm_base::EventId;
-use dm_rows::Message;
-
 use crate::cuts::cut;
 use crate::numbers::{LARGEST_ID, number_up_to};
+use dm_base::EventId;
+use dm_rows::Message;
 
 /// What a line asks.
 #[derive(PartialEq, Eq, Debug, Drop)]
@@ -76,8 +75,5 @@ pub fn read_line(bytes: &[u8]) -> Heard
     let Some(delay) = printed_number(u64::MAX, delay) else {
         return Heard::Malformed;
     };
-    Heard::Line(Line::Say(Message::DelayEvent(
-        EventId(id as u32),
-        delay,
-    )))
+    Heard::Line(Line::Say(Message::DelayEvent(EventId(id as u32), delay)))
 }

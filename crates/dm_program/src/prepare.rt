@@ -7,17 +7,16 @@ ghost use Rattle.dm_rows.specs.Rows.{IsSized};
 ghost use Rattle.dm_program.specs.Asked.{run_from};
 ghost use Rattle.dm_program.specs.Stages.{IsAtStart, IsRunOver, IsReadyRun};
 
+use crate::answers::answer_feed;
+use crate::cost::cost;
+use crate::log::LogItem;
+use crate::times::least;
 use dm_base::Cost;
 use dm_input::{RunWords, Stop, read_input};
 use dm_network::Network;
 use dm_outside::Shelf;
 use dm_rows::{Entry, Rows};
 use std::alloc::Global;
-
-use crate::answers::answer_feed;
-use crate::cost::cost;
-use crate::log::LogItem;
-use crate::times::least;
 
 /// A run that is answered and not yet printed.
 #[derive(Drop)]
@@ -69,16 +68,18 @@ fn answer_run(
 }
 
 /// Reads and answers a run.
-pub fn prepare<H: Shelf>(
-    alloc: Global,
-    shelf: &mut H,
-    run: &RunWords<'_>,
-) -> Result<Answered, Stop>
+pub fn prepare<H: Shelf>(alloc: Global, shelf: &mut H, run: &RunWords<'_>) -> Result<Answered, Stop>
     requires penalty { run.now.penalty ≤ 1000000 }
     ensures kept { IsKept H.files H.is_sound shelf.old shelf.new }
     ensures ready { IfOk result (IsReadyRun (H.files shelf.old) (command_of run.now)) }
     ensures stops { IfErr result (StopsRun (H.files shelf.old) (H.is_sound shelf.old) (command_of run.now)) }
 {
     let input = read_input(alloc, shelf, run)?;
-    answer_run(alloc, input.net, input.rows, run.penalty, input.feed.as_slice())
+    answer_run(
+        alloc,
+        input.net,
+        input.rows,
+        run.penalty,
+        input.feed.as_slice(),
+    )
 }

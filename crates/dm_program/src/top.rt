@@ -10,15 +10,14 @@ ghost use Rattle.dm_program.specs.Asked.{run_in};
 ghost use Rattle.dm_program.specs.Runs.{IsSpelledEntry, IsSpelledItem, run_text};
 ghost use Rattle.dm_program.specs.Ends.{IsRunOf, IsUsage, IsRefusal, IsReadFault, IsDue, Writes, FailsToWrite, WantsMemory, EndsAt, AreSound, Ends, EndsAs};
 
+use crate::prepare::{Answered, prepare};
+use crate::status::Status;
+use crate::text::print_run;
 use dm_input::{Flaw, Part, RunWords, Stop, put_read_fault, put_refused, put_usage, read_words};
 use dm_outside::{Board, Gate, Shelf, Sink, WriteFault};
 use std::alloc::Global;
 use std::sync::Wait;
 use std::thread::Threads;
-
-use crate::prepare::{Answered, prepare};
-use crate::status::Status;
-use crate::text::print_run;
 
 /// Does what the words ask, which are those without the program's name, and answers the status to end with.
 pub fn dispatch<R: Threads + Wait + Sync, H: Shelf, K: Sink, G: Gate>(

@@ -15,7 +15,7 @@ returns-in_err-event_delays-clause-stops g c =
     let activities = answers_back (part_name command Activities) Activities (ReadsActivities command.columns.activities) (Ok c.in_ok-activities.activities.items) first c.in_ok-activities.ensures.rows in
     let stops = stops_back (part_name command EventDelays) EventDelays ReadsDelays c.in_err-event_delays.field-0.0 second c.in_err-event_delays.ensures.stops in
     let fact : StopsRun (g.H.Shelf.files c.args.shelf.now) (g.H.Shelf.is_sound c.args.shelf.now) command c.in_err-event_delays.field-0.0 =
-        stops_event_delays _ _ command c.in_ok-events.events.items c.in_ok-activities.activities.items _ c.in_ok-events.ensures.rows activities stops in
+    stops_event_delays _ _ command c.in_ok-events.events.items c.in_ok-activities.activities.items _ c.in_ok-events.ensures.rows activities stops in
     search rules
 
 pub returns-in_err-activity_delays-clause-stops : goal.returns-in_err-activity_delays-clause-stops
@@ -28,8 +28,8 @@ returns-in_err-activity_delays-clause-stops g c =
     let delays = answers_back (part_name command EventDelays) EventDelays ReadsDelays (Ok c.in_ok-event_delays.event_delays.items) second c.in_ok-event_delays.ensures.rows in
     let stops = stops_back (part_name command ActivityDelays) ActivityDelays ReadsDelays c.in_err-activity_delays.field-0.0 third c.in_err-activity_delays.ensures.stops in
     let fact : StopsRun (g.H.Shelf.files c.args.shelf.now) (g.H.Shelf.is_sound c.args.shelf.now) command c.in_err-activity_delays.field-0.0 =
-        stops_activity_delays _ _ command c.in_ok-events.events.items c.in_ok-activities.activities.items c.in_ok-event_delays.event_delays.items _
-        c.in_ok-events.ensures.rows activities delays stops in
+    stops_activity_delays _ _ command c.in_ok-events.events.items c.in_ok-activities.activities.items c.in_ok-event_delays.event_delays.items _
+    c.in_ok-events.ensures.rows activities delays stops in
     search rules
 
 pub returns-clause-rows : goal.returns-clause-rows
