@@ -1,5 +1,5 @@
 -- Words that ask for a run, and words that ask for none.
-use Rattle.std.proofs.Common.{◌≡◌, ℕ, List, ◌∷◌, [], Option, Some, None, Bool, true, codes}
+use Rattle.std.proofs.Common.{◌≡◌, ℕ, List, ◌∷◌, Option, Some, None, codes}
 use Rattle.std.specs.Option.{MatchOption}
 use Rattle.dm_input.specs.Words.{Command, Asks, AsksBehind, AsksNothing}
 use Rattle.dm_input.specs.RunWords.{command_of}

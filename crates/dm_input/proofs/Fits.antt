@@ -1,5 +1,5 @@
 -- The numbers of rows that were read are within the limits.
-use Rattle.std.proofs.Common.{◌≡◌, ◌≤◌, ◌⊎◌, ℕ, zero, suc, Bool, true, false, List, [], ◌∷◌, Option, Some, None, Result, Ok, refl, sym, ap, ◌∙◌, inl, inr, arith}
+use Rattle.std.proofs.Common.{◌≡◌, ◌≤◌, ℕ, zero, suc, List, [], ◌∷◌, Option, Some, Ok, sym, inl, inr, arith}
 use Rattle.std.specs.List.{slice_get}
 use Rattle.dm_base.specs.Numbers.{whole_value, milli_value}
 use Rattle.dm_base.specs.declared.limits.TheConstants.{TIME, BOUND, WEIGHT, DELAY}
@@ -8,7 +8,7 @@ use Rattle.dm_base.specs.declared.rows.ActRow.{ActRow}
 use Rattle.dm_base.specs.declared.rows.DelayRow.{DelayRow}
 use Rattle.dm_lintim.specs.declared.columns.Column.{Column}
 use Rattle.dm_lintim.specs.declared.columns.Column.TheVariants as col
-use Rattle.dm_lintim.specs.Files.{IsGood, IsEventRow, IsActivityRow, IsDelayRow, IsEventWord, IsActivityWord, IsNoWord, AreRows, ReadsEvents, ReadsActivities, ReadsDelays, text_under, whole_under, milli_under, largest_of, delay_columns}
+use Rattle.dm_lintim.specs.Files.{IsGood, IsEventRow, IsActivityRow, IsDelayRow, IsEventWord, IsActivityWord, IsNoWord, AreRows, ReadsEvents, ReadsActivities, ReadsDelays, whole_under, milli_under, delay_columns}
 use Rattle.dm_lintim.specs.Pieces.{counted_records}
 use Rattle.dm_lintim.proofs.CellLemmas.{good_under}
 use Rattle.dm_rows.specs.StartFaults.{DelaysAreWithin}

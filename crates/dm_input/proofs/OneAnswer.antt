@@ -1,9 +1,9 @@
 -- Records answer in one way only: with one network, or with one fault, but for which cycle is shown.
-use Rattle.std.proofs.Common.{◌≡◌, ◌≢◌, ℕ, zero, suc, ◌+◌, ◌<◌, ◌≤◌, ◌⊎◌, Bool, true, false, List, [], ◌∷◌, length, map, get_or, Option, Some, None, Result, Ok, Err, refl, sym, ap, subst, ◌∙◌, inl, inr, arith, slice_get}
+use Rattle.std.proofs.Common.{◌≡◌, ◌≢◌, ℕ, ◌<◌, List, length, map, Some, refl, sym, ap, subst, ◌∙◌, inl, inr, arith, slice_get}
 use Rattle.std.specs.List.{Contains}
 use Rattle.std.specs.List.Sorted.{IsStrictlyIncreasing, IsPermutation}
 use Rattle.std.proofs.lemmas.Bool.{cases_order}
-use Rattle.std.proofs.lemmas.List.{length-map, get_or-map, get_or_default}
+use Rattle.std.proofs.lemmas.List.{length-map, get_or-map}
 use Rattle.std.proofs.lemmas.List.Sorted.{Contains-permutation, IsPermutation-sym, IsPermutation-map}
 use Rattle.std.proofs.lemmas.Option.{slice_get-get_or, get_or_from_slice_get, slice_get_within}
 use Rattle.dm_base.specs.declared.ids.EventId.{EventId}
@@ -12,8 +12,8 @@ use Rattle.dm_base.specs.declared.rows.EventRow.{EventRow}
 use Rattle.dm_base.specs.declared.rows.ActRow.{ActRow}
 use Rattle.dm_network.specs.declared.parts.NetFault.{NetFault}
 use Rattle.dm_network.specs.declared.parts.NetFault.TheVariants.{TooMany, DoubleEvent, DoubleActivity, UnknownEvent, ZeroHeadway, Cycle, OutOfMemory}
-use Rattle.dm_network.specs.Net.{Net, event_at, activity_at, no_event, no_activity, is_headway}
-use Rattle.dm_network.specs.Build.{event_row, activity_row, event_ids, activity_ids, IsMadeOf, StandsTwice, NoneStandsTwice, IsLeastDouble, IsNoEvent, NamesNoEvent, IsZeroHeadway, IsFirst, HoldsOfNone, AreFew, RefusesRecords, IsBuiltFrom}
+use Rattle.dm_network.specs.Net.{Net, event_at, activity_at, no_event, no_activity}
+use Rattle.dm_network.specs.Build.{event_row, activity_row, event_ids, activity_ids, IsMadeOf, NoneStandsTwice, IsLeastDouble, IsNoEvent, NamesNoEvent, IsZeroHeadway, IsFirst, HoldsOfNone, AreFew, RefusesRecords, IsBuiltFrom}
 use Rattle.dm_network.specs.Start.{IsStartCycle}
 use Rattle.dm_network.proofs.Keys.{rises_between}
 use Rattle.dm_network.proofs.Doubles.{NoneStandsTwice-permutation}

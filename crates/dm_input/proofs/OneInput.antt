@@ -1,9 +1,7 @@
 -- Words and files determine one input, or one first refusal.
-use Rattle.std.proofs.Common.{◌≡◌, ◌≢◌, ℕ, ◌+◌, ◌<◌, ◌≤◌, ◌⊎◌, Bool, true, false, List, [], ◌∷◌, length, filter, Option, Some, None, Result, Ok, Err, refl, sym, ap, subst, ◌∙◌, inl, inr, arith, slice_get}
+use Rattle.std.proofs.Common.{◌≡◌, ◌≢◌, ℕ, ◌≤◌, ◌⊎◌, List, [], ◌∷◌, length, Option, Some, None, Result, Ok, Err, refl, sym, ap, subst, ◌∙◌, inl, inr, arith, slice_get}
 use Rattle.std.specs.Prelude.{IsSome}
 use Rattle.std.proofs.lemmas.Bool.{cases_order, false≢true}
-use Rattle.std.proofs.lemmas.Option.{slice_get_within}
-use Rattle.dm_base.specs.declared.limits.TheConstants.{FILE, FEED}
 use Rattle.dm_base.specs.declared.rows.EventRow.{EventRow}
 use Rattle.dm_base.specs.declared.rows.ActRow.{ActRow}
 use Rattle.dm_base.specs.declared.rows.DelayRow.{DelayRow}
@@ -20,15 +18,14 @@ use Rattle.dm_network.specs.declared.parts.NetFault.TheVariants.{TooMany, Double
 use Rattle.dm_network.specs.Net.{Net}
 use Rattle.dm_rows.specs.declared.messages.StartFault.{StartFault}
 use Rattle.dm_rows.specs.declared.messages.StartFault.TheVariants.{UnknownEvent, UnknownActivity, OutOfMemory}
-use Rattle.dm_rows.specs.Rows.{RowsValue}
 use Rattle.dm_rows.specs.StartFaults.{RefusesStart, AllAreKnown, IsFirstUnknown, event_numbered, activity_numbered}
 use Rattle.dm_input.specs.declared.parts.Part.{Part}
 use Rattle.dm_input.specs.declared.parts.Part.TheVariants.{Events, Activities, EventDelays, ActivityDelays, Feed}
 use Rattle.dm_input.specs.declared.parts.Flaw.{Flaw}
 use Rattle.dm_input.specs.declared.parts.Flaw.TheVariants.{Record, TooLong, Network, Start}
-use Rattle.dm_input.specs.Words.{penalty_option, event_columns_option, activity_columns_option, event_delays_option, activity_delays_option, Command, Asks, AsksBehind, Gives as GivesOption, values_of, IsPenalty, event_words, activity_words}
-use Rattle.dm_input.specs.Order.{SameFault, SameFlaw, SameAnswer, IsOne, part_place, flaw_place}
-use Rattle.dm_input.specs.Input.{Told, IsHeld, part_name, AnswersRows, FileAnswers, PartAnswers, EventsAnswer, ActivitiesAnswer, EventDelaysAnswer, ActivityDelaysAnswer, NetworkAnswers, StartAnswers, FeedAnswers, Then, Gives, FileRows, FilesAnswer, Opening, OpeningAnswer, Input, InputAnswer, IsFirstRefusal, PassesBefore}
+use Rattle.dm_input.specs.Words.{penalty_option, event_columns_option, activity_columns_option, event_delays_option, activity_delays_option, Command, Asks, AsksBehind, Gives as GivesOption, IsPenalty, event_words, activity_words}
+use Rattle.dm_input.specs.Order.{SameFault, SameFlaw, IsOne, part_place, flaw_place}
+use Rattle.dm_input.specs.Input.{Told, IsHeld, part_name, AnswersRows, FileAnswers, PartAnswers, EventsAnswer, ActivitiesAnswer, EventDelaysAnswer, ActivityDelaysAnswer, NetworkAnswers, StartAnswers, FeedAnswers, Then, Gives, FilesAnswer, OpeningAnswer, InputAnswer, IsFirstRefusal, PassesBefore}
 use Rattle.dm_input.proofs.OneNetwork.{one_network}
 use Rattle.dm_input.proofs.OneAnswer.{one_fault, not_both}
 

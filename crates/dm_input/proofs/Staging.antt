@@ -1,5 +1,5 @@
 -- How the stages of reading make the whole.
-use Rattle.std.proofs.Common.{◌≡◌, ℕ, List, [], ◌∷◌, Option, Some, None, Result, Ok, Err, refl, sym, subst, ap, ◌∙◌, inl, inr}
+use Rattle.std.proofs.Common.{◌≡◌, ℕ, List, Option, Some, None, Result, Ok, Err, refl, subst, ◌∙◌, inl, inr}
 use Rattle.dm_base.specs.declared.rows.EventRow.{EventRow}
 use Rattle.dm_base.specs.declared.rows.ActRow.{ActRow}
 use Rattle.dm_base.specs.declared.rows.DelayRow.{DelayRow}
@@ -8,13 +8,13 @@ use Rattle.dm_lintim.specs.Files.{ReadsEvents, ReadsActivities, ReadsDelays}
 use Rattle.dm_network.specs.Net.{Net}
 use Rattle.dm_rows.specs.Rows.{RowsValue}
 use Rattle.dm_input.specs.declared.parts.Part.{Part}
-use Rattle.dm_input.specs.declared.parts.Part.TheVariants.{Events, Activities, EventDelays, ActivityDelays, Feed}
+use Rattle.dm_input.specs.declared.parts.Part.TheVariants.{Events, Activities, EventDelays, ActivityDelays}
 use Rattle.dm_input.specs.declared.parts.Flaw.{Flaw}
 use Rattle.dm_input.specs.declared.parts.Stop.{Stop}
 use Rattle.dm_input.specs.declared.parts.Stop.TheVariants.{Usage, Refused, ReadFault, NoMemory}
 use Rattle.dm_input.specs.Words.{Command}
 use Rattle.dm_input.specs.Input.{Told, FileAnswers, PartAnswers, EventsAnswer, ActivitiesAnswer, EventDelaysAnswer, ActivityDelaysAnswer, FilesAnswer, FileRows, Opening, NetworkAnswers, StartAnswers, FeedAnswers, OpeningAnswer, part_name, IsFirstRefusal, IsInput, PassesBefore}
-use Rattle.dm_input.specs.Stages.{IsKept, StopsAtFile, StopsAtPart, StopsAnswer, StopsAtFeed, StopsRun, IsUnread}
+use Rattle.dm_input.specs.Stages.{IsKept, StopsAtFile, StopsAtPart, StopsAnswer, StopsAtFeed, StopsRun}
 
 -- what a kept shelf tells, it told before
 pub kept_then : {H : Type 0} {files : H → Told} {is_sound : H → List ℕ → Type 0} {a b c : H} → IsKept files is_sound a b → IsKept files is_sound b c → IsKept files is_sound a c

@@ -1,5 +1,5 @@
 -- What words and files determine: a network, start rows and the bytes of a feed, or the first refusal.
-use Rattle.std.specs.Prelude.{ℕ, ◌≡◌, ◌≢◌, ◌<◌, ◌≤◌, ◌⊎◌, List, [], ◌∷◌, length, Option, Some, None, Result, Ok, Err, ⊤, codes}
+use Rattle.std.specs.Prelude.{ℕ, ◌≡◌, ◌≢◌, ◌<◌, ◌≤◌, ◌⊎◌, List, [], length, Option, Some, None, Result, Ok, Err, ⊤, codes}
 use Rattle.std.specs.Option.{option_map}
 use Rattle.dm_base.specs.declared.limits.TheConstants.{FILE, FEED}
 use Rattle.dm_base.specs.declared.rows.EventRow.{EventRow}
@@ -17,8 +17,6 @@ use Rattle.dm_input.specs.declared.parts.Part.{Part}
 use Rattle.dm_input.specs.declared.parts.Part.TheVariants.{Events, Activities, EventDelays, ActivityDelays, Feed}
 use Rattle.dm_input.specs.declared.parts.Flaw.{Flaw}
 use Rattle.dm_input.specs.declared.parts.Flaw.TheVariants.{Record, TooLong, Network, Start}
-use Rattle.dm_input.specs.declared.parts.Stop.{Stop}
-use Rattle.dm_input.specs.declared.parts.Stop.TheVariants.{Usage, Refused, ReadFault, NoMemory}
 use Rattle.dm_input.specs.Words.{Command, in_folder}
 
 -- the name of a part as it is opened; the files of delays have one where the words name them

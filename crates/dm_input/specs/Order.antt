@@ -1,7 +1,7 @@
 -- The order in which parts are read and made, and what is one refusal.
 use Rattle.std.specs.Prelude.{ℕ, ◌≡◌, Result, Ok, Err}
 use Rattle.dm_network.specs.declared.parts.NetFault.{NetFault}
-use Rattle.dm_network.specs.declared.parts.NetFault.TheVariants.{TooMany, DoubleEvent, DoubleActivity, UnknownEvent, ZeroHeadway, Cycle, OutOfMemory}
+use Rattle.dm_network.specs.declared.parts.NetFault.TheVariants.{Cycle}
 use Rattle.dm_input.specs.declared.parts.Part.{Part}
 use Rattle.dm_input.specs.declared.parts.Part.TheVariants.{Events, Activities, EventDelays, ActivityDelays, Feed}
 use Rattle.dm_input.specs.declared.parts.Flaw.{Flaw}

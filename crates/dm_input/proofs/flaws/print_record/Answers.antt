@@ -1,4 +1,4 @@
-use Rattle.dm_input.specs.Lines.{kind_text, number_text}
+use Rattle.dm_input.specs.Lines.{kind_text}
 use Rattle.dm_outside.proofs.Printing.{prints_fault, prints_fault_at, prints_last}
 use Rattle.dm_input.proofs.flaws.print_record.Goals as goal
 

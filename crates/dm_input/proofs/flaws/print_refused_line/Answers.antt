@@ -1,4 +1,3 @@
-use Rattle.std.proofs.Common.{◌++◌}
 use Rattle.dm_input.specs.Lines.{line_end}
 use Rattle.dm_outside.proofs.Printing.{prints_fault, prints_fault_at, prints_last}
 use Rattle.dm_input.proofs.flaws.print_refused_line.Goals as goal

@@ -1,8 +1,6 @@
-use Rattle.std.proofs.Common.{Ok, rules}
-use Rattle.dm_rows.specs.StartFaults.{DelaysAreWithin}
-use Rattle.dm_input.specs.Input.{StartAnswers}
+use Rattle.std.proofs.Common.{rules}
 use Rattle.dm_input.specs.RunWords.{command_of}
-use Rattle.dm_input.specs.Stages.{StopsAnswer, StopsRun, rows_in}
+use Rattle.dm_input.specs.Stages.{StopsRun, rows_in}
 use Rattle.dm_input.proofs.Staging.{stops_network, stops_start, opening_answer}
 use Rattle.dm_input.proofs.opening.read_opening.Goals as goal
 

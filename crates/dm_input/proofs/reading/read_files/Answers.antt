@@ -1,6 +1,6 @@
 use Rattle.std.proofs.Common.{Ok, rules}
 use Rattle.dm_lintim.specs.Files.{ReadsActivities, ReadsDelays}
-use Rattle.dm_input.specs.declared.parts.Part.TheVariants.{Events, Activities, EventDelays, ActivityDelays}
+use Rattle.dm_input.specs.declared.parts.Part.TheVariants.{Activities, EventDelays, ActivityDelays}
 use Rattle.dm_input.specs.Input.{part_name}
 use Rattle.dm_input.specs.RunWords.{command_of}
 use Rattle.dm_input.specs.Stages.{StopsRun}

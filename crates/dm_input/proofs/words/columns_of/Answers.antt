@@ -1,4 +1,3 @@
-use Rattle.std.proofs.Common.{Err, Result, subst}
 use Rattle.dm_input.proofs.WordLists.{refused_texts}
 use Rattle.dm_input.proofs.words.columns_of.Goals as goal
 

@@ -1,4 +1,4 @@
-use Rattle.std.proofs.Common.{codes, ◌≡◌, sym}
+use Rattle.std.proofs.Common.{codes, sym}
 use Rattle.std.proofs.lemmas.Slice.Eq.{bytes_eq-Decides}
 use Rattle.dm_input.proofs.Asking.{asks_with}
 use Rattle.dm_input.proofs.words.read_with.Goals as goal
