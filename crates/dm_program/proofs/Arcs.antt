@@ -1,5 +1,5 @@
 -- Which activities bind while only events are delayed.
-use Rattle.std.proofs.Common.{◌≡◌, ℕ, zero, suc, ◌+◌, ◌<◌, IsTrue, List, [], ◌∷◌, length, take, Option, Some, None, refl, sym, ap, subst, ◌∙◌, arith, All, slice_get, fold}
+use Rattle.std.proofs.Common.{◌≡◌, ℕ, zero, suc, IsTrue, List, [], ◌∷◌, Option, Some, None, refl, sym, ap, subst, ◌∙◌, arith, All, slice_get}
 use Rattle.std.specs.Option.{option_map}
 use Rattle.std.proofs.lemmas.Option.{slice_get_within, get_or_from_slice_get}
 use Rattle.dm_graph.specs.Arcs.{Binds, BindsIn}
@@ -10,7 +10,7 @@ use Rattle.dm_rows.specs.declared.messages.Change.TheVariants.{EventDelay}
 use Rattle.dm_rows.specs.declared.messages.Entry.{Entry}
 use Rattle.dm_rows.specs.declared.messages.Message.{Message}
 use Rattle.dm_rows.specs.declared.messages.Message.TheVariants.{DelayEvent, DelayActivity, Pass, Recall, Keep, Drop, First, Adopt}
-use Rattle.dm_rows.specs.Active.{is_active, active_arcs, HasNoCycle}
+use Rattle.dm_rows.specs.Active.{active_arcs, HasNoCycle}
 use Rattle.dm_rows.specs.History.{rows_at}
 use Rattle.dm_rows.specs.Resolve.{after, after_named}
 use Rattle.dm_rows.specs.Rows.{RowsValue, start_rows_of}

@@ -1,15 +1,13 @@
 -- Where words and files determine how a run ends.
-use Rattle.std.proofs.Common.{◌≡◌, ℕ, ◌≤◌, List, Option, Some, None, refl, sym, ap, subst, ◌∙◌, inl, inr, ◌⊎◌}
+use Rattle.std.proofs.Common.{◌≡◌, ℕ, List, Option, refl, ap, subst, ◌∙◌, inl, inr, ◌⊎◌}
 use Rattle.std.specs.Prelude.{IsSome, Ok as Good, Err as Bad}
-use Rattle.std.specs.Io.KnownBytes.{Appends}
 use Rattle.dm_outside.specs.Faults.{HasRisen}
 use Rattle.dm_input.specs.Input.{Told, Input, IsInput, IsFirstRefusal}
 use Rattle.dm_input.specs.Lines.{refused_line, read_fault_line}
-use Rattle.dm_input.specs.Order.{SameFlaw, part_place, flaw_place}
+use Rattle.dm_input.specs.Order.{SameFlaw}
 use Rattle.dm_input.specs.Stages.{IsUnread}
 use Rattle.dm_input.specs.Words.{Command, Asks, AsksNothing}
 use Rattle.dm_input.specs.declared.parts.Flaw.{Flaw}
-use Rattle.dm_input.specs.declared.parts.Part.{Part}
 use Rattle.dm_input.proofs.OneInput.{input_is_one, not_after, one_command}
 use Rattle.dm_program.specs.declared.status.Status.{Status}
 use Rattle.dm_program.specs.declared.status.Status.TheVariants.{Ok, Usage, Refused, ReadFault, WriteFault, NoMemory}

@@ -1,7 +1,7 @@
 -- What each end of a run says of the text that was due.
 use Rattle.std.proofs.Common.{◌≡◌, ℕ, zero, suc, ◌≤◌, arith, List, [], ◌∷◌, length, Option, Some, None, refl, sym, ap, subst, ◌∙◌, inl, inr, All}
 use Rattle.std.specs.Io.KnownBytes.{Keeps}
-use Rattle.dm_outside.specs.Printing.{TakesAll, TakesFront}
+use Rattle.dm_outside.specs.Printing.{TakesFront}
 use Rattle.dm_input.specs.Input.{Told, IsFirstRefusal}
 use Rattle.dm_input.specs.Lines.{usage_line, refused_line, read_fault_line}
 use Rattle.dm_input.specs.Stages.{IsUnread}
@@ -14,12 +14,12 @@ use Rattle.dm_rows.specs.declared.messages.Entry.{Entry}
 use Rattle.dm_program.specs.declared.log.FeedLog.{FeedLog}
 use Rattle.dm_program.specs.declared.log.LogItem.{LogItem}
 use Rattle.dm_program.specs.declared.status.Status.{Status}
-use Rattle.dm_program.specs.declared.status.Status.TheVariants.{Ok, Usage, Refused, ReadFault, WriteFault, NoMemory}
+use Rattle.dm_program.specs.declared.status.Status.TheVariants.{Ok, Usage, Refused, ReadFault, WriteFault}
 use Rattle.dm_program.specs.Asked.{run_with, run_from, log_with}
 use Rattle.dm_program.specs.Logs.{Journal}
 use Rattle.dm_program.specs.Runs.{Run, run_text, IsRunText, IsTrueRun, IsSpelledEntry, IsSpelledItem}
 use Rattle.dm_program.specs.Stages.{IsReady, IsRunOver}
-use Rattle.dm_program.specs.Ends.{Ends, EndsAs, IsDue, IsUsage, IsRefusal, IsReadFault, IsRunOf, Writes, FailsToWrite, WantsMemory}
+use Rattle.dm_program.specs.Ends.{Ends, EndsAs, IsDue, IsUsage, IsRefusal, IsReadFault, IsRunOf, WantsMemory}
 
 -- the penalty that the words give is within the limit
 penalty_fits : (given : Option (List ℕ)) (penalty : ℕ) → IsPenalty given penalty → penalty ≤ 1000000

@@ -1,14 +1,11 @@
 -- A feed that is answered to its end makes a true run.
-use Rattle.std.proofs.Common.{◌≡◌, ℕ, zero, suc, ◌+◌, ◌<◌, ◌≤◌, Bool, true, List, [], ◌∷◌, ◌++◌, length, get_or, Option, Some, None, refl, sym, ap, subst, ◌∙◌, append-nil, arith, All, slice_get, map, fold, replicate}
-use Rattle.std.specs.Prelude.{count_by, slice_index_or}
-use Rattle.std.specs.List.{range_with_len}
-use Rattle.std.specs.Option.{ForSome}
+use Rattle.std.proofs.Common.{◌≡◌, ℕ, zero, suc, ◌<◌, ◌≤◌, List, [], ◌∷◌, length, Some, None, refl, sym, ap, subst, ◌∙◌, append-nil, arith, slice_get}
+use Rattle.std.specs.Prelude.{count_by}
 use Rattle.std.proofs.lemmas.Option.{slice_get_within}
-use Rattle.dm_base.specs.declared.limits.TheConstants.{DELAY, PASSED_TIME, FEED, ENTRIES, FEEDS}
-use Rattle.dm_graph.proofs.Chains.{no_cycle_where_rank_rises}
-use Rattle.dm_network.specs.Net.{Net, event_at, activity_at}
-use Rattle.dm_rows.specs.Rows.{RowsValue, RowsAreWithinLimits, start_rows_of, last_delay}
-use Rattle.dm_rows.specs.Active.{active_arcs, HasNoCycle}
+use Rattle.dm_base.specs.declared.limits.TheConstants.{FEED, ENTRIES}
+use Rattle.dm_network.specs.Net.{Net}
+use Rattle.dm_rows.specs.Rows.{RowsValue}
+use Rattle.dm_rows.specs.Active.{HasNoCycle}
 use Rattle.dm_rows.specs.Timetable.{IsLeast}
 use Rattle.dm_rows.specs.Cost.{cost_of}
 use Rattle.dm_rows.specs.Resolve.{after}
@@ -22,8 +19,7 @@ use Rattle.dm_program.specs.declared.log.LogItem.{LogItem}
 use Rattle.dm_program.specs.declared.log.FeedStop.TheVariants.{End}
 use Rattle.dm_program.specs.declared.log.FeedLog.{FeedLog}
 use Rattle.dm_program.specs.Lines.{feed_lines}
-use Rattle.dm_program.specs.Logs.{Journal, IsTrueLog, AreTrueLogs, IsLogOf, AreDueItems, IsInOrder, all_items, names}
-use Rattle.dm_program.specs.Runs.{Run, IsTrueRun}
+use Rattle.dm_program.specs.Logs.{Journal, IsTrueLog, AreTrueLogs, IsLogOf, AreDueItems, IsInOrder, names}
 use Rattle.dm_program.specs.Answers.{Day, IsAnsweredTo}
 use Rattle.dm_program.specs.Asked.{run_from}
 use Rattle.dm_program.proofs.Arcs.{no_cycle_at, no_cycle_after}

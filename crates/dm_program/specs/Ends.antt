@@ -1,5 +1,5 @@
 -- How a run ends: what is due to be written for each status, and why.
-use Rattle.std.specs.Prelude.{ℕ, ◌≡◌, ◌≤◌, ◌⊎◌, List, [], ◌∷◌, Option, Some, None}
+use Rattle.std.specs.Prelude.{ℕ, ◌≡◌, ◌≤◌, ◌⊎◌, List, [], ◌∷◌, Option, Some}
 use Rattle.std.specs.Io.KnownBytes.{Appends, Keeps}
 use Rattle.dm_input.specs.Input.{Told, Input, IsInput, IsFirstRefusal, part_name}
 use Rattle.dm_input.specs.Lines.{usage_line, refused_line, read_fault_line}
@@ -13,7 +13,7 @@ use Rattle.dm_rows.specs.declared.messages.Entry.{Entry}
 use Rattle.dm_program.specs.declared.log.FeedLog.{FeedLog}
 use Rattle.dm_program.specs.declared.status.Status.{Status}
 use Rattle.dm_program.specs.declared.status.Status.TheVariants.{Ok, Usage, Refused, ReadFault, WriteFault, NoMemory}
-use Rattle.dm_program.specs.Logs.{Journal, IsLogOf}
+use Rattle.dm_program.specs.Logs.{IsLogOf}
 use Rattle.dm_program.specs.Runs.{IsRunText}
 
 -- The text is that of a run: of the network, the start rows and the feed that the words and the bytes under their names
