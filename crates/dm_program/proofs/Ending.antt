@@ -1,22 +1,34 @@
 -- What each end of a run says of the text that was due.
-use Rattle.std.proofs.Common.{◌≡◌, ℕ, zero, suc, arith, List, [], ◌∷◌, length, Option, Some, None, refl, sym, ap, subst, ◌∙◌, inl, inr, All}
+use Rattle.std.proofs.Common.{◌≡◌, ℕ, zero, suc, ◌≤◌, arith, List, [], ◌∷◌, length, Option, Some, None, refl, sym, ap, subst, ◌∙◌, inl, inr, All}
 use Rattle.std.specs.Io.KnownBytes.{Keeps}
 use Rattle.dm_outside.specs.Printing.{TakesFront}
-use Rattle.dm_program.specs.declared.parts.Part.{Part}
-use Rattle.dm_program.specs.declared.parts.Status.{Status}
-use Rattle.dm_program.specs.declared.parts.Status.TheVariants.{Ok, Usage, Refused, ReadFault, WriteFault}
+use Rattle.dm_input.specs.Input.{Told, IsFirstRefusal}
+use Rattle.dm_input.specs.Lines.{usage_line, refused_line, read_fault_line}
+use Rattle.dm_input.specs.Stages.{IsUnread}
+use Rattle.dm_input.specs.Words.{Command, Asks, AsksNothing, IsPenalty}
+use Rattle.dm_input.specs.declared.parts.Flaw.{Flaw}
+use Rattle.dm_input.specs.declared.parts.Part.{Part}
 use Rattle.dm_network.specs.Net.{Net}
-use Rattle.dm_rows.specs.Rows.{RowsValue, start_rows_of}
+use Rattle.dm_rows.specs.Rows.{RowsValue}
 use Rattle.dm_rows.specs.declared.messages.Entry.{Entry}
 use Rattle.dm_program.specs.declared.log.FeedLog.{FeedLog}
-use Rattle.dm_program.specs.Logs.{Journal}
 use Rattle.dm_program.specs.declared.log.LogItem.{LogItem}
-use Rattle.dm_program.specs.Asked.{run_with, log_with}
-use Rattle.dm_program.specs.Words.{Command, command_of}
-use Rattle.dm_program.specs.Input.{Told}
+use Rattle.dm_program.specs.declared.status.Status.{Status}
+use Rattle.dm_program.specs.declared.status.Status.TheVariants.{Ok, Usage, Refused, ReadFault, WriteFault}
+use Rattle.dm_program.specs.Asked.{run_with, run_from, log_with}
+use Rattle.dm_program.specs.Logs.{Journal}
 use Rattle.dm_program.specs.Runs.{Run, run_text, IsRunText, IsTrueRun, IsSpelledEntry, IsSpelledItem}
-use Rattle.dm_program.specs.Stages.{IsRefused, IsUnread, IsReady, IsRunOver}
-use Rattle.dm_program.specs.Ends.{Ends, EndsAs, IsDue, IsUsage, IsRefusal, IsReadFault, IsRunOf, WantsMemory, usage_line, refused_line, read_fault_line}
+use Rattle.dm_program.specs.Stages.{IsReady, IsRunOver}
+use Rattle.dm_program.specs.Ends.{Ends, EndsAs, IsDue, IsUsage, IsRefusal, IsReadFault, IsRunOf, WantsMemory}
+
+-- the penalty that the words give is within the limit
+penalty_fits : (given : Option (List ℕ)) (penalty : ℕ) → IsPenalty given penalty → penalty ≤ 1000000
+penalty_fits None penalty is = omega arith
+penalty_fits (Some text) penalty is = is.2
+
+pub asked_penalty_fits : (words : List (List ℕ)) (command : Command) → Asks words command → command.penalty ≤ 1000000
+asked_penalty_fits [] command asks = absurd asks
+asked_penalty_fits (word ∷ words) command asks = penalty_fits asks.1.penalty command.penalty asks.1.is_penalty
 
 abbrev journal_of : Net → RowsValue → List Entry → Journal
 journal_of net start history = record { net = net; start = start; history = history }
@@ -49,7 +61,7 @@ module _ {K : Type 0} (taken : K → Option (List ℕ)) (faults : K → ℕ) (to
   failed status text result due e front =
       subst (Ends taken faults told is_sound words before now) (sym e) (record { status = status; text = text; is_due = due; front = front })
 
-  pub ends_usage : (result : Status) → command_of words ≡ None → EndsAs taken faults before now usage_line Usage result → Ends taken faults told is_sound words before now result
+  pub ends_usage : (result : Status) → AsksNothing words → EndsAs taken faults before now usage_line Usage result → Ends taken faults told is_sound words before now result
   ends_usage result outside h =
       let due : IsUsage words usage_line = record { outside = outside; line = refl } in
       elim h [
@@ -57,69 +69,64 @@ module _ {K : Type 0} (taken : K → Option (List ℕ)) (faults : K → ℕ) (to
         | inr part ↦ failed Usage usage_line result due part.0 part.1
       ]
 
-  pub ends_refused : (command : Command) (part : Part) (result : Status) → command_of words ≡ Some command → IsRefused told command part → EndsAs taken faults before now (refused_line command part) Refused result → Ends taken faults told is_sound words before now result
-  ends_refused command part result asked r h =
-      let due : IsRefusal told words (refused_line command part) = record { command = command; contents = r.contents; part = part; asked = asked; held = r.held; refusal = r.refusal; line = refl } in
+  pub ends_refused : (command : Command) (flaw : Flaw) (result : Status) → Asks words command → IsFirstRefusal told command flaw → EndsAs taken faults before now (refused_line command flaw) Refused result → Ends taken faults told is_sound words before now result
+  ends_refused command flaw result asked r h =
+      let due : IsRefusal told words (refused_line command flaw) = record { command = command; flaw = flaw; asked = asked; refusal = r; line = refl } in
       elim h [
-        | inl whole ↦ subst (Ends taken faults told is_sound words before now) (sym whole.0) (record { text = refused_line command part; holds = due; appended = whole.1.appended })
-        | inr front ↦ failed Refused (refused_line command part) result due front.0 front.1
+        | inl whole ↦ subst (Ends taken faults told is_sound words before now) (sym whole.0) (record { text = refused_line command flaw; holds = due; appended = whole.1.appended })
+        | inr front ↦ failed Refused (refused_line command flaw) result due front.0 front.1
       ]
 
-  pub ends_unread : (command : Command) (part : Part) (result : Status) → command_of words ≡ Some command → IsUnread told is_sound command part → EndsAs taken faults before now (read_fault_line command part) ReadFault result → Ends taken faults told is_sound words before now result
+  pub ends_unread : (command : Command) (part : Part) (result : Status) → Asks words command → IsUnread told is_sound command part → EndsAs taken faults before now (read_fault_line command part) ReadFault result → Ends taken faults told is_sound words before now result
   ends_unread command part result asked r h =
-      let due : IsReadFault told is_sound words (read_fault_line command part) = record { command = command; contents = r.contents; part = part; asked = asked; read = r.read; held = r.held; passes = r.passes; unsound = r.unsound; line = refl } in
+      let due : IsReadFault told is_sound words (read_fault_line command part) = record { command = command; part = part; asked = asked; unread = r; line = refl } in
       elim h [
         | inl whole ↦ subst (Ends taken faults told is_sound words before now) (sym whole.0) (record { text = read_fault_line command part; holds = due; appended = whole.1.appended })
         | inr front ↦ failed ReadFault (read_fault_line command part) result due front.0 front.1
       ]
 
-  -- a run that is ready has the text of a run
-  is_run_of : (command : Command) (run : Run) → command_of words ≡ Some command → IsReady told command run → IsRunOf told words (run_text run)
-  is_run_of command run asked r =
-      let over : IsRunOver r.net r.contents.feed run = r.over in
-      let journal_is : run.journal ≡ record { net = r.net; start = start_rows_of r.net [] []; history = run.journal.history } =
-      ap (λ (x : Net). journal_of x run.journal.start run.journal.history) over.same_net ∙ ap (λ (x : RowsValue). journal_of r.net x run.journal.history) over.start_is in
-      record {
-        command = command;
-        contents = r.contents;
-        net = r.net;
-        start = start_rows_of r.net [] [];
-        history = run.journal.history;
-        log = over.log;
-        asked = asked;
-        held = r.held;
-        input = record { events = r.events; activities = r.activities; rows = r.rows; network = r.network; start_is = refl; feed_size = r.feed_size };
-        log_of = over.log_of;
-        run = text_of run (journal_of r.net (start_rows_of r.net [] []) run.journal.history) command.penalty (over.log ∷ []) journal_is r.penalty over.logs_are over.is_true over.entries_spelled (one_log over.log over.items_spelled);
-      }
+  module _ (command : Command) (net : Net) (penalty : ℕ) (history : List Entry) (items : List LogItem) (times : List ℕ) (cost : ℕ) (asked : Asks words command) (r : IsReady told command net penalty history items times cost) where
+    -- a run that is ready has the text of a run
+    is_run_of : IsRunOf told words (run_text (run_with net penalty history items times cost))
+    is_run_of =
+        let over : IsRunOver net r.start r.feed (run_from net r.start penalty history items times cost) = r.over in
+        record {
+          command = command;
+          input = record { opening = record { net = net; rows = r.start }; feed = r.feed };
+          history = history;
+          log = over.log;
+          asked = asked;
+          is_input = r.input;
+          log_of = over.log_of;
+          run = text_of (run_from net r.start penalty history items times cost) (journal_of net r.start history) command.penalty (over.log ∷ []) refl r.same_penalty over.logs_are over.is_true over.entries_spelled (one_log over.log over.items_spelled);
+        }
 
-  pub ends_run : (command : Command) (run : Run) (result : Status) → command_of words ≡ Some command → IsReady told command run → EndsAs taken faults before now (run_text run) Ok result → Ends taken faults told is_sound words before now result
-  ends_run command run result asked r h =
-      let due : IsRunOf told words (run_text run) = is_run_of command run asked r in
-      elim h [
-        | inl whole ↦ subst (Ends taken faults told is_sound words before now) (sym whole.0) (record { text = run_text run; holds = due; appended = whole.1.appended })
-        | inr front ↦ failed Ok (run_text run) result due front.0 front.1
-      ]
+    pub ends_run : (result : Status) → EndsAs taken faults before now (run_text (run_with net penalty history items times cost)) Ok result → Ends taken faults told is_sound words before now result
+    ends_run result h =
+        elim h [
+          | inl whole ↦ subst (Ends taken faults told is_sound words before now) (sym whole.0) (record { text = run_text (run_with net penalty history items times cost); holds = is_run_of; appended = whole.1.appended })
+          | inr front ↦ failed Ok (run_text (run_with net penalty history items times cost)) result is_run_of front.0 front.1
+        ]
 
 -- ---- what is ready to be printed has a spelling
 
 head_is : (x y : FeedLog) → x ∷ [] ≡ y ∷ [] → x ≡ y
 head_is x y e = cc
 
-pub ready_items : (told : Told) (command : Command) (net : Net) (penalty : ℕ) (history : List Entry) (items : List LogItem) (times : List ℕ) (cost : ℕ) → IsReady told command (run_with net penalty history items times cost) → All IsSpelledItem items
-ready_items told command net penalty history items times cost r =
-    subst (λ (l : FeedLog). All IsSpelledItem l.items) (sym (head_is (log_with items) r.over.log r.over.logs_are)) r.over.items_spelled
+module _ (told : Told) (command : Command) (net : Net) (penalty : ℕ) (history : List Entry) (items : List LogItem) (times : List ℕ) (cost : ℕ) (r : IsReady told command net penalty history items times cost) where
+  pub ready_items : All IsSpelledItem items
+  ready_items = subst (λ (l : FeedLog). All IsSpelledItem l.items) (sym (head_is (log_with items) r.over.log r.over.logs_are)) r.over.items_spelled
 
-pub ready_entries : (told : Told) (command : Command) (net : Net) (penalty : ℕ) (history : List Entry) (items : List LogItem) (times : List ℕ) (cost : ℕ) → IsReady told command (run_with net penalty history items times cost) → All IsSpelledEntry history
-ready_entries told command net penalty history items times cost r = r.over.entries_spelled
+  pub ready_entries : All IsSpelledEntry history
+  ready_entries = r.over.entries_spelled
 
-pub ready_size : (told : Told) (command : Command) (net : Net) (penalty : ℕ) (history : List Entry) (items : List LogItem) (times : List ℕ) (cost : ℕ) → IsReady told command (run_with net penalty history items times cost) → length times ≡ length net.events
-ready_size told command net penalty history items times cost r = r.over.is_true.least.meets.size
+  pub ready_size : length times ≡ length net.events
+  ready_size = r.over.is_true.least.meets.size
 
 Keeps-same : (known : Option (List ℕ)) → Keeps known known
 Keeps-same None = tt
 Keeps-same (Some xs) = refl
 
 -- want of memory
-pub ends_memory : {K : Type 0} (taken : K → Option (List ℕ)) (now : K) (words : List (List ℕ)) (command : Command) → command_of words ≡ Some command → WantsMemory (taken now) (taken now) words
+pub ends_memory : {K : Type 0} (taken : K → Option (List ℕ)) (now : K) (words : List (List ℕ)) (command : Command) → Asks words command → WantsMemory (taken now) (taken now) words
 ends_memory taken now words command asked = record { command = command; asked = asked; kept = Keeps-same (taken now) }

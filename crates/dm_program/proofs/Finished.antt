@@ -1,14 +1,11 @@
 -- A feed that is answered to its end makes a true run.
-use Rattle.std.proofs.Common.{◌≡◌, ℕ, zero, suc, ◌<◌, ◌≤◌, List, [], ◌∷◌, length, Option, Some, None, refl, sym, ap, subst, ◌∙◌, append-nil, arith, slice_get, map, replicate}
-use Rattle.std.specs.Prelude.{count_by, slice_index_or}
-use Rattle.std.specs.List.{range_with_len}
-use Rattle.std.specs.Option.{ForSome}
+use Rattle.std.proofs.Common.{◌≡◌, ℕ, zero, suc, ◌<◌, ◌≤◌, List, [], ◌∷◌, length, Some, None, refl, sym, ap, subst, ◌∙◌, append-nil, arith, slice_get}
+use Rattle.std.specs.Prelude.{count_by}
 use Rattle.std.proofs.lemmas.Option.{slice_get_within}
-use Rattle.dm_base.specs.declared.limits.TheConstants.{PASSED_TIME, FEED, ENTRIES}
-use Rattle.dm_graph.proofs.Chains.{no_cycle_where_rank_rises}
-use Rattle.dm_network.specs.Net.{Net, event_at, activity_at}
-use Rattle.dm_rows.specs.Rows.{RowsValue, RowsAreWithinLimits, start_rows_of, last_delay}
-use Rattle.dm_rows.specs.Active.{active_arcs, HasNoCycle}
+use Rattle.dm_base.specs.declared.limits.TheConstants.{FEED, ENTRIES}
+use Rattle.dm_network.specs.Net.{Net}
+use Rattle.dm_rows.specs.Rows.{RowsValue}
+use Rattle.dm_rows.specs.Active.{HasNoCycle}
 use Rattle.dm_rows.specs.Timetable.{IsLeast}
 use Rattle.dm_rows.specs.Cost.{cost_of}
 use Rattle.dm_rows.specs.Resolve.{after}
@@ -24,54 +21,26 @@ use Rattle.dm_program.specs.declared.log.FeedLog.{FeedLog}
 use Rattle.dm_program.specs.Lines.{feed_lines}
 use Rattle.dm_program.specs.Logs.{Journal, IsTrueLog, AreTrueLogs, IsLogOf, AreDueItems, IsInOrder, names}
 use Rattle.dm_program.specs.Answers.{Day, IsAnsweredTo}
-use Rattle.dm_program.specs.Times.{GoesForward}
+use Rattle.dm_program.specs.Asked.{run_from}
+use Rattle.dm_program.proofs.Arcs.{no_cycle_at, no_cycle_after}
 use Rattle.dm_program.specs.Stages.{IsRunOver}
-
--- ---- the rows at the start
 
 none_some : {X : Type 0} (x : X) → None ≡ Some x → ⊥
 none_some x e = cc
 
-mapped_zero : (f : ℕ → ℕ) → ((x : ℕ) → f x ≡ 0) → (xs : List ℕ) (i : ℕ) → slice_index_or (map f xs) i 0 ≡ 0
-mapped_zero f h [] i = refl
-mapped_zero f h (x ∷ xs) zero = h x
-mapped_zero f h (x ∷ xs) (suc i) = mapped_zero f h xs i
-
-abbrev none_at : Option ℕ
-none_at = None
-
-none_is_small : ForSome none_at (λ t. t ≤ PASSED_TIME)
-none_is_small = λ t e. absurd (none_some t e)
-
-none_passed : (n i : ℕ) → slice_index_or (replicate n None) i None ≡ none_at
-none_passed zero i = refl
-none_passed (suc n) zero = refl
-none_passed (suc n) (suc i) = none_passed n i
-
-pub start_within : (net : Net) → RowsAreWithinLimits (start_rows_of net [] [])
-start_within net =
-    record {
-      of_events = λ i. let e = mapped_zero (λ j. last_delay [] (event_at net j).id.0) (λ j. refl) (range_with_len 0 (length net.events)) i in omega (arith, e);
-      of_activities = λ a. let e = mapped_zero (λ j. last_delay [] (activity_at net j).id.0) (λ j. refl) (range_with_len 0 (length net.activities)) a in omega (arith, e);
-      of_passed = λ i. subst (λ (o : Option ℕ). ForSome o (λ t. t ≤ PASSED_TIME)) (sym (none_passed (length net.events) i)) none_is_small;
-    }
-
 -- ---- the journal is legal
 
-pub forward_no_cycle : (net : Net) (rows : RowsValue) → GoesForward net → HasNoCycle net rows
-forward_no_cycle net rows forward cycle h = no_cycle_where_rank_rises (active_arcs net rows) (λ e. e) (λ a b. forward a b.is_arc) cycle h
-
-nothing_refuses : (net : Net) (rows : RowsValue) (n : ℕ) (m : Message) → GoesForward net → n < ENTRIES → PassesAtOnce net rows m → (r : Refusal) → Refuses net rows n m r → ⊥
-nothing_refuses net rows n m forward few passes (Cycle ids) h = forward_no_cycle net (after net rows m) forward h.1.places h.1.is_cycle
-nothing_refuses net rows n m forward few passes (Full k) h = omega (arith, h.2, few)
-nothing_refuses net rows n m forward few passes OutOfMemory h = h
-nothing_refuses net rows n m forward few passes (Range v) h = passes (Range v) h
-nothing_refuses net rows n m forward few passes (UnknownEvent e) h = passes (UnknownEvent e) h
-nothing_refuses net rows n m forward few passes (UnknownActivity a) h = passes (UnknownActivity a) h
-nothing_refuses net rows n m forward few passes (UnknownChange a) h = passes (UnknownChange a) h
-nothing_refuses net rows n m forward few passes (UnknownPair i j) h = passes (UnknownPair i j) h
-nothing_refuses net rows n m forward few passes (Passed e t) h = passes (Passed e t) h
-nothing_refuses net rows n m forward few passes (NotPassed e) h = passes (NotPassed e) h
+nothing_refuses : (net : Net) (rows : RowsValue) (n : ℕ) (m : Message) → HasNoCycle net (after net rows m) → n < ENTRIES → PassesAtOnce net rows m → (r : Refusal) → Refuses net rows n m r → ⊥
+nothing_refuses net rows n m none few passes (Cycle ids) h = none h.1.places h.1.is_cycle
+nothing_refuses net rows n m none few passes (Full k) h = omega (arith, h.2, few)
+nothing_refuses net rows n m none few passes OutOfMemory h = h
+nothing_refuses net rows n m none few passes (Range v) h = passes (Range v) h
+nothing_refuses net rows n m none few passes (UnknownEvent e) h = passes (UnknownEvent e) h
+nothing_refuses net rows n m none few passes (UnknownActivity a) h = passes (UnknownActivity a) h
+nothing_refuses net rows n m none few passes (UnknownChange a) h = passes (UnknownChange a) h
+nothing_refuses net rows n m none few passes (UnknownPair i j) h = passes (UnknownPair i j) h
+nothing_refuses net rows n m none few passes (Passed e t) h = passes (Passed e t) h
+nothing_refuses net rows n m none few passes (NotPassed e) h = passes (NotPassed e) h
 
 abbrev log_of_items : List LogItem → FeedLog
 log_of_items items = record { items = items; stop = End }
@@ -83,14 +52,14 @@ some_is : {X : Type 0} (x y : X) → Some x ≡ Some y → x ≡ y
 some_is x y e = cc
 
 module _ (net : Net) (start : RowsValue) (bytes : List ℕ) (day : Day) (items : List LogItem) (lines : ℕ)
-    (forward : GoesForward net) (size : length bytes ≤ FEED) (done : IsAnsweredTo net start bytes day items lines []) where
+    (none : HasNoCycle net start) (size : length bytes ≤ FEED) (done : IsAnsweredTo net start bytes day items lines []) where
   legal : IsLegal net start day.history
   legal =
       record {
         size = omega (arith, done.few_entries, done.few_lines, size);
         accepted = λ n entry r at h.
             let within = slice_get_within day.history n entry at in
-            nothing_refuses net (rows_at net start day.history n) n entry.message forward (omega (arith, within, done.few_entries, done.few_lines, size)) (done.passes n entry at) r h;
+            nothing_refuses net (rows_at net start day.history n) n entry.message (no_cycle_after net start day.history n entry done.entries_spelled at none) (omega (arith, within, done.few_entries, done.few_lines, size)) (done.passes n entry at) r h;
       }
 
   in_order : IsInOrder 0 0 items
@@ -112,14 +81,17 @@ module _ (net : Net) (start : RowsValue) (bytes : List ℕ) (day : Day) (items :
   true_logs : AreTrueLogs (journal_of net start day.history) (log_of_items items ∷ [])
   true_logs = record { each = each_log; once = λ n some le. ap (count_by (names n)) (append-nil items) ∙ done.named n some le }
 
+  -- after all lines no activities are in a cycle
+  pub still_no_cycle : HasNoCycle net day.rows
+  still_no_cycle = subst (HasNoCycle net) (sym done.rows_are) (no_cycle_at net start day.history (length day.history) done.entries_spelled none)
+
   -- with the least times and their cost it is a true run
-  pub run_over : (penalty : ℕ) (times : List ℕ) (cost : ℕ) → start ≡ start_rows_of net [] [] → IsLeast net day.rows times → cost ≡ cost_of net day.rows times penalty
-      → IsRunOver net bytes (record { journal = journal_of net (start_rows_of net [] []) day.history; penalty = penalty; logs = log_of_items items ∷ []; times = times; cost = cost })
-  run_over penalty times cost start-is least cost-is =
-      subst (λ (s : RowsValue). IsRunOver net bytes (record { journal = journal_of net s day.history; penalty = penalty; logs = log_of_items items ∷ []; times = times; cost = cost })) start-is
-      (record {
+  pub run_over : (penalty : ℕ) (times : List ℕ) (cost : ℕ) → IsLeast net day.rows times → cost ≡ cost_of net day.rows times penalty
+      → IsRunOver net start bytes (run_from net start penalty day.history items times cost)
+  run_over penalty times cost least cost-is =
+      record {
         same_net = refl;
-        start_is = start-is;
+        same_start = refl;
         log = log_of_items items;
         logs_are = refl;
         log_of = log_of;
@@ -133,4 +105,4 @@ module _ (net : Net) (start : RowsValue) (bytes : List ℕ) (day : Day) (items :
         };
         entries_spelled = done.entries_spelled;
         items_spelled = done.items_spelled;
-      })
+      }

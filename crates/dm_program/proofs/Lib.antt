@@ -1,15 +1,11 @@
-pub mod Cuts
+pub mod Cutting
 pub mod Digits
-pub mod Rows
 pub mod Answering
-pub mod Joining
 pub mod Within
 pub mod Printed
 pub mod Spelled
 pub mod Totals
 pub mod Finished
-pub mod Forward
 pub mod Ending
-pub mod Staging
-pub mod Exact
+pub mod Arcs
 pub mod Converse

@@ -14,7 +14,7 @@ use Rattle.std.proofs.lemmas.Fmt.{digits_decimal, digits_value-decimal, decimal-
 use Rattle.std.proofs.Math.Seq.{get_or-append_seam}
 use Rattle.dm_base.specs.Numbers.{IsDigits, whole_value}
 use Rattle.dm_program.specs.Numbers.{is_number, number_up_to}
-use Rattle.dm_program.specs.Files.{cut_at}
+use Rattle.dm_program.specs.Cuts.{cut_at}
 use Rattle.std.specs.List.{join_with_byte}
 use Rattle.std.proofs.lemmas.List.Splits.{join_with_byte-slice_split}
 use Rattle.dm_rows.specs.declared.messages.Message.{Message}
@@ -22,7 +22,7 @@ use Rattle.dm_rows.specs.declared.messages.Message.TheVariants.{DelayEvent, Dela
 use Rattle.dm_program.specs.declared.lines.Line.{Line}
 use Rattle.dm_program.specs.declared.lines.Line.TheVariants.{Say}
 use Rattle.dm_program.specs.Lines.{SpellsMessage, SpellsLine, has_leading_zero}
-use Rattle.dm_program.proofs.Cuts.{is_at, cut_found, pieces_first}
+use Rattle.dm_program.proofs.Cutting.{is_at, cut_found, pieces_first}
 use Rattle.dm_program.proofs.Digits.{number_is, digits-from_number}
 
 -- digits, by place

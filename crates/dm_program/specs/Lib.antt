@@ -1,12 +1,9 @@
 pub mod Numbers
-pub mod Words
-pub mod Files
 pub mod Lines
 pub mod Logs
 pub mod Runs
-pub mod Input
 pub mod Ends
 pub mod Answers
-pub mod Times
 pub mod Asked
 pub mod Stages
+pub mod Cuts

@@ -7,7 +7,7 @@ ghost use Rattle.dm_program.specs.Lines.{feed_lines, Hears};
 ghost use Rattle.dm_program.specs.Answers.{Day, Enters, AnswersLine, IsAnsweredTo};
 ghost use Rattle.dm_program.specs.declared.lines.Heard.TheVariants.{Line as Spoken};
 
-use crate::files::cut;
+use crate::cuts::cut;
 use crate::lines::{Heard, Line, read_line};
 use crate::log::{LogItem, Reply};
 use dm_network::Network;

@@ -3,7 +3,7 @@ ghost use Rattle.std.specs.Prelude.{◌≡◌, ◌+◌, ◌*◌, ◌<◌, ◌≤
 ghost use Rattle.std.specs.List.{range_with_len};
 ghost use Rattle.dm_rows.specs.Rows.{IsSized, RowsAreWithinLimits};
 ghost use Rattle.dm_rows.specs.Cost.{cost_of, event_cost, dropped_weight, missed_weight};
-ghost use Rattle.dm_program.specs.Times.{AreInTime};
+ghost use Rattle.dm_settle.specs.Settling.{AreEarly};
 
 use dm_base::{ActKind, Cost, EventKind, Milli};
 use dm_network::Network;
@@ -12,7 +12,7 @@ use dm_rows::Rows;
 /// What the event's lateness costs, in thousandths of passenger seconds.
 fn event_cost(net: &Network, times: &[u64], i: usize) -> Cost
     requires size { length times.now ≡ length net.now.events }
-    requires in_time { AreInTime times.now }
+    requires early { AreEarly times.now }
     requires is_event { i < length net.now.events }
     ensures cost { result ≡ event_cost net.now times.now i }
     ensures bound { result ≤ 300000000000000000000 }
@@ -27,7 +27,7 @@ fn event_cost(net: &Network, times: &[u64], i: usize) -> Cost
 
 fn lateness_cost(net: &Network, times: &[u64]) -> Cost
     requires size { length times.now ≡ length net.now.events }
-    requires in_time { AreInTime times.now }
+    requires early { AreEarly times.now }
     ensures cost { result ≡ sum_by (event_cost net.now times.now) (range_with_len 0 (length net.now.events)) }
     ensures bound { result ≤ 100000 * 300000000000000000000 }
 {
@@ -58,7 +58,7 @@ fn missed_weight(net: &Network, rows: &Rows, times: &[u64], a: usize) -> Milli
     requires sized { IsSized net.now rows.now }
     requires within { RowsAreWithinLimits rows.now }
     requires size { length times.now ≡ length net.now.events }
-    requires in_time { AreInTime times.now }
+    requires early { AreEarly times.now }
     requires is_activity { a < length net.now.activities }
     ensures weight { result ≡ missed_weight net.now rows.now times.now a }
     ensures bound { result ≤ 1000000000 }
@@ -92,7 +92,7 @@ fn missed_weights(net: &Network, rows: &Rows, times: &[u64]) -> Cost
     requires sized { IsSized net.now rows.now }
     requires within { RowsAreWithinLimits rows.now }
     requires size { length times.now ≡ length net.now.events }
-    requires in_time { AreInTime times.now }
+    requires early { AreEarly times.now }
     ensures weight { result ≡ sum_by (missed_weight net.now rows.now times.now) (range_with_len 0 (length net.now.activities)) }
     ensures bound { result ≤ 500000 * 1000000000 }
 {
@@ -109,7 +109,7 @@ pub fn cost(net: &Network, rows: &Rows, times: &[u64], penalty: u64) -> Cost
     requires sized { IsSized net.now rows.now }
     requires within { RowsAreWithinLimits rows.now }
     requires size { length times.now ≡ length net.now.events }
-    requires in_time { AreInTime times.now }
+    requires early { AreEarly times.now }
     requires penalty { penalty ≤ 1000000 }
     ensures { result ≡ cost_of net.now rows.now times.now penalty }
 {

@@ -3,7 +3,7 @@ ghost use Rattle.std.specs.Prelude.{◌≡◌, ◌≢◌, ◌≤◌, ◌++◌, �
 ghost use Rattle.std.specs.Fmt.{decimal};
 ghost use Rattle.dm_program.specs.Lines.{has_leading_zero, Hears};
 
-use crate::files::cut;
+use crate::cuts::cut;
 use crate::numbers::{LARGEST_ID, number_up_to};
 use dm_base::EventId;
 use dm_rows::Message;

@@ -1,22 +1,21 @@
-//! A run, from the bytes that it reads to what it prints.
-ghost use Rattle.std.specs.Prelude.{◌≡◌, ◌≤◌, ◌∷◌, [], length, IfOk, IfErr};
-ghost use Rattle.dm_program.specs.Asked.{command_in, run_in};
-ghost use Rattle.dm_program.specs.Times.{GoesForward};
-ghost use Rattle.dm_program.specs.Stages.{IsKept, StopsRun, IsRunOver, IsReady};
+//! A run, from what it begins with to what it prints.
+ghost use Rattle.std.specs.Prelude.{◌≡◌, ◌≤◌, length, IfOk, IfErr};
 ghost use Rattle.dm_base.specs.declared.limits.TheConstants.{FEED as MOST};
+ghost use Rattle.dm_input.specs.RunWords.{command_of};
+ghost use Rattle.dm_input.specs.Stages.{IsKept, StopsRun};
+ghost use Rattle.dm_rows.specs.Rows.{IsSized};
+ghost use Rattle.dm_program.specs.Asked.{run_from};
+ghost use Rattle.dm_program.specs.Stages.{IsAtStart, IsRunOver, IsReadyRun};
 
 use crate::answers::answer_feed;
 use crate::cost::cost;
 use crate::log::LogItem;
-use crate::parts::{Part, Stop};
-use crate::reading::{read_network, stop_at, take_name};
 use crate::times::least;
-use crate::words::RunWords;
 use dm_base::Cost;
-use dm_base::limits::FEED;
+use dm_input::{RunWords, Stop, read_input};
 use dm_network::Network;
 use dm_outside::Shelf;
-use dm_rows::{Entry, start_rows};
+use dm_rows::{Entry, Rows};
 use std::alloc::Global;
 
 /// A run that is answered and not yet printed.
@@ -36,18 +35,25 @@ pub struct Answered {
     pub cost: Cost,
 }
 
-/// Answers a feed over a network.
-fn answer_run(alloc: Global, net: Network, penalty: u64, feed: &[u8]) -> Result<Answered, Stop>
-    requires forward { GoesForward net }
+/// Answers a feed over a network, from the rows before any message.
+fn answer_run(
+    alloc: Global,
+    net: Network,
+    mut rows: Rows,
+    penalty: u64,
+    feed: &[u8],
+) -> Result<Answered, Stop>
+    requires sized { IsSized net rows }
+    requires start { IsAtStart net rows }
     requires size { length feed.now ≤ MOST }
     requires penalty { penalty ≤ 1000000 }
-    ensures run { IfOk result (λ a. IsRunOver net feed.now (run_in a)) }
+    ensures run { IfOk result (λ a. IsRunOver a.net rows feed.now (run_from a.net rows a.penalty a.history.items a.items.items a.times.items a.cost)) }
+    ensures net { IfOk result (λ a. a.net ≡ net) }
     ensures penalty { IfOk result (λ a. a.penalty ≡ penalty) }
     ensures memory { IfErr result (λ stop. stop ≡ Stop.NoMemory) }
 {
-    let Ok(mut rows) = start_rows(alloc, &net, &[], &[]) else {
-        return Err(Stop::NoMemory);
-    };
+    let _network = net.events();
+    let _limits = rows.events();
     let answers = answer_feed(alloc, &net, &mut rows, feed)?;
     let times = least(alloc, &net, &rows)?;
     let cost = cost(&net, &rows, times.as_slice(), penalty);
@@ -63,15 +69,17 @@ fn answer_run(alloc: Global, net: Network, penalty: u64, feed: &[u8]) -> Result<
 
 /// Reads and answers a run.
 pub fn prepare<H: Shelf>(alloc: Global, shelf: &mut H, run: &RunWords<'_>) -> Result<Answered, Stop>
-    requires { run.now.penalty ≤ 1000000 }
+    requires penalty { run.now.penalty ≤ 1000000 }
     ensures kept { IsKept H.files H.is_sound shelf.old shelf.new }
-    ensures ready { IfOk result (λ a. IsReady (H.files shelf.old) (command_in run.now) (run_in a)) }
-    ensures stops { IfErr result (StopsRun (H.files shelf.old) (H.is_sound shelf.old) (command_in run.now)) }
+    ensures ready { IfOk result (IsReadyRun (H.files shelf.old) (command_of run.now)) }
+    ensures stops { IfErr result (StopsRun (H.files shelf.old) (H.is_sound shelf.old) (command_of run.now)) }
 {
-    let net = read_network(alloc, shelf, run)?;
-    let feed = match take_name(alloc, shelf, run.feed, FEED) {
-        Ok(feed) => feed,
-        Err(fault) => return Err(stop_at(Part::Feed, fault)),
-    };
-    answer_run(alloc, net, run.penalty, feed.as_slice())
+    let input = read_input(alloc, shelf, run)?;
+    answer_run(
+        alloc,
+        input.net,
+        input.rows,
+        run.penalty,
+        input.feed.as_slice(),
+    )
 }

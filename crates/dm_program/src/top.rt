@@ -1,18 +1,19 @@
 //! The top call.
-ghost use Rattle.std.specs.Prelude.{◌≡◌, ◌⊎◌, map, string_bytes, vec_len, length, All};
+ghost use Rattle.std.specs.Prelude.{◌≡◌, ◌⊎◌, IsSome, map, string_bytes, vec_len, length, All};
 ghost use Rattle.dm_outside.specs.Faults.{HasRisen};
-ghost use Rattle.dm_program.specs.declared.parts.Part.{Part};
-ghost use Rattle.dm_program.specs.Words.{Command, command_of};
-ghost use Rattle.dm_program.specs.Asked.{run_in, command_in};
-ghost use Rattle.dm_program.specs.Input.{Contents, IsFirstRefusal, IsSoundInput};
+ghost use Rattle.dm_input.specs.Lines.{usage_line, refused_line, read_fault_line};
+ghost use Rattle.dm_input.specs.declared.parts.Flaw.{Flaw};
+ghost use Rattle.dm_input.specs.Input.{Input, IsInput, IsFirstRefusal};
+ghost use Rattle.dm_input.specs.RunWords.{command_of};
+ghost use Rattle.dm_input.specs.Words.{Asks, AsksNothing, Command};
+ghost use Rattle.dm_program.specs.Asked.{run_in};
 ghost use Rattle.dm_program.specs.Runs.{IsSpelledEntry, IsSpelledItem, run_text};
-ghost use Rattle.dm_program.specs.Ends.{IsRunOf, IsUsage, IsRefusal, IsReadFault, IsDue, Writes, FailsToWrite, WantsMemory, Tells, EndsAt, AreSound, Ends, EndsAs, usage_line, refused_line, read_fault_line};
+ghost use Rattle.dm_program.specs.Ends.{IsRunOf, IsUsage, IsRefusal, IsReadFault, IsDue, Writes, FailsToWrite, WantsMemory, EndsAt, AreSound, Ends, EndsAs};
 
-use crate::notices::{put_read_fault, put_refused, put_usage};
-use crate::parts::{Part, Status, Stop};
 use crate::prepare::{Answered, prepare};
+use crate::status::Status;
 use crate::text::print_run;
-use crate::words::{RunWords, run_words};
+use dm_input::{Flaw, Part, RunWords, Stop, put_read_fault, put_refused, put_usage, read_words};
 use dm_outside::{Board, Gate, Shelf, Sink, WriteFault};
 use std::alloc::Global;
 use std::sync::Wait;
@@ -40,14 +41,16 @@ pub fn dispatch<R: Threads + Wait + Sync, H: Shelf, K: Sink, G: Gate>(
     ensures write_fault { result ≡ Status.WriteFault → FailsToWrite K.taken K.faults out.old out.new (IsDue (H.files shelf.old) (H.is_sound shelf.old) (map string_bytes words.now)) }
     ensures no_memory { result ≡ Status.NoMemory → WantsMemory (K.taken out.old) (K.taken out.new) (map string_bytes words.now) }
 
-    // Words outside the two forms, and the first refusal, come exactly where they are, but for the faults that go before.
-    ensures outside { command_of (map string_bytes words.now) ≡ None → (result ≡ Status.Usage) ⊎ (result ≡ Status.WriteFault) }
-    ensures first_refusal { (command : Command) (contents : Contents) (part : Part) → command_of (map string_bytes words.now) ≡ Some command
-        → Tells (H.files shelf.old) command contents part → IsFirstRefusal contents part → EndsAt command part (K.taken out.old) (K.taken out.new) result }
+    // Words outside the tables come to the usage line, but for a write fault.
+    ensures outside { AsksNothing (map string_bytes words.now) → (result ≡ Status.Usage) ⊎ (result ≡ Status.WriteFault) }
+
+    // The first refusal comes exactly where it is, but for the faults that go before.
+    ensures first_refusal { (command : Command) (flaw : Flaw) → Asks (map string_bytes words.now) command → IsSome (H.files shelf.old)
+        → IsFirstRefusal (H.files shelf.old) command flaw → EndsAt command flaw (K.taken out.old) (K.taken out.new) result }
 
     // Good words, files and feed, a sound shelf and a sink without a fault give a run, or want of memory.
-    ensures complete { (command : Command) (contents : Contents) → command_of (map string_bytes words.now) ≡ Some command
-        → Tells (H.files shelf.old) command contents Part.Feed → IsSoundInput contents → AreSound (H.is_sound shelf.old) command
+    ensures complete { (command : Command) (input : Input) → Asks (map string_bytes words.now) command → IsSome (H.files shelf.old)
+        → IsInput (H.files shelf.old) command input → AreSound (H.is_sound shelf.old) command
         → (HasRisen (K.faults out.old) (K.faults out.new) → ⊥) → (result ≡ Status.Ok) ⊎ (result ≡ Status.NoMemory) }
 {
     run(alloc, words, shelf, out)
@@ -57,12 +60,12 @@ pub fn dispatch<R: Threads + Wait + Sync, H: Shelf, K: Sink, G: Gate>(
 fn run<H: Shelf, K: Sink>(alloc: Global, words: &[String], shelf: &mut H, out: &mut K) -> Status
     ensures { Ends K.taken K.faults (H.files shelf.old) (H.is_sound shelf.old) (map string_bytes words.now) out.old out.new result }
 {
-    let Some(run) = run_words(words) else {
+    let Some(run) = read_words(words) else {
         return end_usage(out);
     };
     match prepare(alloc, shelf, &run) {
         Ok(answered) => end_run(&answered, out),
-        Err(Stop::Refused(part)) => end_refused(&run, part, out),
+        Err(Stop::Refused(flaw)) => end_refused(&run, &flaw, out),
         Err(Stop::ReadFault(part)) => end_unread(&run, part, out),
         Err(Stop::NoMemory) => Status::NoMemory,
         Err(Stop::Usage) => unreachable!(),
@@ -90,17 +93,17 @@ fn end_run<K: Sink>(answered: &Answered, out: &mut K) -> Status
     }
 }
 
-fn end_refused<K: Sink>(run: &RunWords<'_>, part: Part, out: &mut K) -> Status
-    ensures { EndsAs K.taken K.faults out.old out.new (refused_line (command_in run.now) part) Status.Refused result }
+fn end_refused<K: Sink>(run: &RunWords<'_>, flaw: &Flaw, out: &mut K) -> Status
+    ensures { EndsAs K.taken K.faults out.old out.new (refused_line (command_of run.now) flaw.now) Status.Refused result }
 {
-    match put_refused(out, run, part) {
+    match put_refused(out, run, flaw) {
         Ok(()) => Status::Refused,
         Err(WriteFault) => Status::WriteFault,
     }
 }
 
 fn end_unread<K: Sink>(run: &RunWords<'_>, part: Part, out: &mut K) -> Status
-    ensures { EndsAs K.taken K.faults out.old out.new (read_fault_line (command_in run.now) part) Status.ReadFault result }
+    ensures { EndsAs K.taken K.faults out.old out.new (read_fault_line (command_of run.now) part) Status.ReadFault result }
 {
     match put_read_fault(out, run, part) {
         Ok(()) => Status::ReadFault,

@@ -1,6 +1,6 @@
 use Rattle.std.proofs.Common.{sym, ◌<◌, length, arith}
 use Rattle.std.proofs.lemmas.Bool.Decides.{nat_tests}
-use Rattle.dm_program.proofs.Cuts.{cut_found, cut_none, line_found, last_line}
+use Rattle.dm_program.proofs.Cutting.{cut_found, cut_none, line_found, last_line}
 use Rattle.dm_program.proofs.answers.next_line.Goals as goal
 
 pub returns-in_default-clause-found : goal.returns-in_default-clause-found

@@ -1,6 +1,6 @@
 use Rattle.std.proofs.Common.{Global}
 use Rattle.std.specs.Prelude.{map, string_bytes}
-use Rattle.dm_program.proofs.Converse.{ends_at, ends_well, ends_outside}
+use Rattle.dm_program.proofs.Converse.{ends_outside, ends_at, ends_well}
 use Rattle.dm_program.proofs.top.dispatch.Goals as goal
 
 pub returns-clause-headline : goal.returns-clause-headline
@@ -26,9 +26,9 @@ returns-clause-outside g c = λ outside.
     ends_outside g.K.Sink.taken g.K.Sink.faults (g.H.Shelf.files c.args.shelf.now) (g.H.Shelf.is_sound c.args.shelf.now) (map (string_bytes {Z = Global}) c.args.words.now) c.args.out.now c.run.new.out outside c.run.result c.run.ensures
 
 pub returns-clause-first_refusal : goal.returns-clause-first_refusal
-returns-clause-first_refusal g c = λ command contents part asked tells first.
-    ends_at g.K.Sink.taken g.K.Sink.faults (g.H.Shelf.files c.args.shelf.now) (g.H.Shelf.is_sound c.args.shelf.now) (map (string_bytes {Z = Global}) c.args.words.now) c.args.out.now c.run.new.out command asked contents part tells first c.run.result c.run.ensures
+returns-clause-first_refusal g c = λ command flaw asked known first.
+    ends_at g.K.Sink.taken g.K.Sink.faults (g.H.Shelf.files c.args.shelf.now) (g.H.Shelf.is_sound c.args.shelf.now) (map (string_bytes {Z = Global}) c.args.words.now) c.args.out.now c.run.new.out command asked known flaw first c.run.result c.run.ensures
 
 pub returns-clause-complete : goal.returns-clause-complete
-returns-clause-complete g c = λ command contents asked tells sound names unrisen.
-    ends_well g.K.Sink.taken g.K.Sink.faults (g.H.Shelf.files c.args.shelf.now) (g.H.Shelf.is_sound c.args.shelf.now) (map (string_bytes {Z = Global}) c.args.words.now) c.args.out.now c.run.new.out command asked contents tells sound names unrisen c.run.result c.run.ensures
+returns-clause-complete g c = λ command input asked known is sound unrisen.
+    ends_well g.K.Sink.taken g.K.Sink.faults (g.H.Shelf.files c.args.shelf.now) (g.H.Shelf.is_sound c.args.shelf.now) (map (string_bytes {Z = Global}) c.args.words.now) c.args.out.now c.run.new.out command asked known input is sound unrisen c.run.result c.run.ensures

@@ -1,0 +1,7 @@
+pub mod WordLists
+pub mod Asking
+pub mod Fits
+pub mod Staging
+pub mod OneNetwork
+pub mod OneAnswer
+pub mod OneInput

@@ -1,0 +1,107 @@
+-- The words of a run: `run DIR FEED`, with options among them.
+--
+-- An option is a word `--NAME=VALUE`, wherever it stands after the command word. Each name stands at most once, and no
+-- value is empty.
+use Rattle.std.specs.Prelude.{ℕ, ◌≡◌, ◌≢◌, ◌≤◌, Bool, true, false, ◌||◌, not, ◌==◌, if◌then◌else◌, List, [], ◌∷◌, ◌++◌, take, drop, length, filter, Option, Some, None, is_some, unwrap_or, Ok, codes}
+use Rattle.std.specs.List.{filter_map, list_all, list_any}
+use Rattle.std.specs.Str.{bytes_eq}
+use Rattle.dm_base.specs.declared.limits.TheConstants.{PENALTY}
+use Rattle.dm_base.specs.Numbers.{IsDigits, whole_value}
+use Rattle.dm_lintim.specs.Columns.{FileColumns, ReadsFileColumns}
+
+-- a run over the files of a folder, and one feed; the files of delays are named where there are any
+pub record Command : Type 0 where
+  pub folder : List ℕ
+  pub feed : List ℕ
+  pub penalty : ℕ
+  pub columns : FileColumns
+  pub event_delays : Option (List ℕ)
+  pub activity_delays : Option (List ℕ)
+
+-- how the word of each option begins
+abbrev pub penalty_option : List ℕ
+penalty_option = codes "--penalty="
+
+abbrev pub event_columns_option : List ℕ
+event_columns_option = codes "--event-columns="
+
+abbrev pub activity_columns_option : List ℕ
+activity_columns_option = codes "--activity-columns="
+
+abbrev pub event_delays_option : List ℕ
+event_delays_option = codes "--event-delays="
+
+abbrev pub activity_delays_option : List ℕ
+activity_delays_option = codes "--activity-delays="
+
+abbrev pub options : List (List ℕ)
+options =
+    penalty_option ∷ event_columns_option ∷ activity_columns_option ∷ event_delays_option ∷ activity_delays_option ∷ []
+
+-- what stands behind the text, where the word begins with it
+abbrev pub behind : List ℕ → List ℕ → Option (List ℕ)
+behind text word = if bytes_eq (take (length text) word) text then Some (drop (length text) word) else None
+
+-- whether the word is an option
+abbrev pub is_option : List ℕ → Bool
+is_option word = list_any (λ option. is_some (behind option word)) options
+
+-- whether the word may name a folder or a feed: it is not empty, and does not begin with `-`
+abbrev pub is_name : List ℕ → Bool
+is_name [] = false
+is_name (c ∷ cs) = not (c == 45)
+
+-- the values that the words give an option
+abbrev pub values_of : List ℕ → List (List ℕ) → List (List ℕ)
+values_of option words = filter_map (behind option) words
+
+-- the words give an option this value, which is not empty, or none
+abbrev pub Gives : List ℕ → List (List ℕ) → Option (List ℕ) → Type 0
+Gives option words None = values_of option words ≡ []
+Gives option words (Some value) = (values_of option words ≡ value ∷ []) × (value ≢ [])
+
+-- the penalty in seconds for each passenger: a whole number of at most PENALTY, or 3600 where none is given
+abbrev pub IsPenalty : Option (List ℕ) → ℕ → Type 0
+IsPenalty None penalty = penalty ≡ 3600
+IsPenalty (Some text) penalty = IsDigits text × (penalty ≡ whole_value text) × (penalty ≤ PENALTY)
+
+-- the column words of a file, which stand in the standard order where none are given
+abbrev pub standard_event_words : List ℕ
+standard_event_words = codes "id,periodic-id,type,time,weight,stop"
+
+abbrev pub standard_activity_words : List ℕ
+standard_activity_words = codes "id,periodic-id,type,tail,head,lower,upper,weight"
+
+abbrev pub event_words : Option (List ℕ) → List ℕ
+event_words given = unwrap_or given standard_event_words
+
+abbrev pub activity_words : Option (List ℕ) → List ℕ
+activity_words given = unwrap_or given standard_activity_words
+
+-- what the words behind `run` ask for: each is a name or an option, two are names, and the options have these values
+pub record AsksBehind (words : List (List ℕ)) (command : Command) : Type 0 where
+  pub penalty : Option (List ℕ)
+  pub events : Option (List ℕ)
+  pub activities : Option (List ℕ)
+  pub known : list_all (λ word. is_name word || is_option word) words ≡ true
+  pub names : filter is_name words ≡ command.folder ∷ command.feed ∷ []
+  pub gives_penalty : Gives penalty_option words penalty
+  pub gives_events : Gives event_columns_option words events
+  pub gives_activities : Gives activity_columns_option words activities
+  pub gives_event_delays : Gives event_delays_option words command.event_delays
+  pub gives_activity_delays : Gives activity_delays_option words command.activity_delays
+  pub is_penalty : IsPenalty penalty command.penalty
+  pub are_columns : ReadsFileColumns (event_words events) (activity_words activities) (Ok command.columns)
+
+-- the words, without the program's name, ask for this run
+abbrev pub Asks : List (List ℕ) → Command → Type 0
+Asks [] command = ⊥
+Asks (word ∷ words) command = (word ≡ codes "run") × AsksBehind words command
+
+-- the words ask for no run
+abbrev pub AsksNothing : List (List ℕ) → Type 0
+AsksNothing words = (command : Command) → Asks words command → ⊥
+
+-- the name of a file of the folder, as it is opened
+abbrev pub in_folder : Command → List ℕ → List ℕ
+in_folder command name = command.folder ++ (codes "/" ++ name)

@@ -1,0 +1,32 @@
+//! What the definitions of inputs say, whatever the words and files: each function's contract is a law, and its body is empty.
+ghost use Rattle.std.specs.Prelude.{◌≡◌, ◌≢◌, ℕ, List, IsSome};
+ghost use Rattle.dm_base.specs.declared.rows.ActRow.{ActRow};
+ghost use Rattle.dm_base.specs.declared.rows.EventRow.{EventRow};
+ghost use Rattle.dm_network.specs.Build.{IsBuiltFrom, IsMadeOf, RefusesRecords};
+ghost use Rattle.dm_network.specs.declared.parts.NetFault.{NetFault};
+ghost use Rattle.dm_network.specs.Net.{Net};
+ghost use Rattle.dm_input.specs.Input.{Told, InputAnswer};
+ghost use Rattle.dm_input.specs.Order.{IsOne};
+ghost use Rattle.dm_input.specs.Words.{Asks, Command};
+
+use dm_network::NetFault;
+
+/// The records of two files make one network at most.
+pub fn records_make_one_network()
+    ensures { (events : List EventRow) (activities : List ActRow) (one other : Net) → IsMadeOf events activities one → IsMadeOf events activities other → one ≡ other }
+{}
+
+/// Records that make a network are not refused.
+pub fn records_are_made_or_refused()
+    ensures { (events : List EventRow) (activities : List ActRow) (fault : NetFault) → RefusesRecords events activities fault → (net : Net) → IsBuiltFrom events activities net → fault ≢ NetFault.OutOfMemory → ⊥ }
+{}
+
+/// Words, and files that the shelf tells, determine one input or one first refusal, but for which cycle is shown.
+pub fn inputs_are_one()
+    ensures { (told : Told) (command : Command) → IsSome told → IsOne (InputAnswer told command) }
+{}
+
+/// Words ask for one run at most.
+pub fn words_ask_for_one_run()
+    ensures { (words : List (List ℕ)) (one other : Command) → Asks words one → Asks words other → one ≡ other }
+{}
