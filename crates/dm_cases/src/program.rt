@@ -35,9 +35,11 @@ struct Case<'a> {
     activity_delays: &'a [u8],
     feed: &'a [u8],
 
-    // Which openings fail, and which reads of each source but the feed.
+    // Which openings fail, and which reads of each file but the feed.
     opens: &'a [u64],
-    reads: &'a [u64],
+    event_reads: &'a [u64],
+    activity_reads: &'a [u64],
+    delay_reads: &'a [u64],
 
     // Which writes of the sink fail.
     writes: &'a [u64],
@@ -51,7 +53,9 @@ const GOOD: Case<'static> = Case {
     activity_delays: b"",
     feed: b"",
     opens: &[],
-    reads: &[],
+    event_reads: &[],
+    activity_reads: &[],
+    delay_reads: &[],
     writes: &[],
     piece: 100_000,
 };
@@ -74,25 +78,25 @@ fn run_case<R: Threads + Wait + Sync + AllocGlobal>(
             name: "net/Events-expanded.giv",
             bytes: case.events,
             piece: 100_000,
-            fails: case.reads,
+            fails: case.event_reads,
         },
         MemFile {
             name: "net/Activities-expanded.giv",
             bytes: case.activities,
             piece: 100_000,
-            fails: case.reads,
+            fails: case.activity_reads,
         },
         MemFile {
             name: "net/d",
             bytes: case.event_delays,
             piece: 64,
-            fails: case.reads,
+            fails: case.delay_reads,
         },
         MemFile {
             name: "net/e",
             bytes: case.activity_delays,
             piece: 64,
-            fails: case.reads,
+            fails: &[],
         },
         MemFile {
             name: "f",
@@ -313,70 +317,90 @@ fn lines(alloc: Global, count: usize) -> Result<Vec<u8>, AllocError> {
 #[test]
 fn files_past_the_limit(rt: HostRuntime) -> Result<(), Fail> {
     let long = lines(rt.alloc(), FILE + 1)?;
-    let case = Case {
-        events: &long,
-        ..GOOD
-    };
-    assert!(rt;
-        ends(
-            &rt,
-            DELAYED,
-            &case,
-            Status::Refused,
-            b"refused net/Events-expanded.giv too-long\n"
-        )?
-    );
-    let case = Case {
-        activity_delays: &long,
-        ..GOOD
-    };
-    assert!(rt;
-        ends(
-            &rt,
-            DELAYED,
-            &case,
-            Status::Refused,
-            b"refused net/e too-long\n"
-        )?
-    );
+    let long = long.as_slice();
+    let cases = [
+        (
+            Case {
+                events: long,
+                ..GOOD
+            },
+            b"refused net/Events-expanded.giv too-long\n".as_slice(),
+        ),
+        (
+            Case {
+                activities: long,
+                ..GOOD
+            },
+            b"refused net/Activities-expanded.giv too-long\n".as_slice(),
+        ),
+        (
+            Case {
+                event_delays: long,
+                ..GOOD
+            },
+            b"refused net/d too-long\n".as_slice(),
+        ),
+        (
+            Case {
+                activity_delays: long,
+                ..GOOD
+            },
+            b"refused net/e too-long\n".as_slice(),
+        ),
+    ];
+    for (case, text) in cases {
+        assert!(rt; ends(&rt, DELAYED, &case, Status::Refused, text)?);
+    }
     Ok(())
 }
 
 #[test]
-fn what_cannot_be_read(rt: HostRuntime) -> Result<(), Fail> {
-    for (opens, reads, text) in [
+fn what_cannot_be_opened(rt: HostRuntime) -> Result<(), Fail> {
+    for (opens, text) in [
         (
             [1].as_slice(),
-            [].as_slice(),
             b"read fault net/Events-expanded.giv\n".as_slice(),
         ),
         (
             [2].as_slice(),
-            [].as_slice(),
+            b"read fault net/Activities-expanded.giv\n".as_slice(),
+        ),
+        ([3].as_slice(), b"read fault net/d\n".as_slice()),
+        ([4].as_slice(), b"read fault net/e\n".as_slice()),
+        ([5].as_slice(), b"read fault f\n".as_slice()),
+    ] {
+        let case = Case { opens, ..GOOD };
+        assert!(rt; ends(&rt, DELAYED, &case, Status::ReadFault, text)?);
+    }
+    Ok(())
+}
+
+#[test]
+fn first_reads_that_fail(rt: HostRuntime) -> Result<(), Fail> {
+    let cases = [
+        (
+            Case {
+                event_reads: &[1],
+                ..GOOD
+            },
+            b"read fault net/Events-expanded.giv\n".as_slice(),
+        ),
+        (
+            Case {
+                activity_reads: &[1],
+                ..GOOD
+            },
             b"read fault net/Activities-expanded.giv\n".as_slice(),
         ),
         (
-            [3].as_slice(),
-            [].as_slice(),
+            Case {
+                delay_reads: &[1],
+                ..GOOD
+            },
             b"read fault net/d\n".as_slice(),
         ),
-        (
-            [4].as_slice(),
-            [].as_slice(),
-            b"read fault net/e\n".as_slice(),
-        ),
-        ([5].as_slice(), [].as_slice(), b"read fault f\n".as_slice()),
-        (
-            [].as_slice(),
-            [1].as_slice(),
-            b"read fault net/Events-expanded.giv\n".as_slice(),
-        ),
-    ] {
-        let case = Case {
-            opens,
-            reads,
-            ..GOOD
-        };
+    ];
+    for (case, text) in cases {
         assert!(rt; ends(&rt, DELAYED, &case, Status::ReadFault, text)?);
     }
     Ok(())
