@@ -14,7 +14,8 @@ use Rattle.dm_graph.proofs.Chains.{no_cycle_where_rank_rises, order_rises, place
 use Rattle.dm_network.specs.declared.parts.Activity.{Activity}
 use Rattle.dm_network.specs.Net.{Net, no_activity, no_pair, activity_at, pair_at, is_headway, places_into, EndsAreKnown}
 use Rattle.dm_network.specs.Pairs.{joins, own_pair, pair_place}
-use Rattle.dm_network.specs.Start.{is_start_active, arcs_of, IsStartCycle, IsFormed, ShowsStartCycle, ids_of}
+use Rattle.dm_network.specs.Start.{is_start_active, IsStartCycle, IsFormed, ShowsStartCycle}
+use Rattle.dm_network.specs.Held.{arcs_of, ids_of}
 use Rattle.dm_network.specs.Flat.{AreFlatRows}
 use Rattle.dm_network.specs.Stages.{KnowsPair, HasNoStartCycle}
 use Rattle.dm_network.proofs.PairKeys.{joins-true}

@@ -1,5 +1,6 @@
 pub mod Net
 pub mod Pairs
+pub mod Held
 pub mod Start
 pub mod Build
 pub mod Flat

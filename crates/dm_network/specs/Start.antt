@@ -1,8 +1,8 @@
 -- What binds before any message, and what a network is.
-use Rattle.std.specs.Prelude.{ℕ, ◌≡◌, ◌==◌, nat_le, Bool, true, List, length, map, Option, Some, None, if◌then◌else◌, ◌<◌, IsTrue}
+use Rattle.std.specs.Prelude.{ℕ, ◌≡◌, ◌==◌, nat_le, Bool, true, List, Option, Some, None, if◌then◌else◌}
 use Rattle.dm_base.specs.declared.ids.ActId.{ActId}
-use Rattle.dm_graph.specs.Arcs.{Arcs, IsCycle}
 use Rattle.dm_network.specs.Net.{Net, event_at, activity_at, pair_at, EventsAscend, ActivitiesAscend, EndsAreKnown, HeadwaysAreApart}
+use Rattle.dm_network.specs.Held.{IsCycleOf, ShowsCycleOf}
 use Rattle.dm_network.specs.Pairs.{IsPaired}
 
 -- At the start the event of a pair with the smaller scheduled time is first, and on a tie the one with the smaller id,
@@ -23,35 +23,13 @@ binds_at_start net (Some p) tail = tail == first_event net p (starts_small_first
 abbrev pub is_start_active : Net → ℕ → Bool
 is_start_active net a = binds_at_start net (activity_at net a).pair (activity_at net a).tail
 
--- an activity that binds at the start
-pub record IsStartActive (net : Net) (a : ℕ) : Type 0 where
-  pub is_activity : a < length net.activities
-  pub active : IsTrue (is_start_active net a)
-
--- the events and activities of a network as arcs, of which those in `held` bind
-abbrev pub arcs_of : Net → (ℕ → Bool) → Arcs
-arcs_of net held =
-    record {
-      events = length net.events;
-      arcs = length net.activities;
-      tail = λ a. (activity_at net a).tail;
-      head = λ a. (activity_at net a).head;
-      held = held;
-    }
-
 -- a closed list of activities that bind at the start
 abbrev pub IsStartCycle : Net → List ℕ → Type 0
-IsStartCycle net cycle = IsCycle (arcs_of net (is_start_active net)) cycle
-
--- the ids of activities
-abbrev pub ids_of : Net → List ℕ → List ActId
-ids_of net places = map (λ a. (activity_at net a).id) places
+IsStartCycle net cycle = IsCycleOf net (is_start_active net) cycle
 
 -- a cycle of the start rows, shown by its ids
-pub record ShowsStartCycle (net : Net) (ids : List ActId) : Type 0 where
-  pub places : List ℕ
-  pub is_cycle : IsStartCycle net places
-  pub named : ids ≡ ids_of net places
+abbrev pub ShowsStartCycle : Net → List ActId → Type 0
+ShowsStartCycle net ids = ShowsCycleOf net (is_start_active net) ids
 
 -- Events and activities with no double id, every tail and head known, headways of at least a second, and pairs as the
 -- headways form them.

@@ -5,7 +5,8 @@ use Rattle.std.proofs.lemmas.Option.{slice_get_within, get_or_from_slice_get}
 use Rattle.dm_graph.specs.Arcs.{Binds, BindsIn}
 use Rattle.dm_graph.proofs.Transfers.{cycle_carries}
 use Rattle.dm_network.specs.Net.{Net, event_place}
-use Rattle.dm_network.specs.Start.{IsNetwork, is_start_active, arcs_of}
+use Rattle.dm_network.specs.Start.{IsNetwork, is_start_active}
+use Rattle.dm_network.specs.Held.{arcs_of}
 use Rattle.dm_rows.specs.declared.messages.Change.TheVariants.{EventDelay}
 use Rattle.dm_rows.specs.declared.messages.Entry.{Entry}
 use Rattle.dm_rows.specs.declared.messages.Message.{Message}

@@ -5,7 +5,8 @@ use Rattle.dm_base.specs.declared.rows.ActKind.{ActKind}
 use Rattle.dm_base.specs.declared.rows.ActKind.TheVariants.{Drive, Wait, Turnaround, Change, Headway}
 use Rattle.dm_graph.specs.Arcs.{Arcs, IsCycle as IsCycleOfArcs}
 use Rattle.dm_network.specs.Net.{Net, activity_at}
-use Rattle.dm_network.specs.Start.{first_event, arcs_of, ids_of}
+use Rattle.dm_network.specs.Start.{first_event}
+use Rattle.dm_network.specs.Held.{arcs_of, ids_of}
 use Rattle.dm_rows.specs.Rows.{RowsValue, passed_at, kept_at, small_first_at}
 
 abbrev pub has_passed : RowsValue → ℕ → Bool

@@ -11,7 +11,7 @@ use Rattle.dm_graph.proofs.Transfers.{cycle_carries}
 use Rattle.dm_network.specs.Net.{Net, EndsAreKnown, activity_at, places_into}
 use Rattle.dm_network.specs.Flat.{AreFlatRows, row_at}
 use Rattle.dm_rows.specs.Rows.{RowsValue}
-use Rattle.dm_network.specs.Start.{ids_of}
+use Rattle.dm_network.specs.Held.{ids_of}
 use Rattle.dm_rows.specs.Active.{ShowsCycle, active_arcs}
 use Rattle.dm_settle.specs.Free.{is_free, free_arcs}
 use Rattle.dm_settle.specs.Scratch.{AreTails, AreHeld}

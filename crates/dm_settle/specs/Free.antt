@@ -2,7 +2,7 @@
 use Rattle.std.specs.Prelude.{ℕ, ◌≡◌, ◌<◌, Bool, false, List, None, slice_index, if◌then◌else◌}
 use Rattle.dm_graph.specs.Arcs.{Arcs}
 use Rattle.dm_network.specs.Net.{Net, activity_at}
-use Rattle.dm_network.specs.Start.{arcs_of}
+use Rattle.dm_network.specs.Held.{arcs_of}
 use Rattle.dm_rows.specs.Rows.{RowsValue, passed_at}
 use Rattle.dm_rows.specs.Active.{has_passed, is_active, IsActive}
 

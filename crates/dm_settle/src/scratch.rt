@@ -2,7 +2,7 @@
 ghost use Rattle.std.specs.Prelude.{ℕ, ◌≡◌, ◌+◌, ◌<◌, ◌≤◌, false, length, map, replicate, slice_index, All, IfOk, IfErr, OnOk};
 ghost use Rattle.dm_graph.specs.Arcs.{IsOrder};
 ghost use Rattle.dm_graph.specs.Arrays.{AreRanks};
-ghost use Rattle.dm_network.specs.Start.{ids_of};
+ghost use Rattle.dm_network.specs.Held.{ids_of};
 ghost use Rattle.dm_rows.specs.Rows.{IsSized};
 ghost use Rattle.dm_rows.specs.Active.{HasNoCycle};
 ghost use Rattle.dm_rows.specs.Timetable.{IsLeast};

@@ -1,5 +1,5 @@
 use Rattle.std.proofs.Common.{◌≡◌, take}
-use Rattle.dm_network.specs.Start.{ids_of}
+use Rattle.dm_network.specs.Held.{ids_of}
 use Rattle.dm_settle.proofs.scratch.ids_of.Given as goal
 
 abbrev pub invariant-loop-place : goal.invariant-loop-place
