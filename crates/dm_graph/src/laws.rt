@@ -1,10 +1,10 @@
 //! What holds of every graph. A law has no code: it is proved as the contract of an empty function.
 
-ghost use Rattle.std.specs.Prelude.{◌≡◌, ℕ, ◌+◌, ◌<◌, ◌≤◌, ◌↔◌, ◌⊎◌, ◌==◌, Bool, List, length, filter, slice_index, slice_range};
+ghost use Rattle.std.specs.Prelude.{◌≡◌, ℕ, ◌+◌, ◌*◌, ◌<◌, ◌≤◌, ◌↔◌, ◌⊎◌, ◌==◌, Bool, List, length, filter, slice_index, slice_range};
 ghost use Rattle.std.specs.List.{range_with_len};
 ghost use Rattle.dm_graph.specs.Arcs.{Arcs, Binds, BindsIn, IsOrder, HasNoCycle};
 ghost use Rattle.dm_graph.specs.Graph.{Graph, Meets, IsLeast, CanBeMet, HasLeast, HasPositiveCycles, AsksNoMore, IsJoin};
-ghost use Rattle.dm_graph.specs.Arrays.{arcs_of, AreArraysOf, AreRows, ListsArcs};
+ghost use Rattle.dm_graph.specs.Arrays.{arcs_in_arrays, AreArraysOf, AreRows, ListsArcs};
 
 /// At most one timetable is least, at the graph's events.
 pub fn one_is_least()
@@ -20,6 +20,13 @@ pub fn orders_have_no_cycle()
 /// Where there is no cycle, a timetable is least, whatever the spans.
 pub fn least_exists_without_cycle()
     ensures { (g : Graph) → HasNoCycle g.shape → HasLeast g }
+{}
+
+/// Without a cycle, no time of the least timetable is above the highest floor by more than the longest span for each event.
+pub fn least_is_bounded()
+    ensures { (g : Graph) (x : ℕ → ℕ) (floor span : ℕ) →
+        ((e : ℕ) → e < g.shape.events → g.floor e ≤ floor) → ((a : ℕ) → Binds g.shape a → g.span a ≤ span) →
+        HasNoCycle g.shape → IsLeast g x → (e : ℕ) → e < g.shape.events → x e ≤ floor + g.shape.events * span }
 {}
 
 /// A graph whose cycles all have a span of more than 0 can be met exactly where it has no cycle.
@@ -65,6 +72,6 @@ pub fn filtered_windows_are_rows()
 pub fn arrays_give_arcs()
     ensures { (events : ℕ) (tails heads offsets places : List ℕ) (held : List Bool) →
         length offsets ≡ events + 1 →
-        ListsArcs events (length tails) (arcs_of events tails heads held).head offsets places →
-        AreArraysOf (arcs_of events tails heads held) tails offsets places held }
+        ListsArcs events (length tails) (arcs_in_arrays events tails heads held).head offsets places →
+        AreArraysOf (arcs_in_arrays events tails heads held) tails offsets places held }
 {}

@@ -14,7 +14,7 @@ use Rattle.dm_network.specs.declared.arrays.Standing.{Standing}
 use Rattle.dm_network.specs.Net.{Net, no_event, no_activity, no_pair, pair_at, is_headway, places_into, places_out_of}
 use Rattle.dm_network.specs.declared.arrays.Arrays.{Arrays}
 use Rattle.dm_network.specs.Start.{IsStartCycle, ShowsStartCycle}
-use Rattle.dm_network.specs.Flat.{AreByStop, AreFlatRows}
+use Rattle.dm_network.specs.Inside.Flat.{AreByStop, AreFlatRows}
 use Rattle.dm_network.specs.Pairs.{joins, ComesBefore}
 use Rattle.dm_network.specs.Build.{event_row, activity_row, event_ids, activity_ids, NamesNoEvent, IsFirst, HoldsOfNone, NoneStandsTwice, IsLeastDouble, IsZeroHeadway}
 
@@ -149,14 +149,14 @@ pub record StandBeside (net : Net) (arrays : Arrays) : Type 0 where
   pub at_stops : AreByStop net arrays.by_stop.stops.items arrays.by_stop.places.items
 
 -- why a network that is formed is refused: a cycle at the start, or want of memory
-abbrev pub RefusesStart : Net → NetFault → Type 0
-RefusesStart net (Cycle ids) = ShowsStartCycle net ids
-RefusesStart net OutOfMemory = Unit {0}
-RefusesStart net TooMany = ⊥
-RefusesStart net (DoubleEvent id) = ⊥
-RefusesStart net (DoubleActivity id) = ⊥
-RefusesStart net (UnknownEvent id) = ⊥
-RefusesStart net (ZeroHeadway id) = ⊥
+abbrev pub RefusesFormed : Net → NetFault → Type 0
+RefusesFormed net (Cycle ids) = ShowsStartCycle net ids
+RefusesFormed net OutOfMemory = Unit {0}
+RefusesFormed net TooMany = ⊥
+RefusesFormed net (DoubleEvent id) = ⊥
+RefusesFormed net (DoubleActivity id) = ⊥
+RefusesFormed net (UnknownEvent id) = ⊥
+RefusesFormed net (ZeroHeadway id) = ⊥
 
 -- the stop of the event at a place, with the place
 abbrev pub standing_at : List Event → ℕ → Standing

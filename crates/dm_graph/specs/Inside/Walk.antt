@@ -89,7 +89,7 @@ KeepsMet old new = (e : ℕ) → e < length old.order.items → slice_index old.
     slice_index new.rank.items e < length new.order.items
 
 -- an event goes on top of the path
-pub record Enters (old : Walk) (e : ℕ) (new : Walk) : Type 0 where
+pub record GoesOnTop (old : Walk) (e : ℕ) (new : Walk) : Type 0 where
   pub top : old.top ≡ new.top + 1
   pub order : new.order.items ≡ slice_set old.order.items new.top e
   pub rank : new.rank.items ≡ slice_set old.rank.items e new.top
@@ -127,7 +127,7 @@ pub record Returns (tails offsets places : List ℕ) (held : List Bool) (old new
   pub met : KeepsMet old new
 
 -- the lists of the walk have one length
-pub record IsSized (walk : Walk) : Type 0 where
+pub record HasEvenLists (walk : Walk) : Type 0 where
   pub ranks : length walk.rank.items ≡ length walk.order.items
   pub nexts : length walk.next.items ≡ length walk.order.items
 
