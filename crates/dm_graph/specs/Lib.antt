@@ -4,6 +4,5 @@ pub mod Arcs
 pub mod Graph
 pub mod Arrays
 pub mod Findings
-
 -- What holds of the search between its steps: checked, and not to be believed.
 pub mod Inside

@@ -45,6 +45,11 @@ pub fn least_for_less_that_meets_more()
     ensures { (less more : Graph) (x : ℕ → ℕ) → AsksNoMore less more → IsLeast less x → Meets more x → IsLeast more x }
 {}
 
+/// Graphs that ask the same have the same least timetable.
+pub fn same_is_least_alike()
+    ensures { (g h : Graph) (x : ℕ → ℕ) → AsksNoMore g h → AsksNoMore h g → IsLeast g x → IsLeast h x }
+{}
+
 /// Where an order exists, times that are each the join over the others are least.
 pub fn joins_along_an_order_are_least()
     ensures { (g : Graph) (order : List ℕ) (x : ℕ → ℕ) → IsOrder g.shape order →
