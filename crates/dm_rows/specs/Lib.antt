@@ -6,6 +6,7 @@ pub mod Resolve
 pub mod Refuse
 pub mod History
 pub mod Decide
+pub mod Relax
 pub mod Touch
 pub mod Reach
 pub mod StartFaults

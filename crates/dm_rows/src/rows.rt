@@ -13,7 +13,7 @@ use dm_network::Network;
 use std::alloc::{AllocError, Global};
 use std::marker::Model;
 
-/// The source delays, the passed events, the kept changes and the order of each pair, by place.
+/// The source delays, the passed events, the kept changes and the order of each pair, by place, and the clock.
 #[derive(Drop)]
 pub struct Rows {
     alloc: Global,
@@ -22,6 +22,7 @@ pub struct Rows {
     passed: Vec<Option<u64>>,
     kept: Vec<bool>,
     small_first: Vec<bool>,
+    clock: u64,
 }
 
 impl Model for Rows {
@@ -35,9 +36,10 @@ impl Model for Rows {
       passed = r.passed.items;
       kept = r.kept.items;
       small_first = r.small_first.items;
+      clock = r.clock;
     } };
 
-    ghost invariant = { λ r. NumbersAreWithinLimits r.event_delays.items r.act_delays.items r.passed.items };
+    ghost invariant = { λ r. NumbersAreWithinLimits r.event_delays.items r.act_delays.items r.passed.items r.clock };
 }
 
 /// The rows at an entry of a history.
@@ -66,6 +68,7 @@ impl Rows {
             passed: vec![in alloc; None; net.events()]?,
             kept: vec![in alloc; true; net.activities()]?,
             small_first: first_events(alloc, net)?,
+            clock: 0,
         })
     }
 
@@ -120,6 +123,14 @@ impl Rows {
         self.small_first[p]
     }
 
+    /// The clock, in seconds: no event that has not passed lies before it.
+    pub fn clock(&self) -> Secs
+        ensures value { result ≡ self.now.clock }
+        ensures limit { result ≤ PASSED_TIME }
+    {
+        self.clock
+    }
+
     /// Equal rows.
     pub fn copy(&self) -> Result<Rows, AllocError>
         ensures same { IfOk result (λ rows. rows ≡ self.now) }
@@ -132,6 +143,7 @@ impl Rows {
             passed: Vec::from_slice(self.alloc, &self.passed)?,
             kept: Vec::from_slice(self.alloc, &self.kept)?,
             small_first: Vec::from_slice(self.alloc, &self.small_first)?,
+            clock: self.clock,
         })
     }
 
@@ -171,6 +183,7 @@ impl Rows {
             Change::Adopted(flips) => {
                 self.set_all(flips.as_slice());
             }
+            Change::Clock { time } => self.clock = *time,
         }
     }
 }
