@@ -4,5 +4,7 @@ pub mod AtStart
 pub mod FlipLemmas
 pub mod Holding
 pub mod PairEnds
+pub mod Setting
 pub mod StartDelays
 pub mod StartSizes
+pub mod Worked
