@@ -1,0 +1,79 @@
+//! Whole runs as data: words over the files of a folder, with the status and the text that are due.
+//!
+//! It reads the file `cases`, a case a line: its name, the folder of its network, the status, and the words of the command
+//! line. A name that `dispatch` opens is looked for in the case's own folder under `runs`, and then in the network's under
+//! `networks`. What is due stands beside the case's own files as `text`; where any one of several texts is right, the
+//! others are `text-2`, `text-3` and so on. For each case it prints `NAME ok`, or what differs.
+#![tactic(auto)]
+
+mod case;
+mod due;
+mod shelf;
+
+use case::Case;
+use dm_outside::{MemSink, OpenGate};
+use dm_program::dispatch;
+use due::{Outcome, outcome_of, read_file};
+use shelf::CaseShelf;
+use std::alloc::AllocError;
+use std::fs::File;
+use std::rt::Files;
+use std::sync::Wait;
+use std::thread::Threads;
+use std::{io, str};
+
+/// The most bytes that the text of a case may have.
+const ROOM: usize = 4_000_000;
+
+fn main(rt: HostRuntime) -> io::Result<()> {
+    let Some(listing) = read_file(&rt, "cases") else {
+        return println!(rt; "there is no list of cases");
+    };
+    let Ok(text) = str::from_utf8(&listing) else {
+        return println!(rt; "the list of cases is no text");
+    };
+    for line in text.lines() {
+        match Case::of(rt.alloc(), line) {
+            Ok(Some(case)) => report(&rt, &case)?,
+            Ok(None) => {}
+            Err(AllocError) => println!(rt; "no memory")?,
+        }
+    }
+    Ok(())
+}
+
+/// Runs a case, and prints how it came out.
+fn report<R: Print + AllocGlobal + Files<File = File> + Threads + Wait + Sync>(
+    rt: &R,
+    case: &Case<'_>,
+) -> io::Result<()> {
+    let name = case.name;
+    match run(rt, case) {
+        Ok(Outcome::Right) => println!(rt; "{name} ok"),
+        Ok(Outcome::Status(status)) => println!(rt; "{name} ends with status {status}"),
+        Ok(Outcome::Line(number)) => println!(rt; "{name} differs at line {number}"),
+        Ok(Outcome::NothingDue) => println!(rt; "{name} has no text that is due"),
+        Err(AllocError) => println!(rt; "{name} has no memory"),
+    }
+}
+
+/// Calls `dispatch` for a case and compares what it leaves.
+fn run<R: Print + AllocGlobal + Files<File = File> + Threads + Wait + Sync>(
+    rt: &R,
+    case: &Case<'_>,
+) -> Result<Outcome, AllocError> {
+    let alloc = rt.alloc();
+    let mut shelf = CaseShelf::new(rt, alloc, case)?;
+    let mut boards = Vec::new(alloc);
+    let mut sink = MemSink::new(alloc, ROOM, ROOM, Vec::new(alloc))?;
+    let status = dispatch(
+        rt,
+        alloc,
+        case.words.as_slice(),
+        &mut shelf,
+        &mut boards,
+        &OpenGate,
+        &mut sink,
+    );
+    outcome_of(rt, case, status as u8, sink.taken())
+}
