@@ -1,17 +1,12 @@
-//! The tests of the dispatcher's crates: of what no contract says, worked examples with values from outside, and each
-//! call that may want memory once with ample memory. It stands on every crate that its tests call, and promises nothing.
+//! The tests of networks, rows and runs: of what no contract says, worked examples with values from outside, faults at each
+//! place, and each call that may want memory once with ample memory. It stands on every crate that its tests call, and
+//! promises nothing.
 #![tactic(auto)]
 
 #[cfg(test)]
-mod base;
-#[cfg(test)]
 mod graph;
 #[cfg(test)]
-mod lintim;
-#[cfg(test)]
 mod network;
-#[cfg(test)]
-mod outside;
 #[cfg(test)]
 mod program;
 #[cfg(test)]

@@ -1,5 +1,5 @@
-//! Whole runs over files in memory: worked examples, refused texts, faults at each place, and that no run wants memory
-//! where there is enough.
+//! Whole runs over files in memory whose files are too long, or whose openings, reads or writes fail. Runs over good and
+//! refused files are cases of dm_runs.
 ghost use Rattle.std.specs.Prelude.{◌<◌};
 
 use dm_base::limits::FILE;
@@ -16,15 +16,6 @@ const EVENTS: &[u8] =
 
 const ACTIVITIES: &[u8] =
     b"# activity-id; periodic-id; type; tail; head; lower; upper; passengers\n1; 1; \"drive\"; 1; 2; 90; 100; 10\n2; 2; \"wait\"; 2; 3; 10; 30; 10\n3; 3; \"drive\"; 3; 4; 80; 100; 10\n4; 4; \"drive\"; 5; 6; 95; 110; 5\n5; 5; \"change\"; 2; 5; 20; 79; 4\n6; 6; \"headway\"; 3; 5; 8; 60; 0\n7; 7; \"headway\"; 5; 3; 8; 60; 0\n";
-
-const PUNCTUAL: &[u8] =
-    b"dm-run 1\npenalty 10\nfeeds 1\nentries 0\nfeed 1 0\nend\nboards 0\ntimes 0\n1; 100\n2; 200\n3; 220\n4; 300\n5; 230\n6; 330\ncost 0\ndone\n";
-
-const LATE: &[u8] =
-    b"dm-run 1\npenalty 10\nfeeds 1\nentries 1\nentry 1 feed 1 line 1 delay event 1 60\nfeed 1 1\n1 delay event 1 60 -> 1 ok\nend\nboards 0\ntimes 1\n1; 160\n2; 250\n3; 260\n4; 340\n5; 270\n6; 365\ncost 1075000\ndone\n";
-
-const CORRECTED: &[u8] =
-    b"dm-run 1\npenalty 10\nfeeds 1\nentries 2\nentry 1 feed 1 line 1 delay event 1 60\nentry 2 feed 1 line 2 delay event 1 5\nfeed 1 2\n1 delay event 1 60 -> 1 ok\n2 delay event 1 5 -> 2 ok\nend\nboards 0\ntimes 2\n1; 105\n2; 200\n3; 220\n4; 300\n5; 230\n6; 330\ncost 0\ndone\n";
 
 // What the shelf of a run holds and how it fails. The delay files are `net/d` and `net/e`.
 #[derive(Clone, Copy)]
@@ -144,172 +135,6 @@ fn ends<R: Threads + Wait + Sync + AllocGlobal>(
     Ok(ended == status && taken.as_slice() == text)
 }
 
-#[test]
-fn always_no_memory(rt: HostRuntime) -> Result<(), Fail> {
-    for (feed, text) in [
-        (b"".as_slice(), PUNCTUAL),
-        (b"delay event 1 60\n".as_slice(), LATE),
-        (b"delay event 1 60\ndelay event 1 5".as_slice(), CORRECTED),
-    ] {
-        let case = Case { feed, ..GOOD };
-        assert!(rt; ends(&rt, RUN, &case, Status::Ok, text)?);
-    }
-    Ok(())
-}
-
-#[test]
-fn refused_and_malformed_lines(rt: HostRuntime) -> Result<(), Fail> {
-    let case = Case {
-        feed: b"delay event 9 1\ndelay event 1 1000001\nhello\n",
-        ..GOOD
-    };
-    let text =
-        b"dm-run 1\npenalty 10\nfeeds 1\nentries 0\nfeed 1 3\n1 delay event 9 1 -> 0 refused unknown-event 9\n2 delay event 1 1000001 -> 0 refused range 1000001\n3 malformed\nend\nboards 0\ntimes 0\n1; 100\n2; 200\n3; 220\n4; 300\n5; 230\n6; 330\ncost 0\ndone\n";
-    assert!(rt; ends(&rt, RUN, &case, Status::Ok, text)?);
-    Ok(())
-}
-
-#[test]
-fn empty_files(rt: HostRuntime) -> Result<(), Fail> {
-    let case = Case {
-        events: b"",
-        activities: b"",
-        ..GOOD
-    };
-    let text =
-        b"dm-run 1\npenalty 3600\nfeeds 1\nentries 0\nfeed 1 0\nend\nboards 0\ntimes 0\ncost 0\ndone\n";
-    assert!(rt; ends(&rt, &["run", "net", "f"], &case, Status::Ok, text)?);
-    Ok(())
-}
-
-#[test]
-fn delays_from_files(rt: HostRuntime) -> Result<(), Fail> {
-    let late =
-        b"dm-run 1\npenalty 10\nfeeds 1\nentries 0\nfeed 1 0\nend\nboards 0\ntimes 0\n1; 160\n2; 250\n3; 260\n4; 340\n5; 270\n6; 365\ncost 1075000\ndone\n".as_slice();
-    for (event_delays, activity_delays, text) in [
-        (b"1;60\n".as_slice(), b"".as_slice(), late),
-        (b"1; 60\n1; 0\n".as_slice(), b"".as_slice(), PUNCTUAL),
-        (b"".as_slice(), b"3; 0\n".as_slice(), PUNCTUAL),
-    ] {
-        let case = Case {
-            event_delays,
-            activity_delays,
-            ..GOOD
-        };
-        assert!(rt; ends(&rt, DELAYED, &case, Status::Ok, text)?);
-    }
-    Ok(())
-}
-
-#[test]
-fn columns_in_another_order(rt: HostRuntime) -> Result<(), Fail> {
-    let case = Case {
-        events: b"100;1;departure;10;1\r\n200;2;Arrival;10;2\r\n",
-        activities: b"",
-        ..GOOD
-    };
-    let words = [
-        "run",
-        "net",
-        "f",
-        "--event-columns=time,id,type,weight,stop",
-        "--penalty=10",
-    ];
-    let text =
-        b"dm-run 1\npenalty 10\nfeeds 1\nentries 0\nfeed 1 0\nend\nboards 0\ntimes 0\n1; 100\n2; 200\ncost 0\ndone\n";
-    assert!(rt; ends(&rt, &words, &case, Status::Ok, text)?);
-    Ok(())
-}
-
-#[test]
-fn bad_files_are_refused(rt: HostRuntime) -> Result<(), Fail> {
-    for (events, text) in [
-        (
-            b"1; 1; departure; 100; 10\n".as_slice(),
-            b"refused net/Events-expanded.giv record 1 field-count 5\n".as_slice(),
-        ),
-        (
-            b"1; 1; departure; 100; 1.0E-4; 1\n".as_slice(),
-            b"refused net/Events-expanded.giv record 1 bad-number weight\n".as_slice(),
-        ),
-        (
-            b"1; 1; departure; 1000000001; 1; 1\n".as_slice(),
-            b"refused net/Events-expanded.giv record 1 too-large time\n".as_slice(),
-        ),
-        (
-            b"\xef\xbb\xbf1; 1; departure; 1; 1; 1\n".as_slice(),
-            b"refused net/Events-expanded.giv record 0 byte-order-mark\n".as_slice(),
-        ),
-        (
-            b"3; 1; departure; 1; 1; 1\n3; 1; departure; 1; 1; 1\n".as_slice(),
-            b"refused network double-event 3\n".as_slice(),
-        ),
-        (
-            b"".as_slice(),
-            b"refused network unknown-event 1\n".as_slice(),
-        ),
-    ] {
-        let case = Case { events, ..GOOD };
-        assert!(rt; ends(&rt, RUN, &case, Status::Refused, text)?);
-    }
-    Ok(())
-}
-
-#[test]
-fn bad_networks_are_refused(rt: HostRuntime) -> Result<(), Fail> {
-    for (activities, text) in [
-        (
-            b"1; 1; drive; 1; 2; 90; 1; 1\n2; 1; wait; 2; 3; 1; 1; 1\n3; 1; sync; 2; 3; 1; 1; 1\n".as_slice(),
-            b"refused net/Activities-expanded.giv record 3 unknown-type\n".as_slice(),
-        ),
-        (
-            b"1; 1; drive; 1; 2; 90; 1; 1\n1; 1; wait; 2; 3; 1; 1; 1\n".as_slice(),
-            b"refused network double-activity 1\n".as_slice(),
-        ),
-        (
-            b"6; 6; headway; 3; 5; 0; 60; 0\n".as_slice(),
-            b"refused network zero-headway 6\n".as_slice(),
-        ),
-        (
-            b"7; 7; drive; 3; 3; 0; 60; 0\n".as_slice(),
-            b"refused network cycle 7\n".as_slice(),
-        ),
-    ] {
-        let case = Case { activities, ..GOOD };
-        assert!(rt; ends(&rt, RUN, &case, Status::Refused, text)?);
-    }
-    Ok(())
-}
-
-#[test]
-fn bad_delays_are_refused(rt: HostRuntime) -> Result<(), Fail> {
-    for (event_delays, activity_delays, text) in [
-        (
-            b"1; 1000001\n".as_slice(),
-            b"".as_slice(),
-            b"refused net/d record 1 too-large delay\n".as_slice(),
-        ),
-        (
-            b"9; 5\n".as_slice(),
-            b"9; 5\n".as_slice(),
-            b"refused start unknown-event 9\n".as_slice(),
-        ),
-        (
-            b"1; 5\n".as_slice(),
-            b"9; 5\n".as_slice(),
-            b"refused start unknown-activity 9\n".as_slice(),
-        ),
-    ] {
-        let case = Case {
-            event_delays,
-            activity_delays,
-            ..GOOD
-        };
-        assert!(rt; ends(&rt, DELAYED, &case, Status::Refused, text)?);
-    }
-    Ok(())
-}
-
 fn lines(alloc: Global, count: usize) -> Result<Vec<u8>, AllocError> {
     vec![in alloc; b'\n'; count]
 }
@@ -420,26 +245,5 @@ fn sink_that_fails(rt: HostRuntime) -> Result<(), Fail> {
         ..case
     };
     assert!(rt; ends(&rt, RUN, &refused, Status::WriteFault, b"refus")?);
-    Ok(())
-}
-
-#[test]
-fn words_outside_the_tables(rt: HostRuntime) -> Result<(), Fail> {
-    let usage = b"usage: run DIR FEED.. | check DIR TEXT | gen NUMBER TRAINS\n".as_slice();
-    let cases: [&[&str]; 10] = [
-        &[],
-        &["run", "net"],
-        &["run", "net", "--penalty=1000001", "f"],
-        &["run", "net", "--penalty=", "f"],
-        &["run", "net", "--penalty=5", "--penalty=6", "f"],
-        &["run", "net", "--penalty", "5", "f"],
-        &["run", "net", "f", "--batch=2"],
-        &["run", "net", "f", "--event-columns=id,type,time"],
-        &["check", "net", "f"],
-        &["run", "net", "-f"],
-    ];
-    for words in cases {
-        assert!(rt; ends(&rt, words, &GOOD, Status::Usage, usage)?);
-    }
     Ok(())
 }

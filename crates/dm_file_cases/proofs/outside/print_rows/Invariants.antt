@@ -1,8 +1,8 @@
 use Rattle.std.proofs.Common.{take}
 use Rattle.std.specs.List.{flat_map}
 use Rattle.dm_outside.specs.Printing.{Gathers}
-use Rattle.dm_cases.specs.Outside.{row_text}
-use Rattle.dm_cases.proofs.outside.print_rows.Given as goal
+use Rattle.dm_file_cases.specs.Outside.{row_text}
+use Rattle.dm_file_cases.proofs.outside.print_rows.Given as goal
 
 abbrev pub invariant-loop-row : goal.invariant-loop-row
 invariant-loop-row g l =

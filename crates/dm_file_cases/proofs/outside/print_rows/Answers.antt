@@ -1,7 +1,7 @@
 use Rattle.std.proofs.Common.{refl}
 use Rattle.dm_outside.proofs.Printing.{prints_next, prints_fault_next}
-use Rattle.dm_cases.specs.Outside.{row_text}
-use Rattle.dm_cases.proofs.outside.print_rows.Goals as goal
+use Rattle.dm_file_cases.specs.Outside.{row_text}
+use Rattle.dm_file_cases.proofs.outside.print_rows.Goals as goal
 
 pub loop-row-preserved : goal.loop-row-preserved
 loop-row-preserved g c =

@@ -1,7 +1,7 @@
 // Sources, sinks, shelves and printed text.
 ghost use Rattle.std.specs.List.{flat_map};
 ghost use Rattle.dm_outside.specs.Printing.{Puts, Prints};
-ghost use Rattle.dm_cases.specs.Outside.{row_text, table_text};
+ghost use Rattle.dm_file_cases.specs.Outside.{row_text, table_text};
 
 #[cfg(test)]
 mod tests;

@@ -1,7 +1,7 @@
 use Rattle.std.proofs.Common.{codes}
 use Rattle.dm_outside.proofs.Printing.{prints_fault, prints_then, prints_then_fault, finishes, unfinished}
-use Rattle.dm_cases.specs.Outside.{table_text}
-use Rattle.dm_cases.proofs.outside.print_table.Goals as goal
+use Rattle.dm_file_cases.specs.Outside.{table_text}
+use Rattle.dm_file_cases.proofs.outside.print_table.Goals as goal
 
 pub returns : goal.returns
 unfolding table_text
