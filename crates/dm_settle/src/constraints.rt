@@ -65,7 +65,7 @@ impl Constraints {
         self.held[a]
     }
 
-    /// The least time of the event at a place by itself.
+    /// The least time of the event at a place by itself, in seconds.
     pub fn floor(&self, i: usize) -> Secs
         requires { i < length self.now.floors }
         ensures value { result ≡ slice_index self.now.floors i }
@@ -74,7 +74,7 @@ impl Constraints {
         self.floors[i]
     }
 
-    /// The least time from the tail to the head of the activity at a place.
+    /// The least time from the tail to the head of the activity at a place, in seconds.
     pub fn span(&self, a: usize) -> Secs
         requires { a < length self.now.spans }
         ensures value { result ≡ slice_index self.now.spans a }
@@ -91,7 +91,7 @@ impl Constraints {
         self.held[a] = held;
     }
 
-    /// Sets the floor of the event at a place.
+    /// Sets the floor of the event at a place, in seconds, at most the latest passed time.
     pub fn set_floor(&mut self, i: usize, floor: Secs)
         requires is_event { i < length self.old.floors }
         requires limit { floor ≤ PASSED_TIME }
@@ -100,7 +100,7 @@ impl Constraints {
         self.floors[i] = floor;
     }
 
-    /// Sets the span of the activity at a place.
+    /// Sets the span of the activity at a place, in seconds, at most a lower bound and a delay together.
     pub fn set_span(&mut self, a: usize, span: Secs)
         requires is_activity { a < length self.old.spans }
         requires limit { span ≤ BOUND + DELAY }

@@ -16,8 +16,9 @@ use std::alloc::{AllocError, Global};
 use std::marker::Brand;
 use std::sync::ledger::{Blank, Ledger};
 
-/// The least timetable of the constraints, in seconds by place of the event, or a cycle of held activities. Its time is
-/// linear in events and activities.
+/// The least timetable of the constraints, in seconds by place of the event. [`NoTimes::Cycle`] comes exactly where held
+/// activities form a cycle, unless memory is short first: then [`NoTimes::OutOfMemory`]. Its time is linear in events and
+/// activities.
 pub fn least_times(
     alloc: Global,
     net: &Network,
