@@ -1,11 +1,9 @@
 -- Held activities can be met exactly where they have no cycle.
-use Rattle.std.proofs.Common.{◌≡◌, ℕ, ◌+◌, ◌<◌, ◌≤◌, List, length, map, Option, None, IsTrue, true, false, arith, refl, Bool, cond, ◌∙◌, inl, inr, ap, sym}
+use Rattle.std.proofs.Common.{◌≡◌, ℕ, ◌+◌, ◌<◌, ◌≤◌, List, length, map, Option, None, IsTrue, true, false, arith, refl, Bool, cond, inl, inr, sym}
 use Rattle.std.specs.Prelude.{◌⊎◌}
 use Rattle.std.specs.List.{range_with_len}
 use Rattle.std.proofs.lemmas.List.FromFn.{get_or-map-range_with_len, length-map-range_with_len}
-use Rattle.dm_base.specs.declared.rows.ActKind.{ActKind}
-use Rattle.dm_base.specs.declared.rows.ActKind.TheVariants.{Drive, Wait, Turnaround, Change, Headway}
-use Rattle.dm_graph.specs.Arcs.{Arcs, Binds, BindsIn}
+use Rattle.dm_graph.specs.Arcs.{Binds, BindsIn}
 use Rattle.dm_graph.specs.Graph.{HasPositiveCycles}
 use Rattle.dm_graph.proofs.Rounds.{round, round_is_least}
 use Rattle.dm_graph.proofs.Timetables.{met_has_no_cycle}

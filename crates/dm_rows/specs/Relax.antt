@@ -2,7 +2,7 @@
 -- undecided binds nothing and costs nothing.
 use Rattle.std.specs.Prelude.{ℕ, ◌==◌, ◌&&◌, Bool, false, not, List, length, map, filter, ◌++◌, Option, Some, None, if◌then◌else◌}
 use Rattle.std.specs.List.{range_with_len, list_any}
-use Rattle.dm_network.specs.Net.{Net, activity_at, pair_at, is_change}
+use Rattle.dm_network.specs.Net.{Net, activity_at, pair_at}
 use Rattle.dm_rows.specs.declared.messages.Decision.{Decision}
 use Rattle.dm_rows.specs.declared.messages.Choice.{Choice}
 use Rattle.dm_rows.specs.declared.messages.Choice.TheVariants.{Change, Pair}

@@ -1,5 +1,5 @@
 -- What the definitions give on the two small networks, as computed by hand.
-use Rattle.std.specs.Prelude.{ℕ, ◌≡◌, ◌↔◌, List, [], ◌∷◌, Contains}
+use Rattle.std.specs.Prelude.{ℕ, ◌≡◌, ◌↔◌, [], ◌∷◌, Contains}
 use Rattle.dm_base.specs.declared.limits.TheConstants.{ENTRIES}
 use Rattle.dm_rows.specs.declared.messages.Change.TheVariants.{EventDelay, ActDelay, Passed as PassedAt, Clock}
 use Rattle.dm_rows.specs.declared.messages.Choice.TheVariants.{Change, Pair}
