@@ -4,5 +4,5 @@ pub mod Arcs
 pub mod Graph
 pub mod Arrays
 pub mod Findings
--- What holds of the search between its steps: checked, and not to be believed.
+-- What holds of the search between its steps: checked, so that a reader need not believe them.
 pub mod Inside

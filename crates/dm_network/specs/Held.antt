@@ -1,4 +1,4 @@
--- The activities of a network as arcs, of which those that are held to bind, and the cycles that they make.
+-- The activities of a network as arcs, of which those that are held bind, and the cycles that these make.
 use Rattle.std.specs.Prelude.{ℕ, ◌≡◌, Bool, false, List, length, map, slice_index_or}
 use Rattle.dm_base.specs.declared.ids.ActId.{ActId}
 use Rattle.dm_graph.specs.Arcs.{Arcs, IsCycle}

@@ -33,7 +33,7 @@ is_dropped_change net rows a =
 abbrev pub dropped_weight : Net → RowsValue → ℕ → ℕ
 dropped_weight net rows a = charged_weight net (is_dropped_change net rows) a
 
--- the timetable does not keep the activity: its head comes too early
+-- the activity is not met in the timetable: its head comes too early
 abbrev pub comes_too_early : Net → RowsValue → List ℕ → ℕ → Bool
 comes_too_early net rows x a =
     nat_lt (time_at x (activity_at net a).head) (time_at x (activity_at net a).tail + span_of net rows a)
@@ -56,7 +56,7 @@ cost_charging net rows charged x penalty =
 abbrev pub cost_of : Net → RowsValue → List ℕ → ℕ → ℕ
 cost_of net rows x penalty = cost_charging net rows (is_dropped_change net rows) x penalty
 
--- a least timetable holding these activities costs c, charging for those
+-- c is the cost of a least timetable holding the activities of `held`, with a charge for each of `charged`
 pub record CostsHolding (net : Net) (rows : RowsValue) (held charged : ℕ → Bool) (penalty c : ℕ) : Type 0 where
   pub times : List ℕ
   pub least : IsLeastHolding net rows held times

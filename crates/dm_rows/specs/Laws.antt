@@ -1,4 +1,4 @@
--- How the rows' own definitions stand to the general theory of graphs.
+-- How the rows' own definitions stand to the general theory of graphs, to what binds at the start, and to one another.
 use Rattle.std.specs.Prelude.{ℕ, ◌≡◌, ◌<◌, ◌≤◌, ◌↔◌, ◌⊎◌, Bool, IsTrue, List, length, Some, None, All, IsSome}
 use Rattle.dm_graph.specs.Graph.{Meets as MeetsGraph, IsLeast as IsLeastOfGraph}
 use Rattle.dm_network.specs.Net.{Net, EndsAreKnown, activity_at}

@@ -15,5 +15,5 @@ pub mod StartFaults
 pub mod Laws
 pub mod Examples
 pub mod Worked
--- Stages of the start rows: checked, and not to be believed.
+-- Stages of the start rows: checked, so that a reader need not believe them.
 pub mod Inside

@@ -49,7 +49,7 @@ RefusesRecall net rows e (UnknownEvent u) = (event_place net e ≡ None) × (u �
 RefusesRecall net rows e (NotPassed u) = IsSome (event_place net e) × (passed_time net rows e ≡ None) × (u ≡ e)
 RefusesRecall net rows e _ = ⊥
 
--- a clock that is not taken back
+-- a clock of at most PASSED_TIME that is not taken back
 abbrev pub RefusesClock : RowsValue → ℕ → Refusal → Type 0
 RefusesClock rows t (Range v) = (PASSED_TIME < t) × (v ≡ t)
 RefusesClock rows t (Back c) = (t ≤ PASSED_TIME) × (t < rows.clock) × (c ≡ rows.clock)
@@ -117,11 +117,24 @@ IsAdopt _ = ⊥
 abbrev pub RefusesAdmission : Net → RowsValue → Message → Refusal → Type 0
 RefusesAdmission net rows m r = RefusesAtOnce net rows m r ⊎ (IsAdopt m × (r ≡ OutOfMemory))
 
+-- a clock, of which no cycle is asked: it makes none
+abbrev pub IsNow : Message → Type 0
+IsNow (DelayEvent e d) = ⊥
+IsNow (DelayActivity a d) = ⊥
+IsNow (Pass e t) = ⊥
+IsNow (Recall e) = ⊥
+IsNow (Keep a) = ⊥
+IsNow (Drop a) = ⊥
+IsNow (First i j) = ⊥
+IsNow (Adopt ds) = ⊥
+IsNow (Now t) = Unit {0}
+
 -- The refusal of a message at a history of n entries: the first that applies. After those at once comes a cycle of the
--- rows after the message, any one of them, and then a full history. Want of memory is left out.
+-- rows after the message, any one of them, and then a full history; after a clock a full history alone. Want of memory is
+-- left out.
 abbrev pub Refuses : Net → RowsValue → ℕ → Message → Refusal → Type 0
-Refuses net rows n m (Cycle ids) = PassesAtOnce net rows m × ShowsCycle net (after net rows m) ids
+Refuses net rows n m (Cycle ids) = PassesAtOnce net rows m × (IsNow m → ⊥) × ShowsCycle net (after net rows m) ids
 Refuses net rows n m (Full k) =
-    PassesAtOnce net rows m × HasNoCycle net (after net rows m) × (n ≡ ENTRIES) × (k ≡ n)
+    PassesAtOnce net rows m × (IsNow m ⊎ HasNoCycle net (after net rows m)) × (n ≡ ENTRIES) × (k ≡ n)
 Refuses net rows n m OutOfMemory = ⊥
 Refuses net rows n m r = RefusesAtOnce net rows m r

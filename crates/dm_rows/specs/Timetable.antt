@@ -28,7 +28,8 @@ pub record MeetsHolding (net : Net) (rows : RowsValue) (held : ℕ → Bool) (x 
   pub along : (a : ℕ) → a < length net.activities → IsTrue (held a) →
       time_at x (activity_at net a).tail + span_of net rows a ≤ time_at x (activity_at net a).head
 
--- It is least so where it meets them, and is at every event at most any other that meets them.
+-- A timetable is least for the rows holding these activities where it meets them so, and is at every event at most any other
+-- that does.
 pub record IsLeastHolding (net : Net) (rows : RowsValue) (held : ℕ → Bool) (x : List ℕ) : Type 0 where
   pub meets : MeetsHolding net rows held x
   pub earliest : (y : List ℕ) → MeetsHolding net rows held y → (i : ℕ) → i < length net.events → time_at x i ≤ time_at y i

@@ -7,7 +7,7 @@ use Rattle.dm_rows.specs.Rows.{RowsValue, passed_at}
 use Rattle.dm_rows.specs.Active.{IsActive}
 use Rattle.dm_rows.specs.Timetable.{time_at}
 
--- of the changes, the delays, the passed events and the clocks alone touch anything
+-- the changes of which touched events are told: delays, passed events and clocks
 abbrev pub IsDelayPassOrClock : Change → Type 0
 IsDelayPassOrClock (EventDelay e d) = Unit {0}
 IsDelayPassOrClock (ActDelay a d) = Unit {0}

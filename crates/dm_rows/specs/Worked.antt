@@ -30,22 +30,23 @@ pub record CostsOfMisses : Type 0 where
   pub missed_dropped : cost_of connection (with_passed 215 (with_drop at_start)) (100 ∷ 200 ∷ 223 ∷ 303 ∷ 215 ∷ 330 ∷ []) 10 ≡ 70000
   pub met : cost_of connection (with_passed 400 at_start) (100 ∷ 200 ∷ 408 ∷ 488 ∷ 400 ∷ 495 ∷ []) 10 ≡ 2705000
 
--- the least times of the connection: at the start, with event 1 a minute late, at the time 240, and with events passed before
+-- the least times of the connection: at the start, with event 1 a minute late, at the time 240, at that time with events 1
+-- and 2 passed, and with event 2 recalled
 pub record LeastTimes : Type 0 where
   pub start : IsLeast connection at_start scheduled
   pub late : IsLeast connection delayed (160 ∷ 250 ∷ 260 ∷ 340 ∷ 270 ∷ 365 ∷ [])
   pub clock : IsLeast connection (with_clock 240 at_start) (240 ∷ 330 ∷ 340 ∷ 420 ∷ 350 ∷ 445 ∷ [])
   pub passed : IsLeast connection arrived (100 ∷ 200 ∷ 240 ∷ 320 ∷ 248 ∷ 343 ∷ [])
-  pub taken_back : IsLeast connection recalled (100 ∷ 240 ∷ 250 ∷ 330 ∷ 260 ∷ 355 ∷ [])
+  pub recall : IsLeast connection recalled (100 ∷ 240 ∷ 250 ∷ 330 ∷ 260 ∷ 355 ∷ [])
 
 -- what the last three cost, with penalty 10
 pub record CostsOfClocks : Type 0 where
   pub clock : cost_of connection (with_clock 240 at_start) (240 ∷ 330 ∷ 340 ∷ 420 ∷ 350 ∷ 445 ∷ []) 10 ≡ 3075000
   pub passed : cost_of connection arrived (100 ∷ 200 ∷ 240 ∷ 320 ∷ 248 ∷ 343 ∷ []) 10 ≡ 265000
-  pub taken_back : cost_of connection recalled (100 ∷ 240 ∷ 250 ∷ 330 ∷ 260 ∷ 355 ∷ []) 10 ≡ 825000
+  pub recall : cost_of connection recalled (100 ∷ 240 ∷ 250 ∷ 330 ∷ 260 ∷ 355 ∷ []) 10 ≡ 825000
 
 -- The change and the pair of the connection are free at the start. With nothing decided and event 1 a minute late, the
--- change is violated in the relaxed times, the pair is not, and neither is charged for.
+-- change is violated in the relaxed times and the pair is not; and a change that the rows have dropped is not charged for.
 pub record FreeAndViolated : Type 0 where
   pub free : free_choices_of connection at_start ≡ Change (activity_id 5) ∷ Pair (event_id 3) (event_id 5) ∷ []
   pub violated :
@@ -80,7 +81,7 @@ pub record RefusedCycle : Type 0 where
 -- the heads of its drive and of the headway that it now binds by; each event before the clock.
 pub record TouchedEvents : Type 0 where
   pub event_delay : (i : ℕ) → IsTouched connection delayed (EventDelay 0 60) scheduled i ↔ Contains (0 ∷ []) i
-  pub activity_delay : (i : ℕ) → IsTouched connection at_start (ActDelay 4 10) scheduled i ↔ Contains (4 ∷ []) i
+  pub activity_delay : (i : ℕ) → IsTouched connection at_start (ActDelay 2 10) scheduled i ↔ Contains (3 ∷ []) i
   pub passed : (i : ℕ) →
       IsTouched connection (with_passed 231 at_start) (PassedAt 4 231) scheduled i ↔ Contains (2 ∷ 4 ∷ 5 ∷ []) i
   pub clock : (i : ℕ) →

@@ -29,12 +29,12 @@ pub fn binds_at_start_or_takes_time()
     ensures { BindsAtStartOrTakesTime }
 {}
 
-/// Held activities can be met exactly where they have no cycle.
+/// Held activities of a network, of which none enters a passed event, can be met exactly where they have no cycle.
 pub fn held_is_met_exactly_without_cycle()
     ensures { MetExactlyWithoutCycle }
 {}
 
-/// Where held activities have no cycle, a timetable is least.
+/// Where held activities have no cycle and none enters a passed event, a timetable is least.
 pub fn least_exists_without_cycle()
     ensures { LeastExistsWithoutCycle }
 {}
@@ -49,7 +49,7 @@ pub fn relaxed_enter_no_passed()
     ensures { RelaxedEnterNoPassed }
 {}
 
-/// An adopted list sets each of its decisions.
+/// An adopted list whose decisions all name something sets each of them.
 pub fn adopt_sets_decisions()
     ensures { AdoptSetsDecisions }
 {}
@@ -74,7 +74,7 @@ pub fn least_times_worked()
     ensures { LeastTimes }
 {}
 
-/// What these cost where the clock binds.
+/// What the least times of the connection cost where the clock binds.
 pub fn costs_of_clocks()
     ensures { CostsOfClocks }
 {}

@@ -2,5 +2,5 @@
 pub mod Constraints
 pub mod Marked
 pub mod Settling
--- States of loops and of the pass: checked, and not to be believed.
+-- States of loops and of the pass: checked, so that a reader need not believe them.
 pub mod Inside

@@ -11,5 +11,5 @@ returns c =
       late = shown_least connection delayed _ (0 ∷ 0 ∷ 1 ∷ 2 ∷ 4 ∷ 3 ∷ []) refl refl refl refl refl;
       clock = shown_least connection (with_clock 240 at_start) _ (0 ∷ 0 ∷ 1 ∷ 2 ∷ 4 ∷ 3 ∷ []) refl refl refl refl refl;
       passed = shown_least connection arrived _ (0 ∷ 0 ∷ 1 ∷ 2 ∷ 5 ∷ 3 ∷ []) refl refl refl refl refl;
-      taken_back = shown_least connection recalled _ (0 ∷ 0 ∷ 1 ∷ 2 ∷ 4 ∷ 3 ∷ []) refl refl refl refl refl;
+      recall = shown_least connection recalled _ (0 ∷ 0 ∷ 1 ∷ 2 ∷ 4 ∷ 3 ∷ []) refl refl refl refl refl;
     }

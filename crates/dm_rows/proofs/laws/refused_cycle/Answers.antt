@@ -45,4 +45,12 @@ passes (Full k) h = h
 passes OutOfMemory h = h
 
 pub returns : goal.returns
-returns c = record { shown = shows; told = (passes, shows); before_full = λ n k h. h.1 (2 ∷ 7 ∷ 6 ∷ []) closed }
+returns c =
+    record {
+      shown = shows;
+      told = (passes, λ now. now, shows);
+      before_full = λ n k h. elim h.1 [
+        | inl now ↦ now
+        | inr none ↦ none (2 ∷ 7 ∷ 6 ∷ []) closed
+      ];
+    }
