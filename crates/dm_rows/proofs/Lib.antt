@@ -1,6 +1,7 @@
 pub mod Adopting
 pub mod AsGraph
 pub mod AtStart
+pub mod Choosing
 pub mod FlipLemmas
 pub mod Holding
 pub mod PairEnds
