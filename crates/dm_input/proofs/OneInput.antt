@@ -18,7 +18,7 @@ use Rattle.dm_network.specs.declared.parts.NetFault.TheVariants.{TooMany, Double
 use Rattle.dm_network.specs.Net.{Net}
 use Rattle.dm_rows.specs.declared.messages.StartFault.{StartFault}
 use Rattle.dm_rows.specs.declared.messages.StartFault.TheVariants.{UnknownEvent, UnknownActivity, OutOfMemory}
-use Rattle.dm_rows.specs.StartFaults.{RefusesStart, AllAreKnown, IsFirstUnknown, event_numbered, activity_numbered}
+use Rattle.dm_rows.specs.StartFaults.{RefusesDelayRecords, AllAreKnown, IsFirstUnknown, event_numbered, activity_numbered}
 use Rattle.dm_input.specs.declared.parts.Part.{Part}
 use Rattle.dm_input.specs.declared.parts.Part.TheVariants.{Events, Activities, EventDelays, ActivityDelays, Feed}
 use Rattle.dm_input.specs.declared.parts.Flaw.{Flaw}
@@ -179,7 +179,7 @@ act_id_is : (i j : ActId) → i.0 ≡ j.0 → i ≡ j
 act_id_is i j e = ap (λ (n : ℕ). let id : ActId = record { 0 = n } in id) e
 
 module _ (net : Net) (events activities : List DelayRow) where
-  start_fault_one : (f g : StartFault) → RefusesStart net events activities f → RefusesStart net events activities g → f ≢ OutOfMemory → g ≢ OutOfMemory → f ≡ g
+  start_fault_one : (f g : StartFault) → RefusesDelayRecords net events activities f → RefusesDelayRecords net events activities g → f ≢ OutOfMemory → g ≢ OutOfMemory → f ≡ g
   start_fault_one (UnknownEvent i) (UnknownEvent j) p q nf ng = ap UnknownEvent (event_id_is i j (one_unknown (event_numbered net) events i.0 j.0 p q))
   start_fault_one (UnknownEvent i) (UnknownActivity j) p q nf ng = absurd (unknown_known (event_numbered net) events i.0 p q.0)
   start_fault_one (UnknownActivity i) (UnknownEvent j) p q nf ng = absurd (unknown_known (event_numbered net) events j.0 q p.0)
@@ -188,7 +188,7 @@ module _ (net : Net) (events activities : List DelayRow) where
   start_fault_one (UnknownEvent i) OutOfMemory p q nf ng = absurd (ng refl)
   start_fault_one (UnknownActivity i) OutOfMemory p q nf ng = absurd (ng refl)
 
-  start_clash : (f : StartFault) → RefusesStart net events activities f → f ≢ OutOfMemory → AllAreKnown (event_numbered net) events → AllAreKnown (activity_numbered net) activities → ⊥
+  start_clash : (f : StartFault) → RefusesDelayRecords net events activities f → f ≢ OutOfMemory → AllAreKnown (event_numbered net) events → AllAreKnown (activity_numbered net) activities → ⊥
   start_clash (UnknownEvent i) p nf es known = unknown_known (event_numbered net) events i.0 p es
   start_clash (UnknownActivity i) p nf es known = unknown_known (activity_numbered net) activities i.0 p.1 known
   start_clash OutOfMemory p nf es known = nf refl

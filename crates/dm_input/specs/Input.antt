@@ -12,7 +12,7 @@ use Rattle.dm_network.specs.Net.{Net}
 use Rattle.dm_network.specs.Build.{RefusesRecords, IsBuiltFrom}
 use Rattle.dm_rows.specs.declared.messages.StartFault.TheVariants.{OutOfMemory as NoStartMemory}
 use Rattle.dm_rows.specs.Rows.{RowsValue, start_rows_of}
-use Rattle.dm_rows.specs.StartFaults.{RefusesStart, AllAreKnown, event_numbered, activity_numbered}
+use Rattle.dm_rows.specs.StartFaults.{RefusesDelayRecords, AllAreKnown, event_numbered, activity_numbered}
 use Rattle.dm_input.specs.declared.parts.Part.{Part}
 use Rattle.dm_input.specs.declared.parts.Part.TheVariants.{Events, Activities, EventDelays, ActivityDelays, Feed}
 use Rattle.dm_input.specs.declared.parts.Flaw.{Flaw}
@@ -86,7 +86,7 @@ pub record AreStartRows (net : Net) (events activities : List DelayRow) (rows : 
 
 abbrev pub StartAnswers : Net → List DelayRow → List DelayRow → Result RowsValue Flaw → Type 0
 StartAnswers net events activities (Ok rows) = AreStartRows net events activities rows
-StartAnswers net events activities (Err (Start fault)) = (fault ≢ NoStartMemory) × RefusesStart net events activities fault
+StartAnswers net events activities (Err (Start fault)) = (fault ≢ NoStartMemory) × RefusesDelayRecords net events activities fault
 StartAnswers net events activities (Err (TooLong at)) = ⊥
 StartAnswers net events activities (Err (Record at fault)) = ⊥
 StartAnswers net events activities (Err (Network fault)) = ⊥

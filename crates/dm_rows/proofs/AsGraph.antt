@@ -1,5 +1,5 @@
 -- The rows' own definitions agree with those of the graph that they make, whichever activities are held.
-use Rattle.std.proofs.Common.{◌≡◌, ℕ, ◌+◌, ◌<◌, ◌≤◌, List, length, map, Option, Some, None, IsTrue, false, arith, refl, Bool, if◌then◌else◌, ◌∙◌}
+use Rattle.std.proofs.Common.{◌≡◌, ℕ, ◌+◌, ◌<◌, ◌≤◌, List, length, map, Option, Some, None, IsTrue, true, false, arith, refl, Bool, if◌then◌else◌, ◌∙◌}
 use Rattle.std.specs.Prelude.{unwrap_or, is_some, max}
 use Rattle.std.specs.List.{range_with_len}
 use Rattle.std.proofs.lemmas.List.FromFn.{get_or-map-range_with_len, length-map-range_with_len}
@@ -7,8 +7,10 @@ use Rattle.dm_graph.specs.Graph.{Graph, Meets as MeetsGraph, IsLeast as IsLeastO
 use Rattle.dm_network.specs.Net.{Net, EndsAreKnown, activity_at}
 use Rattle.dm_rows.specs.Rows.{RowsValue, passed_at}
 use Rattle.dm_rows.specs.Active.{is_active}
+use Rattle.dm_rows.specs.Decide.{with_decisions}
+use Rattle.dm_rows.specs.Relax.{is_of_undecided}
 use Rattle.dm_rows.specs.Timetable.{time_at, planned_time, floor_of, span_of, MeetsHolding, IsLeastHolding, graph_holding}
-use Rattle.dm_rows.specs.Laws.{KeepsPassed, EntersNoPassed, ActiveEnterNoPassed, MeetsHoldingAsGraph, LeastHoldingAsGraph, MeetsAsGraph, LeastAsGraph}
+use Rattle.dm_rows.specs.Laws.{KeepsPassed, EntersNoPassed, ActiveEnterNoPassed, RelaxedEnterNoPassed, MeetsHoldingAsGraph, LeastHoldingAsGraph, MeetsAsGraph, LeastAsGraph}
 
 -- a floor is the passed time, or else the larger of planned time and clock
 pub floor_passed : (o : Option ℕ) (planned t : ℕ) → o ≡ Some t → unwrap_or o planned ≡ t
@@ -71,6 +73,15 @@ head_is_free net rows a h = none_if_free (passed_at rows (activity_at net a).hea
 
 pub active_enter_no_passed : ActiveEnterNoPassed
 active_enter_no_passed net rows a below h = head_is_free net rows a h
+
+not_undecided : (b : Bool) (active : Bool) → IsTrue (if b then false else active) → IsTrue active
+not_undecided true active h = cc
+not_undecided false active h = h
+
+pub relaxed_enter_no_passed : RelaxedEnterNoPassed
+relaxed_enter_no_passed net rows path a below h =
+    head_is_free net (with_decisions net rows path) a
+    (not_undecided (is_of_undecided net rows path a (activity_at net a).pair) (is_active net (with_decisions net rows path) a) h)
 
 back_above : (o : Option ℕ) (planned y : ℕ) → unwrap_or o planned ≤ y → unwrap_or o planned ≤ unwrap_or o y
 back_above None planned y h = h

@@ -5,5 +5,7 @@ pub mod Choosing
 pub mod FlipLemmas
 pub mod Holding
 pub mod PairEnds
+pub mod Setting
 pub mod StartDelays
 pub mod StartSizes
+pub mod Worked

@@ -1,7 +1,8 @@
 //! The rows of a day, and what one message does to them.
 ghost use Rattle.std.specs.Prelude.{ℕ, slice_index_or, ◌≡◌, ◌<◌, ◌≤◌, length, All, fold, IfOk, IfSome};
-ghost use Rattle.dm_rows.specs.Rows.{RowsAreWithinLimits, event_delay_at, act_delay_at, passed_at, kept_at, small_first_at};
-ghost use Rattle.dm_rows.specs.StartFaults.{IsStartWith};
+ghost use Rattle.dm_network.specs.Net.{Net};
+ghost use Rattle.dm_rows.specs.Rows.{IsSized, RowsAreWithinLimits, event_delay_at, act_delay_at, passed_at, kept_at, small_first_at};
+ghost use Rattle.dm_rows.specs.Inside.Delays.{IsStartWith};
 ghost use Rattle.dm_rows.specs.Resolve.{after_change, after_flip};
 ghost use Rattle.dm_rows.specs.Reach.{Reaches, ReachesFlip};
 
@@ -70,6 +71,13 @@ impl Rows {
             small_first: first_events(alloc, net)?,
             clock: 0,
         })
+    }
+
+    /// Delays are at most 1,000,000 seconds, and passed times and the clock at most 2,000,000,000. Callers learn it here.
+    pub fn is_within_limits(&self)
+        ensures { RowsAreWithinLimits self.now }
+    {
+        let _read = self.clock;
     }
 
     /// How many events the rows are of.
@@ -172,7 +180,8 @@ impl Rows {
     /// Makes the change of an admitted message.
     pub fn apply(&mut self, change: &Change)
         requires { Reaches self.old change.now }
-        ensures { self.new ≡ after_change self.old change.now }
+        ensures rows { self.new ≡ after_change self.old change.now }
+        ensures sizes { (net : Net) → IsSized net self.old → IsSized net self.new }
     {
         match change {
             Change::EventDelay { event, delay } => self.event_delays[*event] = *delay,
