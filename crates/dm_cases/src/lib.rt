@@ -17,4 +17,4 @@ mod program;
 #[cfg(test)]
 mod rows;
 #[cfg(test)]
-mod settle;
+mod times;
