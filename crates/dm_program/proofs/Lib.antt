@@ -4,7 +4,6 @@ pub mod Answering
 pub mod Within
 pub mod Printed
 pub mod Spelled
-pub mod Totals
 pub mod Finished
 pub mod Ending
 pub mod Arcs

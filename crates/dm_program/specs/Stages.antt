@@ -40,4 +40,4 @@ pub record IsReady (told : Told) (command : Command) (net : Net) (penalty : ℕ)
   pub same_penalty : penalty ≡ command.penalty
 
 abbrev pub IsReadyRun : Told → Command → Answered → Type 0
-IsReadyRun told command a = IsReady told command a.net a.penalty a.history.items a.items.items a.times.items a.cost
+IsReadyRun told command a = IsReady told command a.net a.penalty a.history.items a.items.items a.times a.cost

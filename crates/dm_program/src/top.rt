@@ -84,7 +84,7 @@ fn end_usage<K: Sink>(out: &mut K) -> Status
 fn end_run<K: Sink>(answered: &Answered, out: &mut K) -> Status
     requires entries { All IsSpelledEntry answered.now.history.items }
     requires items { All IsSpelledItem answered.now.items.items }
-    requires size { length answered.now.times.items ≡ length answered.now.net.events }
+    requires size { length answered.now.times ≡ length answered.now.net.events }
     ensures { EndsAs K.taken K.faults out.old out.new (run_text (run_in answered.now)) Status.Ok result }
 {
     match print_run(out, answered) {

@@ -13,13 +13,13 @@ prepare-requires-clause-penalty g c = λ κs s. asked_penalty_fits _ (command_of
 pub end_run-requires-clause-items : goal.end_run-requires-clause-items
 end_run-requires-clause-items g c =
     let a = c.in-Ok.answered in
-    ready_items (g.H.Shelf.files c.args.shelf.now) (command_of c.in-Some.run') a.net a.penalty a.history.items a.items.items a.times.items a.cost c.in-Ok.ensures.ready
+    ready_items (g.H.Shelf.files c.args.shelf.now) (command_of c.in-Some.run') a.net a.penalty a.history.items a.items.items a.times a.cost c.in-Ok.ensures.ready
 
 pub returns-in-Ok : goal.returns-in-Ok
 returns-in-Ok g c =
     let a = c.in-Ok.answered in
     ends_run g.K.Sink.taken g.K.Sink.faults (g.H.Shelf.files c.args.shelf.now) (g.H.Shelf.is_sound c.args.shelf.now) (map (string_bytes {Z = Global}) c.args.words.now) c.args.out.now c.end_run.new.out
-    (command_of c.in-Some.run') a.net a.penalty a.history.items a.items.items a.times.items a.cost c.in-Some.ensures c.in-Ok.ensures.ready c.end_run.result c.end_run.ensures
+    (command_of c.in-Some.run') a.net a.penalty a.history.items a.items.items a.times a.cost c.in-Some.ensures c.in-Ok.ensures.ready c.end_run.result c.end_run.ensures
 
 pub returns-in-Err-Refused : goal.returns-in-Err-Refused
 returns-in-Err-Refused g c =
