@@ -31,7 +31,7 @@ none_some x e = cc
 -- ---- the journal is legal
 
 nothing_refuses : (net : Net) (rows : RowsValue) (n : ℕ) (m : Message) → HasNoCycle net (after net rows m) → n < ENTRIES → PassesAtOnce net rows m → (r : Refusal) → Refuses net rows n m r → ⊥
-nothing_refuses net rows n m none few passes (Cycle ids) h = none h.1.places h.1.is_cycle
+nothing_refuses net rows n m none few passes (Cycle ids) h = none h.2.places h.2.is_cycle
 nothing_refuses net rows n m none few passes (Full k) h = omega (arith, h.2, few)
 nothing_refuses net rows n m none few passes OutOfMemory h = h
 nothing_refuses net rows n m none few passes (Range v) h = passes (Range v) h
