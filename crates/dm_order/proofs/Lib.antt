@@ -1,0 +1,4 @@
+pub mod Forward
+pub mod FlagLemmas
+pub mod Changing
+pub mod AtRows
