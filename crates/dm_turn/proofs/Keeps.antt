@@ -1,9 +1,10 @@
 -- Each step keeps the rule of the lock.
-use Rattle.std.proofs.Common.{◌≡◌, ◌≢◌, ◌⊎◌, ℕ, zero, suc, ◌+◌, ◌-◌, ◌%◌, ◌^◌, ◌<◌, ◌≤◌, eqb, List, [], ◌∷◌, ◌++◌, length, set, slice_index, slice_get, Some, refl, ap, sym, ◌∙◌, subst, arith, inl, inr, eq-eqb, length-append}
+use Rattle.std.proofs.Common.{◌≡◌, ◌≢◌, ◌⊎◌, ℕ, zero, suc, ◌+◌, ◌-◌, ◌%◌, ◌^◌, ◌<◌, ◌≤◌, eqb, List, [], ◌∷◌, ◌++◌, length, set, slice_index, slice_get, Option, Some, refl, ap, sym, ◌∙◌, subst, arith, inl, inr, eq-eqb, length-append}
 use Rattle.std.proofs.Math.Nat.{mod-add-mod, mod-eq_of_lt}
 use mathlib.Core.List.{IsPrefix}
 use mathlib.Core.Logic.{dite}
-use mathlib.Core.Option.{Option, none, some, some-injective, some-ne-none}
+use mathlib.Core.Option as maybe
+use mathlib.Core.Option.{none, some, some-injective, some-ne-none}
 use native.Mathlib.Decide.{ℕ_discrete}
 use lib.ListN.{get_elem?}
 use Rattle.atomic_table.specs.Table.{State, Act, keeps, takes, gives, step, stepped, carried_after, put_back, rest, Valid, Allows, Splits, Joins, Final, Seen, opening}
@@ -12,9 +13,7 @@ use Rattle.dm_rows.specs.declared.messages.Entry.{Entry}
 use Rattle.dm_turn.specs.Passes.{times, AreEntriesOf, AreAllAbove}
 use Rattle.dm_turn.specs.declared.view.Numbered.{Numbered}
 use Rattle.dm_turn.specs.Rule.{is_served, is_queued, has_ticket, spent, served, rooms, owned, IsAtTurn, IsLive, Fits, IsHome, SlotIs, Stands, Rule}
-use Rattle.dm_turn.specs.Inside.Steps.{Sat, Drew, Looked, Added, Gave, Settled, shown, ticket_of, gained, left_over, cut_off, joined, opening_view}
-use Rattle.dm_turn.specs.declared.view.Slot.{Slot}
-use Rattle.dm_turn.specs.declared.view.Slot.TheVariants.{Home}
+use Rattle.dm_turn.specs.Inside.Steps.{Sat, Drew, Looked, Added, Gave, Settled, ticket_of, gained, left_over, cut_off, joined, opening_view}
 use Rattle.dm_turn.specs.declared.view.View.{View}
 use Rattle.dm_turn.specs.declared.view.Phase.{Phase}
 use Rattle.dm_turn.specs.declared.view.Phase.TheVariants.{Idle, Waiting, Served}
@@ -27,7 +26,7 @@ use Rattle.std.proofs.lemmas.List.Elements.{All-nil}
 use Rattle.std.proofs.lemmas.List.{append_cancel_left}
 
 module _ {S B : Type 0} (history : S → List Entry) (base : S → B) (opened : S) (seats : ℕ) where
-  abbrev Holds : State (Slot S) (View B) → Type 0
+  abbrev Holds : State (Option S) (View B) → Type 0
   Holds = Rule history base opened seats
 
   pub draws : (slots id : ℕ) (me : Sat S B) → me.0.phase ≡ Idle → 1 ≤ me.0.room
@@ -93,7 +92,7 @@ module _ {S B : Type 0} (history : S → List Entry) (base : S → B) (opened : 
       → Allows Holds slots id me 2 (λ n. n) (Looked history base (step slots 2 0 0 none) me)
   looks slots id me t waits room bare s r len at small = dite (ℕ_discrete (slice_index s.words 2) (ticket_of me.0.phase % 2 ^ 64)) hit miss where
     Goal : Type 0
-    Goal = (w : View B) × (a : Act (Slot S)) × Valid s.homes me.1 a × Holds (stepped s 2 (slice_index s.words 2) id me.1 w a)
+    Goal = (w : View B) × (a : Act (Option S)) × Valid s.homes me.1 a × Holds (stepped s 2 (slice_index s.words 2) id me.1 w a)
         × Looked history base (step slots 2 0 0 none) me (slice_index s.words 2) (w, carried_after me.1 a)
 
     same_words : set s.words 2 (slice_index s.words 2) ≡ length r.log ∷ r.next % 2 ^ 64 ∷ r.serving % 2 ^ 64 ∷ []
@@ -111,14 +110,14 @@ module _ {S B : Type 0} (history : S → List Entry) (base : S → B) (opened : 
         let one : served (set s.views id w) ≡ 1 = omega (arith, free, sum_set (λ (z : View B). one_if (is_served z.phase)) s.views id me.0 w at, ap (λ (p : Phase). one_if (is_served p)) waits) in
         let live = live_of history base opened seats me.0 (r.views.each id me.0 at).live room in (
           w,
-          takes 0 (Home home.state),
-          ap (λ (hs : List (Option (Slot S))). get_elem? hs 0) home.there,
+          takes 0 (Some home.state),
+          ap (λ (hs : List (maybe.Option (Option S))). get_elem? hs 0) home.there,
           record {
             log = r.log;
             serving = r.serving;
             next = r.next;
             words = same_words;
-            slot = inr (one, ap (λ (hs : List (Option (Slot S))). set hs 0 none) home.there);
+            slot = inr (one, ap (λ (hs : List (maybe.Option (Option S))). set hs 0 none) home.there);
             views = stand_look history base opened seats r.log r.serving r.next s.views id me.0 t r.views at room waits (sym own);
             short = r.short;
             opened_before = r.opened_before;
@@ -127,7 +126,7 @@ module _ {S B : Type 0} (history : S → List Entry) (base : S → B) (opened : 
           record {
             own = λ _. record {
               state = home.state;
-              now = λ i. (record me.0 { phase = Served (ap ticket_of (sym waits) i); seen = sym home.whole i }, (0, Home home.state) ∷ bare i);
+              now = λ i. (record me.0 { phase = Served (ap ticket_of (sym waits) i); seen = sym home.whole i }, (0, Some home.state) ∷ bare i);
               longer = subst (IsPrefix me.0.seen) (sym home.whole) (r.views.each id me.0 at).seen;
               base_is = live.base_is ∙ ap Some (sym home.base_is);
             };
@@ -158,15 +157,15 @@ module _ {S B : Type 0} (history : S → List Entry) (base : S → B) (opened : 
   one_of_served views i v t at serves =
       omega (arith, sum_at (λ (z : View B). one_if (is_served z.phase)) views i v at, ap (λ (p : Phase). one_if (is_served p)) serves)
 
-  pub adds : (slots id : ℕ) (me : Sat S B) (t : ℕ) (e : Entry) → me.0.phase ≡ Served t → 1 ≤ me.0.room → shown history me.1 ≡ me.0.seen ++ e ∷ []
-      → length (shown history me.1) < 2 ^ 32 → Allows Holds slots id me 0 (λ n. (n + 1) % 2 ^ 64) (Added history (step slots 0 1 0 none) me)
-  adds slots id me t e serves room shows few s r len at small =
+  pub adds : (slots id : ℕ) (me : Sat S B) (t : ℕ) (e : Entry) (after : List Entry) → me.0.phase ≡ Served t → 1 ≤ me.0.room → after ≡ me.0.seen ++ e ∷ []
+      → length after < 2 ^ 32 → Allows Holds slots id me 0 (λ n. (n + 1) % 2 ^ 64) (Added after (step slots 0 1 0 none) me)
+  adds slots id me t e after serves room shows few s r len at small =
       let w : View B = gained me.0 e in
       let at_most = one_out s.homes r.log (served s.views) r.slot in
       let at_least = one_of_served s.views id me.0 t at serves in
       let turn : (t ≡ r.serving) × (me.0.seen ≡ r.log) = subst (IsAtTurn r.log r.serving me.0.seen) serves (r.views.each id me.0 at).at_turn in
-      let whole : shown history me.1 ≡ r.log ++ e ∷ [] = shows ∙ ap (λ (xs : List Entry). xs ++ e ∷ []) turn.1 in
-      let longer : length (shown history me.1) ≡ length r.log + 1 = ap length whole ∙ length-append r.log (e ∷ []) in
+      let whole : after ≡ r.log ++ e ∷ [] = shows ∙ ap (λ (xs : List Entry). xs ++ e ∷ []) turn.1 in
+      let longer : length after ≡ length r.log + 1 = ap length whole ∙ length-append r.log (e ∷ []) in
       let longer' : length (r.log ++ e ∷ []) ≡ length r.log + 1 = length-append r.log (e ∷ []) in
       let small_sum : (length r.log + 1) % 2 ^ 64 ≡ length (r.log ++ e ∷ []) = mod-eq_of_lt (omega (arith, longer, few)) ∙ sym longer' in
       let same : served (set s.views id w) ≡ served s.views = omega (arith, sum_set (λ (z : View B). one_if (is_served z.phase)) s.views id me.0 w at) in (
@@ -188,7 +187,7 @@ module _ {S B : Type 0} (history : S → List Entry) (base : S → B) (opened : 
             let same_entry : e ≡ e' = cc same_end in ap (λ (x : Entry). let z : Sat S B = (gained me.0 x, me.1) in z) same_entry),
       )
 
-  pub serves_next : (slots id : ℕ) (me : Sat S B) (t : ℕ) (state : S) → me.0.phase ≡ Served t → 1 ≤ me.0.room → me.1 ≡ (0, Home state) ∷ []
+  pub serves_next : (slots id : ℕ) (me : Sat S B) (t : ℕ) (state : S) → me.0.phase ≡ Served t → 1 ≤ me.0.room → me.1 ≡ (0, Some state) ∷ []
       → history state ≡ me.0.seen → me.0.base ≡ Some (base state) → Allows Holds slots id me 2 (λ n. (n + 1) % 2 ^ 64) (Gave (step slots 2 1 0 none) me)
   serves_next slots id me t state serves room carried has based s r len at small =
       let w : View B = record me.0 { phase = Idle } in
@@ -214,7 +213,7 @@ module _ {S B : Type 0} (history : S → List Entry) (base : S → B) (opened : 
           opened_before = r.opened_before;
           few = r.few;
         },
-        ap (λ (c : List (ℕ × Slot S)). let z : Sat S B = (w, rest c) in z) carried,
+        ap (λ (c : List (ℕ × Option S)). let z : Sat S B = (w, rest c) in z) carried,
       )
 
   pub splits : (id : ℕ) (v : View B) → 2 ≤ v.room → Splits Holds id v (left_over v) (cut_off v)
@@ -279,7 +278,7 @@ module _ {S B : Type 0} (history : S → List Entry) (base : S → B) (opened : 
 
   -- a new turn keeps the rule
   pub opens : 1 ≤ seats → seats < 2 ^ 32 → length (history opened) < 2 ^ 32
-      → Holds (opening (length (history opened) ∷ 0 ∷ 0 ∷ []) (Home opened ∷ []) (opening_view history base opened seats))
+      → Holds (opening (length (history opened) ∷ 0 ∷ 0 ∷ []) (Some opened ∷ []) (opening_view history base opened seats))
   opens some_seat few short =
       let v : View B = opening_view history base opened seats in
       record {
@@ -327,15 +326,15 @@ module _ {S B : Type 0} (history : S → List Entry) (base : S → B) (opened : 
       (λ ne. absurd (omega (arith, st.has_room, alone, sum_two (λ (z : View B). z.room) views i st.place v st.knower at st.stands ne)))
 
   -- what a pass with all rooms finds at the end
-  pub record Closes (v : View B) (slots : List (Slot S)) : Type 0 where
+  pub record Closes (v : View B) (slots : List (Option S)) : Type 0 where
     pub state : S
-    pub there : get_elem? slots 0 ≡ some (Home state)
+    pub there : get_elem? slots 0 ≡ some (Some state)
     pub whole : history state ≡ v.seen
     pub base_is : v.base ≡ Some (base state)
     pub numbers : AreAllAbove v.opening v.seen v.mine
     pub entries : AreEntriesOf v.opening v.seen v.mine
 
-  pub closes : (id : ℕ) (v : View B) (ws : List ℕ) (xs : List (Slot S)) → v.phase ≡ Idle → 1 ≤ v.room → v.room ≡ seats → Final (Seen Holds id v) ws xs → Closes v xs
+  pub closes : (id : ℕ) (v : View B) (ws : List ℕ) (xs : List (Option S)) → v.phase ≡ Idle → 1 ≤ v.room → v.room ≡ seats → Final (Seen Holds id v) ws xs → Closes v xs
   closes id v ws xs idle room all end =
       let s = end.0 in let r = end.1.0 in let at = end.1.1 in
       let fit = r.views.each id v at in
@@ -350,7 +349,7 @@ module _ {S B : Type 0} (history : S → List Entry) (base : S → B) (opened : 
       let len : length v.seen ≡ length r.log = ap length seen in
       record {
         state = home.state;
-        there = end.4 0 (Home home.state) (ap (λ (hs : List (Option (Slot S))). get_elem? hs 0) home.there);
+        there = end.4 0 (Some home.state) (ap (λ (hs : List (maybe.Option (Option S))). get_elem? hs 0) home.there);
         whole = home.whole ∙ sym seen;
         base_is = live.base_is ∙ ap Some (sym home.base_is);
         numbers = record {
@@ -368,8 +367,8 @@ module _ {S B : Type 0} (history : S → List Entry) (base : S → B) (opened : 
         none_or_room k u (inl is) = inl (ap (λ (z : View B). times k z.mine) is)
         none_or_room k u (inr live) = inr live.room
 
-pub is_home : {S : Type 0} (xs : List (Slot S)) (slot : Slot S) {home : Slot S} → get_elem? xs 0 ≡ some slot → get_elem? xs 0 ≡ some home → slot ≡ home
+pub is_home : {S : Type 0} (xs : List (Option S)) (slot : Option S) {home : Option S} → get_elem? xs 0 ≡ some slot → get_elem? xs 0 ≡ some home → slot ≡ home
 is_home xs slot {home} a b = some-injective slot home (sym a ∙ b)
 
-pub home_state : {S : Type 0} (a b : S) → Home a ≡ Home b → a ≡ b
+pub home_state : {S : Type 0} (a b : S) → Some a ≡ Some b → a ≡ b
 home_state a b e = cc e

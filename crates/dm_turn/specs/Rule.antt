@@ -1,7 +1,7 @@
 -- The rule of the lock: what holds between any two steps on its words.
 -- The words are the count of entries, the next ticket and the ticket that is served. The slot has the state while no one holds it.
 -- Tickets are numbers without end, which the words hold modulo 2 ^ 64.
-use Rattle.std.specs.Prelude.{ℕ, ◌≡◌, ◌⊎◌, ◌+◌, ◌^◌, ◌%◌, ◌<◌, ◌≤◌, ◌==◌, Bool, true, false, List, [], ◌∷◌, length, Some, None, count_by, sum_by}
+use Rattle.std.specs.Prelude.{ℕ, ◌≡◌, ◌⊎◌, ◌+◌, ◌^◌, ◌%◌, ◌<◌, ◌≤◌, ◌==◌, Bool, true, false, List, [], ◌∷◌, length, Option, Some, None, count_by, sum_by}
 use mathlib.Core.List.{IsPrefix}
 use mathlib.Core.Option as maybe
 use mathlib.Core.Option.{some, none}
@@ -9,8 +9,6 @@ use lib.ListN.{get_elem?}
 use Rattle.atomic_table.specs.Table.{State}
 use Rattle.dm_rows.specs.declared.messages.Entry.{Entry}
 use Rattle.dm_turn.specs.Passes.{times, AreEntriesOf}
-use Rattle.dm_turn.specs.declared.view.Slot.{Slot}
-use Rattle.dm_turn.specs.declared.view.Slot.TheVariants.{Home}
 use Rattle.dm_turn.specs.declared.view.View.{View}
 use Rattle.dm_turn.specs.declared.view.Phase.{Phase}
 use Rattle.dm_turn.specs.declared.view.Phase.TheVariants.{Idle, Waiting, Served}
@@ -96,17 +94,17 @@ module _ {S B : Type 0} (history : S → List Entry) (base : S → B) (opened : 
     pub all_rooms : rooms views ≡ seats
 
   -- the slot is at home, and has a state with exactly the history and the base
-  pub record IsHome (homes : List (maybe.Option (Slot S))) (log : List Entry) : Type 0 where
+  pub record IsHome (homes : List (maybe.Option (Option S))) (log : List Entry) : Type 0 where
     pub state : S
-    pub there : homes ≡ some (Home state) ∷ []
+    pub there : homes ≡ some (Some state) ∷ []
     pub whole : history state ≡ log
     pub base_is : base state ≡ base opened
 
   -- the slot is out exactly while one view is served
-  abbrev pub SlotIs : List (maybe.Option (Slot S)) → List Entry → ℕ → Type 0
+  abbrev pub SlotIs : List (maybe.Option (Option S)) → List Entry → ℕ → Type 0
   SlotIs homes log served = ((served ≡ 0) × IsHome homes log) ⊎ ((served ≡ 1) × (homes ≡ none ∷ []))
 
-  pub record Rule (s : State (Slot S) (View B)) : Type 0 where
+  pub record Rule (s : State (Option S) (View B)) : Type 0 where
     pub log : List Entry
     pub serving : ℕ
     pub next : ℕ

@@ -1,8 +1,11 @@
 //! The rule under which the words and the slot of a turn change, and what each kind of step tells.
+ghost use Rattle.std.specs.Prelude.{List, []};
+ghost use Rattle.dm_rows.specs.declared.messages.Entry.{Entry as AnEntry};
 
 use crate::state::HasHistory;
-use crate::view::{Slot, View};
+use crate::view::View;
 use atomic_table::{Join, Play, Seat, Shared, Split, TableRule};
+use std::marker::{Brand, PhantomData};
 use std::snapshot::Snapshot;
 
 /// What a table is told when it is made: the state, and how many seats there are.
@@ -15,7 +18,7 @@ pub struct About<S> {
 /// The rule of the lock.
 pub struct Lock;
 
-impl<S: HasHistory> TableRule<Slot<S>, View<S::Base>, About<S>> for Lock {
+impl<S: HasHistory> TableRule<Option<S>, View<S::Base>, About<S>> for Lock {
     ghost use Rattle.dm_turn.specs.Rule.{Rule};
     ghost use Rattle.dm_turn.specs.Inside.Steps.{opening_view};
 
@@ -27,7 +30,7 @@ impl<S: HasHistory> TableRule<Slot<S>, View<S::Base>, About<S>> for Lock {
 /// A ticket is drawn.
 pub struct Draw;
 
-impl<S: HasHistory> Play<Slot<S>, View<S::Base>> for Draw {
+impl<S: HasHistory> Play<Option<S>, View<S::Base>> for Draw {
     ghost use Rattle.dm_turn.specs.Inside.Steps.{Drew};
 
     ghost then = { Drew };
@@ -36,25 +39,36 @@ impl<S: HasHistory> Play<Slot<S>, View<S::Base>> for Draw {
 /// A look at which ticket is served.
 pub struct Look;
 
-impl<S: HasHistory> Play<Slot<S>, View<S::Base>> for Look {
+impl<S: HasHistory> Play<Option<S>, View<S::Base>> for Look {
     ghost use Rattle.dm_turn.specs.Inside.Steps.{Looked};
 
     ghost then = { Looked S.history S.base };
 }
 
-/// An entry is counted.
-pub struct Add;
+/// The history that an addition leaves. Each call picks it.
+pub trait Told {
+    ghost history: { List AnEntry };
+}
 
-impl<S: HasHistory> Play<Slot<S>, View<S::Base>> for Add {
+impl Told for Brand {
+    ghost history = { [] };
+}
+
+/// An entry is counted.
+pub struct Add<T> {
+    of: PhantomData<T>,
+}
+
+impl<S: HasHistory, T: Told> Play<Option<S>, View<S::Base>> for Add<T> {
     ghost use Rattle.dm_turn.specs.Inside.Steps.{Added};
 
-    ghost then = { Added S.history };
+    ghost then = { Added T.history };
 }
 
 /// The next ticket is served.
 pub struct Serve;
 
-impl<S: HasHistory> Play<Slot<S>, View<S::Base>> for Serve {
+impl<S: HasHistory> Play<Option<S>, View<S::Base>> for Serve {
     ghost use Rattle.dm_turn.specs.Inside.Steps.{Gave};
 
     ghost then = { Gave };
@@ -63,7 +77,7 @@ impl<S: HasHistory> Play<Slot<S>, View<S::Base>> for Serve {
 /// After a join: the two histories are compared.
 pub struct Settle;
 
-impl<S: HasHistory> Play<Slot<S>, View<S::Base>> for Settle {
+impl<S: HasHistory> Play<Option<S>, View<S::Base>> for Settle {
     ghost use Rattle.dm_turn.specs.Inside.Steps.{Settled};
 
     ghost then = { Settled };
@@ -93,7 +107,7 @@ impl<B> Join<View<B>> for Glue {
 }
 
 /// The words and the slot of a turn, as its passes share them.
-pub type Desk<S> = Shared<Slot<S>, View<<S as HasHistory>::Base>, About<S>, Lock>;
+pub type Desk<S> = Shared<Option<S>, View<<S as HasHistory>::Base>, About<S>, Lock>;
 
 /// A seat at a turn.
-pub type Place<S> = Seat<Slot<S>, View<<S as HasHistory>::Base>>;
+pub type Place<S> = Seat<Option<S>, View<<S as HasHistory>::Base>>;

@@ -7,10 +7,10 @@ ghost use Rattle.dm_turn.specs.Passes.{numbered, longer, AreEntriesOf, AreAllAbo
 use crate::rule::{About, Cut, Glue, Lock, Settle};
 use crate::state::HasHistory;
 use crate::steps::{COUNT, await_turn, count, draw, put_back, serve, take_out};
-use crate::view::{Slot, View};
-use atomic_table::{Closed, Refused, Seat, Table};
+use crate::view::View;
+use atomic_table::{Refused, Seat, Table};
 use std::alloc::{AllocError, Global};
-use std::marker::Model;
+use std::marker::{Brand, Model};
 use std::snapshot::Snapshot;
 use std::sync::Wait;
 
@@ -24,7 +24,7 @@ pub struct Held<S> {
 /// It has no bytes, and may go to another thread.
 #[derive(Drop)]
 pub struct Pass<S: HasHistory> {
-    seat: Seat<Slot<S>, View<S::Base>>,
+    seat: Seat<Option<S>, View<S::Base>>,
 }
 
 impl<S: HasHistory> Model for Pass<S> {
@@ -41,7 +41,7 @@ impl<S: HasHistory> Model for Pass<S> {
 /// Hands a state to one holder at a time, in the order of drawn tickets.
 #[derive(Drop)]
 pub struct Turn<S: HasHistory> {
-    table: Table<Slot<S>, View<S::Base>, About<S>, Lock, Global>,
+    table: Table<Option<S>, View<S::Base>, About<S>, Lock, Global>,
 }
 
 impl<S: HasHistory> Model for Turn<S> {
@@ -78,7 +78,7 @@ impl<S: HasHistory> Turn<S> {
             seats: seats as u64,
         };
         let mut slots = Vec::with_capacity(alloc, 1)?;
-        slots.push(Slot::Home(state))?;
+        slots.push(Some(state))?;
         match Table::new(alloc, &words, slots, &about) {
             Ok((table, seat)) => Ok((Turn { table }, Pass { seat })),
             Err(Refused { slots: _ }) => Err(AllocError),
@@ -133,7 +133,7 @@ impl<S: HasHistory> Turn<S> {
         requires short { length (S.history held.now.state) < 2 ^ 32 }
         ensures { (e : AnEntry) → S.history held.now.state ≡ pass.old.seen ++ e ∷ [] → pass.new ≡ record pass.old { seen = S.history held.now.state; mine = pass.old.mine ++ numbered (length (S.history held.now.state)) e ∷ [] } }
     {
-        count(&self.table.shared, &mut pass.seat, &held.state);
+        count::<S, Brand>(&self.table.shared, &mut pass.seat, &held.state);
     }
 
     /// Gives the state back, and lets the next ticket be served.
@@ -165,9 +165,7 @@ impl<S: HasHistory> Turn<S> {
         let mut closed = table.close_with(seat);
         let slot = closed.take(0);
         closed.free();
-        let Slot::Home(state) = slot else {
-            unreachable!()
-        };
+        let Some(state) = slot else { unreachable!() };
         state
     }
 }

@@ -1,16 +1,7 @@
-//! What the slot of a turn holds, and what its passes know.
+//! What the passes of a turn know.
 
 use dm_rows::Entry;
 use std::collections::LinkedList;
-use std::snapshot::Snapshot;
-
-/// What the slot has: the state at home, nothing while a pass holds the state, or what the holder shows of it.
-#[derive(Drop)]
-pub enum Slot<S> {
-    Home(S),
-    Out,
-    Shown(Snapshot<S>),
-}
 
 /// Where a pass stands in the queue. No value of it is made.
 pub enum Phase {

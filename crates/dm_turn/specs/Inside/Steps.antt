@@ -1,5 +1,5 @@
 -- What each step on the words of the lock tells the seat that made it.
-use Rattle.std.specs.Prelude.{ℕ, ◌≡◌, ◌≢◌, ◌+◌, ◌-◌, ◌^◌, ◌%◌, ◌≤◌, List, [], ◌∷◌, ◌++◌, length, Some, ltb, cond}
+use Rattle.std.specs.Prelude.{ℕ, ◌≡◌, ◌≢◌, ◌+◌, ◌-◌, ◌^◌, ◌%◌, ◌≤◌, List, Option, [], ◌∷◌, ◌++◌, length, Some, None, ltb, cond}
 use mathlib.Core.List.{IsPrefix}
 use Rattle.atomic_table.specs.Table.{Me, Step}
 use Rattle.atomic_table.specs.Seated.{TableId}
@@ -7,8 +7,6 @@ use Rattle.atomic_table.specs.declared.shared.Seat.{Seat}
 use Rattle.dm_rows.specs.declared.messages.Entry.{Entry}
 use Rattle.dm_turn.specs.Passes.{PassValue, numbered, longer}
 use Rattle.dm_turn.specs.Rule.{is_served}
-use Rattle.dm_turn.specs.declared.view.Slot.{Slot}
-use Rattle.dm_turn.specs.declared.view.Slot.TheVariants.{Home, Out, Shown}
 use Rattle.dm_turn.specs.declared.view.View.{View}
 use Rattle.dm_turn.specs.declared.view.Phase.{Phase}
 use Rattle.dm_turn.specs.declared.view.Phase.TheVariants.{Idle, Waiting, Served}
@@ -44,13 +42,13 @@ module _ {B : Type 0} where
   joined v w = record v { room = v.room + w.room; mine = v.mine ++ w.mine; seen = longer v.seen w.seen; told = shorter v.seen w.seen }
 
 abbrev pub Sat : Type 0 → Type 0 → Type 0
-Sat S B = Me (Slot S) (View B)
+Sat S B = Me (Option S) (View B)
 
 -- a seat of the table with this id, which has three words and one slot
-abbrev pub IsSeatOf : {S B : Type 0} → TableId → Seat (Slot S) (View B) → Type 0
+abbrev pub IsSeatOf : {S B : Type 0} → TableId → Seat (Option S) (View B) → Type 0
 IsSeatOf z seat = (seat.table_id ≡ z) × (z.words ≡ 3) × (z.slots ≡ 1)
 
-abbrev pub IsSameSeat : {S B : Type 0} → Seat (Slot S) (View B) → Seat (Slot S) (View B) → Type 0
+abbrev pub IsSameSeat : {S B : Type 0} → Seat (Option S) (View B) → Seat (Option S) (View B) → Type 0
 IsSameSeat old new = (new.table_id ≡ old.table_id) × (new.id ≡ old.id)
 
 abbrev pub IsCalled : Phase → Type 0
@@ -59,56 +57,49 @@ IsCalled (Waiting t) = ⊥
 IsCalled (Served t) = Unit {0}
 
 module _ {S : Type 0} where
-  -- the history that the holder shows
-  abbrev pub shown : (S → List Entry) → List (ℕ × Slot S) → List Entry
-  shown history ((k, Shown s) ∷ rest) = history s.value
-  shown history ((k, Home s) ∷ rest) = []
-  shown history ((k, Out) ∷ rest) = []
-  shown history [] = []
-
   -- what lies with the seat of a pass between calls
-  abbrev pub carries : Phase → List (ℕ × Slot S)
+  abbrev pub carries : Phase → List (ℕ × Option S)
   carries Idle = []
   carries (Waiting t) = []
-  carries (Served t) = (0, Out) ∷ []
+  carries (Served t) = (0, None) ∷ []
 
 module _ {S B : Type 0} where
   -- the seat drew a ticket
-  abbrev pub Drew : Step (Slot S) → Sat S B → ℕ → Sat S B → Type 0
+  abbrev pub Drew : Step (Option S) → Sat S B → ℕ → Sat S B → Type 0
   Drew step me found me' = (t : ℕ) × (me' ≡ (record me.0 { phase = Waiting t }, me.1)) × (t % 2 ^ 64 ≡ found)
 
   -- the holder's pass is served no more, and has given the slot back
-  abbrev pub Gave : Step (Slot S) → Sat S B → ℕ → Sat S B → Type 0
+  abbrev pub Gave : Step (Option S) → Sat S B → ℕ → Sat S B → Type 0
   Gave step me found me' = me' ≡ (record me.0 { phase = Idle }, [])
 
   -- a pass that knows two histories keeps the longer, and the shorter is its prefix
-  abbrev pub Settled : Step (Slot S) → Sat S B → ℕ → Sat S B → Type 0
+  abbrev pub Settled : Step (Option S) → Sat S B → ℕ → Sat S B → Type 0
   Settled step me found me' = (me' ≡ (record me.0 { told = [] }, me.1)) × (length me.0.told ≤ length me.0.seen → IsPrefix me.0.told me.0.seen)
 
   -- what a seat has taken: the state, whose history it now has seen
   pub record Took (history : S → List Entry) (base : S → B) (me me' : Sat S B) : Type 0 where
     pub state : S
-    pub now : me' ≡ (record me.0 { phase = Served (ticket_of me.0.phase); seen = history state }, (0, Home state) ∷ [])
+    pub now : me' ≡ (record me.0 { phase = Served (ticket_of me.0.phase); seen = history state }, (0, Some state) ∷ [])
     pub longer : IsPrefix me.0.seen (history state)
     pub base_is : me.0.base ≡ Some (base state)
 
   -- the seat looked which ticket is served, and took the slot where it was its own
-  pub record Looked (history : S → List Entry) (base : S → B) (step : Step (Slot S)) (me : Sat S B) (found : ℕ) (me' : Sat S B) : Type 0 where
+  pub record Looked (history : S → List Entry) (base : S → B) (step : Step (Option S)) (me : Sat S B) (found : ℕ) (me' : Sat S B) : Type 0 where
     pub own : found ≡ ticket_of me.0.phase % 2 ^ 64 → Took history base me me'
     pub other : found ≢ ticket_of me.0.phase % 2 ^ 64 → me' ≡ me
 
   -- the holder's pass gained the entry that the history has gained
-  abbrev pub Added : (S → List Entry) → Step (Slot S) → Sat S B → ℕ → Sat S B → Type 0
-  Added history step me found me' = (e : Entry) → shown history me.1 ≡ me.0.seen ++ e ∷ []
+  abbrev pub Added : List Entry → Step (Option S) → Sat S B → ℕ → Sat S B → Type 0
+  Added whole step me found me' = (e : Entry) → whole ≡ me.0.seen ++ e ∷ []
       → me' ≡ (gained me.0 e, me.1)
 
   -- how the seat of a pass is between calls
-  pub record IsAtRest (seat : Seat (Slot S) (View B)) : Type 0 where
+  pub record IsAtRest (seat : Seat (Option S) (View B)) : Type 0 where
     pub room : 1 ≤ seat.me.0.room
     pub told : seat.me.0.told ≡ []
     pub carried : seat.me.1 ≡ carries seat.me.0.phase
     pub called : IsCalled seat.me.0.phase
 
   -- what contracts see of a pass
-  abbrev pub pass_value : Seat (Slot S) (View B) → PassValue B
+  abbrev pub pass_value : Seat (Option S) (View B) → PassValue B
   pass_value s = record { turn = s.table_id; base = s.me.0.base; opening = s.me.0.opening; holds = is_served s.me.0.phase; room = s.me.0.room; seen = s.me.0.seen; mine = s.me.0.mine }
