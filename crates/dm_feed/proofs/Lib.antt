@@ -1,0 +1,5 @@
+pub mod Buffers
+pub mod Cutting
+pub mod Digits
+pub mod Feeding
+pub mod Hearing
