@@ -10,7 +10,7 @@ use dm_base::{ActRow, EventRow};
 use dm_network::{NetFault, Network};
 use dm_rows::{Message, Rows, admit, start_rows};
 use dm_times::{NoTimes, cost, least};
-use std::alloc::Global;
+use std::alloc::{AllocError, Global};
 use std::test::Fail;
 
 const PENALTY: u64 = 10;
@@ -84,7 +84,26 @@ fn network(
     }
 }
 
-/// Whether both agree after each of a dozen messages that nothing refuses at once.
+/// Makes the change of a message that nothing refuses at once.
+fn hear(
+    alloc: Global,
+    net: &Network,
+    rows: &mut Rows,
+    said: &mut Vec<Message>,
+    message: Message,
+) -> Result<(), AllocError>
+    requires { IsSized net.now rows.old }
+    ensures { IsSized net.now rows.new }
+{
+    let Ok(change) = admit(alloc, net, rows, &message) else {
+        return Ok(());
+    };
+    rows.apply(&change);
+    said.push(message)?;
+    Ok(())
+}
+
+/// Whether both agree after each of a dozen messages.
 fn agree_after_each(
     alloc: Global,
     dice: &mut Dice,
@@ -97,19 +116,15 @@ fn agree_after_each(
 {
     let (events, activities) = records;
     let mut said = Vec::new(alloc);
-    for _ in 0..12 {
-        let message = dice.message();
-        if let Ok(change) = admit(alloc, net, &rows, &message) {
-            rows.apply(&change);
-            said.push(message)?;
-            let plain = Plain {
-                events,
-                activities,
-                said: said.as_slice(),
-            };
-            if !agrees(alloc, net, &rows, &plain, seen)? {
-                return Ok(false);
-            }
+    for _turn in 0..12 {
+        hear(alloc, net, &mut rows, &mut said, dice.message())?;
+        let plain = Plain {
+            events,
+            activities,
+            said: said.as_slice(),
+        };
+        if !agrees(alloc, net, &rows, &plain, seen)? {
+            return Ok(false);
         }
     }
     Ok(true)
