@@ -13,11 +13,11 @@ use Rattle.dm_network.specs.declared.parts.Event.{Event}
 use Rattle.dm_network.specs.declared.arrays.Standing.{Standing}
 use Rattle.dm_network.specs.Net.{Net, no_event, no_activity, activity_at, places_into, places_out_of}
 use Rattle.dm_network.specs.Start.{binds_at_start, is_start_active}
-use Rattle.dm_network.specs.Stages.{standing_at, AreSortedByStop, AreStopsOf, StandBeside, net_with}
+use Rattle.dm_network.specs.Inside.Stages.{standing_at, AreSortedByStop, AreStopsOf, StandBeside, net_with}
 use Rattle.dm_network.specs.declared.parts.Pair.{Pair}
 use Rattle.dm_network.specs.declared.arrays.Arrays.{Arrays}
 use Rattle.dm_network.specs.declared.parts.Activity.{Activity}
-use Rattle.dm_network.specs.Flat.{AreFlatRows, row_of}
+use Rattle.dm_network.specs.Inside.Flat.{AreFlatRows, row_of}
 
 -- the order of the sort ties exactly what has one stop
 ties_are_one_stop : (stop : ℕ) (s : Standing) →

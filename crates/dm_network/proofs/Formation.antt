@@ -15,7 +15,7 @@ use Rattle.dm_network.specs.declared.parts.NetFault.{NetFault}
 use Rattle.dm_network.specs.declared.parts.NetFault.TheVariants.{TooMany, DoubleEvent, DoubleActivity, UnknownEvent, ZeroHeadway, Cycle, OutOfMemory}
 use Rattle.dm_network.specs.Net.{is_headway, no_activity}
 use Rattle.dm_network.specs.Build.{event_row, event_ids, activity_ids, NoneStandsTwice, IsZeroHeadway, HoldsOfNone, NamesNoEvent}
-use Rattle.dm_network.specs.Stages.{row_with, HasEnds, AreResolved, AreEventsOf, AreActivitiesOf, IsApart, RefusesEnds, RefusesActivities}
+use Rattle.dm_network.specs.Inside.Stages.{row_with, HasEnds, AreResolved, AreEventsOf, AreActivitiesOf, IsApart, RefusesEnds, RefusesActivities}
 use Rattle.dm_network.proofs.Keys.{distinct_rises}
 use Rattle.dm_network.proofs.Doubles.{NoneStandsTwice-permutation}
 

@@ -22,8 +22,8 @@ use Rattle.dm_network.specs.Net.{Net, no_event, no_activity, no_pair, event_at, 
 use Rattle.dm_network.specs.Pairs.{joins, pair_place, own_pair, IsHeadwayFrom, FormPair, IsPaired}
 use Rattle.dm_network.specs.Build.{AreWithinLimits, AreFew, IsMadeOf, event_row, activity_row, event_ids, activity_ids, IsNoEvent, NamesNoEvent, IsFirst, IsZeroHeadway, HoldsOfNone, NoneStandsTwice, RefusesRecords}
 use Rattle.dm_network.specs.Start.{IsFormed}
-use Rattle.dm_network.specs.Flat.{ArePairsInOrder}
-use Rattle.dm_network.specs.Stages.{row_with, net_with, with_pair, HasHeadway, IsHeadwayAmong, AreTwoWay, AreEventsOf, AreActivitiesOf, RefusesActivities}
+use Rattle.dm_network.specs.Inside.Flat.{ArePairsInOrder}
+use Rattle.dm_network.specs.Inside.Stages.{row_with, net_with, with_pair, HasHeadway, IsHeadwayAmong, AreTwoWay, AreEventsOf, AreActivitiesOf, RefusesActivities}
 use Rattle.dm_network.proofs.PairKeys.{joins-true, joins-from}
 use Rattle.dm_network.proofs.Resolving.{position_is_some}
 

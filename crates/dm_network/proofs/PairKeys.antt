@@ -8,7 +8,7 @@ use Rattle.std.proofs.lemmas.List.Sums.{position_or_len_is}
 use Rattle.dm_network.specs.declared.parts.Pair.{Pair}
 use Rattle.dm_network.specs.Net.{no_pair}
 use Rattle.dm_network.specs.Pairs.{joins, ComesBefore}
-use Rattle.dm_network.specs.Flat.{ArePairsInOrder, stands_before}
+use Rattle.dm_network.specs.Inside.Flat.{ArePairsInOrder, stands_before}
 
 -- the test that stands_before makes
 pub stands_before-true : (p : Pair) (small large : ℕ) → stands_before p small large ≡ true → (p.small < small) ⊎ ((p.small ≡ small) × (p.large < large))

@@ -16,7 +16,7 @@ use Rattle.dm_network.specs.declared.parts.Event.{Event}
 use Rattle.dm_network.specs.declared.parts.Activity.{Activity}
 use Rattle.dm_network.specs.Net.{no_event}
 use Rattle.dm_network.specs.Build.{event_row, activity_row, IsNoEvent, NamesNoEvent, IsFirst, HoldsOfNone, IsZeroHeadway}
-use Rattle.dm_network.specs.Stages.{row_with, event_with, HasEnds, Resolves, AreResolved}
+use Rattle.dm_network.specs.Inside.Stages.{row_with, event_with, HasEnds, Resolves, AreResolved}
 
 -- what makes an event of a record, and back
 pub event_row-event_with : (rows : List EventRow) → map event_row (map event_with rows) ≡ rows

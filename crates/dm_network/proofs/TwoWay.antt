@@ -11,8 +11,8 @@ use Rattle.dm_network.specs.declared.parts.Activity.{Activity}
 use Rattle.dm_network.specs.declared.parts.Pair.{Pair}
 use Rattle.dm_network.specs.Net.{no_pair, no_activity, is_headway}
 use Rattle.dm_network.specs.Pairs.{ComesBefore}
-use Rattle.dm_network.specs.Flat.{ArePairsInOrder, stands_before}
-use Rattle.dm_network.specs.Stages.{IsHeadwayAmong, HasHeadway, upward_pair, downward_pair, PairsDoNotFall, AreCommon, AreTwoWay, with_pair, AscendStrictly, DiffersFromLast}
+use Rattle.dm_network.specs.Inside.Flat.{ArePairsInOrder, stands_before}
+use Rattle.dm_network.specs.Inside.Stages.{IsHeadwayAmong, HasHeadway, upward_pair, downward_pair, PairsDoNotFall, AreCommon, AreTwoWay, with_pair, AscendStrictly, DiffersFromLast}
 use Rattle.dm_network.proofs.PairKeys.{stands_before-true, stands_before-from}
 
 pub same_pair : (p q : Pair) → p.small ≡ q.small → p.large ≡ q.large → p ≡ q
@@ -237,21 +237,21 @@ some_same p q h = cc
 
 -- what a filter that maps keeps
 module _ {X Y : Type 0} (f : X → Option Y) where
-  pub record Gives (xs : List X) (y : Y) : Type 0 where
+  pub record ComesFrom (xs : List X) (y : Y) : Type 0 where
     pub place : ℕ
     pub within : place < length xs
     pub given : (d : X) → f (get_or xs place d) ≡ Some y
 
-  gives_later : (x : X) (xs : List X) (y : Y) → Gives xs y → Gives (x ∷ xs) y
+  gives_later : (x : X) (xs : List X) (y : Y) → ComesFrom xs y → ComesFrom (x ∷ xs) y
   gives_later x xs y g = let w = g.within in record { place = suc g.place; within = omega arith; given = g.given }
 
-  gives_first : (x : X) (xs : List X) (y : Y) (o : Option Y) → f x ≡ o → (Contains (filter_map f xs) y → Gives xs y) →
-      Contains (cons_option o (filter_map f xs)) y → Gives (x ∷ xs) y
+  gives_first : (x : X) (xs : List X) (y : Y) (o : Option Y) → f x ≡ o → (Contains (filter_map f xs) y → ComesFrom xs y) →
+      Contains (cons_option o (filter_map f xs)) y → ComesFrom (x ∷ xs) y
   gives_first x xs y None e more c = gives_later x xs y (more c)
   gives_first x xs y (Some z) e more (zero, lt, is) = record { place = 0; within = omega arith; given = λ d. e ∙ ap Some is }
   gives_first x xs y (Some z) e more (suc k, lt, is) = gives_later x xs y (more (k, omega arith, is))
 
-  pub gives_from : (xs : List X) (y : Y) → Contains (filter_map f xs) y → Gives xs y
+  pub gives_from : (xs : List X) (y : Y) → Contains (filter_map f xs) y → ComesFrom xs y
   gives_from [] y h = let lt = h.1 in absurd (omega arith)
   gives_from (x ∷ xs) y h = gives_first x xs y (f x) refl (gives_from xs y) h
 

@@ -4,7 +4,7 @@ use Rattle.std.specs.List.{AllWithin}
 use Rattle.std.specs.List.Sorted.{IsPartitionPoint, IsNonDecreasing, IsNonDecreasingBy}
 use Rattle.std.proofs.lemmas.Bool.{cases_lt, ltb-true, ltb-false, leb-true, leb-false, ne_eqb, eq-eqb}
 use Rattle.std.proofs.lemmas.List.{get_or-map, length-map}
-use Rattle.dm_network.specs.Flat.{StandsWithin}
+use Rattle.dm_network.specs.Inside.Flat.{StandsWithin}
 use Rattle.dm_base.specs.declared.ids.StopId.{StopId}
 
 -- what passes stands from one place up to another
