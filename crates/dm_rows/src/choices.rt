@@ -57,7 +57,7 @@ fn is_free_change(net: &Network, rows: &Rows, a: usize) -> bool
     requires is_activity { a < length net.now.activities }
     ensures { result ≡ is_free_change net.now rows.now a }
 {
-    let _sound = net.events();
+    net.sound();
     let activity = net.activity(a);
     matches!(activity.kind, ActKind::Change) && rows.passed(activity.head).is_none()
 }
@@ -68,7 +68,7 @@ fn is_free_pair(net: &Network, rows: &Rows, p: usize) -> bool
     requires is_pair { p < length net.now.pairs }
     ensures { result ≡ is_free_pair net.now rows.now p }
 {
-    let _sound = net.events();
+    net.sound();
     let pair = net.pair(p);
     rows.passed(pair.small).is_none() && rows.passed(pair.large).is_none()
 }
@@ -78,7 +78,7 @@ fn choice_of_pair(net: &Network, p: usize) -> Choice
     requires { p < length net.now.pairs }
     ensures { result ≡ pair_choice net.now p }
 {
-    let _sound = net.events();
+    net.sound();
     let pair = net.pair(p);
     Choice::Pair(net.event(pair.small).id, net.event(pair.large).id)
 }

@@ -72,7 +72,7 @@ fn delays_of_activities(
     ensures known { OnOk result (AllAreKnown (activity_numbered net.now) records.now) }
     ensures refused { IfErr result (RefusesActivityDelays net.now records.now) }
 {
-    let _sound = net.events();
+    net.sound();
     let count = net.activities();
     let Ok(mut delays) = vec![in alloc; 0; count] else {
         return Err(StartFault::OutOfMemory);
@@ -102,7 +102,7 @@ fn starts_small_first(net: &Network, p: usize) -> bool
     requires { p < length net.now.pairs }
     ensures { result ≡ starts_small_first net.now p }
 {
-    let _sound = net.events();
+    net.sound();
     let pair = net.pair(p);
     net.event(pair.small).time <= net.event(pair.large).time
 }
