@@ -92,11 +92,11 @@ feed_at bytes from place fits front found =
     let low_in : from + place < length bytes = omega (arith, low, size) in
     let at_place : get_or rest place 0 ≡ 10 = subst (λ (i : ℕ). get_or rest i 0 ≡ 10) h.1 (eqb-true _ 10 (passes_at_first (λ b. eqb b 10) rest 0 before)) in
     let unended : IsUnended (take place rest) = λ k d small.
-        let inside : k < place = omega (arith, length-take-le place rest (omega (arith, low))) in
-        rw (get_or-take place rest k d inside) (eqb-false (get_or rest k d) 10 (fails_before_first (λ b. eqb b 10) rest k d (omega (arith, inside, h.1)))) in
+    let inside : k < place = omega (arith, length-take-le place rest (omega (arith, low))) in
+    rw (get_or-take place rest k d inside) (eqb-false (get_or rest k d) 10 (fails_before_first (λ b. eqb b 10) rest k d (omega (arith, inside, h.1)))) in
     let split : take (from + place) bytes ≡ take from bytes ++ take place rest =
-        ap (take (from + place)) (sym (take-append-drop from bytes))
-        ∙ (ap (λ (n : ℕ). take (n + place) (take from bytes ++ rest)) (sym (length-take-le from bytes fits)) ∙ take-append-add (take from bytes) rest place) in
+    ap (take (from + place)) (sym (take-append-drop from bytes))
+    ∙ (ap (λ (n : ℕ). take (n + place) (take from bytes ++ rest)) (sym (length-take-le from bytes fits)) ∙ take-append-add (take from bytes) rest place) in
     let next : from + place + 1 ≡ suc (from + place) = omega arith in
     record {
       low = low_in;
@@ -200,17 +200,17 @@ module _ {S : Type 0} {left : S → Option (List ℕ)} where
   pub passes_found : (mid now : ReaderValue S) (at : ℕ) (h : Heard) → now ≡ record mid { pending = drop (at + 1) mid.pending; lines = mid.lines + 1 } → EndsAt mid.pending at → mid.stop ≡ None → (mid.stop ≡ None → mid.taken ≤ 262144) → Hears (without_return (take at mid.pending)) h
       → PassesEnded left mid now h
   passes_found mid now at h e ends is_open within hears =
-    subst (λ (v : ReaderValue S). PassesEnded left mid v h) (sym e) (record {
-    given = [];
-    takes = takes_none mid (record mid { pending = drop (at + 1) mid.pending; lines = mid.lines + 1 }) refl refl;
-    bytes = take at mid.pending;
-    unended = ends.unended;
-    passed = append-nil mid.pending ∙ ends.is;
-    hears = hears;
-    lines = refl;
-    open_still = is_open;
-    within = within is_open;
-  })
+      subst (λ (v : ReaderValue S). PassesEnded left mid v h) (sym e) (record {
+        given = [];
+        takes = takes_none mid (record mid { pending = drop (at + 1) mid.pending; lines = mid.lines + 1 }) refl refl;
+        bytes = take at mid.pending;
+        unended = ends.unended;
+        passed = append-nil mid.pending ∙ ends.is;
+        hears = hears;
+        lines = refl;
+        open_still = is_open;
+        within = within is_open;
+      })
 
   pub drops_first : (before : ReaderValue S) → before.stop ≡ None → 1025 < length before.pending → IsUnended before.pending → before.lines + length before.pending ≤ before.taken → Drops left before (record before { pending = [] })
   drops_first before is_open long unended counted = record {

@@ -174,19 +174,19 @@ ids_texts p texts e =
 
 -- ---- a line that is read has its parts
 
-record MappedTo {A B : Type 0} (f : A → B) (o : Option A) (b : B) : Type 0 where
-  at : A
-  is : o ≡ Some at
-  gives : f at ≡ b
+pub record MappedTo {A B : Type 0} (f : A → B) (o : Option A) (b : B) : Type 0 where
+  pub at : A
+  pub is : o ≡ Some at
+  pub gives : f at ≡ b
 
-mapped_to : {A B : Type 0} (f : A → B) (o : Option A) (b : B) → option_map f o ≡ Some b → MappedTo f o b
+pub mapped_to : {A B : Type 0} (f : A → B) (o : Option A) (b : B) → option_map f o ≡ Some b → MappedTo f o b
 mapped_to f None b e = absurd cc
 mapped_to f (Some a) b e = record { at = a; is = refl; gives = cc }
 
 -- the texts stand for the line
-record Shows (said : Line) (texts : List (List ℕ)) : Type 0 where
-  spelled : IsSpelledLine said
-  parts : StandForAll (parts_of_line said) texts
+pub record Shows (said : Line) (texts : List (List ℕ)) : Type 0 where
+  pub spelled : IsSpelledLine said
+  pub parts : StandForAll (parts_of_line said) texts
 
 -- a line made of what was read shows that
 made : {A : Type 0} (f : A → Line) (o : Option A) (said : Line) (texts : List (List ℕ)) → ((a : A) → o ≡ Some a → Shows (f a) texts) → option_map f o ≡ Some said → Shows said texts
@@ -219,7 +219,7 @@ shows_delays : (first : List ℕ) (texts : List (List ℕ)) (said : Line) → fi
 shows_delays first [] said is e = absurd cc
 shows_delays first (what ∷ texts) said is e = shows_delay first what texts said (word_named what) is refl e
 
-shows : (w : Word) (first : List ℕ) (texts : List (List ℕ)) (said : Line) → first ≡ spelling_of_word w → line_behind w texts ≡ Some said → Shows said (first ∷ texts)
+pub shows : (w : Word) (first : List ℕ) (texts : List (List ℕ)) (said : Line) → first ≡ spelling_of_word w → line_behind w texts ≡ Some said → Shows said (first ∷ texts)
 shows Delay first texts said is e = shows_delays first texts said is e
 shows Event first texts said is e = absurd cc
 shows Activity first texts said is e = absurd cc
@@ -243,7 +243,7 @@ shows Plan first texts said is e =
     made (λ n. line.Plan n) (only value_in texts) said (first ∷ texts) (λ n q. record { spelled = tt; parts = (is, value_texts n texts q) }) e
 shows Adopt first texts said is e = made_alone line.Adopt said first texts (λ none. record { spelled = tt; parts = (is, subst (StandForAll []) (sym none) tt) }) e
 
-shows_named : (first : List ℕ) (texts : List (List ℕ)) (said : Line) (o : Option Word) → word_named first ≡ o → line_with o texts ≡ Some said → Shows said (first ∷ texts)
+pub shows_named : (first : List ℕ) (texts : List (List ℕ)) (said : Line) (o : Option Word) → word_named first ≡ o → line_with o texts ≡ Some said → Shows said (first ∷ texts)
 shows_named first texts said None named e = absurd cc
 shows_named first texts said (Some w) named e = shows w first texts said (word_found first w named) e
 
@@ -284,12 +284,12 @@ reads line.Read first texts spelled h = begun Read first texts _ h.0 (alone_none
 -- ---- blank lines and comments
 
 -- a line begins with a word
-record BeginsWithWord (said : Line) : Type 0 where
-  first : Word
-  rest : List Part
-  are : parts_of_line said ≡ word first ∷ rest
+pub record BeginsWithWord (said : Line) : Type 0 where
+  pub first : Word
+  pub rest : List Part
+  pub are : parts_of_line said ≡ word first ∷ rest
 
-begins : (said : Line) → BeginsWithWord said
+pub begins : (said : Line) → BeginsWithWord said
 begins (line.Say (message.DelayEvent e d)) = record { first = Delay; rest = _; are = refl }
 begins (line.Say (message.DelayActivity a d)) = record { first = Delay; rest = _; are = refl }
 begins (line.Say (message.Pass e t)) = record { first = Pass; rest = _; are = refl }
@@ -322,7 +322,7 @@ letter Read = omega arith
 letter Plan = omega arith
 letter Adopt = omega arith
 
-no_words : (w : Word) (rest : List Part) (texts : List (List ℕ)) → SayNothing texts → StandForAll (word w ∷ rest) texts → ⊥
+pub no_words : (w : Word) (rest : List Part) (texts : List (List ℕ)) → SayNothing texts → StandForAll (word w ∷ rest) texts → ⊥
 no_words w rest [] quiet h = h
 no_words w rest ([] ∷ texts) quiet h = quiet
 no_words w rest ((c ∷ cs) ∷ texts) quiet h =
@@ -335,7 +335,7 @@ quiet_or_line bytes said quiet h =
     let b = begins said in
     no_words b.first b.rest (words_of bytes) quiet.says_nothing (subst (λ (ps : List Part). StandForAll ps (words_of bytes)) b.are h.parts)
 
-comment_says : (first : List ℕ) (texts : List (List ℕ)) → begins_comment first ≡ true → SayNothing (first ∷ texts)
+pub comment_says : (first : List ℕ) (texts : List (List ℕ)) → begins_comment first ≡ true → SayNothing (first ∷ texts)
 comment_says [] texts e = absurd cc
 comment_says (c ∷ cs) texts e = eqb-true c 35 e
 

@@ -2,3 +2,4 @@
 pub mod Cuts
 pub mod Reading
 pub mod Passing
+pub mod Deciding

@@ -12,7 +12,7 @@ use Rattle.dm_feed.specs.declared.grammar.Line.TheVariants as line
 use Rattle.dm_feed.specs.declared.grammar.Heard.{Heard}
 use Rattle.dm_feed.specs.declared.grammar.Heard.TheVariants as heard
 use Rattle.dm_feed.specs.Words.{words_of}
-use Rattle.dm_feed.specs.Parts.{Part, word, id, value, HasParts, Fits, spelling_of_parts}
+use Rattle.dm_feed.specs.Parts.{Part, word, id, value, HasParts, Fits, spaced, spelling_of_parts}
 
 abbrev pub parts_of_decision : Decision → List Part
 parts_of_decision (decision.Keep a) = word Keep ∷ id a.0 ∷ []
@@ -93,6 +93,10 @@ Hears bytes heard.Malformed = IsInNoForm bytes
 unfoldable pub spelling_of_line : Line → List ℕ
 spelling_of_line said = spelling_of_parts (parts_of_line said)
 
+-- a decision as it stands in an adopted list, with a space in front of each part
+abbrev pub spelling_of_decision : Decision → List ℕ
+spelling_of_decision decision = flat_map spaced (parts_of_decision decision)
+
 -- a message's one spelling
 unfoldable pub spelling_of_message : Message → List ℕ
 spelling_of_message said = spelling_of_parts (parts_of_message said)
@@ -101,3 +105,7 @@ spelling_of_message said = spelling_of_parts (parts_of_message said)
 pub record IsMessageOf (said : Message) (bytes : List ℕ) : Type 0 where
   pub fits : All Fits (parts_of_message said)
   pub spelled : bytes ≡ spelling_of_message said
+
+-- the bytes are no message's spelling
+abbrev pub IsNoMessage : List ℕ → Type 0
+IsNoMessage bytes = (said : Message) → IsMessageOf said bytes → ⊥

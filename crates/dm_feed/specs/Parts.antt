@@ -1,6 +1,6 @@
 -- The parts of a line, a word or a number each: what bytes may stand for a part, and which is printed.
-use Rattle.std.specs.Prelude.{ℕ, ◌≡◌, ◌≤◌, List, [], ◌∷◌, map}
-use Rattle.std.specs.List.{join_with_byte}
+use Rattle.std.specs.Prelude.{ℕ, ◌≡◌, ◌≤◌, List, [], ◌∷◌, ◌++◌}
+use Rattle.std.specs.List.{flat_map}
 use Rattle.std.specs.Fmt.{decimal}
 use Rattle.dm_base.specs.Numbers.{IsDigits, whole_value}
 use Rattle.dm_feed.specs.declared.vocabulary.Word.{Word}
@@ -50,9 +50,14 @@ spelling_of_part (word w) = spelling_of_word w
 spelling_of_part (id n) = decimal n
 spelling_of_part (value n) = decimal n
 
+-- a part and a space in front
+abbrev pub spaced : Part → List ℕ
+spaced part = 32 ∷ spelling_of_part part
+
 -- the one spelling of the parts in order, with one space between them
 abbrev pub spelling_of_parts : List Part → List ℕ
-spelling_of_parts parts = join_with_byte 32 (map spelling_of_part parts)
+spelling_of_parts [] = []
+spelling_of_parts (part ∷ parts) = spelling_of_part part ++ flat_map spaced parts
 
 -- the part's number is not above the largest
 abbrev pub Fits : Part → Type 0

@@ -1,4 +1,4 @@
-// Bytes that were taken from a source and wait to be looked at.
+//! Bytes that were taken from a source and wait to be looked at.
 ghost use Rattle.std.specs.Prelude.{◌≡◌, ◌+◌, ◌-◌, ◌<◌, ◌≤◌, ◌++◌, [], length, take, drop, IfOk, OnErr, IsErr};
 ghost use Rattle.std.specs.Io.KnownBytes.{Keeps};
 ghost use Rattle.dm_outside.specs.Faults.{Counts};
@@ -94,7 +94,11 @@ impl Buffer {
     }
 
     /// Takes the next bytes of the source, at most so many. No bytes are the end of the source.
-    pub(crate) fn read_from<S: Source>(&mut self, source: &mut S, most: usize) -> Result<usize, Failed>
+    pub(crate) fn read_from<S: Source>(
+        &mut self,
+        source: &mut S,
+        most: usize,
+    ) -> Result<usize, Failed>
         requires some { 0 < most }
         requires room { length self.old < 4096 }
         ensures short { IfOk result (λ count. count ≤ most) }

@@ -1,4 +1,4 @@
-// What a feed's reader answers.
+//! What a feed's reader answers.
 
 use crate::grammar::Heard;
 

@@ -1,4 +1,4 @@
-// What lines say.
+//! What lines say.
 
 use dm_base::EventId;
 use dm_rows::Message;

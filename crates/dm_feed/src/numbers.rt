@@ -1,4 +1,4 @@
-// Ids and values.
+//! Ids and values.
 ghost use Rattle.std.specs.Prelude.{◌≡◌};
 ghost use Rattle.dm_feed.specs.Parts.{largest_id, largest_value};
 ghost use Rattle.dm_feed.specs.Inside.Reading.{number_up_to};

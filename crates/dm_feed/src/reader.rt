@@ -1,4 +1,4 @@
-// The reader of a feed.
+//! The reader of a feed.
 ghost use Rattle.std.specs.Prelude.{◌≡◌, ◌≢◌, ◌+◌, ◌<◌, ◌≤◌, [], length, take, drop, IfOk, IfErr, IfSome, Some, None, MatchOption, MatchBool};
 ghost use Rattle.dm_feed.specs.Feeds.{Answers, StopsAt, IsUnended, without_return};
 ghost use Rattle.dm_feed.specs.Lines.{Hears};
@@ -206,7 +206,11 @@ impl<S: Source> LineReader<S> {
         ensures later { S.faults self.old.source ≤ S.faults self.new.source }
         ensures stays_sound { S.is_sound self.old.source → S.is_sound self.new.source }
     {
-        let most = if self.taken < FEED { FEED - self.taken } else { 1 };
+        let most = if self.taken < FEED {
+            FEED - self.taken
+        } else {
+            1
+        };
         let Ok(count) = self.buffer.read_from(&mut self.source, most) else {
             self.stop = Some(FeedStop::Fault);
             return Err(FeedStop::Fault);

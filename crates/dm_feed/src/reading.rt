@@ -1,4 +1,4 @@
-// What is heard in a line.
+//! What is heard in a line.
 ghost use Rattle.std.specs.Prelude.{◌≡◌, ◌==◌, ◌↔◌, length};
 ghost use Rattle.dm_feed.specs.Words.{words_of};
 ghost use Rattle.dm_feed.specs.Lines.{Hears, IsQuiet, IsInNoForm};
@@ -12,8 +12,8 @@ use dm_base::limits::LINE;
 use dm_base::{ActId, EventId};
 use dm_rows::Message;
 
-// Whether there are no words.
-fn are_none(words: &[u8]) -> bool
+/// Whether there are no words.
+pub(crate) fn are_none(words: &[u8]) -> bool
     ensures { result ≡ (length (words_of words.now) == 0) }
 {
     next_word(words).is_none()
@@ -102,8 +102,8 @@ fn alone(line: Line, words: &[u8]) -> Option<Line>
     if are_none(words) { Some(line) } else { None }
 }
 
-// The line that begins with this word, and whose other words are these.
-fn line_behind(word: Word, words: &[u8]) -> Option<Line>
+/// The line that begins with this word, and whose other words are these.
+pub(crate) fn line_behind(word: Word, words: &[u8]) -> Option<Line>
     ensures { result ≡ line_behind word (words_of words.now) }
 {
     match word {

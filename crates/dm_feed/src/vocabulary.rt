@@ -1,4 +1,4 @@
-// The words that lines are made of.
+//! The words that lines are made of.
 ghost use Rattle.std.specs.Prelude.{◌≡◌};
 ghost use Rattle.dm_feed.specs.Words.{spelling_of_word};
 ghost use Rattle.dm_feed.specs.Inside.Reading.{word_named};

@@ -1,4 +1,4 @@
-// How bytes are cut into words.
+//! How bytes are cut into words.
 ghost use Rattle.std.specs.Prelude.{◌≡◌, ◌==◌, [], ◌∷◌, MatchOption, position};
 ghost use Rattle.std.specs.Option.{option_map};
 ghost use Rattle.dm_feed.specs.Words.{words_of};
@@ -11,8 +11,8 @@ pub(crate) fn first_place(bytes: &[u8], at: u8) -> Option<usize>
     bytes.iter().position(|b| *b == at)
 }
 
-// The bytes before the first that is `at`, and those behind it.
-fn cut(bytes: &[u8], at: u8) -> Option<(&[u8], &[u8])>
+/// The bytes before the first that is `at`, and those behind it.
+pub(crate) fn cut(bytes: &[u8], at: u8) -> Option<(&[u8], &[u8])>
     ensures { option_map (λ parts. (parts.0.now, parts.1.now)) result ≡ cut_at at bytes.now }
 {
     let Some(place) = first_place(bytes, at) else {

@@ -1,6 +1,6 @@
 -- How the reader goes from words to a line: a function for each function of the code.
 use Rattle.std.specs.Prelude.{ℕ, ◌≡◌, ◌==◌, Bool, true, false, ◌&&◌, not, if◌then◌else◌, nat_eq, nat_le, List, [], ◌∷◌, length, Option, Some, None}
-use Rattle.std.specs.List.{find, list_all}
+use Rattle.std.specs.List.{find, list_all, slice_split}
 use Rattle.std.specs.Option.{option_map, option_and_then}
 use Rattle.std.specs.Char.{is_ascii_digit}
 use Rattle.std.specs.Cmp.Lexicographic.{pointwise}
@@ -8,6 +8,9 @@ use Rattle.dm_base.specs.Numbers.{whole_value}
 use Rattle.dm_base.specs.declared.limits.TheConstants.{LINE}
 use Rattle.dm_base.specs.declared.ids.EventId.{EventId}
 use Rattle.dm_base.specs.declared.ids.ActId.{ActId}
+use Rattle.dm_rows.specs.declared.messages.Decision.{Decision}
+use Rattle.dm_rows.specs.declared.messages.Decision.TheVariants as decision
+use Rattle.dm_rows.specs.declared.messages.Message.{Message}
 use Rattle.dm_rows.specs.declared.messages.Message.TheVariants as message
 use Rattle.dm_feed.specs.declared.vocabulary.Word.{Word}
 use Rattle.dm_feed.specs.declared.vocabulary.Word.TheVariants.{Delay, Event, Activity, Pass, Recall, Keep, Drop, First, Now, Time, Cost, Read, Plan, Adopt}
@@ -100,6 +103,49 @@ line_with (Some w) texts = line_behind w texts
 
 abbrev pub line_in : List ℕ → List (List ℕ) → Option Line
 line_in first texts = line_with (word_named first) texts
+
+-- ---- messages in print
+
+-- a word in print: some bytes, with no zero in front of another digit
+abbrev pub is_plain_word : List ℕ → Bool
+is_plain_word [] = false
+is_plain_word (c ∷ []) = true
+is_plain_word (c ∷ d ∷ cs) = not (c == 48)
+
+-- one space between the words, none at the ends, and no zeros in front
+abbrev pub is_plain : List ℕ → Bool
+is_plain bytes = list_all is_plain_word (slice_split (λ b. b == 32) bytes)
+
+-- the message that the line says
+abbrev pub message_of : Line → Option Message
+message_of (line.Say m) = Some m
+message_of (line.Time e) = None
+message_of line.CostNow = None
+message_of (line.Plan b) = None
+message_of line.Adopt = None
+message_of line.Read = None
+
+-- the id that is first, and the texts behind it
+abbrev pub next_id : List (List ℕ) → Option (ℕ × List (List ℕ))
+next_id [] = None
+next_id (text ∷ texts) = option_map (λ n. (n, texts)) (id_in text)
+
+abbrev pub first_behind : Option (ℕ × List (List ℕ)) → Option (Decision × List (List ℕ))
+first_behind None = None
+first_behind (Some p) = option_map (λ q. (decision.First (event p.0) (event q.0), q.1)) (next_id p.1)
+
+abbrev pub decision_behind : Option Word → List (List ℕ) → Option (Decision × List (List ℕ))
+decision_behind (Some Keep) texts = option_map (λ p. (decision.Keep (act p.0), p.1)) (next_id texts)
+decision_behind (Some Drop) texts = option_map (λ p. (decision.Drop (act p.0), p.1)) (next_id texts)
+decision_behind (Some First) texts = first_behind (next_id texts)
+decision_behind _ texts = None
+
+-- the decision that is first, and the texts behind it
+abbrev pub next_decision : List (List ℕ) → Option (Decision × List (List ℕ))
+next_decision [] = None
+next_decision (text ∷ texts) = decision_behind (word_named text) texts
+
+-- ---- what is heard
 
 abbrev pub heard_line : Option Line → Heard
 heard_line None = heard.Malformed
