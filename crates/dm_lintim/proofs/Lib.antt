@@ -8,3 +8,4 @@ pub mod BoundLemmas
 pub mod RowLemmas
 pub mod LawLemmas
 pub mod WordLemmas
+pub mod ValueLemmas

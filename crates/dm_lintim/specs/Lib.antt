@@ -3,3 +3,4 @@ pub mod Split
 pub mod Records
 pub mod Columns
 pub mod Files
+pub mod Inside

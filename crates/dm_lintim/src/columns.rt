@@ -59,8 +59,12 @@ pub enum ColumnFault {
     MissingColumn(Column),
 }
 
+/// How many columns there are.
+pub(crate) const COLUMNS: usize = 11;
+
 impl Column {
-    ghost use Rattle.dm_lintim.specs.Columns.{column_name, same_column};
+    ghost use Rattle.std.specs.Prelude.{◌<◌};
+    ghost use Rattle.dm_lintim.specs.Columns.{column_name, column_number, same_column};
 
     /// The word that names the column.
     pub fn name(self) -> &'static str
@@ -79,6 +83,14 @@ impl Column {
             Column::Upper => "upper",
             Column::Delay => "delay",
         }
+    }
+
+    /// The column's place among all columns.
+    pub(crate) fn number(self) -> usize
+        ensures number { result ≡ column_number self }
+        ensures within { result < COLUMNS }
+    {
+        self as usize
     }
 
     pub(crate) fn is(self, other: Column) -> bool
