@@ -1,14 +1,14 @@
 -- The values of a record, cell by cell.
-use Rattle.std.proofs.Common.{◌≡◌, ◌≤◌, ◌<◌, ◌≢◌, ◌⊎◌, ℕ, Bool, true, false, List, [], ◌∷◌, ◌+◌, suc, add-one, drop, drop-cons, length, set, get_or, Option, Some, None, refl, sym, ap, ◌∙◌, inl, inr, arith, unwrap_or, subst, get_or-set_same, get_or-set_other}
+use Rattle.std.proofs.Common.{◌≡◌, ◌≤◌, ◌<◌, ℕ, Bool, true, false, List, [], ◌∷◌, ◌+◌, suc, add-one, drop, drop-cons, length, set, get_or, Option, Some, None, refl, sym, ap, ◌∙◌, inl, inr, arith, unwrap_or, get_or-set_same, get_or-set_other}
 use Rattle.std.specs.List.{list_any}
-use Rattle.std.specs.Prelude.{IsSome, is_some}
+use Rattle.std.specs.Prelude.{is_some}
 use Rattle.std.proofs.Math.ListN.{drop_of_length-le}
 use Rattle.std.proofs.lemmas.Bool.{cases_Bool, true≢false, eqb-false}
 use Rattle.dm_lintim.specs.declared.columns.Column.{Column}
 use Rattle.dm_lintim.specs.declared.columns.Column.TheVariants as col
 use Rattle.dm_lintim.specs.Columns.{HasAll, column_number, has_column, is_column, same_column}
 use Rattle.dm_lintim.specs.Files.{largest_of, text_under}
-use Rattle.dm_lintim.specs.Inside.Values.{AreValuesOf, AreWithin, HasKind, HoldsNumber, IsKindOf, KindFrom, LeadsTo, PutsCell, PutsKind, first_kind, number_from, number_in, number_of, put_slot, slot}
+use Rattle.dm_lintim.specs.Inside.Values.{AreValuesOf, AreWithin, HasKind, HoldsNumber, IsKindOf, KindFrom, LeadsTo, PutsCell, PutsKind, number_from, number_of, put_slot, slot}
 use Rattle.dm_lintim.proofs.ColumnLemmas.{same_is}
 
 put_other : (o : Option ℕ) (n : ℕ) → put_slot o false n ≡ o
@@ -34,11 +34,11 @@ slot_put old column c number none below =
     ]
 
 -- a slot that is taken stays
-pub slot_kept : (old : List (Option ℕ)) (column c : Column) (number taken : ℕ) → slot old column ≡ Some taken
+pub slot_kept : (old : List (Option ℕ)) (column c : Column) (number held : ℕ) → slot old column ≡ Some held
     → slot old c ≡ put_slot (slot old c) (same_column c column) number
-slot_kept old column c number taken some =
+slot_kept old column c number held some =
     elim (cases_Bool (same_column c column)) [
-      | inl e ↦ let here : slot old c ≡ Some taken = rw (same_is c column e) some in rw here refl
+      | inl e ↦ let here : slot old c ≡ Some held = rw (same_is c column e) some in rw here refl
       | inr e ↦ rw e (sym (put_other (slot old c) number))
     ]
 

@@ -1,23 +1,23 @@
-//! The cells of a record: what is taken of them, and the numbers that they give.
+//! The cells of a record, and the numbers that they give.
 ghost use Rattle.std.specs.Prelude.{◌≡◌, ◌≤◌, ◌<◌, [], slice_index_or, OnOk, IfOk, IfErr, MatchResult};
 ghost use Rattle.dm_base.specs.Numbers.{IsDigits, IsMilliText, milli_value, whole_value};
 ghost use Rattle.dm_lintim.specs.Files.{IsNumber, RefusesNumber, largest_of};
 ghost use Rattle.dm_lintim.specs.Pieces.{is_passed_over};
-ghost use Rattle.dm_lintim.specs.Split.{taken_fields};
+ghost use Rattle.dm_lintim.specs.Inside.Reader.{cells_of};
 
-use crate::columns::Column;
+use crate::columns::{Column, LARGEST_ID};
 use crate::fault::FileKind;
-use crate::field::taken;
+use crate::field::cell_of;
 use csv::ByteRecord;
 use dm_base::limits::{BOUND, DELAY, TIME, WEIGHT};
 use dm_base::{NumFault, read_milli, read_whole};
 
-/// The field at a place, as taken, or the empty text past the last one.
-pub(crate) fn taken_field(fields: &ByteRecord, place: usize) -> &[u8]
-    ensures { result.now ≡ slice_index_or (taken_fields fields.now) place [] }
+/// The cell at a place, or the empty text past the last one.
+pub(crate) fn cell_at(fields: &ByteRecord, place: usize) -> &[u8]
+    ensures { result.now ≡ slice_index_or (cells_of fields.now) place [] }
 {
     match fields.get(place) {
-        Some(field) => taken(field),
+        Some(field) => cell_of(field),
         None => &[],
     }
 }
@@ -27,7 +27,7 @@ fn largest(column: Column) -> u64
     ensures { result ≡ largest_of column }
 {
     match column {
-        Column::Id | Column::Stop | Column::Tail | Column::Head => 4_294_967_295,
+        Column::Id | Column::Stop | Column::Tail | Column::Head => LARGEST_ID,
         Column::Time => TIME,
         Column::Weight => WEIGHT,
         Column::Lower => BOUND,
@@ -49,7 +49,7 @@ fn refused(column: Column, fault: NumFault) -> FileKind
 
 // A number that was read, where it may stand under the column.
 fn number_under(column: Column, number: u64) -> Result<u64, FileKind>
-    ensures { MatchResult result (λ taken. (taken ≡ number) × (number ≤ largest_of column)) (λ why. (largest_of column < number) × (why ≡ FileKind.TooLarge column)) }
+    ensures { MatchResult result (λ n. (n ≡ number) × (number ≤ largest_of column)) (λ why. (largest_of column < number) × (why ≡ FileKind.TooLarge column)) }
 {
     if number <= largest(column) {
         Ok(number)
@@ -84,12 +84,12 @@ pub(crate) fn milli_under(column: Column, text: &[u8]) -> Result<u64, FileKind>
 
 /// Whether a record is passed over: a comment, or one empty field.
 pub(crate) fn is_passed_over(fields: &ByteRecord) -> bool
-    ensures { result ≡ is_passed_over (taken_fields fields.now) }
+    ensures { result ≡ is_passed_over (cells_of fields.now) }
 {
     if fields.is_empty() {
         return false;
     }
-    match taken_field(fields, 0) {
+    match cell_at(fields, 0) {
         [] => fields.len() == 1,
         [first, ..] => *first == b'#',
     }

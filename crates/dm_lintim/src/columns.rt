@@ -59,6 +59,9 @@ pub enum ColumnFault {
     MissingColumn(Column),
 }
 
+/// The largest number of an event, an activity or a stop.
+pub(crate) const LARGEST_ID: u64 = 4_294_967_295;
+
 /// How many columns there are.
 pub(crate) const COLUMNS: usize = 11;
 

@@ -3,12 +3,13 @@ ghost use Rattle.std.specs.Prelude.{ℕ, ◌≡◌, ◌≤◌, ◌<◌, ◌+◌,
 ghost use Rattle.csv.specs.Records.{fields_of};
 ghost use Rattle.dm_lintim.specs.declared.columns.Column.{Column};
 ghost use Rattle.dm_lintim.specs.Columns.{HasAll};
-ghost use Rattle.dm_lintim.specs.Files.{AddsRow, BreaksFile, BreaksRecord, RefusesFirst, IsGood, ReadsFile, RefusesField, TakesField, no_memory};
+ghost use Rattle.dm_lintim.specs.Files.{BreaksRecord, RefusesFirst, IsGood, ReadsFile, RefusesField, TakesField, no_memory};
+ghost use Rattle.dm_lintim.specs.Inside.Rows.{AddsRow, BreaksFile};
 ghost use Rattle.dm_lintim.specs.Inside.Values.{AreValuesOf, AreWithin, HasKind, PutsCell};
 ghost use Rattle.dm_lintim.specs.Pieces.{has_byte_order_mark};
-ghost use Rattle.dm_lintim.specs.Split.{taken_fields};
+ghost use Rattle.dm_lintim.specs.Inside.Reader.{cells_of};
 
-use crate::cells::{is_passed_over, milli_under, taken_field, whole_under};
+use crate::cells::{cell_at, is_passed_over, milli_under, whole_under};
 use crate::columns::Column;
 use crate::fault::{FileFault, FileKind};
 use crate::records::Records;
@@ -28,7 +29,7 @@ pub(crate) trait Row: Drop {
     // A kind and a type word that names it.
     ghost names: { Self.Kind → List ℕ → Type 0 };
 
-    // The row that a record gives, its fields as taken, under the columns of the file.
+    // The row that the cells of a record give under the columns of the file.
     ghost is_row: { List (Option Column) → List (List ℕ) → Self → Type 0 };
 
     // The columns that each record must have.
@@ -106,15 +107,15 @@ fn read_cells<R: Row>(
     columns: &[Option<Column>],
     fields: &ByteRecord,
 ) -> Result<Values<R::Kind>, FileKind>
-    requires { length (taken_fields fields.now) ≡ length columns.now }
-    ensures good { OnOk result (IsGood R.is_known columns.now (taken_fields fields.now)) }
-    ensures values { IfOk result (λ v. AreValuesOf R.names v.numbers v.kind columns.now (taken_fields fields.now)) }
+    requires { length (cells_of fields.now) ≡ length columns.now }
+    ensures good { OnOk result (IsGood R.is_known columns.now (cells_of fields.now)) }
+    ensures values { IfOk result (λ v. AreValuesOf R.names v.numbers v.kind columns.now (cells_of fields.now)) }
     ensures within { IfOk result (λ v. AreWithin v.numbers) }
-    ensures refuses { IfErr result (RefusesFirst R.is_known columns.now (taken_fields fields.now)) }
+    ensures refuses { IfErr result (RefusesFirst R.is_known columns.now (cells_of fields.now)) }
 {
     let mut values = Values::new();
     for (place, column) in columns.iter().enumerate() {
-        read_cell::<R>(&mut values, *column, taken_field(fields, place))?;
+        read_cell::<R>(&mut values, *column, cell_at(fields, place))?;
     }
     Ok(values)
 }
@@ -123,9 +124,9 @@ fn read_cells<R: Row>(
 fn read_row<R: Row>(columns: &[Option<Column>], fields: &ByteRecord) -> Result<R, FileKind>
     requires columns { HasAll columns.now R.required }
     requires few { length (fields_of fields.now) < 2 ^ 32 }
-    ensures row { IfOk result (R.is_row columns.now (taken_fields fields.now)) }
-    ensures good { OnOk result (IsGood R.is_known columns.now (taken_fields fields.now)) }
-    ensures breaks { IfErr result (BreaksRecord R.is_known columns.now (taken_fields fields.now)) }
+    ensures row { IfOk result (R.is_row columns.now (cells_of fields.now)) }
+    ensures good { OnOk result (IsGood R.is_known columns.now (cells_of fields.now)) }
+    ensures breaks { IfErr result (BreaksRecord R.is_known columns.now (cells_of fields.now)) }
 {
     let found = fields.len();
     if found != columns.len() {
@@ -154,9 +155,9 @@ fn add_record<R: Row>(
     requires columns { HasAll columns.now R.required }
     requires few { length (fields_of fields.now) < 2 ^ 32 }
     requires room { length rows.old.items + 1 < 2 ^ 32 }
-    ensures adds { OnOk result (AddsRow R.is_known R.is_row columns.now (taken_fields fields.now) rows.old.items rows.new.items) }
+    ensures adds { OnOk result (AddsRow R.is_known R.is_row columns.now (cells_of fields.now) rows.old.items rows.new.items) }
     ensures breaks { IfErr result (λ fault. (fault ≡ no_memory)
-        ⊎ BreaksFile R.is_known columns.now (taken_fields fields.now) (length rows.old.items) fault) }
+        ⊎ BreaksFile R.is_known columns.now (cells_of fields.now) (length rows.old.items) fault) }
 {
     if is_passed_over(fields) {
         return Ok(());

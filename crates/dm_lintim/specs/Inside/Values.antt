@@ -1,5 +1,5 @@
 -- What is left of a record's cells once they are read: under each column the first number, and the first kind.
-use Rattle.std.specs.Prelude.{ℕ, ◌≡◌, ◌≤◌, ◌+◌, Bool, true, false, List, Option, Some, None, IsSome, unwrap_or, slice_index_or}
+use Rattle.std.specs.Prelude.{ℕ, ◌≡◌, ◌≤◌, Bool, true, false, List, Option, Some, None, IsSome, unwrap_or, slice_index_or}
 use Rattle.std.specs.List.{list_any}
 use Rattle.dm_base.specs.Numbers.{milli_value, whole_value}
 use Rattle.dm_lintim.specs.declared.columns.Column.{Column}

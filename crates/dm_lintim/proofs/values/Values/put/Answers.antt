@@ -1,4 +1,4 @@
-use Rattle.std.proofs.Common.{◌≡◌, ◌∙◌, ◌<◌, None, arith, rules, ap, length, not, sym}
+use Rattle.std.proofs.Common.{◌≡◌, ◌∙◌, ◌<◌, None, rules, ap, length, not}
 use Rattle.dm_lintim.specs.Columns.{column_number}
 use Rattle.dm_lintim.specs.Inside.Values.{slot}
 use Rattle.dm_lintim.proofs.ValueLemmas.{none_there, slot_put}
