@@ -8,4 +8,6 @@ pub mod Totals
 pub mod Finished
 pub mod Ending
 pub mod Arcs
+pub mod Beginning
+pub mod OneRun
 pub mod Converse

@@ -14,6 +14,7 @@
 mod answers;
 mod cost;
 mod cuts;
+mod input;
 mod lines;
 mod log;
 mod numbers;
@@ -23,6 +24,7 @@ mod text;
 mod times;
 mod top;
 
+pub use input::{Flaw, Part};
 pub use lines::{Heard, Line};
 pub use log::{FeedLog, FeedStop, LogItem, Reply};
 pub use status::Status;

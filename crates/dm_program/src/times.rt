@@ -5,8 +5,8 @@ ghost use Rattle.dm_rows.specs.Rows.{IsSized};
 ghost use Rattle.dm_rows.specs.Timetable.{IsLeast};
 ghost use Rattle.dm_settle.specs.Settling.{AreEarly};
 
+use crate::input::Stop;
 use dm_base::Secs;
-use dm_input::Stop;
 use dm_network::Network;
 use dm_rows::Rows;
 use dm_settle::{NoTimes, least_times};
