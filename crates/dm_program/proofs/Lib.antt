@@ -7,4 +7,6 @@ pub mod Spelled
 pub mod Finished
 pub mod Ending
 pub mod Arcs
+pub mod Beginning
+pub mod OneRun
 pub mod Converse

@@ -13,6 +13,7 @@
 
 mod answers;
 mod cuts;
+mod input;
 mod lines;
 mod log;
 mod numbers;
@@ -21,6 +22,7 @@ mod status;
 mod text;
 mod top;
 
+pub use input::{Flaw, Part};
 pub use lines::{Heard, Line};
 pub use log::{FeedLog, FeedStop, LogItem, Reply};
 pub use status::Status;

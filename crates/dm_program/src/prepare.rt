@@ -1,18 +1,21 @@
 //! A run, from what it begins with to what it prints.
 ghost use Rattle.std.specs.Prelude.{◌≡◌, ◌≤◌, length, IfOk, IfErr};
 ghost use Rattle.dm_base.specs.declared.limits.TheConstants.{FEED as MOST};
-ghost use Rattle.dm_input.specs.RunWords.{command_of};
-ghost use Rattle.dm_input.specs.Stages.{IsKept, StopsRun};
+ghost use Rattle.dm_input.specs.Asked.{run_of};
+ghost use Rattle.dm_input.specs.Stops.{IsKept};
+ghost use Rattle.dm_input.specs.Words.{RunOf};
 ghost use Rattle.dm_rows.specs.Active.{HasNoCycle};
 ghost use Rattle.dm_rows.specs.Rows.{IsSized};
 ghost use Rattle.dm_rows.specs.Timetable.{IsLeast};
 ghost use Rattle.dm_program.specs.Asked.{run_from};
+ghost use Rattle.dm_program.specs.Opening.{StopsRun};
 ghost use Rattle.dm_program.specs.Stages.{IsAtStart, IsRunOver, IsReadyRun};
 
 use crate::answers::answer_feed;
+use crate::input::{Stop, read_input};
 use crate::log::LogItem;
 use dm_base::Cost;
-use dm_input::{RunWords, Stop, read_input};
+use dm_input::RunWords;
 use dm_network::Network;
 use dm_outside::Shelf;
 use dm_rows::{Entry, Rows};
@@ -83,17 +86,17 @@ fn answer_run(
 
 /// Reads and answers a run.
 pub fn prepare<H: Shelf>(alloc: Global, shelf: &mut H, run: &RunWords<'_>) -> Result<Answered, Stop>
-    requires penalty { run.now.penalty ≤ 1000000 }
+    requires penalty { run.now.files.penalty ≤ 1000000 }
     ensures kept { IsKept H.files H.is_sound shelf.old shelf.new }
-    ensures ready { IfOk result (IsReadyRun (H.files shelf.old) (command_of run.now)) }
-    ensures stops { IfErr result (StopsRun (H.files shelf.old) (H.is_sound shelf.old) (command_of run.now)) }
+    ensures ready { IfOk result (IsReadyRun (H.files shelf.old) (RunOf (run_of run.now))) }
+    ensures stops { IfErr result (StopsRun (H.files shelf.old) (H.is_sound shelf.old) (RunOf (run_of run.now))) }
 {
     let input = read_input(alloc, shelf, run)?;
     answer_run(
         alloc,
         input.net,
         input.rows,
-        run.penalty,
+        run.files.penalty,
         input.feed.as_slice(),
     )
 }
