@@ -5,6 +5,5 @@ pub mod Pairs
 pub mod Held
 pub mod Start
 pub mod Build
-
 -- Rows of places in flat lists, and the stages of a build: checked, and not to be believed.
 pub mod Inside
