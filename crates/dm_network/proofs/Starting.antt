@@ -1,19 +1,19 @@
 -- The arcs that bind at the start, by arrays.
-use Rattle.std.proofs.Common.{◌≡◌, ◌≢◌, ℕ, zero, suc, ◌+◌, ◌<◌, ◌≤◌, Bool, true, false, cond, List, [], ◌∷◌, length, map, get_or, refl, sym, ap, ◌∙◌, subst, inl, inr, arith, Some, None, Option, position}
+use Rattle.std.proofs.Common.{◌≡◌, ℕ, ◌<◌, Bool, false, List, [], ◌∷◌, length, map, get_or, refl, sym, ap, ◌∙◌, subst, inl, inr, arith, Some, None}
 use Rattle.std.specs.List.{All, range_with_len}
 use Rattle.std.proofs.lemmas.Bool.{cases_Bool}
-use Rattle.std.proofs.lemmas.List.{length-map, get_or-map, get_or_default}
+use Rattle.std.proofs.lemmas.List.{get_or_default}
 use Rattle.std.proofs.lemmas.List.FromFn.{get_or-map-range_with_len, length-map-range_with_len}
 use Rattle.std.proofs.lemmas.List.Elements.{All-nil, All-cons}
 use Rattle.std.proofs.lemmas.List.Quantifiers.{position-Some}
 use Rattle.dm_base.specs.declared.ids.ActId.{ActId}
-use Rattle.dm_graph.specs.Arcs.{Arcs, Binds, Chain, IsCycle, IsOrder}
+use Rattle.dm_graph.specs.Arcs.{Arcs, Chain, IsCycle, IsOrder}
 use Rattle.dm_graph.specs.Arrays.{AreRows, AreEnds, AreArraysOf}
 use Rattle.dm_graph.proofs.Chains.{no_cycle_where_rank_rises, order_rises, place_in}
 use Rattle.dm_network.specs.declared.parts.Activity.{Activity}
 use Rattle.dm_network.specs.Net.{Net, no_activity, no_pair, activity_at, pair_at, is_headway, places_into, EndsAreKnown}
 use Rattle.dm_network.specs.Pairs.{joins, own_pair, pair_place}
-use Rattle.dm_network.specs.Start.{is_start_active, IsStartCycle, IsFormed, ShowsStartCycle}
+use Rattle.dm_network.specs.Start.{is_start_active, IsFormed, ShowsStartCycle}
 use Rattle.dm_network.specs.Held.{arcs_of, ids_of}
 use Rattle.dm_network.specs.Inside.Flat.{AreFlatRows}
 use Rattle.dm_network.specs.Inside.Stages.{KnowsPair, HasNoStartCycle}

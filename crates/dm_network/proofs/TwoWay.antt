@@ -1,10 +1,10 @@
 -- Pairs in order, and the pairs that headways form.
-use Rattle.std.proofs.Common.{◌≡◌, ◌≢◌, ℕ, zero, suc, ◌+◌, ◌-◌, ◌<◌, ◌≤◌, ◌⊎◌, ◌↔◌, ◌&&◌, Bool, true, false, cond, eqb, ltb, List, [], ◌∷◌, ◌++◌, length, map, take, get_or, set, refl, sym, ap, ◌∙◌, subst, inl, inr, arith, Some, None, Option, filter_map, IsPermutation, Contains}
+use Rattle.std.proofs.Common.{◌≡◌, ◌≢◌, ℕ, zero, suc, ◌+◌, ◌-◌, ◌<◌, ◌≤◌, ◌⊎◌, ◌&&◌, Bool, true, false, cond, eqb, ltb, List, [], ◌∷◌, ◌++◌, length, map, take, get_or, set, refl, sym, ap, ◌∙◌, subst, inl, inr, arith, Some, None, Option, filter_map, IsPermutation, Contains}
 use Rattle.std.specs.List.{cons_option}
 use Rattle.std.specs.List.Sorted.{IsPartitionPoint, IsPartitionedBy, IsSortedBy}
 use Rattle.std.specs.Ordering.{nat_cmp, is_lt, ordering_then}
-use Rattle.std.proofs.lemmas.Bool.{cases_order, cases_eq, cases_lt, cases_Bool, both_ways, eqb-true, eq-eqb, ne_eqb, lt-ltb, le-ltb, ltb-true, and_parts, and_from}
-use Rattle.std.proofs.lemmas.List.{get_or_default, get_or_append_left, get_or_push, take_all, length-append, length-take-le, get_or-take, same_lists, get_or-map, length-map, length-set, get_or-set_same, get_or-set_other, take_at}
+use Rattle.std.proofs.lemmas.Bool.{cases_order, cases_eq, cases_lt, both_ways, eqb-true, eq-eqb, lt-ltb, le-ltb, ltb-true, and_parts, and_from}
+use Rattle.std.proofs.lemmas.List.{get_or_default, get_or_append_left, get_or_push, length-append, same_lists, get_or-map, length-map, length-set, get_or-set_same, get_or-set_other, take_at}
 use Rattle.std.proofs.lemmas.List.Sorted.{Contains-permutation, IsPermutation-sym}
 use Rattle.std.proofs.lemmas.List.Elements.{Contains-push, Contains-push_cases, Contains-append_left, Contains-get_or}
 use Rattle.dm_network.specs.declared.parts.Activity.{Activity}
@@ -12,7 +12,7 @@ use Rattle.dm_network.specs.declared.parts.Pair.{Pair}
 use Rattle.dm_network.specs.Net.{no_pair, no_activity, is_headway}
 use Rattle.dm_network.specs.Pairs.{ComesBefore}
 use Rattle.dm_network.specs.Inside.Flat.{ArePairsInOrder, stands_before}
-use Rattle.dm_network.specs.Inside.Stages.{IsHeadwayAmong, HasHeadway, upward_pair, downward_pair, PairsDoNotFall, AreCommon, AreTwoWay, with_pair, AscendStrictly, DiffersFromLast}
+use Rattle.dm_network.specs.Inside.Stages.{HasHeadway, upward_pair, downward_pair, PairsDoNotFall, AreCommon, AreTwoWay, with_pair, AscendStrictly, DiffersFromLast}
 use Rattle.dm_network.proofs.PairKeys.{stands_before-true, stands_before-from}
 
 pub same_pair : (p q : Pair) → p.small ≡ q.small → p.large ≡ q.large → p ≡ q

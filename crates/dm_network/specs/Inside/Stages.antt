@@ -1,5 +1,5 @@
 -- What the stages of a build pass on to each other.
-use Rattle.std.specs.Prelude.{ℕ, ◌≡◌, ◌-◌, ◌<◌, ◌≤◌, ◌↔◌, ◌&&◌, true, List, [], length, map, Option, Some, None, if◌then◌else◌, slice_get, slice_index_or, All, Contains, position, nat_lt, nat_le, filter, ◌==◌, IsPermutation}
+use Rattle.std.specs.Prelude.{ℕ, ◌≡◌, ◌-◌, ◌<◌, ◌≤◌, ◌↔◌, ◌&&◌, true, List, [], length, map, Option, Some, None, if◌then◌else◌, slice_index_or, All, Contains, position, nat_lt, nat_le, filter, ◌==◌, IsPermutation}
 use Rattle.std.specs.List.Sorted.{IsStrictlyIncreasing, IsNonDecreasing}
 use Rattle.dm_base.specs.declared.rows.EventRow.{EventRow}
 use Rattle.dm_base.specs.declared.rows.ActRow.{ActRow}

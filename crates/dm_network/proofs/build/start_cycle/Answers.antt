@@ -1,7 +1,5 @@
 -- An order leaves no cycle at the start, and a cycle of the search is one.
-use Rattle.std.proofs.Common.{◌≡◌, ◌∙◌, ◌<◌, length, map, ap, sym, subst, ℕ, List}
-use Rattle.std.specs.List.{All}
-use Rattle.dm_graph.specs.Arcs.{IsCycle}
+use Rattle.std.proofs.Common.{length}
 use Rattle.dm_network.specs.Start.{is_start_active}
 use Rattle.dm_network.specs.Held.{arcs_of}
 use Rattle.dm_network.specs.Inside.Stages.{net_with}

@@ -1,5 +1,5 @@
 -- Where the halving stops stands the pair, or none does.
-use Rattle.std.proofs.Common.{◌≡◌, ℕ, ◌<◌, ◌≤◌, true, false, length, get_or, sym, refl, arith, rules}
+use Rattle.std.proofs.Common.{◌≡◌, ◌<◌, true, false, length, get_or, sym, arith, rules}
 use Rattle.std.specs.List.Sorted.{IsPartitionPoint}
 use Rattle.std.proofs.lemmas.List.Sorted.{IsPartitionPoint-from_clause}
 use Rattle.dm_network.specs.Net.{no_pair}

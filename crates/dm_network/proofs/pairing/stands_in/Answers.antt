@@ -1,5 +1,4 @@
-use Rattle.std.proofs.Common.{rules, ap, get_or, ltb, arith, ◌≡◌, true, false}
-use Rattle.std.specs.List.Sorted.{IsPartitionPoint}
+use Rattle.std.proofs.Common.{rules, ap, get_or, arith}
 use Rattle.std.proofs.lemmas.Bool.{ltb-true, both_ways, true_from_ne_false}
 use Rattle.std.proofs.lemmas.List.Sorted.{IsPartitionPoint-from_clause}
 use Rattle.dm_network.specs.Net.{no_pair}

@@ -1,7 +1,7 @@
-use Rattle.std.proofs.Common.{◌≡◌, ◌∙◌, length, ap, sym, subst, refl}
+use Rattle.std.proofs.Common.{◌∙◌, length, ap, sym, subst, refl}
 use Rattle.std.specs.Prelude.{OnOk, OnErr}
 use Rattle.std.proofs.lemmas.Result.{on_ok_weaker, on_err_weaker}
-use Rattle.dm_graph.specs.Arcs.{IsOrder, IsCycle}
+use Rattle.dm_graph.specs.Arcs.{IsOrder}
 use Rattle.dm_graph.specs.Arrays.{AreArraysOf}
 use Rattle.dm_network.specs.Held.{arcs_of, is_held, IsCycleOf}
 use Rattle.dm_network.specs.Net.{Net}
