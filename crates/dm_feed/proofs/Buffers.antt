@@ -1,8 +1,8 @@
 -- What a buffer shows after its bytes were dropped, or read.
-use Rattle.std.proofs.Common.{◌≡◌, ℕ, suc, ◌+◌, ◌-◌, ◌<◌, ◌≤◌, List, [], ◌∷◌, ◌++◌, length, take, drop, Option, Result, Ok, Err, IfOk, refl, sym, ap, ◌∙◌, arith, length-drop, length-append, zero-add}
+use Rattle.std.proofs.Common.{◌≡◌, ℕ, suc, ◌+◌, ◌-◌, ◌<◌, ◌≤◌, List, [], ◌∷◌, ◌++◌, length, take, drop, Option, Result, Ok, Err, IfOk, sym, ap, ◌∙◌, arith, length-drop, zero-add}
 use Rattle.std.proofs.lemmas.List.{drop-drop, length-take-le, take-append-le}
-use Rattle.std.proofs.lemmas.Slice.{between_is, take-put_mid}
-use Rattle.std.specs.Io.KnownBytes.{ReadConsumes, Consumes, IsAtEnd}
+use Rattle.std.proofs.lemmas.Slice.{between_is}
+use Rattle.std.specs.Io.KnownBytes.{ReadConsumes}
 use borrow.Rule.Slice.PartMut.{put_mid, post_of}
 use Rattle.dm_outside.specs.declared.faults.Failed.{Failed}
 use Rattle.dm_outside.specs.Taking.{TakesPiece}

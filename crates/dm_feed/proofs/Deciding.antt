@@ -1,5 +1,5 @@
 -- Decisions of an adopted list: what is read against what the words stand for.
-use Rattle.std.proofs.Common.{◌≡◌, ◌≢◌, ℕ, zero, suc, ◌+◌, ◌<◌, ◌≤◌, Bool, true, eqb, List, [], ◌∷◌, ◌++◌, length, Option, Some, None, refl, sym, ap, subst, ◌∙◌, arith, append_assoc, append-nil}
+use Rattle.std.proofs.Common.{◌≡◌, ℕ, ◌<◌, true, eqb, List, [], ◌∷◌, ◌++◌, length, Option, Some, None, refl, sym, ap, subst, ◌∙◌, arith, append_assoc, append-nil}
 use Rattle.std.specs.List.{flat_map}
 use Rattle.std.specs.Option.{option_map}
 use Rattle.std.proofs.lemmas.Bool.{eqb-true}
@@ -8,11 +8,11 @@ use Rattle.dm_rows.specs.declared.messages.Decision.TheVariants as decision
 use Rattle.dm_feed.specs.declared.vocabulary.Word.{Word}
 use Rattle.dm_feed.specs.declared.vocabulary.Word.TheVariants.{Delay, Event, Activity, Pass, Recall, Keep, Drop, First, Now, Time, Cost, Read, Plan, Adopt}
 use Rattle.dm_feed.specs.Words.{spelling_of_word}
-use Rattle.dm_feed.specs.Parts.{Part, word, id, value, Writes, StandsFor, StandForAll, largest_id}
+use Rattle.dm_feed.specs.Parts.{Part, word, id, Writes, StandForAll, largest_id}
 use Rattle.dm_feed.specs.Lines.{parts_of_decision}
 use Rattle.dm_feed.specs.Inside.Reading.{word_named, id_in, event, act, next_id, first_behind, decision_behind, next_decision}
 use Rattle.dm_feed.specs.Inside.Deciding.{AreDecisions, GoOn, ReadSoFar}
-use Rattle.dm_feed.proofs.Hearing.{MappedTo, mapped_to, number_writes, writes_number, word_found, named, texts_none}
+use Rattle.dm_feed.proofs.Hearing.{mapped_to, number_writes, writes_number, word_found, named, texts_none}
 
 -- an id and the texts behind it
 record IsId (texts : List (List ℕ)) (n : ℕ) (rest : List (List ℕ)) : Type 0 where

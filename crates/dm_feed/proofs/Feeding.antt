@@ -1,19 +1,16 @@
 -- How the reader of a feed goes from line to line.
-use Rattle.std.proofs.Common.{◌≡◌, ◌≢◌, ℕ, zero, suc, ◌+◌, ◌-◌, ◌<◌, ◌≤◌, ◌⊎◌, inl, inr, Bool, true, false, cond, ltb, eqb, List, [], ◌∷◌, ◌++◌, length, take, drop, get_or, Option, Some, None, Result, Ok, Err, refl, sym, ap, subst, ◌∙◌, arith, append_assoc, append-nil, length-append, length-drop, zero-add, take-append-drop, All, MatchOption}
+use Rattle.std.proofs.Common.{◌≡◌, ◌≢◌, ℕ, zero, suc, ◌+◌, ◌-◌, ◌<◌, ◌≤◌, inl, inr, Bool, true, false, cond, ltb, eqb, List, [], ◌∷◌, ◌++◌, length, take, drop, get_or, Option, Some, None, refl, sym, ap, subst, ◌∙◌, arith, append_assoc, append-nil, length-append, length-drop, zero-add, take-append-drop}
 use Rattle.std.specs.List.{position, position_or_len, flat_map}
-use Rattle.std.specs.Option.{option_map}
-use Rattle.std.specs.Io.KnownBytes.{Consumes, Keeps, IsAtEnd}
-use Rattle.std.proofs.KnownBytes.{Consumes-nil, Consumes-trans, Consumes-kept}
+use Rattle.std.specs.Io.KnownBytes.{Consumes}
+use Rattle.std.proofs.KnownBytes.{Consumes-nil, Consumes-trans}
 use Rattle.std.proofs.Math.Seq.{drop-cons, take-append-add, take-append_seam}
 use Rattle.std.proofs.lemmas.List.{length-take-le, get_or-take, take_all}
-use Rattle.std.proofs.lemmas.List.Elements.{All-nil, All-append, All-push, All-cons}
+use Rattle.std.proofs.lemmas.List.Elements.{All-nil, All-append, All-push}
 use Rattle.std.proofs.lemmas.List.Sums.{fails_before_first, passes_at_first}
 use Rattle.std.proofs.lemmas.Bool.{ltb-true, ltb-false, eqb-true, eqb-false, ne_eqb}
 use Rattle.std.proofs.lemmas.Grind.{flat_map-append}
-use Rattle.dm_outside.specs.Faults.{HasRisen}
 use Rattle.dm_outside.specs.Taking.{TakesPiece}
 use Rattle.dm_outside.proofs.Printing.{risen_since}
-use Rattle.dm_feed.specs.declared.grammar.Line.{Line}
 use Rattle.dm_feed.specs.declared.grammar.Heard.{Heard}
 use Rattle.dm_feed.specs.declared.grammar.Heard.TheVariants as heard
 use Rattle.dm_feed.specs.declared.feed.FeedStop.{FeedStop}
@@ -22,9 +19,9 @@ use Rattle.dm_feed.specs.declared.reader.Passed.{Passed}
 use Rattle.dm_feed.specs.declared.reader.Passed.TheVariants.{Line as Ended, Last, Nothing}
 use Rattle.dm_feed.specs.declared.feed.Next.{Next}
 use Rattle.dm_feed.specs.declared.feed.Next.TheVariants.{Due, Stop}
-use Rattle.dm_feed.specs.Lines.{Hears, IsQuiet, IsLineOf}
-use Rattle.dm_feed.specs.Feeds.{IsUnended, without_return, ended, AreQuiet, ReaderValue, Takes, IsFrontLine, GivesDue, ReachesEnd, IsTooLong, IsCutOff, Answers}
-use Rattle.dm_feed.specs.Inside.Passing.{EndsAt, Fills, Overflows, Breaks, FailsToFill, PassesEnded, PassesLast, FindsEnd, FindsLimit, FindsFault, PassesRest, PassesLine, Grows, Looked, Drops, PassesQuiet, Holds}
+use Rattle.dm_feed.specs.Lines.{Hears, IsQuiet}
+use Rattle.dm_feed.specs.Feeds.{IsUnended, without_return, ended, ReaderValue, Takes, GivesDue, ReachesEnd, Answers}
+use Rattle.dm_feed.specs.Inside.Passing.{EndsAt, Fills, Overflows, FailsToFill, PassesEnded, PassesLast, FindsEnd, PassesRest, PassesLine, Grows, Looked, Drops, PassesQuiet, Holds}
 use Rattle.dm_feed.proofs.Hearing.{quiet_or_line}
 
 -- ---- a carriage return at the end

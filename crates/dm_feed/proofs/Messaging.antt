@@ -1,13 +1,12 @@
 -- Messages in print: the words of a plain text are those of its one spelling.
-use Rattle.std.proofs.Common.{◌≡◌, ◌≢◌, ℕ, zero, suc, ◌+◌, ◌^◌, ◌<◌, ◌≤◌, ◌⊎◌, inl, inr, Bool, true, false, ◌&&◌, eqb, not, List, [], ◌∷◌, ◌++◌, length, get_or, map, All, Option, Some, None, Result, Ok, Err, IfOk, refl, sym, ap, subst, ◌∙◌, arith, append-nil}
+use Rattle.std.proofs.Common.{◌≡◌, ◌≢◌, ℕ, zero, suc, ◌^◌, ◌<◌, ◌⊎◌, inl, inr, Bool, true, false, ◌&&◌, eqb, not, List, [], ◌∷◌, ◌++◌, length, get_or, map, All, Some, None, Result, Ok, Err, IfOk, refl, sym, ap, subst, ◌∙◌, arith, append-nil}
 use Rattle.std.specs.Prelude.{filter}
-use Rattle.std.specs.List.{slice_split, flat_map, list_all, join_with_byte}
+use Rattle.std.specs.List.{slice_split, list_all, join_with_byte}
 use Rattle.std.specs.Fmt.{decimal}
 use Rattle.std.proofs.lemmas.Fmt.{decimal_digit, first_decimal}
 use Rattle.std.proofs.lemmas.List.Splits.{join_with_byte-slice_split}
 use Rattle.std.proofs.lemmas.List.Elements.{All-head, All-tail, All-nil, All-cons}
 use Rattle.std.proofs.lemmas.Bool.{ne_eqb, eq-eqb}
-use Rattle.dm_base.specs.Numbers.{IsDigits, whole_value}
 use Rattle.dm_base.proofs.Decimals.{IsDigits-decimal, decimal-whole_value, IsPlain}
 use Rattle.dm_rows.specs.declared.messages.Decision.{Decision}
 use Rattle.dm_rows.specs.declared.messages.Message.{Message}
@@ -19,8 +18,8 @@ use Rattle.dm_feed.specs.declared.vocabulary.Word.TheVariants.{Delay, Event, Act
 use Rattle.dm_feed.specs.declared.grammar.Line.{Line}
 use Rattle.dm_feed.specs.declared.grammar.Line.TheVariants as line
 use Rattle.dm_feed.specs.Words.{spelling_of_word, words_of}
-use Rattle.dm_feed.specs.Parts.{Part, word, id, value, StandsFor, StandForAll, Fits, Writes, spelling_of_part, spaced, spelling_of_parts}
-use Rattle.dm_feed.specs.Lines.{parts_of_decision, parts_of_message, IsSaid, IsMessageOf, IsNoMessage, spelling_of_message}
+use Rattle.dm_feed.specs.Parts.{Part, word, id, value, StandsFor, StandForAll, Fits, spelling_of_part, spelling_of_parts}
+use Rattle.dm_feed.specs.Lines.{parts_of_message, IsSaid, IsMessageOf, IsNoMessage, spelling_of_message}
 use Rattle.dm_feed.specs.Inside.Cuts.{cut_at}
 use Rattle.dm_feed.specs.Inside.Reading.{word_named, is_plain_word, is_plain, message_of, line_behind, line_with}
 use Rattle.dm_feed.specs.Inside.Deciding.{AreDecisions, ReadsDecisions, ReadsParts}

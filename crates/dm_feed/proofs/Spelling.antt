@@ -1,18 +1,17 @@
 -- What is printed, and how it is read again.
-use Rattle.std.proofs.Common.{◌≡◌, ◌≢◌, ℕ, zero, suc, ◌+◌, ◌*◌, ◌^◌, ◌<◌, ◌≤◌, ◌↔◌, Bool, true, false, cond, leb, eqb, not, ◌&&◌, List, [], ◌∷◌, ◌++◌, length, get_or, map, All, Option, Some, None, refl, sym, ap, subst, ◌∙◌, arith, lit<, append_assoc, append-nil, length-append}
+use Rattle.std.proofs.Common.{◌≡◌, ℕ, ◌*◌, ◌^◌, ◌<◌, ◌≤◌, true, false, cond, eqb, not, List, [], ◌∷◌, ◌++◌, length, get_or, map, All, refl, sym, ap, subst, ◌∙◌, arith, lit<, append-nil, length-append}
 use Rattle.std.specs.Prelude.{filter, codes}
 use Rattle.std.specs.List.{slice_split, flat_map, list_all}
 use Rattle.std.specs.Fmt.{decimal}
 use Rattle.std.proofs.lemmas.Fmt.{length-decimal-le}
 use Rattle.std.proofs.lemmas.List.Splits.{slice_split_at, slice_split_none}
-use Rattle.std.proofs.lemmas.List.Elements.{All-head, All-tail, All-nil, All-cons}
+use Rattle.std.proofs.lemmas.List.Elements.{All-head, All-tail}
 use Rattle.std.proofs.lemmas.List.Sums.{AllPass-from_list_all}
-use Rattle.std.proofs.lemmas.Bool.{ne_eqb, eqb-false, le-leb, not-true}
+use Rattle.std.proofs.lemmas.Bool.{ne_eqb, le-leb, not-true}
 use Rattle.std.proofs.lemmas.Grind.{flat_map-append}
-use Rattle.dm_base.specs.Numbers.{IsDigits, whole_value}
+use Rattle.dm_base.specs.Numbers.{IsDigits}
 use Rattle.dm_base.proofs.Decimals.{IsDigits-decimal, whole_value-decimal}
 use Rattle.dm_rows.specs.declared.messages.Decision.{Decision}
-use Rattle.dm_rows.specs.declared.messages.Message.{Message}
 use Rattle.dm_rows.specs.declared.messages.Message.TheVariants as message
 use Rattle.dm_feed.specs.declared.vocabulary.Word.{Word}
 use Rattle.dm_feed.specs.declared.vocabulary.Word.TheVariants.{Delay, Event, Activity, Pass, Recall, Keep, Drop, First, Now, Time, Cost, Read, Plan, Adopt}
@@ -21,10 +20,10 @@ use Rattle.dm_feed.specs.declared.grammar.Line.TheVariants as line
 use Rattle.dm_feed.specs.declared.grammar.Heard.{Heard}
 use Rattle.dm_feed.specs.declared.grammar.Heard.TheVariants as heard
 use Rattle.dm_feed.specs.Words.{spelling_of_word, words_of}
-use Rattle.dm_feed.specs.Parts.{Part, word, id, value, Writes, StandsFor, StandForAll, Fits, spelling_of_part, spaced, spelling_of_parts}
-use Rattle.dm_feed.specs.Lines.{parts_of_decision, parts_of_message, parts_of_line, IsSaid, IsSpelledLine, IsLineOf, IsQuiet, IsInNoForm, Hears, spelling_of_decision, spelling_of_line, spelling_of_message}
+use Rattle.dm_feed.specs.Parts.{Part, word, id, value, StandsFor, StandForAll, Fits, spelling_of_part, spaced, spelling_of_parts}
+use Rattle.dm_feed.specs.Lines.{parts_of_decision, parts_of_line, IsSpelledLine, Hears, spelling_of_decision, spelling_of_line, spelling_of_message}
 use Rattle.dm_feed.specs.Inside.Reading.{begins_comment, heard_words, heard_in, heard_line, line_in}
-use Rattle.dm_feed.proofs.Hearing.{reads, hears, blank_exactly, malformed_exactly, quiet_or_line, begins, comment_says, no_words}
+use Rattle.dm_feed.proofs.Hearing.{reads, hears, blank_exactly, malformed_exactly, begins, comment_says, no_words}
 
 -- ---- an adopted list
 

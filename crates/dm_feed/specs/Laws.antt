@@ -1,6 +1,5 @@
 -- What follows from what lines say and how they are spelled.
 use Rattle.std.specs.Prelude.{ℕ, ◌≡◌, List, All}
-use Rattle.dm_rows.specs.declared.messages.Message.{Message}
 use Rattle.dm_feed.specs.declared.grammar.Line.{Line}
 use Rattle.dm_feed.specs.declared.grammar.Heard.{Heard}
 use Rattle.dm_feed.specs.declared.grammar.Heard.TheVariants.{Line as Spoken}

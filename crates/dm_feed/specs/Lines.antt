@@ -1,5 +1,5 @@
 -- What lines and messages say, by the parts that they have: a kind of line is a line of these tables.
-use Rattle.std.specs.Prelude.{ℕ, ◌≡◌, ◌≤◌, List, [], ◌∷◌, ◌++◌, length, All}
+use Rattle.std.specs.Prelude.{ℕ, ◌≡◌, ◌≤◌, List, [], ◌∷◌, length, All}
 use Rattle.std.specs.List.{flat_map}
 use Rattle.dm_base.specs.declared.limits.TheConstants.{LINE}
 use Rattle.dm_rows.specs.declared.messages.Decision.{Decision}

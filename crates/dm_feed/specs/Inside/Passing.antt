@@ -1,7 +1,7 @@
 -- How the reader of a feed goes from line to line: what each of its steps does.
 use Rattle.std.specs.Prelude.{ℕ, ◌≡◌, ◌+◌, ◌<◌, ◌≤◌, List, [], ◌∷◌, ◌++◌, length, take, drop, Option, None, Some}
 use Rattle.std.specs.List.{flat_map}
-use Rattle.std.specs.Io.KnownBytes.{Keeps, IsAtEnd}
+use Rattle.std.specs.Io.KnownBytes.{IsAtEnd}
 use Rattle.dm_base.specs.declared.limits.TheConstants.{FEED}
 use Rattle.dm_outside.specs.Faults.{HasRisen}
 use Rattle.dm_feed.specs.declared.grammar.Heard.{Heard}

@@ -1,4 +1,4 @@
-use Rattle.std.proofs.Common.{◌≡◌, ◌≤◌, ◌<◌, ◌∙◌, sym, subst, length, ℕ, IfOk, arith}
+use Rattle.std.proofs.Common.{◌≡◌, ◌≤◌, ◌∙◌, sym, subst, length, ℕ, IfOk, arith}
 use Rattle.dm_feed.proofs.Buffers.{part_length, piece_read}
 use Rattle.dm_feed.proofs.buffer.read_behind.Goals as goal
 

@@ -1,5 +1,5 @@
 use Rattle.std.proofs.Common.{◌+◌, ◌-◌, length}
-use Rattle.dm_feed.specs.Inside.Passing.{Drops, Grows, Looked, PassesQuiet, Holds}
+use Rattle.dm_feed.specs.Inside.Passing.{PassesQuiet, Holds}
 use Rattle.dm_feed.proofs.reader.LineReader.next_due.Given as goal
 
 abbrev pub invariant-loop-heard : goal.invariant-loop-heard

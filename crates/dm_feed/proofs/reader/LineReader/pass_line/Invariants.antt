@@ -1,5 +1,5 @@
-use Rattle.std.proofs.Common.{◌+◌, ◌-◌, length}
-use Rattle.dm_feed.specs.Inside.Passing.{Drops, Grows, Looked, PassesQuiet, Holds}
+use Rattle.std.proofs.Common.{◌-◌}
+use Rattle.dm_feed.specs.Inside.Passing.{Grows, Looked, Holds}
 use Rattle.dm_feed.proofs.reader.LineReader.pass_line.Given as goal
 
 abbrev pub invariant-loop-at : goal.invariant-loop-at
