@@ -1,10 +1,8 @@
 -- What activities that come and go do to an order.
-use Rattle.std.proofs.Common.{◌≡◌, ℕ, ◌<◌, Bool, true, false, IsTrue, List, length, refl, sym, ap, subst, ◌∙◌, ◌⊎◌, inl, inr, arith, eq-eqb, slice_index}
+use Rattle.std.proofs.Common.{◌≡◌, ℕ, ◌<◌, Bool, true, false, IsTrue, List, length, refl, sym, ap, ◌∙◌, ◌⊎◌, inl, inr, eq-eqb, slice_index}
 use Rattle.std.specs.Prelude.{◌==◌, if◌then◌else◌, slice_index_or}
 use Rattle.std.specs.List.{All}
-use Rattle.std.proofs.lemmas.Bool.{cases_Bool}
 use Rattle.std.proofs.lemmas.List.Folds.{list_any_at}
-use Rattle.dm_graph.specs.Arcs.{Arcs}
 use Rattle.dm_graph.proofs.Chains.{no_cycle_where_rank_rises}
 use Rattle.dm_graph.proofs.Transfers.{cycle_carries}
 use Rattle.dm_network.specs.Net.{Net}
@@ -12,7 +10,7 @@ use Rattle.dm_network.specs.Held.{arcs_of, is_held, IsCycleOf, HasNoCycleOf}
 use Rattle.dm_order.specs.Orders.{GoesForward, GoForward, is_among, held_with, held_without}
 use Rattle.dm_order.specs.Inside.Flagging.{flagged}
 use Rattle.dm_order.specs.Inside.Placing.{GoForwardBut}
-use Rattle.dm_order.proofs.FlagLemmas.{length-set_by, set_by_is, all_at}
+use Rattle.dm_order.proofs.FlagLemmas.{set_by_is, all_at}
 
 -- where all but some go forward, and these do, all do
 pub all_forward : (net : Net) (held : List Bool) (arcs ranks : List ℕ) → GoForwardBut net held arcs ranks →

@@ -1,12 +1,12 @@
 -- Flags set one after another, and what is held after.
-use Rattle.std.proofs.Common.{◌≡◌, ℕ, zero, suc, ◌<◌, Bool, true, false, cond, List, [], ◌∷◌, length, refl, sym, ap, subst, ◌∙◌, inl, inr, arith, eqb-true, get_or-set_same, get_or-set_other, length-set}
+use Rattle.std.proofs.Common.{◌≡◌, ℕ, suc, ◌<◌, Bool, true, false, List, [], ◌∷◌, length, refl, sym, ap, subst, ◌∙◌, inl, inr, arith, eqb-true, get_or-set_same, get_or-set_other, length-set}
 use Rattle.std.specs.Prelude.{◌==◌, slice_set, fold, if◌then◌else◌}
-use Rattle.std.specs.List.{All, list_any}
+use Rattle.std.specs.List.{All}
 use Rattle.std.proofs.lemmas.Bool.{cases_Bool, eqb-false}
 use Rattle.std.proofs.lemmas.List.{ext_get_or}
 use Rattle.std.proofs.lemmas.List.Folds.{Any-from_list_any}
 use Rattle.dm_network.specs.Held.{is_held}
-use Rattle.dm_order.specs.Orders.{is_among, held_with}
+use Rattle.dm_order.specs.Orders.{is_among}
 use Rattle.dm_order.specs.Inside.Flagging.{flagged, taken_back}
 
 -- flags set by what a function says of each activity

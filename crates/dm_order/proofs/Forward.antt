@@ -1,6 +1,6 @@
 -- Orders in which the held activities go forward.
-use Rattle.std.proofs.Common.{◌≡◌, ℕ, ◌<◌, Bool, IsTrue, List, length, slice_index}
-use Rattle.dm_graph.specs.Arcs.{Arcs, IsOrder}
+use Rattle.std.proofs.Common.{ℕ, Bool, List, length, slice_index}
+use Rattle.dm_graph.specs.Arcs.{IsOrder}
 use Rattle.dm_graph.specs.Arrays.{AreRanks}
 use Rattle.dm_graph.proofs.Ranks.{ranks_rise, order_of_ranks}
 use Rattle.dm_graph.proofs.Chains.{no_cycle_where_rank_rises}

@@ -11,7 +11,10 @@ mod faults;
 mod flags;
 mod lists;
 mod order;
+mod reach;
+mod shift;
 mod starting;
+mod way;
 
 pub use faults::OrderFault;
 pub use order::Order;

@@ -35,8 +35,8 @@ impl Model for Order {
     ghost use Rattle.dm_order.specs.Inside.Placing.{cycle_in, IsKept};
 
     ghost view = { λ o. record {
-      order = o.lists.order.items;
-      ranks = o.lists.ranks.items;
+      order = o.lists.places.order.items;
+      ranks = o.lists.places.ranks.items;
       held = o.flags.held.items;
       cycle = cycle_in o.lists;
     } };
@@ -107,14 +107,14 @@ impl Order {
     pub fn order(&self) -> &[usize]
         ensures { result.now ≡ self.now.order }
     {
-        &self.lists.order
+        &self.lists.places.order
     }
 
     /// The place of each event in the order.
     pub fn ranks(&self) -> &[usize]
         ensures { result.now ≡ self.now.ranks }
     {
-        &self.lists.ranks
+        &self.lists.places.ranks
     }
 
     /// Whether the activity at a place is held.

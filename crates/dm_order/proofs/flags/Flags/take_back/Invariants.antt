@@ -1,5 +1,5 @@
-use Rattle.std.proofs.Common.{◌≡◌, true, false, take}
-use Rattle.dm_order.specs.Inside.Flagging.{flagged, taken_back}
+use Rattle.std.proofs.Common.{◌≡◌, take}
+use Rattle.dm_order.specs.Inside.Flagging.{taken_back}
 use Rattle.dm_order.proofs.flags.Flags.take_back.Given as goal
 
 abbrev pub invariant-loop-a : goal.invariant-loop-a

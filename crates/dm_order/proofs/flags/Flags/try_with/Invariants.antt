@@ -1,5 +1,5 @@
-use Rattle.std.proofs.Common.{◌≡◌, true, false, take}
-use Rattle.dm_order.specs.Inside.Flagging.{flagged, taken_back}
+use Rattle.std.proofs.Common.{◌≡◌, true, take}
+use Rattle.dm_order.specs.Inside.Flagging.{flagged}
 use Rattle.dm_order.proofs.flags.Flags.try_with.Given as goal
 
 abbrev pub invariant-loop-a : goal.invariant-loop-a

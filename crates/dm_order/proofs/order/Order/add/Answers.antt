@@ -1,9 +1,10 @@
-use Rattle.std.proofs.Common.{◌≡◌, ℕ, ◌<◌, Bool, true, List, length, ap, sym, subst, ◌∙◌, arith}
+use Rattle.std.proofs.Common.{◌≡◌, ◌<◌, Bool, true, List, length, ap, sym, subst, ◌∙◌, arith}
 use Rattle.std.specs.List.{All}
 use Rattle.dm_network.specs.Held.{is_held, HasNoCycleOf, IsCycleOf}
 use Rattle.dm_order.specs.Value.{OrderValue}
 use Rattle.dm_order.specs.Orders.{IsOrderOf, GoForward, held_with}
 use Rattle.dm_order.specs.Inside.Flagging.{flagged, taken_back}
+use Rattle.dm_order.specs.Inside.Placing.{cycle_in}
 use Rattle.dm_order.proofs.FlagLemmas.{length-set_by, taken_back_is}
 use Rattle.dm_order.proofs.Changing.{added_is, added_are_held, others_go_forward, no_cycle_alike, cycle_alike}
 use Rattle.dm_order.proofs.order.Order.add.Goals as goal
@@ -33,7 +34,7 @@ move_for-requires-clause-others c =
     λ k d lt. let w = c.requires.are_activities k d lt in let n = was.flag_count in omega arith in
     let tried_is : c.deref.result.now ≡ flagged true c.self.inside.flags.held.items c.args.arcs.now =
     c.deref.ensures.value ∙ c.try_with.ensures.tried ∙ ap (λ (fs : List Bool). flagged true fs c.args.arcs.now) c.self.invariant.none_tried in
-    others_go_forward c.self.inside.flags.held.items c.args.arcs.now within c.args.net.now c.deref.result.now c.self.inside.lists.ranks.items tried_is was.forward
+    others_go_forward c.self.inside.flags.held.items c.args.arcs.now within c.args.net.now c.deref.result.now c.self.inside.lists.places.ranks.items tried_is was.forward
 
 pub take_back-requires-clause-tried : goal.take_back-requires-clause-tried
 take_back-requires-clause-tried c =
@@ -75,7 +76,7 @@ returns-in-Ok-clause-order c =
     record {
       ranked = c.in-Ok.ensures.lists.ranked;
       flag_count = ap length kept_is ∙ length-set_by (λ _. true) c.self.inside.flags.held.items c.args.arcs.now ∙ was.flag_count;
-      forward = subst (λ (fs : List Bool). GoForward c.args.net.now fs c.move_for.new.self.ranks.items) (tried_is ∙ sym kept_is) c.in-Ok.ensures.forward;
+      forward = subst (λ (fs : List Bool). GoForward c.args.net.now fs c.move_for.new.self.places.ranks.items) (tried_is ∙ sym kept_is) c.in-Ok.ensures.forward;
     }
 
 pub returns-in-Ok-clause-held : goal.returns-in-Ok-clause-held
@@ -99,8 +100,8 @@ returns-in-Ok-clause-no_cycle c =
     let held_is : c.self.inside.flags.held.items ≡ c.args.self.now.held = ap (λ (o : OrderValue). o.held) c.self.view_is in
     subst (λ (fs : List Bool). HasNoCycleOf c.args.net.now (held_with fs c.args.arcs.now)) held_is
     (no_cycle_alike c.args.net.now (flagged true c.self.inside.flags.held.items c.args.arcs.now) (held_with c.self.inside.flags.held.items c.args.arcs.now)
-    c.move_for.new.self.ranks.items (added_is c.self.inside.flags.held.items c.args.arcs.now within)
-    (subst (λ (fs : List Bool). GoForward c.args.net.now fs c.move_for.new.self.ranks.items) tried_is c.in-Ok.ensures.forward))
+    c.move_for.new.self.places.ranks.items (added_is c.self.inside.flags.held.items c.args.arcs.now within)
+    (subst (λ (fs : List Bool). GoForward c.args.net.now fs c.move_for.new.self.places.ranks.items) tried_is c.in-Ok.ensures.forward))
 
 pub returns-in-Err-clause-cycle : goal.returns-in-Err-clause-cycle
 returns-in-Err-clause-cycle c =
@@ -110,7 +111,7 @@ returns-in-Err-clause-cycle c =
     let tried_is : c.deref.result.now ≡ flagged true c.self.inside.flags.held.items c.args.arcs.now =
     c.deref.ensures.value ∙ c.try_with.ensures.tried ∙ ap (λ (fs : List Bool). flagged true fs c.args.arcs.now) c.self.invariant.none_tried in
     let held_is : c.self.inside.flags.held.items ≡ c.args.self.now.held = ap (λ (o : OrderValue). o.held) c.self.view_is in
-    subst (λ (fs : List Bool). IsCycleOf c.args.net.now (held_with fs c.args.arcs.now) c.move_for.new.self.search.cycle) held_is
+    subst (λ (fs : List Bool). IsCycleOf c.args.net.now (held_with fs c.args.arcs.now) (cycle_in c.move_for.new.self)) held_is
     (cycle_alike c.args.net.now (flagged true c.self.inside.flags.held.items c.args.arcs.now) (held_with c.self.inside.flags.held.items c.args.arcs.now)
-    c.move_for.new.self.search.cycle (added_is c.self.inside.flags.held.items c.args.arcs.now within)
-    (subst (λ (fs : List Bool). IsCycleOf c.args.net.now (is_held fs) c.move_for.new.self.search.cycle) tried_is c.in-Err.ensures.cycle))
+    (cycle_in c.move_for.new.self) (added_is c.self.inside.flags.held.items c.args.arcs.now within)
+    (subst (λ (fs : List Bool). IsCycleOf c.args.net.now (is_held fs) (cycle_in c.move_for.new.self)) tried_is c.in-Err.ensures.cycle))

@@ -1,4 +1,4 @@
-use Rattle.std.proofs.Common.{◌≡◌, ℕ, ap, sym, subst, ◌∙◌, length, List, Bool}
+use Rattle.std.proofs.Common.{ap, subst, ◌∙◌, length, List, Bool}
 use Rattle.std.specs.List.{range_with_len}
 use Rattle.std.proofs.lemmas.List.{length-map}
 use Rattle.std.proofs.lemmas.List.FromFn.{length-range_with_len}
@@ -25,7 +25,7 @@ returns-clause-order c = record {
   flag_count = ap length c.in_ok-held.ensures
       ∙ length-map (range_with_len 0 (length c.args.net.now.activities)) (is_ordered c.args.net.now c.args.rows.now)
       ∙ length-range_with_len 0 (length c.args.net.now.activities);
-  forward = subst (λ (fs : List Bool). GoForward c.args.net.now fs c.in-Ok.lists.ranks.items) c.deref.ensures.value c.in-Ok.ensures.forward;
+  forward = subst (λ (fs : List Bool). GoForward c.args.net.now fs c.in-Ok.lists.places.ranks.items) c.deref.ensures.value c.in-Ok.ensures.forward;
 }
 
 pub returns-clause-held : goal.returns-clause-held
@@ -34,5 +34,5 @@ returns-clause-held c = first_held c.args.net.now c.args.rows.now c.in_ok-held.h
 pub returns-clause-no_cycle : goal.returns-clause-no_cycle
 returns-clause-no_cycle c =
     rows_have_no_cycle c.args.net.now c.args.rows.now c.in_ok-held.held.items c.in_ok-held.ensures
-    (forward_has_no_cycle c.args.net.now c.in_ok-held.held.items c.in-Ok.lists.ranks.items
-    (subst (λ (fs : List Bool). GoForward c.args.net.now fs c.in-Ok.lists.ranks.items) c.deref.ensures.value c.in-Ok.ensures.forward))
+    (forward_has_no_cycle c.args.net.now c.in_ok-held.held.items c.in-Ok.lists.places.ranks.items
+    (subst (λ (fs : List Bool). GoForward c.args.net.now fs c.in-Ok.lists.places.ranks.items) c.deref.ensures.value c.in-Ok.ensures.forward))

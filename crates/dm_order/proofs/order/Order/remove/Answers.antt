@@ -1,8 +1,8 @@
-use Rattle.std.proofs.Common.{◌≡◌, ℕ, ◌<◌, ap, sym, subst, ◌∙◌, length, List, Bool, false}
+use Rattle.std.proofs.Common.{◌≡◌, ◌<◌, ap, sym, subst, ◌∙◌, length, List, Bool, false}
 use Rattle.std.specs.List.{All}
 use Rattle.dm_network.specs.Held.{is_held}
 use Rattle.dm_order.specs.Value.{OrderValue}
-use Rattle.dm_order.specs.Orders.{IsOrderOf, GoForward, held_without}
+use Rattle.dm_order.specs.Orders.{IsOrderOf, GoForward}
 use Rattle.dm_order.proofs.Changing.{removed_is, fewer_go_forward}
 use Rattle.dm_order.proofs.FlagLemmas.{length-set_by}
 use Rattle.dm_order.specs.Inside.Flagging.{flagged}
@@ -28,6 +28,6 @@ returns-clause-order c = λ net is.
     record {
       ranked = was.ranked;
       flag_count = ap length c.release.ensures.held ∙ length-set_by (λ _. false) c.self.inside.flags.held.items c.args.arcs.now ∙ was.flag_count;
-      forward = subst (λ (fs : List Bool). GoForward net fs c.self.inside.lists.ranks.items) (sym c.release.ensures.held)
-          (fewer_go_forward c.self.inside.flags.held.items c.args.arcs.now within net c.self.inside.lists.ranks.items was.forward);
+      forward = subst (λ (fs : List Bool). GoForward net fs c.self.inside.lists.places.ranks.items) (sym c.release.ensures.held)
+          (fewer_go_forward c.self.inside.flags.held.items c.args.arcs.now within net c.self.inside.lists.places.ranks.items was.forward);
     }
