@@ -40,7 +40,7 @@ pub const WORKERS: u32 = 16;
 pub const ENTRIES: u32 = 1_000_000;
 
 /// Nodes of one plan's search tree.
-pub const BUDGET: u64 = 4_096;
+pub const BUDGET: u64 = 16_384;
 
 /// Plans of one feed.
 pub const PLANS: usize = 16;

@@ -12,4 +12,4 @@ mod program;
 #[cfg(test)]
 mod rows;
 #[cfg(test)]
-mod settle;
+mod times;

@@ -8,7 +8,7 @@ use Rattle.dm_graph.specs.Arcs.{Arcs, Binds, Chain, IsCycle, IsOrder}
 use Rattle.dm_graph.specs.Arrays.{InRow, AreArraysOf, AreRanks}
 use Rattle.dm_graph.proofs.Ranks.{order_of_ranks}
 use Rattle.dm_graph.specs.declared.walk.Walk.{Walk}
-use Rattle.dm_graph.specs.Walk.{IsHeldAt, tail_at, AreMarks, LeadsTo, Closes, PlacesAll, path_arc, HasPathArcs, ListsPathArcs}
+use Rattle.dm_graph.specs.Inside.Walk.{IsHeldAt, tail_at, AreMarks, LeadsTo, Closes, PlacesAll, path_arc, HasPathArcs, ListsPathArcs}
 
 -- no rank is n, so as many events are placed as there are
 all_placed : (n : ℕ) (order rank : List ℕ) (placed : ℕ) → AreMarks n order rank placed n →

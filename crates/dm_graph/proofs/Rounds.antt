@@ -1,6 +1,6 @@
 -- Rounds: in each the time of an event is the join over the times of the round before. Without a cycle they are settled
 -- after as many rounds as there are events, and then least.
-use Rattle.std.proofs.Common.{◌≡◌, ℕ, zero, suc, ◌+◌, ◌<◌, ◌≤◌, max, Bool, true, cond, ◌&&◌, List, [], ◌∷◌, length, ◌⊎◌, eqb, ltb, refl, sym, ap, subst, inl, inr, arith, eqb-true, eq-eqb, ltb-true, lt-ltb}
+use Rattle.std.proofs.Common.{◌≡◌, ℕ, zero, suc, ◌+◌, ◌*◌, ◌<◌, ◌≤◌, max, suc-mul, Bool, true, cond, ◌&&◌, List, [], ◌∷◌, length, ◌⊎◌, eqb, ltb, refl, sym, ap, subst, inl, inr, arith, eqb-true, eq-eqb, ltb-true, lt-ltb}
 use Rattle.std.proofs.lemmas.Bool.{cases_Bool, cases_lt, and_parts, and_from}
 use Rattle.std.proofs.Math.Nat.{max-eq_left, max-eq_right}
 use Rattle.dm_graph.specs.Arcs.{Arcs, Binds, Chain, HasNoCycle}
@@ -232,3 +232,25 @@ least_from_rounds g none y above early =
     let l = round_is_least g none in
     least_same_times g (round g g.shape.events) y
     (λ e lt. let a = above e lt in let b = early (round g g.shape.events) l.meets e lt in omega arith) l
+
+-- no round is above the highest floor by more than the longest span for each round before it
+pub round_is_bounded : (g : Graph) (floor span : ℕ) → ((e : ℕ) → e < g.shape.events → g.floor e ≤ floor) →
+    ((a : ℕ) → Binds g.shape a → g.span a ≤ span) → (k e : ℕ) → e < g.shape.events → round g k e ≤ floor + k * span
+unfolding round
+round_is_bounded g floor span floors spans zero e lt = let f = floors e lt in omega arith
+round_is_bounded g floor span floors spans (suc k) e lt =
+    (round_is_join g k e).least (floor + suc k * span) (let f = floors e lt in omega arith)
+    (λ a b is.
+    let s = spans a b in
+    let before = round_is_bounded g floor span floors spans k (g.shape.tail a) b.from_event in
+    let one = suc-mul k span in
+    omega arith)
+
+-- so without a cycle no least time is above the highest floor by more than the longest span for each event
+pub least_is_bounded : (g : Graph) (x : ℕ → ℕ) (floor span : ℕ) → ((e : ℕ) → e < g.shape.events → g.floor e ≤ floor) →
+    ((a : ℕ) → Binds g.shape a → g.span a ≤ span) → HasNoCycle g.shape → IsLeast g x →
+    (e : ℕ) → e < g.shape.events → x e ≤ floor + g.shape.events * span
+least_is_bounded g x floor span floors spans none least e lt =
+    let early = least.earliest (round g g.shape.events) (round_is_least g none).meets e lt in
+    let bound = round_is_bounded g floor span floors spans g.shape.events e lt in
+    omega arith

@@ -45,3 +45,7 @@ least_for_more less more r x l m = record {
   meets = m;
   earliest = λ y my. less_is_no_later less more r x y l my;
 }
+
+-- graphs that ask the same have the same least timetable
+pub same_is_least_alike : (g h : Graph) (x : ℕ → ℕ) → AsksNoMore g h → AsksNoMore h g → IsLeast g x → IsLeast h x
+same_is_least_alike g h x more less l = least_for_more g h more x l (meets_less h g less x l.meets)

@@ -7,7 +7,7 @@ use Rattle.std.proofs.lemmas.List.Sums.{sum_by-set, sum_by-le}
 use Rattle.std.proofs.lemmas.List.Elements.{All-from_get_or}
 use Rattle.dm_graph.specs.Arrays.{InRow, AreRows, AreEnds}
 use Rattle.dm_graph.specs.declared.walk.Walk.{Walk}
-use Rattle.dm_graph.specs.Walk.{IsHeldAt, tail_at, AreMarks, LeadsTo, AreLooks, IsWalk, Enters, Places, Passes, GoesOn}
+use Rattle.dm_graph.specs.Inside.Walk.{IsHeldAt, tail_at, AreMarks, LeadsTo, AreLooks, IsWalk, GoesOnTop, Places, Passes, GoesOn}
 use Rattle.dm_graph.proofs.WalkSteps.{not_met, other, same, enter_marks, enter_looks, place_marks, place_looks, pass_looks, v_is_event, on_path}
 
 -- the rows together have at most as many places as each event times all places
@@ -36,7 +36,7 @@ walk_of tails offsets places held n w is rows ends marks looks = record {
 module _ (tails offsets places : List ℕ) (held : List Bool) (old new : Walk) (w : IsWalk tails offsets places held old) where
   pub entered : (u : ℕ) → u < length old.order.items → slice_index old.rank.items u ≡ length old.order.items →
       (old.top < length old.order.items → LeadsTo tails offsets places held old.next.items (slice_index old.order.items old.top) u) →
-      Enters old u new → GoesOn tails offsets places held old new
+      GoesOnTop old u new → GoesOn tails offsets places held old new
   entered u lt unmet leads e =
       let is_top : old.top ≡ suc new.top = let t = e.top in omega arith in
       let as_many : length new.order.items ≡ length old.order.items = ap length e.order ∙ length-set old.order.items new.top u in

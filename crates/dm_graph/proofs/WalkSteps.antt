@@ -3,7 +3,7 @@ use Rattle.std.proofs.Common.{◌≡◌, ◌≢◌, ℕ, suc, ◌+◌, ◌<◌, 
 use Rattle.std.specs.Prelude.{◌==◌, count_by}
 use Rattle.std.proofs.lemmas.Bool.{cases_eq, cases_lt}
 use Rattle.std.proofs.lemmas.List.Sums.{sum_by-set, get_or-le-sum_by}
-use Rattle.dm_graph.specs.Walk.{IsHeldAt, tail_at, Stands, AreMarks, LeadsTo, AreLooks}
+use Rattle.dm_graph.specs.Inside.Walk.{IsHeldAt, tail_at, Stands, AreMarks, LeadsTo, AreLooks}
 
 -- a read of a list after a write elsewhere, and at the place written
 pub other : (xs : List ℕ) (i v k : ℕ) → k ≢ i → slice_index (set xs i v) k ≡ slice_index xs k

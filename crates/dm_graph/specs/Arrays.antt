@@ -4,8 +4,8 @@ use Rattle.std.specs.Prelude.{◌≡◌, ℕ, ◌+◌, ◌<◌, ◌≤◌, Bool,
 use Rattle.dm_graph.specs.Arcs.{Arcs}
 
 -- the arcs of these events with these tails, heads and flags
-abbrev pub arcs_of : ℕ → List ℕ → List ℕ → List Bool → Arcs
-arcs_of events tails heads held = record {
+abbrev pub arcs_in_arrays : ℕ → List ℕ → List ℕ → List Bool → Arcs
+arcs_in_arrays events tails heads held = record {
   events = events;
   arcs = length tails;
   tail = λ a. slice_index tails a;

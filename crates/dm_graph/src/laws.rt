@@ -1,10 +1,10 @@
 //! What holds of every graph. A law has no code: it is proved as the contract of an empty function.
 
-ghost use Rattle.std.specs.Prelude.{◌≡◌, ℕ, ◌+◌, ◌<◌, ◌≤◌, ◌↔◌, ◌⊎◌, ◌==◌, Bool, List, length, filter, slice_index, slice_range};
+ghost use Rattle.std.specs.Prelude.{◌≡◌, ℕ, ◌+◌, ◌*◌, ◌<◌, ◌≤◌, ◌↔◌, ◌⊎◌, ◌==◌, Bool, List, length, filter, slice_index, slice_range};
 ghost use Rattle.std.specs.List.{range_with_len};
 ghost use Rattle.dm_graph.specs.Arcs.{Arcs, Binds, BindsIn, IsOrder, HasNoCycle};
 ghost use Rattle.dm_graph.specs.Graph.{Graph, Meets, IsLeast, CanBeMet, HasLeast, HasPositiveCycles, AsksNoMore, IsJoin};
-ghost use Rattle.dm_graph.specs.Arrays.{arcs_of, AreArraysOf, AreRows, ListsArcs};
+ghost use Rattle.dm_graph.specs.Arrays.{arcs_in_arrays, AreArraysOf, AreRows, ListsArcs};
 
 /// At most one timetable is least, at the graph's events.
 pub fn one_is_least()
@@ -22,6 +22,13 @@ pub fn least_exists_without_cycle()
     ensures { (g : Graph) → HasNoCycle g.shape → HasLeast g }
 {}
 
+/// Without a cycle, no time of the least timetable is above the highest floor by more than the longest span for each event.
+pub fn least_is_bounded()
+    ensures { (g : Graph) (x : ℕ → ℕ) (floor span : ℕ) →
+        ((e : ℕ) → e < g.shape.events → g.floor e ≤ floor) → ((a : ℕ) → Binds g.shape a → g.span a ≤ span) →
+        HasNoCycle g.shape → IsLeast g x → (e : ℕ) → e < g.shape.events → x e ≤ floor + g.shape.events * span }
+{}
+
 /// A graph whose cycles all have a span of more than 0 can be met exactly where it has no cycle.
 pub fn met_exactly_without_cycle()
     ensures { (g : Graph) → HasPositiveCycles g → CanBeMet g ↔ HasNoCycle g.shape }
@@ -36,6 +43,11 @@ pub fn less_is_no_later()
 /// A timetable that is least for a graph that asks no more, and meets the other, is least for the other.
 pub fn least_for_less_that_meets_more()
     ensures { (less more : Graph) (x : ℕ → ℕ) → AsksNoMore less more → IsLeast less x → Meets more x → IsLeast more x }
+{}
+
+/// Graphs that ask the same have the same least timetable.
+pub fn same_is_least_alike()
+    ensures { (g h : Graph) (x : ℕ → ℕ) → AsksNoMore g h → AsksNoMore h g → IsLeast g x → IsLeast h x }
 {}
 
 /// Where an order exists, times that are each the join over the others are least.
@@ -65,6 +77,6 @@ pub fn filtered_windows_are_rows()
 pub fn arrays_give_arcs()
     ensures { (events : ℕ) (tails heads offsets places : List ℕ) (held : List Bool) →
         length offsets ≡ events + 1 →
-        ListsArcs events (length tails) (arcs_of events tails heads held).head offsets places →
-        AreArraysOf (arcs_of events tails heads held) tails offsets places held }
+        ListsArcs events (length tails) (arcs_in_arrays events tails heads held).head offsets places →
+        AreArraysOf (arcs_in_arrays events tails heads held) tails offsets places held }
 {}

@@ -26,12 +26,12 @@ impl Model for Search {
 
     ghost Value = { Findings };
 
-    ghost use Rattle.dm_graph.specs.Walk.{IsSized};
+    ghost use Rattle.dm_graph.specs.Inside.Walk.{HasEvenLists};
 
     ghost view = { λ s. record { order = s.walk.order.items; ranks = s.walk.rank.items; cycle = take s.closed s.cycle.items } };
 
     ghost invariant = { λ s.
-        IsSized s.walk × (length s.cycle.items ≡ length s.walk.order.items) × (s.closed ≤ length s.cycle.items) };
+        HasEvenLists s.walk × (length s.cycle.items ≡ length s.walk.order.items) × (s.closed ≤ length s.cycle.items) };
 }
 
 impl Search {

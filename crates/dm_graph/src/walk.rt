@@ -1,7 +1,7 @@
 //! The walk that searches for an order, depth first against the arcs, with its path kept in an array.
 
 ghost use Rattle.std.specs.Prelude.{◌≡◌, ℕ, ◌+◌, ◌^◌, ◌<◌, ◌≤◌, length, take, slice_index, vec_len, IfErr, IfOk, OnOk};
-ghost use Rattle.dm_graph.specs.Walk.{IsWalk, Closes, Finds, steps_left, KeepsMet, Enters, Places, Passes, GoesOn, Returns, IsSized, Starts, Visits, PlacesAll, HasPathArcs, ListsPathArcs};
+ghost use Rattle.dm_graph.specs.Inside.Walk.{IsWalk, Closes, Finds, steps_left, KeepsMet, GoesOnTop, Places, Passes, GoesOn, Returns, HasEvenLists, Starts, Visits, PlacesAll, HasPathArcs, ListsPathArcs};
 ghost use Rattle.dm_graph.specs.Arrays.{AreRows, AreEnds};
 
 use std::alloc::{AllocError, Global};
@@ -35,7 +35,7 @@ pub enum Look {
 impl Walk {
     /// Room to walk over so many events.
     pub fn new(alloc: Global, events: usize) -> Result<Self, AllocError>
-        ensures sized { IfOk result IsSized }
+        ensures sized { IfOk result HasEvenLists }
         ensures events { IfOk result (λ walk. length walk.order.items ≡ events) }
     {
         let order = vec![in alloc; 0; events]?;
@@ -87,7 +87,7 @@ impl Walk {
         requires room { 0 < self.old.top }
         requires top { self.old.top ≤ vec_len self.old.order }
         requires event { event < vec_len self.old.rank }
-        ensures { Enters self.old event self.new }
+        ensures { GoesOnTop self.old event self.new }
     {
         self.top -= 1;
         self.order[self.top] = event;
@@ -167,7 +167,7 @@ impl Walk {
 
     /// Begins: no event is met.
     fn start(&mut self, offsets: &[usize])
-        requires sized { IsSized self.old }
+        requires sized { HasEvenLists self.old }
         requires offsets { length self.old.order.items ≤ length offsets.now }
         ensures { Starts self.old offsets.now self.new }
     {
@@ -208,7 +208,7 @@ impl Walk {
         places: &[usize],
         held: &[bool],
     ) -> Result<(), usize>
-        requires sized { IsSized self.old }
+        requires sized { HasEvenLists self.old }
         requires rows { AreRows (length self.old.order.items) (length tails.now) offsets.now places.now }
         requires ends { AreEnds (length self.old.order.items) (length tails.now) tails.now held.now }
         ensures as_many { length self.new.order.items ≡ length self.old.order.items }

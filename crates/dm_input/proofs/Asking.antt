@@ -1,17 +1,20 @@
--- Words that ask for a run, and words that ask for none.
-use Rattle.std.proofs.Common.{◌≡◌, ℕ, List, ◌∷◌, Option, Some, None, codes}
+-- Words that ask for something, and words that ask for nothing.
+use Rattle.std.proofs.Common.{◌≡◌, ℕ, List, [], ◌∷◌, Option, codes}
 use Rattle.std.specs.Option.{MatchOption}
-use Rattle.dm_input.specs.Words.{Command, Asks, AsksBehind, AsksNothing}
-use Rattle.dm_input.specs.RunWords.{command_of}
-use Rattle.dm_input.specs.declared.words.RunWords.{RunWords}
+use Rattle.dm_input.specs.Words.{RunAsked, RunOf, Asks, AsksBehind, AsksNothing}
+use Rattle.dm_input.specs.Asked.{command_of}
+use Rattle.dm_input.specs.declared.words.CommandWords.{CommandWords}
 
-pub asks_with : (word : List ℕ) (rest : List (List ℕ)) (r : Option RunWords) → word ≡ codes "run"
-    → MatchOption r ((command : Command) → AsksBehind rest command → ⊥) (λ run. AsksBehind rest (command_of run))
-    → MatchOption r (AsksNothing (word ∷ rest)) (λ run. Asks (word ∷ rest) (command_of run))
-asks_with word rest None is h = λ command asks. h command asks.1
-asks_with word rest (Some run) is h = (is, h)
+pub asks_no_other : (word : List ℕ) (rest : List (List ℕ)) → (word ≡ codes "run" → ⊥) → AsksNothing (word ∷ rest)
+asks_no_other word rest other (RunOf asked) asks = other asks.0
 
-pub asks_same : (words others : List (List ℕ)) (r : Option RunWords) → words ≡ others
-    → MatchOption r (AsksNothing others) (λ run. Asks others (command_of run))
-    → MatchOption r (AsksNothing words) (λ run. Asks words (command_of run))
+pub asks_no_run : (word : List ℕ) (rest : List (List ℕ)) → ((asked : RunAsked) → AsksBehind rest asked → ⊥) → AsksNothing (word ∷ rest)
+asks_no_run word rest none (RunOf asked) asks = none asked asks.1
+
+pub asks_nothing : AsksNothing []
+asks_nothing command asks = asks
+
+pub asks_same : (words others : List (List ℕ)) (r : Option CommandWords) → words ≡ others
+    → MatchOption r (AsksNothing others) (λ asked. Asks others (command_of asked))
+    → MatchOption r (AsksNothing words) (λ asked. Asks words (command_of asked))
 asks_same words others r is h = rw is h

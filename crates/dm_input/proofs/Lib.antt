@@ -4,4 +4,5 @@ pub mod Fits
 pub mod Staging
 pub mod OneNetwork
 pub mod OneAnswer
-pub mod OneInput
+pub mod OneOpening
+pub mod OneCommand

@@ -14,10 +14,10 @@ use Rattle.dm_network.specs.declared.parts.Pair.{Pair}
 use Rattle.dm_network.specs.Net.{Net, event_at, activity_at, pair_at, no_event, no_activity, no_pair, is_headway}
 use Rattle.dm_network.specs.Pairs.{joins, pair_place, IsHeadwayFrom, FormPair, ComesBefore, IsPaired}
 use Rattle.dm_network.specs.Build.{event_row, activity_row, IsMadeOf}
-use Rattle.dm_network.specs.Stages.{event_with}
+use Rattle.dm_network.specs.Inside.Stages.{event_with}
 use Rattle.dm_network.proofs.Keys.{key_rises, key_is_found}
 use Rattle.dm_network.proofs.PairKeys.{joins_forward, pairs_come_before}
-use Rattle.dm_network.specs.Flat.{ArePairsInOrder}
+use Rattle.dm_network.specs.Inside.Flat.{ArePairsInOrder}
 use Rattle.dm_base.specs.declared.rows.ActKind.{ActKind}
 use Rattle.dm_network.proofs.Resolving.{position_is_some}
 

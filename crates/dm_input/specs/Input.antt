@@ -1,31 +1,34 @@
--- What words and files determine: a network, start rows and the bytes of a feed, or the first refusal.
+-- What words and files determine: a network and start rows, or the first refusal.
 use Rattle.std.specs.Prelude.{ℕ, ◌≡◌, ◌≢◌, ◌<◌, ◌≤◌, ◌⊎◌, List, [], length, Option, Some, None, Result, Ok, Err, ⊤, codes}
 use Rattle.std.specs.Option.{option_map}
-use Rattle.dm_base.specs.declared.limits.TheConstants.{FILE, FEED}
+use Rattle.dm_base.specs.declared.limits.TheConstants.{FILE}
 use Rattle.dm_base.specs.declared.rows.EventRow.{EventRow}
 use Rattle.dm_base.specs.declared.rows.ActRow.{ActRow}
 use Rattle.dm_base.specs.declared.rows.DelayRow.{DelayRow}
 use Rattle.dm_lintim.specs.declared.fault.FileFault.{FileFault}
 use Rattle.dm_lintim.specs.Files.{ReadsEvents, ReadsActivities, ReadsDelays}
+use Rattle.dm_network.specs.declared.parts.NetFault.{NetFault}
 use Rattle.dm_network.specs.declared.parts.NetFault.TheVariants.{OutOfMemory as NoNetworkMemory}
 use Rattle.dm_network.specs.Net.{Net}
 use Rattle.dm_network.specs.Build.{RefusesRecords, IsBuiltFrom}
+use Rattle.dm_rows.specs.declared.messages.StartFault.{StartFault}
 use Rattle.dm_rows.specs.declared.messages.StartFault.TheVariants.{OutOfMemory as NoStartMemory}
 use Rattle.dm_rows.specs.Rows.{RowsValue, start_rows_of}
-use Rattle.dm_rows.specs.StartFaults.{RefusesStart, AllAreKnown, event_numbered, activity_numbered}
-use Rattle.dm_input.specs.declared.parts.Part.{Part}
-use Rattle.dm_input.specs.declared.parts.Part.TheVariants.{Events, Activities, EventDelays, ActivityDelays, Feed}
-use Rattle.dm_input.specs.declared.parts.Flaw.{Flaw}
-use Rattle.dm_input.specs.declared.parts.Flaw.TheVariants.{Record, TooLong, Network, Start}
-use Rattle.dm_input.specs.Words.{Command, in_folder}
+use Rattle.dm_rows.specs.StartFaults.{RefusesDelayRecords, AllAreKnown, event_numbered, activity_numbered}
+use Rattle.dm_input.specs.declared.flaws.File.{File}
+use Rattle.dm_input.specs.declared.flaws.File.TheVariants.{Events, Activities, EventDelays, ActivityDelays}
+use Rattle.dm_input.specs.declared.flaws.FileFlaw.{FileFlaw}
+use Rattle.dm_input.specs.declared.flaws.FileFlaw.TheVariants.{Record, TooLong}
+use Rattle.dm_input.specs.declared.flaws.InputFlaw.{InputFlaw}
+use Rattle.dm_input.specs.declared.flaws.InputFlaw.TheVariants.{InFile, Network, Start}
+use Rattle.dm_input.specs.Words.{FilesAsked, in_folder}
 
--- the name of a part as it is opened; the files of delays have one where the words name them
-abbrev pub part_name : Command → Part → Option (List ℕ)
-part_name command Events = Some (in_folder command (codes "Events-expanded.giv"))
-part_name command Activities = Some (in_folder command (codes "Activities-expanded.giv"))
-part_name command EventDelays = option_map (in_folder command) command.event_delays
-part_name command ActivityDelays = option_map (in_folder command) command.activity_delays
-part_name command Feed = Some command.feed
+-- the name of a file as it is opened; the files of delays have one where the words name them
+abbrev pub file_name : FilesAsked → File → Option (List ℕ)
+file_name asked Events = Some (in_folder asked (codes "Events-expanded.giv"))
+file_name asked Activities = Some (in_folder asked (codes "Activities-expanded.giv"))
+file_name asked EventDelays = option_map (in_folder asked) asked.event_delays
+file_name asked ActivityDelays = option_map (in_folder asked) asked.activity_delays
 
 -- what a shelf tells of its names
 abbrev pub Told : Type 0
@@ -36,83 +39,71 @@ abbrev pub IsHeld : Told → List ℕ → List ℕ → Type 0
 IsHeld None name bytes = ⊤
 IsHeld (Some files) name bytes = files name ≡ Some bytes
 
--- what the bytes of a file answer: its rows, or the flaw that it is too long or that a record breaks a rule
-abbrev pub AnswersRows : {R : Type 0} → Part → (List ℕ → Result (List R) FileFault → Type 0) → List ℕ → Result (List R) Flaw → Type 0
-AnswersRows part Reads bytes (Ok rows) = (length bytes ≤ FILE) × Reads bytes (Ok rows)
-AnswersRows part Reads bytes (Err (TooLong at)) = (at ≡ part) × (FILE < length bytes)
-AnswersRows part Reads bytes (Err (Record at fault)) = (at ≡ part) × (length bytes ≤ FILE) × Reads bytes (Err fault)
-AnswersRows part Reads bytes (Err (Network fault)) = ⊥
-AnswersRows part Reads bytes (Err (Start fault)) = ⊥
+-- ---- what each stage answers
 
--- what the file of a name answers
-pub record FileAnswers {R : Type 0} (told : Told) (name : List ℕ) (part : Part) (Reads : List ℕ → Result (List R) FileFault → Type 0) (answer : Result (List R) Flaw) : Type 0 where
+-- the bytes of a file: its rows, or that it is too long, or that a record breaks a rule
+abbrev pub AnswersRows : {R : Type 0} → (List ℕ → Result (List R) FileFault → Type 0) → List ℕ → Result (List R) FileFlaw → Type 0
+AnswersRows Reads bytes (Ok rows) = (length bytes ≤ FILE) × Reads bytes (Ok rows)
+AnswersRows Reads bytes (Err TooLong) = FILE < length bytes
+AnswersRows Reads bytes (Err (Record fault)) = (length bytes ≤ FILE) × Reads bytes (Err fault)
+
+-- the file of a name
+pub record NamedAnswers {R : Type 0} (told : Told) (name : List ℕ) (Reads : List ℕ → Result (List R) FileFault → Type 0) (answer : Result (List R) FileFlaw) : Type 0 where
   pub bytes : List ℕ
   pub held : IsHeld told name bytes
-  pub answers : AnswersRows part Reads bytes answer
+  pub answers : AnswersRows Reads bytes answer
 
--- what a part of this name answers; a part with no name has no rows
-abbrev pub PartAnswers : {R : Type 0} → Told → Option (List ℕ) → Part → (List ℕ → Result (List R) FileFault → Type 0) → Result (List R) Flaw → Type 0
-PartAnswers told None part Reads answer = answer ≡ Ok []
-PartAnswers told (Some name) part Reads answer = FileAnswers told name part Reads answer
+-- a file that the words may name; one with no name has no rows
+abbrev pub FileAnswers : {R : Type 0} → Told → Option (List ℕ) → (List ℕ → Result (List R) FileFault → Type 0) → Result (List R) FileFlaw → Type 0
+FileAnswers told None Reads answer = answer ≡ Ok []
+FileAnswers told (Some name) Reads answer = NamedAnswers told name Reads answer
 
-abbrev pub EventsAnswer : Told → Command → Result (List EventRow) Flaw → Type 0
-EventsAnswer told command answer =
-    PartAnswers told (part_name command Events) Events (ReadsEvents command.columns.events) answer
-
-abbrev pub ActivitiesAnswer : Told → Command → Result (List ActRow) Flaw → Type 0
-ActivitiesAnswer told command answer =
-    PartAnswers told (part_name command Activities) Activities (ReadsActivities command.columns.activities) answer
-
-abbrev pub EventDelaysAnswer : Told → Command → Result (List DelayRow) Flaw → Type 0
-EventDelaysAnswer told command answer = PartAnswers told (part_name command EventDelays) EventDelays ReadsDelays answer
-
-abbrev pub ActivityDelaysAnswer : Told → Command → Result (List DelayRow) Flaw → Type 0
-ActivityDelaysAnswer told command answer =
-    PartAnswers told (part_name command ActivityDelays) ActivityDelays ReadsDelays answer
-
--- what the records of the two files answer: the network that they make
-abbrev pub NetworkAnswers : List EventRow → List ActRow → Result Net Flaw → Type 0
+-- the records of the two files: the network that they make
+abbrev pub NetworkAnswers : List EventRow → List ActRow → Result Net NetFault → Type 0
 NetworkAnswers events activities (Ok net) = IsBuiltFrom events activities net
-NetworkAnswers events activities (Err (Network fault)) = (fault ≢ NoNetworkMemory) × RefusesRecords events activities fault
-NetworkAnswers events activities (Err (TooLong at)) = ⊥
-NetworkAnswers events activities (Err (Record at fault)) = ⊥
-NetworkAnswers events activities (Err (Start fault)) = ⊥
+NetworkAnswers events activities (Err fault) = (fault ≢ NoNetworkMemory) × RefusesRecords events activities fault
 
--- what the delays answer: the start rows
+-- the delays: the start rows
 pub record AreStartRows (net : Net) (events activities : List DelayRow) (rows : RowsValue) : Type 0 where
   pub events_known : AllAreKnown (event_numbered net) events
   pub activities_known : AllAreKnown (activity_numbered net) activities
   pub are : rows ≡ start_rows_of net events activities
 
-abbrev pub StartAnswers : Net → List DelayRow → List DelayRow → Result RowsValue Flaw → Type 0
+abbrev pub StartAnswers : Net → List DelayRow → List DelayRow → Result RowsValue StartFault → Type 0
 StartAnswers net events activities (Ok rows) = AreStartRows net events activities rows
-StartAnswers net events activities (Err (Start fault)) = (fault ≢ NoStartMemory) × RefusesStart net events activities fault
-StartAnswers net events activities (Err (TooLong at)) = ⊥
-StartAnswers net events activities (Err (Record at fault)) = ⊥
-StartAnswers net events activities (Err (Network fault)) = ⊥
+StartAnswers net events activities (Err fault) = (fault ≢ NoStartMemory) × RefusesDelayRecords net events activities fault
 
--- what the feed answers: its bytes, or that they are too many
-pub record IsFeed (told : Told) (name bytes : List ℕ) : Type 0 where
-  pub held : IsHeld told name bytes
-  pub size : length bytes ≤ FEED
+-- ---- one stage after the other
 
-pub record IsLongFeed (told : Told) (name : List ℕ) : Type 0 where
-  pub bytes : List ℕ
-  pub held : IsHeld told name bytes
-  pub long : FEED < length bytes
-
-abbrev pub FeedAnswers : Told → List ℕ → Result (List ℕ) Flaw → Type 0
-FeedAnswers told name (Ok bytes) = IsFeed told name bytes
-FeedAnswers told name (Err flaw) = IsLongFeed told name × (flaw ≡ TooLong Feed)
+-- a stage's answer, with its refusal as one of the input
+abbrev pub Raised : {X F : Type 0} → (F → InputFlaw) → (Result X F → Type 0) → Result X InputFlaw → Type 0
+Raised {X} {F} up Answers (Ok x) = Answers (Ok x)
+Raised {X} {F} up Answers (Err flaw) = (why : F) × Answers (Err why) × (flaw ≡ up why)
 
 -- first one answer, and then the next, where the first is no refusal
-abbrev pub Then : {X Y : Type 0} → (Result X Flaw → Type 0) → (X → Result Y Flaw → Type 0) → Result Y Flaw → Type 0
+abbrev pub Then : {X Y : Type 0} → (Result X InputFlaw → Type 0) → (X → Result Y InputFlaw → Type 0) → Result Y InputFlaw → Type 0
 Then {X} First Next (Ok y) = (x : X) × First (Ok x) × Next x (Ok y)
 Then {X} First Next (Err flaw) = First (Err flaw) ⊎ ((x : X) × First (Ok x) × Next x (Err flaw))
 
 -- the answer is this value
-abbrev pub Gives : {X : Type 0} → X → Result X Flaw → Type 0
-Gives x answer = answer ≡ Ok x
+abbrev pub IsAnswer : {X : Type 0} → X → Result X InputFlaw → Type 0
+IsAnswer x answer = answer ≡ Ok x
+
+-- a file among the stages
+abbrev pub FileStage : {R : Type 0} → Told → Option (List ℕ) → File → (List ℕ → Result (List R) FileFault → Type 0) → Result (List R) InputFlaw → Type 0
+FileStage told name file Reads answer = Raised (InFile file) (FileAnswers told name Reads) answer
+
+abbrev pub EventsAnswer : Told → FilesAsked → Result (List EventRow) InputFlaw → Type 0
+EventsAnswer told asked answer = FileStage told (file_name asked Events) Events (ReadsEvents asked.columns.events) answer
+
+abbrev pub ActivitiesAnswer : Told → FilesAsked → Result (List ActRow) InputFlaw → Type 0
+ActivitiesAnswer told asked answer = FileStage told (file_name asked Activities) Activities (ReadsActivities asked.columns.activities) answer
+
+abbrev pub EventDelaysAnswer : Told → FilesAsked → Result (List DelayRow) InputFlaw → Type 0
+EventDelaysAnswer told asked answer = FileStage told (file_name asked EventDelays) EventDelays ReadsDelays answer
+
+abbrev pub ActivityDelaysAnswer : Told → FilesAsked → Result (List DelayRow) InputFlaw → Type 0
+ActivityDelaysAnswer told asked answer = FileStage told (file_name asked ActivityDelays) ActivityDelays ReadsDelays answer
 
 -- the rows of the four files
 pub record FileRows : Type 0 where
@@ -122,13 +113,13 @@ pub record FileRows : Type 0 where
   pub activity_delays : List DelayRow
 
 -- what the files answer, read in their order
-abbrev pub FilesAnswer : Told → Command → Result FileRows Flaw → Type 0
-FilesAnswer told command =
-    Then (EventsAnswer told command) (λ events.
-    Then (ActivitiesAnswer told command) (λ activities.
-    Then (EventDelaysAnswer told command) (λ event_delays.
-    Then (ActivityDelaysAnswer told command) (λ activity_delays.
-    Gives (record { events = events; activities = activities; event_delays = event_delays; activity_delays = activity_delays })))))
+abbrev pub FilesAnswer : Told → FilesAsked → Result FileRows InputFlaw → Type 0
+FilesAnswer told asked =
+    Then (EventsAnswer told asked) (λ events.
+    Then (ActivitiesAnswer told asked) (λ activities.
+    Then (EventDelaysAnswer told asked) (λ event_delays.
+    Then (ActivityDelaysAnswer told asked) (λ activity_delays.
+    IsAnswer (record { events = events; activities = activities; event_delays = event_delays; activity_delays = activity_delays })))))
 
 -- a network and its rows before any message
 pub record Opening : Type 0 where
@@ -136,39 +127,26 @@ pub record Opening : Type 0 where
   pub rows : RowsValue
 
 -- the network comes after all files, and then the start rows
-abbrev pub OpeningAnswer : Told → Command → Result Opening Flaw → Type 0
-OpeningAnswer told command =
-    Then (FilesAnswer told command) (λ files.
-    Then (NetworkAnswers files.events files.activities) (λ net.
-    Then (StartAnswers net files.event_delays files.activity_delays) (λ rows.
-    Gives (record { net = net; rows = rows }))))
+abbrev pub OpeningAnswer : Told → FilesAsked → Result Opening InputFlaw → Type 0
+OpeningAnswer told asked =
+    Then (FilesAnswer told asked) (λ files.
+    Then (Raised Network (NetworkAnswers files.events files.activities)) (λ net.
+    Then (Raised Start (StartAnswers net files.event_delays files.activity_delays)) (λ rows.
+    IsAnswer (record { net = net; rows = rows }))))
 
--- the opening, and the bytes of the feed
-pub record Input : Type 0 where
-  pub opening : Opening
-  pub feed : List ℕ
+-- nothing is refused before the file is read
+abbrev pub PassesBefore : Told → FilesAsked → File → Type 0
+PassesBefore told asked Events = ⊤
+PassesBefore told asked Activities = (events : List EventRow) × EventsAnswer told asked (Ok events)
+PassesBefore told asked EventDelays =
+    (events : List EventRow) × EventsAnswer told asked (Ok events) × (activities : List ActRow) × ActivitiesAnswer told asked (Ok activities)
+PassesBefore told asked ActivityDelays =
+    (events : List EventRow) × EventsAnswer told asked (Ok events) × (activities : List ActRow) × ActivitiesAnswer told asked (Ok activities)
+    × (delays : List DelayRow) × EventDelaysAnswer told asked (Ok delays)
 
--- the feed comes last
-abbrev pub InputAnswer : Told → Command → Result Input Flaw → Type 0
-InputAnswer told command =
-    Then (OpeningAnswer told command) (λ opening.
-    Then (FeedAnswers told command.feed) (λ feed.
-    Gives (record { opening = opening; feed = feed })))
-
--- what words and files determine, or what they are refused for first
-abbrev pub IsInput : Told → Command → Input → Type 0
-IsInput told command input = InputAnswer told command (Ok input)
-
-abbrev pub IsFirstRefusal : Told → Command → Flaw → Type 0
-IsFirstRefusal told command flaw = InputAnswer told command (Err flaw)
-
--- nothing is refused before the part is read
-abbrev pub PassesBefore : Told → Command → Part → Type 0
-PassesBefore told command Events = ⊤
-PassesBefore told command Activities = (events : List EventRow) × EventsAnswer told command (Ok events)
-PassesBefore told command EventDelays =
-    (events : List EventRow) × EventsAnswer told command (Ok events) × (activities : List ActRow) × ActivitiesAnswer told command (Ok activities)
-PassesBefore told command ActivityDelays =
-    (events : List EventRow) × EventsAnswer told command (Ok events) × (activities : List ActRow) × ActivitiesAnswer told command (Ok activities)
-    × (delays : List DelayRow) × EventDelaysAnswer told command (Ok delays)
-PassesBefore told command Feed = (opening : Opening) × OpeningAnswer told command (Ok opening)
+-- a file that the words name could not be read, where nothing is refused before it
+pub record IsUnread (told : Told) (is_sound : List ℕ → Type 0) (asked : FilesAsked) (file : File) : Type 0 where
+  pub name : List ℕ
+  pub named : file_name asked file ≡ Some name
+  pub passes : PassesBefore told asked file
+  pub unsound : is_sound name → ⊥

@@ -4,7 +4,6 @@ use Rattle.std.specs.List.{flat_map}
 use Rattle.std.specs.Fmt.{decimal}
 use Rattle.dm_base.specs.declared.ids.ActId.{ActId}
 use Rattle.dm_lintim.specs.Columns.{column_name}
-use Rattle.dm_lintim.specs.declared.fault.FileFault.{FileFault}
 use Rattle.dm_lintim.specs.declared.fault.FileKind.{FileKind}
 use Rattle.dm_lintim.specs.declared.fault.FileKind.TheVariants.{FieldCount, BadNumber, TooLarge, UnknownType, ByteOrderMark, OutOfMemory}
 use Rattle.dm_network.specs.declared.parts.NetFault.{NetFault}
@@ -12,19 +11,20 @@ use Rattle.dm_network.specs.declared.parts.NetFault.TheVariants.{TooMany, Double
 use Rattle.dm_outside.specs.Printing.{joined}
 use Rattle.dm_rows.specs.declared.messages.StartFault.{StartFault}
 use Rattle.dm_rows.specs.declared.messages.StartFault.TheVariants.{UnknownEvent as UnknownDelayedEvent, UnknownActivity, OutOfMemory as NoStartMemory}
-use Rattle.dm_input.specs.declared.parts.Part.{Part}
-use Rattle.dm_input.specs.declared.parts.Part.TheVariants.{Events, Activities, EventDelays, ActivityDelays, Feed}
-use Rattle.dm_input.specs.declared.parts.Flaw.{Flaw}
-use Rattle.dm_input.specs.declared.parts.Flaw.TheVariants.{Record, TooLong, Network, Start}
-use Rattle.dm_input.specs.Words.{Command}
-use Rattle.dm_input.specs.Input.{part_name}
+use Rattle.dm_input.specs.declared.flaws.File.{File}
+use Rattle.dm_input.specs.declared.flaws.FileFlaw.{FileFlaw}
+use Rattle.dm_input.specs.declared.flaws.FileFlaw.TheVariants.{Record, TooLong}
+use Rattle.dm_input.specs.declared.flaws.InputFlaw.{InputFlaw}
+use Rattle.dm_input.specs.declared.flaws.InputFlaw.TheVariants.{InFile, Network, Start}
+use Rattle.dm_input.specs.Words.{FilesAsked}
+use Rattle.dm_input.specs.Input.{file_name}
 
 abbrev pub line_end : List ℕ
 line_end = 10 ∷ []
 
--- the name of a part, as opened
-abbrev pub name_of : Command → Part → List ℕ
-name_of command part = unwrap_or (part_name command part) []
+-- the name of a file, as opened
+abbrev pub name_of : FilesAsked → File → List ℕ
+name_of asked file = unwrap_or (file_name asked file) []
 
 -- the rule that a record breaks; for want of memory nothing is written
 abbrev pub kind_text : FileKind → List ℕ
@@ -57,37 +57,25 @@ start_text (UnknownDelayedEvent id) = joined (codes " unknown-event " ∷ decima
 start_text (UnknownActivity id) = joined (codes " unknown-activity " ∷ decimal id.0 ∷ [])
 start_text NoStartMemory = []
 
--- what is said of too many bytes; of a feed nothing but that it is refused
-abbrev pub long_text : Part → List ℕ
-long_text Feed = []
-long_text Events = codes " too-long"
-long_text Activities = codes " too-long"
-long_text EventDelays = codes " too-long"
-long_text ActivityDelays = codes " too-long"
-
 abbrev pub number_text : ℕ → List ℕ
 number_text number = joined (codes " record " ∷ decimal number ∷ [])
 
--- a record that breaks a rule
-abbrev pub record_text : Command → Part → FileFault → List ℕ
-record_text command part fault = name_of command part ++ (number_text fault.number ++ kind_text fault.kind)
-
--- a part with too many bytes
-abbrev pub too_long_text : Command → Part → List ℕ
-too_long_text command part = name_of command part ++ long_text part
+-- why a file is refused
+abbrev pub file_text : FileFlaw → List ℕ
+file_text (Record fault) = number_text fault.number ++ kind_text fault.kind
+file_text TooLong = joined (codes " too-long" ∷ [])
 
 -- what is refused, and why
-abbrev pub flaw_text : Command → Flaw → List ℕ
-flaw_text command (Record part fault) = record_text command part fault
-flaw_text command (TooLong part) = too_long_text command part
-flaw_text command (Network fault) = codes "network" ++ network_text fault
-flaw_text command (Start fault) = codes "start" ++ start_text fault
+abbrev pub flaw_text : FilesAsked → InputFlaw → List ℕ
+flaw_text asked (InFile file why) = name_of asked file ++ file_text why
+flaw_text asked (Network fault) = codes "network" ++ network_text fault
+flaw_text asked (Start fault) = codes "start" ++ start_text fault
 
-abbrev pub refused_line : Command → Flaw → List ℕ
-refused_line command flaw = codes "refused " ++ (flaw_text command flaw ++ line_end)
+abbrev pub refused_line : FilesAsked → InputFlaw → List ℕ
+refused_line asked flaw = codes "refused " ++ (flaw_text asked flaw ++ line_end)
 
-abbrev pub read_fault_line : Command → Part → List ℕ
-read_fault_line command part = codes "read fault " ++ (name_of command part ++ line_end)
+abbrev pub read_fault_line : FilesAsked → File → List ℕ
+read_fault_line asked file = codes "read fault " ++ (name_of asked file ++ line_end)
 
 abbrev pub usage_line : List ℕ
 usage_line = codes "usage: run DIR FEED.. | check DIR TEXT | gen NUMBER TRAINS" ++ line_end

@@ -8,15 +8,24 @@ use Rattle.std.specs.Str.{bytes_eq}
 use Rattle.dm_base.specs.declared.limits.TheConstants.{PENALTY}
 use Rattle.dm_base.specs.Numbers.{IsDigits, whole_value}
 use Rattle.dm_lintim.specs.Columns.{FileColumns, ReadsFileColumns}
+use Rattle.dm_input.specs.declared.words.TheConstants.{STANDARD_PENALTY}
 
--- a run over the files of a folder, and one feed; the files of delays are named where there are any
-pub record Command : Type 0 where
+-- the files of a folder, and the options that go with them; the files of delays are named where there are any
+pub record FilesAsked : Type 0 where
   pub folder : List ℕ
-  pub feed : List ℕ
   pub penalty : ℕ
   pub columns : FileColumns
   pub event_delays : Option (List ℕ)
   pub activity_delays : Option (List ℕ)
+
+-- a run over these files, and one feed
+pub record RunAsked : Type 0 where
+  pub files : FilesAsked
+  pub feed : List ℕ
+
+-- what words may ask for
+pub data Command : Type 0 where
+  RunOf : RunAsked → Command
 
 -- how the word of each option begins
 abbrev pub penalty_option : List ℕ
@@ -56,13 +65,13 @@ abbrev pub values_of : List ℕ → List (List ℕ) → List (List ℕ)
 values_of option words = filter_map (behind option) words
 
 -- the words give an option this value, which is not empty, or none
-abbrev pub Gives : List ℕ → List (List ℕ) → Option (List ℕ) → Type 0
-Gives option words None = values_of option words ≡ []
-Gives option words (Some value) = (values_of option words ≡ value ∷ []) × (value ≢ [])
+abbrev pub GivesOption : List ℕ → List (List ℕ) → Option (List ℕ) → Type 0
+GivesOption option words None = values_of option words ≡ []
+GivesOption option words (Some value) = (values_of option words ≡ value ∷ []) × (value ≢ [])
 
--- the penalty in seconds for each passenger: a whole number of at most PENALTY, or 3600 where none is given
+-- the penalty in seconds for each passenger: a whole number of at most PENALTY, or STANDARD_PENALTY where none is given
 abbrev pub IsPenalty : Option (List ℕ) → ℕ → Type 0
-IsPenalty None penalty = penalty ≡ 3600
+IsPenalty None penalty = penalty ≡ STANDARD_PENALTY
 IsPenalty (Some text) penalty = IsDigits text × (penalty ≡ whole_value text) × (penalty ≤ PENALTY)
 
 -- the column words of a file, which stand in the standard order where none are given
@@ -79,29 +88,29 @@ abbrev pub activity_words : Option (List ℕ) → List ℕ
 activity_words given = unwrap_or given standard_activity_words
 
 -- what the words behind `run` ask for: each is a name or an option, two are names, and the options have these values
-pub record AsksBehind (words : List (List ℕ)) (command : Command) : Type 0 where
+pub record AsksBehind (words : List (List ℕ)) (asked : RunAsked) : Type 0 where
   pub penalty : Option (List ℕ)
   pub events : Option (List ℕ)
   pub activities : Option (List ℕ)
   pub known : list_all (λ word. is_name word || is_option word) words ≡ true
-  pub names : filter is_name words ≡ command.folder ∷ command.feed ∷ []
-  pub gives_penalty : Gives penalty_option words penalty
-  pub gives_events : Gives event_columns_option words events
-  pub gives_activities : Gives activity_columns_option words activities
-  pub gives_event_delays : Gives event_delays_option words command.event_delays
-  pub gives_activity_delays : Gives activity_delays_option words command.activity_delays
-  pub is_penalty : IsPenalty penalty command.penalty
-  pub are_columns : ReadsFileColumns (event_words events) (activity_words activities) (Ok command.columns)
+  pub names : filter is_name words ≡ asked.files.folder ∷ asked.feed ∷ []
+  pub gives_penalty : GivesOption penalty_option words penalty
+  pub gives_events : GivesOption event_columns_option words events
+  pub gives_activities : GivesOption activity_columns_option words activities
+  pub gives_event_delays : GivesOption event_delays_option words asked.files.event_delays
+  pub gives_activity_delays : GivesOption activity_delays_option words asked.files.activity_delays
+  pub is_penalty : IsPenalty penalty asked.files.penalty
+  pub are_columns : ReadsFileColumns (event_words events) (activity_words activities) (Ok asked.files.columns)
 
--- the words, without the program's name, ask for this run
+-- the words, without the program's name, ask for this
 abbrev pub Asks : List (List ℕ) → Command → Type 0
 Asks [] command = ⊥
-Asks (word ∷ words) command = (word ≡ codes "run") × AsksBehind words command
+Asks (word ∷ words) (RunOf asked) = (word ≡ codes "run") × AsksBehind words asked
 
--- the words ask for no run
+-- the words ask for nothing
 abbrev pub AsksNothing : List (List ℕ) → Type 0
 AsksNothing words = (command : Command) → Asks words command → ⊥
 
 -- the name of a file of the folder, as it is opened
-abbrev pub in_folder : Command → List ℕ → List ℕ
-in_folder command name = command.folder ++ (codes "/" ++ name)
+abbrev pub in_folder : FilesAsked → List ℕ → List ℕ
+in_folder asked name = asked.folder ++ (codes "/" ++ name)

@@ -5,9 +5,9 @@ ghost use Rattle.dm_base.specs.declared.rows.EventRow.{EventRow};
 ghost use Rattle.dm_network.specs.Build.{IsBuiltFrom, IsMadeOf, RefusesRecords};
 ghost use Rattle.dm_network.specs.declared.parts.NetFault.{NetFault};
 ghost use Rattle.dm_network.specs.Net.{Net};
-ghost use Rattle.dm_input.specs.Input.{Told, InputAnswer};
+ghost use Rattle.dm_input.specs.Input.{Told, OpeningAnswer};
 ghost use Rattle.dm_input.specs.Order.{IsOne};
-ghost use Rattle.dm_input.specs.Words.{Asks, Command};
+ghost use Rattle.dm_input.specs.Words.{Asks, Command, FilesAsked};
 
 use dm_network::NetFault;
 
@@ -21,12 +21,13 @@ pub fn records_are_made_or_refused()
     ensures { (events : List EventRow) (activities : List ActRow) (fault : NetFault) → RefusesRecords events activities fault → (net : Net) → IsBuiltFrom events activities net → fault ≢ NetFault.OutOfMemory → ⊥ }
 {}
 
-/// Words, and files that the shelf tells, determine one input or one first refusal, but for which cycle is shown.
-pub fn inputs_are_one()
-    ensures { (told : Told) (command : Command) → IsSome told → IsOne (InputAnswer told command) }
+/// Words, and files that the shelf tells, determine one network with its start rows or one first refusal, but for which
+/// cycle is shown.
+pub fn openings_are_one()
+    ensures { (told : Told) (asked : FilesAsked) → IsSome told → IsOne (OpeningAnswer told asked) }
 {}
 
-/// Words ask for one run at most.
-pub fn words_ask_for_one_run()
+/// Words ask for one thing at most.
+pub fn words_ask_for_one_thing()
     ensures { (words : List (List ℕ)) (one other : Command) → Asks words one → Asks words other → one ≡ other }
 {}

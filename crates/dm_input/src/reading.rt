@@ -1,27 +1,62 @@
-//! What a run reads: the files of the folder.
+//! The rows of the files of a folder, which are opened, read and checked one after the other.
 ghost use Rattle.std.specs.Prelude.{◌≡◌, ◌≢◌, ◌++◌, ◌≤◌, ◌⊎◌, ℕ, List, Option, Result, Ok, Err, Some, length, codes, string_bytes, IfOk, IfErr};
 ghost use Rattle.std.specs.Option.{option_map};
 ghost use Rattle.dm_base.specs.declared.limits.TheConstants.{FILE as LARGEST};
+ghost use Rattle.dm_lintim.specs.Columns.{FileColumns};
 ghost use Rattle.dm_lintim.specs.declared.fault.FileFault.{FileFault};
 ghost use Rattle.dm_lintim.specs.Files.{ReadsEvents, ReadsActivities, ReadsDelays, no_memory};
-ghost use Rattle.dm_rows.specs.StartFaults.{DelaysAreWithin};
-ghost use Rattle.dm_input.specs.declared.parts.Part.{Part};
-ghost use Rattle.dm_input.specs.declared.parts.Stop.{Stop};
-ghost use Rattle.dm_input.specs.RunWords.{command_of};
-ghost use Rattle.dm_input.specs.Words.{in_folder};
-ghost use Rattle.dm_input.specs.Input.{FileAnswers, PartAnswers, EventsAnswer, ActivitiesAnswer, FilesAnswer, part_name};
-ghost use Rattle.dm_input.specs.Stages.{IsKept, Takes, StopsAtFile, StopsAtPart, IsStopBy, EventsFit, ActivitiesFit, AllFit, rows_in, StopsRun};
+ghost use Rattle.dm_input.specs.declared.flaws.File.{File};
+ghost use Rattle.dm_input.specs.declared.flaws.InputStop.{InputStop};
+ghost use Rattle.dm_input.specs.Asked.{files_of};
+ghost use Rattle.dm_input.specs.Input.{FileStage, FilesAnswer, NamedAnswers, file_name};
+ghost use Rattle.dm_input.specs.Stops.{IsKept, StopsOpening, Takes};
+ghost use Rattle.dm_input.specs.Inside.Stages.{StopsAtFile, StopsAtName, IsStopBy, AllFit, rows_in};
 
-use crate::parts::{Flaw, Part, Stop};
-use crate::words::RunWords;
+use crate::flaws::{File, FileFlaw, InputFlaw, InputStop};
+use crate::words::FileWords;
 use dm_base::limits::FILE;
 use dm_base::{ActRow, DelayRow, EventRow};
 use dm_lintim::{Columns, FileFault, FileKind, read_activities, read_delays, read_events};
 use dm_outside::{Shelf, TakeFault, take_all};
 use std::alloc::{AllocError, Global};
 
+/// A row of one kind of file.
+pub(crate) trait FileRow: Drop {
+    // What bytes read as, under the columns of the files.
+    ghost reads: { FileColumns → List ℕ → Result (List Self) FileFault → Type 0 };
+
+    fn read(alloc: Global, bytes: &[u8], columns: &Columns) -> Result<Vec<Self>, FileFault>
+        requires { length bytes.now ≤ LARGEST }
+        ensures rows { IfOk result (λ v. reads columns.now bytes.now (Ok v.items)) }
+        ensures fault { IfErr result (λ fault. (fault ≡ no_memory) ⊎ reads columns.now bytes.now (Err fault)) };
+}
+
+impl FileRow for EventRow {
+    ghost reads = { λ columns. ReadsEvents columns.events };
+
+    fn read(alloc: Global, bytes: &[u8], columns: &Columns) -> Result<Vec<EventRow>, FileFault> {
+        read_events(alloc, bytes, columns)
+    }
+}
+
+impl FileRow for ActRow {
+    ghost reads = { λ columns. ReadsActivities columns.activities };
+
+    fn read(alloc: Global, bytes: &[u8], columns: &Columns) -> Result<Vec<ActRow>, FileFault> {
+        read_activities(alloc, bytes, columns)
+    }
+}
+
+impl FileRow for DelayRow {
+    ghost reads = { λ _. ReadsDelays };
+
+    fn read(alloc: Global, bytes: &[u8], _columns: &Columns) -> Result<Vec<DelayRow>, FileFault> {
+        read_delays(alloc, bytes)
+    }
+}
+
 /// Takes all the bytes under a name, if they are at most `limit`.
-pub(crate) fn take_name<H: Shelf>(
+pub fn take_name<H: Shelf>(
     alloc: Global,
     shelf: &mut H,
     name: &str,
@@ -36,160 +71,94 @@ pub(crate) fn take_name<H: Shelf>(
     take_all(alloc, &mut source, limit)
 }
 
-/// Why a run stops at a part whose bytes could not be taken.
-pub(crate) fn stop_at(part: Part, fault: TakeFault) -> Stop
-    ensures read { fault ≡ TakeFault.ReadFault → result ≡ Stop.ReadFault part }
-    ensures long { fault ≡ TakeFault.TooLong → result ≡ Stop.Refused (Flaw.TooLong part) }
-    ensures memory { fault ≡ TakeFault.OutOfMemory → result ≡ Stop.NoMemory }
+/// Why the reading stops at a file whose bytes could not be taken.
+fn stop_at(file: File, fault: TakeFault) -> InputStop
+    ensures read { fault ≡ TakeFault.ReadFault → result ≡ InputStop.ReadFault file }
+    ensures long { fault ≡ TakeFault.TooLong → result ≡ InputStop.Refused (InputFlaw.InFile file FileFlaw.TooLong) }
+    ensures memory { fault ≡ TakeFault.OutOfMemory → result ≡ InputStop.NoMemory }
 {
     match fault {
-        TakeFault::ReadFault => Stop::ReadFault(part),
-        TakeFault::TooLong => Stop::Refused(Flaw::TooLong(part)),
-        TakeFault::OutOfMemory => Stop::NoMemory,
+        TakeFault::ReadFault => InputStop::ReadFault(file),
+        TakeFault::TooLong => InputStop::Refused(InputFlaw::InFile(file, FileFlaw::TooLong)),
+        TakeFault::OutOfMemory => InputStop::NoMemory,
     }
 }
 
-/// Why a run stops at a record of a part.
-fn stop_by(part: Part, fault: FileFault) -> Stop
-    ensures { IsStopBy part fault result }
+/// Why the reading stops at a record of a file.
+fn stop_by(file: File, fault: FileFault) -> InputStop
+    ensures { IsStopBy file fault result }
 {
     match fault.kind {
-        FileKind::OutOfMemory => Stop::NoMemory,
-        _ => Stop::Refused(Flaw::Record(part, fault)),
+        FileKind::OutOfMemory => InputStop::NoMemory,
+        _ => InputStop::Refused(InputFlaw::InFile(file, FileFlaw::Record(fault))),
     }
 }
 
-/// The name of a file in a folder.
-fn name_in(alloc: Global, folder: &str, file: &str) -> Result<String, AllocError>
-    ensures { IfOk result (λ name. string_bytes name ≡ folder.now ++ (codes "/" ++ file.now)) }
-{
-    let mut name = String::from_str(alloc, folder)?;
-    name.push_str("/")?;
-    name.push_str(file)?;
-    Ok(name)
-}
-
-/// The events under a name.
-fn events_under<H: Shelf>(
+/// The rows of the file under a name.
+fn read_named<H: Shelf, R: FileRow>(
     alloc: Global,
     shelf: &mut H,
     name: &str,
+    file: File,
     columns: &Columns,
-) -> Result<Vec<EventRow>, Stop>
+) -> Result<Vec<R>, InputStop>
     ensures kept { IsKept H.files H.is_sound shelf.old shelf.new }
-    ensures rows { IfOk result (λ rows. FileAnswers (H.files shelf.old) name.now Part.Events (ReadsEvents columns.now.events) (Ok rows.items)) }
-    ensures fit { IfOk result (λ rows. EventsFit rows.items) }
-    ensures stops { IfErr result (StopsAtFile (H.files shelf.old) (H.is_sound shelf.old) name.now Part.Events (ReadsEvents columns.now.events)) }
+    ensures rows { IfOk result (λ rows. NamedAnswers (H.files shelf.old) name.now (R.reads columns.now) (Ok rows.items)) }
+    ensures stops { IfErr result (StopsAtName (H.files shelf.old) (H.is_sound shelf.old) name.now file (R.reads columns.now)) }
 {
     let bytes = match take_name(alloc, shelf, name, FILE) {
         Ok(bytes) => bytes,
-        Err(fault) => return Err(stop_at(Part::Events, fault)),
+        Err(fault) => return Err(stop_at(file, fault)),
     };
-    match read_events(alloc, bytes.as_slice(), columns) {
+    match R::read(alloc, bytes.as_slice(), columns) {
         Ok(rows) => Ok(rows),
-        Err(fault) => Err(stop_by(Part::Events, fault)),
+        Err(fault) => Err(stop_by(file, fault)),
     }
 }
 
-/// The activities under a name.
-fn activities_under<H: Shelf>(
-    alloc: Global,
-    shelf: &mut H,
-    name: &str,
-    columns: &Columns,
-) -> Result<Vec<ActRow>, Stop>
-    ensures kept { IsKept H.files H.is_sound shelf.old shelf.new }
-    ensures rows { IfOk result (λ rows. FileAnswers (H.files shelf.old) name.now Part.Activities (ReadsActivities columns.now.activities) (Ok rows.items)) }
-    ensures fit { IfOk result (λ rows. ActivitiesFit rows.items) }
-    ensures stops { IfErr result (StopsAtFile (H.files shelf.old) (H.is_sound shelf.old) name.now Part.Activities (ReadsActivities columns.now.activities)) }
-{
-    let bytes = match take_name(alloc, shelf, name, FILE) {
-        Ok(bytes) => bytes,
-        Err(fault) => return Err(stop_at(Part::Activities, fault)),
-    };
-    match read_activities(alloc, bytes.as_slice(), columns) {
-        Ok(rows) => Ok(rows),
-        Err(fault) => Err(stop_by(Part::Activities, fault)),
-    }
-}
-
-/// The delays under a name.
-fn delays_under<H: Shelf>(
-    alloc: Global,
-    shelf: &mut H,
-    name: &str,
-    part: Part,
-) -> Result<Vec<DelayRow>, Stop>
-    ensures kept { IsKept H.files H.is_sound shelf.old shelf.new }
-    ensures rows { IfOk result (λ rows. FileAnswers (H.files shelf.old) name.now part ReadsDelays (Ok rows.items)) }
-    ensures fit { IfOk result (λ rows. DelaysAreWithin rows.items) }
-    ensures stops { IfErr result (StopsAtFile (H.files shelf.old) (H.is_sound shelf.old) name.now part ReadsDelays) }
-{
-    let bytes = match take_name(alloc, shelf, name, FILE) {
-        Ok(bytes) => bytes,
-        Err(fault) => return Err(stop_at(part, fault)),
-    };
-    match read_delays(alloc, bytes.as_slice()) {
-        Ok(rows) => Ok(rows),
-        Err(fault) => Err(stop_by(part, fault)),
-    }
-}
-
-/// The delays of a file of the folder, none where the words name no file.
-fn read_delay_file<H: Shelf>(
-    alloc: Global,
-    shelf: &mut H,
-    folder: &str,
-    file: Option<&str>,
-    part: Part,
-) -> Result<Vec<DelayRow>, Stop>
-    ensures kept { IsKept H.files H.is_sound shelf.old shelf.new }
-    ensures rows { IfOk result (λ rows. PartAnswers (H.files shelf.old) (option_map (λ n. folder.now ++ (codes "/" ++ n)) (option_map (λ x. x.now) file.entry)) part ReadsDelays (Ok rows.items)) }
-    ensures fit { IfOk result (λ rows. DelaysAreWithin rows.items) }
-    ensures stops { IfErr result (StopsAtPart (H.files shelf.old) (H.is_sound shelf.old) (option_map (λ n. folder.now ++ (codes "/" ++ n)) (option_map (λ x. x.now) file.entry)) part ReadsDelays) }
+/// The name of a file in its folder, where the words name it.
+fn name_in_folder<'x>(words: &FileWords<'x>, file: File) -> Option<&'x str>
+    ensures { option_map (λ name. words.now.folder.now ++ (codes "/" ++ name.now)) result ≡ file_name (files_of words.now) file }
 {
     match file {
-        None => Ok(Vec::new(alloc)),
-        Some(file) => {
-            let Ok(name) = name_in(alloc, folder, file) else {
-                return Err(Stop::NoMemory);
-            };
-            delays_under(alloc, shelf, name.as_str(), part)
-        }
+        File::Events => Some("Events-expanded.giv"),
+        File::Activities => Some("Activities-expanded.giv"),
+        File::EventDelays => words.event_delays,
+        File::ActivityDelays => words.activity_delays,
     }
 }
 
-/// The events file of the folder.
-fn read_event_file<H: Shelf>(
-    alloc: Global,
-    shelf: &mut H,
-    run: &RunWords<'_>,
-) -> Result<Vec<EventRow>, Stop>
-    ensures kept { IsKept H.files H.is_sound shelf.old shelf.new }
-    ensures rows { IfOk result (λ rows. EventsAnswer (H.files shelf.old) (command_of run.now) (Ok rows.items)) }
-    ensures fit { IfOk result (λ rows. EventsFit rows.items) }
-    ensures stops { IfErr result (StopsAtPart (H.files shelf.old) (H.is_sound shelf.old) (part_name (command_of run.now) Part.Events) Part.Events (ReadsEvents run.now.columns.events)) }
+/// The name of a file as it is opened.
+fn joined_name(alloc: Global, folder: &str, name: &str) -> Result<String, AllocError>
+    ensures { IfOk result (λ joined. string_bytes joined ≡ folder.now ++ (codes "/" ++ name.now)) }
 {
-    let name = name_in(alloc, run.folder, "Events-expanded.giv")?;
-    events_under(alloc, shelf, name.as_str(), &run.columns)
+    let mut joined = String::from_str(alloc, folder)?;
+    joined.push_str("/")?;
+    joined.push_str(name)?;
+    Ok(joined)
 }
 
-/// The activities file of the folder.
-fn read_activity_file<H: Shelf>(
+/// The rows of a file of the folder, none where the words name no file.
+fn read_file<H: Shelf, R: FileRow>(
     alloc: Global,
     shelf: &mut H,
-    run: &RunWords<'_>,
-) -> Result<Vec<ActRow>, Stop>
+    words: &FileWords<'_>,
+    file: File,
+) -> Result<Vec<R>, InputStop>
     ensures kept { IsKept H.files H.is_sound shelf.old shelf.new }
-    ensures rows { IfOk result (λ rows. ActivitiesAnswer (H.files shelf.old) (command_of run.now) (Ok rows.items)) }
-    ensures fit { IfOk result (λ rows. ActivitiesFit rows.items) }
-    ensures stops { IfErr result (StopsAtPart (H.files shelf.old) (H.is_sound shelf.old) (part_name (command_of run.now) Part.Activities) Part.Activities (ReadsActivities run.now.columns.activities)) }
+    ensures rows { IfOk result (λ rows. FileStage (H.files shelf.old) (file_name (files_of words.now) file) file (R.reads words.now.columns) (Ok rows.items)) }
+    ensures stops { IfErr result (StopsAtFile (H.files shelf.old) (H.is_sound shelf.old) (file_name (files_of words.now) file) file (R.reads words.now.columns)) }
 {
-    let name = name_in(alloc, run.folder, "Activities-expanded.giv")?;
-    activities_under(alloc, shelf, name.as_str(), &run.columns)
+    let Some(name) = name_in_folder(words, file) else {
+        return Ok(Vec::new(alloc));
+    };
+    let Ok(name) = joined_name(alloc, words.folder, name) else {
+        return Err(InputStop::NoMemory);
+    };
+    read_named(alloc, shelf, name.as_str(), file, &words.columns)
 }
 
-/// The rows of the files of a run.
+/// The rows of the files of a folder.
 #[derive(Drop)]
 pub(crate) struct Files {
     pub(crate) events: Vec<EventRow>,
@@ -198,33 +167,21 @@ pub(crate) struct Files {
     pub(crate) activity_delays: Vec<DelayRow>,
 }
 
-/// The rows of the files of a run, which are opened, read and checked one after the other.
+/// The rows of the files of a folder, in the order of reading.
 pub(crate) fn read_files<H: Shelf>(
     alloc: Global,
     shelf: &mut H,
-    run: &RunWords<'_>,
-) -> Result<Files, Stop>
+    words: &FileWords<'_>,
+) -> Result<Files, InputStop>
     ensures kept { IsKept H.files H.is_sound shelf.old shelf.new }
-    ensures rows { IfOk result (λ files. FilesAnswer (H.files shelf.old) (command_of run.now) (Ok (rows_in files))) }
+    ensures rows { IfOk result (λ files. FilesAnswer (H.files shelf.old) (files_of words.now) (Ok (rows_in files))) }
     ensures fit { IfOk result AllFit }
-    ensures stops { IfErr result (StopsRun (H.files shelf.old) (H.is_sound shelf.old) (command_of run.now)) }
+    ensures stops { IfErr result (StopsOpening (H.files shelf.old) (H.is_sound shelf.old) (files_of words.now)) }
 {
-    let events = read_event_file(alloc, shelf, run)?;
-    let activities = read_activity_file(alloc, shelf, run)?;
-    let event_delays = read_delay_file(
-        alloc,
-        shelf,
-        run.folder,
-        run.event_delays,
-        Part::EventDelays,
-    )?;
-    let activity_delays = read_delay_file(
-        alloc,
-        shelf,
-        run.folder,
-        run.activity_delays,
-        Part::ActivityDelays,
-    )?;
+    let events = read_file::<H, EventRow>(alloc, shelf, words, File::Events)?;
+    let activities = read_file::<H, ActRow>(alloc, shelf, words, File::Activities)?;
+    let event_delays = read_file::<H, DelayRow>(alloc, shelf, words, File::EventDelays)?;
+    let activity_delays = read_file::<H, DelayRow>(alloc, shelf, words, File::ActivityDelays)?;
     Ok(Files {
         events,
         activities,

@@ -1,10 +1,10 @@
-//! The words of a run.
+//! What the words of a command line ask for.
 ghost use Rattle.std.specs.Prelude.{◌≡◌, ◌≢◌, ◌∷◌, [], ◌||◌, ℕ, Option, List, Some, None, Ok, map, filter, is_some, string_bytes, MatchOption, IfSome, IfNone, unwrap_or};
 ghost use Rattle.std.specs.Option.{option_map};
 ghost use Rattle.std.specs.List.{list_all};
 ghost use Rattle.dm_lintim.specs.Columns.{FileColumns, ReadsFileColumns};
-ghost use Rattle.dm_input.specs.Words.{Asks, AsksBehind, AsksNothing, Command, Gives, IsPenalty, behind, is_name, is_option, values_of, event_words, activity_words};
-ghost use Rattle.dm_input.specs.RunWords.{command_of};
+ghost use Rattle.dm_input.specs.Words.{Asks, AsksBehind, AsksNothing, GivesOption, IsPenalty, RunAsked, behind, is_name, is_option, values_of, event_words, activity_words};
+ghost use Rattle.dm_input.specs.Asked.{command_of, run_of};
 
 use dm_base::limits::PENALTY;
 use dm_base::read_whole;
@@ -94,8 +94,8 @@ fn next_name(words: &[String]) -> Option<(&str, &[String])>
 
 /// A value that is no text, or stands twice.
 fn given<'a>(option: &str, words: &'a [String]) -> Option<Option<&'a str>>
-    ensures { MatchOption result ((v : Option (List ℕ)) → Gives option.now (map string_bytes words.now) v → ⊥)
-        (λ v. Gives option.now (map string_bytes words.now) (option_map (λ x. x.now) v)) }
+    ensures { MatchOption result ((v : Option (List ℕ)) → GivesOption option.now (map string_bytes words.now) v → ⊥)
+        (λ v. GivesOption option.now (map string_bytes words.now) (option_map (λ x. x.now) v)) }
 {
     let Some((value, rest)) = next_value(option, words) else {
         return Some(None);
@@ -161,23 +161,41 @@ fn columns_of(events: Option<&str>, activities: Option<&str>) -> Option<Columns>
     }
 }
 
-/// What the words of a run name. The names of the files of delays stand in the folder.
+/// What words say of the files of a folder: the folder, and the options that go with the files.
 #[derive(Drop)]
-pub struct RunWords<'a> {
+pub struct FileWords<'a> {
     pub folder: &'a str,
-    pub feed: &'a str,
 
     /// Seconds for each passenger of a missed change, at most `PENALTY`.
     pub penalty: u64,
     pub columns: Columns,
+
+    /// The name of a file of the folder.
     pub event_delays: Option<&'a str>,
+
+    /// The name of a file of the folder.
     pub activity_delays: Option<&'a str>,
+}
+
+/// The words of a run.
+#[derive(Drop)]
+pub struct RunWords<'a> {
+    pub files: FileWords<'a>,
+
+    /// The name of the feed, as it is opened.
+    pub feed: &'a str,
+}
+
+/// What words ask for.
+#[derive(Drop)]
+pub enum CommandWords<'a> {
+    Run(RunWords<'a>),
 }
 
 /// What the words behind `run` ask for.
 fn read_behind(words: &[String]) -> Option<RunWords<'_>>
-    ensures { MatchOption result ((command : Command) → AsksBehind (map string_bytes words.now) command → ⊥)
-        (λ run. AsksBehind (map string_bytes words.now) (command_of run)) }
+    ensures { MatchOption result ((asked : RunAsked) → AsksBehind (map string_bytes words.now) asked → ⊥)
+        (λ run. AsksBehind (map string_bytes words.now) (run_of run)) }
 {
     if !are_known(words) {
         return None;
@@ -206,33 +224,35 @@ fn read_behind(words: &[String]) -> Option<RunWords<'_>>
     let Some(activity_delays) = given(ACTIVITY_DELAYS, words) else {
         return None;
     };
-    Some(RunWords {
+    let files = FileWords {
         folder,
-        feed,
         penalty,
         columns,
         event_delays,
         activity_delays,
-    })
+    };
+    Some(RunWords { files, feed })
 }
 
 /// What a command word and the words behind it ask for.
-fn read_with<'a>(command: &str, rest: &'a [String]) -> Option<RunWords<'a>>
+fn read_with<'a>(command: &str, rest: &'a [String]) -> Option<CommandWords<'a>>
     ensures { MatchOption result (AsksNothing (command.now ∷ map string_bytes rest.now))
-        (λ run. Asks (command.now ∷ map string_bytes rest.now) (command_of run)) }
+        (λ asked. Asks (command.now ∷ map string_bytes rest.now) (command_of asked)) }
 {
-    if command == "run" {
-        read_behind(rest)
-    } else {
-        None
+    if command != "run" {
+        return None;
+    }
+    match read_behind(rest) {
+        Some(run) => Some(CommandWords::Run(run)),
+        None => None,
     }
 }
 
-/// What the words ask for, which are those without the program's name: a run, or nothing where they are in no form.
+/// What the words ask for, which are those without the program's name, or nothing where they are in no form.
 /// A word `--NAME=VALUE` is an option wherever it stands behind the command word.
-pub fn read_words(words: &[String]) -> Option<RunWords<'_>>
+pub fn read_words(words: &[String]) -> Option<CommandWords<'_>>
     ensures { MatchOption result (AsksNothing (map string_bytes words.now))
-        (λ run. Asks (map string_bytes words.now) (command_of run)) }
+        (λ asked. Asks (map string_bytes words.now) (command_of asked)) }
 {
     let Some((command, rest)) = words.split_first() else {
         return None;

@@ -5,7 +5,8 @@ use Rattle.std.proofs.lemmas.Bool.{or_parts, ne_eqb, eqb-true, eq-eqb, or_cases,
 use Rattle.dm_lintim.specs.declared.columns.Column.{Column}
 use Rattle.dm_lintim.specs.declared.columns.Column.TheVariants as col
 use Rattle.dm_lintim.specs.declared.columns.ColumnFault.{ColumnFault}
-use Rattle.dm_lintim.specs.Columns.{AddsColumn, AreColumns, BreaksWord, FirstMissing, HasAll, HasRead, IsNew, IsOnce, NameAll, Names, StopsAtWord, column_number, has_column, is_column, is_known, same_column}
+use Rattle.dm_lintim.specs.Columns.{AreColumns, BreaksWord, FirstMissing, HasAll, IsNew, IsOnce, NameAll, Names, StopsAtWord, column_number, has_column, is_column, is_known, same_column}
+use Rattle.dm_lintim.specs.Inside.Words.{AddsColumn, HasRead}
 
 column_at : ℕ → Column
 column_at n =

@@ -3,8 +3,8 @@ pub mod SplitLemmas
 pub mod ReaderLemmas
 pub mod ColumnLemmas
 pub mod CellLemmas
-pub mod NumberLemmas
 pub mod BoundLemmas
 pub mod RowLemmas
 pub mod LawLemmas
 pub mod WordLemmas
+pub mod ValueLemmas

@@ -7,7 +7,8 @@ use Rattle.csv.specs.Reading.{NextIs, is_bom, ReadRecord, ReadsNext, strip_bom, 
 use Rattle.csv.specs.declared.parser.State.{State}
 use Rattle.csv.specs.declared.reader.Reader.{Reader}
 use Rattle.dm_lintim.specs.Pieces.{has_byte_order_mark, split_records}
-use Rattle.dm_lintim.specs.Split.{IsBetween, SplitsPlainly, TakesFirst, bytes_left, plain_config}
+use Rattle.dm_lintim.specs.Split.{plain_config}
+use Rattle.dm_lintim.specs.Inside.Reader.{IsBetween, SplitsPlainly, TakesFirst, bytes_left}
 use Rattle.dm_lintim.proofs.SplitLemmas.{IsNext, is_next}
 
 marked : (a b c : ℕ) (rest : List ℕ) → has_byte_order_mark (a ∷ b ∷ c ∷ rest) ≡ is_bom a b c

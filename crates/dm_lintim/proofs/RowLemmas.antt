@@ -5,26 +5,27 @@ use Rattle.std.proofs.lemmas.Bool.{cases_Bool}
 use Rattle.std.proofs.lemmas.List.{append-nil}
 use Rattle.dm_lintim.specs.declared.columns.Column.{Column}
 use Rattle.dm_lintim.specs.declared.fault.FileFault.{FileFault}
-use Rattle.dm_lintim.specs.Files.{AddsRow, AreRows, BreaksFile, HasRows, IsFirstFault, IsGood}
-use Rattle.dm_lintim.specs.Pieces.{counted_among, is_passed_over, taken}
+use Rattle.dm_lintim.specs.Files.{AreRows, IsFirstFault, IsGood}
+use Rattle.dm_lintim.specs.Inside.Rows.{AddsRow, BreaksFile, HasRows}
+use Rattle.dm_lintim.specs.Pieces.{counted_among, is_passed_over, cell_of}
 
 counted-append : (xs ys : List (List (List ℕ))) → counted_among (xs ++ ys) ≡ counted_among xs ++ counted_among ys
 counted-append [] ys = refl
 counted-append (x ∷ xs) ys =
     let more = counted-append xs ys in
-    elim (cases_Bool (is_passed_over (map taken x))) [ inl e ↦ rw e more | inr e ↦ rw (e, more) refl ]
+    elim (cases_Bool (is_passed_over (map cell_of x))) [ inl e ↦ rw e more | inr e ↦ rw (e, more) refl ]
 
-counted_passed : (r : List (List ℕ)) (ys : List (List (List ℕ))) → is_passed_over (map taken r) ≡ true → counted_among (r ∷ ys) ≡ counted_among ys
+counted_passed : (r : List (List ℕ)) (ys : List (List (List ℕ))) → is_passed_over (map cell_of r) ≡ true → counted_among (r ∷ ys) ≡ counted_among ys
 counted_passed r ys e = rw e refl
 
-counted_counts : (r : List (List ℕ)) (ys : List (List (List ℕ))) → is_passed_over (map taken r) ≡ false → counted_among (r ∷ ys) ≡ map taken r ∷ counted_among ys
+counted_counts : (r : List (List ℕ)) (ys : List (List (List ℕ))) → is_passed_over (map cell_of r) ≡ false → counted_among (r ∷ ys) ≡ map cell_of r ∷ counted_among ys
 counted_counts r ys e = rw e refl
 
 counted_few : (xs : List (List (List ℕ))) → length (counted_among xs) ≤ length xs
 counted_few [] = omega arith
 counted_few (x ∷ xs) =
     let more = counted_few xs in
-    elim (cases_Bool (is_passed_over (map taken x))) [ inl e ↦ rw e (omega arith) | inr e ↦ rw e (omega arith) ]
+    elim (cases_Bool (is_passed_over (map cell_of x))) [ inl e ↦ rw e (omega arith) | inr e ↦ rw e (omega arith) ]
 
 module _ {R : Type 0} (K : List ℕ → Type 0) (IsRow : List (Option Column) → List (List ℕ) → R → Type 0) (cs : List (Option Column)) where
   rows_push : (rs : List (List (List ℕ))) (xs : List R) (r : List (List ℕ)) (x : R) → AreRows IsRow cs rs xs → IsRow cs r x → AreRows IsRow cs (rs ++ r ∷ []) (xs ++ x ∷ [])
@@ -48,7 +49,7 @@ module _ {R : Type 0} (K : List ℕ → Type 0) (IsRow : List (Option Column) �
 
   -- one record more
   pub rows_more : (all left : List (List (List ℕ))) (r : List (List ℕ)) (xs new : List R)
-      → HasRows K IsRow cs all (r ∷ left) xs → AddsRow K IsRow cs (map taken r) xs new → HasRows K IsRow cs all left new
+      → HasRows K IsRow cs all (r ∷ left) xs → AddsRow K IsRow cs (map cell_of r) xs new → HasRows K IsRow cs all left new
   rows_more all left r xs new has (inl passed) =
       let same : counted_among (has.before ++ r ∷ []) ≡ counted_among has.before =
       counted-append has.before (r ∷ []) ∙ ap (λ (t : List (List (List ℕ))). counted_among has.before ++ t) (counted_passed r [] passed.0) ∙ append-nil (counted_among has.before) in
@@ -59,21 +60,21 @@ module _ {R : Type 0} (K : List ℕ → Type 0) (IsRow : List (Option Column) �
         good = rw same has.good;
       }
   rows_more all left r xs new has (inr (counts, x, row, good, is)) =
-      let more : counted_among (has.before ++ r ∷ []) ≡ counted_among has.before ++ (map taken r ∷ []) =
+      let more : counted_among (has.before ++ r ∷ []) ≡ counted_among has.before ++ (map cell_of r ∷ []) =
       counted-append has.before (r ∷ []) ∙ ap (λ (t : List (List (List ℕ))). counted_among has.before ++ t) (counted_counts r [] counts) in
       record {
         before = has.before ++ r ∷ [];
         records_are = has.records_are ∙ sym (append_assoc has.before (r ∷ []) left);
-        rows_are = rw (more, is) (rows_push (counted_among has.before) xs (map taken r) x has.rows_are row);
-        good = rw more (good_push (counted_among has.before) (map taken r) has.good good);
+        rows_are = rw (more, is) (rows_push (counted_among has.before) xs (map cell_of r) x has.rows_are row);
+        good = rw more (good_push (counted_among has.before) (map cell_of r) has.good good);
       }
 
   -- a record that breaks a rule is the first
   pub first_fault : (all left : List (List (List ℕ))) (r : List (List ℕ)) (xs : List R) (fault : FileFault)
-      → HasRows K IsRow cs all (r ∷ left) xs → BreaksFile K cs (map taken r) (length xs) fault → IsFirstFault K cs (counted_among all) fault
+      → HasRows K IsRow cs all (r ∷ left) xs → BreaksFile K cs (map cell_of r) (length xs) fault → IsFirstFault K cs (counted_among all) fault
   first_fault all left r xs fault has breaks = record {
     before = counted_among has.before;
-    broken = map taken r;
+    broken = map cell_of r;
     after = counted_among left;
     records_are = ap counted_among has.records_are ∙ counted-append has.before (r ∷ left)
         ∙ ap (λ (t : List (List (List ℕ))). counted_among has.before ++ t) (counted_counts r left breaks.counts);

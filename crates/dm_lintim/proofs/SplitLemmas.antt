@@ -7,7 +7,8 @@ use Rattle.csv.specs.Reading.{records, records_from, records_next}
 use Rattle.csv.specs.declared.parser.State.{State}
 use Rattle.csv.specs.declared.parser.State.TheVariants as st
 use Rattle.dm_lintim.specs.Pieces.{ends_line, filled_lines, is_filled, is_semicolon, pieces, split_records}
-use Rattle.dm_lintim.specs.Split.{IsBetween, plain_config}
+use Rattle.dm_lintim.specs.Split.{plain_config}
+use Rattle.dm_lintim.specs.Inside.Reader.{IsBetween}
 use Rattle.dm_lintim.proofs.PieceLemmas.{after_piece, after_piece-short, first_piece, more_pieces, pieces_are}
 
 -- of the lines after the first one, those that are filled

@@ -1,10 +1,11 @@
 -- The columns of a file, and the words that name them.
-use Rattle.std.specs.Prelude.{ℕ, ◌≡◌, ◌<◌, ◌≤◌, ◌==◌, ◌⊎◌, Bool, true, false, List, [], ◌∷◌, ◌++◌, length, map, codes, Option, Some, None, Result, Ok, Err}
+use Rattle.std.specs.Prelude.{ℕ, ◌≡◌, ◌≤◌, ◌==◌, ◌⊎◌, Bool, true, false, List, [], ◌∷◌, ◌++◌, length, map, codes, Option, Some, None, Result, Ok, Err}
 use Rattle.std.specs.List.{list_any}
 use Rattle.dm_lintim.specs.declared.columns.Column.{Column}
 use Rattle.dm_lintim.specs.declared.columns.Column.TheVariants as col
 use Rattle.dm_lintim.specs.declared.columns.ColumnFault.{ColumnFault}
 use Rattle.dm_lintim.specs.declared.columns.ColumnFault.TheVariants as fault
+use Rattle.dm_lintim.specs.declared.layout.TheConstants.{MOST}
 use Rattle.dm_lintim.specs.Pieces.{is_comma, pieces}
 
 -- the word that names a column
@@ -95,29 +96,19 @@ abbrev pub IsOnce : List (Option Column) → Type 0
 IsOnce [] = Unit {0}
 IsOnce (c ∷ cs) = IsNew cs c × IsOnce cs
 
--- the words are good up to here: they stand for these columns, none twice, 16 at most
+-- the words are good up to here: they stand for these columns, none twice, MOST at most
 pub record AreColumns (known : List Column) (words : List (List ℕ)) (columns : List (Option Column)) : Type 0 where
   pub names : NameAll known words columns
   pub once : IsOnce columns
-  pub few : length columns ≤ 16
+  pub few : length columns ≤ MOST
 
 -- how a word breaks a rule where these columns stand before it
 abbrev pub BreaksWord : List Column → List (Option Column) → List ℕ → ColumnFault → Type 0
 BreaksWord known columns word (fault.UnknownColumn place) = (place ≡ length columns) × ((c : Option Column) → Names known word c → ⊥)
 BreaksWord known columns word (fault.DoubleColumn place) =
     (place ≡ length columns) × (c : Column) × Names known word (Some c) × (has_column columns c ≡ true)
-BreaksWord known columns word fault.TooMany = (length columns ≡ 16) × (c : Option Column) × Names known word c × IsNew columns c
+BreaksWord known columns word fault.TooMany = (length columns ≡ MOST) × (c : Option Column) × Names known word c × IsNew columns c
 BreaksWord known columns word (fault.MissingColumn c) = ⊥
-
--- a good word puts its column at the end
-abbrev pub AddsColumn : List Column → List (Option Column) → List ℕ → List (Option Column) → Type 0
-AddsColumn known old word new = (c : Option Column) × Names known word c × IsNew old c × (length old < 16) × (new ≡ old ++ (c ∷ []))
-
--- good words were read, and these are left
-pub record HasRead (known : List Column) (words left : List (List ℕ)) (columns : List (Option Column)) : Type 0 where
-  pub before : List (List ℕ)
-  pub words_are : words ≡ before ++ left
-  pub good : AreColumns known before columns
 
 -- the first of the words that breaks a rule
 pub record StopsAtWord (known : List Column) (words : List (List ℕ)) (why : ColumnFault) : Type 0 where
@@ -147,11 +138,6 @@ FirstMissing columns (c ∷ cs) missing =
 
 abbrev pub words_of : List ℕ → List (List ℕ)
 words_of text = pieces is_comma text
-
--- the words of what is left of a text, none where all were taken
-abbrev pub words_left : Option (List ℕ) → List (List ℕ)
-words_left None = []
-words_left (Some rest) = words_of rest
 
 -- a text of column words, separated by commas, gives these columns
 pub record GivesColumns (known required : List Column) (text : List ℕ) (columns : List (Option Column)) : Type 0 where

@@ -3,6 +3,7 @@ use Rattle.std.specs.Prelude.{ℕ, ◌+◌, ◌≡◌, ◌≢◌, ◌<◌, ◌�
 use Rattle.std.specs.Char.{to_ascii_lowercase}
 use Rattle.std.specs.List.{AllByRecursion}
 use Rattle.dm_base.specs.Numbers.{IsDigits, IsMilliText, milli_value, whole_value}
+use Rattle.dm_base.specs.declared.limits.TheConstants.{BOUND, DELAY, TIME, WEIGHT}
 use Rattle.dm_base.specs.declared.rows.ActKind.{ActKind}
 use Rattle.dm_base.specs.declared.rows.ActKind.TheVariants as act
 use Rattle.dm_base.specs.declared.rows.ActRow.{ActRow}
@@ -12,11 +13,12 @@ use Rattle.dm_base.specs.declared.rows.EventKind.TheVariants as event
 use Rattle.dm_base.specs.declared.rows.EventRow.{EventRow}
 use Rattle.dm_lintim.specs.declared.columns.Column.{Column}
 use Rattle.dm_lintim.specs.declared.columns.Column.TheVariants as col
+use Rattle.dm_lintim.specs.declared.columns.TheConstants.{LARGEST_ID}
 use Rattle.dm_lintim.specs.declared.fault.FileFault.{FileFault}
 use Rattle.dm_lintim.specs.declared.fault.FileKind.{FileKind}
 use Rattle.dm_lintim.specs.declared.fault.FileKind.TheVariants as kind
 use Rattle.dm_lintim.specs.Columns.{is_column}
-use Rattle.dm_lintim.specs.Pieces.{counted_among, counted_records, has_byte_order_mark, is_passed_over}
+use Rattle.dm_lintim.specs.Pieces.{counted_records, has_byte_order_mark}
 
 -- the type words of events and of activities; ASCII letters count in either case
 abbrev pub event_word : EventKind → List ℕ
@@ -41,17 +43,17 @@ IsActivityWord text = (k : ActKind) × IsWord (activity_word k) text
 
 -- the most that a column's number may be; the columns that hold no number are given 0
 abbrev pub largest_of : Column → ℕ
-largest_of col.Id = 4294967295
+largest_of col.Id = LARGEST_ID
 largest_of col.PeriodicId = 0
 largest_of col.Kind = 0
-largest_of col.Time = 1000000000
-largest_of col.Weight = 1000000000
-largest_of col.Stop = 4294967295
-largest_of col.Tail = 4294967295
-largest_of col.Head = 4294967295
-largest_of col.Lower = 1000000
+largest_of col.Time = TIME
+largest_of col.Weight = WEIGHT
+largest_of col.Stop = LARGEST_ID
+largest_of col.Tail = LARGEST_ID
+largest_of col.Head = LARGEST_ID
+largest_of col.Lower = BOUND
 largest_of col.Upper = 0
-largest_of col.Delay = 1000000
+largest_of col.Delay = DELAY
 
 -- a text has a number's form, and its value is not above the largest
 abbrev pub IsNumber : Type 0 → ℕ → ℕ → Type 0
@@ -94,9 +96,6 @@ use_of col.Lower = whole
 use_of col.Upper = passed_over
 use_of col.Delay = whole
 
-abbrev pub HoldsWhole : Column → Type 0
-HoldsWhole column = use_of column ≡ whole
-
 -- a field is one that its column takes; IsKnown says which type words the file has
 abbrev pub TakesBy : Use → (List ℕ → Type 0) → Column → List ℕ → Type 0
 TakesBy whole IsKnown column text = IsNumber (IsDigits text) (whole_value text) (largest_of column)
@@ -125,10 +124,6 @@ IsGood IsKnown [] [] = Unit {0}
 IsGood IsKnown [] (f ∷ fs) = ⊥
 IsGood IsKnown (c ∷ cs) [] = ⊥
 IsGood IsKnown (c ∷ cs) (f ∷ fs) = TakesField IsKnown c f × IsGood IsKnown cs fs
-
--- the same but for the type words
-abbrev pub HasNumbers : List (Option Column) → List (List ℕ) → Type 0
-HasNumbers columns fields = IsGood (λ _. Unit {0}) columns fields
 
 -- the first of the columns whose field is refused
 abbrev pub RefusesFirst : (List ℕ → Type 0) → List (Option Column) → List (List ℕ) → FileKind → Type 0
@@ -193,26 +188,6 @@ AreRows IsRow columns [] [] = Unit {0}
 AreRows IsRow columns [] (x ∷ xs) = ⊥
 AreRows IsRow columns (r ∷ rs) [] = ⊥
 AreRows IsRow columns (r ∷ rs) (x ∷ xs) = IsRow columns r x × AreRows IsRow columns rs xs
-
--- records were read into these rows, and these are left
-pub record HasRows {R : Type 0} (IsKnown : List ℕ → Type 0) (IsRow : List (Option Column) → List (List ℕ) → R → Type 0) (columns : List (Option Column))
-    (records left : List (List (List ℕ))) (rows : List R) : Type 0 where
-  pub before : List (List (List ℕ))
-  pub records_are : records ≡ before ++ left
-  pub rows_are : AreRows IsRow columns (counted_among before) rows
-  pub good : AllByRecursion (IsGood IsKnown columns) (counted_among before)
-
--- a record is passed over, or puts its row at the end
-abbrev pub AddsRow : {R : Type 0} → (List ℕ → Type 0) → (List (Option Column) → List (List ℕ) → R → Type 0) → List (Option Column) → List (List ℕ) → List R → List R → Type 0
-AddsRow {R} IsKnown IsRow columns fields old new =
-    ((is_passed_over fields ≡ true) × (new ≡ old))
-    ⊎ ((is_passed_over fields ≡ false) × (x : R) × IsRow columns fields x × IsGood IsKnown columns fields × (new ≡ old ++ (x ∷ [])))
-
--- a record that counts breaks a rule, where this many rows stand before it
-pub record BreaksFile (IsKnown : List ℕ → Type 0) (columns : List (Option Column)) (fields : List (List ℕ)) (count : ℕ) (fault : FileFault) : Type 0 where
-  pub counts : is_passed_over fields ≡ false
-  pub number : fault.number ≡ count + 1
-  pub breaks : BreaksRecord IsKnown columns fields fault.kind
 
 -- the first of the records that breaks a rule; its number counts from 1
 pub record IsFirstFault (IsKnown : List ℕ → Type 0) (columns : List (Option Column)) (records : List (List (List ℕ))) (fault : FileFault) : Type 0 where

@@ -1,4 +1,4 @@
--- How a file is cut: into lines, a line into fields, and a field into what is taken of it.
+-- How a file is cut: into lines, a line into fields, and what of a field is its cell.
 use Rattle.std.specs.Prelude.{ℕ, ◌-◌, ◌==◌, ◌||◌, ◌&&◌, not, nat_le, Bool, true, false, List, [], ◌∷◌, length, take, drop, map, filter, if◌then◌else◌, slice_index}
 use Rattle.std.specs.List.{prefix_len, suffix_len}
 
@@ -52,22 +52,22 @@ is_quoted text = nat_le 2 (length text) && (slice_index text 0 == 34) && (slice_
 abbrev pub unquoted : List ℕ → List ℕ
 unquoted text = if is_quoted text then take (length text - 2) (drop 1 text) else text
 
--- a field as it is taken: without blanks at its ends, and then without one pair of quotes
-abbrev pub taken : List ℕ → List ℕ
-taken field = unquoted (without_end_blanks (without_front_blanks field))
+-- the cell of a field: the field without blanks at its ends, and then without one pair of quotes
+abbrev pub cell_of : List ℕ → List ℕ
+cell_of field = unquoted (without_end_blanks (without_front_blanks field))
 
--- whether a record, its fields as taken, is passed over: a comment, or one empty field
+-- whether a record of these cells is passed over: a comment, or one empty cell
 abbrev pub is_passed_over : List (List ℕ) → Bool
 is_passed_over [] = false
 is_passed_over ([] ∷ []) = true
 is_passed_over ([] ∷ f ∷ fs) = false
 is_passed_over ((c ∷ cs) ∷ fs) = c == 35
 
--- the records that count among these, each with its fields as taken
+-- the cells of the records that count among these
 abbrev pub counted_among : List (List (List ℕ)) → List (List (List ℕ))
-counted_among records = filter (λ r. not (is_passed_over r)) (map (map taken) records)
+counted_among records = filter (λ r. not (is_passed_over r)) (map (map cell_of) records)
 
--- the records of a file that count, each with its fields as taken
+-- the cells of the records of a file that count
 abbrev pub counted_records : List ℕ → List (List (List ℕ))
 counted_records bytes = counted_among (split_records bytes)
 

@@ -2,15 +2,13 @@
 ghost use Rattle.std.specs.Prelude.{◌≡◌, ◌≤◌, ◌⊎◌, List, Result, Ok, Err, length, IfOk, IfErr, MatchResult, IfSome, IfNone};
 ghost use Rattle.dm_base.specs.declared.rows.ActRow.{ActRow};
 ghost use Rattle.dm_lintim.specs.declared.fault.FileFault.{FileFault};
-ghost use Rattle.dm_lintim.specs.Columns.{HasAll, activity_required};
-ghost use Rattle.dm_lintim.specs.Files.{IsActivityRow, IsActivityWord, IsGood, IsWord, ReadsActivities, activity_word, no_memory, text_under};
-ghost use Rattle.dm_lintim.specs.Split.{taken_fields};
+ghost use Rattle.dm_lintim.specs.Columns.{activity_required};
+ghost use Rattle.dm_lintim.specs.Files.{IsActivityRow, IsActivityWord, IsWord, ReadsActivities, activity_word, no_memory};
 
-use crate::cells::{text_under, weight_under, whole_under};
 use crate::columns::{Column, Columns};
 use crate::fault::FileFault;
 use crate::rows::{Row, read_rows};
-use csv::ByteRecord;
+use crate::values::Values;
 use dm_base::limits::FILE;
 use dm_base::{ActId, ActKind, ActRow, EventId};
 use std::alloc::Global;
@@ -38,37 +36,29 @@ fn activity_kind(text: &[u8]) -> Option<ActKind>
     None
 }
 
-// The kind of a good record.
-fn kind_under(columns: &[Option<Column>], fields: &ByteRecord) -> ActKind
-    requires good { IsGood IsActivityWord columns.now (taken_fields fields.now) }
-    requires columns { HasAll columns.now activity_required }
-    ensures { IsWord (activity_word result) (text_under columns.now (taken_fields fields.now) Column.Kind) }
-{
-    match activity_kind(text_under(columns, fields, Column::Kind)) {
-        Some(kind) => kind,
-        None => unreachable!(),
-    }
-}
-
 impl Row for ActRow {
+    type Kind = ActKind;
+
     ghost is_known = { IsActivityWord };
+
+    ghost names = { λ kind text. IsWord (activity_word kind) text };
 
     ghost is_row = { IsActivityRow };
 
-    ghost has_columns = { λ columns. HasAll columns activity_required };
+    ghost required = { activity_required };
 
-    fn is_type_word(text: &[u8]) -> bool {
-        activity_kind(text).is_some()
+    fn kind(text: &[u8]) -> Option<ActKind> {
+        activity_kind(text)
     }
 
-    fn take(columns: &[Option<Column>], fields: &ByteRecord) -> ActRow {
+    fn make(values: &Values<ActKind>) -> ActRow {
         ActRow {
-            id: ActId(whole_under(columns, fields, Column::Id) as u32),
-            kind: kind_under(columns, fields),
-            tail: EventId(whole_under(columns, fields, Column::Tail) as u32),
-            head: EventId(whole_under(columns, fields, Column::Head) as u32),
-            lower: whole_under(columns, fields, Column::Lower),
-            weight: weight_under(columns, fields),
+            id: ActId(values.number(Column::Id) as u32),
+            kind: values.kind(),
+            tail: EventId(values.number(Column::Tail) as u32),
+            head: EventId(values.number(Column::Head) as u32),
+            lower: values.number(Column::Lower),
+            weight: values.number(Column::Weight),
         }
     }
 }

@@ -59,8 +59,15 @@ pub enum ColumnFault {
     MissingColumn(Column),
 }
 
+/// The largest number of an event, an activity or a stop.
+pub(crate) const LARGEST_ID: u64 = 4_294_967_295;
+
+/// How many columns there are.
+pub(crate) const COLUMNS: usize = 11;
+
 impl Column {
-    ghost use Rattle.dm_lintim.specs.Columns.{column_name, same_column};
+    ghost use Rattle.std.specs.Prelude.{◌<◌};
+    ghost use Rattle.dm_lintim.specs.Columns.{column_name, column_number, same_column};
 
     /// The word that names the column.
     pub fn name(self) -> &'static str
@@ -79,6 +86,14 @@ impl Column {
             Column::Upper => "upper",
             Column::Delay => "delay",
         }
+    }
+
+    /// The column's place among all columns.
+    pub(crate) fn number(self) -> usize
+        ensures number { result ≡ column_number self }
+        ensures within { result < COLUMNS }
+    {
+        self as usize
     }
 
     pub(crate) fn is(self, other: Column) -> bool

@@ -1,14 +1,13 @@
 //! Files of delays, of events or of activities.
-ghost use Rattle.std.specs.Prelude.{◌≡◌, ◌≤◌, ◌⊎◌, List, Result, Ok, Err, length, IfOk, IfErr, MatchResult};
+ghost use Rattle.std.specs.Prelude.{◌≡◌, ◌≤◌, ◌⊎◌, List, [], Result, Ok, Err, length, IfOk, IfErr, MatchResult};
 ghost use Rattle.dm_base.specs.declared.rows.DelayRow.{DelayRow};
 ghost use Rattle.dm_lintim.specs.declared.fault.FileFault.{FileFault};
 ghost use Rattle.dm_lintim.specs.Files.{IsDelayRow, IsNoWord, ReadsDelays, no_memory};
 
-use crate::cells::whole_under;
 use crate::columns::Column;
 use crate::fault::FileFault;
 use crate::rows::{Row, read_rows};
-use csv::ByteRecord;
+use crate::values::Values;
 use dm_base::DelayRow;
 use dm_base::limits::FILE;
 use std::alloc::Global;
@@ -17,20 +16,25 @@ use std::alloc::Global;
 const COLUMNS: [Option<Column>; 2] = [Some(Column::Id), Some(Column::Delay)];
 
 impl Row for DelayRow {
+    // A delay file has no types.
+    type Kind = ();
+
     ghost is_known = { IsNoWord };
 
     ghost is_row = { IsDelayRow };
 
-    ghost has_columns = { λ _. Unit {0} };
+    ghost names = { λ _ _. ⊥ };
 
-    fn is_type_word(_text: &[u8]) -> bool {
-        false
+    ghost required = { [] };
+
+    fn kind(_text: &[u8]) -> Option<()> {
+        None
     }
 
-    fn take(columns: &[Option<Column>], fields: &ByteRecord) -> DelayRow {
+    fn make(values: &Values<()>) -> DelayRow {
         DelayRow {
-            id: whole_under(columns, fields, Column::Id) as u32,
-            delay: whole_under(columns, fields, Column::Delay),
+            id: values.number(Column::Id) as u32,
+            delay: values.number(Column::Delay),
         }
     }
 }

@@ -2,15 +2,13 @@
 ghost use Rattle.std.specs.Prelude.{◌≡◌, ◌≤◌, ◌⊎◌, List, Result, Ok, Err, length, IfOk, IfErr, MatchResult, IfSome, IfNone};
 ghost use Rattle.dm_base.specs.declared.rows.EventRow.{EventRow};
 ghost use Rattle.dm_lintim.specs.declared.fault.FileFault.{FileFault};
-ghost use Rattle.dm_lintim.specs.Columns.{HasAll, event_required};
-ghost use Rattle.dm_lintim.specs.Files.{IsEventRow, IsEventWord, IsGood, IsWord, ReadsEvents, event_word, no_memory, text_under};
-ghost use Rattle.dm_lintim.specs.Split.{taken_fields};
+ghost use Rattle.dm_lintim.specs.Columns.{event_required};
+ghost use Rattle.dm_lintim.specs.Files.{IsEventRow, IsEventWord, IsWord, ReadsEvents, event_word, no_memory};
 
-use crate::cells::{text_under, weight_under, whole_under};
 use crate::columns::{Column, Columns};
 use crate::fault::FileFault;
 use crate::rows::{Row, read_rows};
-use csv::ByteRecord;
+use crate::values::Values;
 use dm_base::limits::FILE;
 use dm_base::{EventId, EventKind, EventRow, StopId};
 use std::alloc::Global;
@@ -29,36 +27,28 @@ fn event_kind(text: &[u8]) -> Option<EventKind>
     None
 }
 
-// The kind of a good record.
-fn kind_under(columns: &[Option<Column>], fields: &ByteRecord) -> EventKind
-    requires good { IsGood IsEventWord columns.now (taken_fields fields.now) }
-    requires columns { HasAll columns.now event_required }
-    ensures { IsWord (event_word result) (text_under columns.now (taken_fields fields.now) Column.Kind) }
-{
-    match event_kind(text_under(columns, fields, Column::Kind)) {
-        Some(kind) => kind,
-        None => unreachable!(),
-    }
-}
-
 impl Row for EventRow {
+    type Kind = EventKind;
+
     ghost is_known = { IsEventWord };
+
+    ghost names = { λ kind text. IsWord (event_word kind) text };
 
     ghost is_row = { IsEventRow };
 
-    ghost has_columns = { λ columns. HasAll columns event_required };
+    ghost required = { event_required };
 
-    fn is_type_word(text: &[u8]) -> bool {
-        event_kind(text).is_some()
+    fn kind(text: &[u8]) -> Option<EventKind> {
+        event_kind(text)
     }
 
-    fn take(columns: &[Option<Column>], fields: &ByteRecord) -> EventRow {
+    fn make(values: &Values<EventKind>) -> EventRow {
         EventRow {
-            id: EventId(whole_under(columns, fields, Column::Id) as u32),
-            kind: kind_under(columns, fields),
-            time: whole_under(columns, fields, Column::Time),
-            weight: weight_under(columns, fields),
-            stop: StopId(whole_under(columns, fields, Column::Stop) as u32),
+            id: EventId(values.number(Column::Id) as u32),
+            kind: values.kind(),
+            time: values.number(Column::Time),
+            weight: values.number(Column::Weight),
+            stop: StopId(values.number(Column::Stop) as u32),
         }
     }
 }

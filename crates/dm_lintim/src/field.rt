@@ -1,7 +1,7 @@
-//! What is taken of a field: the part without blanks at its ends and without one pair of quotes.
+//! The cell of a field: the part without blanks at its ends and without one pair of quotes.
 ghost use Rattle.std.specs.Prelude.{◌≡◌, ◌-◌, ◌+◌, ◌≤◌, length};
 ghost use Rattle.std.specs.List.{prefix_len, suffix_len};
-ghost use Rattle.dm_lintim.specs.Pieces.{is_blank, taken, unquoted, without_front_blanks, without_end_blanks};
+ghost use Rattle.dm_lintim.specs.Pieces.{is_blank, cell_of, unquoted, without_front_blanks, without_end_blanks};
 
 fn is_blank(byte: u8) -> bool
     ensures { result ≡ is_blank byte }
@@ -55,9 +55,9 @@ fn unquoted(text: &[u8]) -> &[u8]
     }
 }
 
-/// The field as it is taken.
-pub(crate) fn taken(field: &[u8]) -> &[u8]
-    ensures { result.now ≡ taken field.now }
+/// The cell of a field.
+pub(crate) fn cell_of(field: &[u8]) -> &[u8]
+    ensures { result.now ≡ cell_of field.now }
 {
     unquoted(trim_end(trim_front(field)))
 }

@@ -11,19 +11,20 @@ pub(crate) const MOST: usize = 16;
 /// The columns of a file, with `None` for one that is passed over. It takes no memory.
 #[derive(Debug, Drop)]
 pub(crate) struct Layout {
-    columns: [Option<Column>; 16],
+    columns: [Option<Column>; MOST],
     count: usize,
 }
 
 impl Model for Layout {
     ghost use Rattle.std.specs.Prelude.{List, Option, take, ◌≤◌};
     ghost use Rattle.dm_lintim.specs.declared.columns.Column.{Column};
+    ghost use Rattle.dm_lintim.specs.declared.layout.TheConstants.{MOST};
 
     ghost Value = { List (Option Column) };
 
     ghost view = { λ a. take a.count a.columns };
 
-    ghost invariant = { λ a. a.count ≤ 16 };
+    ghost invariant = { λ a. a.count ≤ MOST };
 }
 
 impl Layout {
@@ -31,14 +32,14 @@ impl Layout {
         ensures { result ≡ [] }
     {
         Layout {
-            columns: [None; 16],
+            columns: [None; MOST],
             count: 0,
         }
     }
 
     /// The layout of these columns, none of them passed over.
     pub(crate) fn of(columns: &[Column]) -> Layout
-        requires { length columns.now ≤ 16 }
+        requires { length columns.now ≤ MOST }
         ensures { result ≡ map Some columns.now }
     {
         let mut layout = Layout::new();
@@ -61,7 +62,7 @@ impl Layout {
     }
 
     pub(crate) fn push(&mut self, column: Option<Column>)
-        requires { length self.old < 16 }
+        requires { length self.old < MOST }
         ensures { self.new ≡ self.old ++ column ∷ [] }
     {
         self.columns[self.count] = column;

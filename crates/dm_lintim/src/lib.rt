@@ -18,6 +18,7 @@ pub mod laws;
 mod layout;
 mod records;
 mod rows;
+mod values;
 mod words;
 
 pub use activities::read_activities;

@@ -1,7 +1,7 @@
 //! The records of a file, one after the other.
 ghost use Rattle.std.specs.Prelude.{◌≡◌, ◌∷◌, [], IfOk, MatchBool, false};
 ghost use Rattle.csv.specs.Records.{fields_of};
-ghost use Rattle.dm_lintim.specs.Split.{SplitsPlainly, TakesFirst};
+ghost use Rattle.dm_lintim.specs.Inside.Reader.{SplitsPlainly, TakesFirst};
 ghost use Rattle.dm_lintim.specs.Pieces.{has_byte_order_mark, split_records};
 
 use csv::{ByteRecord, Reader, ReaderBuilder};
@@ -33,7 +33,7 @@ impl<'a> Model for Records<'a> {
 
     ghost Value = { List (List (List ℕ)) };
 
-    ghost use Rattle.dm_lintim.specs.Records.{IsSplitting, records_left};
+    ghost use Rattle.dm_lintim.specs.Inside.Reader.{IsSplitting, records_left};
 
     ghost view = { records_left };
 

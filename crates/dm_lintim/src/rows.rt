@@ -1,42 +1,80 @@
 //! The rows of a file, whatever its kind, or the first record that breaks a rule.
-ghost use Rattle.std.specs.Prelude.{ℕ, ◌≡◌, ◌≤◌, ◌<◌, ◌+◌, ◌^◌, ◌⊎◌, List, Option, Result, Ok, Err, [], ◌∷◌, ◌++◌, false, length, OnOk, IfOk, IfErr, MatchBool};
+ghost use Rattle.std.specs.Prelude.{ℕ, ◌≡◌, ◌≤◌, ◌<◌, ◌+◌, ◌^◌, ◌⊎◌, List, Option, Result, Ok, Err, [], ◌∷◌, ◌++◌, false, length, OnOk, IfOk, IfErr, IfSome, IfNone};
 ghost use Rattle.csv.specs.Records.{fields_of};
 ghost use Rattle.dm_lintim.specs.declared.columns.Column.{Column};
-ghost use Rattle.dm_lintim.specs.Files.{AddsRow, BreaksFile, BreaksRecord, RefusesFirst, HasNumbers, IsGood, ReadsFile, RefusesField, TakesField, no_memory};
+ghost use Rattle.dm_lintim.specs.Columns.{HasAll};
+ghost use Rattle.dm_lintim.specs.Files.{BreaksRecord, RefusesFirst, IsGood, ReadsFile, RefusesField, TakesField, no_memory};
+ghost use Rattle.dm_lintim.specs.Inside.Rows.{AddsRow, BreaksFile};
+ghost use Rattle.dm_lintim.specs.Inside.Values.{AreValuesOf, AreWithin, HasKind, PutsCell};
 ghost use Rattle.dm_lintim.specs.Pieces.{has_byte_order_mark};
-ghost use Rattle.dm_lintim.specs.Split.{taken_fields};
+ghost use Rattle.dm_lintim.specs.Inside.Reader.{cells_of};
 
-use crate::cells::{is_passed_over, taken_field, test_milli, test_whole};
+use crate::cells::{cell_at, is_passed_over, milli_under, whole_under};
 use crate::columns::Column;
 use crate::fault::{FileFault, FileKind};
 use crate::records::Records;
+use crate::values::Values;
 use csv::ByteRecord;
 use dm_base::limits::FILE;
 use std::alloc::Global;
 
 /// A row of one kind of file.
 pub(crate) trait Row: Drop {
+    /// What a type word of the file names.
+    type Kind: Copy + Drop;
+
     // A type word of the file.
     ghost is_known: { List ℕ → Type 0 };
 
-    // The row that a record gives, its fields as taken, under the columns of the file.
+    // A kind and a type word that names it.
+    ghost names: { Self.Kind → List ℕ → Type 0 };
+
+    // The row that the cells of a record give under the columns of the file.
     ghost is_row: { List (Option Column) → List (List ℕ) → Self → Type 0 };
 
     // The columns that each record must have.
-    ghost has_columns: { List (Option Column) → Type 0 };
+    ghost required: { List Column };
 
-    fn is_type_word(text: &[u8]) -> bool
-        ensures { MatchBool result (is_known text.now) (is_known text.now → ⊥) };
+    /// The kind that a type word names.
+    fn kind(text: &[u8]) -> Option<Self::Kind>
+        ensures found { IfSome result (λ kind. names kind text.now × is_known text.now) }
+        ensures none { IfNone result (is_known text.now → ⊥) };
 
-    fn take(columns: &[Option<Column>], fields: &ByteRecord) -> Self
-        requires good { IsGood is_known columns.now (taken_fields fields.now) }
-        requires numbers { HasNumbers columns.now (taken_fields fields.now) }
-        requires columns { has_columns columns.now }
-        ensures { is_row columns.now (taken_fields fields.now) result };
+    /// The row of a good record with these values.
+    fn make(values: &Values<Self::Kind>) -> Self
+        requires within { AreWithin values.now.numbers }
+        requires kind { HasKind required values.now.kind }
+        ensures { (columns : List (Option Column)) (fields : List (List ℕ)) → IsGood is_known columns fields
+            → AreValuesOf names values.now.numbers values.now.kind columns fields → is_row columns fields result };
 }
 
-fn test_field<R: Row>(column: Option<Column>, text: &[u8]) -> Result<(), FileKind>
+// Reads the type of a record.
+fn read_kind<R: Row>(values: &mut Values<R::Kind>, text: &[u8]) -> Result<(), FileKind>
+    requires { AreWithin values.old.numbers }
+    ensures takes { OnOk result (TakesField R.is_known (Some Column.Kind) text.now) }
+    ensures puts { OnOk result (PutsCell R.names (Some Column.Kind) text.now values.old.numbers values.old.kind values.new.numbers values.new.kind) }
+    ensures within { OnOk result (AreWithin values.new.numbers) }
+    ensures refuses { IfErr result (RefusesField R.is_known (Some Column.Kind) text.now) }
+{
+    match R::kind(text) {
+        Some(kind) => {
+            values.put_kind(kind);
+            Ok(())
+        }
+        None => Err(FileKind::UnknownType),
+    }
+}
+
+// Reads a cell under a column.
+fn read_cell<R: Row>(
+    values: &mut Values<R::Kind>,
+    column: Option<Column>,
+    text: &[u8],
+) -> Result<(), FileKind>
+    requires { AreWithin values.old.numbers }
     ensures takes { OnOk result (TakesField R.is_known column text.now) }
+    ensures puts { OnOk result (PutsCell R.names column text.now values.old.numbers values.old.kind values.new.numbers values.new.kind) }
+    ensures within { OnOk result (AreWithin values.new.numbers) }
     ensures refuses { IfErr result (RefusesField R.is_known column text.now) }
 {
     let Some(column) = column else {
@@ -44,50 +82,58 @@ fn test_field<R: Row>(column: Option<Column>, text: &[u8]) -> Result<(), FileKin
     };
     match column {
         Column::PeriodicId | Column::Upper => Ok(()),
-        Column::Kind => {
-            if R::is_type_word(text) {
-                Ok(())
-            } else {
-                Err(FileKind::UnknownType)
-            }
+        Column::Kind => read_kind::<R>(values, text),
+        Column::Weight => {
+            let number = milli_under(column, text)?;
+            values.put(column, number);
+            Ok(())
         }
-        Column::Weight => test_milli(column, text),
         Column::Id
         | Column::Time
         | Column::Stop
         | Column::Tail
         | Column::Head
         | Column::Lower
-        | Column::Delay => test_whole(column, text),
+        | Column::Delay => {
+            let number = whole_under(column, text)?;
+            values.put(column, number);
+            Ok(())
+        }
     }
 }
 
-// Tests the fields of a record under each column.
-fn test_fields<R: Row>(columns: &[Option<Column>], fields: &ByteRecord) -> Result<(), FileKind>
-    requires { length (taken_fields fields.now) ≡ length columns.now }
-    ensures good { OnOk result (IsGood R.is_known columns.now (taken_fields fields.now)) }
-    ensures refuses { IfErr result (RefusesFirst R.is_known columns.now (taken_fields fields.now)) }
+// The values of a record, its cells read in the order of the columns.
+fn read_cells<R: Row>(
+    columns: &[Option<Column>],
+    fields: &ByteRecord,
+) -> Result<Values<R::Kind>, FileKind>
+    requires { length (cells_of fields.now) ≡ length columns.now }
+    ensures good { OnOk result (IsGood R.is_known columns.now (cells_of fields.now)) }
+    ensures values { IfOk result (λ v. AreValuesOf R.names v.numbers v.kind columns.now (cells_of fields.now)) }
+    ensures within { IfOk result (λ v. AreWithin v.numbers) }
+    ensures refuses { IfErr result (RefusesFirst R.is_known columns.now (cells_of fields.now)) }
 {
+    let mut values = Values::new();
     for (place, column) in columns.iter().enumerate() {
-        test_field::<R>(*column, taken_field(fields, place))?;
+        read_cell::<R>(&mut values, *column, cell_at(fields, place))?;
     }
-    Ok(())
+    Ok(values)
 }
 
 // The row of a record.
 fn read_row<R: Row>(columns: &[Option<Column>], fields: &ByteRecord) -> Result<R, FileKind>
-    requires columns { R.has_columns columns.now }
+    requires columns { HasAll columns.now R.required }
     requires few { length (fields_of fields.now) < 2 ^ 32 }
-    ensures row { IfOk result (R.is_row columns.now (taken_fields fields.now)) }
-    ensures good { OnOk result (IsGood R.is_known columns.now (taken_fields fields.now)) }
-    ensures breaks { IfErr result (BreaksRecord R.is_known columns.now (taken_fields fields.now)) }
+    ensures row { IfOk result (R.is_row columns.now (cells_of fields.now)) }
+    ensures good { OnOk result (IsGood R.is_known columns.now (cells_of fields.now)) }
+    ensures breaks { IfErr result (BreaksRecord R.is_known columns.now (cells_of fields.now)) }
 {
     let found = fields.len();
     if found != columns.len() {
         return Err(FileKind::FieldCount(found as u32));
     }
-    test_fields::<R>(columns, fields)?;
-    Ok(R::take(columns, fields))
+    let values = read_cells::<R>(columns, fields)?;
+    Ok(R::make(&values))
 }
 
 fn push_row<R: Drop>(rows: &mut Vec<R>, row: R) -> Result<(), FileFault>
@@ -106,12 +152,12 @@ fn add_record<R: Row>(
     fields: &ByteRecord,
     rows: &mut Vec<R>,
 ) -> Result<(), FileFault>
-    requires columns { R.has_columns columns.now }
+    requires columns { HasAll columns.now R.required }
     requires few { length (fields_of fields.now) < 2 ^ 32 }
     requires room { length rows.old.items + 1 < 2 ^ 32 }
-    ensures adds { OnOk result (AddsRow R.is_known R.is_row columns.now (taken_fields fields.now) rows.old.items rows.new.items) }
+    ensures adds { OnOk result (AddsRow R.is_known R.is_row columns.now (cells_of fields.now) rows.old.items rows.new.items) }
     ensures breaks { IfErr result (λ fault. (fault ≡ no_memory)
-        ⊎ BreaksFile R.is_known columns.now (taken_fields fields.now) (length rows.old.items) fault) }
+        ⊎ BreaksFile R.is_known columns.now (cells_of fields.now) (length rows.old.items) fault) }
 {
     if is_passed_over(fields) {
         return Ok(());
@@ -130,7 +176,7 @@ fn read_records<R: Row>(
     columns: &[Option<Column>],
 ) -> Result<Vec<R>, FileFault>
     requires size { length bytes.now ≤ FILE }
-    requires columns { R.has_columns columns.now }
+    requires columns { HasAll columns.now R.required }
     requires no_mark { has_byte_order_mark bytes.now ≡ false }
     ensures rows { IfOk result (λ v. ReadsFile R.is_known R.is_row columns.now bytes.now (Ok v.items)) }
     ensures fault { IfErr result (λ fault. (fault ≡ no_memory) ⊎ ReadsFile R.is_known R.is_row columns.now bytes.now (Err fault)) }
@@ -157,7 +203,7 @@ pub(crate) fn read_rows<R: Row>(
     columns: &[Option<Column>],
 ) -> Result<Vec<R>, FileFault>
     requires size { length bytes.now ≤ FILE }
-    requires columns { R.has_columns columns.now }
+    requires columns { HasAll columns.now R.required }
     ensures rows { IfOk result (λ v. ReadsFile R.is_known R.is_row columns.now bytes.now (Ok v.items)) }
     ensures fault { IfErr result (λ fault. (fault ≡ no_memory) ⊎ ReadsFile R.is_known R.is_row columns.now bytes.now (Err fault)) }
 {

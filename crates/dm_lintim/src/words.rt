@@ -1,6 +1,7 @@
 //! A text of column words, separated by commas, read as the columns that the words name.
 ghost use Rattle.std.specs.Prelude.{ℕ, ◌≡◌, ◌≤◌, ◌∷◌, length, Option, Some, IfSome, IfNone, OnOk, IfOk, IfErr, MatchBool, MatchOption, option_map, true};
-ghost use Rattle.dm_lintim.specs.Columns.{AddsColumn, AreColumns, BreaksWord, FirstMissing, HasAll, IsNew, Names, ReadsColumns, StopsAtWord, has_column, words_left, words_of};
+ghost use Rattle.dm_lintim.specs.Columns.{AreColumns, BreaksWord, FirstMissing, HasAll, IsNew, Names, ReadsColumns, StopsAtWord, has_column, words_of};
+ghost use Rattle.dm_lintim.specs.Inside.Words.{AddsColumn, words_left};
 ghost use Rattle.dm_lintim.specs.declared.columns.Column.{Column};
 
 use crate::columns::{Column, ColumnFault};
@@ -44,7 +45,7 @@ fn stands_already(layout: &Layout, column: Option<Column>) -> bool
 
 // Puts the column of a word at the end.
 fn add_word(known: &[Column], layout: &mut Layout, word: &[u8]) -> Result<(), ColumnFault>
-    requires { length layout.old ≤ 16 }
+    requires { length layout.old ≤ MOST }
     ensures adds { OnOk result (AddsColumn known.now layout.old word.now layout.new) }
     ensures breaks { IfErr result (BreaksWord known.now layout.old word.now) }
 {

@@ -1,23 +1,23 @@
 -- Events by stop, and what binds at the start.
-use Rattle.std.proofs.Common.{◌≡◌, ◌≢◌, ℕ, zero, suc, ◌+◌, ◌<◌, ◌≤◌, ◌&&◌, Bool, true, false, cond, not, eqb, ltb, List, [], ◌∷◌, ◌++◌, length, map, filter, take, get_or, refl, sym, ap, ◌∙◌, subst, inl, inr, arith, Some, None, Option, IsPermutation}
+use Rattle.std.proofs.Common.{◌≡◌, ℕ, zero, suc, ◌+◌, ◌<◌, Bool, eqb, List, [], ◌∷◌, ◌++◌, length, map, filter, get_or, refl, sym, ap, ◌∙◌, subst, inl, inr, arith, Some, None, Option}
 use Rattle.std.specs.List.{All, range_with_len}
 use Rattle.std.specs.List.Sorted.{IsNonDecreasing, ties}
 use Rattle.std.specs.Ordering.{nat_cmp, is_lt}
 use Rattle.std.proofs.lemmas.Bool.{cases_order, cases_Bool, lt-ltb, le-ltb, eq-eqb, ne_eqb}
-use Rattle.std.proofs.lemmas.List.{map_more, length-map}
+use Rattle.std.proofs.lemmas.List.{length-map}
 use Rattle.std.proofs.lemmas.List.Sorted.{All-permutation}
 use Rattle.std.proofs.lemmas.List.FromFn.{map-range_with_len_more}
 use Rattle.std.proofs.lemmas.List.Elements.{All-map, All-head, All-tail, filter_agree}
 use Rattle.dm_base.specs.declared.ids.StopId.{StopId}
 use Rattle.dm_network.specs.declared.parts.Event.{Event}
 use Rattle.dm_network.specs.declared.arrays.Standing.{Standing}
-use Rattle.dm_network.specs.Net.{Net, no_event, no_activity, activity_at, places_into, places_out_of}
+use Rattle.dm_network.specs.Net.{Net, no_event, no_activity, activity_at}
 use Rattle.dm_network.specs.Start.{binds_at_start, is_start_active}
-use Rattle.dm_network.specs.Stages.{standing_at, AreSortedByStop, AreStopsOf, StandBeside, net_with}
+use Rattle.dm_network.specs.Inside.Stages.{standing_at, AreSortedByStop, AreStopsOf, StandBeside, net_with}
 use Rattle.dm_network.specs.declared.parts.Pair.{Pair}
 use Rattle.dm_network.specs.declared.arrays.Arrays.{Arrays}
 use Rattle.dm_network.specs.declared.parts.Activity.{Activity}
-use Rattle.dm_network.specs.Flat.{AreFlatRows, row_of}
+use Rattle.dm_network.specs.Inside.Flat.{AreFlatRows, row_of}
 
 -- the order of the sort ties exactly what has one stop
 ties_are_one_stop : (stop : ℕ) (s : Standing) →

@@ -1,10 +1,9 @@
 -- Events and activities in order, from records of which none stands twice.
-use Rattle.std.proofs.Common.{◌≡◌, ◌≢◌, ℕ, zero, suc, ◌+◌, ◌-◌, ◌<◌, ◌≤◌, ◌⊎◌, Bool, true, false, List, [], ◌∷◌, length, map, get_or, refl, sym, ap, ◌∙◌, subst, inl, inr, arith, Some, None, Option, slice_get, IsPermutation, Contains}
-use Rattle.std.specs.List.{All}
-use Rattle.std.specs.List.Sorted.{IsNonDecreasing, IsStrictlyIncreasing}
-use Rattle.std.proofs.lemmas.Bool.{cases_eq, cases_lt}
-use Rattle.std.proofs.lemmas.Option.{slice_get_within, slice_get-get_or, get_or_from_slice_get}
-use Rattle.std.proofs.lemmas.List.{get_or-map, length-map, get_or_default}
+use Rattle.std.proofs.Common.{◌≡◌, ℕ, ◌<◌, List, [], ◌∷◌, length, map, get_or, refl, sym, ap, ◌∙◌, subst, inl, inr, arith, Some, slice_get, IsPermutation, Contains}
+use Rattle.std.specs.List.Sorted.{IsNonDecreasing}
+use Rattle.std.proofs.lemmas.Bool.{cases_lt}
+use Rattle.std.proofs.lemmas.Option.{slice_get-get_or}
+use Rattle.std.proofs.lemmas.List.{get_or-map, length-map}
 use Rattle.std.proofs.lemmas.List.Elements.{Contains-get_or}
 use Rattle.std.proofs.lemmas.List.Sorted.{IsPermutation-map, IsPermutation-sym, Contains-permutation, All-permutation}
 use Rattle.dm_base.specs.declared.rows.EventRow.{EventRow}
@@ -13,9 +12,8 @@ use Rattle.dm_network.specs.declared.parts.Event.{Event}
 use Rattle.dm_network.specs.declared.parts.Activity.{Activity}
 use Rattle.dm_network.specs.declared.parts.NetFault.{NetFault}
 use Rattle.dm_network.specs.declared.parts.NetFault.TheVariants.{TooMany, DoubleEvent, DoubleActivity, UnknownEvent, ZeroHeadway, Cycle, OutOfMemory}
-use Rattle.dm_network.specs.Net.{is_headway, no_activity}
-use Rattle.dm_network.specs.Build.{event_row, event_ids, activity_ids, NoneStandsTwice, IsZeroHeadway, HoldsOfNone, NamesNoEvent}
-use Rattle.dm_network.specs.Stages.{row_with, HasEnds, AreResolved, AreEventsOf, AreActivitiesOf, IsApart, RefusesEnds, RefusesActivities}
+use Rattle.dm_network.specs.Build.{event_row, event_ids, activity_ids, NoneStandsTwice, IsZeroHeadway, HoldsOfNone}
+use Rattle.dm_network.specs.Inside.Stages.{row_with, HasEnds, AreResolved, AreEventsOf, AreActivitiesOf, RefusesEnds, RefusesActivities}
 use Rattle.dm_network.proofs.Keys.{distinct_rises}
 use Rattle.dm_network.proofs.Doubles.{NoneStandsTwice-permutation}
 

@@ -7,5 +7,6 @@ pub mod Resolving
 pub mod TwoWay
 pub mod Formation
 pub mod Arraying
+pub mod Flagged
 pub mod Starting
 pub mod Making

@@ -1,29 +1,26 @@
 -- The network of sorted events, of activities with their pairs, and of pairs.
-use Rattle.std.proofs.Common.{◌≡◌, ◌≢◌, ℕ, zero, suc, ◌+◌, ◌<◌, ◌≤◌, ◌⊎◌, ◌↔◌, Bool, true, false, cond, List, [], ◌∷◌, length, map, get_or, refl, sym, ap, ◌∙◌, subst, inl, inr, arith, Some, None, Option, IsSome, slice_get, position, IsPermutation, Contains}
-use Rattle.std.specs.List.{All}
+use Rattle.std.proofs.Common.{◌≡◌, ℕ, ◌<◌, ◌≤◌, true, List, [], ◌∷◌, length, map, get_or, refl, sym, ap, ◌∙◌, subst, inl, inr, arith, Some, None, Option, IsSome, slice_get, IsPermutation, Contains}
 use Rattle.std.specs.List.Sorted.{IsStrictlyIncreasing}
 use Rattle.std.proofs.lemmas.Bool.{cases_order, cases_lt}
 use Rattle.std.proofs.lemmas.Option.{slice_get_within, slice_get-get_or, get_or_from_slice_get}
-use Rattle.std.proofs.lemmas.List.{get_or-map, length-map, get_or_default, get_or_past}
+use Rattle.std.proofs.lemmas.List.{get_or-map, length-map, get_or_past}
 use Rattle.std.proofs.lemmas.List.Elements.{Contains-get_or}
 use Rattle.std.proofs.lemmas.List.Quantifiers.{position-Some}
 use Rattle.std.proofs.lemmas.List.Sorted.{IsPermutation-sym, Contains-permutation, length_permutation}
 use Rattle.dm_base.specs.declared.ids.EventId.{EventId}
-use Rattle.dm_base.specs.declared.ids.ActId.{ActId}
 use Rattle.dm_base.specs.declared.rows.EventRow.{EventRow}
 use Rattle.dm_base.specs.declared.rows.ActRow.{ActRow}
-use Rattle.dm_base.specs.declared.limits.TheConstants.{EVENTS, ACTIVITIES, TIME, BOUND, WEIGHT}
+use Rattle.dm_base.specs.declared.limits.TheConstants.{TIME, BOUND, WEIGHT}
 use Rattle.dm_network.specs.declared.parts.Event.{Event}
 use Rattle.dm_network.specs.declared.parts.Activity.{Activity}
 use Rattle.dm_network.specs.declared.parts.Pair.{Pair}
 use Rattle.dm_network.specs.declared.parts.NetFault.{NetFault}
 use Rattle.dm_network.specs.declared.parts.NetFault.TheVariants.{TooMany, DoubleEvent, DoubleActivity, UnknownEvent, ZeroHeadway, Cycle, OutOfMemory}
-use Rattle.dm_network.specs.Net.{Net, no_event, no_activity, no_pair, event_at, activity_at, pair_at, is_headway, IsWithinLimits}
+use Rattle.dm_network.specs.Net.{Net, no_event, no_activity, no_pair, is_headway, IsWithinLimits}
 use Rattle.dm_network.specs.Pairs.{joins, pair_place, own_pair, IsHeadwayFrom, FormPair, IsPaired}
-use Rattle.dm_network.specs.Build.{AreWithinLimits, AreFew, IsMadeOf, event_row, activity_row, event_ids, activity_ids, IsNoEvent, NamesNoEvent, IsFirst, IsZeroHeadway, HoldsOfNone, NoneStandsTwice, RefusesRecords}
-use Rattle.dm_network.specs.Start.{IsFormed}
-use Rattle.dm_network.specs.Flat.{ArePairsInOrder}
-use Rattle.dm_network.specs.Stages.{row_with, net_with, with_pair, HasHeadway, IsHeadwayAmong, AreTwoWay, AreEventsOf, AreActivitiesOf, RefusesActivities}
+use Rattle.dm_network.specs.Build.{AreWithinLimits, AreFew, IsMadeOf, event_row, activity_row, IsNoEvent, NamesNoEvent, RefusesRecords}
+use Rattle.dm_network.specs.Inside.Flat.{ArePairsInOrder}
+use Rattle.dm_network.specs.Inside.Stages.{row_with, net_with, with_pair, HasHeadway, IsHeadwayAmong, AreTwoWay, AreEventsOf, AreActivitiesOf, RefusesActivities}
 use Rattle.dm_network.proofs.PairKeys.{joins-true, joins-from}
 use Rattle.dm_network.proofs.Resolving.{position_is_some}
 

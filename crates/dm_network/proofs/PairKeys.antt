@@ -1,14 +1,14 @@
 -- Look-ups of pairs by their two events.
-use Rattle.std.proofs.Common.{◌≡◌, ◌≢◌, ℕ, ◌+◌, ◌<◌, ◌≤◌, ◌⊎◌, Bool, true, false, cond, eqb, ltb, ◌&&◌, ◌||◌, List, length, get_or, refl, sym, ap, ◌∙◌, subst, inl, inr, arith, Some, None, position}
-use Rattle.std.specs.List.{AllWithin, position_or_len}
+use Rattle.std.proofs.Common.{◌≡◌, ℕ, ◌<◌, ◌≤◌, ◌⊎◌, Bool, true, false, eqb, ltb, ◌&&◌, List, length, get_or, sym, ◌∙◌, subst, inl, inr, arith, Some, None, position}
+use Rattle.std.specs.List.{position_or_len}
 use Rattle.std.specs.List.Sorted.{IsPartitionPoint, IsPartitionedBy}
-use Rattle.std.proofs.lemmas.Bool.{cases_order, cases_eq, ltb-true, ltb-false, eqb-true, ne_eqb, eq-eqb, lt-ltb, le-ltb, or_cases, or_left, or_right, and_parts, and_from, false_from_ne_true}
+use Rattle.std.proofs.lemmas.Bool.{cases_order, cases_eq, ltb-true, eqb-true, eq-eqb, lt-ltb, le-ltb, or_cases, or_left, or_right, and_parts, and_from, false_from_ne_true}
 use Rattle.std.proofs.lemmas.List.{get_or_default}
 use Rattle.std.proofs.lemmas.List.Sums.{position_or_len_is}
 use Rattle.dm_network.specs.declared.parts.Pair.{Pair}
 use Rattle.dm_network.specs.Net.{no_pair}
 use Rattle.dm_network.specs.Pairs.{joins, ComesBefore}
-use Rattle.dm_network.specs.Flat.{ArePairsInOrder, stands_before}
+use Rattle.dm_network.specs.Inside.Flat.{ArePairsInOrder, stands_before}
 
 -- the test that stands_before makes
 pub stands_before-true : (p : Pair) (small large : ℕ) → stands_before p small large ≡ true → (p.small < small) ⊎ ((p.small ≡ small) × (p.large < large))

@@ -1,13 +1,13 @@
 -- Activities from records, one after the other.
-use Rattle.std.proofs.Common.{◌≡◌, ◌≢◌, ℕ, zero, suc, ◌+◌, ◌-◌, ◌<◌, ◌≤◌, ◌⊎◌, Bool, true, false, cond, eqb, ltb, List, [], ◌∷◌, ◌++◌, length, map, take, get_or, refl, sym, ap, ◌∙◌, subst, inl, inr, arith, Some, None, Option, slice_get, position}
+use Rattle.std.proofs.Common.{◌≡◌, ℕ, ◌+◌, ◌<◌, ◌≤◌, Bool, true, eqb, List, [], ◌∷◌, ◌++◌, length, map, take, get_or, refl, sym, ap, ◌∙◌, subst, inl, inr, arith, Some, None, slice_get, position}
 use Rattle.std.specs.List.{All, position_or_len}
 use Rattle.std.specs.List.Sorted.{IsNonDecreasing, IsNonDecreasingBy, IsPermutation}
 use Rattle.dm_network.proofs.Keys.{keys_do_not_fall}
-use Rattle.std.proofs.lemmas.Bool.{cases_lt, cases_eq, cases_Bool, eqb-true, eqb-false, eq-eqb, lt-ltb, ltb-true, ltb-false, both_ways}
+use Rattle.std.proofs.lemmas.Bool.{cases_lt, cases_eq, eqb-true, eq-eqb, lt-ltb, both_ways}
 use Rattle.std.proofs.lemmas.Option.{slice_get_within, slice_get-get_or, get_or_from_slice_get}
-use Rattle.std.proofs.lemmas.List.{take_more, take_all, map-append, get_or-map, get_or_default, length-map, length-append}
+use Rattle.std.proofs.lemmas.List.{take_more, take_all, map-append, get_or-map, get_or_default, length-map}
 use Rattle.std.proofs.lemmas.List.Elements.{All-push, All-nil}
-use Rattle.std.proofs.lemmas.List.Sums.{fails_before_first, passes_at_first}
+use Rattle.std.proofs.lemmas.List.Sums.{fails_before_first}
 use Rattle.std.proofs.lemmas.List.Quantifiers.{position-Some}
 use Rattle.dm_base.specs.declared.ids.EventId.{EventId}
 use Rattle.dm_base.specs.declared.rows.EventRow.{EventRow}
@@ -15,8 +15,8 @@ use Rattle.dm_base.specs.declared.rows.ActRow.{ActRow}
 use Rattle.dm_network.specs.declared.parts.Event.{Event}
 use Rattle.dm_network.specs.declared.parts.Activity.{Activity}
 use Rattle.dm_network.specs.Net.{no_event}
-use Rattle.dm_network.specs.Build.{event_row, activity_row, IsNoEvent, NamesNoEvent, IsFirst, HoldsOfNone, IsZeroHeadway}
-use Rattle.dm_network.specs.Stages.{row_with, event_with, HasEnds, Resolves, AreResolved}
+use Rattle.dm_network.specs.Build.{event_row, IsNoEvent, NamesNoEvent, IsFirst}
+use Rattle.dm_network.specs.Inside.Stages.{row_with, event_with, HasEnds, Resolves, AreResolved}
 
 -- what makes an event of a record, and back
 pub event_row-event_with : (rows : List EventRow) → map event_row (map event_with rows) ≡ rows

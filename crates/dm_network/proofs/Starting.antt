@@ -1,25 +1,24 @@
 -- The arcs that bind at the start, by arrays.
-use Rattle.std.proofs.Common.{◌≡◌, ◌≢◌, ℕ, zero, suc, ◌+◌, ◌<◌, ◌≤◌, Bool, true, false, cond, List, [], ◌∷◌, length, map, get_or, refl, sym, ap, ◌∙◌, subst, inl, inr, arith, Some, None, Option, position}
+use Rattle.std.proofs.Common.{◌≡◌, ℕ, ◌<◌, Bool, false, List, [], ◌∷◌, length, map, get_or, refl, sym, ap, ◌∙◌, subst, inl, inr, arith, Some, None}
 use Rattle.std.specs.List.{All, range_with_len}
 use Rattle.std.proofs.lemmas.Bool.{cases_Bool}
-use Rattle.std.proofs.lemmas.List.{length-map, get_or-map, get_or_default}
+use Rattle.std.proofs.lemmas.List.{get_or_default}
 use Rattle.std.proofs.lemmas.List.FromFn.{get_or-map-range_with_len, length-map-range_with_len}
 use Rattle.std.proofs.lemmas.List.Elements.{All-nil, All-cons}
 use Rattle.std.proofs.lemmas.List.Quantifiers.{position-Some}
 use Rattle.dm_base.specs.declared.ids.ActId.{ActId}
-use Rattle.dm_graph.specs.Arcs.{Arcs, Binds, Chain, IsCycle, IsOrder}
+use Rattle.dm_graph.specs.Arcs.{Arcs, Chain, IsCycle, IsOrder}
 use Rattle.dm_graph.specs.Arrays.{AreRows, AreEnds, AreArraysOf}
-use Rattle.dm_graph.proofs.Windows.{rows_of_windows, windows_list}
 use Rattle.dm_graph.proofs.Chains.{no_cycle_where_rank_rises, order_rises, place_in}
 use Rattle.dm_network.specs.declared.parts.Activity.{Activity}
 use Rattle.dm_network.specs.Net.{Net, no_activity, no_pair, activity_at, pair_at, is_headway, places_into, EndsAreKnown}
 use Rattle.dm_network.specs.Pairs.{joins, own_pair, pair_place}
-use Rattle.dm_network.specs.Start.{is_start_active, IsStartCycle, IsFormed, ShowsStartCycle}
+use Rattle.dm_network.specs.Start.{is_start_active, IsFormed, ShowsStartCycle}
 use Rattle.dm_network.specs.Held.{arcs_of, ids_of}
-use Rattle.dm_network.specs.Flat.{AreFlatRows}
-use Rattle.dm_network.specs.Stages.{KnowsPair, HasNoStartCycle}
+use Rattle.dm_network.specs.Inside.Flat.{AreFlatRows}
+use Rattle.dm_network.specs.Inside.Stages.{KnowsPair, HasNoStartCycle}
 use Rattle.dm_network.proofs.PairKeys.{joins-true}
-use Rattle.dm_network.proofs.Arraying.{look_up_mapped}
+use Rattle.dm_network.proofs.Flagged.{flagged_rows, flagged_ends, flagged_arrays}
 
 -- a pair that an activity belongs to is that of its ends
 belongs_to : (net : Net) (a : Activity) (p : ℕ) → a.tail < length net.events → a.head < length net.events → a.pair ≡ own_pair net a → a.pair ≡ Some p →
@@ -49,35 +48,18 @@ module _ (net : Net) (tails offsets places : List ℕ) (held : List Bool)
     (rows : AreFlatRows (places_into net) (length net.events) offsets places)
     (held_is : held ≡ map (is_start_active net) (range_with_len 0 (length net.activities)))
     (known : EndsAreKnown net) where
-  tails_count : length tails ≡ length net.activities
-  tails_count = ap length tails_are ∙ length-map net.activities (λ a. a.tail)
-
-  tail_is : (a : ℕ) → get_or tails a 0 ≡ (activity_at net a).tail
-  tail_is a = ap (λ xs. get_or xs a 0) tails_are ∙ look_up_mapped (λ a. a.tail) refl net.activities a
-
   pub start_rows : (n : ℕ) → n ≡ length net.events → AreRows n (length tails) offsets places
-  start_rows n is =
-      subst (λ m. AreRows m (length tails) offsets places) (sym is)
-      (subst (λ m. AreRows (length net.events) m offsets places) (sym tails_count)
-      (rows_of_windows (length net.events) (length net.activities) (λ a. (activity_at net a).head) offsets places
-      rows.offset_count rows.rises rows.within rows.row))
+  start_rows n is = flagged_rows net tails offsets places tails_are rows known n is
 
   pub start_ends : (n : ℕ) → n ≡ length net.events → AreEnds n (length tails) tails held
-  start_ends n is = record {
-    tail_count = refl;
-    held_count = ap length held_is ∙ length-map-range_with_len (is_start_active net) 0 (length net.activities) ∙ sym tails_count;
-    from_event = λ a lt. let c = tails_count in let k = known.tails a (omega arith) in let e = tail_is a in omega arith;
-  }
+  start_ends n is =
+      flagged_ends net tails offsets places tails_are rows known held
+      (ap length held_is ∙ length-map-range_with_len (is_start_active net) 0 (length net.activities)) n is
 
   pub start_arrays : AreArraysOf (arcs_of net (is_start_active net)) tails offsets places held
-  start_arrays = record {
-    offset_count = rows.offset_count;
-    tail_count = tails_count;
-    same_tail = λ a lt. tail_is a;
-    same_held = λ a lt. ap (λ xs. get_or xs a false) held_is ∙ get_or-map-range_with_len (is_start_active net) 0 (length net.activities) a a false lt (omega arith);
-    lists = windows_list (length net.events) (length net.activities) (λ a. (activity_at net a).head) offsets places
-        rows.offset_count rows.rises rows.within rows.row;
-  }
+  start_arrays =
+      flagged_arrays net tails offsets places tails_are rows known held (is_start_active net)
+      (λ a lt. ap (λ xs. get_or xs a false) held_is ∙ get_or-map-range_with_len (is_start_active net) 0 (length net.activities) a a false lt (omega arith))
 
 pub ordered_start : (net : Net) (order : List ℕ) → IsOrder (arcs_of net (is_start_active net)) order → HasNoStartCycle net
 ordered_start net order is =

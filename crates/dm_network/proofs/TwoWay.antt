@@ -1,18 +1,18 @@
 -- Pairs in order, and the pairs that headways form.
-use Rattle.std.proofs.Common.{◌≡◌, ◌≢◌, ℕ, zero, suc, ◌+◌, ◌-◌, ◌<◌, ◌≤◌, ◌⊎◌, ◌↔◌, ◌&&◌, Bool, true, false, cond, eqb, ltb, List, [], ◌∷◌, ◌++◌, length, map, take, get_or, set, refl, sym, ap, ◌∙◌, subst, inl, inr, arith, Some, None, Option, filter_map, IsPermutation, Contains}
+use Rattle.std.proofs.Common.{◌≡◌, ◌≢◌, ℕ, zero, suc, ◌+◌, ◌-◌, ◌<◌, ◌≤◌, ◌⊎◌, ◌&&◌, Bool, true, false, cond, eqb, ltb, List, [], ◌∷◌, ◌++◌, length, map, take, get_or, set, refl, sym, ap, ◌∙◌, subst, inl, inr, arith, Some, None, Option, filter_map, IsPermutation, Contains}
 use Rattle.std.specs.List.{cons_option}
 use Rattle.std.specs.List.Sorted.{IsPartitionPoint, IsPartitionedBy, IsSortedBy}
 use Rattle.std.specs.Ordering.{nat_cmp, is_lt, ordering_then}
-use Rattle.std.proofs.lemmas.Bool.{cases_order, cases_eq, cases_lt, cases_Bool, both_ways, eqb-true, eq-eqb, ne_eqb, lt-ltb, le-ltb, ltb-true, and_parts, and_from}
-use Rattle.std.proofs.lemmas.List.{get_or_default, get_or_append_left, get_or_push, take_all, length-append, length-take-le, get_or-take, same_lists, get_or-map, length-map, length-set, get_or-set_same, get_or-set_other, take_at}
+use Rattle.std.proofs.lemmas.Bool.{cases_order, cases_eq, cases_lt, both_ways, eqb-true, eq-eqb, lt-ltb, le-ltb, ltb-true, and_parts, and_from}
+use Rattle.std.proofs.lemmas.List.{get_or_default, get_or_append_left, get_or_push, length-append, same_lists, get_or-map, length-map, length-set, get_or-set_same, get_or-set_other, take_at}
 use Rattle.std.proofs.lemmas.List.Sorted.{Contains-permutation, IsPermutation-sym}
 use Rattle.std.proofs.lemmas.List.Elements.{Contains-push, Contains-push_cases, Contains-append_left, Contains-get_or}
 use Rattle.dm_network.specs.declared.parts.Activity.{Activity}
 use Rattle.dm_network.specs.declared.parts.Pair.{Pair}
 use Rattle.dm_network.specs.Net.{no_pair, no_activity, is_headway}
 use Rattle.dm_network.specs.Pairs.{ComesBefore}
-use Rattle.dm_network.specs.Flat.{ArePairsInOrder, stands_before}
-use Rattle.dm_network.specs.Stages.{IsHeadwayAmong, HasHeadway, upward_pair, downward_pair, PairsDoNotFall, AreCommon, AreTwoWay, with_pair, AscendStrictly, DiffersFromLast}
+use Rattle.dm_network.specs.Inside.Flat.{ArePairsInOrder, stands_before}
+use Rattle.dm_network.specs.Inside.Stages.{HasHeadway, upward_pair, downward_pair, PairsDoNotFall, AreCommon, AreTwoWay, with_pair, AscendStrictly, DiffersFromLast}
 use Rattle.dm_network.proofs.PairKeys.{stands_before-true, stands_before-from}
 
 pub same_pair : (p q : Pair) → p.small ≡ q.small → p.large ≡ q.large → p ≡ q
@@ -237,21 +237,21 @@ some_same p q h = cc
 
 -- what a filter that maps keeps
 module _ {X Y : Type 0} (f : X → Option Y) where
-  pub record Gives (xs : List X) (y : Y) : Type 0 where
+  pub record ComesFrom (xs : List X) (y : Y) : Type 0 where
     pub place : ℕ
     pub within : place < length xs
     pub given : (d : X) → f (get_or xs place d) ≡ Some y
 
-  gives_later : (x : X) (xs : List X) (y : Y) → Gives xs y → Gives (x ∷ xs) y
+  gives_later : (x : X) (xs : List X) (y : Y) → ComesFrom xs y → ComesFrom (x ∷ xs) y
   gives_later x xs y g = let w = g.within in record { place = suc g.place; within = omega arith; given = g.given }
 
-  gives_first : (x : X) (xs : List X) (y : Y) (o : Option Y) → f x ≡ o → (Contains (filter_map f xs) y → Gives xs y) →
-      Contains (cons_option o (filter_map f xs)) y → Gives (x ∷ xs) y
+  gives_first : (x : X) (xs : List X) (y : Y) (o : Option Y) → f x ≡ o → (Contains (filter_map f xs) y → ComesFrom xs y) →
+      Contains (cons_option o (filter_map f xs)) y → ComesFrom (x ∷ xs) y
   gives_first x xs y None e more c = gives_later x xs y (more c)
   gives_first x xs y (Some z) e more (zero, lt, is) = record { place = 0; within = omega arith; given = λ d. e ∙ ap Some is }
   gives_first x xs y (Some z) e more (suc k, lt, is) = gives_later x xs y (more (k, omega arith, is))
 
-  pub gives_from : (xs : List X) (y : Y) → Contains (filter_map f xs) y → Gives xs y
+  pub gives_from : (xs : List X) (y : Y) → Contains (filter_map f xs) y → ComesFrom xs y
   gives_from [] y h = let lt = h.1 in absurd (omega arith)
   gives_from (x ∷ xs) y h = gives_first x xs y (f x) refl (gives_from xs y) h
 

@@ -91,7 +91,7 @@ pub record AreFew (events : List EventRow) (activities : List ActRow) : Type 0 w
   pub few_activities : length activities ≤ ACTIVITIES
 
 -- a cycle of the start rows of the network that the records would make
-pub record ShowsCycleOf (events : List EventRow) (activities : List ActRow) (ids : List ActId) : Type 0 where
+pub record ShowsCycleOfRecords (events : List EventRow) (activities : List ActRow) (ids : List ActId) : Type 0 where
   pub net : Net
   pub made : IsMadeOf events activities net
   pub shown : ShowsStartCycle net ids
@@ -109,7 +109,7 @@ RefusesRecords events activities (UnknownEvent id) =
 RefusesRecords events activities (ZeroHeadway id) =
     AreFew events activities × NoneStandsTwice (event_ids events) × NoneStandsTwice (activity_ids activities)
     × HoldsOfNone (NamesNoEvent events) activities × IsFirst IsZeroHeadway activities id
-RefusesRecords events activities (Cycle ids) = AreFew events activities × ShowsCycleOf events activities ids
+RefusesRecords events activities (Cycle ids) = AreFew events activities × ShowsCycleOfRecords events activities ids
 RefusesRecords events activities OutOfMemory = Unit {0}
 
 -- The network that the records make: it is within the limits, and has no cycle at the start.

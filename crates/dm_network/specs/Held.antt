@@ -1,5 +1,5 @@
--- The activities of a network as arcs, of which those that are held to bind, and the cycles that they make.
-use Rattle.std.specs.Prelude.{ℕ, ◌≡◌, Bool, List, length, map}
+-- The activities of a network as arcs, of which those that are held bind, and the cycles that these make.
+use Rattle.std.specs.Prelude.{ℕ, ◌≡◌, Bool, false, List, length, map, slice_index_or}
 use Rattle.dm_base.specs.declared.ids.ActId.{ActId}
 use Rattle.dm_graph.specs.Arcs.{Arcs, IsCycle}
 use Rattle.dm_network.specs.Net.{Net, activity_at}
@@ -14,6 +14,10 @@ arcs_of net held =
       head = λ a. (activity_at net a).head;
       held = held;
     }
+
+-- whether a list of flags, one for each activity, holds an activity
+abbrev pub is_held : List Bool → ℕ → Bool
+is_held flags a = slice_index_or flags a false
 
 -- a closed list of held activities: each head is the next tail, and the last head is the first tail
 abbrev pub IsCycleOf : Net → (ℕ → Bool) → List ℕ → Type 0

@@ -1,5 +1,5 @@
 -- What binds before any message, and what a network is.
-use Rattle.std.specs.Prelude.{ℕ, ◌≡◌, ◌==◌, nat_le, Bool, true, List, Option, Some, None, if◌then◌else◌}
+use Rattle.std.specs.Prelude.{ℕ, ◌==◌, nat_le, Bool, true, List, Option, Some, None, if◌then◌else◌}
 use Rattle.dm_base.specs.declared.ids.ActId.{ActId}
 use Rattle.dm_network.specs.Net.{Net, event_at, activity_at, pair_at, EventsAscend, ActivitiesAscend, EndsAreKnown, HeadwaysAreApart}
 use Rattle.dm_network.specs.Held.{IsCycleOf, ShowsCycleOf}

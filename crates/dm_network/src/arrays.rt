@@ -3,7 +3,7 @@ ghost use Rattle.std.specs.Prelude.{◌≡◌, ◌<◌, ◌≤◌, [], map, leng
 ghost use Rattle.std.specs.List.{range_with_len};
 ghost use Rattle.dm_network.specs.Net.{no_activity};
 ghost use Rattle.dm_network.specs.Start.{binds_at_start, is_start_active};
-ghost use Rattle.dm_network.specs.Stages.{standing_at, AreStopsOf, AreSortedByStop, net_with, StandBeside, KnowsPair, HasEnds, first_in};
+ghost use Rattle.dm_network.specs.Inside.Stages.{standing_at, AreStopsOf, AreSortedByStop, net_with, StandBeside, KnowsPair, HasEnds, first_in};
 
 use crate::flat::{FlatRows, rows_by};
 use crate::parts::{Activity, Event, Pair};

@@ -3,7 +3,7 @@ ghost use Rattle.std.specs.Prelude.{◌≡◌, IfOk, IfErr, MatchOption};
 ghost use Rattle.dm_network.specs.Build.{AreWithinLimits, AreFew, IsMadeOf, IsBuiltFrom, RefusesRecords};
 ghost use Rattle.dm_network.specs.Net.{IsWithinLimits};
 ghost use Rattle.dm_network.specs.Start.{IsFormed, IsNetwork, ShowsStartCycle};
-ghost use Rattle.dm_network.specs.Stages.{formed_net, net_with, StandBeside, HasNoStartCycle, RefusesStart};
+ghost use Rattle.dm_network.specs.Inside.Stages.{formed_net, net_with, StandBeside, HasNoStartCycle, RefusesFormed};
 
 use crate::arrays::{Arrays, arrays_of, held_at_start, ids_at};
 use crate::forming::{Formed, activities_from, events_from};
@@ -73,7 +73,7 @@ fn network_of(alloc: Global, formed: Formed) -> Result<Network, NetFault>
     requires within { IsWithinLimits (formed_net formed) }
     ensures same { IfOk result (λ net. net ≡ formed_net formed) }
     ensures network { IfOk result (λ _. IsNetwork (formed_net formed)) }
-    ensures refused { IfErr result (RefusesStart (formed_net formed)) }
+    ensures refused { IfErr result (RefusesFormed (formed_net formed)) }
 {
     let arrays = arrays_of(alloc, &formed.events, &formed.activities)?;
     if let Some(ids) = start_cycle(

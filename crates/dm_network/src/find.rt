@@ -2,7 +2,7 @@
 ghost use Rattle.std.specs.Prelude.{ℕ, ◌≡◌, ◌==◌, ◌≤◌, length, map, position, filter};
 ghost use Rattle.std.specs.List.Sorted.{IsStrictlyIncreasing, IsNonDecreasing};
 ghost use Rattle.dm_network.specs.Pairs.{joins};
-ghost use Rattle.dm_network.specs.Flat.{ArePairsInOrder, stands_before, StandsWithin};
+ghost use Rattle.dm_network.specs.Inside.Flat.{ArePairsInOrder, stands_before, StandsWithin};
 
 use crate::parts::{Activity, Event, Pair};
 use dm_base::{ActId, EventId, StopId};

@@ -1,7 +1,7 @@
 //! The events, activities and pairs of a network, from records.
 ghost use Rattle.std.specs.Prelude.{◌≡◌, map, length, IfOk, IfErr};
 ghost use Rattle.std.specs.List.Sorted.{IsStrictlyIncreasing};
-ghost use Rattle.dm_network.specs.Stages.{AreEventsOf, RefusesEvents, AreActivitiesOf, RefusesActivities};
+ghost use Rattle.dm_network.specs.Inside.Stages.{AreEventsOf, RefusesEvents, AreActivitiesOf, RefusesActivities};
 
 use crate::parts::{Activity, Event, NetFault, Pair};
 use crate::records::{

@@ -1,9 +1,12 @@
 //! The network and its readers.
-ghost use Rattle.std.specs.Prelude.{◌≡◌, ◌+◌, ◌<◌, ◌≤◌, length, IfOk, IfErr};
+ghost use Rattle.std.specs.Prelude.{◌≡◌, ◌+◌, ◌<◌, ◌≤◌, [], length, OnOk, OnErr};
+ghost use Rattle.dm_graph.specs.Arcs.{IsOrder};
+ghost use Rattle.dm_graph.specs.Arrays.{AreRanks};
+ghost use Rattle.dm_network.specs.Held.{arcs_of, is_held, IsCycleOf};
 ghost use Rattle.dm_network.specs.Net.{event_at, activity_at, pair_at, event_place, activity_place, places_into, places_out_of, places_at, IsWithinLimits};
 ghost use Rattle.dm_network.specs.Pairs.{pair_place};
 ghost use Rattle.dm_network.specs.Start.{IsNetwork};
-ghost use Rattle.dm_network.specs.Stages.{formed_net, StandBeside};
+ghost use Rattle.dm_network.specs.Inside.Stages.{formed_net, StandBeside};
 
 use crate::arrays::{Arrays, ByStop};
 use crate::find;
@@ -12,6 +15,7 @@ use crate::forming::Formed;
 use crate::parts::{Activity, Event, Pair};
 use dm_base::limits::{ACTIVITIES, EVENTS};
 use dm_base::{ActId, EventId, Steps, StopId};
+use dm_graph::search::{Cyclic, Search};
 use std::marker::Model;
 use std::sync::ledger::Ledger;
 
@@ -36,13 +40,13 @@ pub struct Network {
 
 impl Model for Network {
     ghost use Rattle.dm_network.specs.Net.{Net};
-    ghost use Rattle.dm_network.specs.Flat.{IsHeld};
+    ghost use Rattle.dm_network.specs.Inside.Flat.{HasArrays};
 
     ghost Value = { Net };
 
     ghost view = { λ n. record { events = n.events.items; activities = n.activities.items; pairs = n.pairs.items } };
 
-    ghost invariant = { λ n. IsHeld (record { events = n.events.items; activities = n.activities.items; pairs = n.pairs.items }) n.incoming n.outgoing n.tails.items n.stops.items n.by_stop.items };
+    ghost invariant = { λ n. HasArrays (record { events = n.events.items; activities = n.activities.items; pairs = n.pairs.items }) n.incoming n.outgoing n.tails.items n.stops.items n.by_stop.items };
 }
 
 /// The network of these parts, beside their arrays.
@@ -76,6 +80,14 @@ pub fn assembled(formed: Formed, arrays: Arrays) -> Network
 }
 
 impl Network {
+    /// What holds of every network, for a caller's proof. It does nothing.
+    pub fn sound(&self)
+        ensures network { IsNetwork self.now }
+        ensures within { IsWithinLimits self.now }
+    {
+        let _events = self.events.len();
+    }
+
     /// How many events there are.
     pub fn events(&self) -> usize
         ensures count { result ≡ length self.now.events }
@@ -173,5 +185,24 @@ impl Network {
     {
         steps.tick();
         row(&self.outgoing.offsets, &self.outgoing.places, i)
+    }
+
+    /// Searches for an order of all events in which each held activity goes forward, or for a cycle of held activities.
+    /// There is a flag for each activity. It takes no memory, and its time is linear in events and activities.
+    pub fn search(&self, held: &[bool], search: &mut Search) -> Result<(), Cyclic>
+        requires flags { length held.now ≡ length self.now.activities }
+        requires room { length search.old.order ≡ length self.now.events }
+        ensures as_much_room { length search.new.order ≡ length search.old.order }
+        ensures order { OnOk result (IsOrder (arcs_of self.now (is_held held.now)) search.new.order) }
+        ensures ranks { OnOk result (AreRanks (length self.now.events) search.new.order search.new.ranks) }
+        ensures none { OnOk result (search.new.cycle ≡ []) }
+        ensures cycle { OnErr result (IsCycleOf self.now (is_held held.now) search.new.cycle) }
+    {
+        search.search(
+            &self.tails,
+            &self.incoming.offsets,
+            &self.incoming.places,
+            held,
+        )
     }
 }

@@ -1,8 +1,8 @@
 //! Which events form pairs.
 ghost use Rattle.std.specs.Prelude.{◌≡◌, ◌↔◌, IsTrue, map, filter_map, IfOk, IsPermutation, Contains};
 ghost use Rattle.dm_network.specs.Net.{is_headway};
-ghost use Rattle.dm_network.specs.Flat.{ArePairsInOrder};
-ghost use Rattle.dm_network.specs.Stages.{upward_pair, downward_pair, PairsDoNotFall, AreCommon, AreTwoWay, with_pair, AscendStrictly, DiffersFromLast};
+ghost use Rattle.dm_network.specs.Inside.Flat.{ArePairsInOrder};
+ghost use Rattle.dm_network.specs.Inside.Stages.{upward_pair, downward_pair, PairsDoNotFall, AreCommon, AreTwoWay, with_pair, AscendStrictly, DiffersFromLast};
 
 use crate::find::{comes_before, pair_place};
 use crate::parts::{Activity, Pair};

@@ -2,7 +2,7 @@
 ghost use Rattle.std.specs.Prelude.{◌≡◌, map, length, IfOk, IfErr, MatchOption, IsPermutation};
 ghost use Rattle.std.specs.List.Sorted.{IsStrictlyIncreasing, IsNonDecreasing};
 ghost use Rattle.dm_network.specs.Build.{event_row, event_ids, activity_ids, NamesNoEvent, IsFirst, HoldsOfNone, IsZeroHeadway, NoneStandsTwice, IsLeastDouble};
-ghost use Rattle.dm_network.specs.Stages.{event_with, Resolves, AreResolved, RefusesEnds};
+ghost use Rattle.dm_network.specs.Inside.Stages.{event_with, Resolves, AreResolved, RefusesEnds};
 
 use crate::find::event_place;
 use crate::parts::{Activity, Event, NetFault};

@@ -20,7 +20,7 @@ use Rattle.dm_program.specs.declared.log.LogItem.{LogItem}
 use Rattle.dm_program.specs.declared.log.LogItem.TheVariants.{Malformed, Answered}
 use Rattle.dm_program.specs.declared.lines.Heard.TheVariants.{Line as Spoken}
 use Rattle.dm_program.specs.Lines.{feed_lines, Hears}
-use Rattle.dm_rows.specs.declared.messages.Message.TheVariants.{DelayEvent, DelayActivity, Pass, Recall, Keep, Drop, First, Adopt}
+use Rattle.dm_rows.specs.declared.messages.Message.TheVariants.{DelayEvent, DelayActivity, Pass, Recall, Keep, Drop, First, Adopt, Now}
 use Rattle.dm_program.specs.Runs.{IsSpelledMessage, IsSpelledItem, IsSpelledEntry}
 use Rattle.dm_program.specs.Logs.{IsTrueAnswer, IsInOrder, names, AreDueItems, IsDueItem}
 use Rattle.dm_program.specs.Answers.{Day, entry_of, AnswersLine, IsAnsweredTo}
@@ -88,6 +88,7 @@ heard_spelled (Keep a) text h = h
 heard_spelled (Drop a) text h = h
 heard_spelled (First e f) text h = h
 heard_spelled (Adopt ds) text h = h
+heard_spelled (Now t) text h = h
 
 -- ---- a line that changes nothing
 

@@ -1,14 +1,13 @@
 -- Where words and files determine how a run ends.
 use Rattle.std.proofs.Common.{◌≡◌, ℕ, List, Option, refl, ap, subst, ◌∙◌, inl, inr, ◌⊎◌}
-use Rattle.std.specs.Prelude.{IsSome, Ok as Good, Err as Bad}
+use Rattle.std.specs.Prelude.{IsSome}
 use Rattle.dm_outside.specs.Faults.{HasRisen}
-use Rattle.dm_input.specs.Input.{Told, Input, IsInput, IsFirstRefusal}
-use Rattle.dm_input.specs.Lines.{refused_line, read_fault_line}
-use Rattle.dm_input.specs.Order.{SameFlaw}
-use Rattle.dm_input.specs.Stages.{IsUnread}
+use Rattle.dm_input.specs.Input.{Told}
 use Rattle.dm_input.specs.Words.{Command, Asks, AsksNothing}
-use Rattle.dm_input.specs.declared.parts.Flaw.{Flaw}
-use Rattle.dm_input.proofs.OneInput.{input_is_one, not_after, one_command}
+use Rattle.dm_input.proofs.OneCommand.{one_command}
+use Rattle.dm_program.specs.declared.input.Flaw.{Flaw}
+use Rattle.dm_program.specs.Input.{Input, IsInput, IsFirstRefusal, IsUnread, SameFlaw, read_fault_line, refused_line}
+use Rattle.dm_program.proofs.OneRun.{not_refused, one_refusal, sound_is_read, unread_by}
 use Rattle.dm_program.specs.declared.status.Status.{Status}
 use Rattle.dm_program.specs.declared.status.Status.TheVariants.{Ok, Usage, Refused, ReadFault, WriteFault, NoMemory}
 use Rattle.dm_program.specs.Ends.{Ends, EndsAt, AreSound, IsReadFault, IsRefusal}
@@ -31,18 +30,18 @@ module _ {K : Type 0} (taken : K → Option (List ℕ)) (faults : K → ℕ) (to
     pub ends_at : (flaw : Flaw) → IsFirstRefusal told command flaw → (result : Status) → Ends taken faults told is_sound words before now result → EndsAt command flaw (taken before) (taken now) result
     ends_at flaw first Ok h =
         let same = same_command h.holds.command h.holds.asked in
-        input_is_one told command known (Good h.holds.input) (Bad flaw) (subst (λ (c : Command). IsInput told c h.holds.input) same h.holds.is_input) first
+        absurd (not_refused told command known h.holds.input (subst (λ (c : Command). IsInput told c h.holds.input) same h.holds.is_input) flaw first)
     ends_at flaw first Usage h = absurd (h.holds.outside command asked)
     ends_at flaw first Refused h =
         let r : IsRefusal told words h.text = h.holds in
         let same = same_command r.command r.asked in
-        let shown : SameFlaw r.flaw flaw = input_is_one told command known (Bad r.flaw) (Bad flaw) (subst (λ (c : Command). IsFirstRefusal told c r.flaw) same r.refusal) first in
+        let shown : SameFlaw r.flaw flaw = one_refusal told command known r.flaw flaw (subst (λ (c : Command). IsFirstRefusal told c r.flaw) same r.refusal) first in
         record { text = h.text; holds = (r.flaw, shown, r.line ∙ ap (λ (c : Command). refused_line c r.flaw) same); appended = h.appended }
     ends_at flaw first ReadFault h =
         let r : IsReadFault told is_sound words h.text = h.holds in
         let same = same_command r.command r.asked in
         let unread : IsUnread told is_sound command r.part = subst (λ (c : Command). IsUnread told is_sound c r.part) same r.unread in
-        record { text = h.text; holds = (r.part, not_after told command known flaw first r.part unread.passes, r.line ∙ ap (λ (c : Command). read_fault_line c r.part) same); appended = h.appended }
+        record { text = h.text; holds = (r.part, unread_by told is_sound command known r.part unread flaw first, r.line ∙ ap (λ (c : Command). read_fault_line c r.part) same); appended = h.appended }
     ends_at flaw first WriteFault h = tt
     ends_at flaw first NoMemory h = tt
 
@@ -56,8 +55,8 @@ module _ {K : Type 0} (taken : K → Option (List ℕ)) (faults : K → ℕ) (to
     ends_well input is sound unrisen Refused h =
         let r : IsRefusal told words h.text = h.holds in
         let same = same_command r.command r.asked in
-        absurd (input_is_one told command known (Good input) (Bad r.flaw) is (subst (λ (c : Command). IsFirstRefusal told c r.flaw) same r.refusal))
+        absurd (not_refused told command known input is r.flaw (subst (λ (c : Command). IsFirstRefusal told c r.flaw) same r.refusal))
     ends_well input is sound unrisen ReadFault h =
         let r : IsReadFault told is_sound words h.text = h.holds in
         let unread : IsUnread told is_sound command r.part = subst (λ (c : Command). IsUnread told is_sound c r.part) (same_command r.command r.asked) r.unread in
-        absurd (unread.unsound (sound r.part unread.name unread.named))
+        absurd (sound_is_read told is_sound command r.part unread sound)

@@ -2,12 +2,12 @@
 use Rattle.std.proofs.Common.{◌≡◌, ℕ, zero, suc, ◌≤◌, arith, List, [], ◌∷◌, length, Option, Some, None, refl, sym, ap, subst, ◌∙◌, inl, inr, All}
 use Rattle.std.specs.Io.KnownBytes.{Keeps}
 use Rattle.dm_outside.specs.Printing.{TakesFront}
-use Rattle.dm_input.specs.Input.{Told, IsFirstRefusal}
-use Rattle.dm_input.specs.Lines.{usage_line, refused_line, read_fault_line}
-use Rattle.dm_input.specs.Stages.{IsUnread}
-use Rattle.dm_input.specs.Words.{Command, Asks, AsksNothing, IsPenalty}
-use Rattle.dm_input.specs.declared.parts.Flaw.{Flaw}
-use Rattle.dm_input.specs.declared.parts.Part.{Part}
+use Rattle.dm_input.specs.Input.{Told}
+use Rattle.dm_input.specs.Lines.{usage_line}
+use Rattle.dm_input.specs.Words.{Command, RunAsked, RunOf, Asks, AsksNothing, IsPenalty}
+use Rattle.dm_program.specs.declared.input.Flaw.{Flaw}
+use Rattle.dm_program.specs.declared.input.Part.{Part}
+use Rattle.dm_program.specs.Input.{IsFirstRefusal, IsUnread, penalty_of, read_fault_line, refused_line}
 use Rattle.dm_network.specs.Net.{Net}
 use Rattle.dm_rows.specs.Rows.{RowsValue}
 use Rattle.dm_rows.specs.declared.messages.Entry.{Entry}
@@ -26,9 +26,9 @@ penalty_fits : (given : Option (List ℕ)) (penalty : ℕ) → IsPenalty given p
 penalty_fits None penalty is = omega arith
 penalty_fits (Some text) penalty is = is.2
 
-pub asked_penalty_fits : (words : List (List ℕ)) (command : Command) → Asks words command → command.penalty ≤ 1000000
-asked_penalty_fits [] command asks = absurd asks
-asked_penalty_fits (word ∷ words) command asks = penalty_fits asks.1.penalty command.penalty asks.1.is_penalty
+pub asked_penalty_fits : (words : List (List ℕ)) (asked : RunAsked) → Asks words (RunOf asked) → asked.files.penalty ≤ 1000000
+asked_penalty_fits [] asked asks = absurd asks
+asked_penalty_fits (word ∷ words) asked asks = penalty_fits asks.1.penalty asked.files.penalty asks.1.is_penalty
 
 abbrev journal_of : Net → RowsValue → List Entry → Journal
 journal_of net start history = record { net = net; start = start; history = history }
@@ -98,7 +98,7 @@ module _ {K : Type 0} (taken : K → Option (List ℕ)) (faults : K → ℕ) (to
           asked = asked;
           is_input = r.input;
           log_of = over.log_of;
-          run = text_of (run_from net r.start penalty history items times cost) (journal_of net r.start history) command.penalty (over.log ∷ []) refl r.same_penalty over.logs_are over.is_true over.entries_spelled (one_log over.log over.items_spelled);
+          run = text_of (run_from net r.start penalty history items times cost) (journal_of net r.start history) (penalty_of command) (over.log ∷ []) refl r.same_penalty over.logs_are over.is_true over.entries_spelled (one_log over.log over.items_spelled);
         }
 
     pub ends_run : (result : Status) → EndsAs taken faults before now (run_text (run_with net penalty history items times cost)) Ok result → Ends taken faults told is_sound words before now result

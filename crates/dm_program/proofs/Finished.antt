@@ -14,7 +14,7 @@ use Rattle.dm_rows.specs.History.{rows_at, IsLegal}
 use Rattle.dm_rows.specs.declared.messages.Entry.{Entry}
 use Rattle.dm_rows.specs.declared.messages.Message.{Message}
 use Rattle.dm_rows.specs.declared.messages.Refusal.{Refusal}
-use Rattle.dm_rows.specs.declared.messages.Refusal.TheVariants.{Range, UnknownEvent, UnknownActivity, UnknownChange, UnknownPair, Passed, NotPassed, Cycle, Full, OutOfMemory}
+use Rattle.dm_rows.specs.declared.messages.Refusal.TheVariants.{Range, UnknownEvent, UnknownActivity, UnknownChange, UnknownPair, Passed, NotPassed, Back, Cycle, Full, OutOfMemory}
 use Rattle.dm_program.specs.declared.log.LogItem.{LogItem}
 use Rattle.dm_program.specs.declared.log.FeedStop.TheVariants.{End}
 use Rattle.dm_program.specs.declared.log.FeedLog.{FeedLog}
@@ -31,7 +31,7 @@ none_some x e = cc
 -- ---- the journal is legal
 
 nothing_refuses : (net : Net) (rows : RowsValue) (n : ℕ) (m : Message) → HasNoCycle net (after net rows m) → n < ENTRIES → PassesAtOnce net rows m → (r : Refusal) → Refuses net rows n m r → ⊥
-nothing_refuses net rows n m none few passes (Cycle ids) h = none h.1.places h.1.is_cycle
+nothing_refuses net rows n m none few passes (Cycle ids) h = none h.2.places h.2.is_cycle
 nothing_refuses net rows n m none few passes (Full k) h = omega (arith, h.2, few)
 nothing_refuses net rows n m none few passes OutOfMemory h = h
 nothing_refuses net rows n m none few passes (Range v) h = passes (Range v) h
@@ -41,6 +41,7 @@ nothing_refuses net rows n m none few passes (UnknownChange a) h = passes (Unkno
 nothing_refuses net rows n m none few passes (UnknownPair i j) h = passes (UnknownPair i j) h
 nothing_refuses net rows n m none few passes (Passed e t) h = passes (Passed e t) h
 nothing_refuses net rows n m none few passes (NotPassed e) h = passes (NotPassed e) h
+nothing_refuses net rows n m none few passes (Back c) h = passes (Back c) h
 
 abbrev log_of_items : List LogItem → FeedLog
 log_of_items items = record { items = items; stop = End }

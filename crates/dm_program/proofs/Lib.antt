@@ -4,8 +4,9 @@ pub mod Answering
 pub mod Within
 pub mod Printed
 pub mod Spelled
-pub mod Totals
 pub mod Finished
 pub mod Ending
 pub mod Arcs
+pub mod Beginning
+pub mod OneRun
 pub mod Converse

@@ -18,7 +18,7 @@ use Rattle.dm_program.specs.Cuts.{cut_at}
 use Rattle.std.specs.List.{join_with_byte}
 use Rattle.std.proofs.lemmas.List.Splits.{join_with_byte-slice_split}
 use Rattle.dm_rows.specs.declared.messages.Message.{Message}
-use Rattle.dm_rows.specs.declared.messages.Message.TheVariants.{DelayEvent, DelayActivity, Pass, Recall, Keep, Drop, First, Adopt}
+use Rattle.dm_rows.specs.declared.messages.Message.TheVariants.{DelayEvent, DelayActivity, Pass, Recall, Keep, Drop, First, Adopt, Now}
 use Rattle.dm_program.specs.declared.lines.Line.{Line}
 use Rattle.dm_program.specs.declared.lines.Line.TheVariants.{Say}
 use Rattle.dm_program.specs.Lines.{SpellsMessage, SpellsLine, has_leading_zero}
@@ -122,6 +122,7 @@ message_line (Keep a) bytes h = absurd h
 message_line (Drop a) bytes h = absurd h
 message_line (First e f) bytes h = absurd h
 message_line (Adopt ds) bytes h = absurd h
+message_line (Now t) bytes h = absurd h
 
 pub delay_line : (line : Line) (bytes : List ℕ) → SpellsLine line bytes → IsDelayLine bytes
 delay_line (Say m) bytes h = message_line m bytes h

@@ -38,4 +38,5 @@ within_after net rows e d change named reaches within =
       of_events = set_le rows.event_delays h.place d DELAY within.of_events small.1;
       of_activities = within.of_activities;
       of_passed = within.of_passed;
+      of_clock = within.of_clock;
     })

@@ -29,4 +29,4 @@ abbrev pub run_with : Net → ℕ → List Entry → List LogItem → List ℕ �
 run_with net penalty history items times cost = run_from net (start_rows_of net [] []) penalty history items times cost
 
 abbrev pub run_in : Answered → Run
-run_in a = run_with a.net a.penalty a.history.items a.items.items a.times.items a.cost
+run_in a = run_with a.net a.penalty a.history.items a.items.items a.times a.cost

@@ -1,18 +1,17 @@
 -- How a run ends: what is due to be written for each status, and why.
-use Rattle.std.specs.Prelude.{ℕ, ◌≡◌, ◌≤◌, ◌⊎◌, List, [], ◌∷◌, Option, Some}
+use Rattle.std.specs.Prelude.{ℕ, ◌≡◌, ◌⊎◌, List, [], ◌∷◌, Option, Some}
 use Rattle.std.specs.Io.KnownBytes.{Appends, Keeps}
-use Rattle.dm_input.specs.Input.{Told, Input, IsInput, IsFirstRefusal, part_name}
-use Rattle.dm_input.specs.Lines.{usage_line, refused_line, read_fault_line}
-use Rattle.dm_input.specs.Order.{part_place, flaw_place, SameFlaw}
-use Rattle.dm_input.specs.Stages.{IsUnread}
+use Rattle.dm_input.specs.Input.{Told}
+use Rattle.dm_input.specs.Lines.{usage_line}
 use Rattle.dm_input.specs.Words.{Command, Asks, AsksNothing}
-use Rattle.dm_input.specs.declared.parts.Flaw.{Flaw}
-use Rattle.dm_input.specs.declared.parts.Part.{Part}
 use Rattle.dm_outside.specs.Printing.{TakesAll, TakesFront}
 use Rattle.dm_rows.specs.declared.messages.Entry.{Entry}
+use Rattle.dm_program.specs.declared.input.Flaw.{Flaw}
+use Rattle.dm_program.specs.declared.input.Part.{Part}
 use Rattle.dm_program.specs.declared.log.FeedLog.{FeedLog}
 use Rattle.dm_program.specs.declared.status.Status.{Status}
 use Rattle.dm_program.specs.declared.status.Status.TheVariants.{Ok, Usage, Refused, ReadFault, WriteFault, NoMemory}
+use Rattle.dm_program.specs.Input.{Input, IsInput, IsFirstRefusal, IsReadBy, IsUnread, SameFlaw, part_name, penalty_of, read_fault_line, refused_line}
 use Rattle.dm_program.specs.Logs.{IsLogOf}
 use Rattle.dm_program.specs.Runs.{IsRunText}
 
@@ -26,7 +25,7 @@ pub record IsRunOf (told : Told) (words : List (List ℕ)) (text : List ℕ) : T
   pub asked : Asks words command
   pub is_input : IsInput told command input
   pub log_of : IsLogOf input.feed log
-  pub run : IsRunText (record { net = input.opening.net; start = input.opening.rows; history = history }) command.penalty (log ∷ []) text
+  pub run : IsRunText (record { net = input.opening.net; start = input.opening.rows; history = history }) (penalty_of command) (log ∷ []) text
 
 -- the words ask for no run
 pub record IsUsage (words : List (List ℕ)) (text : List ℕ) : Type 0 where
@@ -98,7 +97,7 @@ abbrev pub EndsAt : Command → Flaw → Option (List ℕ) → Option (List ℕ)
 EndsAt command flaw before now Refused =
     Writes before now (λ text. (shown : Flaw) × SameFlaw shown flaw × (text ≡ refused_line command shown))
 EndsAt command flaw before now ReadFault =
-    Writes before now (λ text. (at : Part) × (part_place at ≤ flaw_place flaw) × (text ≡ read_fault_line command at))
+    Writes before now (λ text. (at : Part) × IsReadBy at flaw × (text ≡ read_fault_line command at))
 EndsAt command flaw before now WriteFault = Unit {0}
 EndsAt command flaw before now NoMemory = Unit {0}
 EndsAt command flaw before now Ok = ⊥

@@ -2,8 +2,10 @@ pub mod Numbers
 pub mod Lines
 pub mod Logs
 pub mod Runs
+pub mod Input
 pub mod Ends
 pub mod Answers
 pub mod Asked
 pub mod Stages
+pub mod Opening
 pub mod Cuts

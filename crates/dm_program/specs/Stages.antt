@@ -1,7 +1,7 @@
 -- What each stage of a run leaves.
 use Rattle.std.specs.Prelude.{ℕ, ◌≡◌, List, [], ◌∷◌, All}
 use Rattle.dm_base.specs.declared.rows.DelayRow.{DelayRow}
-use Rattle.dm_input.specs.Input.{Told, IsInput}
+use Rattle.dm_input.specs.Input.{Told}
 use Rattle.dm_input.specs.Words.{Command}
 use Rattle.dm_network.specs.Net.{Net}
 use Rattle.dm_rows.specs.Rows.{RowsValue, start_rows_of}
@@ -10,6 +10,7 @@ use Rattle.dm_program.specs.declared.log.FeedLog.{FeedLog}
 use Rattle.dm_program.specs.declared.log.LogItem.{LogItem}
 use Rattle.dm_program.specs.declared.prepare.Answered.{Answered}
 use Rattle.dm_program.specs.Asked.{run_from}
+use Rattle.dm_program.specs.Input.{IsInput, penalty_of}
 use Rattle.dm_program.specs.Logs.{IsLogOf}
 use Rattle.dm_program.specs.Runs.{Run, IsTrueRun, IsSpelledEntry, IsSpelledItem}
 
@@ -37,7 +38,7 @@ pub record IsReady (told : Told) (command : Command) (net : Net) (penalty : ℕ)
   pub feed : List ℕ
   pub input : IsInput told command (record { opening = record { net = net; rows = start }; feed = feed })
   pub over : IsRunOver net start feed (run_from net start penalty history items times cost)
-  pub same_penalty : penalty ≡ command.penalty
+  pub same_penalty : penalty ≡ penalty_of command
 
 abbrev pub IsReadyRun : Told → Command → Answered → Type 0
-IsReadyRun told command a = IsReady told command a.net a.penalty a.history.items a.items.items a.times.items a.cost
+IsReadyRun told command a = IsReady told command a.net a.penalty a.history.items a.items.items a.times a.cost

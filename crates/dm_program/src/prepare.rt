@@ -1,21 +1,25 @@
 //! A run, from what it begins with to what it prints.
 ghost use Rattle.std.specs.Prelude.{◌≡◌, ◌≤◌, length, IfOk, IfErr};
 ghost use Rattle.dm_base.specs.declared.limits.TheConstants.{FEED as MOST};
-ghost use Rattle.dm_input.specs.RunWords.{command_of};
-ghost use Rattle.dm_input.specs.Stages.{IsKept, StopsRun};
+ghost use Rattle.dm_input.specs.Asked.{run_of};
+ghost use Rattle.dm_input.specs.Stops.{IsKept};
+ghost use Rattle.dm_input.specs.Words.{RunOf};
+ghost use Rattle.dm_rows.specs.Active.{HasNoCycle};
 ghost use Rattle.dm_rows.specs.Rows.{IsSized};
+ghost use Rattle.dm_rows.specs.Timetable.{IsLeast};
 ghost use Rattle.dm_program.specs.Asked.{run_from};
+ghost use Rattle.dm_program.specs.Opening.{StopsRun};
 ghost use Rattle.dm_program.specs.Stages.{IsAtStart, IsRunOver, IsReadyRun};
 
 use crate::answers::answer_feed;
-use crate::cost::cost;
+use crate::input::{Stop, read_input};
 use crate::log::LogItem;
-use crate::times::least;
 use dm_base::Cost;
-use dm_input::{RunWords, Stop, read_input};
+use dm_input::RunWords;
 use dm_network::Network;
 use dm_outside::Shelf;
 use dm_rows::{Entry, Rows};
+use dm_times::{NoTimes, Times, cost, least};
 use std::alloc::Global;
 
 /// A run that is answered and not yet printed.
@@ -28,11 +32,24 @@ pub struct Answered {
     pub history: Vec<Entry>,
     pub items: Vec<LogItem>,
 
-    /// The time of each event, by place, in seconds.
-    pub times: Vec<u64>,
+    pub times: Times,
 
     /// Thousandths of passenger seconds.
     pub cost: Cost,
+}
+
+/// The least timetable of rows without a cycle.
+fn times_of(alloc: Global, net: &Network, rows: &Rows) -> Result<Times, Stop>
+    requires sized { IsSized net.now rows.now }
+    requires no_cycle { HasNoCycle net.now rows.now }
+    ensures least { IfOk result (IsLeast net.now rows.now) }
+    ensures memory { IfErr result (λ stop. stop ≡ Stop.NoMemory) }
+{
+    match least(alloc, net, rows) {
+        Ok(times) => Ok(times),
+        Err(NoTimes::OutOfMemory) => Err(Stop::NoMemory),
+        Err(NoTimes::Cycle(_)) => unreachable!(),
+    }
 }
 
 /// Answers a feed over a network, from the rows before any message.
@@ -47,7 +64,7 @@ fn answer_run(
     requires start { IsAtStart net rows }
     requires size { length feed.now ≤ MOST }
     requires penalty { penalty ≤ 1000000 }
-    ensures run { IfOk result (λ a. IsRunOver a.net rows feed.now (run_from a.net rows a.penalty a.history.items a.items.items a.times.items a.cost)) }
+    ensures run { IfOk result (λ a. IsRunOver a.net rows feed.now (run_from a.net rows a.penalty a.history.items a.items.items a.times a.cost)) }
     ensures net { IfOk result (λ a. a.net ≡ net) }
     ensures penalty { IfOk result (λ a. a.penalty ≡ penalty) }
     ensures memory { IfErr result (λ stop. stop ≡ Stop.NoMemory) }
@@ -55,8 +72,8 @@ fn answer_run(
     let _network = net.events();
     let _limits = rows.events();
     let answers = answer_feed(alloc, &net, &mut rows, feed)?;
-    let times = least(alloc, &net, &rows)?;
-    let cost = cost(&net, &rows, times.as_slice(), penalty);
+    let times = times_of(alloc, &net, &rows)?;
+    let cost = cost(&net, &rows, &times, penalty);
     Ok(Answered {
         net,
         penalty,
@@ -69,17 +86,17 @@ fn answer_run(
 
 /// Reads and answers a run.
 pub fn prepare<H: Shelf>(alloc: Global, shelf: &mut H, run: &RunWords<'_>) -> Result<Answered, Stop>
-    requires penalty { run.now.penalty ≤ 1000000 }
+    requires penalty { run.now.files.penalty ≤ 1000000 }
     ensures kept { IsKept H.files H.is_sound shelf.old shelf.new }
-    ensures ready { IfOk result (IsReadyRun (H.files shelf.old) (command_of run.now)) }
-    ensures stops { IfErr result (StopsRun (H.files shelf.old) (H.is_sound shelf.old) (command_of run.now)) }
+    ensures ready { IfOk result (IsReadyRun (H.files shelf.old) (RunOf (run_of run.now))) }
+    ensures stops { IfErr result (StopsRun (H.files shelf.old) (H.is_sound shelf.old) (RunOf (run_of run.now))) }
 {
     let input = read_input(alloc, shelf, run)?;
     answer_run(
         alloc,
         input.net,
         input.rows,
-        run.penalty,
+        run.files.penalty,
         input.feed.as_slice(),
     )
 }

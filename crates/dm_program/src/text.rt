@@ -350,7 +350,7 @@ fn print_parts<K: Sink>(
 fn print_whole<K: Sink>(sink: &mut K, page: &mut Page, run: &Answered) -> Result<(), WriteFault>
     requires entries { All IsSpelledEntry run.now.history.items }
     requires items { All IsSpelledItem run.now.items.items }
-    requires size { length run.now.times.items ≡ length run.now.net.events }
+    requires size { length run.now.times ≡ length run.now.net.events }
     ensures { Prints K.taken K.faults sink.old sink.new page.old page.new result (run_text (run_in run.now)) }
 {
     print_parts(
@@ -369,7 +369,7 @@ fn print_whole<K: Sink>(sink: &mut K, page: &mut Page, run: &Answered) -> Result
 pub fn print_run<K: Sink>(sink: &mut K, run: &Answered) -> Result<(), WriteFault>
     requires entries { All IsSpelledEntry run.now.history.items }
     requires items { All IsSpelledItem run.now.items.items }
-    requires size { length run.now.times.items ≡ length run.now.net.events }
+    requires size { length run.now.times ≡ length run.now.net.events }
     ensures { Puts K.taken K.faults sink.old sink.new result (run_text (run_in run.now)) }
 {
     let mut page = Page::new();

@@ -1,20 +1,22 @@
 //! The top call.
-ghost use Rattle.std.specs.Prelude.{◌≡◌, ◌⊎◌, IsSome, map, string_bytes, vec_len, length, All};
+ghost use Rattle.std.specs.Prelude.{◌≡◌, ◌⊎◌, ◌≤◌, ◌∷◌, [], ℕ, List, IsSome, map, string_bytes, vec_len, length, All};
 ghost use Rattle.dm_outside.specs.Faults.{HasRisen};
-ghost use Rattle.dm_input.specs.Lines.{usage_line, refused_line, read_fault_line};
-ghost use Rattle.dm_input.specs.declared.parts.Flaw.{Flaw};
-ghost use Rattle.dm_input.specs.Input.{Input, IsInput, IsFirstRefusal};
-ghost use Rattle.dm_input.specs.RunWords.{command_of};
-ghost use Rattle.dm_input.specs.Words.{Asks, AsksNothing, Command};
+ghost use Rattle.dm_outside.specs.Printing.{Puts, joined};
+ghost use Rattle.dm_input.specs.Lines.{line_end, usage_line};
+ghost use Rattle.dm_input.specs.Asked.{run_of};
+ghost use Rattle.dm_input.specs.Words.{Asks, AsksNothing, Command, RunOf};
+ghost use Rattle.dm_program.specs.declared.input.Flaw.{Flaw};
+ghost use Rattle.dm_program.specs.Input.{Input, IsInput, IsFirstRefusal, read_fault_line, refused_line};
 ghost use Rattle.dm_program.specs.Asked.{run_in};
 ghost use Rattle.dm_program.specs.Runs.{IsSpelledEntry, IsSpelledItem, run_text};
 ghost use Rattle.dm_program.specs.Ends.{IsRunOf, IsUsage, IsRefusal, IsReadFault, IsDue, Writes, FailsToWrite, WantsMemory, EndsAt, AreSound, Ends, EndsAs};
 
+use crate::input::{Flaw, Part, Stop};
 use crate::prepare::{Answered, prepare};
 use crate::status::Status;
 use crate::text::print_run;
-use dm_input::{Flaw, Part, RunWords, Stop, put_read_fault, put_refused, put_usage, read_words};
-use dm_outside::{Board, Gate, Shelf, Sink, WriteFault};
+use dm_input::{CommandWords, RunWords, put_read_fault, put_refused, put_usage, read_words};
+use dm_outside::{Board, Gate, Page, Piece, Shelf, Sink, WriteFault};
 use std::alloc::Global;
 use std::sync::Wait;
 use std::thread::Threads;
@@ -60,15 +62,27 @@ pub fn dispatch<R: Threads + Wait + Sync, H: Shelf, K: Sink, G: Gate>(
 fn run<H: Shelf, K: Sink>(alloc: Global, words: &[String], shelf: &mut H, out: &mut K) -> Status
     ensures { Ends K.taken K.faults (H.files shelf.old) (H.is_sound shelf.old) (map string_bytes words.now) out.old out.new result }
 {
-    let Some(run) = read_words(words) else {
-        return end_usage(out);
-    };
-    match prepare(alloc, shelf, &run) {
+    match read_words(words) {
+        Some(CommandWords::Run(run)) => run_asked(alloc, &run, shelf, out),
+        None => end_usage(out),
+    }
+}
+
+/// Makes and prints a run.
+fn run_asked<H: Shelf, K: Sink>(
+    alloc: Global,
+    run: &RunWords<'_>,
+    shelf: &mut H,
+    out: &mut K,
+) -> Status
+    requires { run.now.files.penalty ≤ 1000000 }
+    ensures { (words : List (List ℕ)) → Asks words (RunOf (run_of run.now)) → Ends K.taken K.faults (H.files shelf.old) (H.is_sound shelf.old) words out.old out.new result }
+{
+    match prepare(alloc, shelf, run) {
         Ok(answered) => end_run(&answered, out),
-        Err(Stop::Refused(flaw)) => end_refused(&run, &flaw, out),
-        Err(Stop::ReadFault(part)) => end_unread(&run, part, out),
+        Err(Stop::Refused(flaw)) => end_refused(run, &flaw, out),
+        Err(Stop::ReadFault(part)) => end_unread(run, part, out),
         Err(Stop::NoMemory) => Status::NoMemory,
-        Err(Stop::Usage) => unreachable!(),
     }
 }
 
@@ -84,7 +98,7 @@ fn end_usage<K: Sink>(out: &mut K) -> Status
 fn end_run<K: Sink>(answered: &Answered, out: &mut K) -> Status
     requires entries { All IsSpelledEntry answered.now.history.items }
     requires items { All IsSpelledItem answered.now.items.items }
-    requires size { length answered.now.times.items ≡ length answered.now.net.events }
+    requires size { length answered.now.times ≡ length answered.now.net.events }
     ensures { EndsAs K.taken K.faults out.old out.new (run_text (run_in answered.now)) Status.Ok result }
 {
     match print_run(out, answered) {
@@ -94,19 +108,53 @@ fn end_run<K: Sink>(answered: &Answered, out: &mut K) -> Status
 }
 
 fn end_refused<K: Sink>(run: &RunWords<'_>, flaw: &Flaw, out: &mut K) -> Status
-    ensures { EndsAs K.taken K.faults out.old out.new (refused_line (command_of run.now) flaw.now) Status.Refused result }
+    ensures { EndsAs K.taken K.faults out.old out.new (refused_line (RunOf (run_of run.now)) flaw.now) Status.Refused result }
 {
-    match put_refused(out, run, flaw) {
+    match put_flaw(out, run, flaw) {
         Ok(()) => Status::Refused,
         Err(WriteFault) => Status::WriteFault,
     }
 }
 
 fn end_unread<K: Sink>(run: &RunWords<'_>, part: Part, out: &mut K) -> Status
-    ensures { EndsAs K.taken K.faults out.old out.new (read_fault_line (command_of run.now) part) Status.ReadFault result }
+    ensures { EndsAs K.taken K.faults out.old out.new (read_fault_line (RunOf (run_of run.now)) part) Status.ReadFault result }
 {
-    match put_read_fault(out, run, part) {
+    match put_unread(out, run, part) {
         Ok(()) => Status::ReadFault,
         Err(WriteFault) => Status::WriteFault,
     }
+}
+
+/// Puts the line of what is refused.
+fn put_flaw<K: Sink>(sink: &mut K, run: &RunWords<'_>, flaw: &Flaw) -> Result<(), WriteFault>
+    ensures { Puts K.taken K.faults sink.old sink.new result (refused_line (RunOf (run_of run.now)) flaw.now) }
+{
+    match flaw {
+        Flaw::OfFiles(flaw) => put_refused(sink, &run.files, flaw),
+        Flaw::LongFeed => put_line(sink, "refused ", run.feed),
+    }
+}
+
+/// Puts the line of what could not be read.
+fn put_unread<K: Sink>(sink: &mut K, run: &RunWords<'_>, part: Part) -> Result<(), WriteFault>
+    ensures { Puts K.taken K.faults sink.old sink.new result (read_fault_line (RunOf (run_of run.now)) part) }
+{
+    match part {
+        Part::InFolder(file) => put_read_fault(sink, &run.files, file),
+        Part::Feed => put_line(sink, "read fault ", run.feed),
+    }
+}
+
+/// Puts a line of two texts.
+fn put_line<'x, K: Sink>(sink: &mut K, front: &'x str, name: &'x str) -> Result<(), WriteFault>
+    ensures { Puts K.taken K.faults sink.old sink.new result (joined (front.now ∷ name.now ∷ line_end ∷ [])) }
+{
+    let mut page = Page::new();
+    let Ok(()) = page.put(
+        sink,
+        &[Piece::Text(front), Piece::Text(name), Piece::Text("\n")],
+    ) else {
+        return Err(WriteFault);
+    };
+    page.finish(sink)
 }

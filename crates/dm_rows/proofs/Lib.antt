@@ -1,7 +1,11 @@
 pub mod Adopting
 pub mod AsGraph
 pub mod AtStart
+pub mod Choosing
 pub mod FlipLemmas
+pub mod Holding
 pub mod PairEnds
+pub mod Setting
 pub mod StartDelays
 pub mod StartSizes
+pub mod Worked

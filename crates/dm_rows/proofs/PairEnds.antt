@@ -4,7 +4,7 @@ use Rattle.std.specs.Prelude.{IsSome}
 use Rattle.dm_network.specs.Net.{Net, pair_at, no_pair}
 use Rattle.dm_network.specs.Pairs.{joins, pair_place, FormPair, IsPaired}
 use Rattle.dm_network.specs.Start.{IsNetwork}
-use Rattle.dm_network.specs.Flat.{ArePairsInOrder}
+use Rattle.dm_network.specs.Inside.Flat.{ArePairsInOrder}
 use Rattle.dm_network.proofs.PairKeys.{pair_is_found, joins_forward}
 
 in_order : (net : Net) → IsPaired net → ArePairsInOrder net.pairs

@@ -18,7 +18,8 @@ use Rattle.dm_network.specs.Start.{IsNetwork}
 use Rattle.dm_network.proofs.Keys.{key_is_found}
 use Rattle.dm_base.specs.declared.limits.TheConstants.{DELAY}
 use Rattle.dm_rows.specs.Rows.{last_delay}
-use Rattle.dm_rows.specs.StartFaults.{AreKnown, AllAreKnown, AreDelaysOf, DelaysAreWithin, event_numbered, activity_numbered, event_number, activity_number}
+use Rattle.dm_rows.specs.Inside.Delays.{AreDelaysOf, event_number, activity_number}
+use Rattle.dm_rows.specs.StartFaults.{AreKnown, AllAreKnown, DelaysAreWithin, event_numbered, activity_numbered}
 
 -- the first n records are known, and each delay is by the last of them with its id
 pub record HasSetDelays (count : ℕ) (number : ℕ → ℕ) (place : ℕ → Option ℕ) (records : List DelayRow) (n : ℕ) (delays : List ℕ) : Type 0 where

@@ -6,7 +6,7 @@ use Rattle.dm_base.specs.declared.rows.DelayRow.{DelayRow}
 use Rattle.dm_network.specs.Net.{Net}
 use Rattle.dm_network.specs.Start.{starts_small_first}
 use Rattle.dm_rows.specs.Rows.{RowsValue, IsSized, last_delay}
-use Rattle.dm_rows.specs.StartFaults.{AreDelaysOf, IsStartWith}
+use Rattle.dm_rows.specs.Inside.Delays.{AreDelaysOf, IsStartWith}
 
 are_as_many : (count : ℕ) (number : ℕ → ℕ) (records : List DelayRow) (delays : List ℕ) → AreDelaysOf count number records delays →
     length delays ≡ count

@@ -1,12 +1,12 @@
 -- Which activities bind under the rows, and their cycles.
-use Rattle.std.specs.Prelude.{ℕ, ◌==◌, ◌<◌, ◌≡◌, Bool, true, false, IsTrue, List, length, Option, Some, None, is_some, if◌then◌else◌}
+use Rattle.std.specs.Prelude.{ℕ, ◌==◌, ◌<◌, Bool, true, false, IsTrue, List, length, Option, Some, None, is_some, if◌then◌else◌}
 use Rattle.dm_base.specs.declared.ids.ActId.{ActId}
 use Rattle.dm_base.specs.declared.rows.ActKind.{ActKind}
 use Rattle.dm_base.specs.declared.rows.ActKind.TheVariants.{Drive, Wait, Turnaround, Change, Headway}
-use Rattle.dm_graph.specs.Arcs.{Arcs, IsCycle as IsCycleOfArcs}
+use Rattle.dm_graph.specs.Arcs.{Arcs}
 use Rattle.dm_network.specs.Net.{Net, activity_at}
 use Rattle.dm_network.specs.Start.{first_event}
-use Rattle.dm_network.specs.Held.{arcs_of, ids_of}
+use Rattle.dm_network.specs.Held.{arcs_of, IsCycleOf, HasNoCycleOf, ShowsCycleOf}
 use Rattle.dm_rows.specs.Rows.{RowsValue, passed_at, kept_at, small_first_at}
 
 abbrev pub has_passed : RowsValue → ℕ → Bool
@@ -44,15 +44,13 @@ pub record IsActive (net : Net) (rows : RowsValue) (a : ℕ) : Type 0 where
 abbrev pub active_arcs : Net → RowsValue → Arcs
 active_arcs net rows = arcs_of net (is_active net rows)
 
--- a closed list of active activities: each head is the next tail, and the last head is the first tail
+-- A cycle of the rows is a closed list of active activities: each head is the next tail, and the last head is the first tail.
 abbrev pub IsCycle : Net → RowsValue → List ℕ → Type 0
-IsCycle net rows cycle = IsCycleOfArcs (active_arcs net rows) cycle
+IsCycle net rows cycle = IsCycleOf net (is_active net rows) cycle
 
 abbrev pub HasNoCycle : Net → RowsValue → Type 0
-HasNoCycle net rows = (cycle : List ℕ) → IsCycle net rows cycle → ⊥
+HasNoCycle net rows = HasNoCycleOf net (is_active net rows)
 
 -- a cycle, shown by the ids of its activities
-pub record ShowsCycle (net : Net) (rows : RowsValue) (ids : List ActId) : Type 0 where
-  pub places : List ℕ
-  pub is_cycle : IsCycle net rows places
-  pub named : ids ≡ ids_of net places
+abbrev pub ShowsCycle : Net → RowsValue → List ActId → Type 0
+ShowsCycle net rows ids = ShowsCycleOf net (is_active net rows) ids

@@ -26,11 +26,17 @@ change_choice net a = Change (activity_at net a).id
 abbrev pub pair_choice : Net → ℕ → Choice
 pair_choice net p = Pair (event_at net (pair_at net p).small).id (event_at net (pair_at net p).large).id
 
+-- the free changes, the free pairs, by place
+abbrev pub free_changes_of : Net → RowsValue → List Choice
+free_changes_of net rows =
+    map (change_choice net) (filter (is_free_change net rows) (range_with_len 0 (length net.activities)))
+
+abbrev pub free_pairs_of : Net → RowsValue → List Choice
+free_pairs_of net rows = map (pair_choice net) (filter (is_free_pair net rows) (range_with_len 0 (length net.pairs)))
+
 -- the free changes in ascending id, and after them the free pairs in ascending order of their ids
 abbrev pub free_choices_of : Net → RowsValue → List Choice
-free_choices_of net rows =
-    map (change_choice net) (filter (is_free_change net rows) (range_with_len 0 (length net.activities)))
-    ++ map (pair_choice net) (filter (is_free_pair net rows) (range_with_len 0 (length net.pairs)))
+free_choices_of net rows = free_changes_of net rows ++ free_pairs_of net rows
 
 -- the choice that a decision decides
 abbrev pub choice_of : Decision → Choice

@@ -4,7 +4,7 @@ use Rattle.dm_base.specs.declared.limits.TheConstants.{DELAY, PASSED_TIME}
 use Rattle.dm_rows.specs.declared.messages.Flip.{Flip}
 use Rattle.dm_rows.specs.declared.messages.Flip.TheVariants.{Keep, Drop, First}
 use Rattle.dm_rows.specs.declared.messages.Change.{Change}
-use Rattle.dm_rows.specs.declared.messages.Change.TheVariants.{EventDelay, ActDelay, Passed, Recalled, Flipped, Adopted}
+use Rattle.dm_rows.specs.declared.messages.Change.TheVariants.{EventDelay, ActDelay, Passed, Recalled, Flipped, Adopted, Clock}
 use Rattle.dm_rows.specs.Rows.{RowsValue}
 
 -- the activity or the pair of the decision is one of the rows'
@@ -21,3 +21,4 @@ Reaches rows (Passed i t) = (i < length rows.passed) × (t ≤ PASSED_TIME)
 Reaches rows (Recalled i) = i < length rows.passed
 Reaches rows (Flipped flip) = ReachesFlip rows flip
 Reaches rows (Adopted flips) = All (ReachesFlip rows) flips
+Reaches rows (Clock t) = t ≤ PASSED_TIME

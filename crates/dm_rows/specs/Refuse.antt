@@ -8,9 +8,9 @@ use Rattle.dm_network.specs.Net.{Net, event_at, activity_at, event_place, activi
 use Rattle.dm_rows.specs.declared.messages.Decision.{Decision}
 use Rattle.dm_rows.specs.declared.messages.Decision.TheVariants.{Keep as KeepIt, Drop as DropIt, First as FirstOf}
 use Rattle.dm_rows.specs.declared.messages.Message.{Message}
-use Rattle.dm_rows.specs.declared.messages.Message.TheVariants.{DelayEvent, DelayActivity, Pass, Recall, Keep, Drop, First, Adopt}
+use Rattle.dm_rows.specs.declared.messages.Message.TheVariants.{DelayEvent, DelayActivity, Pass, Recall, Keep, Drop, First, Adopt, Now}
 use Rattle.dm_rows.specs.declared.messages.Refusal.{Refusal}
-use Rattle.dm_rows.specs.declared.messages.Refusal.TheVariants.{Range, UnknownEvent, UnknownActivity, UnknownChange, UnknownPair, Passed, NotPassed, Cycle, Full, OutOfMemory}
+use Rattle.dm_rows.specs.declared.messages.Refusal.TheVariants.{Range, UnknownEvent, UnknownActivity, UnknownChange, UnknownPair, Passed, NotPassed, Back, Cycle, Full, OutOfMemory}
 use Rattle.dm_rows.specs.Rows.{RowsValue, passed_at}
 use Rattle.dm_rows.specs.Active.{HasNoCycle, ShowsCycle}
 use Rattle.dm_rows.specs.Resolve.{named_pair, after}
@@ -48,6 +48,12 @@ abbrev pub RefusesRecall : Net → RowsValue → EventId → Refusal → Type 0
 RefusesRecall net rows e (UnknownEvent u) = (event_place net e ≡ None) × (u ≡ e)
 RefusesRecall net rows e (NotPassed u) = IsSome (event_place net e) × (passed_time net rows e ≡ None) × (u ≡ e)
 RefusesRecall net rows e _ = ⊥
+
+-- a clock of at most PASSED_TIME that is not taken back
+abbrev pub RefusesClock : RowsValue → ℕ → Refusal → Type 0
+RefusesClock rows t (Range v) = (PASSED_TIME < t) × (v ≡ t)
+RefusesClock rows t (Back c) = (t ≤ PASSED_TIME) × (t < rows.clock) × (c ≡ rows.clock)
+RefusesClock rows t _ = ⊥
 
 -- keeping or dropping a change whose head has not passed
 abbrev pub RefusesChange : Net → RowsValue → ActId → Refusal → Type 0
@@ -87,7 +93,7 @@ pub record RefusesSome (net : Net) (rows : RowsValue) (decisions : List Decision
   pub refused : RefusesDecision net rows decision r
   pub passed_before : (k : ℕ) (d : Decision) → k < at → slice_get decisions k ≡ Some d → PassesDecision net rows d
 
--- what refuses a message for its numbers, its ids and the events that have passed
+-- what refuses a message for its numbers, its ids, the events that have passed and the clock
 abbrev pub RefusesAtOnce : Net → RowsValue → Message → Refusal → Type 0
 RefusesAtOnce net rows (DelayEvent e d) r = RefusesNumberFor net rows DELAY e d r
 RefusesAtOnce net rows (DelayActivity a d) r = RefusesDelayOf net rows a d r
@@ -97,6 +103,7 @@ RefusesAtOnce net rows (Keep a) r = RefusesChange net rows a r
 RefusesAtOnce net rows (Drop a) r = RefusesChange net rows a r
 RefusesAtOnce net rows (First i j) r = RefusesFirst net rows i j r
 RefusesAtOnce net rows (Adopt ds) r = RefusesSome net rows ds r
+RefusesAtOnce net rows (Now t) r = RefusesClock rows t r
 
 -- nothing refuses the message at once
 abbrev pub PassesAtOnce : Net → RowsValue → Message → Type 0
@@ -110,11 +117,24 @@ IsAdopt _ = ⊥
 abbrev pub RefusesAdmission : Net → RowsValue → Message → Refusal → Type 0
 RefusesAdmission net rows m r = RefusesAtOnce net rows m r ⊎ (IsAdopt m × (r ≡ OutOfMemory))
 
+-- a clock, of which no cycle is asked: it makes none
+abbrev pub IsNow : Message → Type 0
+IsNow (DelayEvent e d) = ⊥
+IsNow (DelayActivity a d) = ⊥
+IsNow (Pass e t) = ⊥
+IsNow (Recall e) = ⊥
+IsNow (Keep a) = ⊥
+IsNow (Drop a) = ⊥
+IsNow (First i j) = ⊥
+IsNow (Adopt ds) = ⊥
+IsNow (Now t) = Unit {0}
+
 -- The refusal of a message at a history of n entries: the first that applies. After those at once comes a cycle of the
--- rows after the message, any one of them, and then a full history. Want of memory is left out.
+-- rows after the message, any one of them, and then a full history; after a clock a full history alone. Want of memory is
+-- left out.
 abbrev pub Refuses : Net → RowsValue → ℕ → Message → Refusal → Type 0
-Refuses net rows n m (Cycle ids) = PassesAtOnce net rows m × ShowsCycle net (after net rows m) ids
+Refuses net rows n m (Cycle ids) = PassesAtOnce net rows m × (IsNow m → ⊥) × ShowsCycle net (after net rows m) ids
 Refuses net rows n m (Full k) =
-    PassesAtOnce net rows m × HasNoCycle net (after net rows m) × (n ≡ ENTRIES) × (k ≡ n)
+    PassesAtOnce net rows m × (IsNow m ⊎ HasNoCycle net (after net rows m)) × (n ≡ ENTRIES) × (k ≡ n)
 Refuses net rows n m OutOfMemory = ⊥
 Refuses net rows n m r = RefusesAtOnce net rows m r

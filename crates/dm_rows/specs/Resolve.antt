@@ -7,11 +7,11 @@ use Rattle.dm_network.specs.Pairs.{pair_place}
 use Rattle.dm_rows.specs.declared.messages.Decision.{Decision}
 use Rattle.dm_rows.specs.declared.messages.Decision.TheVariants.{Keep as KeepIt, Drop as DropIt, First as FirstOf}
 use Rattle.dm_rows.specs.declared.messages.Message.{Message}
-use Rattle.dm_rows.specs.declared.messages.Message.TheVariants.{DelayEvent, DelayActivity, Pass, Recall, Keep, Drop, First, Adopt}
+use Rattle.dm_rows.specs.declared.messages.Message.TheVariants.{DelayEvent, DelayActivity, Pass, Recall, Keep, Drop, First, Adopt, Now}
 use Rattle.dm_rows.specs.declared.messages.Flip.{Flip}
 use Rattle.dm_rows.specs.declared.messages.Flip.TheVariants.{Keep as KeepFlip, Drop as DropFlip, First as FirstFlip}
 use Rattle.dm_rows.specs.declared.messages.Change.{Change}
-use Rattle.dm_rows.specs.declared.messages.Change.TheVariants.{EventDelay, ActDelay, Passed, Recalled, Flipped, Adopted}
+use Rattle.dm_rows.specs.declared.messages.Change.TheVariants.{EventDelay, ActDelay, Passed, Recalled, Flipped, Adopted, Clock}
 use Rattle.dm_rows.specs.Rows.{RowsValue}
 
 -- the place of the pair that two event ids name, or None where an id is unknown or the two form no pair
@@ -51,6 +51,7 @@ change_named net (Keep a) = option_map (λ flip. Flipped flip) (flip_named net (
 change_named net (Drop a) = option_map (λ flip. Flipped flip) (flip_named net (DropIt a))
 change_named net (First i j) = option_map (λ flip. Flipped flip) (flip_named net (FirstOf i j))
 change_named net (Adopt ds) = option_map (λ flips. Adopted flips) (flips_named net ds)
+change_named net (Now t) = Some (Clock t)
 
 -- the rows with one decision set
 abbrev pub after_flip : RowsValue → Flip → RowsValue
@@ -58,7 +59,7 @@ after_flip rows (KeepFlip a) = record rows { kept = slice_set rows.kept a true }
 after_flip rows (DropFlip a) = record rows { kept = slice_set rows.kept a false }
 after_flip rows (FirstFlip p small) = record rows { small_first = slice_set rows.small_first p small }
 
--- one row changes, and all others stay; an adopted list sets each of its decisions in turn
+-- one row or the clock changes, and all else stays; an adopted list sets each of its decisions in turn
 abbrev pub after_change : RowsValue → Change → RowsValue
 after_change rows (EventDelay i d) = record rows { event_delays = slice_set rows.event_delays i d }
 after_change rows (ActDelay a d) = record rows { act_delays = slice_set rows.act_delays a d }
@@ -66,6 +67,7 @@ after_change rows (Passed i t) = record rows { passed = slice_set rows.passed i 
 after_change rows (Recalled i) = record rows { passed = slice_set rows.passed i None }
 after_change rows (Flipped flip) = after_flip rows flip
 after_change rows (Adopted flips) = fold after_flip rows flips
+after_change rows (Clock t) = record rows { clock = t }
 
 abbrev pub after_named : RowsValue → Option Change → RowsValue
 after_named rows (Some change) = after_change rows change

@@ -8,13 +8,15 @@ use Rattle.dm_network.specs.Net.{Net, event_at, activity_at}
 use Rattle.dm_network.specs.Start.{starts_small_first}
 
 -- a source delay for each event and each activity, the time at which an event has passed, whether an activity is kept
--- (which matters for changes alone), and of each pair whether the event with the smaller id is first
+-- (which matters for changes alone), of each pair whether the event with the smaller id is first, and the clock: the time
+-- before which no event lies that has not passed
 pub record RowsValue : Type 0 where
   pub event_delays : List ℕ
   pub act_delays : List ℕ
   pub passed : List (Option ℕ)
   pub kept : List Bool
   pub small_first : List Bool
+  pub clock : ℕ
 
 abbrev pub event_delay_at : RowsValue → ℕ → ℕ
 event_delay_at rows i = slice_index_or rows.event_delays i 0
@@ -40,21 +42,22 @@ pub record IsSized (net : Net) (rows : RowsValue) : Type 0 where
   pub kept : length rows.kept ≡ length net.activities
   pub small_first : length rows.small_first ≡ length net.pairs
 
--- delays are at most DELAY, and passed times at most PASSED_TIME
-pub record NumbersAreWithinLimits (event_delays act_delays : List ℕ) (passed : List (Option ℕ)) : Type 0 where
+-- delays are at most DELAY, and passed times and the clock at most PASSED_TIME
+pub record NumbersAreWithinLimits (event_delays act_delays : List ℕ) (passed : List (Option ℕ)) (clock : ℕ) : Type 0 where
   pub of_events : (i : ℕ) → slice_index_or event_delays i 0 ≤ DELAY
   pub of_activities : (a : ℕ) → slice_index_or act_delays a 0 ≤ DELAY
   pub of_passed : (i : ℕ) → ForSome (slice_index_or passed i None) (λ t. t ≤ PASSED_TIME)
+  pub of_clock : clock ≤ PASSED_TIME
 
 abbrev pub RowsAreWithinLimits : RowsValue → Type 0
-RowsAreWithinLimits rows = NumbersAreWithinLimits rows.event_delays rows.act_delays rows.passed
+RowsAreWithinLimits rows = NumbersAreWithinLimits rows.event_delays rows.act_delays rows.passed rows.clock
 
 -- the delay in the last record of this id, or 0 where there is none
 abbrev pub last_delay : List DelayRow → ℕ → ℕ
 last_delay records id = fold (λ delay row. if row.id == id then row.delay else delay) 0 records
 
--- At the start the delays are those of the records, no event has passed, every change is kept, and of each pair the event
--- with the smaller scheduled time is first, the one with the smaller id on a tie.
+-- At the start the delays are those of the records, no event has passed, every change is kept, of each pair the event
+-- with the smaller scheduled time is first, the one with the smaller id on a tie, and the clock is 0.
 abbrev pub start_rows_of : Net → List DelayRow → List DelayRow → RowsValue
 start_rows_of net events activities =
     record {
@@ -63,4 +66,5 @@ start_rows_of net events activities =
       passed = replicate (length net.events) None;
       kept = replicate (length net.activities) true;
       small_first = map (starts_small_first net) (range_with_len 0 (length net.pairs));
+      clock = 0;
     }

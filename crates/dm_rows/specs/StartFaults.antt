@@ -1,11 +1,9 @@
 -- Why delay records make no start rows.
-use Rattle.std.specs.Prelude.{map, [], slice_index_or, ℕ, ◌≡◌, ◌<◌, ◌≤◌, List, Option, Some, None, IsSome, slice_get}
-use Rattle.std.specs.List.{range_with_len}
+use Rattle.std.specs.Prelude.{ℕ, ◌≡◌, ◌<◌, ◌≤◌, List, Option, Some, None, IsSome, slice_get}
 use Rattle.dm_base.specs.declared.rows.DelayRow.{DelayRow}
 use Rattle.dm_base.specs.declared.limits.TheConstants.{DELAY}
-use Rattle.dm_network.specs.Net.{Net, event_at, activity_at, event_place, activity_place}
+use Rattle.dm_network.specs.Net.{Net, event_place, activity_place}
 use Rattle.dm_rows.specs.declared.messages.StartFault.{StartFault}
-use Rattle.dm_rows.specs.Rows.{RowsValue, last_delay, start_rows_of}
 use Rattle.dm_rows.specs.declared.messages.StartFault.TheVariants.{UnknownEvent, UnknownActivity, OutOfMemory}
 
 -- each delay is at most DELAY
@@ -38,36 +36,8 @@ pub record IsFirstUnknown (place : ℕ → Option ℕ) (records : List DelayRow)
   pub known_before : AreKnown place records at
 
 -- the first unknown event, and after all events the first unknown activity
-abbrev pub RefusesStart : Net → List DelayRow → List DelayRow → StartFault → Type 0
-RefusesStart net events activities (UnknownEvent id) = IsFirstUnknown (event_numbered net) events id.0
-RefusesStart net events activities (UnknownActivity id) =
+abbrev pub RefusesDelayRecords : Net → List DelayRow → List DelayRow → StartFault → Type 0
+RefusesDelayRecords net events activities (UnknownEvent id) = IsFirstUnknown (event_numbered net) events id.0
+RefusesDelayRecords net events activities (UnknownActivity id) =
     AllAreKnown (event_numbered net) events × IsFirstUnknown (activity_numbered net) activities id.0
-RefusesStart net events activities OutOfMemory = Unit {0}
-
--- what the events' records alone, and what the activities' records alone may be refused for
-abbrev pub RefusesEvents : Net → List DelayRow → StartFault → Type 0
-RefusesEvents net records (UnknownEvent id) = IsFirstUnknown (event_numbered net) records id.0
-RefusesEvents net records (UnknownActivity id) = ⊥
-RefusesEvents net records OutOfMemory = Unit {0}
-
-abbrev pub RefusesActivities : Net → List DelayRow → StartFault → Type 0
-RefusesActivities net records (UnknownEvent id) = ⊥
-RefusesActivities net records (UnknownActivity id) = IsFirstUnknown (activity_numbered net) records id.0
-RefusesActivities net records OutOfMemory = Unit {0}
-
--- the number of the event, of the activity at a place
-abbrev pub event_number : Net → ℕ → ℕ
-event_number net i = (event_at net i).id.0
-
-abbrev pub activity_number : Net → ℕ → ℕ
-activity_number net a = (activity_at net a).id.0
-
--- as many delays as there are ids, each by the last record of its id, and at most DELAY
-pub record AreDelaysOf (count : ℕ) (number : ℕ → ℕ) (records : List DelayRow) (delays : List ℕ) : Type 0 where
-  pub are : delays ≡ map (λ i. last_delay records (number i)) (range_with_len 0 count)
-  pub within : (i : ℕ) → slice_index_or delays i 0 ≤ DELAY
-
--- the start rows with these delays
-abbrev pub IsStartWith : Net → List ℕ → List ℕ → RowsValue → Type 0
-IsStartWith net event_delays act_delays rows =
-    rows ≡ record (start_rows_of net [] []) { event_delays = event_delays; act_delays = act_delays }
+RefusesDelayRecords net events activities OutOfMemory = Unit {0}

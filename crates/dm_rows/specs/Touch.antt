@@ -1,27 +1,40 @@
--- What a delay or a passed event may move.
-use Rattle.std.specs.Prelude.{ℕ, ◌≡◌, ◌≢◌, ◌⊎◌, List}
+-- What a delay, a passed event or the clock may move.
+use Rattle.std.specs.Prelude.{ℕ, ◌≡◌, ◌≢◌, ◌<◌, ◌⊎◌, List, length, None}
 use Rattle.dm_network.specs.Net.{Net, activity_at}
 use Rattle.dm_rows.specs.declared.messages.Change.{Change}
-use Rattle.dm_rows.specs.declared.messages.Change.TheVariants.{EventDelay, ActDelay, Passed}
-use Rattle.dm_rows.specs.Rows.{RowsValue}
+use Rattle.dm_rows.specs.declared.messages.Change.TheVariants.{EventDelay, ActDelay, Passed, Recalled, Flipped, Adopted, Clock}
+use Rattle.dm_rows.specs.Rows.{RowsValue, passed_at}
 use Rattle.dm_rows.specs.Active.{IsActive}
 use Rattle.dm_rows.specs.Timetable.{time_at}
 
--- of the changes, the delays and the passed events alone touch anything
-abbrev pub IsDelayOrPass : Change → Type 0
-IsDelayOrPass (EventDelay e d) = Unit {0}
-IsDelayOrPass (ActDelay a d) = Unit {0}
-IsDelayOrPass (Passed e t) = Unit {0}
-IsDelayOrPass _ = ⊥
+-- the changes of which touched events are told: delays, passed events and clocks
+abbrev pub IsDelayPassOrClock : Change → Type 0
+IsDelayPassOrClock (EventDelay e d) = Unit {0}
+IsDelayPassOrClock (ActDelay a d) = Unit {0}
+IsDelayPassOrClock (Passed e t) = Unit {0}
+IsDelayPassOrClock (Clock t) = Unit {0}
+IsDelayPassOrClock (Recalled e) = ⊥
+IsDelayPassOrClock (Flipped flip) = ⊥
+IsDelayPassOrClock (Adopted flips) = ⊥
+
+-- an activity that is active leads from the event to the other
+pub record IsActiveBetween (net : Net) (rows : RowsValue) (tail head : ℕ) : Type 0 where
+  pub a : ℕ
+  pub active : IsActive net rows a
+  pub from_tail : (activity_at net a).tail ≡ tail
+  pub to_head : (activity_at net a).head ≡ head
 
 -- The event that a delay or a passed time is for, or the head of the activity that it is for. A passed time touches the
--- heads of its event's active activities too. The rows are those after the change.
-abbrev pub IsTouched : Net → RowsValue → Change → ℕ → Type 0
-IsTouched net rows (EventDelay e d) i = i ≡ e
-IsTouched net rows (ActDelay a d) i = i ≡ (activity_at net a).head
-IsTouched net rows (Passed e t) i =
-    (i ≡ e) ⊎ ((a : ℕ) × IsActive net rows a × ((activity_at net a).tail ≡ e) × ((activity_at net a).head ≡ i))
-IsTouched net rows _ i = ⊥
+-- heads of its event's active activities too, and a clock each event that has not passed and whose time before is below
+-- it. The rows are those after the change, and the times those before it.
+abbrev pub IsTouched : Net → RowsValue → Change → List ℕ → ℕ → Type 0
+IsTouched net rows (EventDelay e d) before i = i ≡ e
+IsTouched net rows (ActDelay a d) before i = i ≡ (activity_at net a).head
+IsTouched net rows (Passed e t) before i = (i ≡ e) ⊎ IsActiveBetween net rows e i
+IsTouched net rows (Clock t) before i = (i < length net.events) × (passed_at rows i ≡ None) × (time_at before i < t)
+IsTouched net rows (Recalled e) before i = ⊥
+IsTouched net rows (Flipped flip) before i = ⊥
+IsTouched net rows (Adopted flips) before i = ⊥
 
 -- the time of the event differs before and after
 abbrev pub IsChanged : List ℕ → List ℕ → ℕ → Type 0
@@ -30,5 +43,5 @@ IsChanged before after i = time_at before i ≢ time_at after i
 -- a touched event, or the head of an active activity out of a changed one
 abbrev pub MayMove : Net → RowsValue → Change → List ℕ → List ℕ → ℕ → Type 0
 MayMove net rows change before after i =
-    IsTouched net rows change i
-    ⊎ ((a : ℕ) × IsActive net rows a × IsChanged before after (activity_at net a).tail × ((activity_at net a).head ≡ i))
+    IsTouched net rows change before i
+    ⊎ ((tail : ℕ) × IsChanged before after tail × IsActiveBetween net rows tail i)

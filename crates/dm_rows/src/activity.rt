@@ -13,7 +13,7 @@ pub fn is_active(net: &Network, rows: &Rows, a: usize) -> bool
     requires is_activity { a < length net.now.activities }
     ensures { result ≡ is_active net.now rows.now a }
 {
-    let _sound = net.events();
+    net.sound();
     let activity = net.activity(a);
     if rows.passed(activity.head).is_some() {
         return false;

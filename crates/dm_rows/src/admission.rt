@@ -4,7 +4,7 @@ ghost use Rattle.dm_network.specs.Net.{activity_at, event_at, activity_place, ev
 ghost use Rattle.dm_rows.specs.Rows.{IsSized, passed_at};
 ghost use Rattle.dm_rows.specs.Reach.{Reaches, ReachesFlip};
 ghost use Rattle.dm_rows.specs.Resolve.{change_named, flip_named, flips_named, named_pair};
-ghost use Rattle.dm_rows.specs.Refuse.{RefusesAtOnce, PassesAtOnce, RefusesDecision, PassesDecision, RefusesSome, RefusesChange, RefusesFirst, RefusesNumberFor, RefusesDelayOf, RefusesRecall, HeadHasPassed, passed_time, RefusesNothing, RefusesAdmission};
+ghost use Rattle.dm_rows.specs.Refuse.{RefusesAtOnce, PassesAtOnce, RefusesDecision, PassesDecision, RefusesSome, RefusesChange, RefusesFirst, RefusesNumberFor, RefusesDelayOf, RefusesRecall, HeadHasPassed, passed_time, RefusesNothing, RefusesAdmission, RefusesClock};
 
 use crate::messages::{Change, Decision, Flip, Message, Refusal};
 use crate::rows::Rows;
@@ -13,8 +13,8 @@ use dm_base::{ActId, ActKind, EventId, Items, Secs};
 use dm_network::Network;
 use std::alloc::Global;
 
-/// What a message comes to by place, or the first cause that refuses it for its numbers, its ids or the events that have
-/// passed. A cycle of the rows after it, and a full history, are not looked for. Only an `Adopt` takes memory.
+/// What a message comes to by place, or the first cause that refuses it for its numbers, its ids, the events that have
+/// passed or the clock. A cycle of the rows after it, and a full history, are not looked for. Only an `Adopt` takes memory.
 pub fn admit(
     alloc: Global,
     net: &Network,
@@ -38,6 +38,7 @@ pub fn admit(
         Message::Adopt(decisions) => flips_of(alloc, net, rows, decisions.as_slice()).map(
             Change::Adopted,
         ),
+        Message::Now(time) => clock_at(rows, *time),
     }
 }
 
@@ -116,7 +117,7 @@ fn passed_head(net: &Network, rows: &Rows, act: usize) -> Option<(EventId, Secs)
     ensures passed { IfSome result (λ p. HeadHasPassed net.now rows.now act p.0 p.1) }
     ensures free { IfNone result (passed_at rows.now (activity_at net.now act).head ≡ None) }
 {
-    let _sound = net.events();
+    net.sound();
     let head = net.activity(act).head;
     let time = rows.passed(head)?;
     Some((net.event(head).id, time))
@@ -235,4 +236,21 @@ fn recalled_event(net: &Network, rows: &Rows, e: EventId) -> Result<Change, Refu
         Some(_) => Ok(Change::Recalled { event }),
         None => Err(Refusal::NotPassed(e)),
     }
+}
+
+/// A clock that is not taken back.
+fn clock_at(rows: &Rows, time: Secs) -> Result<Change, Refusal>
+    ensures named { IfOk result (λ change. change ≡ Change.Clock time) }
+    ensures in_range { OnOk result (time ≤ PASSED_TIME) }
+    ensures passes { IfOk result (λ _. RefusesNothing (RefusesClock rows.now time)) }
+    ensures refused { IfErr result (RefusesClock rows.now time) }
+{
+    if time > PASSED_TIME {
+        return Err(Refusal::Range(time));
+    }
+    let clock = rows.clock();
+    if time < clock {
+        return Err(Refusal::Back(clock));
+    }
+    Ok(Change::Clock { time })
 }

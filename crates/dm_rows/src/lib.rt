@@ -6,6 +6,7 @@
 
 mod activity;
 mod admission;
+mod choices;
 pub mod laws;
 mod messages;
 mod rows;
@@ -13,6 +14,7 @@ mod starting;
 
 pub use activity::is_active;
 pub use admission::{admit, flip_of};
+pub use choices::free_choices;
 pub use messages::{At, Change, Choice, Decision, Entry, Flip, Message, Refusal, StartFault};
 pub use rows::{Rows, Snapshot};
 pub use starting::start_rows;

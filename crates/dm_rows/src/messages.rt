@@ -48,6 +48,9 @@ pub enum Message {
 
     /// Each decision in turn.
     Adopt(Items<Decision>),
+
+    /// It is this time now, in seconds: what has not passed comes no earlier.
+    Now(Secs),
 }
 
 /// An accepted message, and the feed and line that it came from, both from 1.
@@ -84,12 +87,13 @@ pub enum Change {
     Recalled { event: usize },
     Flipped(Flip),
     Adopted(Items<Flip>),
+    Clock { time: Secs },
 }
 
 /// Why a message is refused, in the order in which the causes are looked for.
 #[derive(PartialEq, Eq, Debug, Drop)]
 pub enum Refusal {
-    /// A delay is above 1,000,000 seconds, or a passed time above 2,000,000,000 seconds.
+    /// A delay is above 1,000,000 seconds, or a passed time or a clock above 2,000,000,000 seconds.
     Range(u64),
 
     /// The first id named as an event that is none.
@@ -109,6 +113,9 @@ pub enum Refusal {
 
     /// The event to recall has not passed.
     NotPassed(EventId),
+
+    /// The time that it is said to be is before the clock, which is this, in seconds.
+    Back(Secs),
 
     /// The rows after the message have this cycle.
     Cycle(Items<ActId>),

@@ -1,7 +1,8 @@
 //! The rows of a day, and what one message does to them.
 ghost use Rattle.std.specs.Prelude.{ℕ, slice_index_or, ◌≡◌, ◌<◌, ◌≤◌, length, All, fold, IfOk, IfSome};
-ghost use Rattle.dm_rows.specs.Rows.{RowsAreWithinLimits, event_delay_at, act_delay_at, passed_at, kept_at, small_first_at};
-ghost use Rattle.dm_rows.specs.StartFaults.{IsStartWith};
+ghost use Rattle.dm_network.specs.Net.{Net};
+ghost use Rattle.dm_rows.specs.Rows.{IsSized, RowsAreWithinLimits, event_delay_at, act_delay_at, passed_at, kept_at, small_first_at};
+ghost use Rattle.dm_rows.specs.Inside.Delays.{IsStartWith};
 ghost use Rattle.dm_rows.specs.Resolve.{after_change, after_flip};
 ghost use Rattle.dm_rows.specs.Reach.{Reaches, ReachesFlip};
 
@@ -13,7 +14,7 @@ use dm_network::Network;
 use std::alloc::{AllocError, Global};
 use std::marker::Model;
 
-/// The source delays, the passed events, the kept changes and the order of each pair, by place.
+/// The source delays, the passed events, the kept changes and the order of each pair, by place, and the clock.
 #[derive(Drop)]
 pub struct Rows {
     alloc: Global,
@@ -22,6 +23,7 @@ pub struct Rows {
     passed: Vec<Option<u64>>,
     kept: Vec<bool>,
     small_first: Vec<bool>,
+    clock: u64,
 }
 
 impl Model for Rows {
@@ -35,9 +37,10 @@ impl Model for Rows {
       passed = r.passed.items;
       kept = r.kept.items;
       small_first = r.small_first.items;
+      clock = r.clock;
     } };
 
-    ghost invariant = { λ r. NumbersAreWithinLimits r.event_delays.items r.act_delays.items r.passed.items };
+    ghost invariant = { λ r. NumbersAreWithinLimits r.event_delays.items r.act_delays.items r.passed.items r.clock };
 }
 
 /// The rows at an entry of a history.
@@ -66,7 +69,15 @@ impl Rows {
             passed: vec![in alloc; None; net.events()]?,
             kept: vec![in alloc; true; net.activities()]?,
             small_first: first_events(alloc, net)?,
+            clock: 0,
         })
+    }
+
+    /// Delays are at most 1,000,000 seconds, and passed times and the clock at most 2,000,000,000. Callers learn it here.
+    pub fn is_within_limits(&self)
+        ensures { RowsAreWithinLimits self.now }
+    {
+        let _read = self.clock;
     }
 
     /// How many events the rows are of.
@@ -120,6 +131,14 @@ impl Rows {
         self.small_first[p]
     }
 
+    /// The clock, in seconds: no event that has not passed lies before it.
+    pub fn clock(&self) -> Secs
+        ensures value { result ≡ self.now.clock }
+        ensures limit { result ≤ PASSED_TIME }
+    {
+        self.clock
+    }
+
     /// Equal rows.
     pub fn copy(&self) -> Result<Rows, AllocError>
         ensures same { IfOk result (λ rows. rows ≡ self.now) }
@@ -132,6 +151,7 @@ impl Rows {
             passed: Vec::from_slice(self.alloc, &self.passed)?,
             kept: Vec::from_slice(self.alloc, &self.kept)?,
             small_first: Vec::from_slice(self.alloc, &self.small_first)?,
+            clock: self.clock,
         })
     }
 
@@ -160,7 +180,8 @@ impl Rows {
     /// Makes the change of an admitted message.
     pub fn apply(&mut self, change: &Change)
         requires { Reaches self.old change.now }
-        ensures { self.new ≡ after_change self.old change.now }
+        ensures rows { self.new ≡ after_change self.old change.now }
+        ensures sizes { (net : Net) → IsSized net self.old → IsSized net self.new }
     {
         match change {
             Change::EventDelay { event, delay } => self.event_delays[*event] = *delay,
@@ -171,6 +192,7 @@ impl Rows {
             Change::Adopted(flips) => {
                 self.set_all(flips.as_slice());
             }
+            Change::Clock { time } => self.clock = *time,
         }
     }
 }

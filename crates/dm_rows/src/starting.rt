@@ -4,7 +4,8 @@ ghost use Rattle.std.specs.List.{range_with_len};
 ghost use Rattle.dm_network.specs.Net.{event_at, activity_at};
 ghost use Rattle.dm_network.specs.Start.{starts_small_first};
 ghost use Rattle.dm_rows.specs.Rows.{IsSized, start_rows_of};
-ghost use Rattle.dm_rows.specs.StartFaults.{DelaysAreWithin, RefusesStart, AllAreKnown, IsFirstUnknown, event_numbered, activity_numbered, AreDelaysOf, event_number, activity_number, RefusesEvents, RefusesActivities};
+ghost use Rattle.dm_rows.specs.Inside.Delays.{AreDelaysOf, event_number, activity_number, RefusesEventDelays, RefusesActivityDelays};
+ghost use Rattle.dm_rows.specs.StartFaults.{DelaysAreWithin, RefusesDelayRecords, AllAreKnown, IsFirstUnknown, event_numbered, activity_numbered};
 
 use crate::messages::StartFault;
 use crate::rows::Rows;
@@ -26,7 +27,7 @@ pub fn start_rows(
     ensures sized { IfOk result (IsSized net.now) }
     ensures events_known { OnOk result (AllAreKnown (event_numbered net.now) events.now) }
     ensures activities_known { OnOk result (AllAreKnown (activity_numbered net.now) activities.now) }
-    ensures refused { IfErr result (RefusesStart net.now events.now activities.now) }
+    ensures refused { IfErr result (RefusesDelayRecords net.now events.now activities.now) }
 {
     let event_delays = delays_of_events(alloc, net, events)?;
     let act_delays = delays_of_activities(alloc, net, activities)?;
@@ -45,7 +46,7 @@ fn delays_of_events(
     requires { DelaysAreWithin records.now }
     ensures delays { IfOk result (λ delays. AreDelaysOf (length net.now.events) (event_number net.now) records.now delays.items) }
     ensures known { OnOk result (AllAreKnown (event_numbered net.now) records.now) }
-    ensures refused { IfErr result (RefusesEvents net.now records.now) }
+    ensures refused { IfErr result (RefusesEventDelays net.now records.now) }
 {
     let count = net.events();
     let Ok(mut delays) = vec![in alloc; 0; count] else {
@@ -69,9 +70,9 @@ fn delays_of_activities(
     requires { DelaysAreWithin records.now }
     ensures delays { IfOk result (λ delays. AreDelaysOf (length net.now.activities) (activity_number net.now) records.now delays.items) }
     ensures known { OnOk result (AllAreKnown (activity_numbered net.now) records.now) }
-    ensures refused { IfErr result (RefusesActivities net.now records.now) }
+    ensures refused { IfErr result (RefusesActivityDelays net.now records.now) }
 {
-    let _sound = net.events();
+    net.sound();
     let count = net.activities();
     let Ok(mut delays) = vec![in alloc; 0; count] else {
         return Err(StartFault::OutOfMemory);
@@ -101,7 +102,7 @@ fn starts_small_first(net: &Network, p: usize) -> bool
     requires { p < length net.now.pairs }
     ensures { result ≡ starts_small_first net.now p }
 {
-    let _sound = net.events();
+    net.sound();
     let pair = net.pair(p);
     net.event(pair.small).time <= net.event(pair.large).time
 }

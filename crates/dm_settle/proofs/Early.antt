@@ -1,127 +1,172 @@
 -- No time is later than the ranks of the events allow, and so each is below the limit of all times.
-use Rattle.std.proofs.Common.{◌≡◌, ℕ, zero, suc, ◌+◌, ◌<◌, ◌≤◌, Bool, true, List, length, Option, Some, None, refl, sym, ap, subst, inl, inr, arith, slice_index}
-use Rattle.std.specs.Prelude.{unwrap_or}
-use Rattle.std.specs.Option.{ForSome}
-use Rattle.std.proofs.lemmas.Bool.{cases_Bool, cases_lt}
+use Rattle.std.proofs.Common.{◌≡◌, ℕ, zero, suc, ◌+◌, ◌<◌, ◌≤◌, Bool, true, List, length, refl, sym, ap, subst, ◌∙◌, ◌*◌, ◌^◌, ◌⊎◌, inl, inr, arith, slice_index}
+use Rattle.std.proofs.lemmas.Bool.{cases_Bool, cases_lt, cases_eq}
 use Rattle.std.proofs.lemmas.List.{get_or_past}
 use Rattle.dm_base.specs.declared.limits.TheConstants.{EVENTS, PASSED_TIME, BOUND, DELAY}
+use Rattle.dm_graph.specs.Arcs.{Arcs, Binds, HasNoCycle}
 use Rattle.dm_graph.specs.Arrays.{AreRanks}
+use Rattle.dm_graph.specs.Graph.{Graph}
 use Rattle.dm_graph.proofs.Chains.{Rises}
-use Rattle.dm_network.specs.Net.{Net, EndsAreKnown, IsWithinLimits, activity_at}
-use Rattle.dm_rows.specs.Rows.{RowsValue, RowsAreWithinLimits, passed_at}
-use Rattle.dm_rows.specs.Active.{active_arcs}
-use Rattle.dm_rows.specs.Timetable.{time_at, graph_of, planned_time, span_of}
-use Rattle.dm_rows.proofs.AsGraph.{head_is_free}
-use Rattle.dm_settle.specs.Free.{GoesForward}
+use Rattle.dm_graph.proofs.Rounds.{least_is_bounded}
+use Rattle.dm_settle.specs.Constraints.{IsBounded}
 use Rattle.dm_settle.specs.Marked.{is_marked}
-use Rattle.dm_settle.specs.Pass.{IsPassing, TailsAreEarly, latest}
-use Rattle.dm_settle.specs.Settling.{IsSettled, AreEarly}
+use Rattle.dm_settle.specs.Settling.{AreLeast, AreEarly, IsSettled, IsEntered, MayMove, GoesForward}
+use Rattle.dm_settle.specs.Inside.Pass.{IsPassing, TailsAreEarly, latest}
 
--- events that have passed come first, and then the others in their order
-abbrev pub rank_if : Option ℕ → ℕ → ℕ
-rank_if None r = suc r
-rank_if (Some t) r = 0
+-- an arc enters the event, or does not
+enters_or : (g : Arcs) (a e : ℕ) → a < g.arcs → IsEntered g e ⊎ (Binds g a → g.head a ≡ e → ⊥)
+enters_or g a e is_arc =
+    elim (cases_Bool (g.held a)) [
+      | inr free ↦ inr (λ b is. let held = b.is_held in absurd cc)
+      | inl held ↦ elim (cases_lt (g.tail a) g.events) [
+        | inr past ↦ inr (λ b is. let t = b.from_event in absurd (omega arith))
+        | inl tail ↦ elim (cases_lt (g.head a) g.events) [
+          | inr past ↦ inr (λ b is. let h = b.to_event in absurd (omega arith))
+          | inl head ↦ elim (cases_eq (g.head a) e) [
+            | inl is ↦ inl (record { arc = a; binds = record { is_arc = is_arc; is_held = held; from_event = tail; to_event = head }; enters = is })
+            | inr ne ↦ inr (λ b is. ne is)
+          ]
+        ]
+      ]
+    ]
 
-pub free_rank : RowsValue → List ℕ → ℕ → ℕ
-free_rank rows ranks e = rank_if (passed_at rows e) (slice_index ranks e)
+-- one of the first n arcs enters the event, or none does
+entered_among : (g : Arcs) (e n : ℕ) → n ≤ g.arcs → IsEntered g e ⊎ ((a : ℕ) → a < n → Binds g a → g.head a ≡ e → ⊥)
+entered_among g e zero le = inr (λ a lt b is. absurd (omega arith))
+entered_among g e (suc n) le =
+    elim (entered_among g e n (omega arith)) [
+      | inl found ↦ inl found
+      | inr none ↦ elim (enters_or g n e (omega arith)) [
+        | inl found ↦ inl found
+        | inr other ↦ inr (λ a lt b is. elim (cases_lt a n) [
+          | inl before ↦ none a before b is
+          | inr past ↦
+              let here : a ≡ n = omega arith in
+              other (subst (Binds g) here b) (ap g.head (sym here) ∙ is)
+        ])
+      ]
+    ]
 
-pub free_rank-free : (rows : RowsValue) (ranks : List ℕ) (e : ℕ) → passed_at rows e ≡ None → free_rank rows ranks e ≡ suc (slice_index ranks e)
-unfolding free_rank
-free_rank-free rows ranks e free = rw free
+-- an event may move or not
+moves_or : (g : Arcs) (ranks : List ℕ) (marks : List Bool) (e : ℕ) → MayMove g ranks marks e ⊎ (MayMove g ranks marks e → ⊥)
+moves_or g ranks marks e =
+    elim (cases_Bool (is_marked marks (slice_index ranks e))) [
+      | inl marked ↦ inl (inl marked)
+      | inr clear ↦ elim (entered_among g e g.arcs (omega arith)) [
+        | inl entered ↦ inl (inr entered)
+        | inr none ↦ inr (λ may. elim may [
+          | inl marked ↦ absurd cc
+          | inr entered ↦ none entered.arc entered.binds.is_arc entered.binds entered.enters
+        ])
+      ]
+    ]
 
-rank_if-le : (o : Option ℕ) (r : ℕ) → rank_if o r ≤ suc r
-rank_if-le None r = omega arith
-rank_if-le (Some t) r = omega arith
+-- events that may not move come first, and then the others in their order
+abbrev rank_where : {A : Type 0} → A ⊎ (A → ⊥) → ℕ → ℕ
+rank_where (inl a) r = suc r
+rank_where (inr not_a) r = 0
 
-pub free_rank-le : (rows : RowsValue) (ranks : List ℕ) (e : ℕ) → free_rank rows ranks e ≤ suc (slice_index ranks e)
-unfolding free_rank
-free_rank-le rows ranks e = rank_if-le (passed_at rows e) (slice_index ranks e)
+rank_where-holds : {A : Type 0} (d : A ⊎ (A → ⊥)) (r : ℕ) → A → rank_where d r ≡ suc r
+rank_where-holds (inl a) r h = refl
+rank_where-holds (inr not_a) r h = absurd (not_a h)
 
-rises_to : (o : Option ℕ) (r s : ℕ) → (o ≡ None → r < s) → rank_if o r < suc s
-rises_to None r s up = let h = up refl in omega arith
-rises_to (Some t) r s up = omega arith
+rank_where-le : {A : Type 0} (d : A ⊎ (A → ⊥)) (r : ℕ) → rank_where d r ≤ suc r
+rank_where-le (inl a) r = omega arith
+rank_where-le (inr not_a) r = omega arith
 
--- these ranks rise along every active activity
-pub free_rank-rises : (net : Net) (rows : RowsValue) (ranks : List ℕ) → GoesForward net rows ranks → Rises (active_arcs net rows) (free_rank rows ranks)
-unfolding free_rank
-free_rank-rises net rows ranks forward a binds =
-    let head : ℕ = (activity_at net a).head in
-    let tail : ℕ = (activity_at net a).tail in
-    let free : passed_at rows head ≡ None = head_is_free net rows a binds.is_held in
-    let up : rank_if (passed_at rows tail) (slice_index ranks tail) < suc (slice_index ranks head) =
-    rises_to (passed_at rows tail) (slice_index ranks tail) (slice_index ranks head)
-    (λ is. forward a (record { is_activity = binds.is_arc; active = binds.is_held }) is) in
-    subst (λ (o : Option ℕ). rank_if (passed_at rows tail) (slice_index ranks tail) < rank_if o (slice_index ranks head)) (sym free) up
+rank_where-rises : {A : Type 0} (d : A ⊎ (A → ⊥)) (r s : ℕ) → (A → r < s) → rank_where d r < suc s
+rank_where-rises (inl a) r s up = let h = up a in omega arith
+rank_where-rises (inr not_a) r s up = omega arith
 
-floor_within : (o : Option ℕ) (planned limit : ℕ) → ForSome o (λ t. t ≤ limit) → planned ≤ limit → unwrap_or o planned ≤ limit
-floor_within None planned limit passed low = low
-floor_within (Some t) planned limit passed low = passed t refl
+pub moving_rank : Arcs → List ℕ → List Bool → ℕ → ℕ
+moving_rank g ranks marks e = rank_where (moves_or g ranks marks e) (slice_index ranks e)
 
-module _ (net : Net) (rows : RowsValue) (ranks times : List ℕ) (within : IsWithinLimits net) (limits : RowsAreWithinLimits rows)
-    (forward : GoesForward net rows ranks) where
-  pub floor_is_early : (e : ℕ) → (graph_of net rows).floor e ≤ PASSED_TIME
-  floor_is_early e =
-      let t = within.times e in
-      let d = limits.of_events e in
-      floor_within (passed_at rows e) (planned_time net rows e) PASSED_TIME (limits.of_passed e) (omega arith)
+pub moving_rank-moves : (g : Arcs) (ranks : List ℕ) (marks : List Bool) (e : ℕ) → MayMove g ranks marks e → moving_rank g ranks marks e ≡ suc (slice_index ranks e)
+unfolding moving_rank
+moving_rank-moves g ranks marks e may = rank_where-holds (moves_or g ranks marks e) (slice_index ranks e) may
 
-  pub span_is_short : (a : ℕ) → span_of net rows a ≤ BOUND + DELAY
-  span_is_short a =
-      let l = within.bounds a in
-      let d = limits.of_activities a in
-      omega arith
+moving_rank-le : (g : Arcs) (ranks : List ℕ) (marks : List Bool) (e : ℕ) → moving_rank g ranks marks e ≤ suc (slice_index ranks e)
+unfolding moving_rank
+moving_rank-le g ranks marks e = rank_where-le (moves_or g ranks marks e) (slice_index ranks e)
 
+moving_rank-below : (g : Arcs) (ranks : List ℕ) (marks : List Bool) (e s : ℕ) → (MayMove g ranks marks e → slice_index ranks e < s) → moving_rank g ranks marks e < suc s
+unfolding moving_rank
+moving_rank-below g ranks marks e s up = rank_where-rises (moves_or g ranks marks e) (slice_index ranks e) s up
+
+-- these ranks rise along every arc that binds
+pub moving_rank-rises : (g : Arcs) (ranks : List ℕ) (marks : List Bool) → GoesForward g ranks marks → Rises g (moving_rank g ranks marks)
+moving_rank-rises g ranks marks forward a binds =
+    let tail = moving_rank-below g ranks marks (g.tail a) (slice_index ranks (g.head a)) (λ may. forward a binds may) in
+    let head = moving_rank-moves g ranks marks (g.head a) (inr (record { arc = a; binds = binds; enters = refl })) in
+    omega arith
+
+module _ (g : Graph) (ranks times : List ℕ) (first : List Bool) (bounded : IsBounded g) (forward : GoesForward g.shape ranks first) where
   -- where every event below a rank has its time, none of them is late
-  pub settled_is_early : (m : ℕ) → ((e : ℕ) → e < length net.events → free_rank rows ranks e < m → IsSettled net rows times e) →
-      (n e : ℕ) → free_rank rows ranks e < n → free_rank rows ranks e < m → e < length net.events → time_at times e ≤ latest (free_rank rows ranks e)
+  settled_is_early : (m : ℕ) → ((e : ℕ) → e < g.shape.events → moving_rank g.shape ranks first e < m → IsSettled g times e) →
+      (n e : ℕ) → moving_rank g.shape ranks first e < n → moving_rank g.shape ranks first e < m → e < g.shape.events →
+      slice_index times e ≤ latest (moving_rank g.shape ranks first e)
   settled_is_early m settled zero e below in' is_event = absurd (omega arith)
   settled_is_early m settled (suc n) e below in' is_event =
-      let floor = floor_is_early e in
-      (settled e is_event in').least (latest (free_rank rows ranks e)) (omega arith)
+      let floor = bounded.floors e is_event in
+      (settled e is_event in').least (latest (moving_rank g.shape ranks first e)) (omega arith)
       (λ a b is.
-      let rises : free_rank rows ranks (activity_at net a).tail < free_rank rows ranks (activity_at net a).head = free_rank-rises net rows ranks forward a b in
-      let same : free_rank rows ranks (activity_at net a).head ≡ free_rank rows ranks e = ap (free_rank rows ranks) is in
-      let span = span_is_short a in
-      let tail = settled_is_early m settled n (activity_at net a).tail (omega arith) (omega arith) b.from_event in
+      let rises : moving_rank g.shape ranks first (g.shape.tail a) < moving_rank g.shape ranks first (g.shape.head a) = moving_rank-rises g.shape ranks first forward a b in
+      let same : moving_rank g.shape ranks first (g.shape.head a) ≡ moving_rank g.shape ranks first e = ap (moving_rank g.shape ranks first) is in
+      let span = bounded.spans a b in
+      let tail = settled_is_early m settled n (g.shape.tail a) (omega arith) (omega arith) b.from_event in
       omega arith)
 
   -- at the place of a marked event, every event before it has its time
-  settled_before : (marks : List Bool) (e : ℕ) → IsPassing net rows ranks marks times (slice_index ranks e) →
-      (f : ℕ) → f < length net.events → free_rank rows ranks f < suc (slice_index ranks e) → IsSettled net rows times f
+  settled_before : (marks : List Bool) (e : ℕ) → IsPassing g ranks first marks times (slice_index ranks e) →
+      (f : ℕ) → f < g.shape.events → moving_rank g.shape ranks first f < suc (slice_index ranks e) → IsSettled g times f
   settled_before marks e passing f is_event before =
       elim (cases_Bool (is_marked marks (slice_index ranks f))) [
         | inl marked ↦
-            let rank = free_rank-free rows ranks f (passing.unsettled.none_passed f is_event marked) in
+            let rank = moving_rank-moves g.shape ranks first f (passing.may_move f is_event marked) in
             let later = passing.later (slice_index ranks f) marked in
             absurd (omega arith)
         | inr clear ↦ passing.unsettled.settled f is_event clear
       ]
 
-  -- so the tails of the active activities into it are early
-  pub tails_are_early : (order : List ℕ) → length net.events ≤ EVENTS → AreRanks (length net.events) order ranks → EndsAreKnown net →
-      (marks : List Bool) (e : ℕ) → e < length net.events → IsPassing net rows ranks marks times (slice_index ranks e) →
-      is_marked marks (slice_index ranks e) ≡ true → TailsAreEarly net rows times e
-  tails_are_early order few ranked known marks e is_event passing marked a active head =
-      let free = free_rank-free rows ranks e (passing.unsettled.none_passed e is_event marked) in
-      let rises : free_rank rows ranks (activity_at net a).tail < free_rank rows ranks (activity_at net a).head =
-      free_rank-rises net rows ranks forward a
-      (record { is_arc = active.is_activity; is_held = active.active; from_event = known.tails a active.is_activity; to_event = known.heads a active.is_activity }) in
-      let same : free_rank rows ranks (activity_at net a).head ≡ free_rank rows ranks e = ap (free_rank rows ranks) head in
+  -- so the tails of the arcs that bind into it are early
+  pub tails_are_early : (order : List ℕ) → AreRanks g.shape.events order ranks →
+      (marks : List Bool) (e : ℕ) → e < g.shape.events → IsPassing g ranks first marks times (slice_index ranks e) →
+      is_marked marks (slice_index ranks e) ≡ true → TailsAreEarly g times e
+  tails_are_early order ranked marks e is_event passing marked a binds head =
+      let few = bounded.few in
+      let here = moving_rank-moves g.shape ranks first e (passing.may_move e is_event marked) in
+      let rises : moving_rank g.shape ranks first (g.shape.tail a) < moving_rank g.shape ranks first (g.shape.head a) = moving_rank-rises g.shape ranks first forward a binds in
+      let same : moving_rank g.shape ranks first (g.shape.head a) ≡ moving_rank g.shape ranks first e = ap (moving_rank g.shape ranks first) head in
       let place = ranked.has_place e is_event in
       let early = settled_is_early (suc (slice_index ranks e)) (settled_before marks e passing)
-      (suc (free_rank rows ranks (activity_at net a).tail)) (activity_at net a).tail (omega arith) (omega arith) (known.tails a active.is_activity) in
+      (suc (moving_rank g.shape ranks first (g.shape.tail a))) (g.shape.tail a) (omega arith) (omega arith) binds.from_event in
       omega arith
 
   -- where every event has its time, each time is early
-  pub all_are_early : (order : List ℕ) → length net.events ≤ EVENTS → AreRanks (length net.events) order ranks → length times ≡ length net.events →
-      ((e : ℕ) → e < length net.events → IsSettled net rows times e) → AreEarly times
-  all_are_early order few ranked as_many settled e =
-      elim (cases_lt e (length net.events)) [
+  pub all_are_early : (order : List ℕ) → AreRanks g.shape.events order ranks → length times ≡ g.shape.events →
+      ((e : ℕ) → e < g.shape.events → IsSettled g times e) → AreEarly times
+  all_are_early order ranked as_many settled e =
+      elim (cases_lt e g.shape.events) [
         | inl is_event ↦
+            let few = bounded.few in
             let place = ranked.has_place e is_event in
-            let rank = free_rank-le rows ranks e in
+            let rank = moving_rank-le g.shape ranks first e in
             let early = settled_is_early (suc (suc (slice_index ranks e))) (λ f below _. settled f below)
             (suc (suc (slice_index ranks e))) e (omega arith) (omega arith) is_event in
             omega arith
-        | inr past ↦ let none : time_at times e ≡ 0 = get_or_past times e 0 (omega arith) in omega arith
+        | inr past ↦ let none : slice_index times e ≡ 0 = get_or_past times e 0 (omega arith) in omega arith
       ]
+
+-- the same of the least timetable, where there is no cycle
+most : (n : ℕ) → n ≤ EVENTS → PASSED_TIME + n * (BOUND + DELAY) < 2 ^ 38
+most n few = omega arith
+
+pub least_is_early : (g : Graph) (times : List ℕ) → IsBounded g → HasNoCycle g.shape → AreLeast g times → AreEarly times
+least_is_early g times bounded none least e =
+    elim (cases_lt e g.shape.events) [
+      | inl is_event ↦
+          let bound = least_is_bounded g (slice_index times) PASSED_TIME (BOUND + DELAY) bounded.floors bounded.spans none least.least e is_event in
+          let limit = most g.shape.events bounded.few in
+          omega arith
+      | inr past ↦ let many = least.as_many in let nothing : slice_index times e ≡ 0 = get_or_past times e 0 (omega arith) in omega arith
+    ]

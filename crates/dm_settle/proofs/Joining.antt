@@ -1,13 +1,12 @@
 -- The time of an event, joined along its row.
-use Rattle.std.proofs.Common.{◌∙◌, ◌≡◌, ℕ, ◌+◌, ◌<◌, ◌≤◌, false, IsTrue, List, length, max, sym, ap, subst, inl, inr, arith, eqb-true, eq-eqb, slice_index}
+use Rattle.std.proofs.Common.{◌∙◌, ◌≡◌, ℕ, ◌+◌, ◌<◌, ◌≤◌, Bool, false, IsTrue, List, length, max, sym, ap, subst, inl, inr, arith, eqb-true, eq-eqb, slice_index}
 use Rattle.std.specs.Prelude.{◌==◌}
 use Rattle.std.proofs.lemmas.Bool.{cases_lt}
+use Rattle.dm_graph.specs.Graph.{Graph, IsJoin}
 use Rattle.dm_graph.proofs.Windows.{kept_at, StandsAt, stands_in}
 use Rattle.dm_network.specs.Net.{Net, EndsAreKnown, activity_at, places_into}
-use Rattle.dm_rows.specs.Rows.{RowsValue}
-use Rattle.dm_rows.specs.Active.{is_active}
-use Rattle.dm_settle.specs.Pass.{HasJoined, time_along}
-use Rattle.dm_settle.specs.Settling.{IsJoinOf}
+use Rattle.dm_network.specs.Held.{arcs_of}
+use Rattle.dm_settle.specs.Inside.Pass.{HasJoined, time_along}
 
 -- each place in the row of an event is that of an activity into it
 pub record LeadsInto (net : Net) (e a : ℕ) : Type 0 where
@@ -28,10 +27,10 @@ stands_into net e a row is leads =
     subst (λ (xs : List ℕ). StandsAt xs a) (sym is)
     (stands_in (λ b. (activity_at net b).head == e) 0 (length net.activities) a (eq-eqb _ e leads.head) (omega arith) (omega arith))
 
-module _ (net : Net) (rows : RowsValue) (times : List ℕ) (e : ℕ) (row : List ℕ) (n time : ℕ) (had : HasJoined net rows times e row n time) where
-  joined_with : IsTrue (is_active net rows (slice_index row n)) →
-      HasJoined net rows times e row (n + 1) (max time (time_along net rows times (slice_index row n)))
-  joined_with active =
+module _ (g : Graph) (times : List ℕ) (e : ℕ) (row : List ℕ) (n time : ℕ) (had : HasJoined g times e row n time) where
+  joined_with : IsTrue (g.shape.held (slice_index row n)) →
+      HasJoined g times e row (n + 1) (max time (time_along g times (slice_index row n)))
+  joined_with held =
       let above = had.above in
       record {
         above = omega arith;
@@ -39,53 +38,56 @@ module _ (net : Net) (rows : RowsValue) (times : List ℕ) (e : ℕ) (row : List
           | inl before ↦ let h = had.along k before is in omega arith
           | inr past ↦
               let here : k ≡ n = omega arith in
-              let same : time_along net rows times (slice_index row k) ≡ time_along net rows times (slice_index row n) = ap (λ (j : ℕ). time_along net rows times (slice_index row j)) here in
+              let same : time_along g times (slice_index row k) ≡ time_along g times (slice_index row n) = ap (λ (j : ℕ). time_along g times (slice_index row j)) here in
               omega arith
         ];
         least = λ u floor each.
             let before = had.least u floor (λ k lt is. each k (omega arith) is) in
-            let now = each n (omega arith) active in
+            let now = each n (omega arith) held in
             omega arith;
       }
 
   -- the same for a time that is given as the later of the two
-  pub joined_by : IsTrue (is_active net rows (slice_index row n)) → (along later : ℕ) → along ≡ time_along net rows times (slice_index row n) →
-      later ≡ max time along → HasJoined net rows times e row (n + 1) later
-  joined_by active along later is latest =
-      subst (HasJoined net rows times e row (n + 1)) (sym (latest ∙ ap (max time) is)) (joined_with active)
+  pub joined_by : IsTrue (g.shape.held (slice_index row n)) → (along later : ℕ) → along ≡ time_along g times (slice_index row n) →
+      later ≡ max time along → HasJoined g times e row (n + 1) later
+  joined_by held along later is latest =
+      subst (HasJoined g times e row (n + 1)) (sym (latest ∙ ap (max time) is)) (joined_with held)
 
-  joined_without : is_active net rows (slice_index row n) ≡ false → HasJoined net rows times e row (n + 1) time
-  joined_without inactive =
+  joined_without : g.shape.held (slice_index row n) ≡ false → HasJoined g times e row (n + 1) time
+  joined_without free =
       record {
         above = had.above;
         along = λ k lt is. elim (cases_lt k n) [
           | inl before ↦ had.along k before is
           | inr past ↦
               let here : k ≡ n = omega arith in
-              let same : is_active net rows (slice_index row k) ≡ is_active net rows (slice_index row n) = ap (λ (j : ℕ). is_active net rows (slice_index row j)) here in
+              let same : g.shape.held (slice_index row k) ≡ g.shape.held (slice_index row n) = ap (λ (j : ℕ). g.shape.held (slice_index row j)) here in
               absurd cc
         ];
         least = λ u floor each. had.least u floor (λ k lt is. each k (omega arith) is);
       }
 
-  pub joined_still : is_active net rows (slice_index row n) ≡ false → (later : ℕ) → later ≡ time → HasJoined net rows times e row (n + 1) later
-  joined_still inactive later same = subst (HasJoined net rows times e row (n + 1)) (sym same) (joined_without inactive)
+  pub joined_still : g.shape.held (slice_index row n) ≡ false → (later : ℕ) → later ≡ time → HasJoined g times e row (n + 1) later
+  joined_still free later same = subst (HasJoined g times e row (n + 1)) (sym same) (joined_without free)
 
-  -- joined along its whole row, it is the join of the graph
-  pub joined_whole : EndsAreKnown net → row ≡ places_into net e → n ≡ length row → e < length net.events → IsJoinOf net rows times e time
-  joined_whole known is all below =
+-- joined along the whole row of an event, it is the join of the graph
+module _ (net : Net) (held : ℕ → Bool) (span floor : ℕ → ℕ) (times : List ℕ) (e : ℕ) (row : List ℕ) (n time : ℕ)
+    (had : HasJoined (record { shape = arcs_of net held; span = span; floor = floor }) times e row n time) where
+  pub joined_whole : EndsAreKnown net → row ≡ places_into net e → n ≡ length row →
+      IsJoin (record { shape = arcs_of net held; span = span; floor = floor }) (slice_index times) e time
+  joined_whole known is all =
       record {
         above = had.above;
         along = λ a binds head.
             let s = stands_into net e a row is (record { is_activity = binds.is_arc; head = head }) in
             let within = s.within in
-            subst (λ (b : ℕ). time_along net rows times b ≤ time) s.is
-            (had.along s.place (omega arith) (subst (λ (b : ℕ). IsTrue (is_active net rows b)) (sym s.is) binds.is_held));
-        least = λ u floor each. had.least u floor (λ k lt active.
+            subst (λ (b : ℕ). slice_index times (activity_at net b).tail + span b ≤ time) s.is
+            (had.along s.place (omega arith) (subst (λ (b : ℕ). IsTrue (held b)) (sym s.is) binds.is_held));
+        least = λ u above each. had.least u above (λ k lt is_held.
             let leads = leads_into net e k row is (omega arith) in
             each (slice_index row k) (record {
               is_arc = leads.is_activity;
-              is_held = active;
+              is_held = is_held;
               from_event = known.tails (slice_index row k) leads.is_activity;
               to_event = known.heads (slice_index row k) leads.is_activity;
             }) leads.head);

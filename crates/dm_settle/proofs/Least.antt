@@ -1,14 +1,10 @@
 -- Where a timetable is least, every event has its time.
-use Rattle.std.proofs.Common.{◌≡◌, ◌≢◌, ℕ, ◌+◌, ◌<◌, ◌≤◌, List, length, refl, ap, inl, inr, arith, if◌then◌else◌, eq-eqb}
+use Rattle.std.proofs.Common.{◌≡◌, ◌≢◌, ℕ, ◌+◌, ◌<◌, ◌≤◌, List, refl, ap, inl, inr, arith, slice_index, if◌then◌else◌, eq-eqb}
 use Rattle.std.specs.Prelude.{◌==◌}
 use Rattle.std.proofs.lemmas.Bool.{cases_eq, cases_lt, ne_eqb}
 use Rattle.dm_graph.specs.Arcs.{Binds}
-use Rattle.dm_graph.specs.Graph.{Graph, Meets, IsLeast as IsLeastOfGraph, IsJoin}
-use Rattle.dm_network.specs.Net.{Net, EndsAreKnown}
-use Rattle.dm_rows.specs.Rows.{RowsValue}
-use Rattle.dm_rows.specs.Timetable.{time_at, graph_of, IsLeast}
-use Rattle.dm_rows.proofs.AsGraph.{least_to_graph}
-use Rattle.dm_settle.specs.Settling.{IsSettled}
+use Rattle.dm_graph.specs.Graph.{Graph, Meets, IsLeast, IsJoin}
+use Rattle.dm_settle.specs.Settling.{AreLeast, IsSettled}
 
 -- times with the one of an event set to another
 with_time : (ℕ → ℕ) → ℕ → ℕ → ℕ → ℕ
@@ -58,7 +54,7 @@ lowered_meets g x m e u low floor each =
           ];
     }
 
-pub least_is_join : (g : Graph) (x : ℕ → ℕ) → IsLeastOfGraph g x → (e : ℕ) → e < g.shape.events → IsJoin g x e (x e)
+pub least_is_join : (g : Graph) (x : ℕ → ℕ) → IsLeast g x → (e : ℕ) → e < g.shape.events → IsJoin g x e (x e)
 least_is_join g x least e lt =
     record {
       above = least.meets.above e lt;
@@ -75,8 +71,6 @@ least_is_join g x least e lt =
       ];
     }
 
--- in the least timetable of the rows every event has its time
-pub least_is_settled : (net : Net) (rows : RowsValue) (times : List ℕ) → EndsAreKnown net → IsLeast net rows times →
-    (e : ℕ) → e < length net.events → IsSettled net rows times e
-least_is_settled net rows times known least e lt =
-    least_is_join (graph_of net rows) (time_at times) (least_to_graph net rows times known least) e lt
+-- in the least timetable every event has its time
+pub least_is_settled : (g : Graph) (times : List ℕ) → AreLeast g times → (e : ℕ) → e < g.shape.events → IsSettled g times e
+least_is_settled g times least e lt = least_is_join g (slice_index times) least.least e lt

@@ -1,5 +1,5 @@
-pub mod Arrays
 pub mod Early
+pub mod Given
 pub mod Going
 pub mod Joining
 pub mod Least

@@ -3,11 +3,10 @@ use Rattle.std.proofs.Common.{◌≡◌, ℕ, ◌+◌, ◌<◌, Bool, true, fals
 use Rattle.std.specs.Prelude.{◌==◌, slice_set}
 use Rattle.std.proofs.lemmas.Bool.{cases_lt, cases_eq}
 use Rattle.dm_graph.proofs.Windows.{kept_at, StandsAt, stands_in}
-use Rattle.dm_network.specs.Net.{Net, activity_at, places_out_of}
-use Rattle.dm_rows.specs.Rows.{RowsValue}
-use Rattle.dm_rows.specs.Active.{is_active}
+use Rattle.dm_network.specs.Net.{Net, activity_at, places_out_of, EndsAreKnown}
+use Rattle.dm_network.specs.Held.{arcs_of}
 use Rattle.dm_settle.specs.Marked.{is_marked}
-use Rattle.dm_settle.specs.Pass.{HasMarked, MarksHeads}
+use Rattle.dm_settle.specs.Inside.Pass.{HasMarked, MarksHeads}
 
 -- an activity out of the event
 pub record LeadsOut (net : Net) (e a : ℕ) : Type 0 where
@@ -47,12 +46,12 @@ marked_if marks place k now =
       | inr ne ↦ inl (sym (get_or-set_other marks place k true false ne) ∙ now)
     ]
 
-module _ (net : Net) (rows : RowsValue) (ranks : List ℕ) (event : ℕ) (row : List ℕ) (n : ℕ) (before now : List Bool)
-    (had : HasMarked net rows ranks event row n before now) where
-  pub marked_with : row ≡ places_out_of net event → n < length row → IsTrue (is_active net rows (slice_index row n)) →
+module _ (net : Net) (held : ℕ → Bool) (ranks : List ℕ) (event : ℕ) (row : List ℕ) (n : ℕ) (before now : List Bool)
+    (had : HasMarked (arcs_of net held) ranks event row n before now) where
+  pub marked_with : EndsAreKnown net → row ≡ places_out_of net event → n < length row → IsTrue (held (slice_index row n)) →
       slice_index ranks (activity_at net (slice_index row n)).head < length now →
-      HasMarked net rows ranks event row (n + 1) before (slice_set now (slice_index ranks (activity_at net (slice_index row n)).head) true)
-  marked_with is in' active below =
+      HasMarked (arcs_of net held) ranks event row (n + 1) before (slice_set now (slice_index ranks (activity_at net (slice_index row n)).head) true)
+  marked_with known is in' is_held below =
       let head : ℕ = slice_index ranks (activity_at net (slice_index row n)).head in
       let leads = leads_out net event n row is in' in
       record {
@@ -67,16 +66,21 @@ module _ (net : Net) (rows : RowsValue) (ranks : List ℕ) (event : ℕ) (row : 
         only = λ k is_now. elim (marked_if now head k is_now) [
           | inl was ↦ had.only k was
           | inr here ↦ inr (record {
-            activity = slice_index row n;
-            active = record { is_activity = leads.is_activity; active = active };
-            tail = leads.tail;
+            arc = slice_index row n;
+            binds = record {
+              is_arc = leads.is_activity;
+              is_held = is_held;
+              from_event = known.tails (slice_index row n) leads.is_activity;
+              to_event = known.heads (slice_index row n) leads.is_activity;
+            };
+            leaves = leads.tail;
             ranked = sym here;
           })
         ];
       }
 
-  pub marked_without : is_active net rows (slice_index row n) ≡ false → HasMarked net rows ranks event row (n + 1) before now
-  marked_without inactive =
+  pub marked_without : held (slice_index row n) ≡ false → HasMarked (arcs_of net held) ranks event row (n + 1) before now
+  marked_without free =
       record {
         as_many = had.as_many;
         kept = had.kept;
@@ -84,22 +88,22 @@ module _ (net : Net) (rows : RowsValue) (ranks : List ℕ) (event : ℕ) (row : 
           | inl earlier ↦ had.heads k earlier holds
           | inr past ↦
               let here : k ≡ n = omega arith in
-              let same : is_active net rows (slice_index row k) ≡ is_active net rows (slice_index row n) = ap (λ (j : ℕ). is_active net rows (slice_index row j)) here in
+              let same : held (slice_index row k) ≡ held (slice_index row n) = ap (λ (j : ℕ). held (slice_index row j)) here in
               absurd cc
         ];
         only = had.only;
       }
 
   -- along the whole row, every head is marked
-  pub marked_whole : row ≡ places_out_of net event → n ≡ length row → MarksHeads net rows ranks event before now
+  pub marked_whole : row ≡ places_out_of net event → n ≡ length row → MarksHeads (arcs_of net held) ranks event before now
   marked_whole is all =
       record {
         as_many = had.as_many;
         kept = had.kept;
-        heads = λ a active tail.
-            let s = stands_out net event a row is (record { is_activity = active.is_activity; tail = tail }) in
+        heads = λ a binds leaves.
+            let s = stands_out net event a row is (record { is_activity = binds.is_arc; tail = leaves }) in
             let within = s.within in
             subst (λ (b : ℕ). is_marked now (slice_index ranks (activity_at net b).head) ≡ true) s.is
-            (had.heads s.place (omega arith) (subst (λ (b : ℕ). IsTrue (is_active net rows b)) (sym s.is) active.active));
+            (had.heads s.place (omega arith) (subst (λ (b : ℕ). IsTrue (held b)) (sym s.is) binds.is_held));
         only = had.only;
       }

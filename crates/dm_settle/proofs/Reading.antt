@@ -5,12 +5,11 @@ use Rattle.std.specs.List.{Contains, IsDistinct, AllByRecursion}
 use Rattle.std.proofs.lemmas.Bool.{ne_eqb}
 use Rattle.std.proofs.lemmas.Map.Keys.{IsDistinct-cons}
 use Rattle.dm_graph.specs.Arrays.{AreRanks}
-use Rattle.dm_network.specs.Net.{Net, EndsAreKnown, activity_at}
-use Rattle.dm_rows.specs.Rows.{RowsValue}
-use Rattle.dm_rows.specs.Timetable.{time_at}
+use Rattle.dm_graph.specs.Arcs.{Arcs}
+use Rattle.dm_graph.specs.Graph.{Graph}
 use Rattle.dm_settle.specs.Marked.{is_marked}
-use Rattle.dm_settle.specs.Pass.{Stays, Moves, HasRead}
-use Rattle.dm_settle.specs.Settling.{Follows}
+use Rattle.dm_settle.specs.Settling.{State, Follows}
+use Rattle.dm_settle.specs.Inside.Pass.{Stays, Moves, HasRead}
 use Rattle.dm_settle.proofs.Passing.{one_of_rank, marked_else}
 
 -- what a list with one more in front contains
@@ -36,18 +35,14 @@ distinct_with : (xs : List ℕ) (x : ℕ) → IsDistinct nat_eq xs → ((y : ℕ
 distinct_with xs x distinct each = IsDistinct-cons nat_eq x xs (none_is xs x each) distinct
 
 -- what follows some events follows more
-follows_more : (net : Net) (rows : RowsValue) (xs : List ℕ) (x e : ℕ) → Follows net rows xs e → Follows net rows (x ∷ xs) e
-follows_more net rows xs x e f = record { from = f.from; among = behind xs x f.from f.among; leads = f.leads }
+follows_more : (g : Arcs) (xs : List ℕ) (x e : ℕ) → Follows g xs e → Follows g (x ∷ xs) e
+follows_more g xs x e f = record { from = f.from; among = behind xs x f.from f.among; leads = f.leads }
 
-module _ (net : Net) (rows : RowsValue) (order ranks : List ℕ) (ranked : AreRanks (length net.events) order ranks) (known : EndsAreKnown net)
-    (marks0 : List Bool) (times0 : List ℕ) (steps0 : ℕ) (marks : List Bool) (times : List ℕ) (steps from : ℕ)
-    (had : HasRead net rows ranks marks0 times0 steps0 marks times steps from)
-    (as_many_marks : length marks ≡ length net.events) (as_many_times : length times ≡ length net.events)
-    (e : ℕ) (is_event : e < length net.events) (onward : from ≤ slice_index ranks e) (marked : is_marked marks (slice_index ranks e) ≡ true) where
-  place : ℕ
-  place = slice_index ranks e
-
-  within : slice_index ranks e < length marks
+module _ (g : Graph) (order ranks : List ℕ) (ranked : AreRanks g.shape.events order ranks)
+    (start now : State) (from : ℕ) (had : HasRead g.shape ranks start now from)
+    (as_many_marks : length now.marks ≡ g.shape.events) (as_many_times : length now.times ≡ g.shape.events)
+    (e : ℕ) (is_event : e < g.shape.events) (onward : from ≤ slice_index ranks e) (marked : is_marked now.marks (slice_index ranks e) ≡ true) where
+  within : slice_index ranks e < length now.marks
   within = let p = ranked.has_place e is_event in omega arith
 
   -- an event of a lower rank is another one
@@ -57,7 +52,7 @@ module _ (net : Net) (rows : RowsValue) (order ranks : List ℕ) (ranked : AreRa
   new_renewed : IsDistinct nat_eq (e ∷ had.renewed)
   new_renewed = distinct_with had.renewed e had.reads.renewed_once (λ f c. other_than f (had.renewed_before f c))
 
-  events_with : (f : ℕ) → Contains (e ∷ had.renewed) f → f < length net.events
+  events_with : (f : ℕ) → Contains (e ∷ had.renewed) f → f < g.shape.events
   events_with f c = elim (front_or had.renewed e f c) [ inl is ↦ omega arith | inr was ↦ had.reads.are_events f was ]
 
   before_next : (xs : List ℕ) → ((f : ℕ) → Contains xs f → slice_index ranks f < from) → (f : ℕ) → Contains (e ∷ xs) f → slice_index ranks f < slice_index ranks e + 1
@@ -67,12 +62,11 @@ module _ (net : Net) (rows : RowsValue) (order ranks : List ℕ) (ranked : AreRa
         | inr was ↦ let b = before f was in omega arith
       ]
 
-  pub stays_read : (marks1 : List Bool) (times1 : List ℕ) (steps1 : ℕ) → Stays net rows ranks e marks times steps marks1 times1 steps1 →
-      HasRead net rows ranks marks0 times0 steps0 marks1 times1 steps1 (slice_index ranks e + 1)
-  stays_read marks1 times1 steps1 s =
+  pub stays_read : (next : State) → Stays g ranks e now next → HasRead g.shape ranks start next (slice_index ranks e + 1)
+  stays_read next s =
       let counted = s.counted in
       let so_far = had.counted in
-      let kept : (f : ℕ) → time_at times1 f ≡ time_at times f = λ f. ap (λ (ts : List ℕ). time_at ts f) s.times in
+      let kept : (f : ℕ) → slice_index next.times f ≡ slice_index now.times f = λ f. ap (λ (ts : List ℕ). slice_index ts f) s.times in
       record {
         renewed = e ∷ had.renewed;
         moved = had.moved;
@@ -82,7 +76,7 @@ module _ (net : Net) (rows : RowsValue) (order ranks : List ℕ) (ranked : AreRa
           renewed_once = new_renewed;
           moved_once = had.reads.moved_once;
           caused = λ f c. elim (front_or had.renewed e f c) [
-            | inl is ↦ subst (λ (g : ℕ). (is_marked marks0 (slice_index ranks g) ≡ true) ⊎ Follows net rows had.moved g) (sym is) (had.marked_for e is_event marked)
+            | inl is ↦ subst (λ (h : ℕ). (is_marked start.marks (slice_index ranks h) ≡ true) ⊎ Follows g.shape had.moved h) (sym is) (had.marked_for e is_event marked)
             | inr was ↦ had.reads.caused f was
           ];
           differs = λ f c same. had.reads.differs f c (same ∙ kept f);
@@ -90,20 +84,19 @@ module _ (net : Net) (rows : RowsValue) (order ranks : List ℕ) (ranked : AreRa
         renewed_before = before_next had.renewed had.renewed_before;
         moved_before = λ f c. let b = had.moved_before f c in omega arith;
         same_after = λ f lt after. kept f ∙ had.same_after f lt (omega arith);
-        marked_for = λ f lt now.
-            let still : is_marked (slice_set marks (slice_index ranks e) false) (slice_index ranks f) ≡ true = ap (λ (ms : List Bool). is_marked ms (slice_index ranks f)) (sym s.marks) ∙ now in
-            had.marked_for f lt (marked_else marks (slice_index ranks e) (slice_index ranks f) within still).1;
+        marked_for = λ f lt is_now.
+            let still : is_marked (slice_set now.marks (slice_index ranks e) false) (slice_index ranks f) ≡ true = ap (λ (ms : List Bool). is_marked ms (slice_index ranks f)) (sym s.marks) ∙ is_now in
+            had.marked_for f lt (marked_else now.marks (slice_index ranks e) (slice_index ranks f) within still).1;
       }
 
-  pub moves_read : (marks1 : List Bool) (times1 : List ℕ) (steps1 : ℕ) → Moves net rows ranks e marks times steps marks1 times1 steps1 →
-      HasRead net rows ranks marks0 times0 steps0 marks1 times1 steps1 (slice_index ranks e + 1)
-  moves_read marks1 times1 steps1 m =
+  pub moves_read : (next : State) → Moves g ranks e now next → HasRead g.shape ranks start next (slice_index ranks e + 1)
+  moves_read next m =
       let counted = m.counted in
       let so_far = had.counted in
-      let here : time_at times1 e ≡ m.time = ap (λ (ts : List ℕ). time_at ts e) m.times ∙ get_or-set_same times e m.time 0 (omega arith) in
-      let elsewhere : (f : ℕ) → f ≢ e → time_at times1 f ≡ time_at times f =
-      λ f ne. ap (λ (ts : List ℕ). time_at ts f) m.times ∙ get_or-set_other times e f m.time 0 ne in
-      let first : time_at times e ≡ time_at times0 e = had.same_after e is_event onward in
+      let here : slice_index next.times e ≡ m.time = ap (λ (ts : List ℕ). slice_index ts e) m.times ∙ get_or-set_same now.times e m.time 0 (omega arith) in
+      let elsewhere : (f : ℕ) → f ≢ e → slice_index next.times f ≡ slice_index now.times f =
+      λ f ne. ap (λ (ts : List ℕ). slice_index ts f) m.times ∙ get_or-set_other now.times e f m.time 0 ne in
+      let first : slice_index now.times e ≡ slice_index start.times e = had.same_after e is_event onward in
       record {
         renewed = e ∷ had.renewed;
         moved = e ∷ had.moved;
@@ -113,11 +106,11 @@ module _ (net : Net) (rows : RowsValue) (order ranks : List ℕ) (ranked : AreRa
           renewed_once = new_renewed;
           moved_once = distinct_with had.moved e had.reads.moved_once (λ f c. other_than f (had.moved_before f c));
           caused = λ f c. elim (front_or had.renewed e f c) [
-            | inl is ↦ subst (λ (g : ℕ). (is_marked marks0 (slice_index ranks g) ≡ true) ⊎ Follows net rows (e ∷ had.moved) g) (sym is) (more_for e (had.marked_for e is_event marked))
+            | inl is ↦ subst (λ (h : ℕ). (is_marked start.marks (slice_index ranks h) ≡ true) ⊎ Follows g.shape (e ∷ had.moved) h) (sym is) (more_for e (had.marked_for e is_event marked))
             | inr was ↦ more_for f (had.reads.caused f was)
           ];
           differs = λ f c same. elim (front_or had.moved e f c) [
-            | inl is ↦ m.differs (first ∙ subst (λ (g : ℕ). time_at times0 g ≡ time_at times1 g) is same ∙ here)
+            | inl is ↦ m.differs (first ∙ subst (λ (h : ℕ). slice_index start.times h ≡ slice_index next.times h) is same ∙ here)
             | inr was ↦ had.reads.differs f was (same ∙ elsewhere f (λ is. other_than f (had.moved_before f was) (sym is)))
           ];
         };
@@ -126,31 +119,31 @@ module _ (net : Net) (rows : RowsValue) (order ranks : List ℕ) (ranked : AreRa
         same_after = λ f lt after.
             elsewhere f (λ is. let same : slice_index ranks f ≡ slice_index ranks e = ap (slice_index ranks) is in omega arith)
             ∙ had.same_after f lt (omega arith);
-        marked_for = λ f lt now. elim (m.marks.only (slice_index ranks f) now) [
-          | inl was ↦ more_for f (had.marked_for f lt (marked_else marks (slice_index ranks e) (slice_index ranks f) within was).1)
+        marked_for = λ f lt is_now. elim (m.marks.only (slice_index ranks f) is_now) [
+          | inl was ↦ more_for f (had.marked_for f lt (marked_else now.marks (slice_index ranks e) (slice_index ranks f) within was).1)
           | inr leads ↦ inr (record {
             from = e;
             among = in_front had.moved e;
             leads = record {
-              activity = leads.activity;
-              active = leads.active;
-              tail = leads.tail;
-              head = one_of_rank (length net.events) order ranks ranked (activity_at net leads.activity).head f (known.heads leads.activity leads.active.is_activity) lt leads.ranked;
+              arc = leads.arc;
+              binds = leads.binds;
+              leaves = leads.leaves;
+              enters = one_of_rank g.shape.events order ranks ranked (g.shape.head leads.arc) f leads.binds.to_event lt leads.ranked;
             };
           })
         ];
       }
     where
-      more_for : (f : ℕ) → (is_marked marks0 (slice_index ranks f) ≡ true) ⊎ Follows net rows had.moved f → (is_marked marks0 (slice_index ranks f) ≡ true) ⊎ Follows net rows (e ∷ had.moved) f
-      more_for f h = elim h [ inl was ↦ inl was | inr follows ↦ inr (follows_more net rows had.moved e f follows) ]
+      more_for : (f : ℕ) → (is_marked start.marks (slice_index ranks f) ≡ true) ⊎ Follows g.shape had.moved f → (is_marked start.marks (slice_index ranks f) ≡ true) ⊎ Follows g.shape (e ∷ had.moved) f
+      more_for f h = elim h [ inl was ↦ inl was | inr follows ↦ inr (follows_more g.shape had.moved e f follows) ]
 
 none_distinct : IsDistinct nat_eq []
 unfolding IsDistinct
 none_distinct = tt
 
 -- nothing is read yet
-pub none_read : (net : Net) (rows : RowsValue) (ranks : List ℕ) (marks : List Bool) (times : List ℕ) (steps : ℕ) → HasRead net rows ranks marks times steps marks times steps 0
-none_read net rows ranks marks times steps =
+pub none_read : (g : Arcs) (ranks : List ℕ) (start : State) → HasRead g ranks start start 0
+none_read g ranks start =
     record {
       renewed = [];
       moved = [];

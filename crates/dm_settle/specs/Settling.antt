@@ -1,58 +1,75 @@
--- When a pass along an order may be made, what it leaves, and which rows it reads.
-use Rattle.std.specs.Prelude.{ℕ, ◌≡◌, ◌≢◌, nat_eq, ◌+◌, ◌^◌, ◌<◌, ◌⊎◌, Bool, true, false, List, length, None, slice_index}
+-- When a pass along an order may be made, what it leaves, and which rows it reads. Times are lists, by place of the event.
+use Rattle.std.specs.Prelude.{ℕ, ◌≡◌, ◌≢◌, nat_eq, ◌+◌, ◌^◌, ◌<◌, ◌⊎◌, Bool, true, false, List, length, slice_index}
 use Rattle.std.specs.List.{Contains, IsDistinct}
-use Rattle.dm_graph.specs.Graph.{IsJoin}
-use Rattle.dm_network.specs.Net.{Net, activity_at}
-use Rattle.dm_rows.specs.Rows.{RowsValue, passed_at}
-use Rattle.dm_rows.specs.Active.{IsActive}
-use Rattle.dm_rows.specs.Timetable.{time_at, graph_of}
+use Rattle.dm_graph.specs.Arcs.{Arcs, Binds}
+use Rattle.dm_graph.specs.Graph.{Graph, IsJoin, IsLeast}
 use Rattle.dm_settle.specs.Marked.{is_marked}
 
--- a time is the least that the rows allow for an event beside the times of the others: its passed time, or else the
--- least that is not before its scheduled time and delay, nor before any active activity into it allows
-abbrev pub IsJoinOf : Net → RowsValue → List ℕ → ℕ → ℕ → Type 0
-IsJoinOf net rows times e time = IsJoin (graph_of net rows) (time_at times) e time
+-- the times, one for each event, are the least timetable of the graph
+pub record AreLeast (g : Graph) (times : List ℕ) : Type 0 where
+  pub as_many : length times ≡ g.shape.events
+  pub least : IsLeast g (slice_index times)
 
--- the event has that time
-abbrev pub IsSettled : Net → RowsValue → List ℕ → ℕ → Type 0
-IsSettled net rows times e = IsJoinOf net rows times e (time_at times e)
-
--- an active activity leads from one event to another
-pub record LeadsOn (net : Net) (rows : RowsValue) (from to : ℕ) : Type 0 where
-  pub activity : ℕ
-  pub active : IsActive net rows activity
-  pub tail : (activity_at net activity).tail ≡ from
-  pub head : (activity_at net activity).head ≡ to
-
--- the marks at the ranks of the events take in every event that may not have its time, and none that has passed
-pub record MarksUnsettled (net : Net) (rows : RowsValue) (ranks : List ℕ) (marks : List Bool) (times : List ℕ) : Type 0 where
-  pub as_many_marks : length marks ≡ length net.events
-  pub as_many_times : length times ≡ length net.events
-  pub none_passed : (e : ℕ) → e < length net.events → is_marked marks (slice_index ranks e) ≡ true → passed_at rows e ≡ None
-  pub settled : (e : ℕ) → e < length net.events → is_marked marks (slice_index ranks e) ≡ false → IsSettled net rows times e
-
--- the event is the head of an active activity out of one of these events
-pub record Follows (net : Net) (rows : RowsValue) (events : List ℕ) (e : ℕ) : Type 0 where
-  pub from : ℕ
-  pub among : Contains events from
-  pub leads : LeadsOn net rows from e
-
--- Which rows a pass has read: of each event in `renewed` the one in, of each in `moved` the one out, each once.
--- An event is renewed because it was marked or follows one that has moved. One has moved if its time differs.
-pub record AreReadFor (net : Net) (rows : RowsValue) (ranks : List ℕ) (marks : List Bool) (before after : List ℕ) (renewed moved : List ℕ) : Type 0 where
-  pub are_events : (e : ℕ) → Contains renewed e → e < length net.events
-  pub renewed_once : IsDistinct nat_eq renewed
-  pub moved_once : IsDistinct nat_eq moved
-  pub caused : (e : ℕ) → Contains renewed e → (is_marked marks (slice_index ranks e) ≡ true) ⊎ Follows net rows moved e
-  pub differs : (e : ℕ) → Contains moved e → time_at before e ≢ time_at after e
-
--- So many rows are read: one for each event that is computed anew, and one for each that has moved.
-pub record ReadsFew (net : Net) (rows : RowsValue) (ranks : List ℕ) (marks : List Bool) (before after : List ℕ) (steps0 steps1 : ℕ) : Type 0 where
-  pub renewed : List ℕ
-  pub moved : List ℕ
-  pub counted : steps1 ≡ steps0 + length renewed + length moved
-  pub reads : AreReadFor net rows ranks marks before after renewed moved
+-- the event has the least time that its floor and the arcs into it allow beside the times of the others
+abbrev pub IsSettled : Graph → List ℕ → ℕ → Type 0
+IsSettled g times e = IsJoin g (slice_index times) e (slice_index times e)
 
 -- every time is below the limit of all times
 abbrev pub AreEarly : List ℕ → Type 0
-AreEarly times = (i : ℕ) → time_at times i < 2 ^ 38
+AreEarly times = (i : ℕ) → slice_index times i < 2 ^ 38
+
+-- an arc that binds enters the event
+pub record IsEntered (g : Arcs) (e : ℕ) : Type 0 where
+  pub arc : ℕ
+  pub binds : Binds g arc
+  pub enters : g.head arc ≡ e
+
+-- the time of an event may change: the event is marked, or an arc that binds enters it
+abbrev pub MayMove : Arcs → List ℕ → List Bool → ℕ → Type 0
+MayMove g ranks marks e = (is_marked marks (slice_index ranks e) ≡ true) ⊎ IsEntered g e
+
+-- each arc that binds out of an event that may move leads to a higher rank
+abbrev pub GoesForward : Arcs → List ℕ → List Bool → Type 0
+GoesForward g ranks marks =
+    (a : ℕ) → Binds g a → MayMove g ranks marks (g.tail a) → slice_index ranks (g.tail a) < slice_index ranks (g.head a)
+
+-- the marks at the ranks of the events take in every event that may not have its time
+pub record MarksUnsettled (g : Graph) (ranks : List ℕ) (marks : List Bool) (times : List ℕ) : Type 0 where
+  pub as_many_marks : length marks ≡ g.shape.events
+  pub as_many_times : length times ≡ g.shape.events
+  pub settled : (e : ℕ) → e < g.shape.events → is_marked marks (slice_index ranks e) ≡ false → IsSettled g times e
+
+-- the marks and the times at a moment, and how many rows have been read
+pub record State : Type 0 where
+  pub marks : List Bool
+  pub times : List ℕ
+  pub steps : ℕ
+
+-- an arc that binds leads from one event to another
+pub record LeadsOn (g : Arcs) (from to : ℕ) : Type 0 where
+  pub arc : ℕ
+  pub binds : Binds g arc
+  pub leaves : g.tail arc ≡ from
+  pub enters : g.head arc ≡ to
+
+-- the event is the head of an arc that binds out of one of these events
+pub record Follows (g : Arcs) (events : List ℕ) (e : ℕ) : Type 0 where
+  pub from : ℕ
+  pub among : Contains events from
+  pub leads : LeadsOn g from e
+
+-- Which rows are read between two moments: of each event in `renewed` the one in, of each in `moved` the one out, each once.
+-- An event is renewed because it was marked or follows one that has moved. One has moved if its time differs.
+pub record AreReadFor (g : Arcs) (ranks : List ℕ) (before after : State) (renewed moved : List ℕ) : Type 0 where
+  pub are_events : (e : ℕ) → Contains renewed e → e < g.events
+  pub renewed_once : IsDistinct nat_eq renewed
+  pub moved_once : IsDistinct nat_eq moved
+  pub caused : (e : ℕ) → Contains renewed e → (is_marked before.marks (slice_index ranks e) ≡ true) ⊎ Follows g moved e
+  pub differs : (e : ℕ) → Contains moved e → slice_index before.times e ≢ slice_index after.times e
+
+-- So many rows are read: one for each event that is computed anew, and one for each that has moved.
+pub record ReadsFew (g : Arcs) (ranks : List ℕ) (before after : State) : Type 0 where
+  pub renewed : List ℕ
+  pub moved : List ℕ
+  pub counted : after.steps ≡ before.steps + length renewed + length moved
+  pub reads : AreReadFor g ranks before after renewed moved

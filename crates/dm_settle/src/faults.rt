@@ -1,12 +1,12 @@
-//! Why rows have no times.
+//! Why constraints have no times.
 
 use dm_base::{ActId, Items};
 use std::alloc::AllocError;
 
-/// Why rows have no times.
+/// Why constraints have no times.
 #[derive(PartialEq, Eq, Debug, Drop)]
 pub enum NoTimes {
-    /// Active activities that form a cycle, each head the next tail.
+    /// Held activities that form a cycle, each head the next tail.
     Cycle(Items<ActId>),
 
     /// There is not enough memory.

@@ -1,13 +1,19 @@
-//! What holds of all rows and times. A law has no code: it is proved as the contract of an empty function.
+//! What holds of every graph and its times. A law has no code: it is proved as the contract of an empty function.
 
-ghost use Rattle.std.specs.Prelude.{ℕ, ◌≡◌, ◌<◌, List, length};
-ghost use Rattle.dm_network.specs.Net.{Net, EndsAreKnown};
-ghost use Rattle.dm_rows.specs.Rows.{RowsValue};
-ghost use Rattle.dm_rows.specs.Timetable.{IsLeast};
-ghost use Rattle.dm_settle.specs.Settling.{IsSettled};
+ghost use Rattle.std.specs.Prelude.{ℕ, ◌<◌, List};
+ghost use Rattle.dm_graph.specs.Arcs.{HasNoCycle};
+ghost use Rattle.dm_graph.specs.Graph.{Graph};
+ghost use Rattle.dm_settle.specs.Constraints.{IsBounded};
+ghost use Rattle.dm_settle.specs.Settling.{AreLeast, IsSettled, AreEarly};
 
-/// In the least timetable of the rows, every event has the least time that the rows allow beside the others.
+/// In the least timetable of a graph, every event has the least time that the graph allows beside the others.
 pub fn least_is_settled()
-    ensures { (net : Net) (rows : RowsValue) (times : List ℕ) → EndsAreKnown net → IsLeast net rows times →
-        (e : ℕ) → e < length net.events → IsSettled net rows times e }
+    ensures { (g : Graph) (times : List ℕ) → AreLeast g times →
+        (e : ℕ) → e < g.shape.events → IsSettled g times e }
+{}
+
+/// In the least timetable of a graph without a cycle whose floors and spans are within the limits, every time is below
+/// 2^38.
+pub fn least_is_early()
+    ensures { (g : Graph) (times : List ℕ) → IsBounded g → HasNoCycle g.shape → AreLeast g times → AreEarly times }
 {}

@@ -1,13 +1,15 @@
-//! The pass that computes the times of a day along an order of its events.
+//! The pass that computes times along an order of events, over the constraints that it is given.
 //!
-//! It stands on dm_rows, and on dm_graph for the search for an order. A pass computes the marked events anew, in the
-//! order, and goes on along the active activities out of every event whose time has changed, so that raises and falls
-//! are served alike. What it leaves is the least timetable of the rows, and it reads the rows of few events
-//! ([`Marks::settle`]). With every event marked that has not passed it is the computation from scratch
-//! ([`least_times`]), which shows a cycle exactly where the rows have one. Every time is below 2^38 seconds.
+//! It stands on dm_network, and on dm_graph for the search for an order; what is held, and why, it does not know.
+//! [`Constraints`] say which activities of a network are held, with the floor of each event and the span of each activity:
+//! together a graph. A pass computes the marked events anew, in the order, and goes on along the held activities out of
+//! every event whose time has changed, so that raises and falls are served alike. What it leaves is the least timetable of
+//! the graph, and it reads the rows of few events ([`Marks::settle`]). With every event marked it is the computation from
+//! scratch ([`least_times`]), which shows a cycle exactly where the held activities have one. Every time is below 2^38
+//! seconds.
 #![tactic(auto)]
 
-mod arcs;
+mod constraints;
 mod faults;
 pub mod laws;
 mod marks;
@@ -15,6 +17,7 @@ mod pass;
 mod scratch;
 mod time;
 
+pub use constraints::Constraints;
 pub use faults::NoTimes;
 pub use marks::Marks;
 pub use scratch::least_times;

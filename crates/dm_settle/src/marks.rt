@@ -1,6 +1,7 @@
 //! Marks at the places of an order.
 ghost use Rattle.std.specs.Prelude.{ℕ, ◌≡◌, ◌+◌, ◌*◌, ◌/◌, ◌<◌, ◌≤◌, true, false, List, Bool, length, replicate, slice_set, slice_index_or, IfOk, IfSome, IfNone};
-ghost use Rattle.dm_settle.specs.Marked.{is_marked, IsFirstFrom, NoneFrom, NoneBetween};
+ghost use Rattle.dm_settle.specs.Marked.{IsFirstFrom, NoneFrom};
+ghost use Rattle.dm_settle.specs.Inside.Blocks.{NoneBetween};
 
 use std::alloc::{AllocError, Global};
 use std::marker::Model;
@@ -19,7 +20,7 @@ pub struct Marks {
 
 impl Model for Marks {
     ghost use Rattle.std.specs.Prelude.{List, Bool};
-    ghost use Rattle.dm_settle.specs.Marked.{AreCovered};
+    ghost use Rattle.dm_settle.specs.Inside.Blocks.{AreCovered};
 
     ghost Value = { List Bool };
 
@@ -35,6 +36,15 @@ impl Marks {
     {
         let flags = vec![in alloc; false; events]?;
         let blocks = vec![in alloc; false; events / BLOCK + 1]?;
+        Ok(Marks { flags, blocks })
+    }
+
+    /// The marks of an order of so many events, of which every one is marked.
+    pub fn all(alloc: Global, events: usize) -> Result<Marks, AllocError>
+        ensures { IfOk result (λ m. m ≡ replicate events true) }
+    {
+        let flags = vec![in alloc; true; events]?;
+        let blocks = vec![in alloc; true; events / BLOCK + 1]?;
         Ok(Marks { flags, blocks })
     }
 

@@ -1,63 +1,61 @@
 //! The least timetable from scratch.
-ghost use Rattle.std.specs.Prelude.{ℕ, ◌≡◌, ◌+◌, ◌<◌, ◌≤◌, false, length, map, replicate, slice_index, All, IfOk, IfErr, OnOk};
+ghost use Rattle.std.specs.Prelude.{ℕ, ◌≡◌, ◌<◌, length, slice_index, IfOk, IfErr, OnOk};
 ghost use Rattle.dm_graph.specs.Arcs.{IsOrder};
 ghost use Rattle.dm_graph.specs.Arrays.{AreRanks};
-ghost use Rattle.dm_network.specs.Held.{ids_of};
-ghost use Rattle.dm_rows.specs.Rows.{IsSized};
-ghost use Rattle.dm_rows.specs.Active.{HasNoCycle};
-ghost use Rattle.dm_rows.specs.Timetable.{IsLeast};
-ghost use Rattle.dm_settle.specs.Free.{free_arcs};
-ghost use Rattle.dm_settle.specs.Settling.{AreEarly};
-ghost use Rattle.dm_settle.specs.Scratch.{RefusesTimes, MarksUnpassed, AreFloors};
+ghost use Rattle.dm_network.specs.Held.{is_held, ids_of, HasNoCycleOf};
+ghost use Rattle.dm_settle.specs.Constraints.{IsSizedFor, arcs_given, graph_given, RefusesTimes};
+ghost use Rattle.dm_settle.specs.Settling.{AreLeast, AreEarly};
 
-use crate::arcs::{held_of, in_rows, tails_of};
+use crate::constraints::Constraints;
 use crate::faults::NoTimes;
 use crate::marks::Marks;
-use crate::time::floor_of;
 use dm_base::{ActId, Items, Secs, Steps};
 use dm_graph::search::{Cyclic, Search};
 use dm_network::Network;
-use dm_rows::Rows;
 use std::alloc::{AllocError, Global};
 use std::marker::Brand;
 use std::sync::ledger::{Blank, Ledger};
 
-/// The least timetable of the rows, in seconds by place of the event, or a cycle of them. Its time is linear in events
-/// and activities.
-pub fn least_times(alloc: Global, net: &Network, rows: &Rows) -> Result<Vec<Secs>, NoTimes>
-    requires { IsSized net.now rows.now }
-    ensures least { IfOk result (λ times. IsLeast net.now rows.now times.items) }
+/// The least timetable of the constraints, in seconds by place of the event. [`NoTimes::Cycle`] comes exactly where held
+/// activities form a cycle, unless memory is short first: then [`NoTimes::OutOfMemory`]. Its time is linear in events and
+/// activities.
+pub fn least_times(
+    alloc: Global,
+    net: &Network,
+    constraints: &Constraints,
+) -> Result<Vec<Secs>, NoTimes>
+    requires { IsSizedFor net.now constraints.now }
+    ensures least { IfOk result (λ times. AreLeast (graph_given net.now constraints.now) times.items) }
     ensures early { IfOk result (λ times. AreEarly times.items) }
-    ensures no_cycle { OnOk result (HasNoCycle net.now rows.now) }
-    ensures refused { IfErr result (RefusesTimes net.now rows.now) }
+    ensures no_cycle { OnOk result (HasNoCycleOf net.now (is_held constraints.now.held)) }
+    ensures refused { IfErr result (RefusesTimes net.now constraints.now) }
 {
-    least_times_with::<Brand>(alloc, net, rows, Blank::new(1))
+    least_times_with::<Brand>(alloc, net, constraints, Blank::new(1))
 }
 
 /// The same, for a ledger that nothing reads.
 fn least_times_with<L: Ledger>(
     alloc: Global,
     net: &Network,
-    rows: &Rows,
+    constraints: &Constraints,
     blank: Blank,
 ) -> Result<Vec<Secs>, NoTimes>
-    requires sized { IsSized net.now rows.now }
+    requires sized { IsSizedFor net.now constraints.now }
     requires name { blank.name ≡ L.name }
     requires parts { blank.parts ≡ L.parts }
     requires has_a_part { 0 < blank.parts }
-    ensures least { IfOk result (λ times. IsLeast net.now rows.now times.items) }
+    ensures least { IfOk result (λ times. AreLeast (graph_given net.now constraints.now) times.items) }
     ensures early { IfOk result (λ times. AreEarly times.items) }
-    ensures no_cycle { OnOk result (HasNoCycle net.now rows.now) }
-    ensures refused { IfErr result (RefusesTimes net.now rows.now) }
+    ensures no_cycle { OnOk result (HasNoCycleOf net.now (is_held constraints.now.held)) }
+    ensures refused { IfErr result (RefusesTimes net.now constraints.now) }
 {
-    let _sound = net.events();
     let mut steps = Steps::<L>::new(blank);
-    let search = search_order(alloc, net, rows, &mut steps)?;
-    let mut times = floors_of(alloc, net, rows)?;
-    let mut marks = unpassed_marked(alloc, net, rows, search.ranks())?;
+    let search = search_order(alloc, net, constraints)?;
+    let mut times = vec![in alloc; 0; net.events()]?;
+    let mut marks = Marks::all(alloc, net.events())?;
     marks.settle(
         net,
-        rows,
+        constraints,
         search.order(),
         search.ranks(),
         &mut times,
@@ -66,24 +64,15 @@ fn least_times_with<L: Ledger>(
     Ok(times)
 }
 
-/// A search that has found an order of the free activities, or a cycle of the rows.
-fn search_order<L: Ledger>(
-    alloc: Global,
-    net: &Network,
-    rows: &Rows,
-    steps: &mut Steps<L>,
-) -> Result<Search, NoTimes>
-    requires { IsSized net.now rows.now }
-    ensures order { IfOk result (λ s. IsOrder (free_arcs net.now rows.now) s.order) }
+/// A search that has found an order of the held activities, or a cycle of them.
+fn search_order(alloc: Global, net: &Network, constraints: &Constraints) -> Result<Search, NoTimes>
+    requires { IsSizedFor net.now constraints.now }
+    ensures order { IfOk result (λ s. IsOrder (arcs_given net.now constraints.now) s.order) }
     ensures ranks { IfOk result (λ s. AreRanks (length net.now.events) s.order s.ranks) }
-    ensures refused { IfErr result (RefusesTimes net.now rows.now) }
+    ensures refused { IfErr result (RefusesTimes net.now constraints.now) }
 {
-    let _sound = net.events();
-    let tails = tails_of(alloc, net)?;
-    let held = held_of(alloc, net, rows)?;
-    let row = in_rows(alloc, net, steps)?;
     let mut search = Search::new(alloc, net.events())?;
-    match search.search(&tails, &row.offsets, &row.places, &held) {
+    match net.search(constraints.held(), &mut search) {
         Ok(()) => Ok(search),
         Err(Cyclic) => Err(NoTimes::Cycle(ids_of(alloc, net, search.cycle())?)),
     }
@@ -99,38 +88,4 @@ fn ids_of(alloc: Global, net: &Network, places: &[usize]) -> Result<Items<ActId>
         ids.push(net.activity(*place).id)?;
     }
     Ok(Items::from_vec(ids))
-}
-
-/// Of each event its passed time, or else its scheduled time with its delay.
-fn floors_of(alloc: Global, net: &Network, rows: &Rows) -> Result<Vec<Secs>, AllocError>
-    requires { IsSized net.now rows.now }
-    ensures { IfOk result (λ v. AreFloors net.now rows.now (length net.now.events) v.items) }
-{
-    let mut floors = Vec::with_capacity(alloc, net.events())?;
-    for e in 0..net.events() {
-        floors.push(floor_of(net, rows, e))?;
-    }
-    Ok(floors)
-}
-
-/// Marks at the ranks of all events that have not passed.
-fn unpassed_marked(
-    alloc: Global,
-    net: &Network,
-    rows: &Rows,
-    ranks: &[usize],
-) -> Result<Marks, AllocError>
-    requires sized { IsSized net.now rows.now }
-    requires as_many { length ranks.now ≡ length net.now.events }
-    requires ranks { (e : ℕ) → e < length net.now.events → slice_index ranks.now e < length net.now.events }
-    requires one_each { (e f : ℕ) → e < length net.now.events → f < length net.now.events → slice_index ranks.now e ≡ slice_index ranks.now f → e ≡ f }
-    ensures { IfOk result (λ marks. MarksUnpassed net.now rows.now ranks.now (length net.now.events) marks) }
-{
-    let mut marks = Marks::new(alloc, net.events())?;
-    for e in 0..net.events() {
-        if rows.passed(e).is_none() {
-            marks.mark(ranks[e]);
-        }
-    }
-    Ok(marks)
 }

@@ -1,5 +1,5 @@
 use Rattle.std.proofs.Common.{length}
-use Rattle.dm_lintim.specs.Files.{HasRows}
+use Rattle.dm_lintim.specs.Inside.Rows.{HasRows}
 use Rattle.dm_lintim.specs.Pieces.{split_records}
 use Rattle.dm_lintim.proofs.rows.read_records.Given as goal
 

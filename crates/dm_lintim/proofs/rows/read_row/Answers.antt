@@ -1,7 +1,7 @@
-use Rattle.dm_lintim.specs.Split.{taken_fields}
-use Rattle.dm_lintim.proofs.CellLemmas.{has_numbers}
+use Rattle.dm_lintim.specs.Inside.Reader.{cells_of}
+use Rattle.dm_lintim.proofs.ValueLemmas.{has_kind}
 use Rattle.dm_lintim.proofs.rows.read_row.Goals as goal
 
-pub take-requires-clause-numbers : goal.take-requires-clause-numbers
-take-requires-clause-numbers g c =
-    has_numbers g.R.Row.is_known c.args.columns.now (taken_fields c.args.fields.now) c.in_ok-test_fields.ensures.good
+pub make-requires-clause-kind : goal.make-requires-clause-kind
+make-requires-clause-kind g c =
+    has_kind g.R.Row.names c.args.columns.now (cells_of c.args.fields.now) g.R.Row.required c.in_ok-values.values.kind c.requires.columns c.in_ok-values.ensures.values.kind_is

@@ -1,6 +1,7 @@
 use Rattle.std.proofs.Common.{length}
 use Rattle.std.specs.Prelude.{option_map}
-use Rattle.dm_lintim.specs.Columns.{HasRead, words_left, words_of}
+use Rattle.dm_lintim.specs.Columns.{words_of}
+use Rattle.dm_lintim.specs.Inside.Words.{HasRead, words_left}
 use Rattle.dm_lintim.proofs.words.read_words.Given as goal
 
 abbrev pub invariant-loop-rest : goal.invariant-loop-rest

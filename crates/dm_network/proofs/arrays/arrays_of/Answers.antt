@@ -1,6 +1,5 @@
-use Rattle.std.proofs.Common.{ap, ◌∙◌, ◌≡◌, map, arith, sym, subst, length, refl}
+use Rattle.std.proofs.Common.{◌∙◌, length, refl}
 use Rattle.dm_network.specs.Net.{no_activity}
-use Rattle.dm_network.specs.Flat.{AreFlatRows, row_of}
 use Rattle.dm_network.proofs.Arraying.{rows_of_mapped, mapped_ends_known}
 use Rattle.dm_network.proofs.arrays.arrays_of.Goals as goal
 

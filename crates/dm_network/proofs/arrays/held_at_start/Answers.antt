@@ -1,8 +1,6 @@
-use Rattle.std.proofs.Common.{ap, ◌∙◌, ◌≡◌, length, arith, map}
-use Rattle.std.specs.List.{range_with_len}
+use Rattle.std.proofs.Common.{◌∙◌}
 use Rattle.dm_network.specs.Net.{no_activity}
-use Rattle.dm_network.specs.Start.{is_start_active}
-use Rattle.dm_network.specs.Stages.{net_with}
+use Rattle.dm_network.specs.Inside.Stages.{net_with}
 use Rattle.dm_network.proofs.Arraying.{held_more}
 use Rattle.dm_network.proofs.arrays.held_at_start.Goals as goal
 

@@ -1,7 +1,7 @@
-use Rattle.std.proofs.Common.{sym, ap, ◌∙◌, ◌++◌, ◌∷◌, [], length, subst, map, arith, ◌≡◌}
+use Rattle.std.proofs.Common.{sym, ap, ◌∙◌, ◌++◌, ◌∷◌, [], length, map, arith, ◌≡◌}
 use Rattle.std.specs.List.{range_with_len}
 use Rattle.std.proofs.lemmas.List.FromFn.{map-range_with_len_more}
-use Rattle.dm_network.specs.Stages.{standing_at}
+use Rattle.dm_network.specs.Inside.Stages.{standing_at}
 use Rattle.dm_network.proofs.arrays.standings.Goals as goal
 
 pub loop-place-preserved : goal.loop-place-preserved

@@ -1,6 +1,6 @@
 use Rattle.std.proofs.Common.{◌≡◌, map}
 use Rattle.std.specs.List.{range_with_len}
-use Rattle.dm_network.specs.Stages.{standing_at}
+use Rattle.dm_network.specs.Inside.Stages.{standing_at}
 use Rattle.dm_network.proofs.arrays.standings.Given as goal
 
 abbrev pub invariant-loop-place : goal.invariant-loop-place

@@ -1,7 +1,6 @@
 -- What the stages say together.
-use Rattle.std.proofs.Common.{◌≡◌, ◌∙◌, ap, map, sym, subst, List}
-use Rattle.dm_network.specs.declared.parts.Activity.{Activity}
-use Rattle.dm_network.specs.Stages.{with_pair, AreActivitiesOf, AreTwoWay, RefusesActivities}
+use Rattle.std.proofs.Common.{◌∙◌, ap, map, subst}
+use Rattle.dm_network.specs.Inside.Stages.{with_pair, AreActivitiesOf, AreTwoWay, RefusesActivities}
 use Rattle.dm_network.proofs.Making.{made, limits, activities_refused}
 use Rattle.dm_network.proofs.build.formed.Goals as goal
 

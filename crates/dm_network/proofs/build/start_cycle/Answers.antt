@@ -1,10 +1,8 @@
 -- An order leaves no cycle at the start, and a cycle of the search is one.
-use Rattle.std.proofs.Common.{◌≡◌, ◌∙◌, ◌<◌, length, map, ap, sym, subst, ℕ, List}
-use Rattle.std.specs.List.{All}
-use Rattle.dm_graph.specs.Arcs.{IsCycle}
+use Rattle.std.proofs.Common.{length}
 use Rattle.dm_network.specs.Start.{is_start_active}
 use Rattle.dm_network.specs.Held.{arcs_of}
-use Rattle.dm_network.specs.Stages.{net_with}
+use Rattle.dm_network.specs.Inside.Stages.{net_with}
 use Rattle.dm_network.proofs.Starting.{knows_pairs, start_rows, start_ends, start_arrays, ordered_start, cycle_has_arcs, shown_start_cycle}
 use Rattle.dm_network.proofs.build.start_cycle.Goals as goal
 

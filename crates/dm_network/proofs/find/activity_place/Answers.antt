@@ -1,5 +1,5 @@
 -- Where the halving stops stands the id, or none does.
-use Rattle.std.proofs.Common.{◌≡◌, ℕ, ◌<◌, ltb, length, get_or, sym, arith, rules}
+use Rattle.std.proofs.Common.{◌≡◌, ◌<◌, ltb, length, get_or, sym, arith, rules}
 use Rattle.std.proofs.lemmas.List.Sorted.{IsPartitionPoint-from_clause, IsPartitionedBy-ltb}
 use Rattle.dm_network.specs.Net.{no_activity}
 use Rattle.dm_network.proofs.Keys.{key_does_not_fall, key_is_found, key_is_absent}

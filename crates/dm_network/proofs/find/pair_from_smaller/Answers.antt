@@ -1,9 +1,9 @@
 -- Where the halving stops stands the pair, or none does.
-use Rattle.std.proofs.Common.{◌≡◌, ℕ, ◌<◌, ◌≤◌, true, false, length, get_or, sym, refl, arith, rules}
+use Rattle.std.proofs.Common.{◌≡◌, ◌<◌, true, false, length, get_or, sym, arith, rules}
 use Rattle.std.specs.List.Sorted.{IsPartitionPoint}
 use Rattle.std.proofs.lemmas.List.Sorted.{IsPartitionPoint-from_clause}
 use Rattle.dm_network.specs.Net.{no_pair}
-use Rattle.dm_network.specs.Flat.{stands_before}
+use Rattle.dm_network.specs.Inside.Flat.{stands_before}
 use Rattle.dm_network.proofs.PairKeys.{pair_is_found, pair_is_absent, joins_forward, joins_backward, pairs_are_partitioned}
 use Rattle.dm_network.proofs.find.pair_from_smaller.Goals as goal
 use Rattle.dm_network.proofs.find.pair_from_smaller.Goals.{else-place-pairs-via-then-place-pairs+then-pairs-place+else-pairs-place-2, else-place-pairs-via-then-place-pairs+else-pairs-place, else-place-pairs-via-else-place-pairs}

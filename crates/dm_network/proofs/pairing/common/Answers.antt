@@ -1,7 +1,5 @@
-use Rattle.std.proofs.Common.{rules, ap, ◌≡◌, true, sym, arith, List, subst}
+use Rattle.std.proofs.Common.{arith}
 use Rattle.std.proofs.lemmas.Bool.{both_ways}
-use Rattle.dm_network.specs.declared.parts.Pair.{Pair}
-use Rattle.dm_network.specs.Stages.{DiffersFromLast}
 use Rattle.dm_network.proofs.TwoWay.{common_more, common_again, common_absent, common_all}
 use Rattle.dm_network.proofs.pairing.common.Goals as goal
 use Rattle.dm_network.proofs.pairing.common.Goals.{then-is_new+then-stands_in+in_ok-push, else-is_new, else-is_new-via-then-is_new+else-stands_in, else-is_new-via-else-is_new}

@@ -1,5 +1,3 @@
-use Rattle.std.proofs.Common.{sym, subst, rules}
-use Rattle.dm_network.specs.Stages.{AreTwoWay, AreCommon}
 use Rattle.dm_network.proofs.TwoWay.{common_are_two_way, two_way_in_order}
 use Rattle.dm_network.proofs.pairing.pairs_of.Goals as goal
 

@@ -1,9 +1,8 @@
-use Rattle.std.proofs.Common.{rules, ap, get_or, ltb, arith, ◌≡◌, true, false}
-use Rattle.std.specs.List.Sorted.{IsPartitionPoint}
+use Rattle.std.proofs.Common.{rules, ap, get_or, arith}
 use Rattle.std.proofs.lemmas.Bool.{ltb-true, both_ways, true_from_ne_false}
 use Rattle.std.proofs.lemmas.List.Sorted.{IsPartitionPoint-from_clause}
 use Rattle.dm_network.specs.Net.{no_pair}
-use Rattle.dm_network.specs.Flat.{stands_before}
+use Rattle.dm_network.specs.Inside.Flat.{stands_before}
 use Rattle.dm_network.proofs.TwoWay.{do_not_fall_partitioned, contained_there, contained_nowhere, pairs_equal, same_pair}
 use Rattle.dm_network.proofs.pairing.stands_in.Goals as goal
 

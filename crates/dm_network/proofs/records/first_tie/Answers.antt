@@ -1,4 +1,4 @@
-use Rattle.std.proofs.Common.{◌<◌, arith}
+use Rattle.std.proofs.Common.{arith}
 use Rattle.dm_network.proofs.Doubles.{tie_is_least, none_stands_twice}
 use Rattle.dm_network.proofs.records.first_tie.Goals as goal
 

@@ -1,5 +1,3 @@
-use Rattle.std.proofs.Common.{sym, subst, rules}
-use Rattle.std.specs.List.Sorted.{IsNonDecreasing}
 use Rattle.std.proofs.lemmas.List.Sorted.{IsNonDecreasingBy-from_sort}
 use Rattle.dm_network.proofs.Doubles.{double_through}
 use Rattle.dm_network.proofs.records.least_double.Goals as goal

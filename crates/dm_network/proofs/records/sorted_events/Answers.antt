@@ -1,7 +1,7 @@
 use Rattle.std.proofs.Common.{rules, ◌∙◌, ap}
 use Rattle.std.proofs.lemmas.List.Sorted.{IsNonDecreasingBy-from_sort_by_key}
 use Rattle.dm_network.proofs.Resolving.{same_records, events_ascend}
-use Rattle.dm_network.specs.Stages.{event_with}
+use Rattle.dm_network.specs.Inside.Stages.{event_with}
 use Rattle.std.proofs.Common.{map}
 use Rattle.dm_network.proofs.records.sorted_events.Goals as goal
 

@@ -2,8 +2,8 @@ use Rattle.dm_program.proofs.Arcs.{start_has_none}
 use Rattle.dm_program.proofs.Finished.{run_over, still_no_cycle}
 use Rattle.dm_program.proofs.prepare.answer_run.Goals as goal
 
-pub least-requires-clause-no_cycle : goal.least-requires-clause-no_cycle
-least-requires-clause-no_cycle c =
+pub times_of-requires-clause-no_cycle : goal.times_of-requires-clause-no_cycle
+times_of-requires-clause-no_cycle c =
     still_no_cycle c.args.net c.args.rows c.args.feed.now (record { rows = c.answer_feed.new.rows; history = c.in_ok-answers.answers.history.items }) c.in_ok-answers.answers.items.items c.in_ok-answers.ensures.0
     (start_has_none c.args.net c.args.rows c.events-network.ensures.network c.requires.start) c.requires.size c.in_ok-answers.ensures.1
 
@@ -11,4 +11,4 @@ pub returns-clause-run : goal.returns-clause-run
 returns-clause-run c =
     run_over c.args.net c.args.rows c.args.feed.now (record { rows = c.answer_feed.new.rows; history = c.in_ok-answers.answers.history.items }) c.in_ok-answers.answers.items.items c.in_ok-answers.ensures.0
     (start_has_none c.args.net c.args.rows c.events-network.ensures.network c.requires.start) c.requires.size c.in_ok-answers.ensures.1
-    c.args.penalty c.in_ok-times.times.items c.cost-cost.result c.in_ok-times.ensures.least (rw c.as_slice.ensures.value at c.cost-cost.ensures)
+    c.args.penalty c.in_ok-times.times c.cost-cost.result c.in_ok-times.ensures.least c.cost-cost.ensures.cost

@@ -1,5 +1,6 @@
 use Rattle.std.proofs.Common.{length}
-use Rattle.dm_rows.specs.StartFaults.{activity_number, activity_numbered}
+use Rattle.dm_rows.specs.Inside.Delays.{activity_number}
+use Rattle.dm_rows.specs.StartFaults.{activity_numbered}
 use Rattle.dm_rows.proofs.StartDelays.{HasSetDelays}
 use Rattle.dm_rows.proofs.starting.delays_of_activities.Given as goal
 

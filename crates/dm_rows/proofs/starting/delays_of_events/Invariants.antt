@@ -1,5 +1,6 @@
 use Rattle.std.proofs.Common.{length}
-use Rattle.dm_rows.specs.StartFaults.{event_number, event_numbered}
+use Rattle.dm_rows.specs.Inside.Delays.{event_number}
+use Rattle.dm_rows.specs.StartFaults.{event_numbered}
 use Rattle.dm_rows.proofs.StartDelays.{HasSetDelays}
 use Rattle.dm_rows.proofs.starting.delays_of_events.Given as goal
 

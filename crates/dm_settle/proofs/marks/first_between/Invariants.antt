@@ -1,4 +1,4 @@
-use Rattle.dm_settle.specs.Marked.{NoneBetween}
+use Rattle.dm_settle.specs.Inside.Blocks.{NoneBetween}
 use Rattle.dm_settle.proofs.marks.first_between.Given as goal
 
 abbrev pub invariant-loop-place : goal.invariant-loop-place

@@ -1,5 +1,5 @@
 use Rattle.std.proofs.Common.{◌≡◌, length}
-use Rattle.dm_graph.specs.Walk.{IsWalk, steps_left, KeepsMet}
+use Rattle.dm_graph.specs.Inside.Walk.{IsWalk, steps_left, KeepsMet}
 use Rattle.dm_graph.proofs.walk.Walk.empty_path.Given as goal
 
 abbrev pub invariant-loop-self : goal.invariant-loop-self

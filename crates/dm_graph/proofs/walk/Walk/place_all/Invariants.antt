@@ -1,5 +1,5 @@
 use Rattle.std.proofs.Common.{◌≡◌, ℕ, ◌<◌, length, slice_index}
-use Rattle.dm_graph.specs.Walk.{IsWalk}
+use Rattle.dm_graph.specs.Inside.Walk.{IsWalk}
 use Rattle.dm_graph.proofs.walk.Walk.place_all.Given as goal
 
 abbrev pub invariant-loop-event : goal.invariant-loop-event

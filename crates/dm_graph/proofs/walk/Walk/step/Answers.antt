@@ -1,5 +1,5 @@
 use Rattle.std.proofs.Common.{sym, subst}
-use Rattle.dm_graph.specs.Walk.{LeadsTo}
+use Rattle.dm_graph.specs.Inside.Walk.{LeadsTo}
 use Rattle.dm_graph.proofs.WalkGoesOn.{entered, placed_on, passed_on, top_is}
 use Rattle.dm_graph.proofs.walk.Walk.step.Goals as goal
 

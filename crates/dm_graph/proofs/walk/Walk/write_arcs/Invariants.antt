@@ -1,5 +1,5 @@
 use Rattle.std.proofs.Common.{◌≡◌, ℕ, ◌+◌, ◌<◌, slice_index}
-use Rattle.dm_graph.specs.Walk.{path_arc}
+use Rattle.dm_graph.specs.Inside.Walk.{path_arc}
 use Rattle.dm_graph.proofs.walk.Walk.write_arcs.Given as goal
 
 abbrev pub invariant-loop-k : goal.invariant-loop-k

@@ -1,5 +1,5 @@
 use Rattle.std.proofs.Common.{◌≡◌, ◌≤◌, ◌-◌, length}
-use Rattle.dm_settle.specs.Marked.{NoneBetween}
+use Rattle.dm_settle.specs.Inside.Blocks.{NoneBetween}
 use Rattle.dm_settle.proofs.marks.Marks.first_from.Given as goal
 
 abbrev pub invariant-loop-start : goal.invariant-loop-start

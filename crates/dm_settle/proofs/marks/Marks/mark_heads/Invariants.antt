@@ -1,5 +1,6 @@
-use Rattle.dm_settle.specs.Pass.{HasMarked}
+use Rattle.dm_settle.specs.Constraints.{arcs_given}
+use Rattle.dm_settle.specs.Inside.Pass.{HasMarked}
 use Rattle.dm_settle.proofs.marks.Marks.mark_heads.Given as goal
 
 abbrev pub invariant-loop-a : goal.invariant-loop-a
-invariant-loop-a g l = HasMarked l.net l.rows l.ranks l.event l.a-items l.a-index l.initial.self l.self
+invariant-loop-a g l = HasMarked (arcs_given l.net l.constraints) l.ranks l.event l.a-items l.a-index l.initial.self l.self

@@ -1,11 +1,12 @@
 use Rattle.std.proofs.Common.{◌-◌, length}
-use Rattle.dm_settle.specs.Pass.{IsPassing, HasRead}
+use Rattle.dm_settle.specs.Constraints.{arcs_given, graph_given}
+use Rattle.dm_settle.specs.Inside.Pass.{IsPassing, HasRead}
 use Rattle.dm_settle.proofs.marks.Marks.settle.Given as goal
 
 abbrev pub invariant-loop-next : goal.invariant-loop-next
 invariant-loop-next g l = record {
-  passing : IsPassing l.net l.rows l.ranks l.self l.times l.place;
-  read : HasRead l.net l.rows l.ranks l.initial.self l.initial.times l.initial.steps l.self l.times l.steps l.place;
+  passing : IsPassing (graph_given l.net l.constraints) l.ranks l.initial.self l.self l.times l.place;
+  read : HasRead (arcs_given l.net l.constraints) l.ranks (record { marks = l.initial.self; times = l.initial.times; steps = l.initial.steps }) (record { marks = l.self; times = l.times; steps = l.steps }) l.place;
 }
 
 abbrev pub decreases-loop-next : goal.decreases-loop-next

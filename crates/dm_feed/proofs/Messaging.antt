@@ -1,0 +1,297 @@
+-- Messages in print: the words of a plain text are those of its one spelling.
+use Rattle.std.proofs.Common.{◌≡◌, ◌≢◌, ℕ, zero, suc, ◌^◌, ◌<◌, ◌⊎◌, inl, inr, Bool, true, false, ◌&&◌, eqb, not, List, [], ◌∷◌, ◌++◌, length, get_or, map, All, Some, None, Result, Ok, Err, IfOk, refl, sym, ap, subst, ◌∙◌, arith, append-nil}
+use Rattle.std.specs.Prelude.{filter}
+use Rattle.std.specs.List.{slice_split, list_all, join_with_byte}
+use Rattle.std.specs.Fmt.{decimal}
+use Rattle.std.proofs.lemmas.Fmt.{decimal_digit, first_decimal}
+use Rattle.std.proofs.lemmas.List.Splits.{join_with_byte-slice_split}
+use Rattle.std.proofs.lemmas.List.Elements.{All-head, All-tail, All-nil, All-cons}
+use Rattle.std.proofs.lemmas.Bool.{ne_eqb, eq-eqb}
+use Rattle.dm_base.proofs.Decimals.{IsDigits-decimal, decimal-whole_value, IsPlain}
+use Rattle.dm_rows.specs.declared.messages.Decision.{Decision}
+use Rattle.dm_rows.specs.declared.messages.Message.{Message}
+use Rattle.dm_rows.specs.declared.messages.Message.TheVariants as message
+use Rattle.dm_feed.specs.declared.messages.MessageFault.{MessageFault}
+use Rattle.dm_feed.specs.declared.messages.MessageFault.TheVariants.{Form, OutOfMemory}
+use Rattle.dm_feed.specs.declared.vocabulary.Word.{Word}
+use Rattle.dm_feed.specs.declared.vocabulary.Word.TheVariants.{Delay, Event, Activity, Pass, Recall, Keep, Drop, First, Now, Time, Cost, Read, Plan, Adopt}
+use Rattle.dm_feed.specs.declared.grammar.Line.{Line}
+use Rattle.dm_feed.specs.declared.grammar.Line.TheVariants as line
+use Rattle.dm_feed.specs.Words.{spelling_of_word, words_of}
+use Rattle.dm_feed.specs.Parts.{Part, word, id, value, StandsFor, StandForAll, Fits, spelling_of_part, spelling_of_parts}
+use Rattle.dm_feed.specs.Lines.{parts_of_message, IsSaid, IsMessageOf, IsNoMessage, spelling_of_message}
+use Rattle.dm_feed.specs.Inside.Cuts.{cut_at}
+use Rattle.dm_feed.specs.Inside.Reading.{word_named, is_plain_word, is_plain, message_of, line_behind, line_with}
+use Rattle.dm_feed.specs.Inside.Deciding.{AreDecisions, ReadsDecisions, ReadsParts}
+use Rattle.dm_feed.proofs.Cutting.{cut_found, cut_none}
+use Rattle.dm_feed.proofs.Hearing.{named, word_found, reads, shows}
+use Rattle.dm_feed.proofs.Spelling.{pieces_of_parts, words_of_parts, parts_stand}
+
+-- ---- plain texts, a word at a time
+
+abbrev pieces : List ℕ → List (List ℕ)
+pieces bytes = slice_split (λ b. eqb b 32) bytes
+
+pub plain_more : (rest text behind : List ℕ) → cut_at 32 rest ≡ Some (text, behind) → is_plain_word text ≡ true → is_plain behind ≡ is_plain rest
+plain_more rest text behind e plain =
+    sym (ap (list_all is_plain_word) (cut_found 32 rest text behind e) ∙ ap (λ b. b && list_all is_plain_word (pieces behind)) plain)
+
+pub plain_fails : (rest text behind : List ℕ) → cut_at 32 rest ≡ Some (text, behind) → is_plain_word text ≡ false → is_plain rest ≡ false
+plain_fails rest text behind e plain =
+    ap (list_all is_plain_word) (cut_found 32 rest text behind e) ∙ ap (λ b. b && list_all is_plain_word (pieces behind)) plain
+
+pub plain_last : (rest : List ℕ) → cut_at 32 rest ≡ None → is_plain_word rest ≡ is_plain rest
+plain_last rest e = sym (ap (list_all is_plain_word) (cut_none 32 rest e) ∙ and_true (is_plain_word rest))
+  where
+    and_true : (b : Bool) → (b && true) ≡ b
+    and_true true = refl
+    and_true false = refl
+
+pub fewer_pieces : (rest text behind : List ℕ) → cut_at 32 rest ≡ Some (text, behind) → length (pieces behind) < length (pieces rest)
+fewer_pieces rest text behind e = omega (arith, ap length (cut_found 32 rest text behind e))
+
+-- ---- a spelling is plain
+
+digits_plain : (text : List ℕ) → 0 < length text → (1 < length text → get_or text 0 0 ≢ 48) → is_plain_word text ≡ true
+digits_plain [] some other = absurd (omega arith)
+digits_plain (c ∷ []) some other = refl
+digits_plain (c ∷ d ∷ cs) some other = ap not (ne_eqb c 48 (other (omega arith)))
+
+decimal_plain : (n : ℕ) → n < 2 ^ 64 → is_plain_word (decimal n) ≡ true
+decimal_plain n small = digits_plain (decimal n) (IsDigits-decimal n (omega arith)).some (first n small)
+  where
+    first : (n : ℕ) → n < 2 ^ 64 → 1 < length (decimal n) → get_or (decimal n) 0 0 ≢ 48
+    first zero small long e = let one : length (decimal 0) ≡ 1 = ap length (decimal_digit 0 (omega arith)) in absurd (omega (arith, one))
+    first (suc n) small long e = absurd (omega (arith, first_decimal (suc n) (omega arith) small, e))
+
+part_plain : (p : Part) → Fits p → is_plain_word (spelling_of_part p) ≡ true
+part_plain (word Delay) fits = refl
+part_plain (word Event) fits = refl
+part_plain (word Activity) fits = refl
+part_plain (word Pass) fits = refl
+part_plain (word Recall) fits = refl
+part_plain (word Keep) fits = refl
+part_plain (word Drop) fits = refl
+part_plain (word First) fits = refl
+part_plain (word Now) fits = refl
+part_plain (word Time) fits = refl
+part_plain (word Cost) fits = refl
+part_plain (word Read) fits = refl
+part_plain (word Plan) fits = refl
+part_plain (word Adopt) fits = refl
+part_plain (id n) fits = decimal_plain n (omega (arith, fits))
+part_plain (value n) fits = decimal_plain n (omega (arith, fits))
+
+parts_plain : (parts : List Part) → All Fits parts → list_all is_plain_word (map spelling_of_part parts) ≡ true
+parts_plain [] fits = refl
+parts_plain (p ∷ ps) fits = let e = part_plain p (All-head Fits p ps fits) in rw e (parts_plain ps (All-tail Fits p ps fits))
+
+spelling_plain : (p : Part) (ps : List Part) → All Fits (p ∷ ps) → is_plain (spelling_of_parts (p ∷ ps)) ≡ true
+spelling_plain p ps fits = ap (list_all is_plain_word) (pieces_of_parts p ps fits) ∙ parts_plain (p ∷ ps) fits
+
+-- ---- a plain text is a spelling
+
+and_both : (a b : Bool) → (a && b) ≡ true → (a ≡ true) × (b ≡ true)
+and_both true b e = (refl, e)
+and_both false b e = absurd cc
+
+plain_from : (text : List ℕ) → is_plain_word text ≡ true → IsPlain text
+plain_from [] e first = absurd cc
+plain_from (c ∷ []) e first = refl
+plain_from (c ∷ d ∷ cs) e first = absurd (apart c (eq-eqb c 48 first) e)
+  where
+    apart : (c : ℕ) → eqb c 48 ≡ true → not (eqb c 48) ≡ true → ⊥
+    apart c p q = let r : not true ≡ true = sym (ap not p) ∙ q in cc
+
+part_spelled : (p : Part) (text : List ℕ) → StandsFor p text → is_plain_word text ≡ true → (Fits p) × (text ≡ spelling_of_part p)
+part_spelled (word w) text h e = (tt, h)
+part_spelled (id n) text h e = (h.small, sym (sym (ap decimal h.of) ∙ decimal-whole_value text h.digits (plain_from text e) (omega (arith, h.of, h.small))))
+part_spelled (value n) text h e = (h.small, sym (sym (ap decimal h.of) ∙ decimal-whole_value text h.digits (plain_from text e) (omega (arith, h.of, h.small))))
+
+record AreSpelled (parts : List Part) (texts : List (List ℕ)) : Type 0 where
+  fits : All Fits parts
+  are : texts ≡ map spelling_of_part parts
+
+parts_spelled : (parts : List Part) (texts : List (List ℕ)) → StandForAll parts texts → list_all is_plain_word texts ≡ true → AreSpelled parts texts
+parts_spelled [] [] h e = record { fits = All-nil Fits; are = refl }
+parts_spelled [] (text ∷ texts) h e = absurd h
+parts_spelled (p ∷ ps) [] h e = absurd h
+parts_spelled (p ∷ ps) (text ∷ texts) h e =
+    let b = and_both (is_plain_word text) (list_all is_plain_word texts) e in
+    let here = part_spelled p text h.0 b.0 in
+    let rest = parts_spelled ps texts h.1 b.1 in
+    record { fits = All-cons Fits p ps here.0 rest.fits; are = ap (λ (l : List ℕ). l ∷ texts) here.1 ∙ ap (λ (l : List (List ℕ)). spelling_of_part p ∷ l) rest.are }
+
+-- in a plain text no piece is empty
+plain_words : (texts : List (List ℕ)) → list_all is_plain_word texts ≡ true → filter (λ w. not (eqb (length w) 0)) texts ≡ texts
+plain_words [] e = refl
+plain_words ([] ∷ texts) e = absurd cc
+plain_words ((c ∷ cs) ∷ texts) e =
+    let b = and_both (is_plain_word (c ∷ cs)) (list_all is_plain_word texts) e in
+    let some : eqb (length (c ∷ cs)) 0 ≡ false = ne_eqb (length (c ∷ cs)) 0 (λ z. omega arith) in
+    rw some (ap (λ (l : List (List ℕ)). (c ∷ cs) ∷ l) (plain_words texts b.1))
+
+joined_parts : (p : Part) (ps : List Part) → join_with_byte 32 (map spelling_of_part (p ∷ ps)) ≡ spelling_of_parts (p ∷ ps)
+joined_parts p [] = sym (append-nil (spelling_of_part p))
+joined_parts p (q ∷ qs) = ap (λ (l : List ℕ). spelling_of_part p ++ 32 ∷ l) (joined_parts q qs)
+
+-- a message has a first part
+record HasFirst (parts : List Part) : Type 0 where
+  first : Part
+  rest : List Part
+  are : parts ≡ first ∷ rest
+
+message_first : (m : Message) → HasFirst (parts_of_message m)
+message_first (message.DelayEvent e d) = record { first = _; rest = _; are = refl }
+message_first (message.DelayActivity a d) = record { first = _; rest = _; are = refl }
+message_first (message.Pass e t) = record { first = _; rest = _; are = refl }
+message_first (message.Recall e) = record { first = _; rest = _; are = refl }
+message_first (message.Keep a) = record { first = _; rest = _; are = refl }
+message_first (message.Drop a) = record { first = _; rest = _; are = refl }
+message_first (message.First e f) = record { first = _; rest = _; are = refl }
+message_first (message.Now t) = record { first = _; rest = _; are = refl }
+message_first (message.Adopt ds) = record { first = _; rest = _; are = refl }
+
+spelled_so : (parts : List Part) (bytes : List ℕ) → HasFirst parts → StandForAll parts (words_of bytes) → is_plain bytes ≡ true → (All Fits parts) × (bytes ≡ spelling_of_parts parts)
+spelled_so parts bytes has h plain =
+    let kept : words_of bytes ≡ pieces bytes = plain_words (pieces bytes) plain in
+    let s = parts_spelled parts (pieces bytes) (subst (StandForAll parts) kept h) plain in
+    let joined : join_with_byte 32 (map spelling_of_part parts) ≡ spelling_of_parts parts =
+    subst (λ (ps : List Part). join_with_byte 32 (map spelling_of_part ps) ≡ spelling_of_parts ps) (sym has.are) (joined_parts has.first has.rest) in
+    (s.fits, sym (join_with_byte-slice_split 32 bytes) ∙ (ap (join_with_byte 32) s.are ∙ joined))
+
+-- a plain text whose words stand for the message is its spelling
+pub is_message : (m : Message) (bytes : List ℕ) → is_plain bytes ≡ true → StandForAll (parts_of_message m) (words_of bytes) → IsMessageOf m bytes
+unfolding spelling_of_message
+is_message m bytes plain h = let s = spelled_so (parts_of_message m) bytes (message_first m) h plain in record { fits = s.0; spelled = s.1 }
+
+-- and a message's spelling is plain, and its words stand for it
+pub message_plain : (m : Message) (bytes : List ℕ) → IsMessageOf m bytes → is_plain bytes ≡ true
+unfolding spelling_of_message
+message_plain m bytes h =
+    let f = message_first m in
+    let Plain : List Part → Type 0 = λ ps. is_plain (spelling_of_parts ps) ≡ true in
+    ap is_plain h.spelled ∙ subst Plain (sym f.are) (spelling_plain f.first f.rest (subst (All Fits) f.are h.fits))
+
+pub message_stands : (m : Message) (bytes : List ℕ) → IsMessageOf m bytes → StandForAll (parts_of_message m) (words_of bytes)
+unfolding spelling_of_message
+message_stands m bytes h =
+    subst (StandForAll (parts_of_message m)) (sym (ap words_of h.spelled ∙ words_of_parts (parts_of_message m) h.fits)) (parts_stand (parts_of_message m) h.fits)
+
+-- ---- a message by its first word
+
+other_word : {A : Type 0} (v w : Word) (first : List ℕ) → first ≡ spelling_of_word v → word_named first ≡ Some w → v ≢ w → A
+other_word v w first is e other = absurd (other (same v w (sym (named first v is) ∙ e)))
+  where
+    same : (v w : Word) → Some v ≡ Some w → v ≡ w
+    same v w e = cc
+
+adopted_only : (m : Message) (first : List ℕ) (rest : List (List ℕ)) → word_named first ≡ Some Adopt → StandForAll (parts_of_message m) (first ∷ rest) → ((ds : List Decision) → AreDecisions ds rest → ⊥) → ⊥
+adopted_only (message.DelayEvent e d) first rest n h none = other_word Delay Adopt first h.0 n (λ q. cc)
+adopted_only (message.DelayActivity a d) first rest n h none = other_word Delay Adopt first h.0 n (λ q. cc)
+adopted_only (message.Pass e t) first rest n h none = other_word Pass Adopt first h.0 n (λ q. cc)
+adopted_only (message.Recall e) first rest n h none = other_word Recall Adopt first h.0 n (λ q. cc)
+adopted_only (message.Keep a) first rest n h none = other_word Keep Adopt first h.0 n (λ q. cc)
+adopted_only (message.Drop a) first rest n h none = other_word Drop Adopt first h.0 n (λ q. cc)
+adopted_only (message.First e f) first rest n h none = other_word First Adopt first h.0 n (λ q. cc)
+adopted_only (message.Now t) first rest n h none = other_word Now Adopt first h.0 n (λ q. cc)
+adopted_only (message.Adopt ds) first rest n h none = none ds h.1
+
+pub adopt_fails : (texts : List (List ℕ)) (first : List ℕ) (rest : List (List ℕ)) (fault : MessageFault) → texts ≡ first ∷ rest → word_named first ≡ Some Adopt → ReadsDecisions rest (Err fault) → ReadsParts texts (Err fault)
+adopt_fails texts first rest Form are n r = λ said h. adopted_only said first rest n (subst (StandForAll (parts_of_message said)) are h) r
+adopt_fails texts first rest OutOfMemory are n r = tt
+
+pub adopt_reads : (texts : List (List ℕ)) (first : List ℕ) (rest : List (List ℕ)) (ds : List Decision) → texts ≡ first ∷ rest → word_named first ≡ Some Adopt → AreDecisions ds rest → StandForAll (parts_of_message (message.Adopt ds)) texts
+adopt_reads texts first rest ds are n r = subst (StandForAll (parts_of_message (message.Adopt ds))) (sym are) (word_found first Adopt n, r)
+
+pub no_words_fail : (texts : List (List ℕ)) → texts ≡ [] → (said : Message) → StandForAll (parts_of_message said) texts → ⊥
+no_words_fail texts none said h =
+    let f = message_first said in
+    subst (λ (ps : List Part). StandForAll ps []) f.are (subst (StandForAll (parts_of_message said)) none h)
+
+-- a message that is no adopted list is read as a line
+line_reads : (said : Message) (w : Word) (first : List ℕ) (rest : List (List ℕ)) → w ≢ Adopt → word_named first ≡ Some w → StandForAll (parts_of_message said) (first ∷ rest) → line_behind w rest ≡ Some (line.Say said)
+line_reads said w first rest other n h = by_kind said h
+  where
+    so : (m : Message) → IsSaid m → StandForAll (parts_of_message m) (first ∷ rest) → line_behind w rest ≡ Some (line.Say m)
+    so m s h = sym (ap (λ o. line_with o rest) n) ∙ reads (line.Say m) first rest s h
+
+    by_kind : (m : Message) → StandForAll (parts_of_message m) (first ∷ rest) → line_behind w rest ≡ Some (line.Say m)
+    by_kind (message.DelayEvent e d) h = so (message.DelayEvent e d) tt h
+    by_kind (message.DelayActivity a d) h = so (message.DelayActivity a d) tt h
+    by_kind (message.Pass e t) h = so (message.Pass e t) tt h
+    by_kind (message.Recall e) h = so (message.Recall e) tt h
+    by_kind (message.Keep a) h = so (message.Keep a) tt h
+    by_kind (message.Drop a) h = so (message.Drop a) tt h
+    by_kind (message.First e f) h = so (message.First e f) tt h
+    by_kind (message.Now t) h = so (message.Now t) tt h
+    by_kind (message.Adopt ds) h = other_word Adopt w first h.0 n (λ q. other (sym q))
+
+pub no_line_fails : (texts : List (List ℕ)) (w : Word) (first : List ℕ) (rest : List (List ℕ)) → texts ≡ first ∷ rest → w ≢ Adopt → word_named first ≡ Some w → line_behind w rest ≡ None
+    → (said : Message) → StandForAll (parts_of_message said) texts → ⊥
+no_line_fails texts w first rest are other n none said h =
+    let e = line_reads said w first rest other n (subst (StandForAll (parts_of_message said)) are h) in
+    let apart : Some (line.Say said) ≡ None = sym e ∙ none in
+    cc
+
+pub no_message_fails : (texts : List (List ℕ)) (w : Word) (first : List ℕ) (rest : List (List ℕ)) (l : Line) → texts ≡ first ∷ rest → w ≢ Adopt → word_named first ≡ Some w → line_behind w rest ≡ Some l → message_of l ≡ None
+    → (said : Message) → StandForAll (parts_of_message said) texts → ⊥
+no_message_fails texts w first rest l are other n found none said h =
+    let e = line_reads said w first rest other n (subst (StandForAll (parts_of_message said)) are h) in
+    let same : line.Say said ≡ l = some_same (line.Say said) l (sym e ∙ found) in
+    let apart : Some said ≡ None = ap message_of same ∙ none in
+    cc
+  where
+    some_same : (a b : Line) → Some a ≡ Some b → a ≡ b
+    some_same a b q = cc
+
+pub no_word_fails : (texts : List (List ℕ)) (first : List ℕ) (rest : List (List ℕ)) → texts ≡ first ∷ rest → word_named first ≡ None → (said : Message) → StandForAll (parts_of_message said) texts → ⊥
+no_word_fails texts first rest are none said h = by_first said (subst (StandForAll (parts_of_message said)) are h)
+  where
+    unnamed : (w : Word) → first ≡ spelling_of_word w → ⊥
+    unnamed w is = let apart : Some w ≡ None = sym (named first w is) ∙ none in cc
+
+    by_first : (m : Message) → StandForAll (parts_of_message m) (first ∷ rest) → ⊥
+    by_first (message.DelayEvent e d) h = unnamed Delay h.0
+    by_first (message.DelayActivity a d) h = unnamed Delay h.0
+    by_first (message.Pass e t) h = unnamed Pass h.0
+    by_first (message.Recall e) h = unnamed Recall h.0
+    by_first (message.Keep a) h = unnamed Keep h.0
+    by_first (message.Drop a) h = unnamed Drop h.0
+    by_first (message.First e f) h = unnamed First h.0
+    by_first (message.Now t) h = unnamed Now h.0
+    by_first (message.Adopt ds) h = unnamed Adopt h.0
+
+pub line_says : (texts : List (List ℕ)) (w : Word) (first : List ℕ) (rest : List (List ℕ)) (l : Line) (said : Message) → texts ≡ first ∷ rest → word_named first ≡ Some w → line_behind w rest ≡ Some l → message_of l ≡ Some said → StandForAll (parts_of_message said) texts
+line_says texts w first rest l said are n found says =
+    let is : line.Say said ≡ l = says_is l said says in
+    let s = shows w first rest (line.Say said) (word_found first w n) (found ∙ ap (λ (k : Line). Some k) (sym is)) in
+    subst (StandForAll (parts_of_message said)) (sym are) s.parts
+  where
+    says_is : (l : Line) (said : Message) → message_of l ≡ Some said → line.Say said ≡ l
+    says_is (line.Say m) said e = cc
+    says_is (line.Time e') said e = absurd cc
+    says_is line.CostNow said e = absurd cc
+    says_is (line.Plan b) said e = absurd cc
+    says_is line.Adopt said e = absurd cc
+    says_is line.Read said e = absurd cc
+
+-- ---- the whole
+
+pub ok_message : (r : Result Message MessageFault) (bytes : List ℕ) → is_plain bytes ≡ true → ReadsParts (words_of bytes) r → IfOk r (λ said. IsMessageOf said bytes)
+ok_message (Ok m) bytes plain r = is_message m bytes plain r
+ok_message (Err Form) bytes plain r = tt
+ok_message (Err OutOfMemory) bytes plain r = tt
+
+pub form_message : (r : Result Message MessageFault) (bytes : List ℕ) → ReadsParts (words_of bytes) r → r ≡ Err Form → IsNoMessage bytes
+form_message (Ok m) bytes r e = absurd cc
+form_message (Err Form) bytes r e = λ said h. r said (message_stands said bytes h)
+form_message (Err OutOfMemory) bytes r e = absurd cc
+
+pub not_form_message : (r : Result Message MessageFault) (bytes : List ℕ) → is_plain bytes ≡ true → ReadsParts (words_of bytes) r → IsNoMessage bytes → (r ≡ Err Form) ⊎ (r ≡ Err OutOfMemory)
+not_form_message (Ok m) bytes plain r none = absurd (none m (is_message m bytes plain r))
+not_form_message (Err Form) bytes plain r none = inl refl
+not_form_message (Err OutOfMemory) bytes plain r none = inr refl
+
+pub not_plain : (bytes : List ℕ) → is_plain bytes ≡ false → IsNoMessage bytes
+not_plain bytes e said h = let apart : true ≡ false = sym (message_plain said bytes h) ∙ e in cc

@@ -1,0 +1,5 @@
+use Rattle.dm_feed.proofs.Digits.{number_is}
+use Rattle.dm_feed.proofs.numbers.id_of.Goals as goal
+
+pub returns-in-Ok : goal.returns-in-Ok
+returns-in-Ok c = let r = c.in-Ok.ensures.reads in number_is _ _ _ r.0 r.2 c.if-number-le-LARGEST_ID.true

@@ -1,0 +1,37 @@
+-- How the reader goes from words to the decisions of an adopted list, and to a message.
+use Rattle.std.specs.Prelude.{ℕ, ◌≡◌, List, ◌++◌, Result, Ok, Err, Vec}
+use Rattle.std.specs.List.{flat_map}
+use Rattle.std.specs.declared.alloc.Global.{Global}
+use Rattle.dm_rows.specs.declared.messages.Decision.{Decision}
+use Rattle.dm_rows.specs.declared.messages.Message.{Message}
+use Rattle.dm_feed.specs.declared.messages.MessageFault.{MessageFault}
+use Rattle.dm_feed.specs.declared.messages.MessageFault.TheVariants.{Form, OutOfMemory}
+use Rattle.dm_feed.specs.Parts.{StandForAll}
+use Rattle.dm_feed.specs.Lines.{parts_of_decision, parts_of_message}
+
+-- the texts stand for the decisions
+abbrev pub AreDecisions : List Decision → List (List ℕ) → Type 0
+AreDecisions decisions texts = StandForAll (flat_map parts_of_decision decisions) texts
+
+-- the decisions that the texts stand for, or none do
+abbrev pub ReadsDecisions : List (List ℕ) → Result (Vec Decision Global) MessageFault → Type 0
+ReadsDecisions texts (Ok decisions) = AreDecisions decisions.items texts
+ReadsDecisions texts (Err Form) = (decisions : List Decision) → AreDecisions decisions texts → ⊥
+ReadsDecisions texts (Err OutOfMemory) = Unit {0}
+
+-- the message that the texts stand for, or none does
+abbrev pub ReadsParts : List (List ℕ) → Result Message MessageFault → Type 0
+ReadsParts texts (Ok said) = StandForAll (parts_of_message said) texts
+ReadsParts texts (Err Form) = (said : Message) → StandForAll (parts_of_message said) texts → ⊥
+ReadsParts texts (Err OutOfMemory) = Unit {0}
+
+-- the decisions go on behind those that are held
+pub record GoOn (held decisions : List Decision) (rest : List (List ℕ)) : Type 0 where
+  pub tail : List Decision
+  pub are : decisions ≡ held ++ tail
+  pub stand : AreDecisions tail rest
+
+-- The decisions that are held were read: with those of the rest they are those of all.
+pub record ReadSoFar (all rest : List (List ℕ)) (held : List Decision) : Type 0 where
+  pub together : (tail : List Decision) → AreDecisions tail rest → AreDecisions (held ++ tail) all
+  pub alone : (decisions : List Decision) → AreDecisions decisions all → GoOn held decisions rest

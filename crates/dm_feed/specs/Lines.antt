@@ -1,0 +1,111 @@
+-- What lines and messages say, by the parts that they have: a kind of line is a line of these tables.
+use Rattle.std.specs.Prelude.{ℕ, ◌≡◌, ◌≤◌, List, [], ◌∷◌, length, All}
+use Rattle.std.specs.List.{flat_map}
+use Rattle.dm_base.specs.declared.limits.TheConstants.{LINE}
+use Rattle.dm_rows.specs.declared.messages.Decision.{Decision}
+use Rattle.dm_rows.specs.declared.messages.Decision.TheVariants as decision
+use Rattle.dm_rows.specs.declared.messages.Message.{Message}
+use Rattle.dm_rows.specs.declared.messages.Message.TheVariants as message
+use Rattle.dm_feed.specs.declared.vocabulary.Word.TheVariants.{Delay, Event, Activity, Pass, Recall, Keep, Drop, First, Now, Time, Cost, Read, Plan, Adopt}
+use Rattle.dm_feed.specs.declared.grammar.Line.{Line}
+use Rattle.dm_feed.specs.declared.grammar.Line.TheVariants as line
+use Rattle.dm_feed.specs.declared.grammar.Heard.{Heard}
+use Rattle.dm_feed.specs.declared.grammar.Heard.TheVariants as heard
+use Rattle.dm_feed.specs.Words.{words_of}
+use Rattle.dm_feed.specs.Parts.{Part, word, id, value, HasParts, Fits, spaced, spelling_of_parts}
+
+abbrev pub parts_of_decision : Decision → List Part
+parts_of_decision (decision.Keep a) = word Keep ∷ id a.0 ∷ []
+parts_of_decision (decision.Drop a) = word Drop ∷ id a.0 ∷ []
+parts_of_decision (decision.First e f) = word First ∷ id e.0 ∷ id f.0 ∷ []
+
+abbrev pub parts_of_message : Message → List Part
+parts_of_message (message.DelayEvent e d) = word Delay ∷ word Event ∷ id e.0 ∷ value d ∷ []
+parts_of_message (message.DelayActivity a d) = word Delay ∷ word Activity ∷ id a.0 ∷ value d ∷ []
+parts_of_message (message.Pass e t) = word Pass ∷ id e.0 ∷ value t ∷ []
+parts_of_message (message.Recall e) = word Recall ∷ id e.0 ∷ []
+parts_of_message (message.Keep a) = word Keep ∷ id a.0 ∷ []
+parts_of_message (message.Drop a) = word Drop ∷ id a.0 ∷ []
+parts_of_message (message.First e f) = word First ∷ id e.0 ∷ id f.0 ∷ []
+parts_of_message (message.Now t) = word Now ∷ value t ∷ []
+parts_of_message (message.Adopt decisions) = word Adopt ∷ flat_map parts_of_decision decisions
+
+abbrev pub parts_of_line : Line → List Part
+parts_of_line (line.Say m) = parts_of_message m
+parts_of_line (line.Time e) = word Time ∷ id e.0 ∷ []
+parts_of_line line.CostNow = word Cost ∷ []
+parts_of_line (line.Plan b) = word Plan ∷ value b ∷ []
+parts_of_line line.Adopt = word Adopt ∷ []
+parts_of_line line.Read = word Read ∷ []
+
+-- a line says any message but an adopted list
+abbrev pub IsSaid : Message → Type 0
+IsSaid (message.DelayEvent e d) = Unit {0}
+IsSaid (message.DelayActivity a d) = Unit {0}
+IsSaid (message.Pass e t) = Unit {0}
+IsSaid (message.Recall e) = Unit {0}
+IsSaid (message.Keep a) = Unit {0}
+IsSaid (message.Drop a) = Unit {0}
+IsSaid (message.First e f) = Unit {0}
+IsSaid (message.Now t) = Unit {0}
+IsSaid (message.Adopt decisions) = ⊥
+
+abbrev pub IsSpelledLine : Line → Type 0
+IsSpelledLine (line.Say m) = IsSaid m
+IsSpelledLine (line.Time e) = Unit {0}
+IsSpelledLine line.CostNow = Unit {0}
+IsSpelledLine (line.Plan b) = Unit {0}
+IsSpelledLine line.Adopt = Unit {0}
+IsSpelledLine line.Read = Unit {0}
+
+-- ---- what is heard in bytes
+
+-- the bytes are not too many, and stand for the line
+pub record IsLineOf (said : Line) (bytes : List ℕ) : Type 0 where
+  pub short : length bytes ≤ LINE
+  pub spelled : IsSpelledLine said
+  pub parts : HasParts bytes (parts_of_line said)
+
+-- no words, or words of which the first begins with the number sign
+abbrev pub SayNothing : List (List ℕ) → Type 0
+SayNothing [] = Unit {0}
+SayNothing ([] ∷ texts) = ⊥
+SayNothing ((c ∷ cs) ∷ texts) = c ≡ 35
+
+-- a blank line or a comment
+pub record IsQuiet (bytes : List ℕ) : Type 0 where
+  pub short : length bytes ≤ LINE
+  pub says_nothing : SayNothing (words_of bytes)
+
+-- neither a blank line or a comment nor any line
+pub record IsInNoForm (bytes : List ℕ) : Type 0 where
+  pub not_quiet : IsQuiet bytes → ⊥
+  pub no_line : (said : Line) → IsLineOf said bytes → ⊥
+
+abbrev pub Hears : List ℕ → Heard → Type 0
+Hears bytes heard.Blank = IsQuiet bytes
+Hears bytes (heard.Line said) = IsLineOf said bytes
+Hears bytes heard.Malformed = IsInNoForm bytes
+
+-- ---- in print
+
+-- a line's one spelling
+unfoldable pub spelling_of_line : Line → List ℕ
+spelling_of_line said = spelling_of_parts (parts_of_line said)
+
+-- a decision as it stands in an adopted list, with a space in front of each part
+abbrev pub spelling_of_decision : Decision → List ℕ
+spelling_of_decision decision = flat_map spaced (parts_of_decision decision)
+
+-- a message's one spelling
+unfoldable pub spelling_of_message : Message → List ℕ
+spelling_of_message said = spelling_of_parts (parts_of_message said)
+
+-- the bytes are the message's spelling; its numbers are not too large
+pub record IsMessageOf (said : Message) (bytes : List ℕ) : Type 0 where
+  pub fits : All Fits (parts_of_message said)
+  pub spelled : bytes ≡ spelling_of_message said
+
+-- the bytes are no message's spelling
+abbrev pub IsNoMessage : List ℕ → Type 0
+IsNoMessage bytes = (said : Message) → IsMessageOf said bytes → ⊥

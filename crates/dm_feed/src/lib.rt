@@ -1,0 +1,30 @@
+//! The lines of feeds, both ways, and the reader of a feed.
+//!
+//! A line is a list of parts, words and numbers, by the tables of `specs/Lines`: [`read_line`] hears in any bytes
+//! exactly the line whose parts they have, a blank line or comment, or that they are malformed; [`print_line`] and
+//! [`print_message`] write the one spelling; [`read_message`] takes such a spelling alone. [`LineReader`] gives the due
+//! lines of a source in order, with their numbers, and then why it stops. Only [`read_message`] takes memory.
+//!
+//! It stands on dm_rows for messages, on dm_outside for sources, sinks and pages, and on dm_base for numbers. It
+//! promises what each call's clauses say in the words of `specs/`; `specs/Inside` need not be believed.
+#![tactic(auto)]
+
+mod buffer;
+mod feed;
+mod grammar;
+pub mod laws;
+mod messages;
+mod numbers;
+mod printing;
+mod reader;
+mod reading;
+mod vocabulary;
+mod words;
+
+pub use feed::{FeedStop, Next};
+pub use grammar::{Heard, Line};
+pub use messages::{MessageFault, read_message};
+pub use printing::{print_line, print_message, put_line, put_message};
+pub use reader::LineReader;
+pub use reading::read_line;
+pub use vocabulary::Word;

@@ -1,0 +1,157 @@
+//! Lines and messages in print. Nothing here takes memory.
+ghost use Rattle.std.specs.Prelude.{◌≡◌, ◌∷◌, ◌++◌, [], codes};
+ghost use Rattle.std.specs.Fmt.{decimal};
+ghost use Rattle.std.specs.List.{flat_map};
+ghost use Rattle.dm_outside.specs.Printing.{Prints, Puts, joined};
+ghost use Rattle.dm_feed.specs.Lines.{IsSpelledLine, spelling_of_decision, spelling_of_line, spelling_of_message};
+
+use crate::grammar::Line;
+use dm_outside::{Page, Piece, Sink, WriteFault};
+use dm_rows::{Decision, Message};
+
+// Prints words and a number.
+fn put_number<K: Sink>(
+    sink: &mut K,
+    page: &mut Page,
+    words: &str,
+    number: u64,
+) -> Result<(), WriteFault>
+    ensures { Prints K.taken K.faults sink.old sink.new page.old page.new result (joined (words.now ∷ decimal number ∷ [])) }
+{
+    page.put(sink, &[Piece::Text(words), Piece::Number(number as u128)])
+}
+
+// Prints words and two numbers.
+fn put_numbers<K: Sink>(
+    sink: &mut K,
+    page: &mut Page,
+    words: &str,
+    first: u64,
+    second: u64,
+) -> Result<(), WriteFault>
+    ensures { Prints K.taken K.faults sink.old sink.new page.old page.new result (joined (words.now ∷ decimal first ∷ codes " " ∷ decimal second ∷ [])) }
+{
+    let pieces = [
+        Piece::Text(words),
+        Piece::Number(first as u128),
+        Piece::Text(" "),
+        Piece::Number(second as u128),
+    ];
+    page.put(sink, &pieces)
+}
+
+// Prints a decision of an adopted list.
+fn put_decision<K: Sink>(
+    sink: &mut K,
+    page: &mut Page,
+    decision: Decision,
+) -> Result<(), WriteFault>
+    ensures { Prints K.taken K.faults sink.old sink.new page.old page.new result (spelling_of_decision decision) }
+{
+    match decision {
+        Decision::Keep(act) => put_number(sink, page, " keep ", act.0 as u64),
+        Decision::Drop(act) => put_number(sink, page, " drop ", act.0 as u64),
+        Decision::First(first, second) => {
+            put_numbers(sink, page, " first ", first.0 as u64, second.0 as u64)
+        }
+    }
+}
+
+// Prints the decisions of an adopted list.
+fn put_decisions<K: Sink>(
+    sink: &mut K,
+    page: &mut Page,
+    decisions: &[Decision],
+) -> Result<(), WriteFault>
+    ensures { Prints K.taken K.faults sink.old sink.new page.old page.new result (flat_map spelling_of_decision decisions.now) }
+{
+    for decision in decisions {
+        let Ok(()) = put_decision(sink, page, *decision) else {
+            return Err(WriteFault);
+        };
+    }
+    Ok(())
+}
+
+// Prints an adopted list.
+fn put_adopted<K: Sink>(
+    sink: &mut K,
+    page: &mut Page,
+    decisions: &[Decision],
+) -> Result<(), WriteFault>
+    ensures { Prints K.taken K.faults sink.old sink.new page.old page.new result (codes "adopt" ++ flat_map spelling_of_decision decisions.now) }
+{
+    let Ok(()) = page.put_bytes(sink, b"adopt") else {
+        return Err(WriteFault);
+    };
+    put_decisions(sink, page, decisions)
+}
+
+/// Prints the one spelling of the message behind all that was printed through the page before.
+#[tactic(auto, unfolding(crate::specs::Lines::spelling_of_message))]
+pub fn put_message<K: Sink>(
+    sink: &mut K,
+    page: &mut Page,
+    message: &Message,
+) -> Result<(), WriteFault>
+    ensures { Prints K.taken K.faults sink.old sink.new page.old page.new result (spelling_of_message message.now) }
+{
+    match message {
+        Message::DelayEvent(event, delay) => {
+            put_numbers(sink, page, "delay event ", event.0 as u64, *delay)
+        }
+        Message::DelayActivity(act, delay) => {
+            put_numbers(sink, page, "delay activity ", act.0 as u64, *delay)
+        }
+        Message::Pass(event, time) => put_numbers(sink, page, "pass ", event.0 as u64, *time),
+        Message::Recall(event) => put_number(sink, page, "recall ", event.0 as u64),
+        Message::Keep(act) => put_number(sink, page, "keep ", act.0 as u64),
+        Message::Drop(act) => put_number(sink, page, "drop ", act.0 as u64),
+        Message::First(first, second) => {
+            put_numbers(sink, page, "first ", first.0 as u64, second.0 as u64)
+        }
+        Message::Now(time) => put_number(sink, page, "now ", *time),
+        Message::Adopt(decisions) => put_adopted(sink, page, decisions.as_slice()),
+    }
+}
+
+/// Prints the one spelling of the line, without an end, behind all that was printed through the page before.
+#[tactic(auto, unfolding(crate::specs::Lines::spelling_of_line, crate::specs::Lines::spelling_of_message))]
+pub fn put_line<K: Sink>(sink: &mut K, page: &mut Page, line: &Line) -> Result<(), WriteFault>
+    requires { IsSpelledLine line.now }
+    ensures { Prints K.taken K.faults sink.old sink.new page.old page.new result (spelling_of_line line.now) }
+{
+    match line {
+        Line::Say(message) => put_message(sink, page, message),
+        Line::Time(event) => put_number(sink, page, "time ", event.0 as u64),
+        Line::CostNow => page.put_bytes(sink, b"cost"),
+        Line::Plan(nodes) => put_number(sink, page, "plan ", *nodes),
+        Line::Adopt => page.put_bytes(sink, b"adopt"),
+        Line::Read => page.put_bytes(sink, b"read"),
+    }
+}
+
+/// Prints the one spelling of the line, without an end. It takes no memory. A write fault comes only where a write
+/// failed; the sink has then taken a front of the spelling, and not all of it.
+pub fn print_line<K: Sink>(line: &Line, sink: &mut K) -> Result<(), WriteFault>
+    requires { IsSpelledLine line.now }
+    ensures { Puts K.taken K.faults sink.old sink.new result (spelling_of_line line.now) }
+{
+    let mut page = Page::new();
+    let Ok(()) = put_line(sink, &mut page, line) else {
+        return Err(WriteFault);
+    };
+    page.finish(sink)
+}
+
+/// Prints the one spelling of the message: its line, or `adopt` and its decisions in order. It takes no memory. A write
+/// fault comes only where a write failed; the sink has then taken a front of the spelling, and not all of it.
+pub fn print_message<K: Sink>(message: &Message, sink: &mut K) -> Result<(), WriteFault>
+    ensures { Puts K.taken K.faults sink.old sink.new result (spelling_of_message message.now) }
+{
+    let mut page = Page::new();
+    let Ok(()) = put_message(sink, &mut page, message) else {
+        return Err(WriteFault);
+    };
+    page.finish(sink)
+}

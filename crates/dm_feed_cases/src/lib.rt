@@ -1,0 +1,8 @@
+//! The tests of dm_feed: feeds and lines with values from outside, in tables, and sources that give their bytes in pieces
+//! and fail. It stands on dm_feed and promises nothing.
+#![tactic(auto)]
+
+#[cfg(test)]
+mod feeds;
+#[cfg(test)]
+mod lines;

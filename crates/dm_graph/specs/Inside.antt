@@ -1,0 +1,2 @@
+-- States of the search between its steps. Who believes what the search promises need not read them.
+pub mod Walk

@@ -1,0 +1,10 @@
+use Rattle.std.specs.List.{flat_map}
+use Rattle.dm_input.specs.Lines.{id_text}
+use Rattle.dm_outside.proofs.Printing.{prints_fault, prints_last}
+use Rattle.dm_input.proofs.lines.print_cycle.Goals as goal
+
+pub returns-in_default : goal.returns-in_default
+returns-in_default g c = prints_fault (flat_map id_text c.args.ids.now) c.in_default.ensures
+
+pub returns : goal.returns
+returns g c = prints_last _ _ _ _ c.in-Ok.ensures c.print_ids.ensures

@@ -1,9 +1,0 @@
-use Rattle.dm_lintim.specs.Files.{IsActivityWord}
-use Rattle.dm_lintim.specs.Split.{taken_fields}
-use Rattle.dm_lintim.proofs.CellLemmas.{known_under}
-use Rattle.dm_lintim.proofs.activities.kind_under.Goals as goal
-
-pub unreachable-requires : goal.unreachable-requires
-unreachable-requires c =
-    let known = known_under IsActivityWord c.args.columns.now (taken_fields c.args.fields.now) c.requires.good c.requires.columns.1.0 in
-    c.in-None.ensures.none (rw c.text_under.ensures known)

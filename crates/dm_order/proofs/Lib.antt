@@ -1,0 +1,10 @@
+pub mod Forward
+pub mod FlagLemmas
+pub mod Changing
+pub mod AtRows
+pub mod Counting
+pub mod Shifted
+pub mod Reached
+pub mod Ranking
+pub mod Tracing
+pub mod Sweeping

@@ -1,0 +1,10 @@
+-- What contracts see of an order.
+use Rattle.std.specs.Prelude.{ℕ, Bool, List}
+
+-- the events in their order, the place of each event there, whether each activity is held, and the activities of the cycle
+-- for which an addition was refused last
+pub record OrderValue : Type 0 where
+  pub order : List ℕ
+  pub ranks : List ℕ
+  pub held : List Bool
+  pub cycle : List ℕ

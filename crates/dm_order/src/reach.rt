@@ -1,0 +1,141 @@
+//! Which events of an interval of places held activities lead to.
+ghost use Rattle.std.specs.Prelude.{◌≡◌, ◌<◌, ◌≤◌, length, IfOk};
+ghost use Rattle.dm_graph.specs.Arrays.{AreRanks};
+ghost use Rattle.dm_network.specs.Net.{activity_at, places_out_of};
+ghost use Rattle.dm_order.specs.Inside.Reaching.{followed, followed_all, HasReached, IsCleared};
+
+use dm_base::Steps;
+use dm_network::Network;
+use std::alloc::{AllocError, Global};
+use std::marker::Brand;
+use std::sync::ledger::{Blank, Ledger};
+
+/// By which activity the event at each place was reached, or `None`.
+#[derive(Drop)]
+pub struct Reach {
+    pub causes: Vec<Option<usize>>,
+}
+
+impl Reach {
+    /// Room for the causes of so many events.
+    pub fn new(alloc: Global, events: usize) -> Result<Reach, AllocError>
+        ensures { IfOk result (λ reach. length reach.causes.items ≡ events) }
+    {
+        let causes = vec![in alloc; None; events]?;
+        Ok(Reach { causes })
+    }
+
+    /// Reaches, from the event at a low place on, every event up to a high place that held activities lead to by later and
+    /// later places. Places outside are left as they are.
+    pub fn reach(
+        &mut self,
+        net: &Network,
+        held: &[bool],
+        order: &[usize],
+        ranks: &[usize],
+        low: usize,
+        high: usize,
+        first: usize,
+    )
+        requires flags { length held.now ≡ length net.now.activities }
+        requires ranked { AreRanks (length net.now.events) order.now ranks.now }
+        requires room { length self.old.causes.items ≡ length net.now.events }
+        requires interval { low ≤ high }
+        requires within { high < length net.now.events }
+        ensures { HasReached net.now held.now ranks.now low high high self.new.causes.items }
+    {
+        self.reach_with::<Brand>(net, held, order, ranks, low, high, first, Blank::new(1));
+    }
+
+    /// The same, for a ledger that nothing reads.
+    fn reach_with<L: Ledger>(
+        &mut self,
+        net: &Network,
+        held: &[bool],
+        order: &[usize],
+        ranks: &[usize],
+        low: usize,
+        high: usize,
+        first: usize,
+        blank: Blank,
+    )
+        requires name { blank.name ≡ L.name }
+        requires parts { blank.parts ≡ L.parts }
+        requires has_a_part { 0 < blank.parts }
+        requires flags { length held.now ≡ length net.now.activities }
+        requires ranked { AreRanks (length net.now.events) order.now ranks.now }
+        requires room { length self.old.causes.items ≡ length net.now.events }
+        requires interval { low ≤ high }
+        requires within { high < length net.now.events }
+        ensures { HasReached net.now held.now ranks.now low high high self.new.causes.items }
+    {
+        let mut steps = Steps::<L>::new(blank);
+        net.sound();
+        self.clear(low, high, first);
+        for place in low..high {
+            if self.causes[place].is_some() {
+                self.follow_all(net, held, ranks, place, high, order[place], &mut steps);
+            }
+        }
+    }
+
+    /// Forgets the events from a low place up to a high one, but the one at the low place, reached by this activity.
+    fn clear(&mut self, low: usize, high: usize, first: usize)
+        requires interval { low ≤ high }
+        requires within { high < length self.old.causes.items }
+        ensures { IsCleared low high first self.old.causes.items self.new.causes.items }
+    {
+        for place in low..high {
+            self.causes[place + 1] = None;
+        }
+        self.causes[low] = Some(first);
+    }
+
+    /// Reaches what the held activities out of an event lead to, up to a high place.
+    fn follow_all<L: Ledger>(
+        &mut self,
+        net: &Network,
+        held: &[bool],
+        ranks: &[usize],
+        at: usize,
+        high: usize,
+        event: usize,
+        steps: &mut Steps<L>,
+    )
+        requires flags { length held.now ≡ length net.now.activities }
+        requires ranks { length ranks.now ≡ length net.now.events }
+        requires within { high < length self.old.causes.items }
+        requires is_event { event < length net.now.events }
+        ensures causes { self.new.causes.items ≡ followed_all net.now held.now ranks.now at high self.old.causes.items (places_out_of net.now event) }
+        ensures as_many { length self.new.causes.items ≡ length self.old.causes.items }
+    {
+        net.sound();
+        for a in net.out_row(event, steps) {
+            self.follow(net, held, ranks, at, high, *a);
+        }
+    }
+
+    /// Reaches the head of an activity, if it is held and leads to a later place up to the high one.
+    fn follow(
+        &mut self,
+        net: &Network,
+        held: &[bool],
+        ranks: &[usize],
+        at: usize,
+        high: usize,
+        a: usize,
+    )
+        requires flags { length held.now ≡ length net.now.activities }
+        requires ranks { length ranks.now ≡ length net.now.events }
+        requires within { high < length self.old.causes.items }
+        requires is_activity { a < length net.now.activities }
+        ensures causes { self.new.causes.items ≡ followed net.now held.now ranks.now at high self.old.causes.items a }
+        ensures as_many { length self.new.causes.items ≡ length self.old.causes.items }
+    {
+        net.sound();
+        let place = ranks[net.activity(a).head];
+        if held[a] && at < place && place <= high {
+            self.causes[place] = Some(a);
+        }
+    }
+}

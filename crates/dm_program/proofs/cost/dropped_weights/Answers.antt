@@ -1,9 +1,0 @@
-use Rattle.std.proofs.Common.{arith, ◌<◌, length}
-use Rattle.dm_rows.specs.Cost.{dropped_weight}
-use Rattle.dm_program.proofs.Totals.{total_next}
-use Rattle.dm_program.proofs.cost.dropped_weights.Goals as goal
-
-pub loop-a-preserved : goal.loop-a-preserved
-loop-a-preserved c =
-    let lt : c.loop-a.a < length c.args.net.now.activities = omega (arith, c.loop-a-test.true, c.activities-a-end.ensures.count) in
-    total_next (dropped_weight c.args.net.now c.args.rows.now) (length c.args.net.now.activities) 1000000000 c.loop-a.a c.loop-a.total c.dropped_weight.result lt c.dropped_weight.ensures.bound c.dropped_weight.ensures.weight c.loop-a.invariant

@@ -1,0 +1,5 @@
+use Rattle.dm_rows.proofs.AsGraph.{meets_holding_as_graph}
+use Rattle.dm_rows.proofs.laws.meets_holding_as_graph.Goals as goal
+
+pub returns : goal.returns
+returns c = meets_holding_as_graph

@@ -1,0 +1,164 @@
+-- Constraints that are filled in from the rows, and what their graph is.
+use Rattle.std.proofs.Common.{◌≡◌, ℕ, ◌+◌, ◌<◌, List, length, get_or, set, Bool, refl, sym, ap, ◌∙◌, arith, inl, inr, false}
+use Rattle.std.proofs.lemmas.Bool.{cases_eq}
+use Rattle.std.proofs.lemmas.Grind.{get_or-set_at}
+use Rattle.std.proofs.lemmas.List.{get_or-set_other, length-set, length-replicate}
+use Rattle.std.specs.Prelude.{slice_index}
+use Rattle.dm_base.specs.declared.ids.ActId.{ActId}
+use Rattle.dm_graph.specs.Arcs.{Binds, BindsIn}
+use Rattle.dm_graph.specs.Graph.{AsksNoMore}
+use Rattle.dm_graph.proofs.Timetables.{same_is_least_alike}
+use Rattle.dm_graph.proofs.Transfers.{cycle_carries}
+use Rattle.dm_network.specs.Net.{Net, EndsAreKnown}
+use Rattle.dm_network.specs.Held.{is_held, HasNoCycleOf, ShowsCycleOf}
+use Rattle.dm_rows.specs.Rows.{RowsValue}
+use Rattle.dm_rows.specs.Active.{is_active, active_arcs, HasNoCycle, ShowsCycle}
+use Rattle.dm_rows.specs.Timetable.{IsLeast, floor_of, span_of, graph_of}
+use Rattle.dm_rows.proofs.AsGraph.{active_enter_no_passed, least_from_graph}
+use Rattle.dm_settle.specs.Constraints.{ConstraintsValue, arcs_given, graph_given, nothing_held}
+use Rattle.dm_settle.specs.Settling.{AreLeast}
+use Rattle.dm_settle.specs.Constraints.{RefusesTimes as RefusesGiven}
+use Rattle.dm_settle.specs.declared.faults.NoTimes.{NoTimes}
+use Rattle.dm_settle.specs.declared.faults.NoTimes.TheVariants.{Cycle, OutOfMemory}
+use Rattle.dm_times.specs.Faults.{RefusesTimes}
+use Rattle.dm_times.specs.Inside.Filling.{AreConstraintsOf, HoldsTo, FloorsTo, SpansTo}
+
+-- the first n items are by a function, and so is the next one that is set
+one_more : {A : Type 0} (xs : List A) (d v : A) (f : ℕ → A) (n : ℕ) → n < length xs → ((k : ℕ) → k < n → get_or xs k d ≡ f k) →
+    v ≡ f n → (k : ℕ) → k < n + 1 → get_or (set xs n v) k d ≡ f k
+one_more xs d v f n below each is k lt =
+    elim (cases_eq k n) [
+      | inl same ↦ get_or-set_at xs n k v d same below ∙ is ∙ ap f (sym same)
+      | inr other ↦ get_or-set_other xs n k v d other ∙ each k (omega arith)
+    ]
+
+pub holds_none : (net : Net) (rows : RowsValue) (given : ConstraintsValue) → HoldsTo net rows 0 given given
+holds_none net rows given = record { size = refl; each = λ a lt. absurd (omega arith); floors = refl; spans = refl }
+
+pub holds_next : (net : Net) (rows : RowsValue) (n : ℕ) (before now : ConstraintsValue) (b : Bool) → n < length before.held →
+    b ≡ is_active net rows n → HoldsTo net rows n before now → HoldsTo net rows (n + 1) before (record now { held = set now.held n b })
+holds_next net rows n before now b below is h =
+    record {
+      size = length-set now.held n b ∙ h.size;
+      each = one_more now.held false b (is_active net rows) n (let size = h.size in omega arith) h.each is;
+      floors = h.floors;
+      spans = h.spans;
+    }
+
+pub floors_none : (net : Net) (rows : RowsValue) (given : ConstraintsValue) → FloorsTo net rows 0 given given
+floors_none net rows given = record { size = refl; each = λ a lt. absurd (omega arith); held = refl; spans = refl }
+
+pub floors_next : (net : Net) (rows : RowsValue) (n : ℕ) (before now : ConstraintsValue) (floor : ℕ) → n < length before.floors →
+    floor ≡ floor_of net rows n → FloorsTo net rows n before now →
+    FloorsTo net rows (n + 1) before (record now { floors = set now.floors n floor })
+floors_next net rows n before now floor below is h =
+    record {
+      size = length-set now.floors n floor ∙ h.size;
+      each = one_more now.floors 0 floor (floor_of net rows) n (let size = h.size in omega arith) h.each is;
+      held = h.held;
+      spans = h.spans;
+    }
+
+pub spans_none : (net : Net) (rows : RowsValue) (given : ConstraintsValue) → SpansTo net rows 0 given given
+spans_none net rows given = record { size = refl; each = λ a lt. absurd (omega arith); held = refl; floors = refl }
+
+pub spans_next : (net : Net) (rows : RowsValue) (n : ℕ) (before now : ConstraintsValue) (span : ℕ) → n < length before.spans →
+    span ≡ span_of net rows n → SpansTo net rows n before now →
+    SpansTo net rows (n + 1) before (record now { spans = set now.spans n span })
+spans_next net rows n before now span below is h =
+    record {
+      size = length-set now.spans n span ∙ h.size;
+      each = one_more now.spans 0 span (span_of net rows) n (let size = h.size in omega arith) h.each is;
+      held = h.held;
+      floors = h.floors;
+    }
+
+-- constraints that hold nothing are as long as the network's lists
+pub held_size : (net : Net) (given : ConstraintsValue) → given ≡ nothing_held net → length given.held ≡ length net.activities
+held_size net given is = ap (λ (g : ConstraintsValue). length g.held) is ∙ length-replicate (length net.activities) false
+
+pub floors_size : (net : Net) (given : ConstraintsValue) → given ≡ nothing_held net → length given.floors ≡ length net.events
+floors_size net given is = ap (λ (g : ConstraintsValue). length g.floors) is ∙ length-replicate (length net.events) 0
+
+pub spans_size : (net : Net) (given : ConstraintsValue) → given ≡ nothing_held net → length given.spans ≡ length net.activities
+spans_size net given is = ap (λ (g : ConstraintsValue). length g.spans) is ∙ length-replicate (length net.activities) 0
+
+-- filled in one list after the other, they are the rows'
+pub filled : (net : Net) (rows : RowsValue) (empty holding floored given : ConstraintsValue) → empty ≡ nothing_held net →
+    HoldsTo net rows (length net.activities) empty holding → FloorsTo net rows (length net.events) holding floored →
+    SpansTo net rows (length net.activities) floored given → AreConstraintsOf net rows given
+filled net rows empty holding floored given is held floors spans =
+    record {
+      sized = record {
+        held = ap length (spans.held ∙ floors.held) ∙ held.size ∙ held_size net empty is;
+        floors = ap length spans.floors ∙ floors.size ∙ ap length held.floors ∙ floors_size net empty is;
+        spans = spans.size ∙ ap length (floors.spans ∙ held.spans) ∙ spans_size net empty is;
+      };
+      held = λ a below. ap (λ flags. is_held flags a) (spans.held ∙ floors.held) ∙ held.each a below;
+      floors = λ i below. ap (λ xs. slice_index xs i) spans.floors ∙ floors.each i below;
+      spans = spans.each;
+    }
+
+-- the graph of the constraints is that of the rows
+module _ (net : Net) (rows : RowsValue) (given : ConstraintsValue) (are : AreConstraintsOf net rows given) where
+  there : (a : ℕ) → Binds (arcs_given net given) a → BindsIn (arcs_given net given) (active_arcs net rows) a
+  there a b = record {
+    binds = record {
+      is_arc = b.is_arc;
+      is_held = sym (are.held a b.is_arc) ∙ b.is_held;
+      from_event = b.from_event;
+      to_event = b.to_event;
+    };
+    same_tail = refl;
+    same_head = refl;
+  }
+
+  back : (a : ℕ) → Binds (active_arcs net rows) a → BindsIn (active_arcs net rows) (arcs_given net given) a
+  back a b = record {
+    binds = record {
+      is_arc = b.is_arc;
+      is_held = are.held a b.is_arc ∙ b.is_held;
+      from_event = b.from_event;
+      to_event = b.to_event;
+    };
+    same_tail = refl;
+    same_head = refl;
+  }
+
+  asks_no_more : AsksNoMore (graph_given net given) (graph_of net rows)
+  asks_no_more = record {
+    same_events = refl;
+    floors = λ e lt. let is = are.floors e lt in omega arith;
+    binds = there;
+    spans = λ a b. let is = are.spans a b.is_arc in omega arith;
+  }
+
+  asks_no_less : AsksNoMore (graph_of net rows) (graph_given net given)
+  asks_no_less = record {
+    same_events = refl;
+    floors = λ e lt. let is = are.floors e lt in omega arith;
+    binds = back;
+    spans = λ a b. let is = are.spans a b.is_arc in omega arith;
+  }
+
+  -- what is least for the constraints is least for the rows
+  pub least_for_rows : (times : List ℕ) → EndsAreKnown net → AreLeast (graph_given net given) times → IsLeast net rows times
+  least_for_rows times known l =
+      least_from_graph net rows (is_active net rows) times known l.as_many (active_enter_no_passed net rows)
+      (same_is_least_alike (graph_given net given) (graph_of net rows) (slice_index times) asks_no_more asks_no_less l.least)
+
+  pub no_cycle_of_rows : HasNoCycleOf net (is_held given.held) → HasNoCycle net rows
+  no_cycle_of_rows none cycle c = none cycle (cycle_carries (active_arcs net rows) (arcs_given net given) back cycle c)
+
+  pub shows_cycle_of_rows : (ids : List ActId) → ShowsCycleOf net (is_held given.held) ids → ShowsCycle net rows ids
+  shows_cycle_of_rows ids s = record {
+    places = s.places;
+    is_cycle = cycle_carries (arcs_given net given) (active_arcs net rows) there s.places s.is_cycle;
+    named = s.named;
+  }
+
+-- why the constraints have no times is why the rows have none
+pub refused_for_rows : (net : Net) (rows : RowsValue) (given : ConstraintsValue) → AreConstraintsOf net rows given → (fault : NoTimes) →
+    RefusesGiven net given fault → RefusesTimes net rows fault
+refused_for_rows net rows given are (Cycle ids) h = shows_cycle_of_rows net rows given are ids h
+refused_for_rows net rows given are OutOfMemory h = tt

@@ -1,0 +1,5 @@
+pub mod Bounds
+pub mod Filled
+pub mod Harmless
+pub mod Meeting
+pub mod Totals

@@ -1,0 +1,49 @@
+-- Rows can be met exactly where they have no cycle; their start rows have none.
+use Rattle.std.proofs.Common.{ℕ, refl, ◌∙◌}
+use Rattle.dm_graph.specs.Arcs.{Binds, BindsIn}
+use Rattle.dm_graph.proofs.Transfers.{cycle_carries}
+use Rattle.dm_network.specs.Net.{Net}
+use Rattle.dm_network.specs.Held.{arcs_of}
+use Rattle.dm_network.specs.Start.{IsNetwork, is_start_active}
+use Rattle.dm_rows.specs.Active.{is_active, active_arcs}
+use Rattle.dm_rows.specs.Decide.{with_decisions}
+use Rattle.dm_rows.specs.Relax.{is_relaxed_active}
+use Rattle.dm_rows.specs.History.{rows_at}
+use Rattle.dm_rows.specs.Rows.{RowsValue, start_rows_of}
+use Rattle.dm_rows.proofs.AsGraph.{active_enter_no_passed, relaxed_enter_no_passed}
+use Rattle.dm_rows.proofs.AtStart.{start_activity_agrees}
+use Rattle.dm_rows.proofs.Holding.{held_is_met_exactly_without_cycle}
+use Rattle.dm_times.specs.Laws.{IsMetExactlyWithoutCycle, MetExactlyWithoutCycle, StartHasNoCycle}
+
+pub rows_are_met : (net : Net) (rows : RowsValue) → IsNetwork net → IsMetExactlyWithoutCycle net rows
+rows_are_met net rows network =
+    held_is_met_exactly_without_cycle net rows (is_active net rows) network (active_enter_no_passed net rows)
+
+pub met_exactly_without_cycle : MetExactlyWithoutCycle
+met_exactly_without_cycle =
+    record {
+      all = rows_are_met;
+      by_messages = λ net events activities history n network.
+          rows_are_met net (rows_at net (start_rows_of net events activities) history n) network;
+      reached = λ net rows network reached. rows_are_met net rows network;
+      by_decisions = λ net rows decisions network reached. rows_are_met net (with_decisions net rows decisions) network;
+      relaxed = λ net rows path network reached.
+          held_is_met_exactly_without_cycle net (with_decisions net rows path) (is_relaxed_active net rows path) network
+          (relaxed_enter_no_passed net rows path);
+    }
+
+pub start_has_no_cycle : StartHasNoCycle
+start_has_no_cycle net events activities network cycle c =
+    let start : RowsValue = start_rows_of net events activities in
+    let same : (a : ℕ) → Binds (active_arcs net start) a → BindsIn (active_arcs net start) (arcs_of net (is_start_active net)) a =
+    λ a b. record {
+      binds = record {
+        is_arc = b.is_arc;
+        is_held = start_activity_agrees net events activities a network.formed b.is_arc ∙ b.is_held;
+        from_event = b.from_event;
+        to_event = b.to_event;
+      };
+      same_tail = refl;
+      same_head = refl;
+    } in
+    network.no_start_cycle cycle (cycle_carries (active_arcs net start) (arcs_of net (is_start_active net)) same cycle c)

@@ -1,0 +1,5 @@
+use Rattle.dm_times.proofs.Meeting.{start_has_no_cycle}
+use Rattle.dm_times.proofs.laws.start_has_no_cycle.Goals as goal
+
+pub returns : goal.returns
+returns c = start_has_no_cycle

@@ -1,0 +1,36 @@
+-- What the rows hold a network to, as far as it has been filled in.
+use Rattle.std.specs.Prelude.{ℕ, ◌≡◌, ◌<◌, length, slice_index}
+use Rattle.dm_network.specs.Net.{Net}
+use Rattle.dm_network.specs.Held.{is_held}
+use Rattle.dm_rows.specs.Active.{is_active}
+use Rattle.dm_rows.specs.Rows.{RowsValue}
+use Rattle.dm_rows.specs.Timetable.{floor_of, span_of}
+use Rattle.dm_settle.specs.Constraints.{ConstraintsValue, IsSizedFor}
+
+-- the active activities are held, floors are the rows', and spans are lower bounds with delays
+pub record AreConstraintsOf (net : Net) (rows : RowsValue) (given : ConstraintsValue) : Type 0 where
+  pub sized : IsSizedFor net given
+  pub held : (a : ℕ) → a < length net.activities → is_held given.held a ≡ is_active net rows a
+  pub floors : (i : ℕ) → i < length net.events → slice_index given.floors i ≡ floor_of net rows i
+  pub spans : (a : ℕ) → a < length net.activities → slice_index given.spans a ≡ span_of net rows a
+
+-- of the first n activities those that are active are held, and all else is as before
+pub record HoldsTo (net : Net) (rows : RowsValue) (n : ℕ) (before after : ConstraintsValue) : Type 0 where
+  pub size : length after.held ≡ length before.held
+  pub each : (a : ℕ) → a < n → is_held after.held a ≡ is_active net rows a
+  pub floors : after.floors ≡ before.floors
+  pub spans : after.spans ≡ before.spans
+
+-- the first n events have their floors, and all else is as before
+pub record FloorsTo (net : Net) (rows : RowsValue) (n : ℕ) (before after : ConstraintsValue) : Type 0 where
+  pub size : length after.floors ≡ length before.floors
+  pub each : (i : ℕ) → i < n → slice_index after.floors i ≡ floor_of net rows i
+  pub held : after.held ≡ before.held
+  pub spans : after.spans ≡ before.spans
+
+-- the first n activities have their spans, and all else is as before
+pub record SpansTo (net : Net) (rows : RowsValue) (n : ℕ) (before after : ConstraintsValue) : Type 0 where
+  pub size : length after.spans ≡ length before.spans
+  pub each : (a : ℕ) → a < n → slice_index after.spans a ≡ span_of net rows a
+  pub held : after.held ≡ before.held
+  pub floors : after.floors ≡ before.floors

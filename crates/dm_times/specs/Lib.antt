@@ -1,0 +1,5 @@
+-- Why rows have no times, and what holds of all rows and their timetables.
+pub mod Faults
+pub mod Laws
+-- States of loops: checked, and not to be believed.
+pub mod Inside

@@ -1,0 +1,154 @@
+//! What a timetable costs.
+ghost use Rattle.std.specs.Prelude.{◌≡◌, ◌+◌, ◌*◌, ◌^◌, ◌<◌, ◌≤◌, length, sum_by};
+ghost use Rattle.std.specs.List.{range_with_len};
+ghost use Rattle.dm_base.specs.declared.limits.TheConstants.{EVENTS, ACTIVITIES, WEIGHT, PENALTY};
+ghost use Rattle.dm_rows.specs.Rows.{IsSized};
+ghost use Rattle.dm_rows.specs.Timetable.{IsLeast};
+ghost use Rattle.dm_rows.specs.Cost.{cost_of, cost_charging, event_cost, charged_weight, missed_weight, comes_too_early};
+
+use crate::charging::{Charging, DroppedChanges};
+use crate::filling::span_of;
+use crate::times::Times;
+use dm_base::{ActKind, Cost, EventKind, Milli};
+use dm_network::Network;
+use dm_rows::Rows;
+
+/// What the rows' least timetable costs, in thousandths of passenger seconds: the lateness of the arrivals, and the penalty
+/// for each dropped change whose head has not passed and for each change that its passed head has missed. The penalty is in
+/// seconds for each passenger, at most 1,000,000. It takes no memory.
+pub fn cost(net: &Network, rows: &Rows, times: &Times, penalty: u64) -> Cost
+    requires sized { IsSized net.now rows.now }
+    requires least { IsLeast net.now rows.now times.now }
+    requires penalty { penalty ≤ PENALTY }
+    ensures cost { result ≡ cost_of net.now rows.now times.now penalty }
+    ensures limit { result < 2 ^ 100 }
+{
+    cost_charging(net, rows, &DroppedChanges { net, rows }, times, penalty)
+}
+
+/// What a timetable costs where the penalty is charged for these activities, and for each change that its passed head has
+/// missed.
+pub fn cost_charging<C: Charging>(
+    net: &Network,
+    rows: &Rows,
+    charging: &C,
+    times: &Times,
+    penalty: u64,
+) -> Cost
+    requires sized { IsSized net.now rows.now }
+    requires places { C.places charging.now ≡ length net.now.activities }
+    requires size { length times.now ≡ length net.now.events }
+    requires penalty { penalty ≤ PENALTY }
+    ensures cost { result ≡ cost_charging net.now rows.now (C.charged charging.now) times.now penalty }
+    ensures limit { result < 2 ^ 100 }
+{
+    let penalty = penalty as u128;
+    lateness_cost(net, times)
+        + penalty * charged_weights(net, charging)
+        + penalty * missed_weights(net, rows, times)
+}
+
+/// What the lateness of the arrivals costs.
+fn lateness_cost(net: &Network, times: &Times) -> Cost
+    requires { length times.now ≡ length net.now.events }
+    ensures cost { result ≡ sum_by (event_cost net.now times.now) (range_with_len 0 (length net.now.events)) }
+    ensures limit { result ≤ EVENTS * (WEIGHT * 2 ^ 38) }
+{
+    let mut total = 0;
+    for i in 0..net.events() {
+        total += event_cost(net, times, i);
+    }
+    total
+}
+
+/// The weight of the activities that are charged for.
+fn charged_weights<C: Charging>(net: &Network, charging: &C) -> Cost
+    requires { C.places charging.now ≡ length net.now.activities }
+    ensures weight { result ≡ sum_by (charged_weight net.now (C.charged charging.now)) (range_with_len 0 (length net.now.activities)) }
+    ensures limit { result ≤ ACTIVITIES * WEIGHT }
+{
+    let mut total = 0;
+    for a in 0..net.activities() {
+        total += charged_weight(net, charging, a) as u128;
+    }
+    total
+}
+
+/// The weight of the changes that their passed heads have missed.
+fn missed_weights(net: &Network, rows: &Rows, times: &Times) -> Cost
+    requires sized { IsSized net.now rows.now }
+    requires size { length times.now ≡ length net.now.events }
+    ensures weight { result ≡ sum_by (missed_weight net.now rows.now times.now) (range_with_len 0 (length net.now.activities)) }
+    ensures limit { result ≤ ACTIVITIES * WEIGHT }
+{
+    let mut total = 0;
+    for a in 0..net.activities() {
+        total += missed_weight(net, rows, times, a) as u128;
+    }
+    total
+}
+
+/// What the lateness of one event costs: nothing unless it is an arrival.
+fn event_cost(net: &Network, times: &Times, i: usize) -> Cost
+    requires size { length times.now ≡ length net.now.events }
+    requires is_event { i < length net.now.events }
+    ensures cost { result ≡ event_cost net.now times.now i }
+    ensures limit { result ≤ WEIGHT * 2 ^ 38 }
+{
+    net.sound();
+    let event = net.event(i);
+    match event.kind {
+        EventKind::Departure => 0,
+        EventKind::Arrival => {
+            let lateness = times.time(i).saturating_sub(event.time);
+            event.weight as u128 * lateness as u128
+        }
+    }
+}
+
+/// The weight of an activity, if it is charged for.
+fn charged_weight<C: Charging>(net: &Network, charging: &C, a: usize) -> Milli
+    requires places { C.places charging.now ≡ length net.now.activities }
+    requires is_activity { a < length net.now.activities }
+    ensures weight { result ≡ charged_weight net.now (C.charged charging.now) a }
+    ensures limit { result ≤ WEIGHT }
+{
+    net.sound();
+    if charging.is_charged(a) {
+        net.activity(a).weight
+    } else {
+        0
+    }
+}
+
+/// The weight of a change that its passed head has missed for good.
+fn missed_weight(net: &Network, rows: &Rows, times: &Times, a: usize) -> Milli
+    requires sized { IsSized net.now rows.now }
+    requires size { length times.now ≡ length net.now.events }
+    requires is_activity { a < length net.now.activities }
+    ensures weight { result ≡ missed_weight net.now rows.now times.now a }
+    ensures limit { result ≤ WEIGHT }
+{
+    net.sound();
+    let activity = net.activity(a);
+    if matches!(activity.kind, ActKind::Change)
+        && rows.passed(activity.head).is_some()
+        && comes_too_early(net, rows, times, a)
+    {
+        activity.weight
+    } else {
+        0
+    }
+}
+
+/// Whether the head of an activity comes before its tail and its span allow.
+fn comes_too_early(net: &Network, rows: &Rows, times: &Times, a: usize) -> bool
+    requires sized { IsSized net.now rows.now }
+    requires size { length times.now ≡ length net.now.events }
+    requires is_activity { a < length net.now.activities }
+    ensures { result ≡ comes_too_early net.now rows.now times.now a }
+{
+    net.sound();
+    let activity = net.activity(a);
+    times.time(activity.head) < times.time(activity.tail) + span_of(net, rows, a)
+}

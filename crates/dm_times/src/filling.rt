@@ -1,0 +1,86 @@
+//! What the rows hold the events of a network to.
+ghost use Rattle.std.specs.Prelude.{◌≡◌, ◌+◌, ◌<◌, ◌≤◌, length, IfOk};
+ghost use Rattle.dm_base.specs.declared.limits.TheConstants.{PASSED_TIME, BOUND, DELAY};
+ghost use Rattle.dm_rows.specs.Rows.{IsSized};
+ghost use Rattle.dm_rows.specs.Timetable.{floor_of, span_of};
+ghost use Rattle.dm_times.specs.Inside.Filling.{AreConstraintsOf, HoldsTo, FloorsTo, SpansTo};
+
+use dm_base::Secs;
+use dm_network::Network;
+use dm_rows::{Rows, is_active};
+use dm_settle::Constraints;
+use std::alloc::{AllocError, Global};
+
+/// The active activities held, each with its lower bound and delay, and each event held to its passed time, or to the later
+/// of its planned time and the clock.
+pub fn constraints_of(alloc: Global, net: &Network, rows: &Rows) -> Result<Constraints, AllocError>
+    requires { IsSized net.now rows.now }
+    ensures { IfOk result (AreConstraintsOf net.now rows.now) }
+{
+    let mut constraints = Constraints::new(alloc, net)?;
+    hold_active(net, rows, &mut constraints);
+    set_floors(net, rows, &mut constraints);
+    set_spans(net, rows, &mut constraints);
+    Ok(constraints)
+}
+
+/// Holds the active activities.
+fn hold_active(net: &Network, rows: &Rows, constraints: &mut Constraints)
+    requires sized { IsSized net.now rows.now }
+    requires size { length constraints.old.held ≡ length net.now.activities }
+    ensures { HoldsTo net.now rows.now (length net.now.activities) constraints.old constraints.new }
+{
+    for a in 0..net.activities() {
+        constraints.hold(a, is_active(net, rows, a));
+    }
+}
+
+/// Sets the floor of each event.
+fn set_floors(net: &Network, rows: &Rows, constraints: &mut Constraints)
+    requires sized { IsSized net.now rows.now }
+    requires size { length constraints.old.floors ≡ length net.now.events }
+    ensures { FloorsTo net.now rows.now (length net.now.events) constraints.old constraints.new }
+{
+    for i in 0..net.events() {
+        constraints.set_floor(i, floor_of(net, rows, i));
+    }
+}
+
+/// Sets the span of each activity.
+fn set_spans(net: &Network, rows: &Rows, constraints: &mut Constraints)
+    requires sized { IsSized net.now rows.now }
+    requires size { length constraints.old.spans ≡ length net.now.activities }
+    ensures { SpansTo net.now rows.now (length net.now.activities) constraints.old constraints.new }
+{
+    for a in 0..net.activities() {
+        constraints.set_span(a, span_of(net, rows, a));
+    }
+}
+
+/// The least time of an event by itself, in seconds: its passed time, or else the later of its planned time and the clock.
+fn floor_of(net: &Network, rows: &Rows, i: usize) -> Secs
+    requires sized { IsSized net.now rows.now }
+    requires is_event { i < length net.now.events }
+    ensures value { result ≡ floor_of net.now rows.now i }
+    ensures limit { result ≤ PASSED_TIME }
+{
+    net.sound();
+    match rows.passed(i) {
+        Some(time) => time,
+        None => {
+            let planned = net.event(i).time + rows.event_delay(i);
+            planned.max(rows.clock())
+        }
+    }
+}
+
+/// The lower bound of an activity and its delay, in seconds.
+pub fn span_of(net: &Network, rows: &Rows, a: usize) -> Secs
+    requires sized { IsSized net.now rows.now }
+    requires is_activity { a < length net.now.activities }
+    ensures value { result ≡ span_of net.now rows.now a }
+    ensures limit { result ≤ BOUND + DELAY }
+{
+    net.sound();
+    net.activity(a).lower + rows.act_delay(a)
+}

@@ -1,0 +1,24 @@
+//! What holds of all rows and their timetables. A law has no code: it is proved as the contract of an empty function.
+
+ghost use Rattle.dm_times.specs.Laws.{MetExactlyWithoutCycle, NeverMakeCycles, StartHasNoCycle, LeastTimesAreEarly};
+
+/// Rows can be met exactly where they have no cycle: any rows of a network, and so those that messages and decisions reach
+/// from its start rows; and what is relaxed by any path from them.
+pub fn met_exactly_without_cycle()
+    ensures { MetExactlyWithoutCycle }
+{}
+
+/// A delay, a passed event, a dropped change and a clock never make a cycle.
+pub fn delays_passes_drops_and_clocks_make_no_cycle()
+    ensures { NeverMakeCycles }
+{}
+
+/// The start rows of a network have no cycle.
+pub fn start_has_no_cycle()
+    ensures { StartHasNoCycle }
+{}
+
+/// In the least timetable of rows within the limits, every time is below 2^38 seconds.
+pub fn least_times_are_early()
+    ensures { LeastTimesAreEarly }
+{}

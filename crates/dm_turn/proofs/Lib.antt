@@ -1,0 +1,5 @@
+pub mod Fronts
+pub mod Counts
+pub mod Views
+pub mod Standing
+pub mod Keeps

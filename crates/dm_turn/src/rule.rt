@@ -1,0 +1,113 @@
+//! The rule under which the words and the slot of a turn change, and what each kind of step tells.
+ghost use Rattle.std.specs.Prelude.{List, []};
+ghost use Rattle.dm_rows.specs.declared.messages.Entry.{Entry as AnEntry};
+
+use crate::state::HasHistory;
+use crate::view::View;
+use atomic_table::{Join, Play, Seat, Shared, Split, TableRule};
+use std::marker::{Brand, PhantomData};
+use std::snapshot::Snapshot;
+
+/// What a table is told when it is made: the state, and how many seats there are.
+#[derive(Drop)]
+pub struct About<S> {
+    pub opened: Snapshot<S>,
+    pub seats: u64,
+}
+
+/// The rule of the lock.
+pub struct Lock;
+
+impl<S: HasHistory> TableRule<Option<S>, View<S::Base>, About<S>> for Lock {
+    ghost use Rattle.dm_turn.specs.Rule.{Rule};
+    ghost use Rattle.dm_turn.specs.Inside.Steps.{opening_view};
+
+    ghost holds = { λ about. Rule S.history S.base about.opened.value about.seats };
+
+    ghost first = { λ about. opening_view S.history S.base about.opened.value about.seats };
+}
+
+/// A ticket is drawn.
+pub struct Draw;
+
+impl<S: HasHistory> Play<Option<S>, View<S::Base>> for Draw {
+    ghost use Rattle.dm_turn.specs.Inside.Steps.{Drew};
+
+    ghost then = { Drew };
+}
+
+/// A look at which ticket is served.
+pub struct Look;
+
+impl<S: HasHistory> Play<Option<S>, View<S::Base>> for Look {
+    ghost use Rattle.dm_turn.specs.Inside.Steps.{Looked};
+
+    ghost then = { Looked S.history S.base };
+}
+
+/// The history that an addition leaves. Each call picks it.
+pub trait Told {
+    ghost history: { List AnEntry };
+}
+
+impl Told for Brand {
+    ghost history = { [] };
+}
+
+/// An entry is counted.
+pub struct Add<T> {
+    of: PhantomData<T>,
+}
+
+impl<S: HasHistory, T: Told> Play<Option<S>, View<S::Base>> for Add<T> {
+    ghost use Rattle.dm_turn.specs.Inside.Steps.{Added};
+
+    ghost then = { Added T.history };
+}
+
+/// The next ticket is served.
+pub struct Serve;
+
+impl<S: HasHistory> Play<Option<S>, View<S::Base>> for Serve {
+    ghost use Rattle.dm_turn.specs.Inside.Steps.{Gave};
+
+    ghost then = { Gave };
+}
+
+/// After a join: the two histories are compared.
+pub struct Settle;
+
+impl<S: HasHistory> Play<Option<S>, View<S::Base>> for Settle {
+    ghost use Rattle.dm_turn.specs.Inside.Steps.{Settled};
+
+    ghost then = { Settled };
+}
+
+/// A pass is cut off from another.
+pub struct Cut;
+
+impl<B> Split<View<B>> for Cut {
+    ghost use Rattle.dm_turn.specs.Inside.Steps.{left_over, cut_off};
+
+    ghost left = { left_over };
+
+    ghost right = { cut_off };
+}
+
+/// Two passes are made one.
+pub struct Glue;
+
+impl<B> Join<View<B>> for Glue {
+    ghost use Rattle.dm_turn.specs.Inside.Steps.{joined};
+    ghost use Rattle.dm_turn.specs.Rule.{spent};
+
+    ghost both = { joined };
+
+    ghost spent = { spent };
+}
+
+/// The words and the slot of a turn, as its passes share them.
+pub type Desk<S> = Shared<Option<S>, View<<S as HasHistory>::Base>, About<S>, Lock>;
+
+/// A seat at a turn.
+pub type Place<S> = Seat<Option<S>, View<<S as HasHistory>::Base>>;
