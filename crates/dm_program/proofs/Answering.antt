@@ -23,7 +23,7 @@ use Rattle.dm_program.specs.Lines.{feed_lines, Hears}
 use Rattle.dm_rows.specs.declared.messages.Message.TheVariants.{DelayEvent, DelayActivity, Pass, Recall, Keep, Drop, First, Adopt, Now}
 use Rattle.dm_program.specs.Runs.{IsSpelledMessage, IsSpelledItem, IsSpelledEntry}
 use Rattle.dm_program.specs.Logs.{IsTrueAnswer, IsInOrder, names, AreDueItems, IsDueItem}
-use Rattle.dm_program.specs.Answers.{Day, entry_of, AnswersLine, IsAnsweredTo}
+use Rattle.dm_program.specs.Inside.Answers.{Day, entry_of, AnswersLine, IsAnsweredTo}
 
 -- ---- lists with one element more
 

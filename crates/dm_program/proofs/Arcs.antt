@@ -14,7 +14,7 @@ use Rattle.dm_times.specs.Laws.{IsHarmless}
 use Rattle.dm_times.proofs.Harmless.{never_make_cycles}
 use Rattle.dm_times.proofs.Meeting.{start_has_no_cycle}
 use Rattle.dm_program.specs.Runs.{IsSpelledMessage, IsSpelledEntry}
-use Rattle.dm_program.specs.Stages.{IsAtStart}
+use Rattle.dm_program.specs.Inside.Stages.{IsAtStart}
 
 spelled_is_harmless : (m : Message) → IsSpelledMessage m → IsHarmless m
 spelled_is_harmless (DelayEvent e d) h = h

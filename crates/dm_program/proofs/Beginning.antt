@@ -11,10 +11,10 @@ use Rattle.dm_program.specs.declared.input.Flaw.TheVariants.{OfFiles, LongFeed}
 use Rattle.dm_program.specs.declared.input.Stop.{Stop}
 use Rattle.dm_program.specs.declared.input.Stop.TheVariants.{Refused, ReadFault, NoMemory}
 use Rattle.dm_program.specs.declared.prepare.Answered.{Answered}
-use Rattle.dm_program.specs.Asked.{run_from}
+use Rattle.dm_program.specs.Inside.Asked.{run_from}
 use Rattle.dm_program.specs.Input.{IsInput, IsLongFeed}
-use Rattle.dm_program.specs.Opening.{StopsAtFeed, StopsRun}
-use Rattle.dm_program.specs.Stages.{IsReadyRun, IsRunOver}
+use Rattle.dm_program.specs.Inside.Opening.{StopsAtFeed, StopsRun}
+use Rattle.dm_program.specs.Inside.Stages.{IsReadyRun, IsRunOver}
 
 -- the files are read, and the feed is not
 pub feed_stops : {H : Type 0} {files : H → Told} {is_sound : H → List ℕ → Type 0} {a b : H} (asked : RunAsked) (opening : Opening) (stop : Stop)

@@ -6,7 +6,7 @@ use Rattle.std.proofs.lemmas.List.Splits.{slice_split_first, slice_split_none, l
 use Rattle.std.proofs.lemmas.List.Sums.{fails_before_first}
 use Rattle.std.proofs.lemmas.List.{length-drop}
 use Rattle.std.proofs.lemmas.Bool.{ltb-true, ltb-false}
-use Rattle.dm_program.specs.Cuts.{cut_at}
+use Rattle.dm_program.specs.Inside.Cuts.{cut_at}
 use Rattle.dm_program.specs.Lines.{lines_of_pieces, feed_lines}
 
 abbrev pub is_at : ℕ → ℕ → Bool

@@ -15,11 +15,12 @@ use Rattle.dm_program.specs.declared.log.FeedLog.{FeedLog}
 use Rattle.dm_program.specs.declared.log.LogItem.{LogItem}
 use Rattle.dm_program.specs.declared.status.Status.{Status}
 use Rattle.dm_program.specs.declared.status.Status.TheVariants.{Ok, Usage, Refused, ReadFault, WriteFault}
-use Rattle.dm_program.specs.Asked.{run_with, run_from, log_with}
+use Rattle.dm_program.specs.Inside.Asked.{run_with, run_from, log_with}
 use Rattle.dm_program.specs.Logs.{Journal}
 use Rattle.dm_program.specs.Runs.{Run, run_text, IsRunText, IsTrueRun, IsSpelledEntry, IsSpelledItem}
-use Rattle.dm_program.specs.Stages.{IsReady, IsRunOver}
-use Rattle.dm_program.specs.Ends.{Ends, EndsAs, IsDue, IsUsage, IsRefusal, IsReadFault, IsRunOf, WantsMemory}
+use Rattle.dm_program.specs.Inside.Stages.{IsReady, IsRunOver}
+use Rattle.dm_program.specs.Headline.{IsRunOf}
+use Rattle.dm_program.specs.Ends.{Ends, EndsAs, IsDue, IsUsage, IsRefusal, IsReadFault, WantsMemory}
 
 -- the penalty that the words give is within the limit
 penalty_fits : (given : Option (List ℕ)) (penalty : ℕ) → IsPenalty given penalty → penalty ≤ 1000000
@@ -107,6 +108,14 @@ module _ {K : Type 0} (taken : K → Option (List ℕ)) (faults : K → ℕ) (to
           | inl whole ↦ subst (Ends taken faults told is_sound words before now) (sym whole.0) (record { text = run_text (run_with net penalty history items times cost); holds = is_run_of; appended = whole.1.appended })
           | inr front ↦ failed Ok (run_text (run_with net penalty history items times cost)) result is_run_of front.0 front.1
         ]
+
+-- however a text came out, the count has not fallen
+pub ends_later : {K : Type 0} (taken : K → Option (List ℕ)) (faults : K → ℕ) (before now : K) (text : List ℕ) (status result : Status) →
+    EndsAs taken faults before now text status result → faults before ≤ faults now
+ends_later taken faults before now text status result h = elim h [
+  | inl whole ↦ whole.1.later
+  | inr front ↦ front.1.later
+]
 
 -- ---- what is ready to be printed has a spelling
 

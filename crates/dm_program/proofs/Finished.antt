@@ -20,10 +20,10 @@ use Rattle.dm_program.specs.declared.log.FeedStop.TheVariants.{End}
 use Rattle.dm_program.specs.declared.log.FeedLog.{FeedLog}
 use Rattle.dm_program.specs.Lines.{feed_lines}
 use Rattle.dm_program.specs.Logs.{Journal, IsTrueLog, AreTrueLogs, IsLogOf, AreDueItems, IsInOrder, names}
-use Rattle.dm_program.specs.Answers.{Day, IsAnsweredTo}
-use Rattle.dm_program.specs.Asked.{run_from}
+use Rattle.dm_program.specs.Inside.Answers.{Day, IsAnsweredTo}
+use Rattle.dm_program.specs.Inside.Asked.{run_from}
 use Rattle.dm_program.proofs.Arcs.{no_cycle_at, no_cycle_after}
-use Rattle.dm_program.specs.Stages.{IsRunOver}
+use Rattle.dm_program.specs.Inside.Stages.{IsRunOver}
 
 none_some : {X : Type 0} (x : X) → None ≡ Some x → ⊥
 none_some x e = cc

@@ -14,7 +14,7 @@ use Rattle.std.proofs.lemmas.Fmt.{digits_decimal, digits_value-decimal, decimal-
 use Rattle.std.proofs.Math.Seq.{get_or-append_seam}
 use Rattle.dm_base.specs.Numbers.{IsDigits, whole_value}
 use Rattle.dm_program.specs.Numbers.{is_number, number_up_to}
-use Rattle.dm_program.specs.Cuts.{cut_at}
+use Rattle.dm_program.specs.Inside.Cuts.{cut_at}
 use Rattle.std.specs.List.{join_with_byte}
 use Rattle.std.proofs.lemmas.List.Splits.{join_with_byte-slice_split}
 use Rattle.dm_rows.specs.declared.messages.Message.{Message}

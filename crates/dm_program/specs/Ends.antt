@@ -1,31 +1,16 @@
 -- How a run ends: what is due to be written for each status, and why.
-use Rattle.std.specs.Prelude.{ℕ, ◌≡◌, ◌⊎◌, List, [], ◌∷◌, Option, Some}
+use Rattle.std.specs.Prelude.{ℕ, ◌≡◌, ◌⊎◌, List, Option, Some}
 use Rattle.std.specs.Io.KnownBytes.{Appends, Keeps}
 use Rattle.dm_input.specs.Input.{Told}
 use Rattle.dm_input.specs.Lines.{usage_line}
 use Rattle.dm_input.specs.Words.{Command, Asks, AsksNothing}
 use Rattle.dm_outside.specs.Printing.{TakesAll, TakesFront}
-use Rattle.dm_rows.specs.declared.messages.Entry.{Entry}
 use Rattle.dm_program.specs.declared.input.Flaw.{Flaw}
 use Rattle.dm_program.specs.declared.input.Part.{Part}
-use Rattle.dm_program.specs.declared.log.FeedLog.{FeedLog}
 use Rattle.dm_program.specs.declared.status.Status.{Status}
 use Rattle.dm_program.specs.declared.status.Status.TheVariants.{Ok, Usage, Refused, ReadFault, WriteFault, NoMemory}
-use Rattle.dm_program.specs.Input.{Input, IsInput, IsFirstRefusal, IsReadBy, IsUnread, SameFlaw, part_name, penalty_of, read_fault_line, refused_line}
-use Rattle.dm_program.specs.Logs.{IsLogOf}
-use Rattle.dm_program.specs.Runs.{IsRunText}
-
--- The text is that of a run: of the network, the start rows and the feed that the words and the bytes under their names
--- determine, which are those that the shelf tells, and of a journal and a log of the feed's bytes.
-pub record IsRunOf (told : Told) (words : List (List ℕ)) (text : List ℕ) : Type 0 where
-  pub command : Command
-  pub input : Input
-  pub history : List Entry
-  pub log : FeedLog
-  pub asked : Asks words command
-  pub is_input : IsInput told command input
-  pub log_of : IsLogOf input.feed log
-  pub run : IsRunText (record { net = input.opening.net; start = input.opening.rows; history = history }) (penalty_of command) (log ∷ []) text
+use Rattle.dm_program.specs.Input.{IsFirstRefusal, IsReadBy, IsUnread, SameFlaw, part_name, read_fault_line, refused_line}
+use Rattle.dm_program.specs.Headline.{IsRunOf}
 
 -- the words ask for no run
 pub record IsUsage (words : List (List ℕ)) (text : List ℕ) : Type 0 where

@@ -4,7 +4,7 @@ ghost use Rattle.dm_base.specs.declared.limits.TheConstants.{ENTRIES};
 ghost use Rattle.dm_rows.specs.Rows.{IsSized, RowsAreWithinLimits};
 ghost use Rattle.dm_program.specs.Runs.{IsSpelledMessage};
 ghost use Rattle.dm_program.specs.Lines.{feed_lines, Hears};
-ghost use Rattle.dm_program.specs.Answers.{Day, Enters, AnswersLine, IsAnsweredTo};
+ghost use Rattle.dm_program.specs.Inside.Answers.{Day, Enters, AnswersLine, IsAnsweredTo};
 ghost use Rattle.dm_program.specs.declared.lines.Heard.TheVariants.{Line as Spoken};
 
 use crate::cuts::cut;

@@ -1,7 +1,7 @@
 //! Where bytes are cut.
 ghost use Rattle.std.specs.Prelude.{◌≡◌, ◌==◌, position};
 ghost use Rattle.std.specs.Option.{option_map};
-ghost use Rattle.dm_program.specs.Cuts.{cut_at};
+ghost use Rattle.dm_program.specs.Inside.Cuts.{cut_at};
 
 /// Where the byte stands first.
 fn first_place(bytes: &[u8], at: u8) -> Option<usize>

@@ -6,7 +6,7 @@ ghost use Rattle.dm_input.specs.Input.{OpeningAnswer};
 ghost use Rattle.dm_input.specs.Stops.{IsKept, opening_in};
 ghost use Rattle.dm_input.specs.Words.{RunOf};
 ghost use Rattle.dm_program.specs.Input.{IsFeed, IsInput};
-ghost use Rattle.dm_program.specs.Opening.{StopsAtFeed, StopsAtFiles, StopsRun, input_in};
+ghost use Rattle.dm_program.specs.Inside.Opening.{StopsAtFeed, StopsAtFiles, StopsRun, input_in};
 
 use dm_base::limits::FEED;
 use dm_input::{File, FileWords, InputFlaw, InputStop, Opened, RunWords, read_opening, take_name};

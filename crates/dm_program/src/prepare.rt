@@ -7,9 +7,9 @@ ghost use Rattle.dm_input.specs.Words.{RunOf};
 ghost use Rattle.dm_rows.specs.Active.{HasNoCycle};
 ghost use Rattle.dm_rows.specs.Rows.{IsSized};
 ghost use Rattle.dm_rows.specs.Timetable.{IsLeast};
-ghost use Rattle.dm_program.specs.Asked.{run_from};
-ghost use Rattle.dm_program.specs.Opening.{StopsRun};
-ghost use Rattle.dm_program.specs.Stages.{IsAtStart, IsRunOver, IsReadyRun};
+ghost use Rattle.dm_program.specs.Inside.Asked.{run_from};
+ghost use Rattle.dm_program.specs.Inside.Opening.{StopsRun};
+ghost use Rattle.dm_program.specs.Inside.Stages.{IsAtStart, IsRunOver, IsReadyRun};
 
 use crate::answers::answer_feed;
 use crate::input::{Stop, read_input};

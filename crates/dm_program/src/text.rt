@@ -4,7 +4,7 @@ ghost use Rattle.std.specs.Fmt.{decimal};
 ghost use Rattle.std.specs.List.{flat_map, range_with_len};
 ghost use Rattle.dm_outside.specs.Printing.{Prints, Puts, joined};
 ghost use Rattle.dm_program.specs.Runs.{IsSpelledReason, IsSpelledReply, IsSpelledItem, IsSpelledEntry, line_end, reason_text, reply_text, header_text, entry_text, entries_text, feed_text, item_text, stop_text, heading_text, time_text, ending_text, logs_text, run_text};
-ghost use Rattle.dm_program.specs.Asked.{run_in, run_with};
+ghost use Rattle.dm_program.specs.Inside.Asked.{run_in, run_with};
 
 use crate::lines::Line;
 use crate::log::{FeedStop, LogItem, Reply};

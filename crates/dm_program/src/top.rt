@@ -4,12 +4,14 @@ ghost use Rattle.dm_outside.specs.Faults.{HasRisen};
 ghost use Rattle.dm_outside.specs.Printing.{Puts, joined};
 ghost use Rattle.dm_input.specs.Lines.{line_end, usage_line};
 ghost use Rattle.dm_input.specs.Asked.{run_of};
+ghost use Rattle.dm_input.specs.Stops.{IsKept};
 ghost use Rattle.dm_input.specs.Words.{Asks, AsksNothing, Command, RunOf};
 ghost use Rattle.dm_program.specs.declared.input.Flaw.{Flaw};
 ghost use Rattle.dm_program.specs.Input.{Input, IsInput, IsFirstRefusal, read_fault_line, refused_line};
-ghost use Rattle.dm_program.specs.Asked.{run_in};
+ghost use Rattle.dm_program.specs.Inside.Asked.{run_in};
 ghost use Rattle.dm_program.specs.Runs.{IsSpelledEntry, IsSpelledItem, run_text};
-ghost use Rattle.dm_program.specs.Ends.{IsRunOf, IsUsage, IsRefusal, IsReadFault, IsDue, Writes, FailsToWrite, WantsMemory, EndsAt, AreSound, Ends, EndsAs};
+ghost use Rattle.dm_program.specs.Headline.{IsRunOf};
+ghost use Rattle.dm_program.specs.Ends.{IsUsage, IsRefusal, IsReadFault, IsDue, Writes, FailsToWrite, WantsMemory, EndsAt, AreSound, Ends, EndsAs};
 
 use crate::input::{Flaw, Part, Stop};
 use crate::prepare::{Answered, prepare};
@@ -54,13 +56,20 @@ pub fn dispatch<R: Threads + Wait + Sync, H: Shelf, K: Sink, G: Gate>(
     ensures complete { (command : Command) (input : Input) → Asks (map string_bytes words.now) command → IsSome (H.files shelf.old)
         → IsInput (H.files shelf.old) command input → AreSound (H.is_sound shelf.old) command
         → (HasRisen (K.faults out.old) (K.faults out.new) → ⊥) → (result ≡ Status.Ok) ⊎ (result ≡ Status.NoMemory) }
+
+    // Whatever the status, the shelf tells what it told, the sink's count has not fallen and the list has its boards.
+    ensures shelf_kept { IsKept H.files H.is_sound shelf.old shelf.new }
+    ensures later { K.faults out.old ≤ K.faults out.new }
+    ensures boards_kept { boards.new ≡ boards.old }
 {
     run(alloc, words, shelf, out)
 }
 
 /// Does what the words ask, in the calling thread.
 fn run<H: Shelf, K: Sink>(alloc: Global, words: &[String], shelf: &mut H, out: &mut K) -> Status
-    ensures { Ends K.taken K.faults (H.files shelf.old) (H.is_sound shelf.old) (map string_bytes words.now) out.old out.new result }
+    ensures ends { Ends K.taken K.faults (H.files shelf.old) (H.is_sound shelf.old) (map string_bytes words.now) out.old out.new result }
+    ensures kept { IsKept H.files H.is_sound shelf.old shelf.new }
+    ensures later { K.faults out.old ≤ K.faults out.new }
 {
     match read_words(words) {
         Some(CommandWords::Run(run)) => run_asked(alloc, &run, shelf, out),
@@ -76,7 +85,9 @@ fn run_asked<H: Shelf, K: Sink>(
     out: &mut K,
 ) -> Status
     requires { run.now.files.penalty ≤ 1000000 }
-    ensures { (words : List (List ℕ)) → Asks words (RunOf (run_of run.now)) → Ends K.taken K.faults (H.files shelf.old) (H.is_sound shelf.old) words out.old out.new result }
+    ensures ends { (words : List (List ℕ)) → Asks words (RunOf (run_of run.now)) → Ends K.taken K.faults (H.files shelf.old) (H.is_sound shelf.old) words out.old out.new result }
+    ensures kept { IsKept H.files H.is_sound shelf.old shelf.new }
+    ensures later { K.faults out.old ≤ K.faults out.new }
 {
     match prepare(alloc, shelf, run) {
         Ok(answered) => end_run(&answered, out),

@@ -1,5 +1,5 @@
 use Rattle.std.proofs.Common.{length}
-use Rattle.dm_program.specs.Answers.{IsAnsweredTo}
+use Rattle.dm_program.specs.Inside.Answers.{IsAnsweredTo}
 use Rattle.dm_program.proofs.answers.answer_feed.Given as goal
 
 abbrev pub invariant-loop-text : goal.invariant-loop-text

@@ -2,7 +2,7 @@ use Rattle.std.proofs.Common.{rules}
 use Rattle.dm_input.specs.Asked.{run_of}
 use Rattle.dm_input.specs.Stops.{opening_in}
 use Rattle.dm_input.specs.Words.{RunOf}
-use Rattle.dm_program.specs.Opening.{StopsRun}
+use Rattle.dm_program.specs.Inside.Opening.{StopsRun}
 use Rattle.dm_program.proofs.Beginning.{feed_stops}
 use Rattle.dm_program.proofs.input.read_input.Goals as goal
 

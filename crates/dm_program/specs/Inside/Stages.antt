@@ -9,7 +9,7 @@ use Rattle.dm_rows.specs.declared.messages.Entry.{Entry}
 use Rattle.dm_program.specs.declared.log.FeedLog.{FeedLog}
 use Rattle.dm_program.specs.declared.log.LogItem.{LogItem}
 use Rattle.dm_program.specs.declared.prepare.Answered.{Answered}
-use Rattle.dm_program.specs.Asked.{run_from}
+use Rattle.dm_program.specs.Inside.Asked.{run_from}
 use Rattle.dm_program.specs.Input.{IsInput, penalty_of}
 use Rattle.dm_program.specs.Logs.{IsLogOf}
 use Rattle.dm_program.specs.Runs.{Run, IsTrueRun, IsSpelledEntry, IsSpelledItem}
