@@ -6,118 +6,156 @@ ghost use Rattle.dm_rows.specs.Rows.{IsSized};
 use crate::network::{activity, built, connection, connection_activities, connection_events};
 use dm_base::{ActId, ActKind, EventId, EventKind, EventRow, StopId};
 use dm_network::Network;
-use dm_rows::{Choice, Message, Rows, admit, free_choices, start_rows};
+use dm_rows::{Choice, Message, Refusal, Rows, admit, free_choices, start_rows};
 use dm_times::{NoTimes, Times, cost, least};
 use std::alloc::Global;
 use std::test::Fail;
 
+/// A message, with ids as numbers.
+#[derive(Clone, Copy)]
+enum Said {
+    Late(u32, u64),
+    LateActivity(u32, u64),
+    Pass(u32, u64),
+    Recall(u32),
+    Dropped(u32),
+    First(u32, u32),
+    Now(u64),
+}
+
+/// The message itself.
+fn message_of(said: Said) -> Message {
+    match said {
+        Said::Late(event, delay) => Message::DelayEvent(EventId(event), delay),
+        Said::LateActivity(activity, delay) => Message::DelayActivity(ActId(activity), delay),
+        Said::Pass(event, time) => Message::Pass(EventId(event), time),
+        Said::Recall(event) => Message::Recall(EventId(event)),
+        Said::Dropped(activity) => Message::Drop(ActId(activity)),
+        Said::First(first, second) => Message::First(EventId(first), EventId(second)),
+        Said::Now(time) => Message::Now(time),
+    }
+}
+
+/// Makes the change of a message that nothing refuses at once.
+fn hear(alloc: Global, net: &Network, rows: &mut Rows, said: Said) -> Result<(), Refusal>
+    requires { IsSized net.now rows.old }
+    ensures { IsSized net.now rows.new }
+{
+    let message = message_of(said);
+    let change = admit(alloc, net, rows, &message)?;
+    rows.apply(&change);
+    Ok(())
+}
+
 /// The rows after these messages, of which none is refused at once.
-fn rows_after(alloc: Global, net: &Network, said: &[Message]) -> Result<Rows, Fail>
+fn rows_after(alloc: Global, net: &Network, said: &[Said]) -> Result<Rows, Fail>
     ensures { IfOk result (IsSized net.now) }
 {
     let mut rows = start_rows(alloc, net, &[], &[])?;
-    for message in said {
-        let change = admit(alloc, net, &rows, message)?;
-        rows.apply(&change);
+    for one in said {
+        hear(alloc, net, &mut rows, *one)?;
     }
     Ok(rows)
 }
 
-/// Whether after these messages the times are these, and cost this with a penalty of 10 seconds.
-fn leaves(
-    alloc: Global,
-    net: &Network,
-    said: &[Message],
-    times: &[u64],
+/// What was said, the times that it leaves, and what they cost with a penalty of 10 seconds.
+#[derive(Clone, Copy)]
+struct Day<'a> {
+    said: &'a [Said],
+    times: [u64; 6],
     price: u128,
-) -> Result<bool, Fail> {
-    let rows = rows_after(alloc, net, said)?;
+}
+
+/// Whether the messages of a day leave its times and its cost.
+fn is_true(alloc: Global, net: &Network, day: Day<'_>) -> Result<bool, Fail> {
+    let rows = rows_after(alloc, net, day.said)?;
     let found = least(alloc, net, &rows)?;
-    Ok(found.as_slice() == times && cost(net, &rows, &found, 10) == price)
+    Ok(found.as_slice() == day.times.as_slice() && cost(net, &rows, &found, 10) == day.price)
 }
 
-fn late(event: u32, delay: u64) -> Message {
-    Message::DelayEvent(EventId(event), delay)
+/// Whether each of these days is true.
+fn are_true(alloc: Global, net: &Network, days: &[Day<'_>]) -> Result<bool, Fail> {
+    for day in days {
+        if !is_true(alloc, net, *day)? {
+            return Ok(false);
+        }
+    }
+    Ok(true)
 }
 
-fn pass(event: u32, time: u64) -> Message {
-    Message::Pass(EventId(event), time)
+fn day_of(said: &[Said], times: [u64; 6], price: u128) -> Day<'_> {
+    Day { said, times, price }
 }
 
-fn recall(event: u32) -> Message {
-    Message::Recall(EventId(event))
-}
+const LATE: Said = Said::Late(1, 60);
 
-/// The change is dropped.
-fn dropped() -> Message {
-    Message::Drop(ActId(5))
-}
+const DROPPED: Said = Said::Dropped(5);
 
-/// The second train goes first.
-fn second_first() -> Message {
-    Message::First(EventId(5), EventId(3))
-}
+const TURNED: Said = Said::First(5, 3);
+
+const PASS: Said = Said::Pass(5, 400);
+
+const BACK: Said = Said::Recall(5);
+
+const EARLY: Said = Said::Pass(5, 215);
+
+const ONE: Said = Said::Pass(1, 100);
+
+const TWO: Said = Said::Pass(2, 200);
+
+const NOW: Said = Said::Now(240);
 
 #[test]
 fn four_choices_after_a_delay_of_a_minute(rt: HostRuntime) -> Result<(), Fail> {
-    let alloc = rt.alloc();
-    let net = connection(alloc)?;
-    let kept = [160, 250, 260, 340, 270, 365];
-    assert!(rt; leaves(alloc, &net, &[late(1, 60)], &kept, 1_075_000)?);
-    let turned = [160, 250, 278, 358, 270, 365];
-    assert!(rt;
-        leaves(
-            alloc,
-            &net,
-            &[late(1, 60), second_first()],
-            &turned,
-            1_255_000
-        )?
-    );
-    let gone = [160, 250, 260, 340, 268, 363];
-    assert!(rt; leaves(alloc, &net, &[late(1, 60), dropped()], &gone, 1_105_000)?);
-    let free = [160, 250, 260, 340, 230, 330];
-    assert!(rt;
-        leaves(
-            alloc,
-            &net,
-            &[late(1, 60), dropped(), second_first()],
-            &free,
-            940_000
-        )?
-    );
+    let net = connection(rt.alloc())?;
+    let days = [
+        day_of(&[LATE], [160, 250, 260, 340, 270, 365], 1_075_000),
+        day_of(&[LATE, TURNED], [160, 250, 278, 358, 270, 365], 1_255_000),
+        day_of(&[LATE, DROPPED], [160, 250, 260, 340, 268, 363], 1_105_000),
+        day_of(
+            &[LATE, DROPPED, TURNED],
+            [160, 250, 260, 340, 230, 330],
+            940_000,
+        ),
+    ];
+    assert!(rt; are_true(rt.alloc(), &net, &days)?);
     Ok(())
 }
 
 #[test]
 fn passed_events_and_what_they_miss(rt: HostRuntime) -> Result<(), Fail> {
-    let alloc = rt.alloc();
-    let net = connection(alloc)?;
-    let missed = [160, 250, 260, 340, 231, 330];
-    assert!(rt; leaves(alloc, &net, &[pass(5, 231), late(1, 60)], &missed, 940_000)?);
-    let after = [100, 200, 408, 488, 400, 495];
-    assert!(rt; leaves(alloc, &net, &[pass(5, 400)], &after, 2_705_000)?);
-    let scheduled = [100, 200, 220, 300, 230, 330];
-    assert!(rt; leaves(alloc, &net, &[pass(5, 400), recall(5)], &scheduled, 0)?);
-    let early = [100, 200, 223, 303, 215, 330];
-    let said = [pass(5, 400), recall(5), dropped(), pass(5, 215)];
-    assert!(rt; leaves(alloc, &net, &said, &early, 70_000)?);
+    let net = connection(rt.alloc())?;
+    let days = [
+        day_of(
+            &[Said::Pass(5, 231), LATE],
+            [160, 250, 260, 340, 231, 330],
+            940_000,
+        ),
+        day_of(&[PASS], [100, 200, 408, 488, 400, 495], 2_705_000),
+        day_of(&[PASS, BACK], [100, 200, 220, 300, 230, 330], 0),
+        day_of(
+            &[PASS, BACK, DROPPED, EARLY],
+            [100, 200, 223, 303, 215, 330],
+            70_000,
+        ),
+    ];
+    assert!(rt; are_true(rt.alloc(), &net, &days)?);
     Ok(())
 }
 
 #[test]
 fn nothing_that_has_not_passed_is_before_the_clock(rt: HostRuntime) -> Result<(), Fail> {
-    let alloc = rt.alloc();
-    let net = connection(alloc)?;
-    let now = Message::Now(240);
-    let all = [240, 330, 340, 420, 350, 445];
-    assert!(rt; leaves(alloc, &net, &[now], &all, 3_075_000)?);
-    let arrived = [100, 200, 240, 320, 248, 343];
-    let said = [pass(1, 100), pass(2, 200), Message::Now(240)];
-    assert!(rt; leaves(alloc, &net, &said, &arrived, 265_000)?);
-    let recalled = [100, 240, 250, 330, 260, 355];
-    let said = [pass(1, 100), pass(2, 200), Message::Now(240), recall(2)];
-    assert!(rt; leaves(alloc, &net, &said, &recalled, 825_000)?);
+    let net = connection(rt.alloc())?;
+    let days = [
+        day_of(&[NOW], [240, 330, 340, 420, 350, 445], 3_075_000),
+        day_of(&[ONE, TWO, NOW], [100, 200, 240, 320, 248, 343], 265_000),
+        day_of(
+            &[ONE, TWO, NOW, Said::Recall(2)],
+            [100, 240, 250, 330, 260, 355],
+            825_000,
+        ),
+    ];
+    assert!(rt; are_true(rt.alloc(), &net, &days)?);
     Ok(())
 }
 
@@ -136,44 +174,55 @@ fn turnaround(alloc: Global) -> Result<Network, Fail> {
     Ok(built(alloc, events, activities)?)
 }
 
-#[test]
-fn turnaround_against_the_order_is_a_cycle(rt: HostRuntime) -> Result<(), Fail> {
-    let alloc = rt.alloc();
-    let net = turnaround(alloc)?;
-    let rows = rows_after(alloc, &net, &[second_first()])?;
-    let Err(NoTimes::Cycle(ids)) = least(alloc, &net, &rows) else {
+/// The ids of the cycle of the rows after these messages.
+fn cycle_after(alloc: Global, net: &Network, said: &[Said]) -> Result<Vec<ActId>, Fail> {
+    let rows = rows_after(alloc, net, said)?;
+    let Err(NoTimes::Cycle(ids)) = least(alloc, net, &rows) else {
         return Err(Fail::from("no cycle"));
     };
+    Ok(ids.into_vec())
+}
+
+#[test]
+fn turnaround_against_the_order_is_a_cycle(rt: HostRuntime) -> Result<(), Fail> {
+    let net = turnaround(rt.alloc())?;
+    let ids = cycle_after(rt.alloc(), &net, &[Said::First(5, 3)])?;
     let shown = ids.as_slice();
     assert!(rt;
         shown == [ActId(3), ActId(8), ActId(7)].as_slice()
             || shown == [ActId(8), ActId(7), ActId(3)].as_slice()
             || shown == [ActId(7), ActId(3), ActId(8)].as_slice()
     );
-    let late = Message::DelayActivity(ActId(8), 20);
-    let times = [100, 200, 220, 300, 350, 445];
-    assert!(rt; leaves(alloc, &net, &[late], &times, 25_000)?);
     Ok(())
 }
 
 #[test]
+fn a_late_turnaround(rt: HostRuntime) -> Result<(), Fail> {
+    let net = turnaround(rt.alloc())?;
+    let late = day_of(
+        &[Said::LateActivity(8, 20)],
+        [100, 200, 220, 300, 350, 445],
+        25_000,
+    );
+    assert!(rt; is_true(rt.alloc(), &net, late)?);
+    Ok(())
+}
+
+/// Whether these choices are free after these messages.
+fn are_free(alloc: Global, net: &Network, said: &[Said], choices: &[Choice]) -> Result<bool, Fail> {
+    let rows = rows_after(alloc, net, said)?;
+    Ok(free_choices(alloc, net, &rows)?.as_slice() == choices)
+}
+
+#[test]
 fn what_may_still_be_decided(rt: HostRuntime) -> Result<(), Fail> {
-    let alloc = rt.alloc();
-    let net = connection(alloc)?;
     let change = Choice::Change(ActId(5));
     let pair = Choice::Pair(EventId(3), EventId(5));
-    let start = rows_after(alloc, &net, &[dropped(), second_first()])?;
-    assert_eq!(rt;
-        free_choices(alloc, &net, &start)?.as_slice(),
-        [change, pair].as_slice()
-    );
-    let first = rows_after(alloc, &net, &[pass(1, 100), pass(2, 200), pass(3, 220)])?;
-    assert_eq!(rt;
-        free_choices(alloc, &net, &first)?.as_slice(),
-        [change].as_slice()
-    );
-    let both = rows_after(alloc, &net, &[pass(5, 231)])?;
-    assert_eq!(rt; free_choices(alloc, &net, &both)?.len(), 0);
+    let net = connection(rt.alloc())?;
+    let start = [Said::Dropped(5), Said::First(5, 3)];
+    assert!(rt; are_free(rt.alloc(), &net, &start, &[change, pair])?);
+    assert!(rt; are_free(rt.alloc(), &net, &[Said::Pass(3, 220)], &[change])?);
+    assert!(rt; are_free(rt.alloc(), &net, &[Said::Pass(5, 231)], &[])?);
     Ok(())
 }
 
@@ -192,33 +241,30 @@ fn arrivals(alloc: Global) -> Result<Network, Fail> {
     Ok(built(alloc, events, Vec::new(alloc))?)
 }
 
+/// The rows after each of the ten has arrived at the latest time of all.
+fn late_rows(alloc: Global, net: &Network) -> Result<Rows, Fail>
+    ensures { IfOk result (IsSized net.now) }
+{
+    let mut rows = start_rows(alloc, net, &[], &[])?;
+    for id in 1..11u32 {
+        hear(alloc, net, &mut rows, Said::Pass(id, 2_000_000_000))?;
+    }
+    Ok(rows)
+}
+
 #[test]
 fn a_cost_above_64_bits(rt: HostRuntime) -> Result<(), Fail> {
-    let alloc = rt.alloc();
-    let net = arrivals(alloc)?;
-    let mut said = Vec::new(alloc);
-    for id in 1..11u32 {
-        said.push(pass(id, 2_000_000_000))?;
-    }
-    let late = [2_000_000_000; 10];
-    assert!(rt;
-        leaves(
-            alloc,
-            &net,
-            said.as_slice(),
-            &late,
-            20_000_000_000_000_000_000
-        )?
-    );
+    let net = arrivals(rt.alloc())?;
+    let rows = late_rows(rt.alloc(), &net)?;
+    let times = least(rt.alloc(), &net, &rows)?;
+    assert_eq!(rt; cost(&net, &rows, &times, 10), 20_000_000_000_000_000_000);
     Ok(())
 }
 
 #[test]
 fn room_for_times_is_zeros(rt: HostRuntime) -> Result<(), Fail> {
-    let alloc = rt.alloc();
-    let net = connection(alloc)?;
-    let room = Times::room(alloc, &net)?;
+    let net = connection(rt.alloc())?;
+    let room = Times::room(rt.alloc(), &net)?;
     assert_eq!(rt; room.as_slice(), [0; 6].as_slice());
-    assert_eq!(rt; room.events(), 6);
     Ok(())
 }

@@ -1,5 +1,5 @@
 use Rattle.dm_rows.specs.Rows.{IsSized}
 use Rattle.dm_cases.proofs.times.rows_after.Given as goal
 
-abbrev pub invariant-loop-message : goal.invariant-loop-message
-invariant-loop-message l = IsSized l.net l.rows
+abbrev pub invariant-loop-one : goal.invariant-loop-one
+invariant-loop-one l = IsSized l.net l.rows
