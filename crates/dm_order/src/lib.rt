@@ -9,6 +9,7 @@
 
 mod faults;
 mod flags;
+pub mod laws;
 mod lists;
 mod order;
 mod reach;
