@@ -1,4 +1,4 @@
-// Sources, sinks, shelves and printed text.
+//! Sources, sinks, shelves and printed text.
 ghost use Rattle.std.specs.List.{flat_map};
 ghost use Rattle.dm_outside.specs.Printing.{Puts, Prints};
 ghost use Rattle.dm_file_cases.specs.Outside.{row_text, table_text};

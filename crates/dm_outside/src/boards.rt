@@ -1,4 +1,4 @@
-// What shows times to passengers.
+//! What shows times to passengers.
 ghost use Rattle.std.specs.Prelude.{◌≡◌, ℕ, List, Option, All, IsOk, OnOk};
 ghost use Rattle.dm_outside.specs.Faults.{Counts};
 ghost use Rattle.dm_outside.specs.Board.{Sets, IsShown};

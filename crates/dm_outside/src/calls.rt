@@ -1,4 +1,4 @@
-// The calls that a form in memory was given, some of which fail.
+//! The calls that a form in memory was given, some of which fail.
 ghost use Rattle.std.specs.Prelude.{◌≡◌, ◌+◌, ◌<◌, ◌≤◌, All, Contains, IsTrue, ◌↔◌};
 ghost use Rattle.dm_outside.specs.Calls.{IsListed, NoneListed, next_call};
 ghost use Rattle.dm_outside.specs.Faults.{HasRisen};

@@ -1,4 +1,4 @@
-// What the calls of the outside answer in place of a result.
+//! What the calls of the outside answer in place of a result.
 
 /// A call of the outside failed. The object that was called has counted the fault.
 #[derive(Clone, Copy, Debug, PartialEq, Eq)]

@@ -1,4 +1,4 @@
-// Points of a run at which a test may hold it up.
+//! Points of a run at which a test may hold it up.
 
 /// A gate that the threads of a run pass. It tells nothing and counts nothing.
 pub trait Gate: Sync {

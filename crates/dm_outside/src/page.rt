@@ -1,4 +1,4 @@
-// Pieces of text, and the page that gathers them.
+//! Pieces of text, and the page that gathers them.
 ghost use Rattle.std.specs.Prelude.{◌≡◌, ◌+◌, ◌≤◌, List, [], ◌++◌, length, take, OnOk};
 ghost use Rattle.dm_outside.specs.Printing.{Puts, Prints, pieces_text, piece_text};
 
@@ -37,7 +37,7 @@ impl Model for Page {
     ghost invariant = { λ page. page.held ≤ 4096 };
 }
 
-// Writes the bytes into the buffer from a place on.
+/// Writes the bytes into the buffer from a place on.
 fn copy_to(buffer: &mut [u8], at: usize, bytes: &[u8])
     requires { at + length bytes.now ≤ length buffer.old }
     ensures { take (at + length bytes.now) buffer.new ≡ take at buffer.old ++ bytes.now }

@@ -1,4 +1,4 @@
-// Whole texts into a sink.
+//! Whole texts into a sink.
 ghost use Rattle.dm_outside.specs.Printing.{Puts};
 
 use crate::{Failed, Sink, WriteFault};

@@ -1,5 +1,5 @@
-// The real outside: files, a folder and the standard output. Each call goes straight to the system,
-// and nothing is held back, so that a fault of the system is a fault of the call.
+//! The real outside: files, a folder and the standard output. Each call goes straight to the system,
+//! and nothing is held back, so that a fault of the system is a fault of the call.
 ghost use Rattle.dm_outside.specs.Faults.{HasRisen};
 ghost use Rattle.std.specs.Prelude.{◌≡◌, ◌≤◌};
 
@@ -10,7 +10,7 @@ use std::io::{Read, Stdout, Write};
 use std::marker::Model;
 use std::rt::Files;
 
-// The count after one fault more: it stands at its last value.
+/// The count after one fault more: it stands at its last value.
 fn next_fault(faults: u64) -> u64
     ensures risen { HasRisen faults result }
     ensures later { faults ≤ result }

@@ -1,4 +1,4 @@
-// Where sources are found by name.
+//! Where sources are found by name.
 ghost use Rattle.std.specs.Prelude.{◌≡◌, ◌⊎◌, ℕ, ◌<◌, ◌↔◌, List, Option, None, Some, IsNone, IsErr, IfOk, IsOkAnd, IsSomeAnd, All, AllPairs, ◌≢◌};
 ghost use Rattle.std.specs.Option.{option_copied};
 ghost use Rattle.dm_outside.specs.Faults.{Counts};
@@ -71,7 +71,7 @@ impl<'a> Model for MemShelf<'a> {
     ghost invariant = { λ shelf. All (λ file. 0 < file.piece) shelf.files.now };
 }
 
-// The file of this name.
+/// The file of this name.
 fn find_file<'a>(files: &'a [MemFile<'a>], name: &str) -> Option<&'a MemFile<'a>>
     ensures { option_copied result ≡ file_named files.now name.now }
 {

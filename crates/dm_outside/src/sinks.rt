@@ -1,4 +1,4 @@
-// Where bytes go.
+//! Where bytes go.
 ghost use Rattle.std.specs.Prelude.{◌≡◌, ◌⊎◌, ℕ, ◌-◌, ◌<◌, ◌≤◌, ◌↔◌, List, [], Option, Some, length, min, IfOk, IsErr};
 ghost use Rattle.std.specs.Io.KnownBytes.{WriteAppends};
 ghost use Rattle.dm_outside.specs.Faults.{Counts};

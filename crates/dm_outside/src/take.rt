@@ -1,4 +1,4 @@
-// All the bytes of a source.
+//! All the bytes of a source.
 ghost use Rattle.std.specs.Prelude.{◌≡◌, ℕ, ◌+◌, ◌-◌, ◌<◌, ◌≤◌, List, length, vec_len, IfOk, OnOk, IfSome, IsErrOf, OnErr};
 ghost use Rattle.std.specs.Io.KnownBytes.{Consumes, IsAtEnd};
 ghost use Rattle.dm_outside.specs.Faults.{HasRisen};
@@ -21,15 +21,15 @@ impl From<AllocError> for TakeFault {
 /// How many bytes one read is asked for at most.
 const PIECE: usize = 65536;
 
-// Room for one read.
+/// Room for one read.
 fn make_piece(alloc: Global, size: usize) -> Result<Vec<u8>, AllocError>
     ensures { IfOk result (λ piece. vec_len piece ≡ size) }
 {
     vec![in alloc; 0u8; size]
 }
 
-// Takes what one read gives, and puts it behind the bytes. A fault or want of memory loses what the
-// read gave.
+/// Takes what one read gives, and puts it behind the bytes. A fault or want of memory loses what the
+/// read gave.
 fn take_piece<S: Source>(
     source: &mut S,
     bytes: &mut Vec<u8>,

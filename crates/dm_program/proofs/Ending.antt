@@ -1,6 +1,7 @@
 -- What each end of a run says of the text that was due.
 use Rattle.std.proofs.Common.{◌≡◌, ℕ, zero, suc, ◌≤◌, arith, List, [], ◌∷◌, length, Option, Some, None, refl, sym, ap, subst, ◌∙◌, inl, inr, All}
 use Rattle.std.specs.Io.KnownBytes.{Keeps}
+use Rattle.dm_base.specs.declared.limits.TheConstants.{PENALTY}
 use Rattle.dm_outside.specs.Printing.{TakesFront}
 use Rattle.dm_input.specs.Input.{Told}
 use Rattle.dm_input.specs.Lines.{usage_line}
@@ -23,11 +24,11 @@ use Rattle.dm_program.specs.Headline.{IsRunOf}
 use Rattle.dm_program.specs.Ends.{Ends, EndsAs, IsDue, IsUsage, IsRefusal, IsReadFault, WantsMemory}
 
 -- the penalty that the words give is within the limit
-penalty_fits : (given : Option (List ℕ)) (penalty : ℕ) → IsPenalty given penalty → penalty ≤ 1000000
+penalty_fits : (given : Option (List ℕ)) (penalty : ℕ) → IsPenalty given penalty → penalty ≤ PENALTY
 penalty_fits None penalty is = omega arith
 penalty_fits (Some text) penalty is = is.2
 
-pub asked_penalty_fits : (words : List (List ℕ)) (asked : RunAsked) → Asks words (RunOf asked) → asked.files.penalty ≤ 1000000
+pub asked_penalty_fits : (words : List (List ℕ)) (asked : RunAsked) → Asks words (RunOf asked) → asked.files.penalty ≤ PENALTY
 asked_penalty_fits [] asked asks = absurd asks
 asked_penalty_fits (word ∷ words) asked asks = penalty_fits asks.1.penalty asked.files.penalty asks.1.is_penalty
 

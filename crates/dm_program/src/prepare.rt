@@ -1,6 +1,6 @@
 //! A run, from what it begins with to what it prints.
 ghost use Rattle.std.specs.Prelude.{◌≡◌, ◌≤◌, length, IfOk, IfErr};
-ghost use Rattle.dm_base.specs.declared.limits.TheConstants.{FEED as MOST};
+ghost use Rattle.dm_base.specs.declared.limits.TheConstants.{FEED as MOST, PENALTY};
 ghost use Rattle.dm_input.specs.Asked.{run_of};
 ghost use Rattle.dm_input.specs.Stops.{IsKept};
 ghost use Rattle.dm_input.specs.Words.{RunOf};
@@ -63,7 +63,7 @@ fn answer_run(
     requires sized { IsSized net rows }
     requires start { IsAtStart net rows }
     requires size { length feed.now ≤ MOST }
-    requires penalty { penalty ≤ 1000000 }
+    requires penalty { penalty ≤ PENALTY }
     ensures run { IfOk result (λ a. IsRunOver a.net rows feed.now (run_from a.net rows a.penalty a.history.items a.items.items a.times a.cost)) }
     ensures net { IfOk result (λ a. a.net ≡ net) }
     ensures penalty { IfOk result (λ a. a.penalty ≡ penalty) }
@@ -86,7 +86,7 @@ fn answer_run(
 
 /// Reads and answers a run.
 pub fn prepare<H: Shelf>(alloc: Global, shelf: &mut H, run: &RunWords<'_>) -> Result<Answered, Stop>
-    requires penalty { run.now.files.penalty ≤ 1000000 }
+    requires penalty { run.now.files.penalty ≤ PENALTY }
     ensures kept { IsKept H.files H.is_sound shelf.old shelf.new }
     ensures ready { IfOk result (IsReadyRun (H.files shelf.old) (RunOf (run_of run.now))) }
     ensures stops { IfErr result (StopsRun (H.files shelf.old) (H.is_sound shelf.old) (RunOf (run_of run.now))) }

@@ -1,4 +1,4 @@
-// What no clause says of sources, sinks, shelves and printed text.
+//! What no clause says of sources, sinks, shelves and printed text.
 ghost use Rattle.std.specs.Prelude.{◌<◌};
 
 use super::print_table;
