@@ -1,5 +1,5 @@
 //! The shelf of a case: its own files, and behind them those of its network.
-ghost use Rattle.std.specs.Prelude.{◌≤◌};
+ghost use Rattle.std.specs.Prelude.{◌≡◌, ◌≤◌, IfSome};
 ghost use Rattle.dm_outside.specs.Faults.{HasRisen};
 
 use crate::case::Case;
@@ -63,11 +63,16 @@ fn open_in<R: Files<File = File>>(
     alloc: Global,
     folder: &str,
     name: &str,
-) -> Option<FileSource> {
+) -> Option<FileSource>
+    ensures { IfSome result (λ source. source ≡ 0) }
+{
     let Ok(path) = format!(in alloc; "{folder}{name}") else {
         return None;
     };
-    files.open(&path).ok()
+    match files.open(&path) {
+        Ok(source) => Some(source),
+        Err(Failed) => None,
+    }
 }
 
 impl<'r, R: Files<File = File>> Shelf for CaseShelf<'r, R> {
@@ -82,10 +87,11 @@ impl<'r, R: Files<File = File>> Shelf for CaseShelf<'r, R> {
     ghost is_sound = { λ _ _. ⊥ };
 
     fn open(&mut self, name: &str) -> Result<FileSource, Failed> {
-        for folder in [&self.own, &self.network] {
-            if let Some(source) = open_in(&mut self.files, self.alloc, folder, name) {
-                return Ok(source);
-            }
+        if let Some(source) = open_in(&mut self.files, self.alloc, &self.own, name) {
+            return Ok(source);
+        }
+        if let Some(source) = open_in(&mut self.files, self.alloc, &self.network, name) {
+            return Ok(source);
         }
         self.faults = self.faults.saturating_add(1);
         Err(Failed)
