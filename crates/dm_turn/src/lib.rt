@@ -1,4 +1,10 @@
 //! One history over passes: a lock that hands a state to one holder at a time, in the order of drawn tickets.
+//!
+//! It stands on dm_rows for the entries of a history, and on atomic_table for the words and the slot. A [`Pass`] is what
+//! one caller knows: which beginning of the history it has seen, and which entries are its own, with their numbers. The
+//! rule in `specs/Rule.antt` holds between any two steps, so whoever takes the state sees all that was seen before, and
+//! at the end the own entries of all passes are the history from its opening on, each once. No call but `new` takes
+//! memory. That a call which waits returns is not promised.
 #![tactic(auto)]
 
 mod rule;
