@@ -1,7 +1,6 @@
 //! The list of the events, and how it is moved.
 ghost use Rattle.std.specs.Prelude.{◌≡◌, ◌<◌, ◌≤◌, length, All, IsTrue, ◌↔◌, IfOk, IfErr, IfNone, IfSome, OnOk, OnErr};
 ghost use Rattle.dm_network.specs.Held.{is_held, IsCycleOf};
-ghost use Rattle.std.specs.Bool.{OnTrue};
 ghost use Rattle.dm_order.specs.Orders.{GoesForward, GoForward};
 ghost use Rattle.dm_order.specs.Inside.Placing.{AreLists, IsBehind, IsForwardOrAlike, HasSameEnds, GoForwardOrAlike, GoForwardBut, cycle_in, RefusesLists};
 
@@ -98,7 +97,7 @@ impl Lists {
         requires lists { AreLists net.now self.now }
         requires are_activities { All (λ a. a < length net.now.activities) arcs.now }
         requires is_activity { first < length net.now.activities }
-        ensures { OnTrue result (All (IsForwardOrAlike net.now self.now.places.ranks.items first) arcs.now) }
+        ensures { IsTrue result ↔ All (IsForwardOrAlike net.now self.now.places.ranks.items first) arcs.now }
     {
         for a in arcs {
             if !self.goes_forward(net, *a) && !has_same_ends(net, *a, first) {

@@ -46,7 +46,8 @@ impl Model for Order {
 
 impl Order {
     /// An order that holds the active activities between events that have not passed. The room in which activities are
-    /// added is made here. Its time is linear in events and activities.
+    /// added is made here. Where the rows have a cycle there is no order, and nothing is said of the cycle. Its time is
+    /// linear in events and activities.
     pub fn new(alloc: Global, net: &Network, rows: &Rows) -> Result<Order, OrderFault>
         requires { IsSized net.now rows.now }
         ensures order { IfOk result (IsOrderOf net.now) }
@@ -69,7 +70,9 @@ impl Order {
     /// Holds activities besides. Where these and the held ones have a cycle, it holds no more than before, the list is as
     /// before, and [`Order::last_cycle`] is such a cycle. It takes no memory.
     ///
-    /// Activities that go forward already cost a look each. Otherwise the list is moved.
+    /// Activities that go forward already cost a look each. Where one does not, or several between the same two events, the
+    /// places between these are looked over; where several between different events do not, one search over the whole
+    /// network makes the list anew. So who adds few adds them one at a time.
     pub fn add(&mut self, net: &Network, arcs: &[usize]) -> Result<(), Cyclic>
         requires network { IsOrderOf net.now self.old }
         requires are_activities { All (λ a. a < length net.now.activities) arcs.now }

@@ -1,3 +1,4 @@
+use Rattle.std.proofs.Common.{refl}
 use Rattle.dm_order.proofs.Changing.{all_forward}
 use Rattle.dm_order.proofs.Sweeping.{all_alike}
 use Rattle.dm_order.proofs.lists.Lists.move_for.Goals as goal
@@ -8,4 +9,4 @@ returns-in-None-clause-forward c =
 
 pub sweep-requires-clause-others : goal.sweep-requires-clause-others
 sweep-requires-clause-others c =
-    all_alike c.args.net.now c.args.held.now c.args.arcs.now c.args.self.now.places.ranks.items c.in-Some.first c.requires.others c.if-are_alike.ensures
+    all_alike c.args.net.now c.args.held.now c.args.arcs.now c.args.self.now.places.ranks.items c.in-Some.first c.requires.others (c.if-are_alike.ensures.0 refl)
