@@ -33,7 +33,7 @@ pub record Forest (holes : Bool) (more : ℕ) (nodes : List Node) : Type 0 where
   pub proper : IsProper head × AllProper others
   pub whole : holes ≡ false → IsWhole head × AllWhole others
 
-both : (a b : Bool) → (a && b) ≡ true → (a ≡ true) × (b ≡ true)
+pub both : (a b : Bool) → (a && b) ≡ true → (a ≡ true) × (b ≡ true)
 both true b e = (refl, e)
 both false b e = cc
 
@@ -127,10 +127,10 @@ partial_tree nodes e =
       proper = f.proper.0;
     }
 
-some_more : (more : ℕ) → eqb (more + 1) 0 ≡ false
+pub some_more : (more : ℕ) → eqb (more + 1) 0 ≡ false
 some_more more = ne_eqb (more + 1) 0 (λ e. omega arith)
 
-one_back : (more : ℕ) → more + 1 - 1 ≡ more
+pub one_back : (more : ℕ) → more + 1 - 1 ≡ more
 one_back more = omega arith
 
 -- a tree fills one place, and leaves the others to what follows

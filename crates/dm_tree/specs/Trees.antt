@@ -1,5 +1,5 @@
 -- Trees of choices: their nodes in preorder, what stands at a path, their leaves, and the least tree with given leaves.
-use Rattle.std.specs.Prelude.{ℕ, ◌≡◌, ◌<◌, ◌⊎◌, List, [], ◌∷◌, ◌++◌, slice_get, Some, All, Contains}
+use Rattle.std.specs.Prelude.{ℕ, ◌≡◌, ◌<◌, ◌⊎◌, List, [], ◌∷◌, ◌++◌, slice_get, Option, Some, None, All, Contains}
 use Rattle.dm_rows.specs.declared.messages.Choice.{Choice}
 use Rattle.dm_rows.specs.declared.messages.Choice.TheVariants.{Change, Pair}
 use Rattle.dm_rows.specs.declared.messages.Decision.{Decision}
@@ -31,6 +31,14 @@ preorder (branch c a b) = Inner c ∷ preorder a ++ preorder b
 abbrev pub IsOrdered : Choice → Type 0
 IsOrdered (Change a) = Unit {0}
 IsOrdered (Pair i j) = i.0 < j.0
+
+-- the choice of a node, or None where it is a leaf
+abbrev pub choice_in : Node → Option Choice
+choice_in (Inner c) = Some c
+choice_in Cycle = None
+choice_in (Bound c) = None
+choice_in (Open c) = None
+choice_in Hole = None
 
 abbrev pub IsLeaf : Node → Type 0
 IsLeaf (Inner c) = ⊥

@@ -1,5 +1,7 @@
 //! The nodes and leaves of trees, and why there is no tree.
 
+ghost use Rattle.std.specs.Prelude.{◌≡◌};
+
 use dm_base::{Cost, Items};
 use dm_rows::{Choice, Decision};
 
@@ -21,6 +23,20 @@ pub enum Node {
 
     /// Nothing is known yet. It stands in a [`Partial`](crate::Partial) alone.
     Hole,
+}
+
+impl Node {
+    ghost use Rattle.dm_tree.specs.Trees.{choice_in};
+
+    /// The choice of an inner node, or None of a leaf.
+    pub fn choice(&self) -> Option<Choice>
+        ensures { result ≡ choice_in self.now }
+    {
+        match self {
+            Node::Inner(choice) => Some(*choice),
+            Node::Cycle | Node::Bound(_) | Node::Open(_) | Node::Hole => None,
+        }
+    }
 }
 
 /// A leaf of a tree, and the decisions from the root to it.

@@ -9,10 +9,13 @@
 mod forms;
 pub mod laws;
 mod partial;
+mod paths;
 mod plans;
+mod walks;
 mod whole;
 
 pub use forms::{AssembleFault, Leaf, Mark, Node};
 pub use partial::Partial;
 pub use plans::Plan;
+pub use walks::leaves;
 pub use whole::{Tree, nodes};
