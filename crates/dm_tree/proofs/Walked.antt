@@ -66,7 +66,7 @@ filled_here : (n : Node) (rest : List Node) (more : ℕ) → ((n ∷ rest) ≡ [
 filled_here n rest more (inl e) = cc
 filled_here n rest more (inr f) = f
 
-is_inner : (n : Node) (c : Choice) → choice_in n ≡ Some c → n ≡ Inner c
+pub is_inner : (n : Node) (c : Choice) → choice_in n ≡ Some c → n ≡ Inner c
 is_inner (Inner c) d e = ap Inner (let same : c ≡ d = cc in same)
 is_inner Cycle d e = cc
 is_inner (Bound c) d e = cc

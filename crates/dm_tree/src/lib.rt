@@ -6,6 +6,8 @@
 //! A path may be 8,191 decisions long, so all is walked by loops. No time and no cost is computed here.
 #![tactic(auto)]
 
+mod assembly;
+mod drafts;
 mod forms;
 pub mod laws;
 mod partial;
@@ -14,6 +16,7 @@ mod plans;
 mod walks;
 mod whole;
 
+pub use assembly::assemble;
 pub use forms::{AssembleFault, Leaf, Mark, Node};
 pub use partial::Partial;
 pub use plans::Plan;

@@ -1,6 +1,7 @@
 //! Trees in which something is not known yet.
-ghost use Rattle.std.specs.Prelude.{◌≡◌};
+ghost use Rattle.std.specs.Prelude.{◌≡◌, true};
 ghost use Rattle.dm_tree.specs.Trees.{IsPartialTree};
+ghost use Rattle.dm_tree.specs.Inside.Filling.{fills};
 
 use crate::Node;
 use std::marker::Model;
@@ -24,6 +25,14 @@ impl Model for Partial {
 }
 
 impl Partial {
+    /// The tree of these nodes, which are one tree in preorder.
+    pub(crate) fn new(nodes: Vec<Node>) -> Partial
+        requires { fills true 0 nodes.items ≡ true }
+        ensures { result ≡ nodes.items }
+    {
+        Partial { nodes }
+    }
+
     /// The nodes in preorder. It takes no memory.
     pub fn as_slice(&self) -> &[Node]
         ensures nodes { result.now ≡ self.now }

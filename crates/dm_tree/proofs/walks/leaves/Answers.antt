@@ -16,7 +16,7 @@ loop-node-preserved-in-Some c =
 pub loop-node-preserved : goal.loop-node-preserved
 loop-node-preserved c =
     leaf_step _ _ _ _ _ _ _ _ c.in_ok-turn.field-0 c.loop-node-test.true c.in_default.ensures
-    (c.from_vec.ensures ∙ (c.in_ok-here.ensures.items ∙ c.deref.ensures.value)) c.in_ok-push-2.ensures.items c.in_ok-turn.ensures
+    (c.from_vec.ensures ∙ (c.in_ok-here.ensures.items ∙ c.deref.ensures.value)) c.in_ok-push-2.ensures.items c.in_ok-turn.ensures.due
     c.loop-node.invariant
 
 pub returns : goal.returns
