@@ -52,6 +52,10 @@ is_set rows (Some (First p true)) = small_first_at rows p
 is_set rows (Some (First p false)) = not (small_first_at rows p)
 is_set rows None = true
 
+-- the decision is not what the rows have
+abbrev pub DiffersFrom : Task → Decision → Type 0
+DiffersFrom task d = IsTrue (not (is_set task.rows (flip_named task.net d)))
+
 -- the rows with the decisions set have no cycle and cost c
 pub record CostsWith (task : Task) (decisions : List Decision) (c : ℕ) : Type 0 where
   pub no_cycle : HasNoCycle task.net (with_decisions task.net task.rows decisions)
@@ -112,7 +116,7 @@ HasNoOpen shape = (path : List Decision) (c : ℕ) → StandsAt shape path (Open
 -- Open two further nodes would not.
 pub record IsTruePlan (task : Task) (plan : Plan) : Type 0 where
   pub choices : AreSomeOf task.allowed (map choice_of plan.choices)
-  pub differ : All (λ d. IsTrue (not (is_set task.rows (flip_named task.net d)))) plan.choices
+  pub differ : All (DiffersFrom task) plan.choices
   pub cost : CostsWith task plan.choices plan.cost
   pub shape : Shape
   pub in_preorder : preorder shape ≡ plan.tree

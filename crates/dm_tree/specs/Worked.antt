@@ -38,3 +38,11 @@ left_open =
 -- with a budget of 7 nodes the root alone may not be left open
 abbrev pub LeavesNoneOpen : Type 0
 LeavesNoneOpen = IsTruePlan (delayed_task 7) left_open → ⊥
+
+-- the plan that drops the change is true
+abbrev pub WorkedPlanIsTrue : Type 0
+WorkedPlanIsTrue = IsTruePlan (delayed_task 100) worked_plan
+
+-- the present choices cost more than the relaxed root, so that they are not shown optimal by it
+abbrev pub PresentChoicesAreNotShown : Type 0
+PresentChoicesAreNotShown = (budget : ℕ) → IsTruePlan (delayed_task budget) present_choices_marked_optimal → ⊥
