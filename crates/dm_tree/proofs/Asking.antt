@@ -1,0 +1,325 @@
+-- What the leaves that lie at a path ask for there.
+use Rattle.std.proofs.Common.{◌≡◌, ◌≢◌, ℕ, ◌+◌, ◌-◌, ◌<◌, ◌≤◌, Bool, true, false, List, [], ◌∷◌, ◌++◌, length, take, drop, get_or, refl, sym, ap, subst, ◌∙◌, ◌⊎◌, inl, inr, arith, Option, Some, None, slice_get, append-nil, slice_index, set, length-set, get_or-set_same, get_or-set_other}
+use Rattle.std.specs.Prelude.{unwrap_or}
+use Rattle.std.proofs.lemmas.Bool.{cases_lt}
+use Rattle.std.proofs.lemmas.List.{length-append, get_or-append_right, get_or_default}
+use Rattle.std.proofs.lemmas.Option.{slice_get_within, get_or_from_slice_get}
+use Rattle.dm_rows.specs.declared.messages.Choice.{Choice}
+use Rattle.dm_rows.specs.declared.messages.Decision.{Decision}
+use Rattle.dm_rows.specs.Decide.{choice_of}
+use Rattle.dm_tree.specs.declared.forms.Node.{Node}
+use Rattle.dm_tree.specs.declared.forms.Node.TheVariants.{Inner, Cycle, Bound, Open, Hole}
+use Rattle.dm_tree.specs.declared.forms.Leaf.{Leaf}
+use Rattle.dm_tree.specs.Trees.{Shape, choice_in, IsOrdered, IsLeaf, IsProper, StandsAt, HasLeaves, HaveNoTree}
+use Rattle.dm_tree.specs.Inside.Filling.{is_ordered}
+use Rattle.dm_tree.specs.Inside.Assembling.{IsFront, HasCommon, KeepsFront, Improves, AreMatched, IsRematched, LiesBelow, AsksFor, MayStand, IsAskedOf, Agree, IsAsked, LiesNone, SeenSoFar, IsDue}
+use Rattle.dm_tree.proofs.Filled.{ordered_from, from_ordered}
+use Rattle.dm_tree.proofs.Standing.{one_stands, stands_above}
+use Rattle.dm_tree.proofs.Matching.{full_is_front, front_is_full}
+
+zero_left : (n : ℕ) → n - n ≡ 0
+zero_left n = omega arith
+
+-- the decision behind a front
+pub goes_below : (path : List Decision) (l : Leaf) (d : Decision) → IsFront path l.path → length path < length l.path →
+    d ≡ get_or l.path (length path) d → LiesBelow path (choice_of d) l
+goes_below path l d f lt is = from_rest f.rest f.is
+  where
+    from_rest : (rest : List Decision) → l.path ≡ path ++ rest → LiesBelow path (choice_of d) l
+    from_rest [] e = let n : length l.path ≡ length path = ap length (e ∙ append-nil path) in absurd (omega arith)
+    from_rest (x ∷ rest) e =
+        let at : get_or (path ++ x ∷ rest) (length path) d ≡ x =
+        get_or-append_right path (x ∷ rest) (length path) (length path) d refl (omega arith)
+        ∙ ap (λ k. get_or (x ∷ rest) k d) (zero_left (length path)) in
+        let same : d ≡ x = is ∙ (ap (λ xs. get_or xs (length path) d) e ∙ at) in
+        record { decision = x; rest = rest; is = e; decides = ap choice_of (sym same) }
+
+pub asks_below : (path : List Decision) (l : Leaf) (d : Decision) → IsFront path l.path → length path < length l.path →
+    d ≡ get_or l.path (length path) d → is_ordered (choice_of d) ≡ true → IsAskedOf path l (Some (Inner (choice_of d)))
+asks_below path l d f lt is o = (goes_below path l d f lt is, ordered_from (choice_of d) o)
+
+-- a pair that is not written in order stands in no tree
+pub asks_badly : (path : List Decision) (l : Leaf) (d : Decision) → IsFront path l.path → length path < length l.path →
+    d ≡ get_or l.path (length path) d → is_ordered (choice_of d) ≡ false → IsAskedOf path l None
+asks_badly path l d f lt is o shape proper leaf stands =
+    let b = goes_below path l d f lt is in
+    let s : StandsAt shape (path ++ b.decision ∷ b.rest) l.node = subst (λ p. StandsAt shape p l.node) b.is stands in
+    let good : is_ordered (choice_of d) ≡ true =
+    from_ordered (choice_of d) (subst IsOrdered b.decides (stands_above shape path b.rest b.decision l.node proper s).1) in
+    cc
+
+ends_there : (path : List Decision) (l : Leaf) → IsFront path l.path → length l.path ≤ length path → l.path ≡ path
+ends_there path l f le = from_rest f.rest f.is
+  where
+    from_rest : (rest : List Decision) → l.path ≡ path ++ rest → l.path ≡ path
+    from_rest [] e = e ∙ append-nil path
+    from_rest (x ∷ rest) e =
+        let n : length l.path ≡ length path + length (x ∷ rest) = ap length e ∙ length-append path (x ∷ rest) in
+        absurd (omega arith)
+
+pub asks_itself : (path : List Decision) (l : Leaf) → IsFront path l.path → length l.path ≤ length path →
+    choice_in l.node ≡ None → IsAskedOf path l (Some l.node)
+asks_itself path l f le e = by_node l.node refl e
+  where
+    at : l.path ≡ path
+    at = ends_there path l f le
+
+    by_node : (n : Node) → l.node ≡ n → choice_in n ≡ None → AsksFor path n l × MayStand n
+    by_node (Inner c) is e = cc
+    by_node Cycle is e = ((at, is), tt)
+    by_node (Bound c) is e = ((at, is), tt)
+    by_node (Open c) is e = ((at, is), tt)
+    by_node Hole is e = ((at, is), tt)
+
+no_leaf : (n : Node) (c : Choice) → choice_in n ≡ Some c → IsLeaf n → ⊥
+no_leaf (Inner x) c e l = l
+no_leaf Cycle c e l = cc
+no_leaf (Bound x) c e l = cc
+no_leaf (Open x) c e l = cc
+no_leaf Hole c e l = cc
+
+pub asks_for_inner : (path : List Decision) (l : Leaf) → (choice_in l.node ≡ None → ⊥) → IsAskedOf path l None
+asks_for_inner path l is shape proper leaf stands = by_node l.node is leaf
+  where
+    by_node : (n : Node) → (choice_in n ≡ None → ⊥) → IsLeaf n → ⊥
+    by_node (Inner c) h i = i
+    by_node Cycle h i = h refl
+    by_node (Bound c) h i = h refl
+    by_node (Open c) h i = h refl
+    by_node Hole h i = h refl
+
+-- a given leaf stands in a tree that has the leaves
+given_stands : (leaves : List Leaf) (shape : Shape) → HasLeaves shape leaves → (k : ℕ) (l : Leaf) → slice_get leaves k ≡ Some l →
+    StandsAt shape l.path l.node × IsLeaf l.node
+given_stands leaves shape has k l at =
+    let e : get_or leaves k l ≡ l = get_or_from_slice_get leaves k l l at in
+    let lt : k < length leaves = slice_get_within leaves k l at in (
+      subst (λ (x : Leaf). StandsAt shape x.path x.node) e (has.stand k l lt),
+      subst (λ (x : Leaf). IsLeaf x.node) e (has.are_leaves k l lt),
+    )
+
+pub refused_leaf : (leaves : List Leaf) (path : List Decision) (k : ℕ) (l : Leaf) → slice_get leaves k ≡ Some l →
+    IsAskedOf path l None → HaveNoTree leaves
+refused_leaf leaves path k l at none shape proper has =
+    let s = given_stands leaves shape has k l at in none shape proper s.1 s.0
+
+-- what a leaf of a tree asks for stands in it
+asked_stands : (shape : Shape) (path : List Decision) (n : Node) (l : Leaf) → IsProper shape → StandsAt shape l.path l.node →
+    AsksFor path n l → StandsAt shape path n
+asked_stands shape path (Inner c) l p s a =
+    let up = stands_above shape path a.rest a.decision l.node p (subst (λ q. StandsAt shape q l.node) a.is s) in
+    subst (λ x. StandsAt shape path (Inner x)) a.decides up.0
+asked_stands shape path Cycle l p s a = subst (λ n. StandsAt shape path n) a.1 (subst (λ q. StandsAt shape q l.node) a.0 s)
+asked_stands shape path (Bound c) l p s a = subst (λ n. StandsAt shape path n) a.1 (subst (λ q. StandsAt shape q l.node) a.0 s)
+asked_stands shape path (Open c) l p s a = subst (λ n. StandsAt shape path n) a.1 (subst (λ q. StandsAt shape q l.node) a.0 s)
+asked_stands shape path Hole l p s a = subst (λ n. StandsAt shape path n) a.1 (subst (λ q. StandsAt shape q l.node) a.0 s)
+
+ends_at : (path : List Decision) (n : Node) (l : Leaf) → IsLeaf n → AsksFor path n l → l.path ≡ path
+ends_at path (Inner c) l i a = absurd i
+ends_at path Cycle l i a = a.0
+ends_at path (Bound c) l i a = a.0
+ends_at path (Open c) l i a = a.0
+ends_at path Hole l i a = a.0
+
+pub leaf_or_choice : (n : Node) → IsLeaf n ⊎ ((c : Choice) × (n ≡ Inner c))
+leaf_or_choice (Inner c) = inr (c, refl)
+leaf_or_choice Cycle = inl tt
+leaf_or_choice (Bound c) = inl tt
+leaf_or_choice (Open c) = inl tt
+leaf_or_choice Hole = inl tt
+
+-- two leaves that ask for different nodes, or for one leaf, stand in no tree
+pub clash : (leaves : List Leaf) (path : List Decision) (i : ℕ) (l : Leaf) (m n : Node) → IsAsked leaves path i m →
+    slice_get leaves i ≡ Some l → AsksFor path n l → (Agree m n → ⊥) → HaveNoTree leaves
+clash leaves path i l m n seen here asks apart shape proper has =
+    let one = given_stands leaves shape has seen.place seen.one seen.at in
+    let two = given_stands leaves shape has i l here in
+    let first : StandsAt shape path m = asked_stands shape path m seen.one proper one.0 seen.asks in
+    let second : StandsAt shape path n = asked_stands shape path n l proper two.0 asks in
+    let same : m ≡ n = one_stands shape path m n proper first second in
+    elim (leaf_or_choice m) [
+      | inl f ↦
+          let p : seen.one.path ≡ path = ends_at path m seen.one f seen.asks in
+          let q : l.path ≡ path = ends_at path n l (subst IsLeaf same f) asks in
+          let e : seen.place ≡ i = has.once seen.place i seen.one l seen.at here (p ∙ sym q) in
+          let b : seen.place < i = seen.before in
+          omega arith
+      | inr c ↦ apart (c.0, (ap choice_in c.1, ap choice_in (sym same ∙ c.1)))
+    ]
+
+the_last : (k i : ℕ) → k < i + 1 → i ≤ k → k ≡ i
+the_last k i lt le = omega arith
+
+-- a leaf that does not lie there changes nothing
+pub seen_past : (leaves : List Leaf) (path : List Decision) (i : ℕ) (found : Option Node) → SeenSoFar leaves path i found →
+    ((l : Leaf) → slice_get leaves i ≡ Some l → IsFront path l.path → ⊥) → SeenSoFar leaves path (i + 1) found
+seen_past leaves path i None none not_here = λ k l lt here front.
+    elim (cases_lt k i) [
+      | inl b ↦ none k l b here front
+      | inr q ↦ not_here l (subst (λ j. slice_get leaves j ≡ Some l) (the_last k i lt q) here) front
+    ]
+seen_past leaves path i (Some n) s not_here =
+    record {
+      place = s.place;
+      before = (let b : s.place < i = s.before in omega arith);
+      one = s.one;
+      at = s.at;
+      asks = s.asks;
+      may_stand = s.may_stand;
+      all = λ k l lt here front.
+          elim (cases_lt k i) [
+            | inl b ↦ s.all k l b here front
+            | inr q ↦ absurd (not_here l (subst (λ j. slice_get leaves j ≡ Some l) (the_last k i lt q) here) front)
+          ];
+      sole = λ f k l lt here front.
+          elim (cases_lt k i) [
+            | inl b ↦ s.sole f k l b here front
+            | inr q ↦ absurd (not_here l (subst (λ j. slice_get leaves j ≡ Some l) (the_last k i lt q) here) front)
+          ];
+    }
+
+same_leaf : (leaves : List Leaf) (k i : ℕ) (l m : Leaf) → k ≡ i → slice_get leaves k ≡ Some l → slice_get leaves i ≡ Some m → m ≡ l
+same_leaf leaves k i l m e a b =
+    let s : Some m ≡ Some l = sym b ∙ (ap (slice_get leaves) (sym e) ∙ a) in cc
+
+-- the first leaf that lies there
+pub seen_first : (leaves : List Leaf) (path : List Decision) (i : ℕ) (l : Leaf) (n : Node) → LiesNone leaves path i →
+    slice_get leaves i ≡ Some l → AsksFor path n l × MayStand n → IsAsked leaves path (i + 1) n
+seen_first leaves path i l n none here asks =
+    record {
+      place = i;
+      before = omega arith;
+      one = l;
+      at = here;
+      asks = asks.0;
+      may_stand = asks.1;
+      all = λ k m lt there front.
+          elim (cases_lt k i) [
+            | inl b ↦ absurd (none k m b there front)
+            | inr q ↦ subst (AsksFor path n) (same_leaf leaves k i m l (the_last k i lt q) there here) asks.0
+          ];
+      sole = λ f k m lt there front.
+          elim (cases_lt k i) [ inl b ↦ absurd (none k m b there front) | inr q ↦ the_last k i lt q ];
+    }
+
+agree_same : (m n : Node) → Agree m n → m ≡ n
+agree_same m n (c, e) = both_inner m n c e.0 e.1
+  where
+    inner : (n : Node) (c : Choice) → choice_in n ≡ Some c → n ≡ Inner c
+    inner (Inner x) c e = ap Inner (let same : x ≡ c = cc in same)
+    inner Cycle c e = cc
+    inner (Bound x) c e = cc
+    inner (Open x) c e = cc
+    inner Hole c e = cc
+
+    both_inner : (m n : Node) (c : Choice) → choice_in m ≡ Some c → choice_in n ≡ Some c → m ≡ n
+    both_inner m n c a b = inner m c a ∙ sym (inner n c b)
+
+-- a further one that asks for the same choice
+pub seen_again : (leaves : List Leaf) (path : List Decision) (i : ℕ) (l : Leaf) (m n : Node) → IsAsked leaves path i m →
+    slice_get leaves i ≡ Some l → AsksFor path n l × MayStand n → Agree m n → IsAsked leaves path (i + 1) n
+seen_again leaves path i l m n s here asks agree =
+    let same : m ≡ n = agree_same m n agree in
+    record {
+      place = s.place;
+      before = (let b : s.place < i = s.before in omega arith);
+      one = s.one;
+      at = s.at;
+      asks = subst (λ x. AsksFor path x s.one) same s.asks;
+      may_stand = asks.1;
+      all = λ k o lt there front.
+          elim (cases_lt k i) [
+            | inl b ↦ subst (λ x. AsksFor path x o) same (s.all k o b there front)
+            | inr q ↦ subst (AsksFor path n) (same_leaf leaves k i o l (the_last k i lt q) there here) asks.0
+          ];
+      sole = λ f k o lt there front. absurd (no_leaf n agree.0 agree.1.1 f);
+    }
+
+-- one step of the look at all leaves
+pub seen_next : (leaves : List Leaf) (path : List Decision) (i : ℕ) (l : Leaf) (found : Option Node) (n : Node) →
+    SeenSoFar leaves path i found → slice_get leaves i ≡ Some l → AsksFor path n l × MayStand n →
+    ((m : Node) → found ≡ Some m → Agree m n) → SeenSoFar leaves path (i + 1) (Some n)
+seen_next leaves path i l None n s here asks agree = seen_first leaves path i l n s here asks
+seen_next leaves path i l (Some m) n s here asks agree = seen_again leaves path i l m n s here asks (agree m refl)
+
+-- and what it comes to
+pub due_at_end : (leaves : List Leaf) (path : List Decision) (i : ℕ) (found : Option Node) → i ≡ length leaves →
+    SeenSoFar leaves path i found → IsDue leaves path (unwrap_or found Hole)
+due_at_end leaves path i None e s = inr (refl, subst (LiesNone leaves path) e s)
+due_at_end leaves path i (Some n) e s = inl (subst (λ j. IsAsked leaves path j n) e s)
+
+-- by what is in common it is known whether a leaf lies there
+pub not_there : (leaves : List Leaf) (path : List Decision) (matched : List ℕ) (i : ℕ) → AreMatched path leaves matched →
+    (slice_index matched i ≡ length path → ⊥) → (l : Leaf) → slice_get leaves i ≡ Some l → IsFront path l.path → ⊥
+not_there leaves path matched i m differs l here front =
+    differs (front_is_full path l.path (slice_index matched i) (m.each i l here) front)
+
+pub lies_there : (leaves : List Leaf) (path : List Decision) (matched : List ℕ) (i : ℕ) (l : Leaf) → AreMatched path leaves matched →
+    slice_get leaves i ≡ Some l → slice_index matched i ≡ length path → IsFront path l.path
+lies_there leaves path matched i l m here same = full_is_front path l.path (slice_index matched i) (m.each i l here) same
+
+pub agree_when : (found : Option Node) (m n : Node) → found ≡ Some m → Agree m n → (o : Node) → found ≡ Some o → Agree o n
+agree_when found m n e agree o f = let same : m ≡ o = cc in subst (λ x. Agree x n) same agree
+
+pub agree_never : (found : Option Node) (n : Node) → found ≡ None → (o : Node) → found ≡ Some o → Agree o n
+agree_never found n e o f = cc
+
+-- the leaves of which it is told anew are all
+pub all_rematched : (path : List Decision) (leaves : List Leaf) (before after : List ℕ) (i : ℕ) → length leaves ≤ i →
+    IsRematched path leaves before after i → (old : List Decision) → KeepsFront old path → AreMatched old leaves before →
+    AreMatched path leaves after
+all_rematched path leaves before after i le r old keeps m =
+    record {
+      size = r.size;
+      each = λ k l here.
+          let lt : k < length leaves = slice_get_within leaves k l here in
+          r.done k l (omega arith) here old (m.each k l here) keeps;
+    }
+
+pub none_rematched : (path : List Decision) (leaves : List Leaf) (before : List ℕ) → length before ≡ length leaves →
+    IsRematched path leaves before before 0
+none_rematched path leaves before size =
+    record { size = size; done = λ k l lt here. absurd (omega arith); left = λ k le. refl }
+
+-- one more leaf
+pub one_rematched : (path : List Decision) (leaves : List Leaf) (before now : List ℕ) (i n : ℕ) (l : Leaf) → slice_get leaves i ≡ Some l →
+    Improves path l.path (slice_index now i) n → IsRematched path leaves before now i →
+    IsRematched path leaves before (set now i n) (i + 1)
+one_rematched path leaves before now i n l here better r =
+    record {
+      size = length-set now i n ∙ r.size;
+      done = λ k m lt there.
+          elim (cases_lt k i) [
+            | inl b ↦
+                let ne : k ≢ i = omega arith in
+                let stays : slice_index (set now i n) k ≡ slice_index now k = get_or-set_other now i k n 0 ne in
+                subst (Improves path m.path (slice_index before k)) (sym stays) (r.done k m b there)
+            | inr q ↦ last k m (the_last k i lt q) there
+          ];
+      left = λ k le.
+          let ne : k ≢ i = omega arith in
+          get_or-set_other now i k n 0 ne ∙ r.left k (omega arith);
+    }
+  where
+    last : (k : ℕ) (m : Leaf) → k ≡ i → slice_get leaves k ≡ Some m →
+        Improves path m.path (slice_index before k) (slice_index (set now i n) k)
+    last k m e there =
+        let same : m ≡ l = same_leaf leaves i k l m (sym e) here there in
+        let lt : i < length leaves = slice_get_within leaves i l here in
+        let size : length now ≡ length leaves = r.size in
+        let lt' : k < length now = omega arith in
+        let old : slice_index now i ≡ slice_index before k = r.left i (omega arith) ∙ ap (slice_index before) (sym e) in
+        let new : slice_index (set now i n) k ≡ n = rw e (get_or-set_same now i n 0 (omega arith)) in
+        let h : Improves path m.path (slice_index before k) n =
+        subst (λ x. Improves path m.path x n) old (subst (λ (x : Leaf). Improves path x.path (slice_index now i) n) (sym same) better) in
+        subst (Improves path m.path (slice_index before k)) (sym new) h
+
+-- the choice that the leaf asks for is not written in order
+pub asks_badly_at : (path : List Decision) (l : Leaf) (whole : List Decision) (d : Decision) (c : Choice) → whole ≡ l.path →
+    IsFront path l.path → length path < length whole → c ≡ choice_of (get_or whole (length path) d) → false ≡ is_ordered c →
+    IsAskedOf path l None
+asks_badly_at path l whole d c e front lt is o =
+    let lt' : length path < length l.path = rw (← e) lt in
+    let x : Decision = get_or l.path (length path) d in
+    let same : c ≡ choice_of x = is ∙ ap (λ xs. choice_of (get_or xs (length path) d)) e in
+    asks_badly path l x front lt' (get_or_default l.path (length path) d x lt') (ap is_ordered (sym same) ∙ sym o)

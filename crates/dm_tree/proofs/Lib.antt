@@ -1,0 +1,9 @@
+pub mod Filled
+pub mod Walked
+pub mod Shown
+pub mod Standing
+pub mod WorkedPlan
+pub mod Matching
+pub mod Asking
+pub mod Given
+pub mod Growing

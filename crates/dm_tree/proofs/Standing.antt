@@ -1,0 +1,173 @@
+-- What stands at the paths of a tree.
+use Rattle.std.proofs.Common.{◌≡◌, ◌≢◌, ℕ, ◌+◌, ◌<◌, Bool, true, false, cond, List, [], ◌∷◌, ◌++◌, length, refl, sym, ap, subst, ◌∙◌, ◌⊎◌, inl, inr, arith, Some, None, append_assoc, append-nil, ltb, lt-ltb}
+use Rattle.std.specs.Prelude.{Contains}
+use Rattle.std.proofs.lemmas.Bool.{le-ltb}
+use Rattle.std.proofs.lemmas.List.Elements.{Contains-append_left, Contains-append_right, Contains-append_cases, Contains-push_cases}
+use Rattle.dm_base.specs.declared.ids.EventId.{EventId}
+use Rattle.dm_rows.specs.declared.messages.Choice.{Choice}
+use Rattle.dm_rows.specs.declared.messages.Choice.TheVariants.{Change, Pair}
+use Rattle.dm_rows.specs.declared.messages.Decision.{Decision}
+use Rattle.dm_rows.specs.declared.messages.Decision.TheVariants.{Keep, Drop, First}
+use Rattle.dm_rows.specs.Decide.{choice_of}
+use Rattle.dm_tree.specs.declared.forms.Node.{Node}
+use Rattle.dm_tree.specs.declared.forms.Node.TheVariants.{Inner, Cycle, Bound, Open, Hole}
+use Rattle.dm_tree.specs.declared.forms.Leaf.{Leaf}
+use Rattle.dm_tree.specs.Trees.{Shape, leaf, branch, preorder, IsOrdered, IsLeaf, IsProper, StandsAt, first_decision, second_decision}
+use Rattle.dm_tree.specs.Inside.Filling.{visits}
+
+-- the choice that a first, a second decision decides
+first_decides : (c : Choice) → IsOrdered c → choice_of (first_decision c) ≡ c
+first_decides (Change a) o = refl
+first_decides (Pair i j) o = rw (lt-ltb i.0 j.0 o) refl
+
+second_decides : (c : Choice) → IsOrdered c → choice_of (second_decision c) ≡ c
+second_decides (Change a) o = refl
+second_decides (Pair i j) o = rw (le-ltb j.0 i.0 (omega arith)) refl
+
+-- a decision of a choice in order is its first or its second
+pub is_either : (d : Decision) (c : Choice) → choice_of d ≡ c → (d ≡ first_decision c) ⊎ (d ≡ second_decision c)
+is_either (Keep a) c e = inl (ap first_decision e)
+is_either (Drop a) c e = inr (ap second_decision e)
+is_either (First i j) c e = by_order (ltb i.0 j.0) e
+  where
+    by_order : (t : Bool) → cond t (Pair i j) (Pair j i) ≡ c → (First i j ≡ first_decision c) ⊎ (First i j ≡ second_decision c)
+    by_order true e = inl (ap first_decision e)
+    by_order false e = inr (ap second_decision e)
+
+-- the two decisions of a choice differ
+two_decisions : (c : Choice) → IsOrdered c → first_decision c ≡ second_decision c → ⊥
+two_decisions (Change a) o e = cc
+two_decisions (Pair i j) o e = let same : i ≡ j = cc in let nums : i.0 ≡ j.0 = ap (λ (x : EventId). x.0) same in omega arith
+
+-- one node stands at a path
+pub one_stands : (t : Shape) (path : List Decision) (m n : Node) → IsProper t → StandsAt t path m → StandsAt t path n → m ≡ n
+one_stands (leaf x) [] m n p s r = sym s ∙ r
+one_stands (leaf x) (d ∷ path) m n p s r = elim s [ ]
+one_stands (branch c a b) [] m n p s r = sym s ∙ r
+one_stands (branch c a b) (d ∷ path) m n p (inl s) (inl r) = one_stands a path m n p.1 s.1 r.1
+one_stands (branch c a b) (d ∷ path) m n p (inl s) (inr r) = absurd (two_decisions c p.0 (sym s.0 ∙ r.0))
+one_stands (branch c a b) (d ∷ path) m n p (inr s) (inl r) = absurd (two_decisions c p.0 (sym r.0 ∙ s.0))
+one_stands (branch c a b) (d ∷ path) m n p (inr s) (inr r) = one_stands b path m n p.2 s.1 r.1
+
+-- above a node stands the choice that the next decision decides, written in order
+pub stands_above : (t : Shape) (path rest : List Decision) (d : Decision) (n : Node) → IsProper t →
+    StandsAt t (path ++ d ∷ rest) n → StandsAt t path (Inner (choice_of d)) × IsOrdered (choice_of d)
+stands_above (leaf x) [] rest d n p s = elim s [ ]
+stands_above (leaf x) (e ∷ path) rest d n p s = elim s [ ]
+stands_above (branch c a b) [] rest d n p (inl s) =
+    let same : choice_of d ≡ c = ap choice_of s.0 ∙ first_decides c p.0 in
+    (ap Inner (sym same), subst IsOrdered (sym same) p.0)
+stands_above (branch c a b) [] rest d n p (inr s) =
+    let same : choice_of d ≡ c = ap choice_of s.0 ∙ second_decides c p.0 in
+    (ap Inner (sym same), subst IsOrdered (sym same) p.0)
+stands_above (branch c a b) (e ∷ path) rest d n p (inl s) =
+    let r = stands_above a path rest d n p.1 s.1 in (inl (s.0, r.0), r.1)
+stands_above (branch c a b) (e ∷ path) rest d n p (inr s) =
+    let r = stands_above b path rest d n p.2 s.1 in (inr (s.0, r.0), r.1)
+
+-- all that stands in a tree at a path, in preorder
+abbrev pub visits_below : List Decision → Shape → List Leaf
+visits_below path (leaf n) = (record { path = path; node = n }) ∷ []
+visits_below path (branch c a b) =
+    (record { path = path; node = Inner c })
+    ∷ visits_below (path ++ first_decision c ∷ []) a ++ visits_below (path ++ second_decision c ∷ []) b
+
+pub visits_filled : (path : List Decision) (due : List (List Decision)) (t : Shape) (ns : List Node) → IsProper t →
+    visits (path ∷ due) (preorder t ++ ns) ≡ visits_below path t ++ visits due ns
+visits_filled path due (leaf (Inner c)) ns p = elim p [ ]
+visits_filled path due (leaf Cycle) ns p = refl
+visits_filled path due (leaf (Bound c)) ns p = refl
+visits_filled path due (leaf (Open c)) ns p = refl
+visits_filled path due (leaf Hole) ns p = refl
+visits_filled path due (branch c a b) ns p =
+    let first = path ++ first_decision c ∷ [] in
+    let second = path ++ second_decision c ∷ [] in
+    rw (append_assoc (preorder a) (preorder b) ns)
+    (ap (λ xs. (record { path = path; node = Inner c }) ∷ xs)
+    (visits_filled first (second ∷ due) a (preorder b ++ ns) p.1
+    ∙ (ap (λ xs. visits_below first a ++ xs) (visits_filled second due b ns p.2)
+    ∙ sym (append_assoc (visits_below first a) (visits_below second b) (visits due ns)))))
+
+in_front : (x : Leaf) (xs : List Leaf) → Contains (x ∷ xs) x
+in_front x xs = (0, omega arith, refl)
+
+behind_front : (x y : Leaf) (xs : List Leaf) → Contains xs y → Contains (x ∷ xs) y
+behind_front x y xs h = Contains-append_right (x ∷ []) xs y h
+
+front_or_behind : (x y : Leaf) (xs : List Leaf) → Contains (x ∷ xs) y → (x ≡ y) ⊎ Contains xs y
+front_or_behind x y xs h =
+    elim (Contains-append_cases (x ∷ []) xs y h) [ inl s ↦ inl (alone x y s) | inr r ↦ inr r ]
+  where
+    alone : (x y : Leaf) → Contains (x ∷ []) y → x ≡ y
+    alone x y h = elim (Contains-push_cases [] x y h) [ inl r ↦ absurd (omega (arith, r.1)) | inr e ↦ e ]
+
+-- what stands at a path is among all that stands
+pub stands_among : (path : List Decision) (t : Shape) (q : List Decision) (n : Node) → StandsAt t q n →
+    Contains (visits_below path t) (record { path = path ++ q; node = n })
+stands_among path (leaf x) [] n s = rw (append-nil path, ← s) (in_front (record { path = path; node = x }) [])
+stands_among path (leaf x) (d ∷ q) n s = elim s [ ]
+stands_among path (branch c a b) [] n s =
+    rw (append-nil path, ← s) (in_front (record { path = path; node = Inner c }) _)
+stands_among path (branch c a b) (d ∷ q) n (inl s) =
+    let first = path ++ first_decision c ∷ [] in
+    let r : Contains (visits_below first a) (record { path = first ++ q; node = n }) = stands_among first a q n s.1 in
+    let e : first ++ q ≡ path ++ d ∷ q = rw s.0 (append_assoc path (first_decision c ∷ []) q) in
+    let here : Leaf = record { path = path ++ d ∷ q; node = n } in
+    let r' : Contains (visits_below first a) here = subst (λ p. Contains (visits_below first a) (record { path = p; node = n })) e r in
+    behind_front (record { path = path; node = Inner c }) here _
+    (Contains-append_left (visits_below (path ++ first_decision c ∷ []) a) (visits_below (path ++ second_decision c ∷ []) b) here r')
+stands_among path (branch c a b) (d ∷ q) n (inr s) =
+    let second = path ++ second_decision c ∷ [] in
+    let r : Contains (visits_below second b) (record { path = second ++ q; node = n }) = stands_among second b q n s.1 in
+    let e : second ++ q ≡ path ++ d ∷ q = rw s.0 (append_assoc path (second_decision c ∷ []) q) in
+    let here : Leaf = record { path = path ++ d ∷ q; node = n } in
+    let r' : Contains (visits_below second b) here = subst (λ p. Contains (visits_below second b) (record { path = p; node = n })) e r in
+    behind_front (record { path = path; node = Inner c }) here _
+    (Contains-append_right (visits_below (path ++ first_decision c ∷ []) a) (visits_below (path ++ second_decision c ∷ []) b) here r')
+
+-- and all that stands there has such a path
+pub record IsBelow (path : List Decision) (t : Shape) (l : Leaf) : Type 0 where
+  pub rest : List Decision
+  pub is : l.path ≡ path ++ rest
+  pub stands : StandsAt t rest l.node
+
+pub among_stands : (path : List Decision) (t : Shape) (l : Leaf) → Contains (visits_below path t) l → IsBelow path t l
+among_stands path (leaf x) l h =
+    elim (front_or_behind (record { path = path; node = x }) l [] h) [
+      | inl e ↦
+          record {
+            rest = [];
+            is = sym (ap (λ (y : Leaf). y.path) e) ∙ sym (append-nil path);
+            stands = ap (λ (y : Leaf). y.node) e;
+          }
+      | inr r ↦ absurd (omega (arith, r.1))
+    ]
+among_stands path (branch c a b) l h =
+    elim (front_or_behind (record { path = path; node = Inner c }) l _ h) [
+      | inl e ↦
+          record {
+            rest = [];
+            is = sym (ap (λ (y : Leaf). y.path) e) ∙ sym (append-nil path);
+            stands = ap (λ (y : Leaf). y.node) e;
+          }
+      | inr r ↦ elim (Contains-append_cases _ _ l r) [
+        | inl s ↦ from_first (among_stands (path ++ first_decision c ∷ []) a l s)
+        | inr s ↦ from_second (among_stands (path ++ second_decision c ∷ []) b l s)
+      ]
+    ]
+  where
+    from_first : IsBelow (path ++ first_decision c ∷ []) a l → IsBelow path (branch c a b) l
+    from_first s =
+        record {
+          rest = first_decision c ∷ s.rest;
+          is = s.is ∙ append_assoc path (first_decision c ∷ []) s.rest;
+          stands = inl (refl, s.stands);
+        }
+
+    from_second : IsBelow (path ++ second_decision c ∷ []) b l → IsBelow path (branch c a b) l
+    from_second s =
+        record {
+          rest = second_decision c ∷ s.rest;
+          is = s.is ∙ append_assoc path (second_decision c ∷ []) s.rest;
+          stands = inr (refl, s.stands);
+        }

@@ -1,0 +1,5 @@
+use Rattle.dm_tree.specs.Inside.Assembling.{IsDraft}
+use Rattle.dm_tree.proofs.assembly.assemble.Given as goal
+
+abbrev pub invariant-loop : goal.invariant-loop
+invariant-loop l = IsDraft l.leaves.items l.draft.nodes.items l.draft.path.items l.draft.matched.items

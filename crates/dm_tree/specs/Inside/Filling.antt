@@ -1,0 +1,70 @@
+-- Nodes read from the left: which places are still due, and what stands at them.
+use Rattle.std.specs.Prelude.{ℕ, ◌==◌, ◌+◌, ◌-◌, ◌&&◌, nat_lt, Bool, true, false, not, List, [], ◌∷◌, ◌++◌, reverse, if◌then◌else◌}
+use Rattle.dm_rows.specs.declared.messages.Choice.{Choice}
+use Rattle.dm_rows.specs.declared.messages.Choice.TheVariants.{Change, Pair}
+use Rattle.dm_rows.specs.declared.messages.Decision.{Decision}
+use Rattle.dm_rows.specs.declared.messages.Decision.TheVariants.{Keep, Drop, First}
+use Rattle.dm_tree.specs.declared.forms.Node.{Node}
+use Rattle.dm_tree.specs.declared.forms.Node.TheVariants.{Inner, Cycle, Bound, Open, Hole}
+use Rattle.dm_tree.specs.declared.forms.Leaf.{Leaf}
+use Rattle.dm_tree.specs.Trees.{first_decision, second_decision}
+
+abbrev pub is_ordered : Choice → Bool
+is_ordered (Change a) = true
+is_ordered (Pair i j) = nat_lt i.0 j.0
+
+abbrev pub is_none_left : List Node → Bool
+is_none_left [] = true
+is_none_left (n ∷ ns) = false
+
+-- The nodes are, in preorder, one tree and so many more after it. `holes` says whether holes may stand in them.
+abbrev pub fills : Bool → ℕ → List Node → Bool
+fills holes more [] = false
+fills holes more (Inner c ∷ ns) = is_ordered c && fills holes (more + 1) ns
+fills holes more (Cycle ∷ ns) = if more == 0 then is_none_left ns else fills holes (more - 1) ns
+fills holes more (Bound c ∷ ns) = if more == 0 then is_none_left ns else fills holes (more - 1) ns
+fills holes more (Open c ∷ ns) = if more == 0 then is_none_left ns else fills holes (more - 1) ns
+fills holes more (Hole ∷ ns) = holes && (if more == 0 then is_none_left ns else fills holes (more - 1) ns)
+
+-- what stands at the places due, whose paths are listed, where the nodes are read from the left
+abbrev pub visits : List (List Decision) → List Node → List Leaf
+visits due [] = []
+visits [] (n ∷ ns) = []
+visits (p ∷ due) (Inner c ∷ ns) =
+    (record { path = p; node = Inner c }) ∷ visits ((p ++ first_decision c ∷ []) ∷ (p ++ second_decision c ∷ []) ∷ due) ns
+visits (p ∷ due) (Cycle ∷ ns) = (record { path = p; node = Cycle }) ∷ visits due ns
+visits (p ∷ due) (Bound c ∷ ns) = (record { path = p; node = Bound c }) ∷ visits due ns
+visits (p ∷ due) (Open c ∷ ns) = (record { path = p; node = Open c }) ∷ visits due ns
+visits (p ∷ due) (Hole ∷ ns) = (record { path = p; node = Hole }) ∷ visits due ns
+
+-- the leaves among them
+abbrev pub leaves_due : List (List Decision) → List Node → List Leaf
+leaves_due due [] = []
+leaves_due [] (n ∷ ns) = []
+leaves_due (p ∷ due) (Inner c ∷ ns) =
+    leaves_due ((p ++ first_decision c ∷ []) ∷ (p ++ second_decision c ∷ []) ∷ due) ns
+leaves_due (p ∷ due) (Cycle ∷ ns) = (record { path = p; node = Cycle }) ∷ leaves_due due ns
+leaves_due (p ∷ due) (Bound c ∷ ns) = (record { path = p; node = Bound c }) ∷ leaves_due due ns
+leaves_due (p ∷ due) (Open c ∷ ns) = (record { path = p; node = Open c }) ∷ leaves_due due ns
+leaves_due (p ∷ due) (Hole ∷ ns) = (record { path = p; node = Hole }) ∷ leaves_due due ns
+
+-- a first decision of its choice, and the other decision of the same choice
+abbrev pub is_first_decision : Decision → Bool
+is_first_decision (Keep a) = true
+is_first_decision (Drop a) = false
+is_first_decision (First i j) = nat_lt i.0 j.0
+
+abbrev pub other_decision : Decision → Decision
+other_decision (Keep a) = Drop a
+other_decision (Drop a) = Keep a
+other_decision (First i j) = First j i
+
+-- the places due behind a path, which is given from its last decision on: the second children along it
+abbrev pub behind : List Decision → List (List Decision)
+behind [] = []
+behind (d ∷ back) =
+    if is_first_decision d then (reverse back ++ other_decision d ∷ []) ∷ behind back else behind back
+
+-- the places due behind a path
+abbrev pub pending : List Decision → List (List Decision)
+pending path = behind (reverse path)

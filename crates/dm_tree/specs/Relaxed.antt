@@ -1,0 +1,40 @@
+-- The relaxed problem of a path: the timetables over the activities that it holds, and their cost.
+use Rattle.std.specs.Prelude.{ℕ, ◌≡◌, List, Contains}
+use Rattle.dm_network.specs.Net.{Net}
+use Rattle.dm_network.specs.Held.{IsCycleOf, HasNoCycleOf}
+use Rattle.dm_rows.specs.declared.messages.Decision.{Decision}
+use Rattle.dm_rows.specs.declared.messages.Choice.{Choice}
+use Rattle.dm_rows.specs.Rows.{RowsValue}
+use Rattle.dm_rows.specs.Timetable.{IsLeastHolding}
+use Rattle.dm_rows.specs.Cost.{cost_charging}
+use Rattle.dm_rows.specs.Decide.{with_decisions}
+use Rattle.dm_rows.specs.Relax.{is_relaxed_active, is_relaxed_dropped, violated_choices_of}
+
+-- A timetable is least in the relaxed problem of a path where it is least for the rows with the path's decisions, holding
+-- what is active there but for the activities of undecided choices.
+abbrev pub IsRelaxedLeast : Net → RowsValue → List Decision → List ℕ → Type 0
+IsRelaxedLeast net rows path x =
+    IsLeastHolding net (with_decisions net rows path) (is_relaxed_active net rows path) x
+
+-- The relaxed cost: weight times lateness over the arrivals, and the penalty for each dropped change that the path decides
+-- or that is not free, and for each frozen miss.
+abbrev pub relaxed_cost_of : Net → RowsValue → List Decision → List ℕ → ℕ → ℕ
+relaxed_cost_of net rows path x penalty =
+    cost_charging net (with_decisions net rows path) (is_relaxed_dropped net rows path) x penalty
+
+-- the relaxed problem of the path costs c: the relaxed cost of its least timetable
+pub record RelaxedCosts (net : Net) (rows : RowsValue) (path : List Decision) (penalty c : ℕ) : Type 0 where
+  pub times : List ℕ
+  pub least : IsRelaxedLeast net rows path times
+  pub cost : c ≡ relaxed_cost_of net rows path times penalty
+
+-- a cycle of what the relaxed problem holds, and that there is none
+abbrev pub IsRelaxedCycle : Net → RowsValue → List Decision → List ℕ → Type 0
+IsRelaxedCycle net rows path cycle = IsCycleOf net (is_relaxed_active net rows path) cycle
+
+abbrev pub HasNoRelaxedCycle : Net → RowsValue → List Decision → Type 0
+HasNoRelaxedCycle net rows path = HasNoCycleOf net (is_relaxed_active net rows path)
+
+-- the choice is free, the path leaves it undecided, and the timetable does not keep it
+abbrev pub IsViolated : Net → RowsValue → List Decision → List ℕ → Choice → Type 0
+IsViolated net rows path x choice = Contains (violated_choices_of net rows path x) choice

@@ -1,0 +1,17 @@
+//! What holds of all trees and plans. A law has no code: it is proved as the contract of an empty function.
+ghost use Rattle.dm_tree.specs.Worked.{LeavesNoneOpen, PresentChoicesAreNotShown, WorkedPlanIsTrue};
+
+/// Where two trains meet and the first is a minute late, seven nodes are enough, so that a plan may leave none open.
+pub fn leaves_none_open()
+    ensures { LeavesNoneOpen }
+{}
+
+/// There a plan that drops the change and lets the second train go first is true, and marked optimal.
+pub fn worked_plan_is_true()
+    ensures { WorkedPlanIsTrue }
+{}
+
+/// And one that marks the present choices optimal, with the root as its one leaf at their cost, is not.
+pub fn present_choices_are_not_shown()
+    ensures { PresentChoicesAreNotShown }
+{}

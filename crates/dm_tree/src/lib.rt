@@ -1,0 +1,24 @@
+//! Trees of choices, the relaxed problem of a path of decisions, and what a true and an optimal plan is.
+//!
+//! It stands on dm_rows. Its `specs/` say what a plan promises: its choices, its cost, its bound and the tree that shows
+//! that nothing was overlooked. The code makes and reads trees, which are lists of nodes in preorder: [`assemble`] gives the
+//! least tree with given leaves, [`Tree::from_nodes`] takes one whole tree, [`leaves`] gives its leaves with their paths.
+//! A path may be 8,191 decisions long, so all is walked by loops. No time and no cost is computed here.
+#![tactic(auto)]
+
+mod assembly;
+mod drafts;
+mod forms;
+pub mod laws;
+mod partial;
+mod paths;
+mod plans;
+mod walks;
+mod whole;
+
+pub use assembly::assemble;
+pub use forms::{AssembleFault, Leaf, Mark, Node};
+pub use partial::Partial;
+pub use plans::Plan;
+pub use walks::leaves;
+pub use whole::{Tree, nodes};
