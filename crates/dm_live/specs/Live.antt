@@ -1,14 +1,14 @@
 -- A timetable that is kept while what its events are held to changes.
 use Rattle.std.specs.Prelude.{ℕ, nat_eq, ◌≡◌, ◌≢◌, ◌+◌, ◌<◌, ◌⊎◌, Bool, true, false, List, length, slice_index, slice_set}
 use Rattle.std.specs.List.{Contains, IsDistinct}
-use Rattle.dm_graph.specs.Arcs.{Arcs}
+use Rattle.dm_graph.specs.Arcs.{Arcs, Binds}
 use Rattle.dm_graph.specs.Graph.{Graph}
 use Rattle.dm_network.specs.Net.{Net, activity_at}
 use Rattle.dm_network.specs.Held.{is_held}
 use Rattle.dm_order.specs.Value.{OrderValue}
 use Rattle.dm_order.specs.Orders.{IsOrderOf}
 use Rattle.dm_settle.specs.Constraints.{ConstraintsValue, IsSizedFor, graph_given}
-use Rattle.dm_settle.specs.Settling.{IsSettled, Follows}
+use Rattle.dm_settle.specs.Settling.{IsSettled, LeadsOn, Follows}
 use Rattle.dm_settle.specs.Marked.{is_marked, NoneFrom}
 
 -- what the events are held to, an order of the held activities, the times of the events, and which events are marked
@@ -56,6 +56,24 @@ with_span given a span = record given { spans = slice_set given.spans a span }
 
 abbrev pub with_held : ConstraintsValue → ℕ → Bool → ConstraintsValue
 with_held given a held = record given { held = slice_set given.held a held }
+
+-- beside the marks before, the heads of the arcs that bind out of the event are marked, and no other event
+pub record MarksHeads (g : Arcs) (event : ℕ) (before now : List Bool) : Type 0 where
+  pub as_many : length now ≡ length before
+  pub kept : (e : ℕ) → is_marked before e ≡ true → is_marked now e ≡ true
+  pub heads : (a : ℕ) → Binds g a → g.tail a ≡ event → is_marked now (g.head a) ≡ true
+  pub only : (e : ℕ) → is_marked now e ≡ true → (is_marked before e ≡ true) ⊎ LeadsOn g event e
+
+-- nothing that is held enters the event
+abbrev pub IsEnteredByNone : Net → List Bool → ℕ → Type 0
+IsEnteredByNone net held i = (a : ℕ) → a < length net.activities → is_held held a ≡ true → (activity_at net a).head ≢ i
+
+-- The event has its time, so that it is not marked. Where its time differs, the heads of the arcs that bind out of it are
+-- marked, which reads one row; else no row is read.
+pub record IsFixed (g : Arcs) (i time : ℕ) (before after : LiveValue) (first last : ℕ) : Type 0 where
+  pub times : after.times ≡ slice_set before.times i time
+  pub stays : slice_index before.times i ≡ time → (after.marks ≡ slice_set before.marks i false) × (last ≡ first)
+  pub moves : slice_index before.times i ≢ time → MarksHeads g i (slice_set before.marks i false) after.marks × (last ≡ first + 1)
 
 -- Which rows are read while it settles: of each event in `renewed` the one in, of each in `moved` the one out, each once.
 -- An event is renewed because it was marked or follows one that has moved. One has moved if its time differs.

@@ -5,8 +5,9 @@ ghost use Rattle.dm_network.specs.Held.{is_held, IsCycleOf, HasNoCycleOf};
 ghost use Rattle.dm_order.specs.Orders.{IsOrderOf};
 ghost use Rattle.dm_settle.specs.Constraints.{IsSizedFor, arcs_given, graph_given};
 ghost use Rattle.dm_settle.specs.Settling.{AreLeast, AreEarly};
-ghost use Rattle.dm_live.specs.Live.{IsLive, IsAtRest, HoldAlike, ReadsFew, with_mark, with_head, with_floor, with_span, with_held};
+ghost use Rattle.dm_live.specs.Live.{IsLive, IsAtRest, HoldAlike, IsEnteredByNone, IsFixed, ReadsFew, with_mark, with_head, with_floor, with_span, with_held};
 
+use crate::marking::mark_heads;
 use crate::placing::place_marks;
 use dm_base::{Secs, Steps};
 use dm_graph::search::Cyclic;
@@ -123,6 +124,27 @@ impl LiveTimetable {
         self.constraints.set_floor(i, floor);
         if falls || late {
             self.marks.mark(i);
+        }
+    }
+
+    /// Fixes the time of an event into which nothing is held: this is its floor and its time, and it is not marked. Where its
+    /// time differs, the heads of the held activities out of it are marked, which reads one row.
+    pub fn fix<L: Ledger>(&mut self, net: &Network, i: usize, time: Secs, steps: &mut Steps<L>)
+        requires live { IsLive net.now self.old }
+        requires is_event { i < length net.now.events }
+        requires entered { IsEnteredByNone net.now self.old.given.held i }
+        requires limit { time ≤ PASSED_TIME }
+        ensures live { IsLive net.now self.new }
+        ensures fixed { IsFixed (arcs_given net.now self.old.given) i time self.old self.new steps.old steps.new }
+        ensures floor { self.new.given ≡ with_floor self.old.given i time }
+        ensures order { self.new.order ≡ self.old.order }
+    {
+        let differs = self.time(i) != time;
+        self.constraints.set_floor(i, time);
+        self.times[i] = time;
+        self.marks.clear(i);
+        if differs {
+            mark_heads(&mut self.marks, net, &self.constraints, i, steps);
         }
     }
 
