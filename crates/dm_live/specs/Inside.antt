@@ -1,0 +1,4 @@
+-- Marks of events that are brought to their places in the order.
+pub mod Placing
+-- Heads that are marked one after another.
+pub mod Marking

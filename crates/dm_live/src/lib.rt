@@ -1,0 +1,18 @@
+//! The timetable of a network that is kept least while what its events are held to changes.
+//!
+//! It stands on dm_settle, whose pass computes times, and on dm_order, whose order the pass goes along; why an activity is
+//! held, or an event has its floor, it does not know. A [`LiveTimetable`] has constraints, an order of the activities that
+//! they hold, the times of the events, and marks. A move changes a floor or a span, holds an activity or lets it go, and
+//! marks the one event whose time that may change at once; it reads no row. After any number of moves
+//! [`LiveTimetable::settle`] computes the marked events anew, goes on from those whose times change, and leaves the least
+//! timetable. [`LiveTimetable::fix`] gives an event into which nothing is held its time at once, as one that passes. An
+//! activity that would make a cycle with those held is refused, and nothing has changed then. Once it is made, a timetable
+//! takes no memory.
+#![tactic(auto)]
+
+pub mod laws;
+mod marking;
+mod placing;
+mod timetable;
+
+pub use timetable::LiveTimetable;

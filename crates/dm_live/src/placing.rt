@@ -1,0 +1,24 @@
+//! Marks of events, brought to the places of the events in an order.
+ghost use Rattle.std.specs.Prelude.{ℕ, ◌≡◌, ◌<◌, length, slice_index};
+ghost use Rattle.dm_settle.specs.Marked.{NoneFrom};
+ghost use Rattle.dm_live.specs.Inside.Placing.{ArePlaced, IsClear};
+ghost use Rattle.dm_graph.specs.Arrays.{AreRanks};
+
+use dm_settle::Marks;
+
+/// Brings the marks of the events to their places in the order. It looks at the marked events alone.
+pub fn place_marks(marks: &mut Marks, order: &[usize], ranks: &[usize], placed: &mut Marks)
+    requires ranks { AreRanks (length marks.old) order.now ranks.now }
+    requires clear { IsClear (length marks.old) placed.old }
+    ensures placed { ArePlaced (length marks.old) ranks.now marks.old placed.new }
+    ensures room { length marks.new ≡ length marks.old }
+    ensures none_left { NoneFrom marks.new 0 }
+{
+    let _events = order.len();
+    let mut from = 0;
+    while let Some(event) = marks.first_from(from) {
+        marks.clear(event);
+        placed.mark(ranks[event]);
+        from = event + 1;
+    }
+}

@@ -1,0 +1,251 @@
+//! The timetable, its moves and its readers.
+ghost use Rattle.std.specs.Prelude.{ℕ, ◌≡◌, ◌+◌, ◌<◌, ◌≤◌, ◌⊎◌, true, false, length, replicate, slice_index, IfOk, OnOk, OnErr};
+ghost use Rattle.dm_base.specs.declared.limits.TheConstants.{PASSED_TIME, BOUND, DELAY};
+ghost use Rattle.dm_network.specs.Held.{is_held, IsCycleOf, HasNoCycleOf};
+ghost use Rattle.dm_order.specs.Orders.{IsOrderOf};
+ghost use Rattle.dm_settle.specs.Constraints.{IsSizedFor, arcs_given, graph_given};
+ghost use Rattle.dm_settle.specs.Settling.{AreLeast, AreEarly};
+ghost use Rattle.dm_live.specs.Live.{IsLive, IsAtRest, HoldAlike, IsEnteredByNone, IsFixed, ReadsFew, with_mark, with_head, with_floor, with_span, with_held};
+
+use crate::marking::mark_heads;
+use crate::placing::place_marks;
+use dm_base::{Secs, Steps};
+use dm_graph::search::Cyclic;
+use dm_network::Network;
+use dm_order::Order;
+use dm_settle::{Constraints, Marks};
+use std::alloc::{AllocError, Global};
+use std::marker::Model;
+use std::sync::ledger::Ledger;
+
+/// The times of the events of one network under constraints that change.
+///
+/// Events and activities go by place; times, floors and spans are seconds. Its calls take the network with which it was
+/// made, of which contracts say that it is live: [`LiveTimetable::new`] ensures it, and every call keeps it.
+#[derive(Drop)]
+pub struct LiveTimetable {
+    constraints: Constraints,
+    order: Order,
+    times: Vec<Secs>,
+
+    /// The events whose times may not be right, by place of the event.
+    marks: Marks,
+
+    /// Room for the marks of a pass, by place in the order. Between calls none is set.
+    placed: Marks,
+}
+
+impl Model for LiveTimetable {
+    ghost use Rattle.dm_live.specs.Live.{LiveValue};
+
+    ghost Value = { LiveValue };
+
+    ghost use Rattle.std.specs.Prelude.{length};
+    ghost use Rattle.dm_live.specs.Inside.Placing.{IsClear};
+
+    ghost view = { λ l. record { given = l.constraints; order = l.order; times = l.times.items; marks = l.marks } };
+
+    ghost invariant = { λ l. IsClear (length l.marks) l.placed };
+}
+
+impl LiveTimetable {
+    /// The timetable of these constraints, beside an order of the activities that they hold. Every event is marked:
+    /// [`LiveTimetable::settle`] computes the times.
+    pub fn new(
+        alloc: Global,
+        net: &Network,
+        constraints: Constraints,
+        order: Order,
+    ) -> Result<LiveTimetable, AllocError>
+        requires sized { IsSizedFor net.now constraints }
+        requires ordered { IsOrderOf net.now order }
+        requires alike { HoldAlike net.now order constraints }
+        ensures live { IfOk result (IsLive net.now) }
+        ensures given { IfOk result (λ live. live.given ≡ constraints) }
+        ensures order { IfOk result (λ live. live.order ≡ order) }
+        ensures marks { IfOk result (λ live. live.marks ≡ replicate (length net.now.events) true) }
+    {
+        let times = vec![in alloc; 0; net.events()]?;
+        let marks = Marks::all(alloc, net.events())?;
+        let placed = Marks::new(alloc, net.events())?;
+        Ok(LiveTimetable {
+            constraints,
+            order,
+            times,
+            marks,
+            placed,
+        })
+    }
+
+    /// Computes the marked events anew, and goes on along the held activities out of every event whose time changes. What
+    /// comes out is the least timetable of the constraints, and no mark is left.
+    pub fn settle<L: Ledger>(&mut self, net: &Network, steps: &mut Steps<L>)
+        requires { IsLive net.now self.old }
+        ensures least { AreLeast (graph_given net.now self.new.given) self.new.times }
+        ensures early { AreEarly self.new.times }
+        ensures live { IsLive net.now self.new }
+        ensures at_rest { IsAtRest self.new }
+        ensures unchanged { self.new ≡ record self.old { times = self.new.times; marks = self.new.marks } }
+        ensures few_reads { ReadsFew (arcs_given net.now self.old.given) self.old self.new steps.old steps.new }
+    {
+        net.sound();
+        place_marks(
+            &mut self.marks,
+            self.order.order(),
+            self.order.ranks(),
+            &mut self.placed,
+        );
+        self.placed.settle(
+            net,
+            &self.constraints,
+            self.order.order(),
+            self.order.ranks(),
+            &mut self.times,
+            steps,
+        );
+    }
+
+    /// Sets the floor of an event, at most the latest passed time. The event is marked where its floor falls or its time is
+    /// below the floor.
+    pub fn set_floor(&mut self, net: &Network, i: usize, floor: Secs)
+        requires live { IsLive net.now self.old }
+        requires is_event { i < length net.now.events }
+        requires limit { floor ≤ PASSED_TIME }
+        ensures live { IsLive net.now self.new }
+        ensures floor { self.new.given ≡ with_floor self.old.given i floor }
+        ensures marked { (floor < slice_index self.old.given.floors i) ⊎ (slice_index self.old.times i < floor) → self.new.marks ≡ with_mark self.old.marks i }
+        ensures unmarked { slice_index self.old.given.floors i ≤ floor → floor ≤ slice_index self.old.times i → self.new.marks ≡ self.old.marks }
+        ensures order { self.new.order ≡ self.old.order }
+        ensures times { self.new.times ≡ self.old.times }
+    {
+        let _events = net.events();
+        let falls = floor < self.floor(i);
+        let late = self.time(i) < floor;
+        self.constraints.set_floor(i, floor);
+        if falls || late {
+            self.marks.mark(i);
+        }
+    }
+
+    /// Fixes the time of an event into which nothing is held: this is its floor and its time, and it is not marked. Where its
+    /// time differs, the heads of the held activities out of it are marked, which reads one row.
+    pub fn fix<L: Ledger>(&mut self, net: &Network, i: usize, time: Secs, steps: &mut Steps<L>)
+        requires live { IsLive net.now self.old }
+        requires is_event { i < length net.now.events }
+        requires entered { IsEnteredByNone net.now self.old.given.held i }
+        requires limit { time ≤ PASSED_TIME }
+        ensures live { IsLive net.now self.new }
+        ensures fixed { IsFixed (arcs_given net.now self.old.given) i time self.old self.new steps.old steps.new }
+        ensures floor { self.new.given ≡ with_floor self.old.given i time }
+        ensures order { self.new.order ≡ self.old.order }
+    {
+        let differs = self.time(i) != time;
+        self.constraints.set_floor(i, time);
+        self.times[i] = time;
+        self.marks.clear(i);
+        if differs {
+            mark_heads(&mut self.marks, net, &self.constraints, i, steps);
+        }
+    }
+
+    /// Sets the span of an activity, at most a lower bound and a delay together, and marks the head.
+    pub fn set_span(&mut self, net: &Network, a: usize, span: Secs)
+        requires live { IsLive net.now self.old }
+        requires is_activity { a < length net.now.activities }
+        requires limit { span ≤ BOUND + DELAY }
+        ensures live { IsLive net.now self.new }
+        ensures span { self.new ≡ record self.old { given = with_span self.old.given a span; marks = with_head net.now self.old.marks a } }
+    {
+        net.sound();
+        self.constraints.set_span(a, span);
+        self.marks.mark(net.activity(a).head);
+    }
+
+    /// Lets an activity go, and marks the head.
+    pub fn release(&mut self, net: &Network, a: usize)
+        requires live { IsLive net.now self.old }
+        requires is_activity { a < length net.now.activities }
+        ensures live { IsLive net.now self.new }
+        ensures held { self.new.given ≡ with_held self.old.given a false }
+        ensures mark { self.new.marks ≡ with_head net.now self.old.marks a }
+        ensures times { self.new.times ≡ self.old.times }
+    {
+        net.sound();
+        self.order.remove(&[a]);
+        self.constraints.hold(a, false);
+        self.marks.mark(net.activity(a).head);
+    }
+
+    /// Holds an activity, and marks the head. Where it makes a cycle with those held, it is refused, nothing has changed,
+    /// and [`LiveTimetable::last_cycle`] is such a cycle.
+    pub fn hold(&mut self, net: &Network, a: usize) -> Result<(), Cyclic>
+        requires live { IsLive net.now self.old }
+        requires is_activity { a < length net.now.activities }
+        ensures live { IsLive net.now self.new }
+        ensures held { OnOk result (self.new.given ≡ with_held self.old.given a true) }
+        ensures mark { OnOk result (self.new.marks ≡ with_head net.now self.old.marks a) }
+        ensures times { self.new.times ≡ self.old.times }
+        ensures no_cycle { OnOk result (HasNoCycleOf net.now (is_held (with_held self.old.given a true).held)) }
+        ensures unchanged { OnErr result (self.new ≡ record self.old { order = record self.old.order { cycle = self.new.order.cycle } }) }
+        ensures cycle { OnErr result (IsCycleOf net.now (is_held (with_held self.old.given a true).held) self.new.order.cycle) }
+    {
+        net.sound();
+        match self.order.add(net, &[a]) {
+            Ok(()) => {
+                self.constraints.hold(a, true);
+                self.marks.mark(net.activity(a).head);
+                Ok(())
+            }
+            Err(Cyclic) => Err(Cyclic),
+        }
+    }
+
+    /// The times of the events.
+    pub fn times(&self) -> &[Secs]
+        ensures { result.now ≡ self.now.times }
+    {
+        &self.times
+    }
+
+    /// The time of the event at a place.
+    pub fn time(&self, i: usize) -> Secs
+        requires { i < length self.now.times }
+        ensures { result ≡ slice_index self.now.times i }
+    {
+        self.times[i]
+    }
+
+    /// Whether the activity at a place is held.
+    pub fn is_held(&self, a: usize) -> bool
+        requires { a < length self.now.given.held }
+        ensures { result ≡ is_held self.now.given.held a }
+    {
+        self.constraints.is_held(a)
+    }
+
+    /// The floor of the event at a place.
+    pub fn floor(&self, i: usize) -> Secs
+        requires { i < length self.now.given.floors }
+        ensures value { result ≡ slice_index self.now.given.floors i }
+        ensures limit { result ≤ PASSED_TIME }
+    {
+        self.constraints.floor(i)
+    }
+
+    /// The span of the activity at a place.
+    pub fn span(&self, a: usize) -> Secs
+        requires { a < length self.now.given.spans }
+        ensures value { result ≡ slice_index self.now.given.spans a }
+        ensures limit { result ≤ BOUND + DELAY }
+    {
+        self.constraints.span(a)
+    }
+
+    /// The activities of the cycle for which an activity was refused last, each head the next tail. After one that was not
+    /// refused it says nothing.
+    pub fn last_cycle(&self) -> &[usize]
+        ensures { result.now ≡ self.now.order.cycle }
+    {
+        self.order.last_cycle()
+    }
+}
