@@ -29,6 +29,13 @@ more_pairs f before now mid new n x y first second is was =
     more_lists f before now new n
     (second ∙ ap (λ r. r ++ y ∷ []) first ∙ append_assoc now (x ∷ []) (y ∷ []) ∙ ap (λ r. now ++ r) is) was
 
+-- two items pushed, one behind the other
+pub two_behind : {X : Type 0} → (now mid new : List X) (x y a b : X) → new ≡ mid ++ y ∷ [] → mid ≡ now ++ x ∷ [] → x ≡ a → y ≡ b
+    → new ≡ now ++ a ∷ b ∷ []
+two_behind now mid new x y a b second first one other =
+    second ∙ ap (λ r. r ++ y ∷ []) first ∙ append_assoc now (x ∷ []) (y ∷ []) ∙ ap (λ v. now ++ v ∷ y ∷ []) one
+    ∙ ap (λ v. now ++ a ∷ v ∷ []) other
+
 -- one item at a time
 pub more_items : {X : Type 0} → (f : ℕ → X) (before now new : List X) (n : ℕ) (x : X) → new ≡ now ++ x ∷ [] → x ≡ f n
     → now ≡ before ++ map f (range_with_len 0 n) → new ≡ before ++ map f (range_with_len 0 (n + 1))

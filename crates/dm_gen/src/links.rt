@@ -1,7 +1,7 @@
 //! The activities between the events of trains, before they have ids.
 ghost use Rattle.std.specs.Prelude.{◌≡◌, ◌+◌, ◌-◌, ◌<◌, ◌≤◌, ◌++◌, OnOk, IfOk, map};
 ghost use Rattle.std.specs.List.{flat_map, range_with_len};
-ghost use Rattle.dm_gen.specs.Activities.{drive, wait, headway, change, links_of_train, headways_of_train, links_of};
+ghost use Rattle.dm_gen.specs.Activities.{drive, wait, headway, headways_on_leg, change, links_of_train, headways_of_train, links_of};
 
 use crate::trains::{arrival_id, departure_id};
 use dm_base::{ActKind, EventId, Milli, Secs};
@@ -106,16 +106,26 @@ fn put_train(links: &mut Vec<Link>, train: u32) -> Result<(), AllocError>
     put_waits(links, train)
 }
 
-// Puts the headways of a train and the one eight behind it behind the links.
+// Puts the headways of a train and the one eight behind it on a leg behind the links.
+#[tactic(auto, using(crate::proofs::Growing::two_behind))]
+fn put_pair(links: &mut Vec<Link>, train: u32, leg: u32) -> Result<(), AllocError>
+    requires of_train { train + 8 < 2000 }
+    requires of_leg { leg < 10 }
+    ensures { OnOk result (links.new.items ≡ links.old.items ++ headways_on_leg train (train + 8) leg) }
+{
+    let other = train + 8;
+    links.push(headway(train, other, leg))?;
+    links.push(headway(other, train, leg))?;
+    Ok(())
+}
+
 #[tactic(auto, unfolding(crate::specs::Activities::headways_of_train))]
 fn put_headways(links: &mut Vec<Link>, train: u32) -> Result<(), AllocError>
     requires { train + 8 < 2000 }
     ensures { OnOk result (links.new.items ≡ links.old.items ++ headways_of_train train) }
 {
-    let other = train + 8;
     for leg in 0..10 {
-        links.push(headway(train, other, leg))?;
-        links.push(headway(other, train, leg))?;
+        put_pair(links, train, leg)?;
     }
     Ok(())
 }
