@@ -4,3 +4,4 @@ pub mod Moves
 pub mod Resting
 pub mod Heads
 pub mod Fixing
+pub mod Alike

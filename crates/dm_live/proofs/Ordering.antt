@@ -11,16 +11,16 @@ use Rattle.dm_settle.specs.Constraints.{ConstraintsValue}
 use Rattle.dm_live.specs.Live.{HoldAlike}
 
 -- one activity besides, or one less
-one_with : (held : List Bool) (a b : ℕ) → b ≡ a → held_with held (a ∷ []) b ≡ true
+pub one_with : (held : List Bool) (a b : ℕ) → b ≡ a → held_with held (a ∷ []) b ≡ true
 one_with held a b is = rw (eq-eqb b a is)
 
-others_with : (held : List Bool) (a b : ℕ) → b ≢ a → held_with held (a ∷ []) b ≡ is_held held b
+pub others_with : (held : List Bool) (a b : ℕ) → b ≢ a → held_with held (a ∷ []) b ≡ is_held held b
 others_with held a b ne = rw (ne_eqb b a ne)
 
-one_without : (held : List Bool) (a b : ℕ) → b ≡ a → held_without held (a ∷ []) b ≡ false
+pub one_without : (held : List Bool) (a b : ℕ) → b ≡ a → held_without held (a ∷ []) b ≡ false
 one_without held a b is = rw (eq-eqb b a is)
 
-others_without : (held : List Bool) (a b : ℕ) → b ≢ a → held_without held (a ∷ []) b ≡ is_held held b
+pub others_without : (held : List Bool) (a b : ℕ) → b ≢ a → held_without held (a ∷ []) b ≡ is_held held b
 others_without held a b ne = rw (ne_eqb b a ne)
 
 set_at : (held : List Bool) (a b : ℕ) (flag : Bool) → a < length held → b ≡ a → is_held (slice_set held a flag) b ≡ flag

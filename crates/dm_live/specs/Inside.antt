@@ -2,3 +2,5 @@
 pub mod Placing
 -- Heads that are marked one after another.
 pub mod Marking
+-- An order that is brought to hold what constraints hold.
+pub mod Aligning

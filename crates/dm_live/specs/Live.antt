@@ -4,7 +4,9 @@ use Rattle.std.specs.List.{Contains, IsDistinct}
 use Rattle.dm_graph.specs.Arcs.{Arcs, Binds}
 use Rattle.dm_graph.specs.Graph.{Graph}
 use Rattle.dm_network.specs.Net.{Net, activity_at}
-use Rattle.dm_network.specs.Held.{is_held}
+use Rattle.dm_network.specs.Held.{is_held, IsCycleOf}
+use Rattle.dm_order.specs.declared.faults.OrderFault.{OrderFault}
+use Rattle.dm_order.specs.declared.faults.OrderFault.TheVariants.{Cyclic, OutOfMemory}
 use Rattle.dm_order.specs.Value.{OrderValue}
 use Rattle.dm_order.specs.Orders.{IsOrderOf}
 use Rattle.dm_settle.specs.Constraints.{ConstraintsValue, IsSizedFor, graph_given}
@@ -21,6 +23,16 @@ pub record LiveValue : Type 0 where
 -- the order holds the activities that the constraints hold
 abbrev pub HoldAlike : Net → OrderValue → ConstraintsValue → Type 0
 HoldAlike net order given = (a : ℕ) → a < length net.activities → is_held order.held a ≡ is_held given.held a
+
+-- the held activities have a cycle
+pub record HasHeldCycle (net : Net) (given : ConstraintsValue) : Type 0 where
+  pub cycle : List ℕ
+  pub is_cycle : IsCycleOf net (is_held given.held) cycle
+
+-- why constraints have no timetable
+abbrev pub RefusesLive : Net → ConstraintsValue → OrderFault → Type 0
+RefusesLive net given Cyclic = HasHeldCycle net given
+RefusesLive net given OutOfMemory = Unit {0}
 
 -- an event that is not marked has the least time that its floor and the arcs into it allow beside the times of the others
 pub record AreMarked (g : Graph) (marks : List Bool) (times : List ℕ) : Type 0 where

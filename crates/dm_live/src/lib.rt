@@ -10,6 +10,7 @@
 //! takes no memory.
 #![tactic(auto)]
 
+mod aligning;
 pub mod laws;
 mod marking;
 mod placing;

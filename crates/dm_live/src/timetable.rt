@@ -1,20 +1,21 @@
 //! The timetable, its moves and its readers.
-ghost use Rattle.std.specs.Prelude.{ℕ, ◌≡◌, ◌+◌, ◌<◌, ◌≤◌, ◌⊎◌, true, false, length, replicate, slice_index, IfOk, OnOk, OnErr};
+ghost use Rattle.std.specs.Prelude.{ℕ, ◌≡◌, ◌+◌, ◌<◌, ◌≤◌, ◌⊎◌, true, false, length, replicate, slice_index, IfOk, IfErr, OnOk, OnErr};
 ghost use Rattle.dm_base.specs.declared.limits.TheConstants.{PASSED_TIME, BOUND, DELAY};
 ghost use Rattle.dm_network.specs.Held.{is_held, IsCycleOf, HasNoCycleOf};
 ghost use Rattle.dm_order.specs.Orders.{IsOrderOf};
 ghost use Rattle.dm_settle.specs.Constraints.{IsSizedFor, arcs_given, graph_given};
 ghost use Rattle.dm_settle.specs.Settling.{AreLeast, AreEarly};
-ghost use Rattle.dm_live.specs.Live.{IsLive, IsAtRest, HoldAlike, IsEnteredByNone, IsFixed, ReadsFew, with_mark, with_head, with_floor, with_span, with_held};
+ghost use Rattle.dm_live.specs.Live.{IsLive, RefusesLive, IsAtRest, IsEnteredByNone, IsFixed, ReadsFew, with_mark, with_head, with_floor, with_span, with_held};
 
+use crate::aligning::align;
 use crate::marking::mark_heads;
 use crate::placing::place_marks;
 use dm_base::{Secs, Steps};
 use dm_graph::search::Cyclic;
 use dm_network::Network;
-use dm_order::Order;
+use dm_order::{Order, OrderFault};
 use dm_settle::{Constraints, Marks};
-use std::alloc::{AllocError, Global};
+use std::alloc::Global;
 use std::marker::Model;
 use std::sync::ledger::Ledger;
 
@@ -49,22 +50,26 @@ impl Model for LiveTimetable {
 }
 
 impl LiveTimetable {
-    /// The timetable of these constraints, beside an order of the activities that they hold. Every event is marked:
-    /// [`LiveTimetable::settle`] computes the times.
+    /// The timetable of these constraints, with the room of an order of the same network, which may hold other activities:
+    /// those that go forward in it cost a look each. Every event is marked: [`LiveTimetable::settle`] computes the times.
+    ///
+    /// [`OrderFault::Cyclic`] comes exactly where the activities that the constraints hold have a cycle, unless memory is
+    /// short: then [`OrderFault::OutOfMemory`].
     pub fn new(
         alloc: Global,
         net: &Network,
         constraints: Constraints,
-        order: Order,
-    ) -> Result<LiveTimetable, AllocError>
+        mut order: Order,
+    ) -> Result<LiveTimetable, OrderFault>
         requires sized { IsSizedFor net.now constraints }
         requires ordered { IsOrderOf net.now order }
-        requires alike { HoldAlike net.now order constraints }
         ensures live { IfOk result (IsLive net.now) }
         ensures given { IfOk result (λ live. live.given ≡ constraints) }
-        ensures order { IfOk result (λ live. live.order ≡ order) }
         ensures marks { IfOk result (λ live. live.marks ≡ replicate (length net.now.events) true) }
+        ensures no_cycle { OnOk result (HasNoCycleOf net.now (is_held constraints.held)) }
+        ensures refused { IfErr result (RefusesLive net.now constraints) }
     {
+        align(&mut order, net, &constraints)?;
         let times = vec![in alloc; 0; net.events()]?;
         let marks = Marks::all(alloc, net.events())?;
         let placed = Marks::new(alloc, net.events())?;

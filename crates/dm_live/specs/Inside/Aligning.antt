@@ -1,0 +1,18 @@
+-- An order that is brought to hold what constraints hold.
+use Rattle.std.specs.Prelude.{ℕ, ◌≡◌, ◌<◌, ◌≤◌, false, length}
+use Rattle.dm_network.specs.Net.{Net}
+use Rattle.dm_network.specs.Held.{is_held}
+use Rattle.dm_order.specs.Value.{OrderValue}
+use Rattle.dm_order.specs.Orders.{IsOrderOf}
+use Rattle.dm_settle.specs.Constraints.{ConstraintsValue}
+
+-- an order that holds none of the activities before one
+pub record HoldsNoneBefore (net : Net) (order : OrderValue) (n : ℕ) : Type 0 where
+  pub ordered : IsOrderOf net order
+  pub none : (b : ℕ) → b < n → is_held order.held b ≡ false
+
+-- an order that holds of the activities before one those that the constraints hold, and none from it on
+pub record HoldsAlikeBefore (net : Net) (order : OrderValue) (given : ConstraintsValue) (n : ℕ) : Type 0 where
+  pub ordered : IsOrderOf net order
+  pub before : (b : ℕ) → b < n → is_held order.held b ≡ is_held given.held b
+  pub behind : (b : ℕ) → n ≤ b → b < length net.activities → is_held order.held b ≡ false
