@@ -1,5 +1,5 @@
 -- What the leaves that lie at a path ask for there.
-use Rattle.std.proofs.Common.{◌≡◌, ◌≢◌, ℕ, ◌+◌, ◌-◌, ◌<◌, ◌≤◌, Bool, true, false, List, [], ◌∷◌, ◌++◌, length, take, drop, get_or, refl, sym, ap, subst, ◌∙◌, ◌⊎◌, inl, inr, arith, Option, Some, None, slice_get, append-nil, slice_index, set, length-set, get_or-set_same, get_or-set_other}
+use Rattle.std.proofs.Common.{◌≡◌, ◌≢◌, ℕ, ◌+◌, ◌-◌, ◌<◌, ◌≤◌, true, false, List, [], ◌∷◌, ◌++◌, length, get_or, refl, sym, ap, subst, ◌∙◌, ◌⊎◌, inl, inr, arith, Option, Some, None, slice_get, append-nil, slice_index, set, length-set, get_or-set_same, get_or-set_other}
 use Rattle.std.specs.Prelude.{unwrap_or}
 use Rattle.std.proofs.lemmas.Bool.{cases_lt}
 use Rattle.std.proofs.lemmas.List.{length-append, get_or-append_right, get_or_default}
@@ -12,7 +12,7 @@ use Rattle.dm_tree.specs.declared.forms.Node.TheVariants.{Inner, Cycle, Bound, O
 use Rattle.dm_tree.specs.declared.forms.Leaf.{Leaf}
 use Rattle.dm_tree.specs.Trees.{Shape, choice_in, IsOrdered, IsLeaf, IsProper, StandsAt, HasLeaves, HaveNoTree}
 use Rattle.dm_tree.specs.Inside.Filling.{is_ordered}
-use Rattle.dm_tree.specs.Inside.Assembling.{IsFront, HasCommon, KeepsFront, Improves, AreMatched, IsRematched, LiesBelow, AsksFor, MayStand, IsAskedOf, Agree, IsAsked, LiesNone, SeenSoFar, IsDue}
+use Rattle.dm_tree.specs.Inside.Assembling.{IsFront, KeepsFront, Improves, AreMatched, IsRematched, LiesBelow, AsksFor, MayStand, IsAskedOf, Agree, IsAsked, LiesNone, SeenSoFar, IsDue}
 use Rattle.dm_tree.proofs.Filled.{ordered_from, from_ordered}
 use Rattle.dm_tree.proofs.Standing.{one_stands, stands_above}
 use Rattle.dm_tree.proofs.Matching.{full_is_front, front_is_full}

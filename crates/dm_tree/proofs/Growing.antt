@@ -1,21 +1,20 @@
 -- A draft grows by the node that its leaves ask for, and is the least tree with them at the end.
-use Rattle.std.proofs.Common.{◌≡◌, ◌≢◌, ℕ, suc, ◌+◌, ◌-◌, ◌<◌, ◌≤◌, Bool, true, false, cond, List, [], ◌∷◌, ◌++◌, length, get_or, eqb, refl, sym, ap, subst, ◌∙◌, ◌⊎◌, inl, inr, arith, Some, None, slice_get, append_assoc, append-nil, add-one}
-use Rattle.std.specs.Prelude.{Contains, slice_index_or}
+use Rattle.std.proofs.Common.{◌≡◌, ℕ, ◌+◌, ◌-◌, ◌<◌, true, cond, List, [], ◌∷◌, ◌++◌, length, get_or, eqb, refl, sym, ap, subst, ◌∙◌, ◌⊎◌, inl, inr, arith, Some, None, slice_get, append_assoc, append-nil, add-one}
+use Rattle.std.specs.Prelude.{Contains}
 use Rattle.std.proofs.lemmas.List.{length-append, take_at, take_all}
 use Rattle.std.proofs.lemmas.List.Elements.{Contains-append_left, Contains-append_right, Contains-append_cases, Contains-push, Contains-push_cases}
 use Rattle.std.proofs.lemmas.Option.{slice_get_within, get_or_from_slice_get, slice_get-get_or}
 use Rattle.dm_rows.specs.declared.messages.Choice.{Choice}
 use Rattle.dm_rows.specs.declared.messages.Decision.{Decision}
-use Rattle.dm_rows.specs.Decide.{choice_of}
 use Rattle.dm_tree.specs.declared.forms.Node.{Node}
 use Rattle.dm_tree.specs.declared.forms.Node.TheVariants.{Inner, Cycle, Bound, Open, Hole}
 use Rattle.dm_tree.specs.declared.forms.Leaf.{Leaf}
 use Rattle.dm_tree.specs.Trees.{Shape, preorder, choice_in, IsOrdered, IsLeaf, IsProper, StandsAt, HasLeaves, IsLeastTree, Assembles, first_decision, second_decision}
 use Rattle.dm_tree.specs.Inside.Filling.{is_ordered, is_none_left, fills, visits, pending}
-use Rattle.dm_tree.specs.Inside.Assembling.{IsFront, KeepsFront, AreMatched, LiesBelow, AsksFor, MayStand, IsAsked, LiesNone, IsDue, seen, GoesOn, IsNeeded, HasPlace, IsDueAt, IsDraft, IsFinished}
+use Rattle.dm_tree.specs.Inside.Assembling.{IsFront, KeepsFront, AreMatched, LiesBelow, AsksFor, IsDue, seen, GoesOn, IsNeeded, HasPlace, IsDueAt, IsDraft, IsFinished}
 use Rattle.dm_tree.proofs.Filled.{from_ordered, some_more, one_back, partial_tree}
 use Rattle.dm_tree.proofs.Walked.{due_after_choice, is_inner}
-use Rattle.dm_tree.proofs.Standing.{is_either, stands_above, visits_below, visits_filled, stands_among, IsBelow, among_stands}
+use Rattle.dm_tree.proofs.Standing.{is_either, stands_above, visits_below, visits_filled, stands_among, among_stands}
 
 -- what stands at the path of one node
 abbrev station : List Decision → Node → Leaf

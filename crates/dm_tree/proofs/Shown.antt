@@ -10,7 +10,7 @@ use Rattle.dm_graph.proofs.Chains.{no_cycle_where_rank_rises}
 use Rattle.dm_network.specs.Held.{arcs_of, HasNoCycleOf}
 use Rattle.dm_network.specs.Net.{Net, EndsAreKnown, activity_at}
 use Rattle.dm_rows.specs.Rows.{RowsValue}
-use Rattle.dm_rows.specs.Timetable.{time_at, floor_of, span_of, MeetsHolding, IsLeastHolding, graph_holding}
+use Rattle.dm_rows.specs.Timetable.{time_at, floor_of, span_of, IsLeastHolding, graph_holding}
 use Rattle.dm_rows.specs.Laws.{EntersNoPassed}
 use Rattle.dm_rows.proofs.AsGraph.{least_from_graph}
 

@@ -1,5 +1,5 @@
 -- What stands at the paths of a tree.
-use Rattle.std.proofs.Common.{◌≡◌, ◌≢◌, ℕ, ◌+◌, ◌<◌, Bool, true, false, cond, List, [], ◌∷◌, ◌++◌, length, refl, sym, ap, subst, ◌∙◌, ◌⊎◌, inl, inr, arith, Some, None, append_assoc, append-nil, ltb, lt-ltb}
+use Rattle.std.proofs.Common.{◌≡◌, Bool, true, false, cond, List, [], ◌∷◌, ◌++◌, refl, sym, ap, subst, ◌∙◌, ◌⊎◌, inl, inr, arith, append_assoc, append-nil, ltb, lt-ltb}
 use Rattle.std.specs.Prelude.{Contains}
 use Rattle.std.proofs.lemmas.Bool.{le-ltb}
 use Rattle.std.proofs.lemmas.List.Elements.{Contains-append_left, Contains-append_right, Contains-append_cases, Contains-push_cases}
@@ -12,7 +12,7 @@ use Rattle.dm_rows.specs.Decide.{choice_of}
 use Rattle.dm_tree.specs.declared.forms.Node.{Node}
 use Rattle.dm_tree.specs.declared.forms.Node.TheVariants.{Inner, Cycle, Bound, Open, Hole}
 use Rattle.dm_tree.specs.declared.forms.Leaf.{Leaf}
-use Rattle.dm_tree.specs.Trees.{Shape, leaf, branch, preorder, IsOrdered, IsLeaf, IsProper, StandsAt, first_decision, second_decision}
+use Rattle.dm_tree.specs.Trees.{Shape, leaf, branch, preorder, IsOrdered, IsProper, StandsAt, first_decision, second_decision}
 use Rattle.dm_tree.specs.Inside.Filling.{visits}
 
 -- the choice that a first, a second decision decides

@@ -1,7 +1,7 @@
 -- The path to the place that is read stands for all places that are due.
-use Rattle.std.proofs.Common.{◌≡◌, ◌≢◌, ℕ, suc, ◌+◌, ◌-◌, Bool, true, false, cond, ◌&&◌, List, [], ◌∷◌, ◌++◌, length, eqb, refl, sym, ap, subst, ◌∙◌, ◌⊎◌, inl, inr, arith, Some, None, append_assoc, append-nil, add-one, ◌<◌, get_or, drop}
-use Rattle.std.specs.Prelude.{reverse, MatchBool}
-use Rattle.std.proofs.lemmas.Bool.{ne_eqb, ltb-true, le-ltb, lt-ltb}
+use Rattle.std.proofs.Common.{◌≡◌, ℕ, ◌+◌, ◌-◌, Bool, true, false, cond, List, [], ◌∷◌, ◌++◌, length, eqb, refl, sym, ap, subst, ◌∙◌, ◌⊎◌, inl, inr, arith, Some, None, append_assoc, append-nil, add-one, ◌<◌, get_or, drop}
+use Rattle.std.specs.Prelude.{MatchBool}
+use Rattle.std.proofs.lemmas.Bool.{ltb-true, le-ltb}
 use Rattle.std.proofs.lemmas.List.{reverse-append, reverse-reverse, drop_more}
 use Rattle.dm_rows.specs.declared.messages.Choice.{Choice}
 use Rattle.dm_rows.specs.declared.messages.Choice.TheVariants.{Change, Pair}
@@ -11,7 +11,7 @@ use Rattle.dm_tree.specs.declared.forms.Node.{Node}
 use Rattle.dm_tree.specs.declared.forms.Node.TheVariants.{Inner, Cycle, Bound, Open, Hole}
 use Rattle.dm_tree.specs.declared.forms.Leaf.{Leaf}
 use Rattle.dm_tree.specs.Trees.{choice_in, preorder, first_decision, second_decision, IsTree, AreLeavesOf, leaves_of}
-use Rattle.dm_tree.specs.Inside.Filling.{is_ordered, is_none_left, fills, leaves_due, is_first_decision, other_decision, behind, pending}
+use Rattle.dm_tree.specs.Inside.Filling.{is_ordered, is_none_left, fills, leaves_due, is_first_decision, other_decision, pending}
 use Rattle.dm_tree.proofs.Filled.{both, some_more, one_back, tree_fills, leaves_filled}
 
 -- the other decision of a first one is not first

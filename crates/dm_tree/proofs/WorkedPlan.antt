@@ -1,6 +1,5 @@
 -- The worked plan of the connection at one station is true, and the present choices are not shown optimal.
-use Rattle.std.proofs.Common.{◌≡◌, ℕ, ◌<◌, ◌≤◌, List, [], ◌∷◌, ◌++◌, length, Bool, true, false, IsTrue, arith, refl, sym, ap, subst, ◌∙◌, inl, inr, lit<, lit≤}
-use Rattle.std.specs.Prelude.{Contains, All}
+use Rattle.std.proofs.Common.{◌≡◌, ℕ, List, [], ◌∷◌, arith, refl, sym, ap, subst, inl, inr, lit<, lit≤}
 use Rattle.std.proofs.lemmas.List.Elements.{All-nil, All-cons}
 use Rattle.dm_rows.specs.declared.messages.Choice.{Choice}
 use Rattle.dm_rows.specs.declared.messages.Choice.TheVariants.{Change}
@@ -10,15 +9,14 @@ use Rattle.dm_rows.specs.Active.{is_active}
 use Rattle.dm_rows.specs.Cost.{Costs}
 use Rattle.dm_rows.specs.Decide.{with_decisions}
 use Rattle.dm_rows.specs.Relax.{is_relaxed_active}
-use Rattle.dm_rows.specs.Timetable.{IsLeast}
 use Rattle.dm_rows.specs.Examples.{event_id, activity_id, connection, delayed}
 use Rattle.dm_rows.proofs.AsGraph.{active_enter_no_passed, relaxed_enter_no_passed}
 use Rattle.dm_tree.specs.declared.forms.Node.{Node}
-use Rattle.dm_tree.specs.declared.forms.Node.TheVariants.{Inner, Cycle, Bound, Open, Hole}
+use Rattle.dm_tree.specs.declared.forms.Node.TheVariants.{Inner, Cycle, Bound, Open}
 use Rattle.dm_tree.specs.Trees.{Shape, leaf, branch, preorder, StandsAt}
 use Rattle.dm_tree.specs.Relaxed.{IsRelaxedLeast, relaxed_cost_of, RelaxedCosts}
-use Rattle.dm_tree.specs.Plans.{Task, DiffersFrom, CostsWith, IsTrueInner, IsTrueBound, IsLeastOfLeaves, IsTruePlan}
-use Rattle.dm_tree.specs.Worked.{delayed_task, worked_plan, present_choices_marked_optimal, WorkedPlanIsTrue, PresentChoicesAreNotShown}
+use Rattle.dm_tree.specs.Plans.{DiffersFrom, CostsWith, IsTrueInner, IsTrueBound, IsLeastOfLeaves}
+use Rattle.dm_tree.specs.Worked.{delayed_task, WorkedPlanIsTrue, PresentChoicesAreNotShown}
 use Rattle.dm_tree.proofs.Shown.{shown_least, shown_acyclic, one_least}
 
 abbrev both : List Decision

@@ -1,9 +1,8 @@
 -- Plans for the connection at one station with event 1 a minute late and penalty 10, as worked out by hand.
-use Rattle.std.specs.Prelude.{ℕ, List, [], ◌∷◌}
+use Rattle.std.specs.Prelude.{ℕ, [], ◌∷◌}
 use Rattle.dm_rows.specs.declared.messages.Choice.TheVariants.{Change}
 use Rattle.dm_rows.specs.declared.messages.Decision.TheVariants.{Drop, First}
 use Rattle.dm_rows.specs.Examples.{event_id, activity_id, connection, delayed}
-use Rattle.dm_tree.specs.declared.forms.Node.{Node}
 use Rattle.dm_tree.specs.declared.forms.Node.TheVariants.{Inner, Bound, Open}
 use Rattle.dm_tree.specs.declared.forms.Mark.TheVariants.{Optimal, Open as OpenMark}
 use Rattle.dm_tree.specs.declared.plans.Plan.{Plan}

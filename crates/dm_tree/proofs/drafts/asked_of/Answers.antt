@@ -1,4 +1,3 @@
-use Rattle.std.proofs.Common.{◌≡◌, refl}
 use Rattle.dm_tree.proofs.Asking.{asks_badly_at}
 use Rattle.dm_tree.proofs.drafts.asked_of.Goals as goal
 

@@ -1,4 +1,4 @@
-use Rattle.std.proofs.Common.{◌≡◌, refl, sym, arith}
+use Rattle.std.proofs.Common.{refl, sym, arith}
 use Rattle.dm_tree.proofs.Matching.{common_kept, common_longer, common_cut, common_differs}
 use Rattle.dm_tree.proofs.drafts.common.Goals as goal
 use Rattle.dm_tree.proofs.drafts.common.Goals.{else-last-whole-via-then-last-whole+else-is_same, else-last-whole-via-else-last-whole}

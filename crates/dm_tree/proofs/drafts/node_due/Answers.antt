@@ -1,7 +1,7 @@
-use Rattle.std.proofs.Common.{◌≡◌, ◌≢◌, ◌+◌, refl, sym, ap, ◌∙◌, subst, arith, Some, None, length, ◌≤◌}
+use Rattle.std.proofs.Common.{◌+◌, sym, subst}
 use Rattle.dm_tree.specs.Inside.Assembling.{SeenSoFar}
 use Rattle.dm_tree.proofs.Given.{read_at, at_end}
-use Rattle.dm_tree.proofs.Asking.{seen_past, seen_next, clash, refused_leaf, due_at_end, not_there, lies_there, agree_when, agree_never}
+use Rattle.dm_tree.proofs.Asking.{seen_past, seen_next, clash, due_at_end, not_there, lies_there, agree_when, agree_never}
 use Rattle.dm_tree.proofs.drafts.node_due.Goals as goal
 use Rattle.dm_tree.proofs.drafts.node_due.Goals.{in-Some+else-not-agree, in_default}
 

@@ -1,6 +1,4 @@
-use Rattle.std.proofs.Common.{◌≡◌, refl}
-use Rattle.dm_tree.proofs.Given.{read_at}
-use Rattle.dm_tree.proofs.Asking.{none_rematched, one_rematched, all_rematched}
+use Rattle.dm_tree.proofs.Asking.{all_rematched}
 use Rattle.dm_tree.proofs.drafts.rematch.Goals as goal
 
 pub returns : goal.returns

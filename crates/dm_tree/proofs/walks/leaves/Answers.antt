@@ -1,6 +1,6 @@
-use Rattle.std.proofs.Common.{◌≡◌, refl, sym, ap, ◌∙◌, ◌++◌, ◌∷◌, [], arith, drop, length, ◌≤◌}
+use Rattle.std.proofs.Common.{ap, ◌∙◌, ◌++◌, ◌∷◌, []}
 use Rattle.std.proofs.lemmas.List.{drop_all}
-use Rattle.dm_tree.proofs.Walked.{FindsLeaves, finds_at_first, choice_step, leaf_step, all_found}
+use Rattle.dm_tree.proofs.Walked.{finds_at_first, choice_step, leaf_step, all_found}
 use Rattle.dm_tree.proofs.walks.leaves.Goals as goal
 
 pub loop-node-init : goal.loop-node-init

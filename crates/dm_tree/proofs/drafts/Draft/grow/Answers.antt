@@ -1,4 +1,4 @@
-use Rattle.std.proofs.Common.{◌≡◌, refl, sym, ap, ◌∙◌, ◌++◌, ◌∷◌, [], ◌<◌, length}
+use Rattle.std.proofs.Common.{ap, ◌∙◌, ◌++◌, ◌∷◌, []}
 use Rattle.std.proofs.lemmas.Bool.Decides.{when_true, when_false}
 use Rattle.dm_tree.proofs.Given.{on_true, match_true, match_false}
 use Rattle.dm_tree.proofs.Growing.{grow_choice, grow_leaf, grow_end}

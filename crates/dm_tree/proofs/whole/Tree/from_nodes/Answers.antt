@@ -1,5 +1,4 @@
-use Rattle.std.proofs.Common.{◌≡◌, false, true, sym, ◌∙◌}
-use Rattle.std.proofs.lemmas.Bool.{false≢true}
+use Rattle.std.proofs.Common.{◌≡◌, false, true}
 use Rattle.dm_tree.specs.Inside.Filling.{fills}
 use Rattle.dm_tree.proofs.Filled.{whole_tree, tree_fills}
 use Rattle.dm_tree.proofs.whole.Tree.from_nodes.Goals as goal
