@@ -45,82 +45,77 @@ fn assembled(
     }
 }
 
-#[test]
-fn worked_leaves_make_trees(rt: HostRuntime) -> Result<(), Fail> {
-    let kept = Node::Bound(1075000);
-    let dropped = Node::Bound(940000);
-    let whole = [Node::Inner(CHANGE), kept, dropped];
-    let nested = [
-        Node::Inner(CHANGE),
-        kept,
-        Node::Inner(PAIR),
-        Node::Hole,
-        Node::Cycle,
-    ];
-    let turned = Decision::First(EventId(5), EventId(3));
-    for (given, wanted) in [
-        (
-            [
-                (&[KEEP] as &[Decision], kept),
-                (&[DROP] as &[Decision], dropped),
-            ]
-            .as_slice(),
-            whole.as_slice(),
-        ),
-        (
-            [
-                (&[DROP] as &[Decision], dropped),
-                (&[KEEP] as &[Decision], kept),
-            ]
-            .as_slice(),
-            whole.as_slice(),
-        ),
-        (
-            [(&[KEEP] as &[Decision], kept)].as_slice(),
-            [Node::Inner(CHANGE), kept, Node::Hole].as_slice(),
-        ),
-        (
-            [
-                (&[KEEP] as &[Decision], kept),
-                (&[DROP, turned] as &[Decision], Node::Cycle),
-            ]
-            .as_slice(),
-            nested.as_slice(),
-        ),
-        ([].as_slice(), [Node::Hole].as_slice()),
-    ] {
-        let made = assembled(rt.alloc(), given)?.expect(&rt, "a tree");
-        assert_eq!(rt; made.as_slice(), wanted);
+/// Whether these leaves make a tree of these nodes.
+fn make(alloc: Global, given: &[(&[Decision], Node)], wanted: &[Node]) -> Result<bool, AllocError> {
+    match assembled(alloc, given)? {
+        Some(nodes) => Ok(nodes.as_slice() == wanted),
+        None => Ok(false),
     }
+}
+
+/// Whether no tree has these leaves.
+fn clash(alloc: Global, given: &[(&[Decision], Node)]) -> Result<bool, AllocError> {
+    Ok(assembled(alloc, given)?.is_none())
+}
+
+const KEPT: Node = Node::Bound(1075000);
+
+const DROPPED: Node = Node::Bound(940000);
+
+#[test]
+fn both_leaves_make_a_whole_tree(rt: HostRuntime) -> Result<(), Fail> {
+    let keep: &[Decision] = &[KEEP];
+    let drop: &[Decision] = &[DROP];
+    let whole = [Node::Inner(CHANGE), KEPT, DROPPED];
+    assert!(rt; make(rt.alloc(), &[(keep, KEPT), (drop, DROPPED)], &whole)?);
+    assert!(rt; make(rt.alloc(), &[(drop, DROPPED), (keep, KEPT)], &whole)?);
     Ok(())
 }
 
 #[test]
-fn leaves_that_clash_make_no_tree(rt: HostRuntime) -> Result<(), Fail> {
-    let open = Node::Open(900000);
-    let alike = Decision::First(EventId(3), EventId(3));
-    let other = Decision::Keep(ActId(6));
-    for given in [
-        [
-            (&[KEEP] as &[Decision], open),
-            (&[KEEP] as &[Decision], open),
-        ]
-        .as_slice(),
-        [
-            (&[KEEP] as &[Decision], open),
-            (&[KEEP, other] as &[Decision], open),
-        ]
-        .as_slice(),
-        [
-            (&[KEEP] as &[Decision], open),
-            (&[other] as &[Decision], open),
-        ]
-        .as_slice(),
-        [(&[alike] as &[Decision], open)].as_slice(),
-        [(&[KEEP] as &[Decision], Node::Inner(PAIR))].as_slice(),
-    ] {
-        assert_eq!(rt; assembled(rt.alloc(), given)?, None);
-    }
+fn missing_leaves_are_holes(rt: HostRuntime) -> Result<(), Fail> {
+    let keep: &[Decision] = &[KEEP];
+    assert!(rt;
+        make(
+            rt.alloc(),
+            &[(keep, KEPT)],
+            &[Node::Inner(CHANGE), KEPT, Node::Hole]
+        )?
+    );
+    assert!(rt; make(rt.alloc(), &[], &[Node::Hole])?);
+    Ok(())
+}
+
+#[test]
+fn second_event_first_is_a_second_child(rt: HostRuntime) -> Result<(), Fail> {
+    let turned: &[Decision] = &[DROP, Decision::First(EventId(5), EventId(3))];
+    let nested = [
+        Node::Inner(CHANGE),
+        Node::Hole,
+        Node::Inner(PAIR),
+        Node::Hole,
+        Node::Cycle,
+    ];
+    assert!(rt; make(rt.alloc(), &[(turned, Node::Cycle)], &nested)?);
+    Ok(())
+}
+
+#[test]
+fn one_path_twice_makes_no_tree(rt: HostRuntime) -> Result<(), Fail> {
+    let keep: &[Decision] = &[KEEP];
+    let below: &[Decision] = &[KEEP, Decision::Keep(ActId(6))];
+    assert!(rt; clash(rt.alloc(), &[(keep, KEPT), (keep, DROPPED)])?);
+    assert!(rt; clash(rt.alloc(), &[(keep, KEPT), (below, DROPPED)])?);
+    Ok(())
+}
+
+#[test]
+fn paths_of_two_choices_make_no_tree(rt: HostRuntime) -> Result<(), Fail> {
+    let keep: &[Decision] = &[KEEP];
+    let other: &[Decision] = &[Decision::Keep(ActId(6))];
+    let alike: &[Decision] = &[Decision::First(EventId(3), EventId(3))];
+    assert!(rt; clash(rt.alloc(), &[(keep, KEPT), (other, DROPPED)])?);
+    assert!(rt; clash(rt.alloc(), &[(alike, KEPT)])?);
     Ok(())
 }
 
