@@ -30,7 +30,7 @@ fn is_ordered(net: &Network, rows: &Rows, a: usize) -> bool
     requires is_activity { a < length net.now.activities }
     ensures { result ≡ is_ordered net.now rows.now a }
 {
-    let _sound = net.events();
+    net.sound();
     if rows.passed(net.activity(a).tail).is_some() {
         return false;
     }

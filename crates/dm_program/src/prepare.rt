@@ -69,8 +69,8 @@ fn answer_run(
     ensures penalty { IfOk result (λ a. a.penalty ≡ penalty) }
     ensures memory { IfErr result (λ stop. stop ≡ Stop.NoMemory) }
 {
-    let _network = net.events();
-    let _limits = rows.events();
+    net.sound();
+    rows.is_within_limits();
     let answers = answer_feed(alloc, &net, &mut rows, feed)?;
     let times = times_of(alloc, &net, &rows)?;
     let cost = cost(&net, &rows, &times, penalty);
