@@ -318,6 +318,7 @@ module _ {S : Type 0} {left : S → Option (List ℕ)} where
     number = omega (arith, p.lines, q.lines);
     lines = refl;
     within = p.within;
+    goes_on = inl p.open_still;
   }
 
   pub due_last : (before mid now : ReaderValue S) (h : Heard) → h ≢ heard.Blank → PassesQuiet left before mid → PassesLast left mid now h → GivesDue left before now now.lines h
@@ -337,6 +338,7 @@ module _ {S : Type 0} {left : S → Option (List ℕ)} where
     number = omega (arith, p.lines, q.lines);
     lines = refl;
     within = p.within;
+    goes_on = inr (p.stopped, p.none_left, p.at_end);
   }
 
   pub end_last : (before mid now : ReaderValue S) (h : Heard) → h ≡ heard.Blank → PassesQuiet left before mid → PassesLast left mid now h → ReachesEnd left before now
