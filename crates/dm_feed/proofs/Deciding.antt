@@ -176,3 +176,25 @@ shorter rest behind d e = (begins_so rest (d, behind) e).longer
 pub none_from : (texts : List (List ℕ)) → eqb (length texts) 0 ≡ true → texts ≡ []
 none_from [] e = refl
 none_from (text ∷ texts) e = let zero_long : length (text ∷ texts) ≡ 0 = eqb-true (length (text ∷ texts)) 0 e in absurd (omega (arith, zero_long))
+
+-- ---- one list of decisions
+
+nothing_first : (d : Decision) (ds : List Decision) (texts : List (List ℕ)) → StandForAll [] texts → AreDecisions (d ∷ ds) texts → ⊥
+nothing_first (decision.Keep a) ds [] none h = h
+nothing_first (decision.Drop a) ds [] none h = h
+nothing_first (decision.First e f) ds [] none h = h
+nothing_first d ds (text ∷ texts) none h = none
+
+-- the same texts stand for one list of decisions
+pub one_list : (ds es : List Decision) (texts : List (List ℕ)) → AreDecisions ds texts → AreDecisions es texts → ds ≡ es
+one_list [] [] texts p q = refl
+one_list [] (e ∷ es) texts p q = absurd (nothing_first e es texts p q)
+one_list (d ∷ ds) [] texts p q = absurd (nothing_first d ds texts q p)
+one_list (d ∷ ds) (e ∷ es) texts p q =
+    let a = reads_first d (flat_map parts_of_decision ds) texts p in
+    let b = reads_first e (flat_map parts_of_decision es) texts q in
+    let same = some_same (d, a.rest) (e, b.rest) (sym a.is ∙ b.is) in
+    let first : d ≡ e = ap (λ (x : Decision × List (List ℕ)). x.0) same in
+    let behind : a.rest ≡ b.rest = ap (λ (x : Decision × List (List ℕ)). x.1) same in
+    let others : ds ≡ es = one_list ds es a.rest a.stand (subst (AreDecisions es) (sym behind) b.stand) in
+    cc

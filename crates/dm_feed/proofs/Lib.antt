@@ -1,3 +1,4 @@
+pub mod Ahead
 pub mod Buffers
 pub mod Cutting
 pub mod Deciding

@@ -1,5 +1,5 @@
 -- Messages in print: the words of a plain text are those of its one spelling.
-use Rattle.std.proofs.Common.{◌≡◌, ◌≢◌, ℕ, zero, suc, ◌^◌, ◌<◌, ◌⊎◌, inl, inr, Bool, true, false, ◌&&◌, eqb, not, List, [], ◌∷◌, ◌++◌, length, get_or, map, All, Some, None, Result, Ok, Err, IfOk, refl, sym, ap, subst, ◌∙◌, arith, append-nil}
+use Rattle.std.proofs.Common.{◌≡◌, ◌≢◌, ℕ, zero, suc, ◌^◌, ◌<◌, ◌⊎◌, inl, inr, Bool, true, false, ◌&&◌, eqb, not, List, [], ◌∷◌, ◌++◌, length, get_or, map, All, Option, Some, None, Result, Ok, Err, IfOk, refl, sym, ap, subst, ◌∙◌, arith, append-nil}
 use Rattle.std.specs.Prelude.{filter}
 use Rattle.std.specs.List.{slice_split, list_all, join_with_byte}
 use Rattle.std.specs.Fmt.{decimal}
@@ -21,9 +21,10 @@ use Rattle.dm_feed.specs.Words.{spelling_of_word, words_of}
 use Rattle.dm_feed.specs.Parts.{Part, word, id, value, StandsFor, StandForAll, Fits, spelling_of_part, spelling_of_parts}
 use Rattle.dm_feed.specs.Lines.{parts_of_message, IsSaid, IsMessageOf, IsNoMessage, spelling_of_message}
 use Rattle.dm_feed.specs.Inside.Cuts.{cut_at}
-use Rattle.dm_feed.specs.Inside.Reading.{word_named, is_plain_word, is_plain, message_of, line_behind, line_with}
+use Rattle.dm_feed.specs.Inside.Reading.{word_named, is_plain_word, is_plain, message_of, line_behind, line_with, line_in}
 use Rattle.dm_feed.specs.Inside.Deciding.{AreDecisions, ReadsDecisions, ReadsParts}
 use Rattle.dm_feed.proofs.Cutting.{cut_found, cut_none}
+use Rattle.dm_feed.proofs.Deciding.{one_list}
 use Rattle.dm_feed.proofs.Hearing.{named, word_found, reads, shows}
 use Rattle.dm_feed.proofs.Spelling.{pieces_of_parts, words_of_parts, parts_stand}
 
@@ -295,3 +296,51 @@ not_form_message (Err OutOfMemory) bytes plain r none = inr refl
 
 pub not_plain : (bytes : List ℕ) → is_plain bytes ≡ false → IsNoMessage bytes
 not_plain bytes e said h = let apart : true ≡ false = sym (message_plain said bytes h) ∙ e in cc
+
+-- ---- one message
+
+-- a message is an adopted list, or a line says it
+said_or_adopted : (m : Message) → IsSaid m ⊎ ((ds : List Decision) × (m ≡ message.Adopt ds))
+said_or_adopted (message.DelayEvent e d) = inl tt
+said_or_adopted (message.DelayActivity a d) = inl tt
+said_or_adopted (message.Pass e t) = inl tt
+said_or_adopted (message.Recall e) = inl tt
+said_or_adopted (message.Keep a) = inl tt
+said_or_adopted (message.Drop a) = inl tt
+said_or_adopted (message.First e f) = inl tt
+said_or_adopted (message.Now t) = inl tt
+said_or_adopted (message.Adopt ds) = inr (ds, refl)
+
+-- no line that begins as an adopted list says a message
+adopt_says_none : (m : Message) (first : List ℕ) (rest : List (List ℕ)) → first ≡ spelling_of_word Adopt → line_in first rest ≡ Some (line.Say m) → ⊥
+adopt_says_none m first [] is e = let apart : Some line.Adopt ≡ Some (line.Say m) = sym (ap (λ (o : Option Word). line_with o []) (named first Adopt is)) ∙ e in cc
+adopt_says_none m first (text ∷ rest) is e = let apart : None ≡ Some (line.Say m) = sym (ap (λ (o : Option Word). line_with o (text ∷ rest)) (named first Adopt is)) ∙ e in cc
+
+said_not_adopted : (m : Message) (ds : List Decision) (texts : List (List ℕ)) → IsSaid m → StandForAll (parts_of_message m) texts → StandForAll (parts_of_message (message.Adopt ds)) texts → ⊥
+said_not_adopted m ds [] said p q = q
+said_not_adopted m ds (first ∷ rest) said p q = adopt_says_none m first rest q.0 (reads (line.Say m) first rest said p)
+
+both_said : (m n : Message) (texts : List (List ℕ)) → IsSaid m → IsSaid n → StandForAll (parts_of_message m) texts → StandForAll (parts_of_message n) texts → m ≡ n
+both_said m n [] said other p q = absurd (no_words_fail [] refl m p)
+both_said m n (first ∷ rest) said other p q =
+    let same : Some (line.Say m) ≡ Some (line.Say n) = sym (reads (line.Say m) first rest said p) ∙ reads (line.Say n) first rest other q in
+    cc
+
+both_adopted : (ds es : List Decision) (texts : List (List ℕ)) → StandForAll (parts_of_message (message.Adopt ds)) texts → StandForAll (parts_of_message (message.Adopt es)) texts → message.Adopt ds ≡ message.Adopt es
+both_adopted ds es [] p q = absurd p
+both_adopted ds es (first ∷ rest) p q = ap (λ (l : List Decision). message.Adopt l) (one_list ds es rest p.1 q.1)
+
+same_parts : (m n : Message) (texts : List (List ℕ)) → StandForAll (parts_of_message m) texts → StandForAll (parts_of_message n) texts → m ≡ n
+same_parts m n texts p q = by_kinds (said_or_adopted m) (said_or_adopted n)
+  where
+    by_kinds : IsSaid m ⊎ ((ds : List Decision) × (m ≡ message.Adopt ds)) → IsSaid n ⊎ ((ds : List Decision) × (n ≡ message.Adopt ds)) → m ≡ n
+    by_kinds (inl said) (inl other) = both_said m n texts said other p q
+    by_kinds (inl said) (inr b) = absurd (said_not_adopted m b.0 texts said p (subst (λ (x : Message). StandForAll (parts_of_message x) texts) b.1 q))
+    by_kinds (inr a) (inl other) = absurd (said_not_adopted n a.0 texts other q (subst (λ (x : Message). StandForAll (parts_of_message x) texts) a.1 p))
+    by_kinds (inr a) (inr b) =
+        a.1
+        ∙ (both_adopted a.0 b.0 texts (subst (λ (x : Message). StandForAll (parts_of_message x) texts) a.1 p) (subst (λ (x : Message). StandForAll (parts_of_message x) texts) b.1 q)
+        ∙ sym b.1)
+
+pub one_message : (bytes : List ℕ) (m n : Message) → IsMessageOf m bytes → IsMessageOf n bytes → m ≡ n
+one_message bytes m n p q = same_parts m n (words_of bytes) (message_stands m bytes p) (message_stands n bytes q)

@@ -1,5 +1,5 @@
 -- The lines of a feed, and what its reader answers: due lines in order with their numbers, and then why it stops.
-use Rattle.std.specs.Prelude.{ℕ, ◌≡◌, ◌≢◌, ◌+◌, ◌<◌, ◌≤◌, ◌==◌, ◌⊎◌, if◌then◌else◌, List, [], ◌∷◌, ◌++◌, length, All, Option, Some, None}
+use Rattle.std.specs.Prelude.{ℕ, ◌≡◌, ◌≢◌, ◌+◌, ◌<◌, ◌≤◌, ◌==◌, ◌⊎◌, if◌then◌else◌, List, [], ◌∷◌, ◌++◌, length, All, Option, None, Some}
 use Rattle.std.specs.List.{flat_map}
 use Rattle.std.specs.Io.KnownBytes.{Consumes, IsAtEnd}
 use Rattle.dm_base.specs.declared.limits.TheConstants.{FEED}
@@ -54,8 +54,11 @@ pub record IsFrontLine (text front rest : List ℕ) (left : Option (List ℕ)) :
   pub unended : IsUnended bytes
   pub cut : ((front ≡ ended bytes) × (text ≡ without_return bytes)) ⊎ ((front ≡ bytes) × (text ≡ bytes) × (0 < length bytes) × (rest ≡ []) × IsAtEnd left)
 
--- The next due line is given, with its number and meaning: it and the blank lines and comments before it are passed. The
--- reader has not stopped, or it has at the end, where nothing is left.
+-- The reader goes on, or it has stopped at the end, where nothing is left.
+abbrev pub GoesOn : {S : Type 0} → (S → Option (List ℕ)) → ReaderValue S → Type 0
+GoesOn left now = (now.stop ≡ None) ⊎ ((now.stop ≡ Some End) × (now.pending ≡ []) × IsAtEnd (left now.source))
+
+-- The next due line is given, with its number and meaning: it and the blank lines and comments before it are passed.
 pub record GivesDue {S : Type 0} (left : S → Option (List ℕ)) (before now : ReaderValue S) (line : ℕ) (heard : Heard) : Type 0 where
   pub given : List ℕ
   pub takes : Takes left before now given
@@ -70,7 +73,7 @@ pub record GivesDue {S : Type 0} (left : S → Option (List ℕ)) (before now : 
   pub number : line ≡ before.lines + length quiet + 1
   pub lines : now.lines ≡ line
   pub within : now.taken ≤ FEED
-  pub goes_on : (now.stop ≡ None) ⊎ ((now.stop ≡ Some End) × (now.pending ≡ []) × IsAtEnd (left now.source))
+  pub goes_on : GoesOn left now
 
 -- No due line is left: all bytes were taken, and they are blank lines and comments. The last may have no line feed.
 pub record ReachesEnd {S : Type 0} (left : S → Option (List ℕ)) (before now : ReaderValue S) : Type 0 where

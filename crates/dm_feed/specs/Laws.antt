@@ -1,10 +1,13 @@
 -- What follows from what lines say and how they are spelled.
-use Rattle.std.specs.Prelude.{ℕ, ◌≡◌, List, All}
+use Rattle.std.specs.Prelude.{ℕ, ◌≡◌, List, [], All}
+use Rattle.dm_rows.specs.declared.messages.Message.{Message}
 use Rattle.dm_feed.specs.declared.grammar.Line.{Line}
 use Rattle.dm_feed.specs.declared.grammar.Heard.{Heard}
 use Rattle.dm_feed.specs.declared.grammar.Heard.TheVariants.{Line as Spoken}
 use Rattle.dm_feed.specs.Parts.{Fits}
-use Rattle.dm_feed.specs.Lines.{parts_of_line, IsSpelledLine, Hears, spelling_of_line}
+use Rattle.dm_feed.specs.DueItems.{DueItem, AreDueItems, lines_ahead, lines_of_feed}
+use Rattle.dm_feed.specs.Feeds.{ReaderValue}
+use Rattle.dm_feed.specs.Lines.{parts_of_line, IsSpelledLine, Hears, spelling_of_line, IsMessageOf}
 
 -- a line in print is heard as itself, if its numbers are not too large
 abbrev pub AreHeardAsPrinted : Type 0
@@ -13,3 +16,21 @@ AreHeardAsPrinted = (said : Line) → IsSpelledLine said → All Fits (parts_of_
 -- the same bytes are heard in one way
 abbrev pub HaveOneMeaning : Type 0
 HaveOneMeaning = (bytes : List ℕ) (one other : Heard) → Hears bytes one → Hears bytes other → one ≡ other
+
+-- The lines have these due items, and no others.
+pub record HasDueItems (passed : ℕ) (texts : List (List ℕ)) : Type 0 where
+  pub items : List DueItem
+  pub are : AreDueItems passed texts items
+  pub are_all : (other : List DueItem) → AreDueItems passed texts other → items ≡ other
+
+-- any lines have one list of due items
+abbrev pub HaveDueItems : Type 0
+HaveDueItems = (passed : ℕ) (texts : List (List ℕ)) → HasDueItems passed texts
+
+-- two messages that have one spelling, adopted lists too, are one message
+abbrev pub AreOneMessage : Type 0
+AreOneMessage = (bytes : List ℕ) (one other : Message) → IsMessageOf one bytes → IsMessageOf other bytes → one ≡ other
+
+-- a new reader of a source that has these bytes left has the lines of the feed ahead
+abbrev pub HaveAllAhead : Type 0 → Type 0
+HaveAllAhead S = (now : ReaderValue S) (bytes : List ℕ) → now.pending ≡ [] → now.taken ≡ 0 → lines_ahead now bytes ≡ lines_of_feed bytes

@@ -3,6 +3,7 @@ pub mod Words
 pub mod Parts
 pub mod Lines
 pub mod Feeds
+pub mod DueItems
 pub mod Laws
 -- What the readers do between bytes and lines: checked, and not to be believed.
 pub mod Inside

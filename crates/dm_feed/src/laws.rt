@@ -1,5 +1,5 @@
 //! What follows from the definitions alone: each function here does nothing, and its clause is the law.
-ghost use Rattle.dm_feed.specs.Laws.{AreHeardAsPrinted, HaveOneMeaning};
+ghost use Rattle.dm_feed.specs.Laws.{AreHeardAsPrinted, HaveOneMeaning, HaveDueItems, AreOneMessage, HaveAllAhead};
 
 /// A line that is printed is heard as itself.
 #[tactic(auto, using(crate::proofs::Spelling::printed_is_heard))]
@@ -11,4 +11,20 @@ pub fn lines_are_heard_as_printed()
 #[tactic(auto, using(crate::proofs::Spelling::one_meaning))]
 pub fn lines_have_one_meaning()
     ensures { HaveOneMeaning }
+{}
+
+/// Lines have one list of due items.
+#[tactic(auto, using(crate::proofs::Ahead::due_items))]
+pub fn lines_have_due_items()
+    ensures { HaveDueItems }
+{}
+
+/// A spelling is one message's, adopted lists too.
+pub fn spellings_are_one_message()
+    ensures { AreOneMessage }
+{}
+
+/// What a new reader has ahead is the feed's lines, so its answers are the feed's due items.
+pub fn new_readers_have_all_ahead<S>()
+    ensures { HaveAllAhead S }
 {}

@@ -2,6 +2,7 @@
 ghost use Rattle.std.specs.Prelude.{◌≡◌, ◌≢◌, ◌+◌, ◌<◌, ◌≤◌, [], length, take, drop, IfOk, IfErr, IfSome, Some, None, MatchOption, MatchBool};
 ghost use Rattle.dm_feed.specs.Feeds.{Answers, StopsAt, IsUnended, without_return};
 ghost use Rattle.dm_feed.specs.Lines.{Hears};
+ghost use Rattle.dm_feed.specs.DueItems.{AnswersInOrder, IsDetermined};
 ghost use Rattle.dm_feed.specs.Inside.Passing.{EndsAt, Fills, FailsToFill, PassesRest, PassesLine};
 
 use crate::buffer::Buffer;
@@ -305,6 +306,13 @@ impl<S: Source> LineReader<S> {
     pub fn next(&mut self) -> Next
         // What is given, and what it leaves.
         ensures answers { self.old.stop ≡ None → Answers S.left S.faults S.is_sound self.old self.new result }
+
+        // Where the source tells what is left: the first due item of it, and then the others are left; a stop only
+        // where there is none, by the size of the feed.
+        ensures in_order { self.old.stop ≡ None → IfSome (S.left self.old.source) (λ rest. AnswersInOrder S.left self.old self.new rest result) }
+
+        // So the due items that are left determine the answer, unless a read failed.
+        ensures exactly { self.old.stop ≡ None → result ≢ Next.Stop FeedStop.Fault → IfSome (S.left self.old.source) (λ rest. IsDetermined self.old rest result) }
 
         // A stop is the last answer.
         ensures stopped { StopsAt self.new result }
