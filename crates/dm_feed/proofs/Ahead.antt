@@ -13,7 +13,7 @@ use Rattle.dm_feed.specs.declared.feed.Next.{Next}
 use Rattle.dm_feed.specs.declared.feed.Next.TheVariants.{Due, Stop}
 use Rattle.dm_feed.specs.Lines.{IsQuiet, Hears}
 use Rattle.dm_feed.specs.Feeds.{IsUnended, without_return, ended, AreQuiet, ReaderValue, GivesDue, GoesOn, Answers}
-use Rattle.dm_feed.specs.DueItems.{pieces_of, last_line, lines_among, ended_among, lines_of, ended_lines_of, lines_within, lines_of_feed, DueItem, item, AreDueItems, lines_ahead, answer_of, GivesFirst, AnswersInOrder, IsDetermined}
+use Rattle.dm_feed.specs.DueItems.{pieces_of, last_line, lines_among, ended_among, lines_of, ended_lines_of, lines_within, lines_of_feed, DueItem, item, AreDueItems, lines_ahead, answer_of, GivesFirst, GivesInTurn, AreFirstOf, AnswersInOrder, IsDetermined}
 use Rattle.dm_feed.specs.Laws.{HaveDueItems}
 use Rattle.dm_feed.specs.Inside.Reading.{heard_in}
 use Rattle.dm_feed.proofs.Hearing.{hears, quiet_or_line}
@@ -259,6 +259,7 @@ module _ {S : Type 0} where
             (subst (λ (n : ℕ). AreDueItems n (lines_ahead now b.behind) has.items) a.lines has.are)));
         behind = b.behind;
         is_left = b.is_left;
+        same_size = omega (arith, a.takes.counted, ap length b.is, length-append a.given b.behind);
         then_ahead = has.are;
         goes_on = then_none left before now rest a.given has.items b a.takes.counted a.within a.goes_on has.are;
       }
@@ -282,6 +283,7 @@ module _ {S : Type 0} where
             (due_first (before.lines + length a.quiet) bytes [] h [] line (subst (λ (l : List ℕ). IsQuiet l → ⊥) text a.is_due) (subst (λ (l : List ℕ). Hears l h) text a.hears) a.number tt));
         behind = b.behind;
         is_left = b.is_left;
+        same_size = omega (arith, a.takes.counted, ap length b.is, length-append a.given b.behind);
         then_ahead = then;
         goes_on = then_none left before now rest a.given [] b a.takes.counted a.within a.goes_on then;
       }
@@ -341,3 +343,46 @@ module _ {S : Type 0} where
 
   pub new_ahead : (now : ReaderValue S) (bytes : List ℕ) → now.pending ≡ [] → now.taken ≡ 0 → lines_ahead now bytes ≡ lines_of_feed bytes
   new_ahead now bytes p t = ahead_is now bytes bytes 262144 (omega (arith, t, ap length p)) (ap (λ (l : List ℕ). l ++ bytes) p)
+
+  -- ---- call after call
+
+  record Turn (left : S → Option (List ℕ)) (before now : ReaderValue S) (rest : List ℕ) (items : List DueItem) : Type 0 where
+    others : List DueItem
+    are : AreDueItems before.lines (lines_ahead before rest) (items ++ others)
+    behind : List ℕ
+    is_left : left now.source ≡ Some behind
+    same_size : now.taken + length behind ≡ before.taken + length rest
+    ahead : AreDueItems now.lines (lines_ahead now behind) others
+
+  in_turn : (left : S → Option (List ℕ)) (before now : ReaderValue S) (rest : List ℕ) (items : List DueItem) → left before.source ≡ Some rest → GivesInTurn left before items now → Turn left before now rest items
+  in_turn left before now rest [] known same =
+      let has = items_of before.lines (lines_ahead before rest) in
+      subst (λ (v : ReaderValue S). Turn left before v rest []) same
+      (record { others = has.items; are = has.are; behind = rest; is_left = known; same_size = refl; ahead = has.are })
+  in_turn left before now rest (item line h ∷ items) known gives =
+      let first : GivesFirst left before gives.0 rest line h = subst (λ (o : Option (List ℕ)). IfSome o (λ rest. GivesFirst left before gives.0 rest line h)) known gives.1 in
+      let u = in_turn left gives.0 now first.behind items first.is_left gives.2 in
+      let same : first.others ≡ items ++ u.others = same_items gives.0.lines (lines_ahead gives.0 first.behind) first.others (items ++ u.others) first.then_ahead u.are in
+      record {
+        others = u.others;
+        are = subst (λ (l : List DueItem). AreDueItems before.lines (lines_ahead before rest) (item line h ∷ l)) same first.ahead;
+        behind = u.behind;
+        is_left = u.is_left;
+        same_size = omega (arith, u.same_size, first.same_size);
+        ahead = u.ahead;
+      }
+
+  pub first_of_feed : (left : S → Option (List ℕ)) (before now : ReaderValue S) (bytes : List ℕ) (items : List DueItem) → before.pending ≡ [] → before.taken ≡ 0 → before.lines ≡ 0 → left before.source ≡ Some bytes
+      → GivesInTurn left before items now → AreFirstOf left now bytes items
+  first_of_feed left before now bytes items p t l known gives =
+      let u = in_turn left before now bytes items known gives in
+      record {
+        others = u.others;
+        are_items =
+            subst (λ (n : ℕ). AreDueItems n (lines_of_feed bytes) (items ++ u.others)) l
+            (subst (λ (ls : List (List ℕ)). AreDueItems before.lines ls (items ++ u.others)) (new_ahead before bytes p t) u.are);
+        behind = u.behind;
+        is_left = u.is_left;
+        same_size = omega (arith, u.same_size, t);
+        ahead = u.ahead;
+      }
