@@ -3,6 +3,7 @@ use Rattle.std.specs.Prelude.{ℕ, ◌≡◌, ◌+◌, ◌-◌, ◌<◌, ◌≤�
 use Rattle.std.specs.List.{slice_split}
 use Rattle.dm_base.specs.declared.limits.TheConstants.{FEED}
 use Rattle.dm_feed.specs.declared.grammar.Heard.{Heard}
+use Rattle.dm_feed.specs.declared.feed.FeedStop.{FeedStop}
 use Rattle.dm_feed.specs.declared.feed.FeedStop.TheVariants.{End, Fault, Long}
 use Rattle.dm_feed.specs.declared.feed.Next.{Next}
 use Rattle.dm_feed.specs.declared.feed.Next.TheVariants.{Due, Stop}
@@ -121,3 +122,16 @@ pub record AreFirstOf {S : Type 0} (left : S → Option (List ℕ)) (now : Reade
   pub is_left : left now.source ≡ Some behind
   pub same_size : now.taken + length behind ≡ length bytes
   pub ahead : AreDueItems now.lines (lines_ahead now behind) others
+  pub goes_on : (now.stop ≡ None) ⊎ ((now.stop ≡ Some End) × (others ≡ []) × (length bytes ≤ FEED))
+
+-- A call that gives a stop answers so: in order, where the reader has not stopped, and otherwise its stop again.
+pub record StopsNext {S : Type 0} (left : S → Option (List ℕ)) (before now : ReaderValue S) (stop : FeedStop) : Type 0 where
+  pub in_order : before.stop ≡ None → IfSome (left before.source) (λ rest. AnswersInOrder left before now rest (Stop stop))
+  pub again : IfSome before.stop (λ first. Stop stop ≡ Stop first)
+
+-- At the end the items are all the feed's due items; it has too many bytes exactly where the stop says so. After a
+-- failed read they are the first ones.
+abbrev pub EndsWith : List ℕ → List DueItem → FeedStop → Type 0
+EndsWith bytes items End = AreItemsOf bytes items × (length bytes ≤ FEED)
+EndsWith bytes items Long = AreItemsOf bytes items × (FEED < length bytes)
+EndsWith bytes items Fault = (others : List DueItem) × AreItemsOf bytes (items ++ others)
