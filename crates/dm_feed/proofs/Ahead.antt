@@ -8,12 +8,13 @@ use Rattle.std.proofs.lemmas.List.Splits.{slice_split_at, slice_split_none, leng
 use Rattle.std.proofs.lemmas.Bool.{ne_eqb, le-leb, lt-leb, leb-true, leb-false}
 use Rattle.dm_feed.specs.declared.grammar.Heard.{Heard}
 use Rattle.dm_feed.specs.declared.grammar.Heard.TheVariants as heard
+use Rattle.dm_feed.specs.declared.feed.FeedStop.{FeedStop}
 use Rattle.dm_feed.specs.declared.feed.FeedStop.TheVariants.{End, Fault, Long}
 use Rattle.dm_feed.specs.declared.feed.Next.{Next}
 use Rattle.dm_feed.specs.declared.feed.Next.TheVariants.{Due, Stop}
 use Rattle.dm_feed.specs.Lines.{IsQuiet, Hears}
 use Rattle.dm_feed.specs.Feeds.{IsUnended, without_return, ended, AreQuiet, ReaderValue, GivesDue, GoesOn, Answers}
-use Rattle.dm_feed.specs.DueItems.{pieces_of, last_line, lines_among, ended_among, lines_of, ended_lines_of, lines_within, lines_of_feed, DueItem, item, AreDueItems, lines_ahead, answer_of, GivesFirst, AnswersInOrder, IsDetermined}
+use Rattle.dm_feed.specs.DueItems.{pieces_of, last_line, lines_among, ended_among, lines_of, ended_lines_of, lines_within, lines_of_feed, DueItem, item, AreDueItems, lines_ahead, answer_of, GivesFirst, GivesInTurn, AreFirstOf, AreItemsOf, StopsNext, EndsWith, AnswersInOrder, IsDetermined}
 use Rattle.dm_feed.specs.Laws.{HaveDueItems}
 use Rattle.dm_feed.specs.Inside.Reading.{heard_in}
 use Rattle.dm_feed.proofs.Hearing.{hears, quiet_or_line}
@@ -186,6 +187,9 @@ no_items : (passed : ℕ) (items : List DueItem) → AreDueItems passed [] items
 no_items passed [] due = refl
 no_items passed (i ∷ items) due = absurd due
 
+all_given : (bytes : List ℕ) (items others : List DueItem) → others ≡ [] → AreItemsOf bytes (items ++ others) → AreItemsOf bytes items
+all_given bytes items others none are = subst (AreItemsOf bytes) (ap (λ (l : List DueItem). items ++ l) none ∙ append-nil items) are
+
 module _ {S : Type 0} where
   whole : (before : ReaderValue S) (rest given behind front tail : List ℕ) → rest ≡ given ++ behind → before.pending ++ given ≡ front ++ tail → before.pending ++ rest ≡ front ++ (tail ++ behind)
   whole before rest given behind front tail e p =
@@ -259,6 +263,7 @@ module _ {S : Type 0} where
             (subst (λ (n : ℕ). AreDueItems n (lines_ahead now b.behind) has.items) a.lines has.are)));
         behind = b.behind;
         is_left = b.is_left;
+        same_size = omega (arith, a.takes.counted, ap length b.is, length-append a.given b.behind);
         then_ahead = has.are;
         goes_on = then_none left before now rest a.given has.items b a.takes.counted a.within a.goes_on has.are;
       }
@@ -282,6 +287,7 @@ module _ {S : Type 0} where
             (due_first (before.lines + length a.quiet) bytes [] h [] line (subst (λ (l : List ℕ). IsQuiet l → ⊥) text a.is_due) (subst (λ (l : List ℕ). Hears l h) text a.hears) a.number tt));
         behind = b.behind;
         is_left = b.is_left;
+        same_size = omega (arith, a.takes.counted, ap length b.is, length-append a.given b.behind);
         then_ahead = then;
         goes_on = then_none left before now rest a.given [] b a.takes.counted a.within a.goes_on then;
       }
@@ -341,3 +347,80 @@ module _ {S : Type 0} where
 
   pub new_ahead : (now : ReaderValue S) (bytes : List ℕ) → now.pending ≡ [] → now.taken ≡ 0 → lines_ahead now bytes ≡ lines_of_feed bytes
   new_ahead now bytes p t = ahead_is now bytes bytes 262144 (omega (arith, t, ap length p)) (ap (λ (l : List ℕ). l ++ bytes) p)
+
+  -- ---- call after call
+
+  record Turn (left : S → Option (List ℕ)) (before now : ReaderValue S) (rest : List ℕ) (items : List DueItem) : Type 0 where
+    others : List DueItem
+    are : AreDueItems before.lines (lines_ahead before rest) (items ++ others)
+    behind : List ℕ
+    is_left : left now.source ≡ Some behind
+    same_size : now.taken + length behind ≡ before.taken + length rest
+    ahead : AreDueItems now.lines (lines_ahead now behind) others
+    goes_on : before.stop ≡ None → (now.stop ≡ None) ⊎ ((now.stop ≡ Some End) × (others ≡ []) × (now.taken + length behind ≤ 262144))
+
+  stopped_last : (left : S → Option (List ℕ)) (mid now : ReaderValue S) (items others : List DueItem) → [] ≡ items ++ others → GivesInTurn left mid items now → (mid ≡ now) × (others ≡ [])
+  stopped_last left mid now [] others e gives = (gives, sym e)
+  stopped_last left mid now (i ∷ items) others e gives = absurd cc
+
+  in_turn : (left : S → Option (List ℕ)) (before now : ReaderValue S) (rest : List ℕ) (items : List DueItem) → left before.source ≡ Some rest → GivesInTurn left before items now → Turn left before now rest items
+  in_turn left before now rest [] known same =
+      let has = items_of before.lines (lines_ahead before rest) in
+      subst (λ (v : ReaderValue S). Turn left before v rest []) same
+      (record { others = has.items; are = has.are; behind = rest; is_left = known; same_size = refl; ahead = has.are; goes_on = λ is_open. inl is_open })
+  in_turn left before now rest (item line h ∷ items) known gives =
+      let first : GivesFirst left before gives.0 rest line h = subst (λ (o : Option (List ℕ)). IfSome o (λ rest. GivesFirst left before gives.0 rest line h)) known gives.1 in
+      let u = in_turn left gives.0 now first.behind items first.is_left gives.2 in
+      let same : first.others ≡ items ++ u.others = same_items gives.0.lines (lines_ahead gives.0 first.behind) first.others (items ++ u.others) first.then_ahead u.are in
+      record {
+        others = u.others;
+        are = subst (λ (l : List DueItem). AreDueItems before.lines (lines_ahead before rest) (item line h ∷ l)) same first.ahead;
+        behind = u.behind;
+        is_left = u.is_left;
+        same_size = omega (arith, u.same_size, first.same_size);
+        ahead = u.ahead;
+        goes_on = λ is_open.
+            elim (first.goes_on) as (λ _. (now.stop ≡ None) ⊎ ((now.stop ≡ Some End) × (u.others ≡ []) × (now.taken + length u.behind ≤ 262144))) [
+              | inl e ↦ u.goes_on e
+              | inr e ↦
+                  let last = stopped_last left gives.0 now items u.others (sym e.1 ∙ same) gives.2 in
+                  inr (sym (ap (λ (v : ReaderValue S). v.stop) last.0) ∙ e.0, last.1, omega (arith, e.2, u.same_size, first.same_size))
+            ];
+      }
+
+  pub first_of_feed : (left : S → Option (List ℕ)) (before now : ReaderValue S) (bytes : List ℕ) (items : List DueItem) → before.pending ≡ [] → before.taken ≡ 0 → before.lines ≡ 0 → before.stop ≡ None → left before.source ≡ Some bytes
+      → GivesInTurn left before items now → AreFirstOf left now bytes items
+  first_of_feed left before now bytes items p t l is_open known gives =
+      let u = in_turn left before now bytes items known gives in
+      record {
+        others = u.others;
+        are_items =
+            subst (λ (n : ℕ). AreDueItems n (lines_of_feed bytes) (items ++ u.others)) l
+            (subst (λ (ls : List (List ℕ)). AreDueItems before.lines ls (items ++ u.others)) (new_ahead before bytes p t) u.are);
+        behind = u.behind;
+        is_left = u.is_left;
+        same_size = omega (arith, u.same_size, t);
+        ahead = u.ahead;
+        goes_on =
+            elim (u.goes_on is_open) as (λ _. (now.stop ≡ None) ⊎ ((now.stop ≡ Some End) × (u.others ≡ []) × (length bytes ≤ 262144))) [
+              | inl e ↦ inl e
+              | inr e ↦ inr (e.0, e.1, omega (arith, e.2, u.same_size, t))
+            ];
+      }
+
+  ends_in_order : (left : S → Option (List ℕ)) (now later : ReaderValue S) (bytes : List ℕ) (items : List DueItem) (stop : FeedStop) (a : AreFirstOf left now bytes items) → AnswersInOrder left now later a.behind (Stop stop) → EndsWith bytes items stop
+  ends_in_order left now later bytes items End a h =
+      (all_given bytes items a.others (same_items now.lines (lines_ahead now a.behind) a.others [] a.ahead h.0) a.are_items, omega (arith, h.1, a.same_size))
+  ends_in_order left now later bytes items Long a h =
+      (all_given bytes items a.others (same_items now.lines (lines_ahead now a.behind) a.others [] a.ahead h.0) a.are_items, omega (arith, h.1, a.same_size))
+  ends_in_order left now later bytes items Fault a h = (a.others, a.are_items)
+
+  pub ends_with : (left : S → Option (List ℕ)) (now later : ReaderValue S) (bytes : List ℕ) (items : List DueItem) (stop : FeedStop) → AreFirstOf left now bytes items → StopsNext left now later stop → EndsWith bytes items stop
+  ends_with left now later bytes items stop a h =
+      elim (a.goes_on) as (λ _. EndsWith bytes items stop) [
+        | inl e ↦ ends_in_order left now later bytes items stop a (subst (λ (o : Option (List ℕ)). IfSome o (λ rest. AnswersInOrder left now later rest (Stop stop))) a.is_left (h.in_order e))
+        | inr e ↦
+            let again : Stop stop ≡ Stop End = subst (λ (o : Option FeedStop). IfSome o (λ first. Stop stop ≡ Stop first)) e.0 h.again in
+            let is_end : stop ≡ End = cc in
+            subst (EndsWith bytes items) (sym is_end) (all_given bytes items a.others e.1 a.are_items, e.2)
+      ]

@@ -1,8 +1,9 @@
 -- The due items of a feed: the lines that are neither blank nor comments, in order, each with its number and meaning.
-use Rattle.std.specs.Prelude.{ℕ, ◌≡◌, ◌+◌, ◌-◌, ◌<◌, ◌≤◌, ◌==◌, ◌⊎◌, nat_le, if◌then◌else◌, List, [], ◌∷◌, ◌++◌, length, take, Option, None, Some}
+use Rattle.std.specs.Prelude.{ℕ, ◌≡◌, ◌+◌, ◌-◌, ◌<◌, ◌≤◌, ◌==◌, ◌⊎◌, nat_le, if◌then◌else◌, List, [], ◌∷◌, ◌++◌, length, take, Option, None, Some, IfSome}
 use Rattle.std.specs.List.{slice_split}
 use Rattle.dm_base.specs.declared.limits.TheConstants.{FEED}
 use Rattle.dm_feed.specs.declared.grammar.Heard.{Heard}
+use Rattle.dm_feed.specs.declared.feed.FeedStop.{FeedStop}
 use Rattle.dm_feed.specs.declared.feed.FeedStop.TheVariants.{End, Fault, Long}
 use Rattle.dm_feed.specs.declared.feed.Next.{Next}
 use Rattle.dm_feed.specs.declared.feed.Next.TheVariants.{Due, Stop}
@@ -85,6 +86,7 @@ pub record GivesFirst {S : Type 0} (left : S → Option (List ℕ)) (before now 
   pub ahead : AreDueItems before.lines (lines_ahead before rest) (item line heard ∷ others)
   pub behind : List ℕ
   pub is_left : left now.source ≡ Some behind
+  pub same_size : now.taken + length behind ≡ before.taken + length rest
   pub then_ahead : AreDueItems now.lines (lines_ahead now behind) others
   pub goes_on : (now.stop ≡ None) ⊎ ((now.stop ≡ Some End) × (others ≡ []) × (before.taken + length rest ≤ FEED))
 
@@ -103,3 +105,33 @@ AnswersInOrder left before now rest (Stop Fault) = Unit {0}
 abbrev pub IsDetermined : {S : Type 0} → ReaderValue S → List ℕ → Next → Type 0
 IsDetermined before rest next =
     (items : List DueItem) → AreDueItems before.lines (lines_ahead before rest) items → next ≡ answer_of items (before.taken + length rest)
+
+-- ---- call after call
+
+-- These due items were given, a call after another.
+abbrev pub GivesInTurn : {S : Type 0} → (S → Option (List ℕ)) → ReaderValue S → List DueItem → ReaderValue S → Type 0
+GivesInTurn left before [] now = before ≡ now
+GivesInTurn left before (item line heard ∷ items) now =
+    (mid : ReaderValue _) × IfSome (left before.source) (λ rest. GivesFirst left before mid rest line heard) × GivesInTurn left mid items now
+
+-- The items that were given are the first of the feed's due items, and the others are ahead.
+pub record AreFirstOf {S : Type 0} (left : S → Option (List ℕ)) (now : ReaderValue S) (bytes : List ℕ) (items : List DueItem) : Type 0 where
+  pub others : List DueItem
+  pub are_items : AreItemsOf bytes (items ++ others)
+  pub behind : List ℕ
+  pub is_left : left now.source ≡ Some behind
+  pub same_size : now.taken + length behind ≡ length bytes
+  pub ahead : AreDueItems now.lines (lines_ahead now behind) others
+  pub goes_on : (now.stop ≡ None) ⊎ ((now.stop ≡ Some End) × (others ≡ []) × (length bytes ≤ FEED))
+
+-- A call that gives a stop answers so: in order, where the reader has not stopped, and otherwise its stop again.
+pub record StopsNext {S : Type 0} (left : S → Option (List ℕ)) (before now : ReaderValue S) (stop : FeedStop) : Type 0 where
+  pub in_order : before.stop ≡ None → IfSome (left before.source) (λ rest. AnswersInOrder left before now rest (Stop stop))
+  pub again : IfSome before.stop (λ first. Stop stop ≡ Stop first)
+
+-- At the end the items are all the feed's due items; it has too many bytes exactly where the stop says so. After a
+-- failed read they are the first ones.
+abbrev pub EndsWith : List ℕ → List DueItem → FeedStop → Type 0
+EndsWith bytes items End = AreItemsOf bytes items × (length bytes ≤ FEED)
+EndsWith bytes items Long = AreItemsOf bytes items × (FEED < length bytes)
+EndsWith bytes items Fault = (others : List DueItem) × AreItemsOf bytes (items ++ others)

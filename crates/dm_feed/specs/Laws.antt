@@ -1,11 +1,12 @@
 -- What follows from what lines say and how they are spelled.
-use Rattle.std.specs.Prelude.{ℕ, ◌≡◌, List, [], All}
+use Rattle.std.specs.Prelude.{ℕ, ◌≡◌, List, [], All, Option, None, Some}
 use Rattle.dm_rows.specs.declared.messages.Message.{Message}
 use Rattle.dm_feed.specs.declared.grammar.Line.{Line}
 use Rattle.dm_feed.specs.declared.grammar.Heard.{Heard}
 use Rattle.dm_feed.specs.declared.grammar.Heard.TheVariants.{Line as Spoken}
 use Rattle.dm_feed.specs.Parts.{Fits}
-use Rattle.dm_feed.specs.DueItems.{DueItem, AreDueItems, lines_ahead, lines_of_feed}
+use Rattle.dm_feed.specs.declared.feed.FeedStop.{FeedStop}
+use Rattle.dm_feed.specs.DueItems.{DueItem, AreDueItems, lines_ahead, lines_of_feed, GivesInTurn, AreFirstOf, StopsNext, EndsWith}
 use Rattle.dm_feed.specs.Feeds.{ReaderValue}
 use Rattle.dm_feed.specs.Lines.{parts_of_line, IsSpelledLine, Hears, spelling_of_line, IsMessageOf}
 
@@ -34,3 +35,14 @@ AreOneMessage = (bytes : List ℕ) (one other : Message) → IsMessageOf one byt
 -- a new reader of a source that has these bytes left has the lines of the feed ahead
 abbrev pub HaveAllAhead : Type 0 → Type 0
 HaveAllAhead S = (now : ReaderValue S) (bytes : List ℕ) → now.pending ≡ [] → now.taken ≡ 0 → lines_ahead now bytes ≡ lines_of_feed bytes
+
+-- what a new reader gives call after call are the first due items of its feed
+abbrev pub GiveItemsOfFeed : Type 0 → Type 0
+GiveItemsOfFeed S =
+    (left : S → Option (List ℕ)) (before now : ReaderValue S) (bytes : List ℕ) (items : List DueItem) → before.pending ≡ [] → before.taken ≡ 0 → before.lines ≡ 0 → before.stop ≡ None
+    → left before.source ≡ Some bytes → GivesInTurn left before items now → AreFirstOf left now bytes items
+
+-- the stop behind them tells whether they are all, and the size of the feed
+abbrev pub EndAsStopped : Type 0 → Type 0
+EndAsStopped S =
+    (left : S → Option (List ℕ)) (now later : ReaderValue S) (bytes : List ℕ) (items : List DueItem) (stop : FeedStop) → AreFirstOf left now bytes items → StopsNext left now later stop → EndsWith bytes items stop

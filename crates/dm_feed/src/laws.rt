@@ -1,5 +1,5 @@
 //! What follows from the definitions alone: each function here does nothing, and its clause is the law.
-ghost use Rattle.dm_feed.specs.Laws.{AreHeardAsPrinted, HaveOneMeaning, HaveDueItems, AreOneMessage, HaveAllAhead};
+ghost use Rattle.dm_feed.specs.Laws.{AreHeardAsPrinted, HaveOneMeaning, HaveDueItems, AreOneMessage, HaveAllAhead, GiveItemsOfFeed, EndAsStopped};
 
 /// A line that is printed is heard as itself.
 #[tactic(auto, using(crate::proofs::Spelling::printed_is_heard))]
@@ -27,4 +27,14 @@ pub fn spellings_are_one_message()
 /// What a new reader has ahead is the feed's lines, so its answers are the feed's due items.
 pub fn new_readers_have_all_ahead<S>()
     ensures { HaveAllAhead S }
+{}
+
+/// What a new reader gives call after call are the first due items of its feed.
+pub fn new_readers_give_the_feeds_items<S>()
+    ensures { GiveItemsOfFeed S }
+{}
+
+/// The stop behind them tells whether they are all, and the size of the feed.
+pub fn stops_tell_what_was_given<S>()
+    ensures { EndAsStopped S }
 {}
