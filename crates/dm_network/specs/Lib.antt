@@ -5,6 +5,5 @@ pub mod Pairs
 pub mod Held
 pub mod Start
 pub mod Build
-
 -- Rows of places in flat lists, and the stages of a build: checked, so that a reader need not believe them.
 pub mod Inside
