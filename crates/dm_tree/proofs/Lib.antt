@@ -1,4 +1,5 @@
 pub mod Filled
+pub mod Ends
 pub mod Walked
 pub mod Shown
 pub mod Standing

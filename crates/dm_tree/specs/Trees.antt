@@ -1,5 +1,5 @@
 -- Trees of choices: their nodes in preorder, what stands at a path, their leaves, and the least tree with given leaves.
-use Rattle.std.specs.Prelude.{ℕ, ◌≡◌, ◌<◌, ◌⊎◌, List, [], ◌∷◌, ◌++◌, slice_get, Option, Some, None, All, Contains}
+use Rattle.std.specs.Prelude.{ℕ, ◌≡◌, ◌+◌, ◌<◌, ◌≤◌, ◌⊎◌, List, [], ◌∷◌, ◌++◌, length, drop, slice_get, Option, Some, None, All, Contains}
 use Rattle.dm_rows.specs.declared.messages.Choice.{Choice}
 use Rattle.dm_rows.specs.declared.messages.Choice.TheVariants.{Change, Pair}
 use Rattle.dm_rows.specs.declared.messages.Decision.{Decision}
@@ -76,6 +76,27 @@ pub record IsTree (nodes : List Node) : Type 0 where
   pub in_preorder : preorder shape ≡ nodes
   pub proper : IsProper shape
   pub whole : IsWhole shape
+
+-- the nodes from one place up to another are one whole tree in preorder
+pub record IsTreeBetween (nodes : List Node) (from to : ℕ) : Type 0 where
+  pub shape : Shape
+  pub in_preorder : drop from nodes ≡ preorder shape ++ drop to nodes
+  pub within : to ≤ length nodes
+  pub proper : IsProper shape
+  pub whole : IsWhole shape
+
+-- At the place stands a choice, and its second child at the other: the nodes between the two are the first child's whole
+-- tree, and the second's goes from there up to some end.
+pub record IsSecondChild (nodes : List Node) (place second : ℕ) : Type 0 where
+  pub choice : Choice
+  pub stands : slice_get nodes place ≡ Some (Inner choice)
+  pub first_tree : IsTreeBetween nodes (place + 1) second
+  pub end : ℕ
+  pub second_tree : IsTreeBetween nodes second end
+
+-- no choice stands at the place
+abbrev pub HasNoChoiceAt : List Node → ℕ → Type 0
+HasNoChoiceAt nodes place = (c : Choice) → slice_get nodes place ≡ Some (Inner c) → ⊥
 
 -- the decisions from the root lead to the node
 abbrev pub StandsAt : Shape → List Decision → Node → Type 0
