@@ -4,10 +4,11 @@ use Rattle.std.proofs.lemmas.Bool.{cases_lt, cases_eq}
 use Rattle.std.proofs.lemmas.List.{drop_all, drop_more, get_or_read}
 use Rattle.std.proofs.lemmas.Option.{get_or_from_slice_get, slice_get-get_or}
 use Rattle.dm_rows.specs.declared.messages.Choice.{Choice}
+use Rattle.dm_tree.specs.declared.forms.Child.{Child}
 use Rattle.dm_tree.specs.declared.forms.Node.{Node}
 use Rattle.dm_tree.specs.declared.forms.Node.TheVariants.{Inner, Cycle, Bound, Open, Hole}
-use Rattle.dm_tree.specs.Trees.{leaf, branch, preorder, IsOrdered, IsLeaf, IsNoHole, IsTreeBetween, IsSecondChild, HasNoChoiceAt}
-use Rattle.dm_tree.specs.Inside.Filling.{is_ordered, is_none_left, fills, AreEndsFrom}
+use Rattle.dm_tree.specs.Trees.{Shape, leaf, branch, preorder, IsOrdered, IsLeaf, IsNoHole, IsTreeBetween, IsProper, IsSecondChild, HasNoChoiceAt, LiesIn, LiesNotBelow, IsChildTowards}
+use Rattle.dm_tree.specs.Inside.Filling.{is_ordered, is_none_left, fills, AreEndsFrom, IsSideOf}
 use Rattle.dm_tree.proofs.Filled.{both, ordered_from, some_more, one_back, filled}
 
 -- the nodes left at a place are one tree and some more after it
@@ -214,4 +215,116 @@ second_stands nodes ends place x c s e lt read is kept known =
       first_tree = subst (λ k. IsTreeBetween nodes (place + 1) k) (sym place_is) h.first_tree;
       end = get_or ends (get_or ends (place + 1) 0) 0;
       second_tree = subst (λ k. IsTreeBetween nodes k (get_or ends (get_or ends (place + 1) 0) 0)) (sym place_is) h.second_tree;
+    }
+
+same_tail : (m n : Node) (x y : List Node) → (m ∷ x) ≡ (n ∷ y) → x ≡ y
+same_tail m n x y e = cc
+
+same_head : (m n : Node) (x y : List Node) → (m ∷ x) ≡ (n ∷ y) → m ≡ n
+same_head m n x y e = cc
+
+-- what follows a tree is fixed by the nodes
+pub one_tree : (a b : Shape) (x y : List Node) → IsProper a → IsProper b → preorder a ++ x ≡ preorder b ++ y → x ≡ y
+one_tree (leaf m) (leaf n) x y p q e = same_tail m n x y e
+one_tree (leaf m) (branch c a b) x y p q e = absurd (leaf_is_no_choice c (subst IsLeaf (same_head m (Inner c) x _ e) p))
+one_tree (branch c a b) (leaf m) x y p q e = absurd (leaf_is_no_choice c (subst IsLeaf (sym (same_head (Inner c) m _ y e)) q))
+one_tree (branch c a b) (branch d u v) x y p q e =
+    let rest : (preorder a ++ preorder b) ++ x ≡ (preorder u ++ preorder v) ++ y =
+    same_tail (Inner c) (Inner d) ((preorder a ++ preorder b) ++ x) ((preorder u ++ preorder v) ++ y) e in
+    one_tree b v x y p.2 q.2
+    (one_tree a u (preorder b ++ x) (preorder v ++ y) p.1 q.1
+    (sym (append_assoc (preorder a) (preorder b) x) ∙ (rest ∙ append_assoc (preorder u) (preorder v) y)))
+
+-- the tree that begins at a place has one end
+pub one_end : (nodes : List Node) (i e f : ℕ) → IsTreeBetween nodes i e → IsTreeBetween nodes i f → e ≡ f
+one_end nodes i e f t u =
+    let same : drop e nodes ≡ drop f nodes =
+    one_tree t.shape u.shape (drop e nodes) (drop f nodes) t.proper u.proper (sym t.in_preorder ∙ u.in_preorder) in
+    let size : length (drop e nodes) ≡ length (drop f nodes) = ap length same in
+    let a : e ≤ length nodes = t.within in
+    let b : f ≤ length nodes = u.within in
+    omega (arith, length-drop e nodes, length-drop f nodes)
+
+pub not_before : (nodes : List Node) (place target : ℕ) → target ≤ place → LiesNotBelow nodes place target
+not_before nodes place target le l = let a : place ≤ target = l.from_root in omega arith
+
+pub not_outside : (nodes : List Node) (place target : ℕ) → length nodes ≤ place → LiesNotBelow nodes place target
+not_outside nodes place target le l =
+    let a : place ≤ target = l.from_root in
+    let b : target < l.end = l.before_end in
+    let c : l.end ≤ length nodes = l.tree.within in
+    absurd (omega arith)
+
+pub not_behind : (nodes : List Node) (place target e : ℕ) → IsTreeBetween nodes place e → e ≤ target → LiesNotBelow nodes place target
+not_behind nodes place target e t le l =
+    let same : l.end ≡ e = one_end nodes place l.end e l.tree t in
+    let b : target < l.end = l.before_end in
+    absurd (omega arith)
+
+pub not_below_leaf : (nodes : List Node) (place target : ℕ) (x : Node) → fills false 0 nodes ≡ true → place < length nodes →
+    x ≡ get_or nodes place x → IsLeaf x → LiesNotBelow nodes place target
+not_below_leaf nodes place target x e lt read is l =
+    let same : l.end ≡ place + 1 =
+    one_end nodes place l.end (place + 1) l.tree (leaf_ends nodes place x e lt (subst IsLeaf read is)) in
+    let a : place ≤ target = l.from_root in
+    let b : target < l.end = l.before_end in
+    omega arith
+
+-- the end that is kept for a place
+pub kept_end : (nodes : List Node) (ends : List ℕ) (place r : ℕ) → AreEndsFrom 0 nodes ends → place < length nodes →
+    r ≡ get_or ends place r → r ≡ get_or ends place 0
+kept_end nodes ends place r known lt read =
+    let size : length ends ≡ length nodes = known.0 in get_or_read ends place r (omega arith) read 0
+
+pub not_behind_kept : (nodes : List Node) (ends : List ℕ) (place target r : ℕ) → AreEndsFrom 0 nodes ends → place < length nodes →
+    r ≡ get_or ends place r → r ≤ target → LiesNotBelow nodes place target
+not_behind_kept nodes ends place target r known lt read le =
+    let is : r ≡ get_or ends place 0 = kept_end nodes ends place r known lt read in
+    not_behind nodes place target (get_or ends place 0) (known.1 place (omega arith) lt) (omega arith)
+
+-- the child whose tree the target lies in
+pub towards : (nodes : List Node) (ends : List ℕ) (place target : ℕ) (x : Node) (c : Choice) (s : ℕ) (child : Child) →
+    fills false 0 nodes ≡ true → place < length nodes → x ≡ get_or nodes place x → x ≡ Inner c → s ≡ get_or ends (place + 1) s →
+    AreEndsFrom 0 nodes ends → place < target → (r : ℕ) → r ≡ get_or ends place r → target < r → IsSideOf c place s target child →
+    IsChildTowards nodes place target child
+towards nodes ends place target x c s child e lt read is kept known behind r read_end before (inl side) =
+    let h = known_children nodes ends place x c e lt read is known in
+    let place_is : s ≡ get_or ends (place + 1) 0 =
+    get_or_read ends (place + 1) s (first_has_end nodes ends place x c e lt read is known) kept 0 in
+    let there : child.place ≡ place + 1 = side.2 in
+    record {
+      is_child = record {
+        choice = c;
+        stands = slice_get-get_or nodes place x lt ∙ ap Some (sym read ∙ is);
+        side = inl (side.1, side.2);
+      };
+      below = record {
+        end = get_or ends (place + 1) 0;
+        tree = subst (λ (k : ℕ). IsTreeBetween nodes k (get_or ends (place + 1) 0)) (sym there) h.first_tree;
+        from_root = omega arith;
+        before_end = let t : target < s = side.0 in omega arith;
+      };
+    }
+towards nodes ends place target x c s child e lt read is kept known behind r read_end before (inr side) =
+    let h = known_children nodes ends place x c e lt read is known in
+    let place_is : s ≡ get_or ends (place + 1) 0 =
+    get_or_read ends (place + 1) s (first_has_end nodes ends place x c e lt read is known) kept 0 in
+    let there : child.place ≡ s = side.2 in
+    let last : ℕ = get_or ends (get_or ends (place + 1) 0) 0 in
+    let end_is : r ≡ get_or ends place 0 = kept_end nodes ends place r known lt read_end in
+    let same : get_or ends place 0 ≡ last =
+    one_end nodes place (get_or ends place 0) last (known.1 place (omega arith) lt)
+    (branch_ends nodes ends place x c lt (sym read ∙ is) h) in
+    record {
+      is_child = record {
+        choice = c;
+        stands = slice_get-get_or nodes place x lt ∙ ap Some (sym read ∙ is);
+        side = inr (side.1, subst (λ (k : ℕ). IsSecondChild nodes place k) (sym there) (second_stands nodes ends place x c s e lt read is kept known));
+      };
+      below = record {
+        end = last;
+        tree = subst (λ (k : ℕ). IsTreeBetween nodes k last) (sym (there ∙ place_is)) h.second_tree;
+        from_root = let t : s ≤ target = side.0 in omega arith;
+        before_end = omega arith;
+      };
     }

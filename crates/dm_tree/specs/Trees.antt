@@ -7,6 +7,7 @@ use Rattle.dm_rows.specs.declared.messages.Decision.TheVariants.{Keep, Drop, Fir
 use Rattle.dm_tree.specs.declared.forms.Node.{Node}
 use Rattle.dm_tree.specs.declared.forms.Node.TheVariants.{Inner, Cycle, Bound, Open, Hole}
 use Rattle.dm_tree.specs.declared.forms.Leaf.{Leaf}
+use Rattle.dm_tree.specs.declared.forms.Child.{Child}
 
 -- a tree: a leaf, or a choice with the tree below its first decision and the tree below its second
 pub data Shape : Type 0 where
@@ -93,6 +94,29 @@ pub record IsSecondChild (nodes : List Node) (place second : ℕ) : Type 0 where
   pub first_tree : IsTreeBetween nodes (place + 1) second
   pub end : ℕ
   pub second_tree : IsTreeBetween nodes second end
+
+-- a child of the choice at the place, with the decision that leads to it
+pub record IsChildOf (nodes : List Node) (place : ℕ) (child : Child) : Type 0 where
+  pub choice : Choice
+  pub stands : slice_get nodes place ≡ Some (Inner choice)
+  pub side : ((child.decision ≡ first_decision choice) × (child.place ≡ place + 1))
+      ⊎ ((child.decision ≡ second_decision choice) × IsSecondChild nodes place child.place)
+
+-- the place lies in the tree that begins at the root
+pub record LiesIn (nodes : List Node) (root place : ℕ) : Type 0 where
+  pub end : ℕ
+  pub tree : IsTreeBetween nodes root end
+  pub from_root : root ≤ place
+  pub before_end : place < end
+
+-- the child of the choice at a place in whose tree the target lies
+pub record IsChildTowards (nodes : List Node) (place target : ℕ) (child : Child) : Type 0 where
+  pub is_child : IsChildOf nodes place child
+  pub below : LiesIn nodes child.place target
+
+-- the target lies in no tree of a child
+abbrev pub LiesNotBelow : List Node → ℕ → ℕ → Type 0
+LiesNotBelow nodes place target = LiesIn nodes place target → target ≡ place
 
 -- no choice stands at the place
 abbrev pub HasNoChoiceAt : List Node → ℕ → Type 0

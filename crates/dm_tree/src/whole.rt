@@ -1,9 +1,10 @@
 //! Whole trees.
 ghost use Rattle.std.specs.Prelude.{◌≡◌, ◌+◌, ◌<◌, length, IfOk, IfErr, MatchOption, false, true, Ok, Err};
-ghost use Rattle.dm_tree.specs.Trees.{IsTree, IsTreeBetween, IsSecondChild, HasNoChoiceAt};
-ghost use Rattle.dm_tree.specs.Inside.Filling.{fills, AreEndsFrom, is_ordered as ordered};
+ghost use Rattle.dm_tree.specs.Trees.{IsTree, IsTreeBetween, IsSecondChild, HasNoChoiceAt, IsChildTowards, LiesNotBelow};
+ghost use Rattle.dm_tree.specs.Inside.Filling.{fills, AreEndsFrom, IsSideOf, is_ordered as ordered};
 
-use crate::{AssembleFault, Node};
+use crate::paths::{first_of, other};
+use crate::{AssembleFault, Child, Node};
 use dm_rows::Choice;
 use std::alloc::{AllocError, Global};
 use std::marker::Model;
@@ -68,6 +69,20 @@ impl Tree {
             Node::Cycle | Node::Bound(_) | Node::Open(_) | Node::Hole => None,
         }
     }
+
+    /// The child of the choice at a place in whose tree the target lies, or None where it lies in neither. From the root,
+    /// which stands at 0, the children towards a leaf have the decisions of its path. It takes no memory.
+    pub fn child_towards(&self, place: usize, target: usize) -> Option<Child>
+        ensures { MatchOption result (LiesNotBelow self.now place target) (λ child. IsChildTowards self.now place target child) }
+    {
+        if target <= place || place >= self.nodes.len() || self.ends[place] <= target {
+            return None;
+        }
+        match self.nodes[place] {
+            Node::Inner(choice) => Some(child_of(choice, place, self.ends[place + 1], target)),
+            Node::Cycle | Node::Bound(_) | Node::Open(_) | Node::Hole => None,
+        }
+    }
 }
 
 /// How many nodes the tree has. It takes no memory.
@@ -110,6 +125,25 @@ fn fills_one_place(nodes: &[Node]) -> bool
         }
     }
     false
+}
+
+/// The child of a choice for a target behind it, where the second one stands at a place.
+fn child_of(choice: Choice, place: usize, second: usize, target: usize) -> Child
+    requires { place < target }
+    ensures { IsSideOf choice place second target result }
+{
+    let first = first_of(choice);
+    if target < second {
+        Child {
+            decision: first,
+            place: place + 1,
+        }
+    } else {
+        Child {
+            decision: other(first),
+            place: second,
+        }
+    }
 }
 
 /// For each place the place behind the tree that begins there.
