@@ -7,7 +7,7 @@ use Rattle.dm_rows.specs.declared.messages.Choice.{Choice}
 use Rattle.dm_tree.specs.declared.forms.Child.{Child}
 use Rattle.dm_tree.specs.declared.forms.Node.{Node}
 use Rattle.dm_tree.specs.declared.forms.Node.TheVariants.{Inner, Cycle, Bound, Open, Hole}
-use Rattle.dm_tree.specs.Trees.{Shape, leaf, branch, preorder, IsOrdered, IsLeaf, IsNoHole, IsTreeBetween, IsProper, IsSecondChild, HasNoChoiceAt, LiesIn, LiesNotBelow, IsChildTowards}
+use Rattle.dm_tree.specs.Trees.{Shape, leaf, branch, preorder, IsOrdered, IsLeaf, IsNoHole, IsTreeBetween, IsProper, IsSecondChild, HasNoChoiceAt, LiesNotBelow, IsChildTowards}
 use Rattle.dm_tree.specs.Inside.Filling.{is_ordered, is_none_left, fills, AreEndsFrom, IsSideOf}
 use Rattle.dm_tree.proofs.Filled.{both, ordered_from, some_more, one_back, filled}
 
@@ -148,7 +148,7 @@ leaf_ends nodes place d e lt l =
       whole = no_hole f.more n (drop (place + 1) nodes) (subst (λ xs. fills false f.more xs ≡ true) here f.fill);
     }
 
-leaf_is_no_choice : (c : Choice) → IsLeaf (Inner c) → ⊥
+pub leaf_is_no_choice : (c : Choice) → IsLeaf (Inner c) → ⊥
 leaf_is_no_choice c l = l
 
 pub no_choice : (nodes : List Node) (place : ℕ) (x : Node) → x ≡ get_or nodes place x → IsLeaf x → HasNoChoiceAt nodes place
@@ -217,10 +217,10 @@ second_stands nodes ends place x c s e lt read is kept known =
       second_tree = subst (λ k. IsTreeBetween nodes k (get_or ends (get_or ends (place + 1) 0) 0)) (sym place_is) h.second_tree;
     }
 
-same_tail : (m n : Node) (x y : List Node) → (m ∷ x) ≡ (n ∷ y) → x ≡ y
+pub same_tail : (m n : Node) (x y : List Node) → (m ∷ x) ≡ (n ∷ y) → x ≡ y
 same_tail m n x y e = cc
 
-same_head : (m n : Node) (x y : List Node) → (m ∷ x) ≡ (n ∷ y) → m ≡ n
+pub same_head : (m n : Node) (x y : List Node) → (m ∷ x) ≡ (n ∷ y) → m ≡ n
 same_head m n x y e = cc
 
 -- what follows a tree is fixed by the nodes

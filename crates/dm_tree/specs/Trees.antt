@@ -102,6 +102,12 @@ pub record IsChildOf (nodes : List Node) (place : ℕ) (child : Child) : Type 0 
   pub side : ((child.decision ≡ first_decision choice) × (child.place ≡ place + 1))
       ⊎ ((child.decision ≡ second_decision choice) × IsSecondChild nodes place child.place)
 
+-- the decisions lead from the node at the place to the one at the target, each to a child of the choice that is reached
+abbrev pub Leads : List Node → ℕ → List Decision → ℕ → Type 0
+Leads nodes place [] target = place ≡ target
+Leads nodes place (d ∷ path) target =
+    (child : ℕ) × IsChildOf nodes place (record { decision = d; place = child }) × Leads nodes child path target
+
 -- the place lies in the tree that begins at the root
 pub record LiesIn (nodes : List Node) (root place : ℕ) : Type 0 where
   pub end : ℕ
@@ -172,3 +178,9 @@ pub record Assembles (leaves : List Leaf) (nodes : List Node) : Type 0 where
 -- no tree has these leaves
 abbrev pub HaveNoTree : List Leaf → Type 0
 HaveNoTree leaves = (shape : Shape) → IsProper shape → HasLeaves shape leaves → ⊥
+
+-- the decisions that lead from the root to a place are those of the node that stands there
+abbrev pub LeadsToWhatStands : Type 0
+LeadsToWhatStands =
+    (shape : Shape) → IsProper shape → (path : List Decision) (place : ℕ) (n : Node) → Leads (preorder shape) 0 path place →
+    slice_get (preorder shape) place ≡ Some n → StandsAt shape path n
