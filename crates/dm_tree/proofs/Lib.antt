@@ -1,4 +1,6 @@
 pub mod Filled
+pub mod Ends
+pub mod Led
 pub mod Walked
 pub mod Shown
 pub mod Standing

@@ -1,12 +1,12 @@
 -- The relaxed problem of a path: the timetables over the activities that it holds, and their cost.
-use Rattle.std.specs.Prelude.{ℕ, ◌≡◌, List, Contains}
+use Rattle.std.specs.Prelude.{ℕ, List, Contains}
 use Rattle.dm_network.specs.Net.{Net}
 use Rattle.dm_network.specs.Held.{IsCycleOf, HasNoCycleOf}
 use Rattle.dm_rows.specs.declared.messages.Decision.{Decision}
 use Rattle.dm_rows.specs.declared.messages.Choice.{Choice}
 use Rattle.dm_rows.specs.Rows.{RowsValue}
 use Rattle.dm_rows.specs.Timetable.{IsLeastHolding}
-use Rattle.dm_rows.specs.Cost.{cost_charging}
+use Rattle.dm_rows.specs.Cost.{cost_charging, CostsHolding}
 use Rattle.dm_rows.specs.Decide.{with_decisions}
 use Rattle.dm_rows.specs.Relax.{is_relaxed_active, is_relaxed_dropped, violated_choices_of}
 
@@ -23,10 +23,9 @@ relaxed_cost_of net rows path x penalty =
     cost_charging net (with_decisions net rows path) (is_relaxed_dropped net rows path) x penalty
 
 -- the relaxed problem of the path costs c: the relaxed cost of its least timetable
-pub record RelaxedCosts (net : Net) (rows : RowsValue) (path : List Decision) (penalty c : ℕ) : Type 0 where
-  pub times : List ℕ
-  pub least : IsRelaxedLeast net rows path times
-  pub cost : c ≡ relaxed_cost_of net rows path times penalty
+abbrev pub RelaxedCosts : Net → RowsValue → List Decision → ℕ → ℕ → Type 0
+RelaxedCosts net rows path penalty c =
+    CostsHolding net (with_decisions net rows path) (is_relaxed_active net rows path) (is_relaxed_dropped net rows path) penalty c
 
 -- a cycle of what the relaxed problem holds, and that there is none
 abbrev pub IsRelaxedCycle : Net → RowsValue → List Decision → List ℕ → Type 0

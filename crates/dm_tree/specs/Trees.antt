@@ -1,5 +1,5 @@
 -- Trees of choices: their nodes in preorder, what stands at a path, their leaves, and the least tree with given leaves.
-use Rattle.std.specs.Prelude.{ℕ, ◌≡◌, ◌<◌, ◌⊎◌, List, [], ◌∷◌, ◌++◌, slice_get, Option, Some, None, All, Contains}
+use Rattle.std.specs.Prelude.{ℕ, ◌≡◌, ◌+◌, ◌<◌, ◌≤◌, ◌⊎◌, List, [], ◌∷◌, ◌++◌, length, drop, slice_get, Option, Some, None, All, Contains}
 use Rattle.dm_rows.specs.declared.messages.Choice.{Choice}
 use Rattle.dm_rows.specs.declared.messages.Choice.TheVariants.{Change, Pair}
 use Rattle.dm_rows.specs.declared.messages.Decision.{Decision}
@@ -7,6 +7,7 @@ use Rattle.dm_rows.specs.declared.messages.Decision.TheVariants.{Keep, Drop, Fir
 use Rattle.dm_tree.specs.declared.forms.Node.{Node}
 use Rattle.dm_tree.specs.declared.forms.Node.TheVariants.{Inner, Cycle, Bound, Open, Hole}
 use Rattle.dm_tree.specs.declared.forms.Leaf.{Leaf}
+use Rattle.dm_tree.specs.declared.forms.Child.{Child}
 
 -- a tree: a leaf, or a choice with the tree below its first decision and the tree below its second
 pub data Shape : Type 0 where
@@ -77,6 +78,56 @@ pub record IsTree (nodes : List Node) : Type 0 where
   pub proper : IsProper shape
   pub whole : IsWhole shape
 
+-- the nodes from one place up to another are one whole tree in preorder
+pub record IsTreeBetween (nodes : List Node) (from to : ℕ) : Type 0 where
+  pub shape : Shape
+  pub in_preorder : drop from nodes ≡ preorder shape ++ drop to nodes
+  pub within : to ≤ length nodes
+  pub proper : IsProper shape
+  pub whole : IsWhole shape
+
+-- At the place stands a choice, and its second child at the other: the nodes between the two are the first child's whole
+-- tree, and the second's goes from there up to some end.
+pub record IsSecondChild (nodes : List Node) (place second : ℕ) : Type 0 where
+  pub choice : Choice
+  pub stands : slice_get nodes place ≡ Some (Inner choice)
+  pub first_tree : IsTreeBetween nodes (place + 1) second
+  pub end : ℕ
+  pub second_tree : IsTreeBetween nodes second end
+
+-- a child of the choice at the place, with the decision that leads to it
+pub record IsChildOf (nodes : List Node) (place : ℕ) (child : Child) : Type 0 where
+  pub choice : Choice
+  pub stands : slice_get nodes place ≡ Some (Inner choice)
+  pub side : ((child.decision ≡ first_decision choice) × (child.place ≡ place + 1))
+      ⊎ ((child.decision ≡ second_decision choice) × IsSecondChild nodes place child.place)
+
+-- the decisions lead from the node at the place to the one at the target, each to a child of the choice that is reached
+abbrev pub Leads : List Node → ℕ → List Decision → ℕ → Type 0
+Leads nodes place [] target = place ≡ target
+Leads nodes place (d ∷ path) target =
+    (child : ℕ) × IsChildOf nodes place (record { decision = d; place = child }) × Leads nodes child path target
+
+-- the place lies in the tree that begins at the root
+pub record LiesIn (nodes : List Node) (root place : ℕ) : Type 0 where
+  pub end : ℕ
+  pub tree : IsTreeBetween nodes root end
+  pub from_root : root ≤ place
+  pub before_end : place < end
+
+-- the child of the choice at a place in whose tree the target lies
+pub record IsChildTowards (nodes : List Node) (place target : ℕ) (child : Child) : Type 0 where
+  pub is_child : IsChildOf nodes place child
+  pub below : LiesIn nodes child.place target
+
+-- the target lies in no tree of a child
+abbrev pub LiesNotBelow : List Node → ℕ → ℕ → Type 0
+LiesNotBelow nodes place target = LiesIn nodes place target → target ≡ place
+
+-- no choice stands at the place
+abbrev pub HasNoChoiceAt : List Node → ℕ → Type 0
+HasNoChoiceAt nodes place = (c : Choice) → slice_get nodes place ≡ Some (Inner c) → ⊥
+
 -- the decisions from the root lead to the node
 abbrev pub StandsAt : Shape → List Decision → Node → Type 0
 StandsAt (leaf n) [] m = n ≡ m
@@ -127,3 +178,9 @@ pub record Assembles (leaves : List Leaf) (nodes : List Node) : Type 0 where
 -- no tree has these leaves
 abbrev pub HaveNoTree : List Leaf → Type 0
 HaveNoTree leaves = (shape : Shape) → IsProper shape → HasLeaves shape leaves → ⊥
+
+-- the decisions that lead from the root to a place are those of the node that stands there
+abbrev pub LeadsToWhatStands : Type 0
+LeadsToWhatStands =
+    (shape : Shape) → IsProper shape → (path : List Decision) (place : ℕ) (n : Node) → Leads (preorder shape) 0 path place →
+    slice_get (preorder shape) place ≡ Some n → StandsAt shape path n

@@ -46,6 +46,13 @@ pub struct Leaf {
     pub node: Node,
 }
 
+/// A child of a choice: the decision that leads to it, and the place where it stands in preorder.
+#[derive(Clone, Copy, PartialEq, Eq, Debug)]
+pub struct Child {
+    pub decision: Decision,
+    pub place: usize,
+}
+
 /// Whether a plan is known to be best.
 #[derive(Clone, Copy, PartialEq, Eq, Debug)]
 pub enum Mark {

@@ -1,4 +1,5 @@
 //! What holds of all trees and plans. A law has no code: it is proved as the contract of an empty function.
+ghost use Rattle.dm_tree.specs.Trees.{LeadsToWhatStands};
 ghost use Rattle.dm_tree.specs.Worked.{LeavesNoneOpen, PresentChoicesAreNotShown, WorkedPlanIsTrue};
 
 /// Where two trains meet and the first is a minute late, seven nodes are enough, so that a plan may leave none open.
@@ -14,4 +15,9 @@ pub fn worked_plan_is_true()
 /// And one that marks the present choices optimal, with the root as its one leaf at their cost, is not.
 pub fn present_choices_are_not_shown()
     ensures { PresentChoicesAreNotShown }
+{}
+
+/// Where children lead from the root to a node, by their decisions, there the node stands at the path of these decisions.
+pub fn leads_to_what_stands()
+    ensures { LeadsToWhatStands }
 {}

@@ -2,7 +2,8 @@
 //!
 //! It stands on dm_rows. Its `specs/` say what a plan promises: its choices, its cost, its bound and the tree that shows
 //! that nothing was overlooked. The code makes and reads trees, which are lists of nodes in preorder: [`assemble`] gives the
-//! least tree with given leaves, [`Tree::from_nodes`] takes one whole tree, [`leaves`] gives its leaves with their paths.
+//! least tree with given leaves, [`Tree::from_nodes`] takes one whole tree, [`leaves`] gives its leaves with their paths,
+//! [`Tree::second_child`] leads past the first child's tree, and [`Tree::child_towards`] from the root to a node.
 //! A path may be 8,191 decisions long, so all is walked by loops. No time and no cost is computed here.
 #![tactic(auto)]
 
@@ -17,7 +18,7 @@ mod walks;
 mod whole;
 
 pub use assembly::assemble;
-pub use forms::{AssembleFault, Leaf, Mark, Node};
+pub use forms::{AssembleFault, Child, Leaf, Mark, Node};
 pub use partial::Partial;
 pub use plans::Plan;
 pub use walks::leaves;

@@ -47,7 +47,7 @@ fn is_first(decision: Decision) -> bool
 }
 
 /// The other decision of the same choice.
-fn other(decision: Decision) -> Decision
+pub(crate) fn other(decision: Decision) -> Decision
     ensures { result ≡ other_decision decision }
 {
     match decision {

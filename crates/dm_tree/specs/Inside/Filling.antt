@@ -1,5 +1,5 @@
 -- Nodes read from the left: which places are still due, and what stands at them.
-use Rattle.std.specs.Prelude.{ℕ, ◌==◌, ◌+◌, ◌-◌, ◌&&◌, nat_lt, Bool, true, false, List, [], ◌∷◌, ◌++◌, reverse, if◌then◌else◌}
+use Rattle.std.specs.Prelude.{ℕ, ◌≡◌, ◌==◌, ◌+◌, ◌-◌, ◌<◌, ◌≤◌, ◌⊎◌, ◌&&◌, nat_lt, Bool, true, false, List, [], ◌∷◌, ◌++◌, length, reverse, slice_index_or, if◌then◌else◌}
 use Rattle.dm_rows.specs.declared.messages.Choice.{Choice}
 use Rattle.dm_rows.specs.declared.messages.Choice.TheVariants.{Change, Pair}
 use Rattle.dm_rows.specs.declared.messages.Decision.{Decision}
@@ -7,7 +7,8 @@ use Rattle.dm_rows.specs.declared.messages.Decision.TheVariants.{Keep, Drop, Fir
 use Rattle.dm_tree.specs.declared.forms.Node.{Node}
 use Rattle.dm_tree.specs.declared.forms.Node.TheVariants.{Inner, Cycle, Bound, Open, Hole}
 use Rattle.dm_tree.specs.declared.forms.Leaf.{Leaf}
-use Rattle.dm_tree.specs.Trees.{first_decision, second_decision}
+use Rattle.dm_tree.specs.declared.forms.Child.{Child}
+use Rattle.dm_tree.specs.Trees.{IsTreeBetween, first_decision, second_decision}
 
 abbrev pub is_ordered : Choice → Bool
 is_ordered (Change a) = true
@@ -68,3 +69,15 @@ behind (d ∷ back) =
 -- the places due behind a path
 abbrev pub pending : List Decision → List (List Decision)
 pending path = behind (reverse path)
+
+-- from such a place on it is known where the tree that begins at a place ends
+abbrev pub AreEndsFrom : ℕ → List Node → List ℕ → Type 0
+AreEndsFrom from nodes ends =
+    (length ends ≡ length nodes)
+    × ((i : ℕ) → from ≤ i → i < length nodes → IsTreeBetween nodes i (slice_index_or ends i 0))
+
+-- the first child for a target before the second, and else the second
+abbrev pub IsSideOf : Choice → ℕ → ℕ → ℕ → Child → Type 0
+IsSideOf choice place second target child =
+    ((target < second) × (child.decision ≡ first_decision choice) × (child.place ≡ place + 1))
+    ⊎ ((second ≤ target) × (child.decision ≡ second_decision choice) × (child.place ≡ second))
