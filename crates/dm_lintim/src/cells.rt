@@ -2,7 +2,7 @@
 ghost use Rattle.std.specs.Prelude.{◌≡◌, ◌≤◌, ◌<◌, [], slice_index_or, OnOk, IfOk, IfErr, MatchResult};
 ghost use Rattle.dm_base.specs.Numbers.{IsDigits, IsMilliText, milli_value, whole_value};
 ghost use Rattle.dm_lintim.specs.Files.{IsNumber, RefusesNumber, largest_of};
-ghost use Rattle.dm_lintim.specs.Pieces.{is_passed_over};
+ghost use Rattle.dm_lintim.specs.Pieces.{cell_of, is_passed_over};
 ghost use Rattle.dm_lintim.specs.Inside.Reader.{cells_of};
 
 use crate::columns::{Column, LARGEST_ID};
@@ -12,12 +12,12 @@ use csv::ByteRecord;
 use dm_base::limits::{BOUND, DELAY, TIME, WEIGHT};
 use dm_base::{NumFault, read_milli, read_whole};
 
-/// The cell at a place, or the empty text past the last one.
-pub(crate) fn cell_at(fields: &ByteRecord, place: usize) -> &[u8]
-    ensures { result.now ≡ slice_index_or (cells_of fields.now) place [] }
+/// The field at a place as it stands, its cell not looked for yet, or the empty text past the last one.
+pub(crate) fn field_at(fields: &ByteRecord, place: usize) -> &[u8]
+    ensures { cell_of result.now ≡ slice_index_or (cells_of fields.now) place [] }
 {
     match fields.get(place) {
-        Some(field) => cell_of(field),
+        Some(field) => field,
         None => &[],
     }
 }
@@ -89,7 +89,7 @@ pub(crate) fn is_passed_over(fields: &ByteRecord) -> bool
     if fields.is_empty() {
         return false;
     }
-    match cell_at(fields, 0) {
+    match cell_of(field_at(fields, 0)) {
         [] => fields.len() == 1,
         [first, ..] => *first == b'#',
     }
