@@ -6,6 +6,7 @@ ghost use Rattle.dm_lintim.specs.Pieces.{cell_of, is_passed_over};
 ghost use Rattle.dm_lintim.specs.Inside.Reader.{cells_of};
 
 use crate::columns::{Column, LARGEST_ID};
+use crate::digits::usual_number;
 use crate::fault::FileKind;
 use crate::field::cell_of;
 use csv::ByteRecord;
@@ -58,8 +59,8 @@ fn number_under(column: Column, number: u64) -> Result<u64, FileKind>
     }
 }
 
-/// The whole number that a text gives under a column.
-pub(crate) fn whole_under(column: Column, text: &[u8]) -> Result<u64, FileKind>
+// The whole number that a text gives under a column.
+fn whole_of_text(column: Column, text: &[u8]) -> Result<u64, FileKind>
     ensures takes { OnOk result (IsNumber (IsDigits text.now) (whole_value text.now) (largest_of column)) }
     ensures value { IfOk result (λ number. number ≡ whole_value text.now) }
     ensures refuses { IfErr result (RefusesNumber (IsDigits text.now) (whole_value text.now) column) }
@@ -70,8 +71,8 @@ pub(crate) fn whole_under(column: Column, text: &[u8]) -> Result<u64, FileKind>
     }
 }
 
-/// The number of thousandths that a text gives under a column.
-pub(crate) fn milli_under(column: Column, text: &[u8]) -> Result<u64, FileKind>
+// The number of thousandths that a text gives under a column.
+fn milli_of_text(column: Column, text: &[u8]) -> Result<u64, FileKind>
     ensures takes { OnOk result (IsNumber (IsMilliText text.now) (milli_value text.now) (largest_of column)) }
     ensures value { IfOk result (λ number. number ≡ milli_value text.now) }
     ensures refuses { IfErr result (RefusesNumber (IsMilliText text.now) (milli_value text.now) column) }
@@ -79,6 +80,30 @@ pub(crate) fn milli_under(column: Column, text: &[u8]) -> Result<u64, FileKind>
     match read_milli(text) {
         Ok(number) => number_under(column, number),
         Err(fault) => Err(refused(column, fault)),
+    }
+}
+
+/// The whole number that the cell of a field gives under a column.
+pub(crate) fn whole_under(column: Column, field: &[u8]) -> Result<u64, FileKind>
+    ensures takes { let text = cell_of field.now in OnOk result (IsNumber (IsDigits text) (whole_value text) (largest_of column)) }
+    ensures value { IfOk result (λ number. number ≡ whole_value (cell_of field.now)) }
+    ensures refuses { let text = cell_of field.now in IfErr result (RefusesNumber (IsDigits text) (whole_value text) column) }
+{
+    match usual_number(field) {
+        Some(number) => number_under(column, number),
+        None => whole_of_text(column, cell_of(field)),
+    }
+}
+
+/// The number of thousandths that the cell of a field gives under a column.
+pub(crate) fn milli_under(column: Column, field: &[u8]) -> Result<u64, FileKind>
+    ensures takes { let text = cell_of field.now in OnOk result (IsNumber (IsMilliText text) (milli_value text) (largest_of column)) }
+    ensures value { IfOk result (λ number. number ≡ milli_value (cell_of field.now)) }
+    ensures refuses { let text = cell_of field.now in IfErr result (RefusesNumber (IsMilliText text) (milli_value text) column) }
+{
+    match usual_number(field) {
+        Some(number) => number_under(column, 1000 * number),
+        None => milli_of_text(column, cell_of(field)),
     }
 }
 

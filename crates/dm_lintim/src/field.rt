@@ -32,7 +32,7 @@ fn end_without_blanks(text: &[u8]) -> usize
     end
 }
 
-fn trim_front(text: &[u8]) -> &[u8]
+pub(crate) fn trim_front(text: &[u8]) -> &[u8]
     ensures { result.now ≡ without_front_blanks text.now }
 {
     &text[front_blanks(text)..]

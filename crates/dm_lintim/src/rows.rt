@@ -85,7 +85,7 @@ fn read_cell<R: Row>(
         Column::PeriodicId | Column::Upper => Ok(()),
         Column::Kind => read_kind::<R>(values, cell_of(field)),
         Column::Weight => {
-            let number = milli_under(column, cell_of(field))?;
+            let number = milli_under(column, field)?;
             values.put(column, number);
             Ok(())
         }
@@ -96,7 +96,7 @@ fn read_cell<R: Row>(
         | Column::Head
         | Column::Lower
         | Column::Delay => {
-            let number = whole_under(column, cell_of(field))?;
+            let number = whole_under(column, field)?;
             values.put(column, number);
             Ok(())
         }
