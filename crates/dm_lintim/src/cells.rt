@@ -59,7 +59,8 @@ fn number_under(column: Column, number: u64) -> Result<u64, FileKind>
     }
 }
 
-// The whole number that a text gives under a column.
+// The whole number that a text gives under a column. It stays a call, so that what is inlined above it is small.
+#[inline(never)]
 fn whole_of_text(column: Column, text: &[u8]) -> Result<u64, FileKind>
     ensures takes { OnOk result (IsNumber (IsDigits text.now) (whole_value text.now) (largest_of column)) }
     ensures value { IfOk result (λ number. number ≡ whole_value text.now) }
@@ -84,6 +85,7 @@ fn milli_of_text(column: Column, text: &[u8]) -> Result<u64, FileKind>
 }
 
 /// The whole number that the cell of a field gives under a column.
+#[inline(always)]
 pub(crate) fn whole_under(column: Column, field: &[u8]) -> Result<u64, FileKind>
     ensures takes { let text = cell_of field.now in OnOk result (IsNumber (IsDigits text) (whole_value text) (largest_of column)) }
     ensures value { IfOk result (λ number. number ≡ whole_value (cell_of field.now)) }

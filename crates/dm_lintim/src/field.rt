@@ -32,6 +32,7 @@ fn end_without_blanks(text: &[u8]) -> usize
     end
 }
 
+/// A text from its first byte that is no blank on.
 pub(crate) fn trim_front(text: &[u8]) -> &[u8]
     ensures { result.now ≡ without_front_blanks text.now }
 {
