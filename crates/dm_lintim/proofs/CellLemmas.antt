@@ -1,10 +1,11 @@
 -- The fields of a record, by place and under columns.
-use Rattle.std.proofs.Common.{◌≡◌, ◌⊎◌, ℕ, zero, suc, true, false, List, [], ◌∷◌, map, get_or, Option, Some, None, refl, ap, inl, inr}
+use Rattle.std.proofs.Common.{◌≡◌, ◌⊎◌, ◌<◌, ℕ, zero, suc, true, false, List, [], ◌∷◌, drop, drop-cons, length, map, get_or, Option, Some, None, refl, ap, inl, inr, arith}
 use Rattle.std.proofs.lemmas.Bool.{cases_Bool}
 use Rattle.csv.specs.Records.{field_at}
 use Rattle.dm_lintim.specs.declared.columns.Column.{Column}
 use Rattle.dm_lintim.specs.Columns.{has_column, is_column}
-use Rattle.dm_lintim.specs.Files.{IsGood, TakesField, text_under}
+use Rattle.dm_lintim.specs.Files.{IsGood, RefusesField, RefusesFirst, TakesField, text_under}
+use Rattle.dm_lintim.specs.declared.fault.FileKind.{FileKind}
 use Rattle.dm_lintim.specs.Pieces.{cell_of}
 use Rattle.dm_lintim.proofs.ColumnLemmas.{same_is}
 
@@ -43,3 +44,11 @@ good_under K (k ∷ ks) (f ∷ fs) c good =
       | inl here ↦ rw here (inr (takes_at K c k f here good.0))
       | inr other ↦ rw other (good_under K ks fs c good.1)
     ]
+
+-- a field that its column refuses, at a place before which none is
+pub refuses_at : (K : List ℕ → Type 0) (cs : List (Option Column)) (fs : List (List ℕ)) (i : ℕ) (f : List ℕ) (why : FileKind) → i < length cs → length fs ≡ length cs
+    → f ≡ get_or fs i [] → RefusesField K (get_or cs i None) f why → RefusesFirst K (drop i cs) (drop i fs) why
+refuses_at K cs fs i f why below same is refuses =
+    let among : i < length fs = omega arith in
+    let refused = rw is at refuses in
+    rw (drop-cons cs i None below, drop-cons fs i [] among) (inl refused)

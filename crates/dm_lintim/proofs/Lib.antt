@@ -8,3 +8,4 @@ pub mod RowLemmas
 pub mod LawLemmas
 pub mod WordLemmas
 pub mod ValueLemmas
+pub mod DigitLemmas

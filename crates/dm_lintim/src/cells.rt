@@ -2,22 +2,23 @@
 ghost use Rattle.std.specs.Prelude.{◌≡◌, ◌≤◌, ◌<◌, [], slice_index_or, OnOk, IfOk, IfErr, MatchResult};
 ghost use Rattle.dm_base.specs.Numbers.{IsDigits, IsMilliText, milli_value, whole_value};
 ghost use Rattle.dm_lintim.specs.Files.{IsNumber, RefusesNumber, largest_of};
-ghost use Rattle.dm_lintim.specs.Pieces.{is_passed_over};
+ghost use Rattle.dm_lintim.specs.Pieces.{cell_of, is_passed_over};
 ghost use Rattle.dm_lintim.specs.Inside.Reader.{cells_of};
 
 use crate::columns::{Column, LARGEST_ID};
+use crate::digits::usual_number;
 use crate::fault::FileKind;
 use crate::field::cell_of;
 use csv::ByteRecord;
 use dm_base::limits::{BOUND, DELAY, TIME, WEIGHT};
 use dm_base::{NumFault, read_milli, read_whole};
 
-/// The cell at a place, or the empty text past the last one.
-pub(crate) fn cell_at(fields: &ByteRecord, place: usize) -> &[u8]
-    ensures { result.now ≡ slice_index_or (cells_of fields.now) place [] }
+/// The field at a place as it stands, its cell not looked for yet, or the empty text past the last one.
+pub(crate) fn field_at(fields: &ByteRecord, place: usize) -> &[u8]
+    ensures { cell_of result.now ≡ slice_index_or (cells_of fields.now) place [] }
 {
     match fields.get(place) {
-        Some(field) => cell_of(field),
+        Some(field) => field,
         None => &[],
     }
 }
@@ -58,8 +59,9 @@ fn number_under(column: Column, number: u64) -> Result<u64, FileKind>
     }
 }
 
-/// The whole number that a text gives under a column.
-pub(crate) fn whole_under(column: Column, text: &[u8]) -> Result<u64, FileKind>
+// The whole number that a text gives under a column. It stays a call, so that what is inlined above it is small.
+#[inline(never)]
+fn whole_of_text(column: Column, text: &[u8]) -> Result<u64, FileKind>
     ensures takes { OnOk result (IsNumber (IsDigits text.now) (whole_value text.now) (largest_of column)) }
     ensures value { IfOk result (λ number. number ≡ whole_value text.now) }
     ensures refuses { IfErr result (RefusesNumber (IsDigits text.now) (whole_value text.now) column) }
@@ -70,8 +72,8 @@ pub(crate) fn whole_under(column: Column, text: &[u8]) -> Result<u64, FileKind>
     }
 }
 
-/// The number of thousandths that a text gives under a column.
-pub(crate) fn milli_under(column: Column, text: &[u8]) -> Result<u64, FileKind>
+// The number of thousandths that a text gives under a column.
+fn milli_of_text(column: Column, text: &[u8]) -> Result<u64, FileKind>
     ensures takes { OnOk result (IsNumber (IsMilliText text.now) (milli_value text.now) (largest_of column)) }
     ensures value { IfOk result (λ number. number ≡ milli_value text.now) }
     ensures refuses { IfErr result (RefusesNumber (IsMilliText text.now) (milli_value text.now) column) }
@@ -82,6 +84,31 @@ pub(crate) fn milli_under(column: Column, text: &[u8]) -> Result<u64, FileKind>
     }
 }
 
+/// The whole number that the cell of a field gives under a column.
+#[inline(always)]
+pub(crate) fn whole_under(column: Column, field: &[u8]) -> Result<u64, FileKind>
+    ensures takes { let text = cell_of field.now in OnOk result (IsNumber (IsDigits text) (whole_value text) (largest_of column)) }
+    ensures value { IfOk result (λ number. number ≡ whole_value (cell_of field.now)) }
+    ensures refuses { let text = cell_of field.now in IfErr result (RefusesNumber (IsDigits text) (whole_value text) column) }
+{
+    match usual_number(field) {
+        Some(number) => number_under(column, number),
+        None => whole_of_text(column, cell_of(field)),
+    }
+}
+
+/// The number of thousandths that the cell of a field gives under a column.
+pub(crate) fn milli_under(column: Column, field: &[u8]) -> Result<u64, FileKind>
+    ensures takes { let text = cell_of field.now in OnOk result (IsNumber (IsMilliText text) (milli_value text) (largest_of column)) }
+    ensures value { IfOk result (λ number. number ≡ milli_value (cell_of field.now)) }
+    ensures refuses { let text = cell_of field.now in IfErr result (RefusesNumber (IsMilliText text) (milli_value text) column) }
+{
+    match usual_number(field) {
+        Some(number) => number_under(column, 1000 * number),
+        None => milli_of_text(column, cell_of(field)),
+    }
+}
+
 /// Whether a record is passed over: a comment, or one empty field.
 pub(crate) fn is_passed_over(fields: &ByteRecord) -> bool
     ensures { result ≡ is_passed_over (cells_of fields.now) }
@@ -89,7 +116,7 @@ pub(crate) fn is_passed_over(fields: &ByteRecord) -> bool
     if fields.is_empty() {
         return false;
     }
-    match cell_at(fields, 0) {
+    match cell_of(field_at(fields, 0)) {
         [] => fields.len() == 1,
         [first, ..] => *first == b'#',
     }

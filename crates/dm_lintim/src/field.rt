@@ -32,7 +32,8 @@ fn end_without_blanks(text: &[u8]) -> usize
     end
 }
 
-fn trim_front(text: &[u8]) -> &[u8]
+/// A text from its first byte that is no blank on.
+pub(crate) fn trim_front(text: &[u8]) -> &[u8]
     ensures { result.now ≡ without_front_blanks text.now }
 {
     &text[front_blanks(text)..]

@@ -11,6 +11,7 @@ mod activities;
 mod cells;
 mod columns;
 mod delays;
+mod digits;
 mod events;
 mod fault;
 mod field;

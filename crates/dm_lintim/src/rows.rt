@@ -6,12 +6,13 @@ ghost use Rattle.dm_lintim.specs.Columns.{HasAll};
 ghost use Rattle.dm_lintim.specs.Files.{BreaksRecord, RefusesFirst, IsGood, ReadsFile, RefusesField, TakesField, no_memory};
 ghost use Rattle.dm_lintim.specs.Inside.Rows.{AddsRow, BreaksFile};
 ghost use Rattle.dm_lintim.specs.Inside.Values.{AreValuesOf, AreWithin, HasKind, PutsCell};
-ghost use Rattle.dm_lintim.specs.Pieces.{has_byte_order_mark};
+ghost use Rattle.dm_lintim.specs.Pieces.{cell_of, has_byte_order_mark};
 ghost use Rattle.dm_lintim.specs.Inside.Reader.{cells_of};
 
-use crate::cells::{cell_at, is_passed_over, milli_under, whole_under};
+use crate::cells::{field_at, is_passed_over, milli_under, whole_under};
 use crate::columns::Column;
 use crate::fault::{FileFault, FileKind};
+use crate::field::cell_of;
 use crate::records::Records;
 use crate::values::Values;
 use csv::ByteRecord;
@@ -65,26 +66,26 @@ fn read_kind<R: Row>(values: &mut Values<R::Kind>, text: &[u8]) -> Result<(), Fi
     }
 }
 
-// Reads a cell under a column.
+// Reads the cell of a field under a column. Where the column is passed over, its cell is not looked for.
 fn read_cell<R: Row>(
     values: &mut Values<R::Kind>,
     column: Option<Column>,
-    text: &[u8],
+    field: &[u8],
 ) -> Result<(), FileKind>
     requires { AreWithin values.old.numbers }
-    ensures takes { OnOk result (TakesField R.is_known column text.now) }
-    ensures puts { OnOk result (PutsCell R.names column text.now values.old.numbers values.old.kind values.new.numbers values.new.kind) }
+    ensures takes { OnOk result (TakesField R.is_known column (cell_of field.now)) }
+    ensures puts { OnOk result (PutsCell R.names column (cell_of field.now) values.old.numbers values.old.kind values.new.numbers values.new.kind) }
     ensures within { OnOk result (AreWithin values.new.numbers) }
-    ensures refuses { IfErr result (RefusesField R.is_known column text.now) }
+    ensures refuses { IfErr result (RefusesField R.is_known column (cell_of field.now)) }
 {
     let Some(column) = column else {
         return Ok(());
     };
     match column {
         Column::PeriodicId | Column::Upper => Ok(()),
-        Column::Kind => read_kind::<R>(values, text),
+        Column::Kind => read_kind::<R>(values, cell_of(field)),
         Column::Weight => {
-            let number = milli_under(column, text)?;
+            let number = milli_under(column, field)?;
             values.put(column, number);
             Ok(())
         }
@@ -95,7 +96,7 @@ fn read_cell<R: Row>(
         | Column::Head
         | Column::Lower
         | Column::Delay => {
-            let number = whole_under(column, text)?;
+            let number = whole_under(column, field)?;
             values.put(column, number);
             Ok(())
         }
@@ -115,7 +116,7 @@ fn read_cells<R: Row>(
 {
     let mut values = Values::new();
     for (place, column) in columns.iter().enumerate() {
-        read_cell::<R>(&mut values, *column, cell_at(fields, place))?;
+        read_cell::<R>(&mut values, *column, field_at(fields, place))?;
     }
     Ok(values)
 }
