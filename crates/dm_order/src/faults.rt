@@ -1,5 +1,6 @@
 //! Why rows have no order.
 
+use dm_graph::search::Cyclic;
 use std::alloc::AllocError;
 
 /// Why rows have no order.
@@ -20,5 +21,16 @@ impl From<AllocError> for OrderFault {
 
     fn from(_error: AllocError) -> OrderFault {
         OrderFault::OutOfMemory
+    }
+}
+
+impl From<Cyclic> for OrderFault {
+    ghost use Rattle.std.specs.Prelude.{◌≡◌};
+    ghost use Rattle.dm_order.specs.declared.faults.OrderFault.TheVariants.{Cyclic};
+
+    ghost from_gives = { λ _ fault. fault ≡ Cyclic };
+
+    fn from(_error: Cyclic) -> OrderFault {
+        OrderFault::Cyclic
     }
 }
