@@ -1,8 +1,8 @@
 -- What contracts see of an order.
 use Rattle.std.specs.Prelude.{ℕ, Bool, List}
 
--- the events in their order, the place of each event there, whether each activity is held, and the activities of the cycle
--- for which an addition was refused last
+-- the events in their order, the place of each event there, whether each activity is held, and, after an addition that was
+-- refused, the activities of the cycle that it would close
 pub record OrderValue : Type 0 where
   pub order : List ℕ
   pub ranks : List ℕ

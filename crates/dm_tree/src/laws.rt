@@ -2,7 +2,7 @@
 ghost use Rattle.dm_tree.specs.Trees.{LeadsToWhatStands};
 ghost use Rattle.dm_tree.specs.Worked.{LeavesNoneOpen, PresentChoicesAreNotShown, WorkedPlanIsTrue};
 
-/// Where two trains meet and the first is a minute late, seven nodes are enough, so that a plan may leave none open.
+/// Where two trains meet and the first is a minute late, the root alone may not be left open at a budget of seven nodes.
 pub fn leaves_none_open()
     ensures { LeavesNoneOpen }
 {}
