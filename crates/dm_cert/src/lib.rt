@@ -1,0 +1,11 @@
+//! What feeds are answered, what their logs and the journal are, and how plans and runs are spelled.
+//!
+//! It stands on dm_feed for lines and on dm_tree for plans. A [`FeedLog`] is what one feed was answered, line by line; a
+//! [`Note`] is a board that was dropped.
+#![tactic(auto)]
+
+mod notes;
+mod replies;
+
+pub use notes::Note;
+pub use replies::{FeedLog, LogItem, Reply};

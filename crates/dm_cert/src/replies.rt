@@ -1,0 +1,56 @@
+//! What feeds are answered, and their logs.
+
+use dm_base::{Cost, Items, Secs};
+use dm_feed::{FeedStop, Line};
+use dm_rows::{At, Refusal};
+use dm_tree::Plan;
+
+/// The answer to a line. An entry number is how many entries the history had.
+#[derive(Debug, Drop)]
+pub enum Reply {
+    /// The message, or the adopted plan, is the entry of this number, from 1.
+    Ok(u32),
+
+    /// A message, a question or an adoption is refused at so many entries.
+    Refused(At<Refusal>),
+
+    /// The time of the event at so many entries, in seconds.
+    Time(u32, Secs),
+
+    /// The cost at so many entries, in thousandths of passenger seconds.
+    Cost(u32, Cost),
+
+    /// So many entries.
+    Read(u32),
+
+    /// A plan for the rows at the entry that it names.
+    Planned(Plan),
+
+    /// At so many entries the latest plan is for rows that are gone.
+    Old(u32),
+
+    /// There is no plan to adopt yet.
+    NoPlan,
+
+    /// The feed has had all its plans.
+    Plans,
+
+    /// The budget that was asked for is out of range.
+    Range(u64),
+}
+
+/// What a log holds of one line. Lines are numbered from 1.
+#[derive(Debug, Drop)]
+pub enum LogItem {
+    /// The line is in no form.
+    Malformed { line: u32 },
+
+    Answered { line: u32, said: Line, reply: Reply },
+}
+
+/// What one feed was answered, line by line, and why it was read no further.
+#[derive(Debug, Drop)]
+pub struct FeedLog {
+    pub items: Items<LogItem>,
+    pub stop: FeedStop,
+}
