@@ -1,3 +1,5 @@
--- When answers, logs and the journal of a run are true.
+-- What feeds are answered, when answers, logs and the journal are true, and how plans and runs are spelled.
 pub mod Answers
 pub mod Logs
+pub mod PlanTexts
+pub mod RunTexts
