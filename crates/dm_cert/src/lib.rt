@@ -4,6 +4,7 @@
 //! [`Note`] is a board that was dropped.
 #![tactic(auto)]
 
+pub mod laws;
 mod notes;
 mod replies;
 
