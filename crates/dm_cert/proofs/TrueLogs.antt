@@ -1,7 +1,7 @@
 -- An answer needs no more of a history than the entries up to its number: it stays true as the history grows.
 use Rattle.std.proofs.Common.{◌≡◌, ℕ, zero, suc, ◌+◌, ◌-◌, ◌<◌, ◌≤◌, List, [], ◌∷◌, ◌++◌, length, take, Option, Some, None, refl, sym, ap, subst, ◌∙◌, append_assoc, arith, slice_get, fold}
 use Rattle.std.specs.Option.{IsSomeAnd}
-use Rattle.std.proofs.lemmas.List.{take-append-le, take_all, take-take, length-append, append-nil}
+use Rattle.std.proofs.lemmas.List.{take-append-le, take-take, length-append, append-nil}
 use Rattle.std.proofs.lemmas.Option.{slice_get_within}
 use Rattle.dm_rows.specs.declared.messages.Entry.{Entry}
 use Rattle.dm_rows.specs.Rows.{RowsValue}
@@ -12,13 +12,12 @@ use Rattle.dm_rows.specs.Cost.{Costs}
 use Rattle.dm_feed.specs.declared.grammar.Line.{Line}
 use Rattle.dm_feed.specs.declared.grammar.Line.TheVariants.{Say, Time as AskTime, CostNow as AskCost, Plan as AskPlan, Adopt as AskAdopt, Read as AskRead}
 use Rattle.dm_tree.specs.Plans.{whole_task, IsTruePlan}
-use Rattle.dm_tree.specs.declared.plans.Plan.{Plan}
 use Rattle.dm_cert.specs.declared.replies.Reply.{Reply}
 use Rattle.dm_cert.specs.declared.replies.Reply.TheVariants.{Ok, Refused, Time, Cost, Read, Planned, Old, NoPlan, Plans, Range}
 use Rattle.dm_cert.specs.declared.replies.LogItem.{LogItem}
 use Rattle.dm_cert.specs.declared.replies.LogItem.TheVariants.{Malformed, Answered}
-use Rattle.dm_cert.specs.Answers.{Setting, rows_after, IsEntry, latest_plan, IsRefused, IsTimeAt, IsUnknownAt, IsCostAt, IsPlanFor, HasAllPlans, IsAdopted, IsOld, HasNoRoom, IsTrueReply, IsTrueAnswer}
-use Rattle.dm_cert.specs.Logs.{Kind, free, told, entered, kind_of_reply, kind_of, line_of, number_after, AreTrueAnswers, IsInOrder, IsTrueLog}
+use Rattle.dm_cert.specs.Answers.{Setting, rows_after, IsEntry, latest_plan, IsAdopted, IsOld, HasNoRoom, IsTrueReply, IsTrueAnswer}
+use Rattle.dm_cert.specs.Logs.{kind_of_reply, kind_of, line_of, number_after, AreTrueAnswers, IsInOrder, IsTrueLog}
 use Rattle.dm_cert.proofs.Numbers.{IsWithin, last_number, last_no_less, within_after, after_within}
 
 -- ---- histories that are alike
