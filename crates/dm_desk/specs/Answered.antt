@@ -1,5 +1,5 @@
 -- What was answered of a feed over a desk.
-use Rattle.std.specs.Prelude.{ℕ, ◌≡◌, ◌==◌, ◌+◌, ◌<◌, ◌≤◌, ◌++◌, ◌∷◌, ◌⊎◌, [], List, length, map, count_by, All, Option, Some, None}
+use Rattle.std.specs.Prelude.{ℕ, ◌≡◌, ◌==◌, ◌+◌, ◌<◌, ◌≤◌, ◌++◌, ◌⊎◌, [], List, length, map, count_by, All, Option, Some, None}
 use Rattle.dm_feed.specs.declared.feed.FeedStop.{FeedStop}
 use Rattle.dm_feed.specs.declared.feed.FeedStop.TheVariants.{End, Fault}
 use Rattle.dm_feed.specs.Feeds.{ReaderValue}

@@ -13,7 +13,12 @@ use dm_rows::{At, Entry, Message, Refusal};
 use std::alloc::AllocError;
 
 /// Answers a due line of a feed.
-pub fn answer<D: Desk>(desk: &mut D, feed: u32, line: u32, heard: Heard) -> Result<LogItem, AllocError>
+pub fn answer<D: Desk>(
+    desk: &mut D,
+    feed: u32,
+    line: u32,
+    heard: Heard,
+) -> Result<LogItem, AllocError>
     requires legal { HasSeenLegal (D.value desk.old) }
     requires due { IsDueHeard heard }
     ensures { IfOk result (λ item. AnswersLine (D.value desk.old) (D.value desk.new) feed line heard item) }
@@ -28,7 +33,12 @@ pub fn answer<D: Desk>(desk: &mut D, feed: u32, line: u32, heard: Heard) -> Resu
 }
 
 // The reply to what a line says. There is none to one that asks for a plan or adopts one.
-fn reply_to<D: Desk>(desk: &mut D, feed: u32, line: u32, said: &Line) -> Result<Option<Reply>, AllocError>
+fn reply_to<D: Desk>(
+    desk: &mut D,
+    feed: u32,
+    line: u32,
+    said: &Line,
+) -> Result<Option<Reply>, AllocError>
     requires { IsSpelledLine said.now }
     ensures { IfOk result (λ reply. RepliesTo (D.value desk.old) (D.value desk.new) feed line said.now reply) }
 {
@@ -59,10 +69,12 @@ fn post<D: Desk>(desk: &mut D, feed: u32, line: u32, message: &Message) -> Resul
     };
     match desk.post(entry) {
         Ok(number) => Ok(Reply::Ok(number)),
-        Err(At {
-            entry: _,
-            why: Refusal::OutOfMemory,
-        }) => Err(AllocError),
+        Err(
+            At {
+                entry: _,
+                why: Refusal::OutOfMemory,
+            },
+        ) => Err(AllocError),
         Err(at) => Ok(Reply::Refused(at)),
     }
 }

@@ -27,8 +27,9 @@ pub fn answer_batch<S: Source, D: Desk, H: Hold>(
     ensures stays_sound { S.is_sound reader.old.source → S.is_sound reader.new.source }
 {
     for _ in 0..batch {
-        if let Some(stop) = answer_next(reader, desk, gate, feed, log)? {
-            return Ok(Some(stop));
+        match answer_next(reader, desk, gate, feed, log)? {
+            Some(stop) => return Ok(Some(stop)),
+            None => {}
         }
     }
     Ok(None)

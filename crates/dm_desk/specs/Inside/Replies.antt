@@ -35,7 +35,6 @@ pub record Replies (before now : DeskValue) (feed line : ℕ) (said : Line) (rep
   pub between : IsBetween (length before.seen) (length now.seen) (kind_of_reply reply)
   pub named : (n : ℕ) → count_by (is_entered n) (kind_of_reply reply ∷ []) + times n before.mine ≡ times n now.mine
 
-
 abbrev pub RepliesTo : DeskValue → DeskValue → ℕ → ℕ → Line → Option Reply → Type 0
 RepliesTo before now feed line said (Some reply) = (AsksForPlans said → ⊥) × Replies before now feed line said reply
 RepliesTo before now feed line said None = AsksForPlans said × (now ≡ before)
