@@ -1,5 +1,5 @@
 //! Words and numbers in front of a line.
-ghost use Rattle.std.specs.Prelude.{◌≡◌, ◌^◌, ◌<◌, ℕ, ◌+◌, ◌*◌, ◌-◌, length, All, SomeIff};
+ghost use Rattle.std.specs.Prelude.{◌≡◌, ◌^◌, ◌<◌, ◌≤◌, ℕ, ◌+◌, ◌*◌, ◌-◌, length, All, SomeIff, IfSome};
 ghost use Rattle.std.specs.Option.{option_map};
 ghost use Rattle.std.specs.List.{prefix_len};
 ghost use Rattle.std.specs.Char.{is_ascii_digit, IsAsciiDigit};
@@ -16,7 +16,8 @@ pub fn behind<'t>(line: &'t [u8], text: &str) -> Option<&'t [u8]>
 /// The number whose digits stand in front of the line, and what stands behind them. It is None where there is no digit, where
 /// a zero stands before another digit, or where the number is above the largest.
 pub fn number_in_front(line: &[u8], largest: u128) -> Option<(u128, &[u8])>
-    ensures { option_map (λ p. (p.0, p.1.now)) result ≡ number_in_front largest line.now }
+    ensures reads { option_map (λ p. (p.0, p.1.now)) result ≡ number_in_front largest line.now }
+    ensures fits { IfSome result (λ p. p.0 ≤ largest) }
 {
     let end = digits_in_front(line);
     let digits = &line[..end];
