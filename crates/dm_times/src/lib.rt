@@ -16,5 +16,6 @@ mod times;
 pub use charging::Charging;
 pub use costing::{cost, cost_charging};
 pub use dm_settle::NoTimes;
+pub use filling::{floor_of, span_of};
 pub use scratch::least;
 pub use times::Times;
