@@ -104,7 +104,7 @@ wider first last begin end (entered n) low high between = (omega (arith, between
 pub no_shorter : (before now : List Entry) → IsPrefix before now → length before ≤ length now
 no_shorter before now p = omega (arith, ap length p.1, length-append before p.0)
 
-still_true : (before now : DeskValue) (feed : ℕ) (items : List LogItem) → GoesOn before now → AreTrueAnswers before.setting before.seen feed [] items → AreTrueAnswers now.setting now.seen feed [] items
+pub still_true : (before now : DeskValue) (feed : ℕ) (items : List LogItem) → GoesOn before now → AreTrueAnswers before.setting before.seen feed [] items → AreTrueAnswers now.setting now.seen feed [] items
 still_true before now feed items on true_before =
     let grown = answers_grow before.setting before.seen on.later.0 feed [] items true_before in
     let P : List Entry → Type 0 = λ seen. AreTrueAnswers before.setting seen feed [] items in
@@ -116,7 +116,7 @@ size_then : (n a b : ℕ) (stop : Option FeedStop) → a ≡ n → HasSize 1 b s
 size_then n a b None first second = omega (arith, first, second)
 size_then n a b (Some stop) first second = omega (arith, first, second)
 
-on_and_on : (a b c : DeskValue) → GoesOn a b → GoesOn b c → GoesOn a c
+pub on_and_on : (a b c : DeskValue) → GoesOn a b → GoesOn b c → GoesOn a c
 on_and_on a b c one two = record {
   setting = two.setting ∙ one.setting;
   later = (one.later.0 ++ two.later.0, sym (append_assoc a.seen one.later.0 two.later.0) ∙ (ap (λ (l : List Entry). l ++ two.later.0) one.later.1 ∙ two.later.1));
@@ -136,7 +136,7 @@ more_then a b c one two first second =
     }
 
 module _ {S : Type 0} where
-  open_behind : (left : S → Option (List ℕ)) (before now : ReaderValue S) (here : ℕ) (heard : Heard) → GivesDue left before now here heard → IsOpen now
+  pub open_behind : (left : S → Option (List ℕ)) (before now : ReaderValue S) (here : ℕ) (heard : Heard) → GivesDue left before now here heard → IsOpen now
   open_behind left before now here heard due = elim (due.goes_on) as (λ _. IsOpen now) [ inl e ↦ inl e | inr e ↦ inr e.0 ]
 
   not_stopped : (before : ReaderValue S) (now : ReaderValue S) (here : ℕ) (heard : Heard) → IsOpen before → IfSome before.stop (λ first. (Due here heard ≡ Stop first) × (now ≡ before)) → before.stop ≡ None
