@@ -1,0 +1,10 @@
+-- What feeds are answered, when answers, logs and the journal are true, how plans and runs are spelled, and which texts are
+-- those of true runs.
+pub mod Answers
+pub mod Logs
+pub mod PlanTexts
+pub mod RunTexts
+pub mod Runs
+-- What follows from that, and what it gives on a small network.
+pub mod Laws
+pub mod Worked

@@ -319,6 +319,7 @@ module _ {S : Type 0} {left : S → Option (List ℕ)} where
     lines = refl;
     within = p.within;
     goes_on = inl p.open_still;
+    last = λ none. absurd (none p.bytes refl);
   }
 
   pub due_last : (before mid now : ReaderValue S) (h : Heard) → h ≢ heard.Blank → PassesQuiet left before mid → PassesLast left mid now h → GivesDue left before now now.lines h
@@ -339,6 +340,7 @@ module _ {S : Type 0} {left : S → Option (List ℕ)} where
     lines = refl;
     within = p.within;
     goes_on = inr (p.stopped, p.none_left, p.at_end);
+    last = λ none. p.stopped;
   }
 
   pub end_last : (before mid now : ReaderValue S) (h : Heard) → h ≡ heard.Blank → PassesQuiet left before mid → PassesLast left mid now h → ReachesEnd left before now

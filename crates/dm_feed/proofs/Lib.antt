@@ -5,5 +5,6 @@ pub mod Deciding
 pub mod Digits
 pub mod Feeding
 pub mod Hearing
+pub mod Imagined
 pub mod Messaging
 pub mod Spelling

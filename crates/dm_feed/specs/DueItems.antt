@@ -8,7 +8,7 @@ use Rattle.dm_feed.specs.declared.feed.FeedStop.TheVariants.{End, Fault, Long}
 use Rattle.dm_feed.specs.declared.feed.Next.{Next}
 use Rattle.dm_feed.specs.declared.feed.Next.TheVariants.{Due, Stop}
 use Rattle.dm_feed.specs.Lines.{IsQuiet, Hears}
-use Rattle.dm_feed.specs.Feeds.{without_return, ReaderValue}
+use Rattle.dm_feed.specs.Feeds.{without_return, ReaderValue, GivesDue, ReachesEnd, IsTooLong}
 
 -- ---- the lines of bytes
 
@@ -135,3 +135,28 @@ abbrev pub EndsWith : List ℕ → List DueItem → FeedStop → Type 0
 EndsWith bytes items End = AreItemsOf bytes items × (length bytes ≤ FEED)
 EndsWith bytes items Long = AreItemsOf bytes items × (FEED < length bytes)
 EndsWith bytes items Fault = (others : List DueItem) × AreItemsOf bytes (items ++ others)
+
+-- ---- whatever the source tells
+
+-- These due lines were given, a call after another, whether the source tells what is left or not.
+abbrev pub GivesLines : {S : Type 0} → (S → Option (List ℕ)) → ReaderValue S → List DueItem → ReaderValue S → Type 0
+GivesLines left before [] now = before ≡ now
+GivesLines left before (item line heard ∷ items) now =
+    (mid : ReaderValue _) × (before.stop ≡ None) × GivesDue left before mid line heard × GivesLines left mid items now
+
+-- What a call has seen that gives a stop first: the end, or one byte above the limit. A failed read shows nothing of the feed.
+abbrev pub SeesStop : {S : Type 0} → (S → Option (List ℕ)) → ReaderValue S → ReaderValue S → FeedStop → Type 0
+SeesStop left before now End = ReachesEnd left before now
+SeesStop left before now Long = IsTooLong left before now
+SeesStop left before now Fault = Unit {0}
+
+-- A call that gives a stop, first or again.
+pub record StopsSo {S : Type 0} (left : S → Option (List ℕ)) (before now : ReaderValue S) (stop : FeedStop) : Type 0 where
+  pub sees : before.stop ≡ None → SeesStop left before now stop
+  pub again : IfSome before.stop (λ first. Stop stop ≡ Stop first)
+
+-- There are bytes of which these are the due items, up to the stop: those that the source told, where it told any.
+pub record HasFeed {S : Type 0} (left : S → Option (List ℕ)) (before : ReaderValue S) (items : List DueItem) (stop : FeedStop) : Type 0 where
+  pub bytes : List ℕ
+  pub told : IfSome (left before.source) (λ rest. rest ≡ bytes)
+  pub ends : EndsWith bytes items stop

@@ -58,7 +58,8 @@ pub record IsFrontLine (text front rest : List ℕ) (left : Option (List ℕ)) :
 abbrev pub GoesOn : {S : Type 0} → (S → Option (List ℕ)) → ReaderValue S → Type 0
 GoesOn left now = (now.stop ≡ None) ⊎ ((now.stop ≡ Some End) × (now.pending ≡ []) × IsAtEnd (left now.source))
 
--- The next due line is given, with its number and meaning: it and the blank lines and comments before it are passed.
+-- The next due line is given, with its number and meaning: it and the blank lines and comments before it are passed. Behind
+-- a line without a line feed the reader has stopped at the end.
 pub record GivesDue {S : Type 0} (left : S → Option (List ℕ)) (before now : ReaderValue S) (line : ℕ) (heard : Heard) : Type 0 where
   pub given : List ℕ
   pub takes : Takes left before now given
@@ -74,6 +75,7 @@ pub record GivesDue {S : Type 0} (left : S → Option (List ℕ)) (before now : 
   pub lines : now.lines ≡ line
   pub within : now.taken ≤ FEED
   pub goes_on : GoesOn left now
+  pub last : ((bytes : List ℕ) → front ≡ ended bytes → ⊥) → now.stop ≡ Some End
 
 -- No due line is left: all bytes were taken, and they are blank lines and comments. The last may have no line feed.
 pub record ReachesEnd {S : Type 0} (left : S → Option (List ℕ)) (before now : ReaderValue S) : Type 0 where

@@ -1,13 +1,13 @@
 -- What follows from what lines say and how they are spelled.
-use Rattle.std.specs.Prelude.{ℕ, ◌≡◌, List, [], All, Option, None, Some}
+use Rattle.std.specs.Prelude.{ℕ, ◌≡◌, List, [], ◌∷◌, ◌++◌, All, Option, None, Some}
 use Rattle.dm_rows.specs.declared.messages.Message.{Message}
 use Rattle.dm_feed.specs.declared.grammar.Line.{Line}
 use Rattle.dm_feed.specs.declared.grammar.Heard.{Heard}
 use Rattle.dm_feed.specs.declared.grammar.Heard.TheVariants.{Line as Spoken}
 use Rattle.dm_feed.specs.Parts.{Fits}
 use Rattle.dm_feed.specs.declared.feed.FeedStop.{FeedStop}
-use Rattle.dm_feed.specs.DueItems.{DueItem, AreDueItems, lines_ahead, lines_of_feed, GivesInTurn, AreFirstOf, StopsNext, EndsWith}
-use Rattle.dm_feed.specs.Feeds.{ReaderValue}
+use Rattle.dm_feed.specs.DueItems.{DueItem, AreDueItems, lines_ahead, lines_of_feed, GivesInTurn, AreFirstOf, StopsNext, EndsWith, item, GivesLines, StopsSo, HasFeed}
+use Rattle.dm_feed.specs.Feeds.{ReaderValue, GivesDue}
 use Rattle.dm_feed.specs.Lines.{parts_of_line, IsSpelledLine, Hears, spelling_of_line, IsMessageOf}
 
 -- a line in print is heard as itself, if its numbers are not too large
@@ -46,3 +46,16 @@ GiveItemsOfFeed S =
 abbrev pub EndAsStopped : Type 0 → Type 0
 EndAsStopped S =
     (left : S → Option (List ℕ)) (now later : ReaderValue S) (bytes : List ℕ) (items : List DueItem) (stop : FeedStop) → AreFirstOf left now bytes items → StopsNext left now later stop → EndsWith bytes items stop
+
+-- what is given after other lines is given behind them
+abbrev pub GoOnGiving : Type 0 → Type 0
+GoOnGiving S =
+    (left : S → Option (List ℕ)) (before mid now : ReaderValue S) (items : List DueItem) (line : ℕ) (heard : Heard) → GivesLines left before items mid → mid.stop ≡ None → GivesDue left mid now line heard
+    → GivesLines left before (items ++ item line heard ∷ []) now
+
+-- Whatever its source tells, what a new reader gives up to its stop are the due items of some bytes, which are those that the
+-- source told.
+abbrev pub HaveFeeds : Type 0 → Type 0
+HaveFeeds S =
+    (left : S → Option (List ℕ)) (before now later : ReaderValue S) (items : List DueItem) (stop : FeedStop) → before.pending ≡ [] → before.taken ≡ 0 → before.lines ≡ 0
+    → before.stop ≡ None → GivesLines left before items now → StopsSo left now later stop → HasFeed left before items stop

@@ -1,5 +1,5 @@
 //! What follows from the definitions alone: each function here does nothing, and its clause is the law.
-ghost use Rattle.dm_feed.specs.Laws.{AreHeardAsPrinted, HaveOneMeaning, HaveDueItems, AreOneMessage, HaveAllAhead, GiveItemsOfFeed, EndAsStopped};
+ghost use Rattle.dm_feed.specs.Laws.{AreHeardAsPrinted, HaveOneMeaning, HaveDueItems, AreOneMessage, HaveAllAhead, GiveItemsOfFeed, EndAsStopped, GoOnGiving, HaveFeeds};
 
 /// A line that is printed is heard as itself.
 #[tactic(auto, using(crate::proofs::Spelling::printed_is_heard))]
@@ -37,4 +37,14 @@ pub fn new_readers_give_the_feeds_items<S>()
 /// The stop behind them tells whether they are all, and the size of the feed.
 pub fn stops_tell_what_was_given<S>()
     ensures { EndAsStopped S }
+{}
+
+/// A due line that is given after others is given behind them.
+pub fn lines_are_given_in_turn<S>()
+    ensures { GoOnGiving S }
+{}
+
+/// What a new reader gives up to its stop are the due items of some bytes, also where its source tells nothing.
+pub fn given_lines_have_a_feed<S>()
+    ensures { HaveFeeds S }
 {}

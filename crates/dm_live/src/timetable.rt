@@ -174,6 +174,7 @@ impl LiveTimetable {
         ensures held { self.new.given ≡ with_held self.old.given a false }
         ensures mark { self.new.marks ≡ with_head net.now self.old.marks a }
         ensures times { self.new.times ≡ self.old.times }
+        ensures cycle_stays { self.new.order.cycle ≡ self.old.order.cycle }
     {
         net.sound();
         self.order.remove(&[a]);
@@ -191,6 +192,7 @@ impl LiveTimetable {
         ensures mark { OnOk result (self.new.marks ≡ with_head net.now self.old.marks a) }
         ensures times { self.new.times ≡ self.old.times }
         ensures no_cycle { OnOk result (HasNoCycleOf net.now (is_held (with_held self.old.given a true).held)) }
+        ensures cycle_stays { OnOk result (self.new.order.cycle ≡ self.old.order.cycle) }
         ensures unchanged { OnErr result (self.new ≡ record self.old { order = record self.old.order { cycle = self.new.order.cycle } }) }
         ensures cycle { OnErr result (IsCycleOf net.now (is_held (with_held self.old.given a true).held) self.new.order.cycle) }
     {
@@ -246,8 +248,7 @@ impl LiveTimetable {
         self.constraints.span(a)
     }
 
-    /// The activities of the cycle for which an activity was refused last, each head the next tail. After one that was not
-    /// refused it says nothing.
+    /// The activities of the cycle for which an activity was refused last, each head the next tail.
     pub fn last_cycle(&self) -> &[usize]
         ensures { result.now ≡ self.now.order.cycle }
     {

@@ -64,6 +64,7 @@ impl Lists {
         ensures same_order { OnErr result (self.new.places.order.items ≡ self.old.places.order.items) }
         ensures same_ranks { OnErr result (self.new.places.ranks.items ≡ self.old.places.ranks.items) }
         ensures cycle { OnErr result (IsCycleOf net.now (is_held held.now) (cycle_in self.new)) }
+        ensures cycle_stays { OnOk result (length arcs.now ≤ 1 → cycle_in self.new ≡ cycle_in self.old) }
     {
         match self.first_behind(net, arcs) {
             None => Ok(()),
@@ -133,10 +134,10 @@ impl Lists {
         ensures same_order { OnErr result (self.new.places.order.items ≡ self.old.places.order.items) }
         ensures same_ranks { OnErr result (self.new.places.ranks.items ≡ self.old.places.ranks.items) }
         ensures cycle { OnErr result (IsCycleOf net.now (is_held held.now) (cycle_in self.new)) }
+        ensures cycle_stays { OnOk result (cycle_in self.new ≡ cycle_in self.old) }
     {
         net.sound();
         let _few = net.events();
-        self.by_search = false;
         let low = self.places.ranks[net.activity(first).head];
         let high = self.places.ranks[net.activity(first).tail];
         self.reach.reach(
@@ -157,6 +158,7 @@ impl Lists {
                 &self.reach.causes,
                 first,
             );
+            self.by_search = false;
             return Err(Cyclic);
         }
         self.places.shift(&self.reach.causes, low, high + 1 - low);

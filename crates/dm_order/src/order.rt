@@ -1,5 +1,5 @@
 //! An order of all events in which the held activities go forward.
-ghost use Rattle.std.specs.Prelude.{ℕ, ◌≡◌, ◌<◌, length, All, IfOk, IfErr, OnOk, OnErr};
+ghost use Rattle.std.specs.Prelude.{ℕ, ◌≡◌, ◌<◌, ◌≤◌, length, All, IfOk, IfErr, OnOk, OnErr};
 ghost use Rattle.dm_network.specs.Net.{Net};
 ghost use Rattle.dm_network.specs.Held.{is_held, IsCycleOf, HasNoCycleOf};
 ghost use Rattle.dm_rows.specs.Rows.{IsSized};
@@ -72,7 +72,7 @@ impl Order {
     ///
     /// Activities that go forward already cost a look each. Where one does not, or several between the same two events, the
     /// places between these are looked over; where several between different events do not, one search over the whole
-    /// network makes the list anew. So who adds few adds them one at a time.
+    /// network makes the list anew. So who adds few adds them one at a time. One that is not refused leaves the cycle.
     pub fn add(&mut self, net: &Network, arcs: &[usize]) -> Result<(), Cyclic>
         requires network { IsOrderOf net.now self.old }
         requires are_activities { All (λ a. a < length net.now.activities) arcs.now }
@@ -81,6 +81,7 @@ impl Order {
         ensures no_cycle { OnOk result (HasNoCycleOf net.now (held_with self.old.held arcs.now)) }
         ensures unchanged { OnErr result (self.new ≡ record self.old { cycle = self.new.cycle }) }
         ensures cycle { OnErr result (IsCycleOf net.now (held_with self.old.held arcs.now) self.new.cycle) }
+        ensures cycle_stays { OnOk result (length arcs.now ≤ 1 → self.new.cycle ≡ self.old.cycle) }
     {
         self.flags.try_with(arcs);
         match self.lists.move_for(net, &self.flags.tried, arcs) {
@@ -129,7 +130,7 @@ impl Order {
     }
 
     /// The activities of the cycle for which the last addition was refused, each head the next tail. After an addition
-    /// that was not refused it says nothing.
+    /// of several that was not refused it says nothing.
     pub fn last_cycle(&self) -> &[usize]
         ensures { result.now ≡ self.now.cycle }
     {

@@ -42,6 +42,14 @@ pub record IsSized (net : Net) (rows : RowsValue) : Type 0 where
   pub kept : length rows.kept ≡ length net.activities
   pub small_first : length rows.small_first ≡ length net.pairs
 
+-- the lists of two rows are as long as each other, as where both are of one network
+pub record AreAsLong (rows other : RowsValue) : Type 0 where
+  pub event_delays : length rows.event_delays ≡ length other.event_delays
+  pub act_delays : length rows.act_delays ≡ length other.act_delays
+  pub passed : length rows.passed ≡ length other.passed
+  pub kept : length rows.kept ≡ length other.kept
+  pub small_first : length rows.small_first ≡ length other.small_first
+
 -- delays are at most DELAY, and passed times and the clock at most PASSED_TIME
 pub record NumbersAreWithinLimits (event_delays act_delays : List ℕ) (passed : List (Option ℕ)) (clock : ℕ) : Type 0 where
   pub of_events : (i : ℕ) → slice_index_or event_delays i 0 ≤ DELAY

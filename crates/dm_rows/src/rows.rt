@@ -1,7 +1,7 @@
 //! The rows of a day, and what one message does to them.
 ghost use Rattle.std.specs.Prelude.{ℕ, slice_index_or, ◌≡◌, ◌<◌, ◌≤◌, length, All, fold, IfOk, IfSome};
 ghost use Rattle.dm_network.specs.Net.{Net};
-ghost use Rattle.dm_rows.specs.Rows.{IsSized, RowsAreWithinLimits, event_delay_at, act_delay_at, passed_at, kept_at, small_first_at};
+ghost use Rattle.dm_rows.specs.Rows.{IsSized, AreAsLong, RowsAreWithinLimits, event_delay_at, act_delay_at, passed_at, kept_at, small_first_at};
 ghost use Rattle.dm_rows.specs.Inside.Delays.{IsStartWith};
 ghost use Rattle.dm_rows.specs.Resolve.{after_change, after_flip};
 ghost use Rattle.dm_rows.specs.Reach.{Reaches, ReachesFlip};
@@ -153,6 +153,19 @@ impl Rows {
             small_first: Vec::from_slice(self.alloc, &self.small_first)?,
             clock: self.clock,
         })
+    }
+
+    /// Becomes equal to other rows of the same network, in the room that is there.
+    pub fn copy_from(&mut self, other: &Rows)
+        requires { AreAsLong self.old other.now }
+        ensures { self.new ≡ other.now }
+    {
+        self.event_delays.copy_from_slice(&other.event_delays);
+        self.act_delays.copy_from_slice(&other.act_delays);
+        self.passed.copy_from_slice(&other.passed);
+        self.kept.copy_from_slice(&other.kept);
+        self.small_first.copy_from_slice(&other.small_first);
+        self.clock = other.clock;
     }
 
     /// Sets one decision.

@@ -1,0 +1,29 @@
+//! What holds of all texts. A law has no code: it is proved as the contract of an empty function.
+ghost use Rattle.dm_cert.specs.Laws.{LeavesAreTheTrees};
+ghost use Rattle.dm_cert.specs.Worked.{QuietRunIsSpelled, LateRunIsSpelled, PlannedRunIsSpelled, PlanIsSpelled};
+
+/// The leaves that version 1 prints of a plan are those of its tree, each with its whole path.
+#[tactic(auto, using(crate::proofs::Leaves::leaves_are_the_trees))]
+pub fn leaves_are_the_trees()
+    ensures { LeavesAreTheTrees }
+{}
+
+/// Where two trains meet and the feed says nothing, the text is the one that was worked out by hand.
+pub fn quiet_run_is_spelled()
+    ensures { QuietRunIsSpelled }
+{}
+
+/// And where the first train is a minute late.
+pub fn late_run_is_spelled()
+    ensures { LateRunIsSpelled }
+{}
+
+/// And where a plan is asked for besides, in version 1.
+pub fn planned_run_is_spelled()
+    ensures { PlannedRunIsSpelled }
+{}
+
+/// And the plan in version 2.
+pub fn plan_is_spelled()
+    ensures { PlanIsSpelled }
+{}
