@@ -15,4 +15,5 @@ mod scratch;
 pub use charging::Charging;
 pub use costing::{cost, cost_charging};
 pub use dm_settle::{NoTimes, Times};
+pub use filling::{floor_of, span_of};
 pub use scratch::least;
