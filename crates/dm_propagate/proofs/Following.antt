@@ -1,0 +1,45 @@
+-- A live timetable that follows rows: its times are theirs.
+use Rattle.std.proofs.Common.{◌≡◌, ℕ, ◌<◌, List, length, sym, ◌∙◌, arith}
+use Rattle.std.proofs.lemmas.Grind.{same_number_lists}
+use Rattle.dm_live.specs.Live.{LiveValue, IsLive, IsAtRest}
+use Rattle.dm_live.proofs.Resting.{least_at_rest, live_has_no_cycle}
+use Rattle.dm_network.specs.Net.{Net, EndsAreKnown}
+use Rattle.dm_rows.specs.Active.{HasNoCycle}
+use Rattle.dm_rows.specs.Rows.{RowsValue}
+use Rattle.dm_rows.specs.Timetable.{IsLeast}
+use Rattle.dm_settle.specs.Constraints.{ConstraintsValue, IsSizedFor}
+use Rattle.dm_times.specs.Inside.Filling.{AreConstraintsOf}
+use Rattle.dm_times.proofs.Filled.{least_for_rows, no_cycle_of_rows}
+use Rattle.dm_propagate.specs.Engine.{EngineValue, FollowsRows, IsEngineOf, times_of}
+
+constraints_of_rows : (net : Net) (rows : RowsValue) (given : ConstraintsValue) → IsSizedFor net given → FollowsRows net rows given →
+    AreConstraintsOf net rows given
+constraints_of_rows net rows given sized follows =
+    record { sized = sized; held = follows.held; floors = follows.floors; spans = follows.spans }
+
+-- at rest it has the least timetable of the rows
+pub follows_least : (net : Net) (rows : RowsValue) (live : LiveValue) → EndsAreKnown net → IsLive net live → IsAtRest live →
+    FollowsRows net rows live.given → IsLeast net rows live.times
+follows_least net rows live known is rest follows =
+    least_for_rows net rows live.given (constraints_of_rows net rows live.given is.sized follows) live.times known (least_at_rest net live is rest)
+
+-- the rows have no cycle
+pub follows_no_cycle : (net : Net) (rows : RowsValue) (live : LiveValue) → IsLive net live → FollowsRows net rows live.given → HasNoCycle net rows
+follows_no_cycle net rows live is follows =
+    no_cycle_of_rows net rows live.given (constraints_of_rows net rows live.given is.sized follows) (live_has_no_cycle net live is)
+
+pub engine_least : (net : Net) (engine : EngineValue) → EndsAreKnown net → IsEngineOf net engine → IsLeast net engine.rows (times_of engine)
+engine_least net engine known is = follows_least net engine.rows engine.live known is.live is.at_rest is.follows
+
+pub engine_no_cycle : (net : Net) (engine : EngineValue) → IsEngineOf net engine → HasNoCycle net engine.rows
+engine_no_cycle net engine is = follows_no_cycle net engine.rows engine.live is.live is.follows
+
+-- rows have one least timetable
+pub one_least : (net : Net) (rows : RowsValue) (x y : List ℕ) → IsLeast net rows x → IsLeast net rows y → x ≡ y
+one_least net rows x y of_x of_y =
+    let size = of_x.meets.size in
+    same_number_lists x y (of_x.meets.size ∙ sym of_y.meets.size)
+    (λ k lt. let below : k < length net.events = omega arith in
+    let down = of_x.earliest y of_y.meets k below in
+    let up = of_y.earliest x of_x.meets k below in
+    omega arith)

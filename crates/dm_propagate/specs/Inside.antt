@@ -1,0 +1,2 @@
+-- States of loops. Who believes what an engine promises need not read them.
+pub mod Sweeping
