@@ -1,4 +1,5 @@
 pub mod Admitted
+pub mod DueLines
 pub mod Holding
 pub mod Leaves
 pub mod ListsOfLogs

@@ -1,5 +1,5 @@
 -- True logs of a legal history are what one dispatcher reaches.
-use Rattle.std.proofs.Common.{◌≡◌, ℕ, List, [], ◌∷◌, length, map, Option, Some, None, refl, sym, ap, subst, ◌∙◌, slice_get}
+use Rattle.std.proofs.Common.{◌≡◌, ℕ, List, Option, Some, None, refl, sym, ap, subst, ◌∙◌, slice_get}
 use Rattle.std.specs.Option.{option_map}
 use Rattle.std.proofs.lemmas.List.{length-map}
 use Rattle.std.proofs.lemmas.Option.{slice_get-map}
@@ -60,6 +60,7 @@ journal_of s dues h logs holds =
     }
 
 pub true_logs_are_one_dispatchers : TrueLogsAreOneDispatchers
-true_logs_are_one_dispatchers s dues h logs network rising =
-    (λ journal. is_reached s dues (size_of (items_of logs)) h (items_of logs) (holds_of s dues h logs journal) refl,
-    λ reached. journal_of s dues h logs (reached_holds s network dues rising h (items_of logs) reached))
+true_logs_are_one_dispatchers s dues h logs network rising = (
+  λ journal. is_reached s dues (size_of (items_of logs)) h (items_of logs) (holds_of s dues h logs journal) refl,
+  λ reached. journal_of s dues h logs (reached_holds s network dues rising h (items_of logs) reached),
+)

@@ -1,5 +1,5 @@
 -- From a schedule to true logs: each step of one dispatcher keeps what holds.
-use Rattle.std.proofs.Common.{◌≡◌, ℕ, zero, suc, ◌+◌, ◌-◌, ◌<◌, ◌≤◌, ◌⊎◌, List, [], ◌∷◌, ◌++◌, length, map, set, Option, Some, None, refl, sym, ap, subst, ◌∙◌, arith, inl, inr, slice_get, get_or, fold}
+use Rattle.std.proofs.Common.{◌≡◌, ℕ, ◌+◌, ◌-◌, ◌<◌, ◌≤◌, ◌⊎◌, List, [], ◌∷◌, ◌++◌, length, map, set, Option, Some, None, refl, sym, ap, subst, ◌∙◌, arith, inl, inr, slice_get, fold}
 use Rattle.std.specs.Prelude.{count_by, All}
 use Rattle.std.specs.Option.{IsSomeAnd}
 use Rattle.std.proofs.lemmas.Bool.{cases_eq, cases_lt}
@@ -15,9 +15,9 @@ use Rattle.dm_rows.specs.declared.messages.Entry.{Entry}
 use Rattle.dm_rows.specs.declared.messages.Message.{Message}
 use Rattle.dm_rows.specs.declared.messages.Message.TheVariants.{DelayEvent, DelayActivity, Pass, Recall, Keep, Drop, First, Adopt as AdoptAll, Now}
 use Rattle.dm_rows.specs.declared.messages.Refusal.{Refusal}
-use Rattle.dm_rows.specs.declared.messages.Refusal.TheVariants.{Range as OutOfRange, UnknownEvent, UnknownActivity, UnknownChange, UnknownPair, Passed, NotPassed, Back, Cycle, Full, OutOfMemory}
+use Rattle.dm_rows.specs.declared.messages.Refusal.TheVariants.{Cycle, Full, OutOfMemory}
 use Rattle.dm_rows.specs.Rows.{RowsValue}
-use Rattle.dm_rows.specs.Active.{IsCycle, HasNoCycle}
+use Rattle.dm_rows.specs.Active.{HasNoCycle}
 use Rattle.dm_rows.specs.Resolve.{after}
 use Rattle.dm_rows.specs.Refuse.{IsNow, RefusesDecision, RefusesAtOnce, PassesAtOnce, RefusesNothing, Refuses}
 use Rattle.dm_rows.specs.History.{IsLegal}
@@ -32,11 +32,11 @@ use Rattle.dm_cert.specs.declared.replies.LogItem.{LogItem}
 use Rattle.dm_cert.specs.declared.replies.LogItem.TheVariants.{Malformed, Answered}
 use Rattle.dm_cert.specs.Answers.{Setting, rows_after, IsEntry, plan_after, plan_after_reply, latest_plan, IsAdopted, IsTrueReply, IsTrueAnswer}
 use Rattle.dm_cert.specs.Logs.{Kind, free, told, entered, kind_of_reply, kind_of, line_of, due_of, Follows, names, AreTrueAnswers, IsTrueLog}
-use Rattle.dm_cert.specs.CoreRun.{LinesRise, AnswerFirst, IsToEnter, IsItemToEnter, EntersNext, AnswersNow, CoreState, CoreStep, CoreRun, nothing_yet, IsReached}
+use Rattle.dm_cert.specs.CoreRun.{LinesRise, AnswerFirst, IsPresent, IsToEnter, IsItemToEnter, EntersNext, AnswersNow, CoreState, CoreStep, CoreRun, nothing_yet, IsReached}
 use Rattle.dm_cert.proofs.Admitted.{free_choices_are_admitted}
 use Rattle.dm_cert.proofs.Numbers.{last_number, order_push, one_name, count_push, names_itself, names_no_other, unnamed_above}
 use Rattle.dm_cert.proofs.TrueLogs.{answers_grow, answers_push, numbers_within, log_grows}
-use Rattle.dm_cert.proofs.ListsOfLogs.{get_set_same, get_set_other, sum_set, HasPart, has_part, total_names, none_named, empty_at}
+use Rattle.dm_cert.proofs.ListsOfLogs.{get_set_same, get_set_other, sum_set, HasPart, has_part, total_names, empty_at}
 use Rattle.dm_cert.proofs.Holding.{Holds, get_at, first_push, next_rises, legal_push}
 
 -- ---- that nothing refuses a message says that there is room
@@ -172,16 +172,16 @@ record IsAdmitted (s : Setting) (h : List Entry) (m : Message) : Type 0 where
   passes : (r : Refusal) → Refuses s.net (rows_after s h (length h)) (length h) m r → ⊥
 
 module _ (s : Setting) (network : IsNetwork s.net) (h : List Entry) (legal : IsLegal s.net s.start h) (feed : ℕ) (before : List LogItem) (answers : AreTrueAnswers s h feed [] before) where
-  adopted_is_admitted : (m : Message) (latest : Option Plan) → IsGoodOrNone s h latest → IsSomeAnd latest (λ plan. (plan.entry ≡ length h) × (length h < ENTRIES) × (AdoptAll plan.choices ≡ m)) → IsAdmitted s h m
+  adopted_is_admitted : (m : Message) (latest : Option Plan) → IsGoodOrNone s h latest → IsSomeAnd latest (λ plan. IsPresent h m plan) → IsAdmitted s h m
   adopted_is_admitted m None good to_enter = absurd to_enter
   adopted_is_admitted m (Some plan) good to_enter =
       let rows : RowsValue = rows_after s h (length h) in
       let plan_true : IsTruePlan (whole_task s.net rows s.penalty good.budget) plan =
-      subst (λ (n : ℕ). IsTruePlan (whole_task s.net (rows_after s h n) s.penalty good.budget) plan) to_enter.0 good.is_true in
+      subst (λ (n : ℕ). IsTruePlan (whole_task s.net (rows_after s h n) s.penalty good.budget) plan) to_enter.present good.is_true in
       record {
-        room = to_enter.1;
-        passes = subst (λ (message : Message). (r : Refusal) → Refuses s.net rows (length h) message r → ⊥) to_enter.2
-            (free_choices_are_admitted s.net rows network plan.choices plan_true.choices (length h) to_enter.1 plan_true.cost.no_cycle);
+        room = to_enter.room;
+        passes = subst (λ (message : Message). (r : Refusal) → Refuses s.net rows (length h) message r → ⊥) to_enter.choices
+            (free_choices_are_admitted s.net rows network plan.choices plan_true.choices (length h) to_enter.room plan_true.cost.no_cycle);
       }
 
   said_is_admitted : (said : Line) (m : Message) → IsToEnter s h before said m → IsAdmitted s h m
@@ -210,14 +210,14 @@ module _ (s : Setting) (h : List Entry) (feed : ℕ) (before : List LogItem) (li
       subst (λ (message : Message). IsTrueReply s (h ++ entry_of message ∷ []) feed before line (Say own) (Ok n)) t.0 (last_is_entry h (entry_of own) n is)
   entered_said AskAdopt m t = adopted (latest_plan before) t
     where
-      adopted : (latest : Option Plan) → IsSomeAnd latest (λ plan. (plan.entry ≡ length h) × (length h < ENTRIES) × (AdoptAll plan.choices ≡ m))
+      adopted : (latest : Option Plan) → IsSomeAnd latest (λ plan. IsPresent h m plan)
           → IsSomeAnd latest (λ plan. IsAdopted (h ++ entry_of m ∷ []) feed line n plan)
       adopted None t = absurd t
       adopted (Some plan) t =
-          let present = t.0 in
+          let present = t.present in
           record {
             next = omega arith;
-            entry = subst (λ (message : Message). IsEntry (h ++ entry_of m ∷ []) n (entry_of message)) (sym t.2) (last_is_entry h (entry_of m) n is);
+            entry = subst (λ (message : Message). IsEntry (h ++ entry_of m ∷ []) n (entry_of message)) (sym t.choices) (last_is_entry h (entry_of m) n is);
           }
   entered_said (AskTime event) m t = absurd t
   entered_said AskCost m t = absurd t

@@ -1,8 +1,8 @@
 -- From true logs to a schedule: the item that may have been answered last is taken back.
-use Rattle.std.proofs.Common.{◌≡◌, ℕ, zero, suc, ◌+◌, ◌-◌, ◌<◌, ◌≤◌, ◌⊎◌, List, [], ◌∷◌, ◌++◌, length, map, set, get_or, Option, Some, None, refl, sym, ap, subst, ◌∙◌, arith, inl, inr, slice_get}
+use Rattle.std.proofs.Common.{◌≡◌, ℕ, zero, suc, ◌+◌, ◌-◌, ◌<◌, ◌≤◌, ◌⊎◌, List, [], ◌∷◌, ◌++◌, length, set, get_or, Option, Some, None, refl, sym, ap, subst, ◌∙◌, arith, inl, inr, slice_get}
 use Rattle.std.specs.Prelude.{count_by}
 use Rattle.std.specs.Option.{IsSomeAnd}
-use Rattle.std.proofs.lemmas.Bool.{cases_eq, cases_lt}
+use Rattle.std.proofs.lemmas.Bool.{cases_eq}
 use Rattle.std.proofs.lemmas.List.{length-append, length-set, same_from_push}
 use Rattle.std.proofs.lemmas.Option.{slice_get_within, slice_get-get_or}
 use Rattle.dm_base.specs.declared.limits.TheConstants.{ENTRIES}
@@ -21,10 +21,10 @@ use Rattle.dm_cert.specs.declared.replies.Reply.TheVariants.{Ok, Refused, Time, 
 use Rattle.dm_cert.specs.declared.replies.LogItem.{LogItem}
 use Rattle.dm_cert.specs.declared.replies.LogItem.TheVariants.{Malformed, Answered}
 use Rattle.dm_cert.specs.Answers.{Setting, rows_after, IsEntry, latest_plan, IsAdopted, IsTrueReply, IsTrueAnswer}
-use Rattle.dm_cert.specs.Logs.{Kind, free, told, entered, kind_of_reply, kind_of, line_of, number_after, Follows, names, AreTrueAnswers, IsTrueLog}
-use Rattle.dm_cert.specs.CoreRun.{AnswerFirst, IsToEnter, EntersNext, AnswersNow, CoreState, CoreStep, CoreRun, nothing_yet, IsReached}
+use Rattle.dm_cert.specs.Logs.{Kind, free, told, entered, kind_of_reply, kind_of, number_after, Follows, names, IsTrueLog}
+use Rattle.dm_cert.specs.CoreRun.{AnswerFirst, IsPresent, EntersNext, AnswersNow, CoreState, CoreStep, CoreRun, nothing_yet, IsReached}
 use Rattle.dm_cert.proofs.Numbers.{IsWithin, last_number, last_number_push, order_front, order_last, one_name, count_push, names_itself, names_no_other, named_no_more}
-use Rattle.dm_cert.proofs.TrueLogs.{AreAlike, alike_shorter, answer_within, answers_alike, answers_front, answers_last, numbers_within}
+use Rattle.dm_cert.proofs.TrueLogs.{alike_shorter, answer_within, answers_alike, answers_front, answers_last, numbers_within}
 use Rattle.dm_cert.proofs.ListsOfLogs.{get_set_same, get_set_other, set_back, sum_set, sum_two, HasPart, has_part, total_names, size_of, all_empty, none_named}
 use Rattle.dm_cert.proofs.Holding.{Holds, get_at, first_front, first_next, legal_front, legal_last}
 
@@ -257,7 +257,7 @@ module _ (s : Setting) (g : List Entry) (e : Entry) (legal : IsLegal s.net s.sta
           let present : plan.entry ≡ length g = omega arith in
           record {
             message = AdoptAll plan.choices;
-            to_enter = subst (λ (o : Option Plan). IsSomeAnd o (λ p. (p.entry ≡ length g) × (length g < ENTRIES) × (AdoptAll p.choices ≡ AdoptAll plan.choices))) (sym is_latest) (present, room, refl);
+            to_enter = subst (λ (o : Option Plan). IsSomeAnd o (λ p. IsPresent g (AdoptAll plan.choices) p)) (sym is_latest) (record { present = present; room = room; choices = refl });
             number = is;
             grown = ap (λ (x : Entry). g ++ x ∷ []) (sym same);
           }

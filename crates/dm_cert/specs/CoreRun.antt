@@ -11,6 +11,7 @@ use Rattle.dm_rows.specs.History.{IsLegal}
 use Rattle.dm_feed.specs.declared.grammar.Line.{Line}
 use Rattle.dm_feed.specs.declared.grammar.Line.TheVariants.{Say, Adopt as AskAdopt}
 use Rattle.dm_feed.specs.DueItems.{DueItem, item}
+use Rattle.dm_tree.specs.declared.plans.Plan.{Plan}
 use Rattle.dm_cert.specs.declared.replies.LogItem.{LogItem}
 use Rattle.dm_cert.specs.declared.replies.LogItem.TheVariants.{Malformed, Answered}
 use Rattle.dm_cert.specs.declared.replies.FeedLog.{FeedLog}
@@ -34,13 +35,19 @@ pub record AnswerFirst (due : List DueItem) (items : List LogItem) : Type 0 wher
 
 -- ---- a step
 
+-- the plan is for the present rows, the history is not full, and its choices are the message
+pub record IsPresent (history : List Entry) (message : Message) (plan : Plan) : Type 0 where
+  pub present : plan.entry ≡ length history
+  pub room : length history < ENTRIES
+  pub choices : AdoptAll plan.choices ≡ message
+
 -- The message that a line enters at the present rows: its own, where nothing refuses it, or the latest plan's choices,
 -- where the plan is for these rows and the history is not full.
 abbrev pub IsToEnter : Setting → List Entry → List LogItem → Line → Message → Type 0
 IsToEnter s history before (Say own) message =
     (own ≡ message) × RefusesNothing (Refuses s.net (rows_after s history (length history)) (length history) own)
 IsToEnter s history before AskAdopt message =
-    IsSomeAnd (latest_plan before) (λ plan. (plan.entry ≡ length history) × (length history < ENTRIES) × (AdoptAll plan.choices ≡ message))
+    IsSomeAnd (latest_plan before) (λ plan. IsPresent history message plan)
 IsToEnter s history before _ message = ⊥
 
 abbrev pub IsItemToEnter : Setting → List Entry → List LogItem → LogItem → Message → Type 0
@@ -48,7 +55,8 @@ IsItemToEnter s history before (Malformed line) message = ⊥
 IsItemToEnter s history before (Answered line said reply) message = IsToEnter s history before said message
 
 -- the item's line enters this message behind the history, as entry n
-pub record EntersNext (s : Setting) (history later : List Entry) (feed : ℕ) (before : List LogItem) (answered : LogItem) (n : ℕ) : Type 0 where
+pub record EntersNext (s : Setting) (history later : List Entry) (feed : ℕ) (before : List LogItem) (answered : LogItem)
+    (n : ℕ) : Type 0 where
   pub message : Message
   pub to_enter : IsItemToEnter s history before answered message
   pub number : n ≡ length history + 1
@@ -107,7 +115,8 @@ pub record AreLogsOfDue (dues : List (List DueItem)) (logs : List FeedLog) : Typ
       slice_get logs place ≡ Some log → AnswerFirst due log.items
 
 -- A legal history with true logs, of the first due items of each feed.
-pub record IsTrueJournal (s : Setting) (dues : List (List DueItem)) (history : List Entry) (logs : List FeedLog) : Type 0 where
+pub record IsTrueJournal (s : Setting) (dues : List (List DueItem)) (history : List Entry) (logs : List FeedLog) :
+    Type 0 where
   pub legal : IsLegal s.net s.start history
   pub logs_are_true : AreTrueLogs s history logs
   pub of_due : AreLogsOfDue dues logs
