@@ -178,7 +178,7 @@ impl Engine {
     pub fn times(&self) -> &[Secs]
         ensures { result.now ≡ times_of self.now }
     {
-        self.live.times()
+        self.live.times().as_slice()
     }
 
     /// The activities of the cycle for which a change was refused last, each head the next tail.
