@@ -1,9 +1,11 @@
 //! The engine, its changes and its readers.
-ghost use Rattle.std.specs.Prelude.{◌≡◌, All, fold, IfOk, IfErr, OnOk, OnErr};
+ghost use Rattle.std.specs.Prelude.{◌≡◌, ◌^◌, ◌<◌, ◌≤◌, All, fold, IfOk, IfErr, OnOk, OnErr};
+ghost use Rattle.dm_base.specs.declared.limits.TheConstants.{PENALTY};
 ghost use Rattle.dm_rows.specs.Rows.{IsSized};
 ghost use Rattle.dm_rows.specs.Active.{IsCycle, HasNoCycle};
 ghost use Rattle.dm_rows.specs.Reach.{Reaches, ReachesFlip};
 ghost use Rattle.dm_rows.specs.Resolve.{after_change, after_flip};
+ghost use Rattle.dm_rows.specs.Cost.{cost_of};
 ghost use Rattle.dm_rows.specs.Timetable.{IsLeast};
 ghost use Rattle.dm_times.specs.Faults.{RefusesTimes};
 ghost use Rattle.dm_propagate.specs.Engine.{IsEngineOf, times_of};
@@ -11,12 +13,13 @@ ghost use Rattle.dm_propagate.specs.Engine.{IsEngineOf, times_of};
 use crate::setting::set_flips;
 use crate::starting::live_for;
 use crate::sweeping::{move_to, try_rows};
-use dm_base::{Secs, Steps};
+use dm_base::{Cost, Steps};
 use dm_graph::search::Cyclic;
 use dm_live::LiveTimetable;
 use dm_network::Network;
 use dm_rows::{Change, Flip, Rows};
-use dm_settle::NoTimes;
+use dm_settle::{NoTimes, Times};
+use dm_times::cost;
 use std::alloc::Global;
 use std::marker::Model;
 use std::sync::ledger::Ledger;
@@ -174,11 +177,23 @@ impl Engine {
         &self.rows
     }
 
-    /// The times of the events, by place, in seconds.
-    pub fn times(&self) -> &[Secs]
+    /// The times of the events.
+    pub fn times(&self) -> &Times
         ensures { result.now ≡ times_of self.now }
     {
-        self.live.times().as_slice()
+        self.live.times()
+    }
+
+    /// What the times cost, in thousandths of passenger seconds, at a penalty in seconds for each passenger, at most
+    /// 1,000,000. It takes no memory.
+    pub fn cost(&self, net: &Network, penalty: u64) -> Cost
+        requires engine { IsEngineOf net.now self.now }
+        requires penalty { penalty ≤ PENALTY }
+        ensures cost { result ≡ cost_of net.now self.now.rows (times_of self.now) penalty }
+        ensures limit { result < 2 ^ 100 }
+    {
+        net.sound();
+        cost(net, &self.rows, self.live.times(), penalty)
     }
 
     /// The activities of the cycle for which a change was refused last, each head the next tail.
