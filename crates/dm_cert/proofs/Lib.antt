@@ -1,4 +1,3 @@
-pub mod Admitted
 pub mod DueLines
 pub mod Holding
 pub mod Leaves

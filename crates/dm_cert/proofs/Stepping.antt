@@ -33,9 +33,9 @@ use Rattle.dm_cert.specs.declared.replies.LogItem.TheVariants.{Malformed, Answer
 use Rattle.dm_cert.specs.Answers.{Setting, rows_after, IsEntry, plan_after, plan_after_reply, latest_plan, IsAdopted, IsTrueReply, IsTrueAnswer}
 use Rattle.dm_cert.specs.Logs.{Kind, free, told, entered, kind_of_reply, kind_of, line_of, due_of, Follows, names, AreTrueAnswers, IsTrueLog}
 use Rattle.dm_cert.specs.CoreRun.{LinesRise, AnswerFirst, IsPresent, IsToEnter, IsItemToEnter, EntersNext, AnswersNow, CoreState, CoreStep, CoreRun, nothing_yet, IsReached}
-use Rattle.dm_cert.proofs.Admitted.{free_choices_are_admitted}
-use Rattle.dm_cert.proofs.Numbers.{last_number, order_push, one_name, count_push, names_itself, names_no_other, unnamed_above}
-use Rattle.dm_cert.proofs.TrueLogs.{answers_grow, answers_push, numbers_within, log_grows}
+use Rattle.dm_tree.proofs.Admitted.{true_plans_are_admitted}
+use Rattle.dm_cert.proofs.Numbers.{last_number, one_name, count_push, names_itself, names_no_other, unnamed_above}
+use Rattle.dm_cert.proofs.TrueLogs.{answers_grow, numbers_within, log_grows, log_push}
 use Rattle.dm_cert.proofs.ListsOfLogs.{get_set_same, get_set_other, sum_set, HasPart, has_part, total_names, empty_at}
 use Rattle.dm_cert.proofs.Holding.{Holds, get_at, first_push, next_rises, legal_push}
 
@@ -115,7 +115,7 @@ module _ (net : Net) (rows : RowsValue) (n : ℕ) (m : Message) (nothing : Refus
         | inr not_now ↦ inr (λ cycle is_cycle. nothing (Cycle (ids_of net cycle)) (passes_at_once, not_now, record { places = cycle; is_cycle = is_cycle; named = refl }))
       ]
 
-  has_room : n ≤ ENTRIES → n < ENTRIES
+  pub has_room : n ≤ ENTRIES → n < ENTRIES
   has_room le =
       elim (cases_lt n ENTRIES) [
         | inl lt ↦ lt
@@ -167,9 +167,9 @@ goods s h feed before latest (x ∷ items) t good =
 -- ---- a message that is entered
 
 -- the history has room for the message, and nothing refuses it
-record IsAdmitted (s : Setting) (h : List Entry) (m : Message) : Type 0 where
-  room : length h < ENTRIES
-  passes : (r : Refusal) → Refuses s.net (rows_after s h (length h)) (length h) m r → ⊥
+pub record IsAdmitted (s : Setting) (h : List Entry) (m : Message) : Type 0 where
+  pub room : length h < ENTRIES
+  pub passes : (r : Refusal) → Refuses s.net (rows_after s h (length h)) (length h) m r → ⊥
 
 module _ (s : Setting) (network : IsNetwork s.net) (h : List Entry) (legal : IsLegal s.net s.start h) (feed : ℕ) (before : List LogItem) (answers : AreTrueAnswers s h feed [] before) where
   adopted_is_admitted : (m : Message) (latest : Option Plan) → IsGoodOrNone s h latest → IsSomeAnd latest (λ plan. IsPresent h m plan) → IsAdmitted s h m
@@ -181,7 +181,7 @@ module _ (s : Setting) (network : IsNetwork s.net) (h : List Entry) (legal : IsL
       record {
         room = to_enter.room;
         passes = subst (λ (message : Message). (r : Refusal) → Refuses s.net rows (length h) message r → ⊥) to_enter.choices
-            (free_choices_are_admitted s.net rows network plan.choices plan_true.choices (length h) to_enter.room plan_true.cost.no_cycle);
+            (true_plans_are_admitted s.net rows s.penalty good.budget (length h) plan network to_enter.room plan_true);
       }
 
   said_is_admitted : (said : Line) (m : Message) → IsToEnter s h before said m → IsAdmitted s h m
@@ -193,7 +193,7 @@ module _ (s : Setting) (network : IsNetwork s.net) (h : List Entry) (legal : IsL
   said_is_admitted (AskPlan budget) m t = absurd t
   said_is_admitted AskRead m t = absurd t
 
-  item_is_admitted : (x : LogItem) (m : Message) → IsItemToEnter s h before x m → IsAdmitted s h m
+  pub item_is_admitted : (x : LogItem) (m : Message) → IsItemToEnter s h before x m → IsAdmitted s h m
   item_is_admitted (Malformed line) m t = absurd t
   item_is_admitted (Answered line said reply) m t = said_is_admitted said m t
 
@@ -265,10 +265,7 @@ module _ (s : Setting) (network : IsNetwork s.net) (dues : List (List DueItem)) 
 
   log_after : (later : List Entry) → AreTrueAnswers s later (place + 1) [] before → IsTrueAnswer s later (place + 1) before x → Follows (last_number 0 before) (kind_of x) → IsTrueLog s later place (before ++ x ∷ [])
   log_after later answers t follows =
-      record {
-        answers = answers_push s later (place + 1) [] before x answers t;
-        in_order = order_push 0 0 before x log_before.in_order (next_rises due before x due_rises answer_first) follows;
-      }
+      log_push s later place before x (record { answers = answers; in_order = log_before.in_order }) t (next_rises due before x due_rises answer_first) follows
 
   more_at : (q : ℕ) (items : List LogItem) → slice_get more q ≡ Some items → ((q ≡ place) × (items ≡ before ++ x ∷ [])) ⊎ ((q ≡ place → ⊥) × (slice_get logs q ≡ Some items))
   more_at q items at =

@@ -35,6 +35,7 @@ use Rattle.dm_rows.specs.Refuse.{passed_time, HeadHasPassed, RefusesChange, Refu
 use Rattle.dm_rows.proofs.PairEnds.{small_is_event, large_is_event}
 use Rattle.dm_rows.proofs.Setting.{adopt_sets_decisions}
 use Rattle.dm_tree.specs.Plans.{AreSomeOf}
+use Rattle.dm_tree.specs.Laws.{TruePlansAreAdmitted}
 
 -- ---- what stands in lists
 
@@ -288,3 +289,7 @@ module _ (net : Net) (rows : RowsValue) (network : IsNetwork net) where
     free_choices_are_admitted n room no_cycle (Full k) h = let full = h.2 in omega arith
     free_choices_are_admitted n room no_cycle OutOfMemory h = h
     free_choices_are_admitted n room no_cycle r h = none_at_once r h
+
+pub true_plans_are_admitted : TruePlansAreAdmitted
+true_plans_are_admitted net rows penalty budget n plan network room is =
+    free_choices_are_admitted net rows network plan.choices is.choices n room is.cost.no_cycle
