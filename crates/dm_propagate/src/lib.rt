@@ -8,6 +8,7 @@
 
 mod engine;
 pub mod laws;
+mod setting;
 mod starting;
 mod sweeping;
 

@@ -3,6 +3,7 @@ ghost use Rattle.std.specs.Prelude.{◌≡◌, ◌<◌, length, OnOk, OnErr};
 ghost use Rattle.dm_live.specs.Live.{IsLive, IsAtRest};
 ghost use Rattle.dm_rows.specs.Rows.{IsSized};
 ghost use Rattle.dm_rows.specs.Active.{IsCycle, HasNoCycle};
+ghost use Rattle.dm_rows.specs.Timetable.{IsLeast};
 ghost use Rattle.dm_propagate.specs.Engine.{FollowsRows};
 ghost use Rattle.dm_propagate.specs.Inside.Sweeping.{HoldsOnlyActive, ReleasesTo, FloorsTo, SpansTo, HoldsTo};
 
@@ -42,13 +43,55 @@ pub fn move_to<L: Ledger>(
             Ok(())
         }
         Err(Cyclic) => {
-            let Ok(()) = follow(live, net, rows) else {
-                unreachable!();
-            };
-            live.settle(net, steps);
+            come_back(live, net, rows, steps);
             Err(Cyclic)
         }
     }
+}
+
+/// Whether other rows have no cycle: a timetable that follows rows is brought to follow the others, and back. Where they
+/// have one, such a cycle is its last.
+pub fn try_rows<L: Ledger>(
+    live: &mut LiveTimetable,
+    net: &Network,
+    rows: &Rows,
+    other: &Rows,
+    steps: &mut Steps<L>,
+) -> Result<(), Cyclic>
+    requires sized { IsSized net.now rows.now }
+    requires other_sized { IsSized net.now other.now }
+    requires live { IsLive net.now live.old }
+    requires at_rest { IsAtRest live.old }
+    requires follows { FollowsRows net.now rows.now live.old.given }
+    ensures live { IsLive net.now live.new }
+    ensures at_rest { IsAtRest live.new }
+    ensures followed { FollowsRows net.now rows.now live.new.given }
+    ensures times { live.new.times ≡ live.old.times }
+    ensures no_cycle { OnOk result (HasNoCycle net.now other.now) }
+    ensures cycle { OnErr result (IsCycle net.now other.now live.new.order.cycle) }
+{
+    net.sound();
+    let outcome = follow(live, net, other);
+    come_back(live, net, rows, steps);
+    outcome
+}
+
+/// Holds a timetable to rows that have no cycle, and settles it.
+fn come_back<L: Ledger>(live: &mut LiveTimetable, net: &Network, rows: &Rows, steps: &mut Steps<L>)
+    requires sized { IsSized net.now rows.now }
+    requires live { IsLive net.now live.old }
+    requires no_cycle { HasNoCycle net.now rows.now }
+    ensures live { IsLive net.now live.new }
+    ensures at_rest { IsAtRest live.new }
+    ensures follows { FollowsRows net.now rows.now live.new.given }
+    ensures least { IsLeast net.now rows.now live.new.times }
+    ensures cycle_stays { live.new.order.cycle ≡ live.old.order.cycle }
+{
+    net.sound();
+    let Ok(()) = follow(live, net, rows) else {
+        unreachable!();
+    };
+    live.settle(net, steps);
 }
 
 /// Holds a timetable to rows. Where these have a cycle, it stays live, and such a cycle is its last.
@@ -57,13 +100,17 @@ pub fn follow(live: &mut LiveTimetable, net: &Network, rows: &Rows) -> Result<()
     requires live { IsLive net.now live.old }
     ensures live { IsLive net.now live.new }
     ensures follows { OnOk result (FollowsRows net.now rows.now live.new.given) }
+    ensures no_cycle { OnOk result (HasNoCycle net.now rows.now) }
     ensures cycle_stays { OnOk result (live.new.order.cycle ≡ live.old.order.cycle) }
     ensures cycle { OnErr result (IsCycle net.now rows.now live.new.order.cycle) }
 {
     release_inactive(live, net, rows);
     set_floors(live, net, rows);
     set_spans(live, net, rows);
-    hold_active(live, net, rows)
+    match hold_active(live, net, rows) {
+        Ok(()) => Ok(()),
+        Err(Cyclic) => Err(Cyclic),
+    }
 }
 
 /// Lets the activities go that are not active.
