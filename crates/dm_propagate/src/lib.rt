@@ -6,9 +6,12 @@
 //! takes no memory.
 #![tactic(auto)]
 
+mod changing;
 mod engine;
+mod held;
 pub mod laws;
 mod starting;
 mod sweeping;
+mod turning;
 
 pub use engine::Engine;
