@@ -1,10 +1,10 @@
 -- The activities at an event and those that flips decide about, as the rows of the network list them.
-use Rattle.std.proofs.Common.{◌≡◌, ◌≢◌, ℕ, zero, suc, ◌+◌, ◌<◌, Bool, true, false, List, [], ◌∷◌, length, Some, refl, sym, ap, subst, ◌∙◌, ◌⊎◌, inl, inr, arith, slice_index, eqb-true, eq-eqb, filter}
+use Rattle.std.proofs.Common.{◌≡◌, ℕ, zero, suc, ◌+◌, ◌<◌, Bool, List, [], ◌∷◌, length, Some, sym, ap, subst, ◌∙◌, ◌⊎◌, inl, inr, arith, eq-eqb, filter}
 use Rattle.std.specs.Prelude.{◌==◌, All, slice_get}
 use Rattle.std.specs.List.{range_with_len}
 use Rattle.std.proofs.lemmas.List.{get_or_default}
 use Rattle.std.proofs.lemmas.Bool.{cases_lt}
-use Rattle.dm_graph.proofs.Windows.{kept_at, StandsAt, stands_in}
+use Rattle.dm_graph.proofs.Windows.{kept_at, stands_in}
 use Rattle.dm_network.specs.Net.{Net, activity_at, pair_at, places_into, places_out_of}
 use Rattle.dm_network.specs.Start.{IsNetwork}
 use Rattle.dm_network.specs.declared.parts.Pair.{Pair}
@@ -14,7 +14,7 @@ use Rattle.dm_rows.specs.declared.messages.Flip.{Flip}
 use Rattle.dm_rows.specs.declared.messages.Flip.TheVariants.{Keep, Drop, First}
 use Rattle.dm_live.specs.Live.{LiveValue}
 use Rattle.dm_propagate.specs.Inside.Concern.{LeadsAt, IsDecided, IsDecidedBefore}
-use Rattle.dm_propagate.specs.Inside.Turning.{IsAmong, Within, LetsGo, TakesUp, IsRefused}
+use Rattle.dm_propagate.specs.Inside.Turning.{IsAmong, Within, LetsGo, TakesUp}
 use Rattle.dm_propagate.proofs.HeldLemmas.{let_go_then, taken_up_then}
 
 row_is_below : (end : ℕ → ℕ) (n e : ℕ) → All (λ a. a < n) (filter (λ a. end a == e) (range_with_len 0 n))

@@ -1,5 +1,5 @@
 -- Which activities, floors and spans a change leaves as they are.
-use Rattle.std.proofs.Common.{◌≡◌, ◌≢◌, ℕ, zero, suc, ◌+◌, ◌<◌, Bool, true, false, cond, List, [], ◌∷◌, length, Option, Some, None, refl, sym, ap, subst, ◌∙◌, ◌⊎◌, inl, inr, arith, eqb-true, fold, slice_index, get_or-set_other}
+use Rattle.std.proofs.Common.{◌≡◌, ℕ, zero, suc, ◌+◌, ◌<◌, Bool, true, false, cond, List, [], ◌∷◌, length, Option, Some, None, refl, sym, ap, subst, ◌∙◌, ◌⊎◌, inl, inr, arith, fold, slice_index, get_or-set_other}
 use Rattle.std.specs.Prelude.{slice_set, slice_get, is_some, unwrap_or, max}
 use Rattle.std.proofs.lemmas.Bool.{cases_eq, cases_Bool}
 use Rattle.std.proofs.lemmas.List.Quantifiers.{position-Some}
@@ -91,7 +91,7 @@ flips_leave net rows (flip ∷ flips) b ends =
     ]
 
 -- a passed event, or one that is recalled, leaves every activity but those at it
-passed_leaves : (net : Net) (rows : RowsValue) (i : ℕ) (o : Option ℕ) (b : ℕ) →
+pub passed_leaves : (net : Net) (rows : RowsValue) (i : ℕ) (o : Option ℕ) (b : ℕ) →
     (is_active net (record rows { passed = slice_set rows.passed i o }) b ≡ is_active net rows b) ⊎ LeadsAt net i b
 passed_leaves net rows i o b =
     elim (cases_eq (activity_at net b).head i) [

@@ -1,5 +1,5 @@
 -- Activities that are let go and taken up, one and several.
-use Rattle.std.proofs.Common.{◌≡◌, ◌≢◌, ℕ, ◌+◌, ◌<◌, Bool, true, false, List, length, refl, sym, ap, subst, ◌∙◌, ◌⊎◌, inl, inr, arith, slice_index, get_or-set_same, get_or-set_other}
+use Rattle.std.proofs.Common.{◌≡◌, ◌≢◌, ℕ, ◌+◌, ◌<◌, Bool, true, false, List, length, refl, sym, ap, ◌∙◌, ◌⊎◌, inl, inr, arith, slice_index, get_or-set_same, get_or-set_other}
 use Rattle.std.specs.Prelude.{slice_set}
 use Rattle.std.proofs.lemmas.Bool.{cases_eq, cases_lt, cases_Bool}
 use Rattle.dm_network.specs.Net.{Net, activity_at}
@@ -10,7 +10,7 @@ use Rattle.dm_settle.specs.Constraints.{ConstraintsValue}
 use Rattle.dm_settle.specs.Marked.{is_marked}
 use Rattle.dm_settle.proofs.Marking.{marked_if}
 use Rattle.dm_live.specs.Live.{LiveValue, with_held, with_head}
-use Rattle.dm_propagate.specs.Inside.Turning.{IsAmong, IsOnly, KeepsNumbers, IsLetGoAt, LetsGo, IsTakenUpAt, HoldsMore, TakesUp, IsRefused}
+use Rattle.dm_propagate.specs.Inside.Turning.{IsAmong, IsOnly, KeepsNumbers, LetsGo, HoldsMore, TakesUp, IsRefused}
 
 numbers_kept : (live : LiveValue) → KeepsNumbers live live
 numbers_kept live = record { floors = refl; spans = refl; times = refl }

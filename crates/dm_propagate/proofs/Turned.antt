@@ -1,15 +1,14 @@
 -- What is held, and which events are marked, after activities were let go and taken up.
-use Rattle.std.proofs.Common.{◌≡◌, ◌≢◌, ℕ, ◌+◌, ◌<◌, Bool, true, false, List, length, Some, None, refl, sym, ap, subst, ◌∙◌, ◌⊎◌, inl, inr, arith, slice_index, get_or-set_same, get_or-set_other}
+use Rattle.std.proofs.Common.{◌≡◌, ◌≢◌, ℕ, ◌+◌, ◌<◌, Bool, true, false, List, length, Some, None, refl, sym, ap, ◌∙◌, ◌⊎◌, inl, inr, arith, slice_index, get_or-set_same, get_or-set_other}
 use Rattle.std.specs.Prelude.{slice_set}
 use Rattle.std.proofs.lemmas.Bool.{cases_eq, cases_Bool}
 use Rattle.dm_graph.proofs.Transfers.{cycle_carries}
 use Rattle.dm_network.specs.Net.{Net, activity_at}
 use Rattle.dm_network.specs.Held.{is_held, arcs_of}
-use Rattle.dm_rows.specs.Active.{is_active, active_arcs, IsCycle}
+use Rattle.dm_rows.specs.Active.{is_active, active_arcs}
 use Rattle.dm_rows.specs.Rows.{RowsValue, passed_at}
 use Rattle.dm_rows.specs.Touch.{IsActiveBetween}
 use Rattle.dm_rows.proofs.AsGraph.{head_is_free}
-use Rattle.dm_settle.specs.Constraints.{arcs_given}
 use Rattle.dm_settle.specs.Marked.{is_marked}
 use Rattle.dm_live.specs.Live.{LiveValue, IsEnteredByNone}
 use Rattle.dm_propagate.specs.Inside.Concern.{LeadsAt}
@@ -125,8 +124,7 @@ module _ (net : Net) (rows : RowsValue) (i t : ℕ) (passed : passed_at rows i �
           | inr moves ↦ elim (((place.fixed t passed).moves moves).0.only e m) [
             | inl earlier ↦ cleared e earlier
             | inr leads ↦
-                let active : is_active net rows leads.arc ≡ true = gone.gone leads.arc (leads.binds.is_arc, inr leads.leaves) leads.binds.is_held in
-                (
+                let active : is_active net rows leads.arc ≡ true = gone.gone leads.arc (leads.binds.is_arc, inr leads.leaves) leads.binds.is_held in (
                   another leads.arc e active leads.enters,
                   inl (inr (record {
                     a = leads.arc;

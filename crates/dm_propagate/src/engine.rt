@@ -5,11 +5,13 @@ ghost use Rattle.dm_rows.specs.Active.{IsCycle, HasNoCycle};
 ghost use Rattle.dm_rows.specs.Reach.{Reaches};
 ghost use Rattle.dm_rows.specs.Resolve.{after_change};
 ghost use Rattle.dm_rows.specs.Timetable.{IsLeast};
+ghost use Rattle.dm_rows.specs.Touch.{IsDelayPassOrClock};
 ghost use Rattle.dm_times.specs.Faults.{RefusesTimes};
 ghost use Rattle.dm_propagate.specs.Engine.{IsEngineOf, times_of};
+ghost use Rattle.dm_propagate.specs.Reading.{KeepsClock, ReadsFew};
 
+use crate::moving::move_to;
 use crate::starting::live_for;
-use crate::sweeping::move_to;
 use dm_base::{Secs, Steps};
 use dm_graph::search::Cyclic;
 use dm_live::LiveTimetable;
@@ -80,10 +82,11 @@ impl Engine {
         ensures no_cycle { OnOk result (HasNoCycle net.now self.new.rows) }
         ensures unchanged { OnErr result ((self.new.rows ≡ self.old.rows) × (times_of self.new ≡ times_of self.old)) }
         ensures cycle { OnErr result (IsCycle net.now (after_change self.old.rows change.now) self.new.live.order.cycle) }
+        ensures few_reads { IsDelayPassOrClock change.now → KeepsClock self.old.rows change.now → ReadsFew net.now (after_change self.old.rows change.now) change.now (times_of self.old) (times_of self.new) steps.old steps.new }
     {
         net.sound();
         self.twin.apply(change);
-        match move_to(&mut self.live, net, &self.rows, &self.twin, steps) {
+        match move_to(&mut self.live, net, &self.rows, &self.twin, change, steps) {
             Ok(()) => {
                 self.rows.apply(change);
                 Ok(())

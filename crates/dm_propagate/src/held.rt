@@ -64,12 +64,7 @@ pub fn take_up(
 
 /// Holds an activity where it is active and not held, unless it would make a cycle.
 #[tactic(auto, using(crate::proofs::HeldLemmas::taken_up_not, crate::proofs::HeldLemmas::taken_up_one, crate::proofs::HeldLemmas::refused_one))]
-fn take_up_one(
-    live: &mut LiveTimetable,
-    net: &Network,
-    rows: &Rows,
-    a: usize,
-) -> Result<(), Cyclic>
+fn take_up_one(live: &mut LiveTimetable, net: &Network, rows: &Rows, a: usize) -> Result<(), Cyclic>
     requires live { IsLive net.now live.old }
     requires sized { IsSized net.now rows.now }
     requires is_activity { a < length net.now.activities }

@@ -10,6 +10,7 @@ mod changing;
 mod engine;
 mod held;
 pub mod laws;
+mod moving;
 mod starting;
 mod sweeping;
 mod turning;

@@ -4,52 +4,14 @@ ghost use Rattle.dm_live.specs.Live.{IsLive, IsAtRest};
 ghost use Rattle.dm_rows.specs.Rows.{IsSized};
 ghost use Rattle.dm_rows.specs.Active.{IsCycle, HasNoCycle};
 ghost use Rattle.dm_propagate.specs.Engine.{FollowsRows};
-ghost use Rattle.dm_propagate.specs.Inside.Sweeping.{HoldsOnlyActive, ReleasesTo, FloorsTo, SpansTo, HoldsTo};
+ghost use Rattle.dm_propagate.specs.Inside.Sweeping.{HoldsOnlyActive, ReleasesTo, SpansTo, HoldsTo};
 
-use dm_base::Steps;
+use crate::turning::set_floors;
 use dm_graph::search::Cyclic;
 use dm_live::LiveTimetable;
 use dm_network::Network;
 use dm_rows::{Rows, is_active};
-use dm_times::{floor_of, span_of};
-use std::sync::ledger::Ledger;
-
-/// Brings a timetable that follows rows to follow others, and settles it. Where the others have a cycle, it follows the
-/// rows that it followed before, its times are the same, and such a cycle is its last.
-pub fn move_to<L: Ledger>(
-    live: &mut LiveTimetable,
-    net: &Network,
-    rows: &Rows,
-    other: &Rows,
-    steps: &mut Steps<L>,
-) -> Result<(), Cyclic>
-    requires sized { IsSized net.now rows.now }
-    requires other_sized { IsSized net.now other.now }
-    requires live { IsLive net.now live.old }
-    requires at_rest { IsAtRest live.old }
-    requires follows { FollowsRows net.now rows.now live.old.given }
-    ensures live { IsLive net.now live.new }
-    ensures at_rest { IsAtRest live.new }
-    ensures follows { OnOk result (FollowsRows net.now other.now live.new.given) }
-    ensures followed { OnErr result (FollowsRows net.now rows.now live.new.given) }
-    ensures times { OnErr result (live.new.times ≡ live.old.times) }
-    ensures cycle { OnErr result (IsCycle net.now other.now live.new.order.cycle) }
-{
-    net.sound();
-    match follow(live, net, other) {
-        Ok(()) => {
-            live.settle(net, steps);
-            Ok(())
-        }
-        Err(Cyclic) => {
-            let Ok(()) = follow(live, net, rows) else {
-                unreachable!();
-            };
-            live.settle(net, steps);
-            Err(Cyclic)
-        }
-    }
-}
+use dm_times::span_of;
 
 /// Holds a timetable to rows. Where these have a cycle, it stays live, and such a cycle is its last.
 pub fn follow(live: &mut LiveTimetable, net: &Network, rows: &Rows) -> Result<(), Cyclic>
@@ -76,17 +38,6 @@ fn release_inactive(live: &mut LiveTimetable, net: &Network, rows: &Rows)
         if live.is_held(a) && !is_active(net, rows, a) {
             live.release(net, a);
         }
-    }
-}
-
-/// Gives each event its floor.
-fn set_floors(live: &mut LiveTimetable, net: &Network, rows: &Rows)
-    requires sized { IsSized net.now rows.now }
-    requires live { IsLive net.now live.old }
-    ensures { FloorsTo net.now rows.now (length net.now.events) live.old live.new }
-{
-    for i in 0..net.events() {
-        live.set_floor(net, i, floor_of(net, rows, i));
     }
 }
 

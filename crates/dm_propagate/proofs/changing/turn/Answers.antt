@@ -1,9 +1,8 @@
 use Rattle.std.proofs.Common.{subst, sym}
-use Rattle.std.specs.Result.{OnOk, OnErr}
+use Rattle.std.specs.Result.{OnOk}
 use Rattle.std.proofs.lemmas.Result.{on_err_weaker}
 use Rattle.dm_rows.specs.declared.messages.Change.{Change}
 use Rattle.dm_propagate.specs.Inside.Changing.{MarksFor}
-use Rattle.dm_propagate.specs.Inside.Concern.{FollowsBut}
 use Rattle.dm_propagate.proofs.Concerning.{followed_by_one}
 use Rattle.dm_propagate.proofs.changing.turn.Goals as goal
 

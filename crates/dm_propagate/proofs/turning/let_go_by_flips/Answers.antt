@@ -8,6 +8,6 @@ pub loop-flip-preserved : goal.loop-flip-preserved
 loop-flip-preserved g c = (
   c.let_go_by_flip.ensures.live,
   let_go_next c.args.net.now c.args.rows.now c.args.flips.now c.loop-flip.flip-index (get_or c.args.flips.now c.loop-flip.flip-index (Keep 0))
-  (slice_get-get_or c.args.flips.now c.loop-flip.flip-index (Keep 0) (omega arith)) c.args.live.now c.loop-flip.live c.let_go_by_flip.new.live
-  c.loop-flip.invariant.1 c.let_go_by_flip.ensures.gone,
+      (slice_get-get_or c.args.flips.now c.loop-flip.flip-index (Keep 0) (omega arith)) c.args.live.now c.loop-flip.live c.let_go_by_flip.new.live
+      c.loop-flip.invariant.1 c.let_go_by_flip.ensures.gone,
 )

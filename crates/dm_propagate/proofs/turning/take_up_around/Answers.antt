@@ -1,4 +1,3 @@
-use Rattle.dm_propagate.specs.Inside.Turning.{IsAmong}
 use Rattle.dm_propagate.proofs.Around.{in_row_below, out_row_below, taken_up_around}
 use Rattle.dm_propagate.proofs.HeldLemmas.{refused_after}
 use Rattle.dm_propagate.proofs.turning.take_up_around.Goals as goal

@@ -13,6 +13,6 @@ pub loop-flip-preserved : goal.loop-flip-preserved
 loop-flip-preserved g c = (
   c.take_up_by_flip.ensures.live,
   taken_up_next c.args.net.now c.args.rows.now c.args.flips.now c.loop-flip.flip-index (get_or c.args.flips.now c.loop-flip.flip-index (Keep 0))
-  (slice_get-get_or c.args.flips.now c.loop-flip.flip-index (Keep 0) (omega arith)) c.args.live.now c.loop-flip.live c.take_up_by_flip.new.live
-  c.loop-flip.invariant.1 c.in-Ok.ensures.taken,
+      (slice_get-get_or c.args.flips.now c.loop-flip.flip-index (Keep 0) (omega arith)) c.args.live.now c.loop-flip.live c.take_up_by_flip.new.live
+      c.loop-flip.invariant.1 c.in-Ok.ensures.taken,
 )
