@@ -72,6 +72,28 @@ fn turn_by_flips<L: Ledger>(
     }
 }
 
+/// Brings a timetable that follows rows, but for what decisions adopted as one concern, to follow them altogether, as
+/// [`turn`].
+pub fn turn_adopted<L: Ledger>(
+    live: &mut LiveTimetable,
+    net: &Network,
+    rows: &Rows,
+    flips: &[Flip],
+    steps: &mut Steps<L>,
+) -> Result<(), Cyclic>
+    requires live { IsLive net.now live.old }
+    requires sized { IsSized net.now rows.now }
+    requires reaches { All (ReachesFlip rows.now) flips.now }
+    requires follows { FollowsBut net.now rows.now (Change.Adopted flips.now) live.old.given }
+    ensures live { IsLive net.now live.new }
+    ensures follows { OnOk result (FollowsRows net.now rows.now live.new.given) }
+    ensures cycle_stays { OnOk result (live.new.order.cycle ≡ live.old.order.cycle) }
+    ensures followed { OnErr result (FollowsBut net.now rows.now (Change.Adopted flips.now) live.new.given) }
+    ensures cycle { OnErr result (IsCycle net.now rows.now live.new.order.cycle) }
+{
+    turn_by_flips(live, net, rows, flips, steps)
+}
+
 /// Brings a timetable that follows rows, but for what a change concerns, to follow them altogether. Where the rows have a
 /// cycle, it follows them still but for that, and such a cycle is its last.
 pub fn turn<L: Ledger>(
@@ -104,7 +126,7 @@ pub fn turn<L: Ledger>(
         Change::Passed { event, .. } => turn_event(live, net, rows, *event, steps),
         Change::Recalled { event } => turn_event(live, net, rows, *event, steps),
         Change::Flipped(flip) => turn_by_flips(live, net, rows, &[*flip], steps),
-        Change::Adopted(flips) => turn_by_flips(live, net, rows, flips.as_slice(), steps),
+        Change::Adopted(flips) => turn_adopted(live, net, rows, flips.as_slice(), steps),
         Change::Clock { .. } => {
             set_floors(live, net, rows);
             Ok(())

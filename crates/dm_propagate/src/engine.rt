@@ -1,23 +1,27 @@
 //! The engine, its changes and its readers.
-ghost use Rattle.std.specs.Prelude.{◌≡◌, IfOk, IfErr, OnOk, OnErr};
+ghost use Rattle.std.specs.Prelude.{◌≡◌, ◌^◌, ◌<◌, ◌≤◌, All, fold, IfOk, IfErr, OnOk, OnErr};
+ghost use Rattle.dm_base.specs.declared.limits.TheConstants.{PENALTY};
 ghost use Rattle.dm_rows.specs.Rows.{IsSized};
 ghost use Rattle.dm_rows.specs.Active.{IsCycle, HasNoCycle};
-ghost use Rattle.dm_rows.specs.Reach.{Reaches};
-ghost use Rattle.dm_rows.specs.Resolve.{after_change};
+ghost use Rattle.dm_rows.specs.Reach.{Reaches, ReachesFlip};
+ghost use Rattle.dm_rows.specs.Resolve.{after_change, after_flip};
+ghost use Rattle.dm_rows.specs.Cost.{cost_of};
 ghost use Rattle.dm_rows.specs.Timetable.{IsLeast};
 ghost use Rattle.dm_rows.specs.Touch.{IsDelayPassOrClock};
 ghost use Rattle.dm_times.specs.Faults.{RefusesTimes};
 ghost use Rattle.dm_propagate.specs.Engine.{IsEngineOf, times_of};
 ghost use Rattle.dm_propagate.specs.Reading.{KeepsClock, ReadsFew};
 
-use crate::moving::move_to;
+use crate::moving::{Alteration, move_to, try_rows};
+use crate::setting::set_flips;
 use crate::starting::live_for;
-use dm_base::{Secs, Steps};
+use dm_base::{Cost, Steps};
 use dm_graph::search::Cyclic;
 use dm_live::LiveTimetable;
 use dm_network::Network;
-use dm_rows::{Change, Rows};
-use dm_settle::NoTimes;
+use dm_rows::{Change, Flip, Rows};
+use dm_settle::{NoTimes, Times};
+use dm_times::cost;
 use std::alloc::Global;
 use std::marker::Model;
 use std::sync::ledger::Ledger;
@@ -86,7 +90,8 @@ impl Engine {
     {
         net.sound();
         self.twin.apply(change);
-        match move_to(&mut self.live, net, &self.rows, &self.twin, change, steps) {
+        let what = Alteration::Change(change);
+        match move_to(&mut self.live, net, &self.rows, &self.twin, &what, steps) {
             Ok(()) => {
                 self.rows.apply(change);
                 Ok(())
@@ -98,6 +103,80 @@ impl Engine {
         }
     }
 
+    /// Sets each decision of a list in turn, as [`Engine::update`] makes a change.
+    pub fn adopt<L: Ledger>(
+        &mut self,
+        net: &Network,
+        flips: &[Flip],
+        steps: &mut Steps<L>,
+    ) -> Result<(), Cyclic>
+        requires engine { IsEngineOf net.now self.old }
+        requires reach { All (ReachesFlip self.old.rows) flips.now }
+        ensures engine { IsEngineOf net.now self.new }
+        ensures rows { OnOk result (self.new.rows ≡ fold after_flip self.old.rows flips.now) }
+        ensures least { IsLeast net.now self.new.rows (times_of self.new) }
+        ensures no_cycle { OnOk result (HasNoCycle net.now self.new.rows) }
+        ensures unchanged { OnErr result ((self.new.rows ≡ self.old.rows) × (times_of self.new ≡ times_of self.old)) }
+        ensures cycle { OnErr result (IsCycle net.now (fold after_flip self.old.rows flips.now) self.new.live.order.cycle) }
+    {
+        net.sound();
+        set_flips(&mut self.twin, flips);
+        let what = Alteration::Adoption(flips);
+        match move_to(&mut self.live, net, &self.rows, &self.twin, &what, steps) {
+            Ok(()) => {
+                set_flips(&mut self.rows, flips);
+                Ok(())
+            }
+            Err(Cyclic) => {
+                self.twin.copy_from(&self.rows);
+                Err(Cyclic)
+            }
+        }
+    }
+
+    /// Whether the rows have no cycle after a change, which is not made: the engine stays as it is. [`Cyclic`] comes exactly
+    /// where they have one, and [`Engine::last_cycle`] is such a cycle.
+    pub fn try_update<L: Ledger>(
+        &mut self,
+        net: &Network,
+        change: &Change,
+        steps: &mut Steps<L>,
+    ) -> Result<(), Cyclic>
+        requires engine { IsEngineOf net.now self.old }
+        requires reaches { Reaches self.old.rows change.now }
+        ensures engine { IsEngineOf net.now self.new }
+        ensures unchanged { (self.new.rows ≡ self.old.rows) × (times_of self.new ≡ times_of self.old) }
+        ensures no_cycle { OnOk result (HasNoCycle net.now (after_change self.old.rows change.now)) }
+        ensures cycle { OnErr result (IsCycle net.now (after_change self.old.rows change.now) self.new.live.order.cycle) }
+    {
+        self.twin.apply(change);
+        let what = Alteration::Change(change);
+        let outcome = try_rows(&mut self.live, net, &self.rows, &self.twin, &what, steps);
+        self.twin.copy_from(&self.rows);
+        outcome
+    }
+
+    /// Whether the rows have no cycle with the decisions of a list set, as [`Engine::try_update`].
+    pub fn try_adopt<L: Ledger>(
+        &mut self,
+        net: &Network,
+        flips: &[Flip],
+        steps: &mut Steps<L>,
+    ) -> Result<(), Cyclic>
+        requires engine { IsEngineOf net.now self.old }
+        requires reach { All (ReachesFlip self.old.rows) flips.now }
+        ensures engine { IsEngineOf net.now self.new }
+        ensures unchanged { (self.new.rows ≡ self.old.rows) × (times_of self.new ≡ times_of self.old) }
+        ensures no_cycle { OnOk result (HasNoCycle net.now (fold after_flip self.old.rows flips.now)) }
+        ensures cycle { OnErr result (IsCycle net.now (fold after_flip self.old.rows flips.now) self.new.live.order.cycle) }
+    {
+        set_flips(&mut self.twin, flips);
+        let what = Alteration::Adoption(flips);
+        let outcome = try_rows(&mut self.live, net, &self.rows, &self.twin, &what, steps);
+        self.twin.copy_from(&self.rows);
+        outcome
+    }
+
     /// The rows.
     pub fn rows(&self) -> &Rows
         ensures { result.now ≡ self.now.rows }
@@ -105,11 +184,23 @@ impl Engine {
         &self.rows
     }
 
-    /// The times of the events, by place, in seconds.
-    pub fn times(&self) -> &[Secs]
+    /// The times of the events.
+    pub fn times(&self) -> &Times
         ensures { result.now ≡ times_of self.now }
     {
         self.live.times()
+    }
+
+    /// What the times cost, in thousandths of passenger seconds, at a penalty in seconds for each passenger, at most
+    /// 1,000,000. It takes no memory.
+    pub fn cost(&self, net: &Network, penalty: u64) -> Cost
+        requires engine { IsEngineOf net.now self.now }
+        requires penalty { penalty ≤ PENALTY }
+        ensures cost { result ≡ cost_of net.now self.now.rows (times_of self.now) penalty }
+        ensures limit { result < 2 ^ 100 }
+    {
+        net.sound();
+        cost(net, &self.rows, self.live.times(), penalty)
     }
 
     /// The activities of the cycle for which a change was refused last, each head the next tail.

@@ -11,6 +11,7 @@ mod engine;
 mod held;
 pub mod laws;
 mod moving;
+mod setting;
 mod starting;
 mod sweeping;
 mod turning;

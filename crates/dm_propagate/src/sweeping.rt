@@ -1,6 +1,6 @@
 //! A timetable that is brought to follow rows, by a look at every activity and every event.
 ghost use Rattle.std.specs.Prelude.{◌≡◌, ◌<◌, length, OnOk, OnErr};
-ghost use Rattle.dm_live.specs.Live.{IsLive, IsAtRest};
+ghost use Rattle.dm_live.specs.Live.{IsLive};
 ghost use Rattle.dm_rows.specs.Rows.{IsSized};
 ghost use Rattle.dm_rows.specs.Active.{IsCycle, HasNoCycle};
 ghost use Rattle.dm_propagate.specs.Engine.{FollowsRows};
@@ -19,13 +19,17 @@ pub fn follow(live: &mut LiveTimetable, net: &Network, rows: &Rows) -> Result<()
     requires live { IsLive net.now live.old }
     ensures live { IsLive net.now live.new }
     ensures follows { OnOk result (FollowsRows net.now rows.now live.new.given) }
+    ensures no_cycle { OnOk result (HasNoCycle net.now rows.now) }
     ensures cycle_stays { OnOk result (live.new.order.cycle ≡ live.old.order.cycle) }
     ensures cycle { OnErr result (IsCycle net.now rows.now live.new.order.cycle) }
 {
     release_inactive(live, net, rows);
     set_floors(live, net, rows);
     set_spans(live, net, rows);
-    hold_active(live, net, rows)
+    match hold_active(live, net, rows) {
+        Ok(()) => Ok(()),
+        Err(Cyclic) => Err(Cyclic),
+    }
 }
 
 /// Lets the activities go that are not active.

@@ -16,8 +16,10 @@ mod marks;
 mod pass;
 mod scratch;
 mod time;
+mod times;
 
 pub use constraints::Constraints;
 pub use faults::NoTimes;
 pub use marks::Marks;
 pub use scratch::least_times;
+pub use times::Times;

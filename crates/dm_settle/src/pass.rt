@@ -10,6 +10,7 @@ ghost use Rattle.dm_settle.specs.Inside.Pass.{TailsAreEarly, MarksHeads, Renews}
 use crate::constraints::Constraints;
 use crate::marks::Marks;
 use crate::time::time_of;
+use crate::times::Times;
 use dm_base::{Secs, Steps};
 use dm_network::Network;
 use std::sync::ledger::Ledger;
@@ -21,6 +22,29 @@ impl Marks {
     /// Every event that is not marked has its time already. Each held activity goes forward in the order if it leaves an
     /// event that is marked or that a held activity enters; the others leave events whose times stay. It takes no memory.
     pub fn settle<L: Ledger>(
+        &mut self,
+        net: &Network,
+        constraints: &Constraints,
+        order: &[usize],
+        ranks: &[usize],
+        times: &mut Times,
+        steps: &mut Steps<L>,
+    )
+        requires sized { IsSizedFor net.now constraints.now }
+        requires ranks { AreRanks (length net.now.events) order.now ranks.now }
+        requires forward { GoesForward (arcs_given net.now constraints.now) ranks.now self.old }
+        requires marks { MarksUnsettled (graph_given net.now constraints.now) ranks.now self.old times.old }
+        ensures least { AreLeast (graph_given net.now constraints.now) times.new }
+        ensures early { AreEarly times.new }
+        ensures room { length self.new ≡ length self.old }
+        ensures none_left { NoneFrom self.new 0 }
+        ensures few_reads { ReadsFew (arcs_given net.now constraints.now) ranks.now (record { marks = self.old; times = times.old; steps = steps.old }) (record { marks = self.new; times = times.new; steps = steps.new }) }
+    {
+        self.pass(net, constraints, order, ranks, &mut times.seconds, steps);
+    }
+
+    /// The same, over a list of the times.
+    fn pass<L: Ledger>(
         &mut self,
         net: &Network,
         constraints: &Constraints,

@@ -1,7 +1,7 @@
 use Rattle.std.proofs.Common.{◌-◌, length}
 use Rattle.dm_settle.specs.Constraints.{arcs_given, graph_given}
 use Rattle.dm_settle.specs.Inside.Pass.{IsPassing, HasRead}
-use Rattle.dm_settle.proofs.marks.Marks.settle.Given as goal
+use Rattle.dm_settle.proofs.marks.Marks.pass.Given as goal
 
 abbrev pub invariant-loop-next : goal.invariant-loop-next
 invariant-loop-next g l = record {

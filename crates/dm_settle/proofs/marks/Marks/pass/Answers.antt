@@ -6,7 +6,7 @@ use Rattle.dm_settle.proofs.Given.{given_is_bounded}
 use Rattle.dm_settle.proofs.Going.{next_tails_are_early, passes_on, reads_on}
 use Rattle.dm_settle.proofs.Passing.{all_settled, settled_is_least}
 use Rattle.dm_settle.proofs.Reading.{none_read}
-use Rattle.dm_settle.proofs.marks.Marks.settle.Goals as goal
+use Rattle.dm_settle.proofs.marks.Marks.pass.Goals as goal
 
 pub loop-next-init : goal.loop-next-init
 loop-next-init g c = record {

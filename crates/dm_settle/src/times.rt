@@ -1,6 +1,5 @@
 //! A timetable: the time of each event.
-ghost use Rattle.std.specs.Prelude.{◌≡◌, ◌^◌, ◌<◌, length, replicate, IfOk};
-ghost use Rattle.dm_rows.specs.Timetable.{time_at};
+ghost use Rattle.std.specs.Prelude.{◌≡◌, ◌^◌, ◌<◌, length, replicate, slice_index, slice_set, IfOk};
 ghost use Rattle.dm_settle.specs.Settling.{AreEarly};
 
 use dm_base::Secs;
@@ -11,7 +10,7 @@ use std::marker::Model;
 /// The time of each event, by place, in seconds. Every time is below 2^38.
 #[derive(Debug, Drop)]
 pub struct Times {
-    seconds: Vec<Secs>,
+    pub(crate) seconds: Vec<Secs>,
 }
 
 impl Model for Times {
@@ -34,14 +33,6 @@ impl Times {
         Ok(Times { seconds })
     }
 
-    /// These times as a timetable.
-    pub(crate) fn from_seconds(seconds: Vec<Secs>) -> Times
-        requires { AreEarly seconds.items }
-        ensures { result ≡ seconds.items }
-    {
-        Times { seconds }
-    }
-
     /// Every time is below 2^38 seconds. Callers learn it here.
     pub fn is_early(&self)
         ensures { AreEarly self.now }
@@ -59,10 +50,19 @@ impl Times {
     /// The time of the event at this place, in seconds.
     pub fn time(&self, i: usize) -> Secs
         requires { i < length self.now }
-        ensures value { result ≡ time_at self.now i }
+        ensures value { result ≡ slice_index self.now i }
         ensures limit { result < 2 ^ 38 }
     {
         self.seconds[i]
+    }
+
+    /// Sets the time of the event at this place, in seconds.
+    pub fn set(&mut self, i: usize, time: Secs)
+        requires is_event { i < length self.old }
+        requires early { time < 2 ^ 38 }
+        ensures { self.new ≡ slice_set self.old i time }
+    {
+        self.seconds[i] = time;
     }
 
     /// The times, by place of the event, in seconds.
