@@ -1,3 +1,13 @@
+pub mod DecisionsRead
+pub mod Grown
+pub mod HeadingsRead
 pub mod Leaves
+pub mod LeavesFill
+pub mod Lined
+pub mod NodesRead
 pub mod Numbers
+pub mod Options
+pub mod PathsRead
+pub mod Staged
+pub mod ToldTexts
 pub mod TrueLogs
