@@ -17,8 +17,8 @@ use Rattle.dm_cert.specs.declared.replies.Reply.TheVariants.{Ok, Refused, Time, 
 use Rattle.dm_cert.specs.declared.replies.LogItem.{LogItem}
 use Rattle.dm_cert.specs.declared.replies.LogItem.TheVariants.{Malformed, Answered}
 use Rattle.dm_cert.specs.Answers.{Setting, rows_after, IsEntry, latest_plan, IsAdopted, IsOld, HasNoRoom, IsTrueReply, IsTrueAnswer}
-use Rattle.dm_cert.specs.Logs.{kind_of_reply, kind_of, line_of, number_after, AreTrueAnswers, IsInOrder, IsTrueLog}
-use Rattle.dm_cert.proofs.Numbers.{IsWithin, last_number, last_no_less, within_after, after_within}
+use Rattle.dm_cert.specs.Logs.{kind_of_reply, kind_of, line_of, number_after, AreTrueAnswers, IsInOrder, IsTrueLog, Follows}
+use Rattle.dm_cert.proofs.Numbers.{IsWithin, last_line, last_number, order_push, last_no_less, within_after, after_within}
 
 -- ---- histories that are alike
 
@@ -192,3 +192,9 @@ pub numbers_within : (s : Setting) (h : List Entry) (feed last : ℕ) (before it
 numbers_within s h feed last before [] le t = le
 numbers_within s h feed last before (x ∷ items) le t =
     numbers_within s h feed (number_after last (kind_of x)) (before ++ x ∷ []) items (after_within last (length h) (kind_of x) le (answer_within s h feed before x t.0)) t.1
+
+-- a true item that follows makes a true log longer
+pub log_push : (s : Setting) (h : List Entry) (place : ℕ) (items : List LogItem) (x : LogItem) → IsTrueLog s h place items → IsTrueAnswer s h (place + 1) items x → last_line 0 items < line_of x
+    → Follows (last_number 0 items) (kind_of x) → IsTrueLog s h place (items ++ x ∷ [])
+log_push s h place items x t is above follows =
+    record { answers = answers_push s h (place + 1) [] items x t.answers is; in_order = order_push 0 0 items x t.in_order above follows }

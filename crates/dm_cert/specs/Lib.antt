@@ -2,6 +2,7 @@
 -- those of true runs.
 pub mod Answers
 pub mod Logs
+pub mod CoreRun
 pub mod PlanTexts
 pub mod PlansRead
 pub mod RunTexts

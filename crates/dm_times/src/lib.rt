@@ -11,10 +11,9 @@ mod costing;
 mod filling;
 pub mod laws;
 mod scratch;
-mod times;
 
 pub use charging::Charging;
 pub use costing::{cost, cost_charging};
-pub use dm_settle::NoTimes;
+pub use dm_settle::{NoTimes, Times};
+pub use filling::{floor_of, span_of};
 pub use scratch::least;
-pub use times::Times;

@@ -6,10 +6,9 @@ ghost use Rattle.dm_rows.specs.Timetable.{IsLeast};
 ghost use Rattle.dm_times.specs.Faults.{RefusesTimes};
 
 use crate::filling::constraints_of;
-use crate::times::Times;
 use dm_network::Network;
 use dm_rows::Rows;
-use dm_settle::{NoTimes, least_times};
+use dm_settle::{NoTimes, Times, least_times};
 use std::alloc::Global;
 
 /// The least timetable of the rows, in time that is linear in events and activities. [`NoTimes::Cycle`] comes exactly where
@@ -22,8 +21,5 @@ pub fn least(alloc: Global, net: &Network, rows: &Rows) -> Result<Times, NoTimes
 {
     net.sound();
     let constraints = constraints_of(alloc, net, rows)?;
-    match least_times(alloc, net, &constraints) {
-        Ok(seconds) => Ok(Times::from_seconds(seconds)),
-        Err(no_times) => Err(no_times),
-    }
+    least_times(alloc, net, &constraints)
 }
