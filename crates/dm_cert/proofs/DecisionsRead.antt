@@ -1,9 +1,7 @@
 -- Numbers, decisions and choices in front of a line: read where they stand, and nowhere else.
-use Rattle.std.proofs.Common.{◌≡◌, ℕ, suc, ◌+◌, ◌^◌, ◌<◌, ◌≤◌, Bool, true, false, cond, eqb, List, [], ◌∷◌, ◌++◌, length, Option, Some, None, All, refl, sym, ap, subst, ◌∙◌, ◌⊎◌, inl, inr, arith, append_assoc, append-nil, codes}
+use Rattle.std.proofs.Common.{◌≡◌, ℕ, ◌^◌, ◌<◌, ◌≤◌, List, [], ◌∷◌, ◌++◌, Option, Some, None, All, refl, sym, ap, subst, ◌∙◌, inl, inr, arith, append_assoc, append-nil, codes}
 use Rattle.std.specs.Option.{option_map}
 use Rattle.std.specs.Prelude.{option_and_then}
-use Rattle.std.specs.List.{prefix_len, flat_map}
-use Rattle.std.specs.Char.{is_ascii_digit}
 use Rattle.std.specs.Fmt.{decimal}
 use Rattle.std.proofs.lemmas.List.{append_cancel_right}
 use Rattle.std.proofs.lemmas.List.Elements.{All-cons, All-nil}
@@ -16,11 +14,11 @@ use Rattle.dm_base.specs.declared.ids.EventId.{EventId}
 use Rattle.dm_feed.specs.declared.vocabulary.Word.{Word}
 use Rattle.dm_feed.specs.declared.vocabulary.Word.TheVariants as named
 use Rattle.dm_feed.specs.Parts.{largest_id, Fits, id, word}
-use Rattle.dm_feed.specs.Lines.{parts_of_decision, spelling_of_decision}
+use Rattle.dm_feed.specs.Lines.{spelling_of_decision}
 use Rattle.dm_cert.specs.PlanTexts.{line_end, choice_text, FitsDecision}
 use Rattle.dm_cert.specs.PlansRead.{IsChoiceLine}
-use Rattle.dm_cert.specs.Inside.PlanLines.{number_behind, keep_in, drop_in, first_in, decision_in, choice_in, event, act, or_else, whole}
-use Rattle.dm_cert.proofs.Options.{and_then_some, map_some, or_some, whole_some, none_some, Came}
+use Rattle.dm_cert.specs.Inside.PlanLines.{number_behind, keep_in, drop_in, first_in, decision_in, choice_in, event, act, or_else}
+use Rattle.dm_cert.proofs.Options.{and_then_some, map_some, or_some, whole_some, Came}
 
 -- ---- numbers
 
@@ -85,8 +83,10 @@ drop_back a rest fits ends = rw (number_behind_back largest_id a.0 (codes " drop
 first_back : (e f : EventId) (rest : List ℕ) → e.0 ≤ largest_id → f.0 ≤ largest_id → EndsNumber rest →
     first_in (codes " first " ++ (decimal e.0 ++ (codes " " ++ (decimal f.0 ++ rest)))) ≡ Some (First e f, rest)
 first_back e f rest p q ends =
-    rw (number_behind_back largest_id e.0 (codes " first ") (codes " " ++ (decimal f.0 ++ rest)) p (omega arith) refl,
-    number_behind_back largest_id f.0 (codes " ") rest q (omega arith) ends) refl
+    rw (
+      number_behind_back largest_id e.0 (codes " first ") (codes " " ++ (decimal f.0 ++ rest)) p (omega arith) refl,
+      number_behind_back largest_id f.0 (codes " ") rest q (omega arith) ends,
+    ) refl
 
 no_keep_in_drop : (rest : List ℕ) → keep_in (codes " drop " ++ rest) ≡ None
 unfolding behind

@@ -1,7 +1,5 @@
 -- A tree grows from its leaves: how each leaf moves it on, and where no tree has the leaves.
-use Rattle.std.proofs.Common.{◌≡◌, ℕ, suc, ◌+◌, ◌-◌, ◌<◌, ◌≤◌, Bool, true, false, cond, eqb, ltb, List, [], ◌∷◌, ◌++◌, length, refl, sym, ap, subst, ◌∙◌, ◌⊎◌, inl, inr, arith, append_assoc, append-nil, length-append, drop, get_or}
-use Rattle.std.specs.Prelude.{MatchBool}
-use Rattle.std.proofs.lemmas.Bool.{ltb-true, ltb-false, le-ltb, cases_lt}
+use Rattle.std.proofs.Common.{◌≡◌, ℕ, ◌+◌, ◌<◌, true, false, List, [], ◌∷◌, ◌++◌, length, refl, sym, ap, subst, ◌∙◌, ◌⊎◌, inl, inr, arith, append_assoc, append-nil, length-append, drop, get_or}
 use Rattle.std.proofs.lemmas.List.{append_cancel_left, drop_more}
 use Rattle.dm_rows.specs.declared.messages.Choice.{Choice}
 use Rattle.dm_rows.specs.declared.messages.Choice.TheVariants.{Change, Pair}
@@ -15,9 +13,7 @@ use Rattle.dm_tree.specs.Trees.{first_decision, second_decision}
 use Rattle.dm_tree.specs.Inside.Filling.{is_ordered, pending, is_first_decision, other_decision}
 use Rattle.dm_tree.proofs.Walked.{pending_push}
 use Rattle.dm_cert.specs.PlansRead.{IsSpelledLeaf}
-use Rattle.dm_cert.specs.Inside.Growing.{FillsDue, IsFirstLeaf, GoesOnWith, IsGrown, IsBroken, IsDown, Grows}
-use Rattle.dm_cert.specs.declared.growth.Stage.{Stage}
-use Rattle.dm_cert.specs.declared.growth.Stage.TheVariants.{Due, Whole, Broken}
+use Rattle.dm_cert.specs.Inside.Growing.{FillsDue, IsFirstLeaf, GoesOnWith, IsGrown, IsBroken, IsDown}
 
 -- ---- decisions and choices
 

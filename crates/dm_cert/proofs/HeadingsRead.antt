@@ -1,19 +1,19 @@
 -- A plan's first line is read where it stands, and nowhere else.
-use Rattle.std.proofs.Common.{◌≡◌, ℕ, ◌+◌, ◌^◌, ◌<◌, ◌≤◌, Bool, true, false, cond, eqb, List, [], ◌∷◌, ◌++◌, length, Option, Some, None, refl, sym, ap, subst, ◌∙◌, ◌⊎◌, inl, inr, arith, append_assoc, append-nil, codes}
+use Rattle.std.proofs.Common.{◌≡◌, ℕ, ◌≤◌, Bool, true, false, cond, eqb, List, [], ◌++◌, Some, refl, sym, ap, subst, ◌∙◌, inl, inr, arith, append_assoc, append-nil, codes}
 use Rattle.std.specs.Option.{option_map}
 use Rattle.std.specs.Prelude.{option_and_then}
 use Rattle.std.specs.Fmt.{decimal}
 use Rattle.std.proofs.lemmas.List.{append_cancel_right}
 use Rattle.dm_text.specs.Inside.Parts.{behind}
-use Rattle.dm_text.proofs.Reading.{behind_back, behind_is, EndsNumber}
+use Rattle.dm_text.proofs.Reading.{behind_is, EndsNumber}
 use Rattle.dm_tree.specs.declared.forms.Mark.{Mark}
 use Rattle.dm_tree.specs.declared.forms.Mark.TheVariants as mark
 use Rattle.dm_cert.specs.declared.plan_lines.Heading.{Heading}
 use Rattle.dm_cert.specs.PlanTexts.{line_end, largest_cost, mark_text}
 use Rattle.dm_cert.specs.PlansRead.{IsHeadingLine, heading_text, size_words}
-use Rattle.dm_cert.specs.Inside.PlanLines.{number_behind, mark_in, marked, counts_in, costs_in, heading_in, heading_of, or_else, whole}
-use Rattle.dm_cert.proofs.Options.{and_then_some, map_some, or_some, whole_some, none_some, Came}
-use Rattle.dm_cert.proofs.DecisionsRead.{number_behind_back, number_behind_is, HasNumber, Reads}
+use Rattle.dm_cert.specs.Inside.PlanLines.{number_behind, mark_in, marked, counts_in, costs_in, heading_in, heading_of}
+use Rattle.dm_cert.proofs.Options.{and_then_some, map_some, or_some, whole_some}
+use Rattle.dm_cert.proofs.DecisionsRead.{number_behind_back, number_behind_is, Reads}
 
 -- ---- the mark
 

@@ -1,14 +1,14 @@
 -- Nodes that fill one place with given leaves are a whole tree with these leaves, and the other way round.
-use Rattle.std.proofs.Common.{◌≡◌, ℕ, suc, ◌+◌, ◌-◌, ◌<◌, Bool, true, false, cond, eqb, List, [], ◌∷◌, ◌++◌, length, refl, sym, ap, subst, ◌∙◌, arith, add-one}
+use Rattle.std.proofs.Common.{◌≡◌, ℕ, suc, ◌+◌, ◌-◌, Bool, true, false, cond, eqb, List, [], ◌∷◌, ◌++◌, length, refl, sym, ap, subst, ◌∙◌, arith, add-one}
 use Rattle.std.proofs.lemmas.Bool.{ne_eqb}
 use Rattle.dm_rows.specs.declared.messages.Decision.{Decision}
 use Rattle.dm_tree.specs.declared.forms.Node.{Node}
 use Rattle.dm_tree.specs.declared.forms.Node.TheVariants.{Inner, Cycle, Bound, Open, Hole}
 use Rattle.dm_tree.specs.declared.forms.Leaf.{Leaf}
-use Rattle.dm_tree.specs.Trees.{IsTree, first_decision, second_decision}
+use Rattle.dm_tree.specs.Trees.{first_decision, second_decision}
 use Rattle.dm_tree.specs.Inside.Filling.{is_ordered, is_none_left, fills}
 use Rattle.dm_tree.proofs.Filled.{both, whole_tree, tree_fills}
-use Rattle.dm_cert.specs.PlanTexts.{leaves_at, leaves_in}
+use Rattle.dm_cert.specs.PlanTexts.{leaves_at}
 use Rattle.dm_cert.specs.PlansRead.{ShowsLeaves}
 use Rattle.dm_cert.specs.Inside.Growing.{FillsDue, IsFirstLeaf}
 

@@ -1,9 +1,8 @@
 -- A line that was taken and read, and what is told of it.
-use Rattle.std.proofs.Common.{◌≡◌, ℕ, List, Option, Some, None, Result, Ok, Err, Bor, refl, sym, ap, ◌∙◌, inl, inr, ◌⊎◌}
-use Rattle.dm_text.specs.Places.{Place, IsLineAt, IsCutAt, TakesLine}
-use Rattle.dm_text.specs.Judging.{Line, SpellsValue, SpellsNone}
-use Rattle.dm_cert.specs.declared.faults.CertFault.{CertFault}
-use Rattle.dm_cert.specs.PlansRead.{cut_line, misshapen_line, want_of_memory}
+use Rattle.std.proofs.Common.{◌≡◌, ℕ, List, Option, Some, None, Err, sym, ap, ◌∙◌, inl, inr}
+use Rattle.dm_text.specs.Places.{Place, IsLineAt, IsCutAt}
+use Rattle.dm_text.specs.Judging.{Line, SpellsValue}
+use Rattle.dm_cert.specs.PlansRead.{cut_line, misshapen_line}
 use Rattle.dm_cert.proofs.Options.{none_some}
 use Rattle.dm_cert.proofs.DecisionsRead.{Reads}
 

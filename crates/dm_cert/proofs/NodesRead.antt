@@ -1,8 +1,6 @@
 -- Leaves and nodes are read where they stand, and nowhere else.
-use Rattle.std.proofs.Common.{◌≡◌, ℕ, ◌+◌, ◌^◌, ◌<◌, ◌≤◌, Bool, true, false, cond, eqb, ltb, List, [], ◌∷◌, ◌++◌, length, Option, Some, None, refl, sym, ap, subst, ◌∙◌, ◌⊎◌, inl, inr, arith, append_assoc, append-nil, codes, All}
-use Rattle.std.specs.Option.{option_map}
+use Rattle.std.proofs.Common.{◌≡◌, ℕ, ◌<◌, ◌≤◌, Bool, true, false, cond, eqb, ltb, List, [], ◌∷◌, ◌++◌, Option, Some, None, refl, sym, ap, subst, ◌∙◌, inl, inr, arith, append_assoc, append-nil, codes}
 use Rattle.std.specs.Prelude.{option_and_then}
-use Rattle.std.specs.List.{flat_map}
 use Rattle.std.specs.Fmt.{decimal}
 use Rattle.std.proofs.lemmas.Bool.{lt-ltb, ltb-true}
 use Rattle.std.proofs.lemmas.List.{append_cancel_right}
@@ -10,16 +8,15 @@ use Rattle.dm_base.specs.declared.ids.ActId.{ActId}
 use Rattle.dm_base.specs.declared.ids.EventId.{EventId}
 use Rattle.dm_text.specs.Inside.Parts.{behind}
 use Rattle.dm_text.proofs.Reading.{behind_back, behind_is, EndsNumber}
-use Rattle.dm_rows.specs.declared.messages.Choice.{Choice}
 use Rattle.dm_rows.specs.declared.messages.Choice.TheVariants.{Change, Pair}
 use Rattle.dm_tree.specs.declared.forms.Node.{Node}
 use Rattle.dm_tree.specs.declared.forms.Node.TheVariants.{Inner, Cycle, Bound, Open, Hole}
 use Rattle.dm_feed.specs.Parts.{largest_id}
 use Rattle.dm_cert.specs.PlanTexts.{line_end, largest_cost, node_text, FitsNode}
 use Rattle.dm_cert.specs.PlansRead.{IsNodeLine, IsSpelledNode, IsSpelledLeaf}
-use Rattle.dm_cert.specs.Inside.PlanLines.{number_behind, cycle_in, bound_in, open_in, leaf_in, change_in, pair_in, ordered_pair, end_in, node_in_front, node_in, or_else, whole, act, event}
+use Rattle.dm_cert.specs.Inside.PlanLines.{number_behind, cycle_in, bound_in, open_in, leaf_in, change_in, pair_in, ordered_pair, end_in, node_in_front, node_in, or_else, act, event}
 use Rattle.dm_cert.proofs.Options.{and_then_some, map_some, or_some, whole_some, none_some, Came}
-use Rattle.dm_cert.proofs.DecisionsRead.{number_behind_back, number_behind_is, HasNumber, Reads}
+use Rattle.dm_cert.proofs.DecisionsRead.{number_behind_back, number_behind_is, Reads}
 
 -- the pair stands in order, and nothing behind it
 record IsInOrder (small large : ℕ) (behind_it : List ℕ) (n : Node) : Type 0 where
@@ -165,8 +162,11 @@ change_back a fits = rw (number_behind_back largest_id a.0 (codes "inner change 
 pair_back : (i j : EventId) → i.0 ≤ largest_id → j.0 ≤ largest_id → i.0 < j.0 →
     pair_in (codes "inner pair " ++ (decimal i.0 ++ (codes " " ++ (decimal j.0 ++ [])))) ≡ Some (Inner (Pair i j), [])
 pair_back i j p q lt =
-    rw (number_behind_back largest_id i.0 (codes "inner pair ") (codes " " ++ (decimal j.0 ++ [])) p (omega arith) refl,
-        number_behind_back largest_id j.0 (codes " ") [] q (omega arith) refl, lt-ltb i.0 j.0 lt) refl
+    rw (
+      number_behind_back largest_id i.0 (codes "inner pair ") (codes " " ++ (decimal j.0 ++ [])) p (omega arith) refl,
+      number_behind_back largest_id j.0 (codes " ") [] q (omega arith) refl,
+      lt-ltb i.0 j.0 lt,
+    ) refl
 
 node_back : (n : Node) → IsSpelledNode n → FitsNode n → node_in_front (node_words n) ≡ Some (n, [])
 unfolding behind

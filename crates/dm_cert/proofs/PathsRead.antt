@@ -1,5 +1,5 @@
 -- The path of a leaf is read to the end of its line, and so is the leaf.
-use Rattle.std.proofs.Common.{◌≡◌, ℕ, ◌+◌, List, [], ◌∷◌, ◌++◌, length, Option, Some, None, All, refl, sym, ap, subst, ◌∙◌, inl, inr, arith, append_assoc, append-nil, length-append, codes, ◌<◌, Bool, true, false, eqb}
+use Rattle.std.proofs.Common.{◌≡◌, ℕ, List, [], ◌∷◌, ◌++◌, length, Some, None, refl, sym, ap, ◌∙◌, arith, append_assoc, append-nil, length-append, codes, ◌<◌, true, false, eqb}
 use Rattle.std.specs.List.{flat_map}
 use Rattle.std.specs.Fmt.{decimal}
 use Rattle.std.proofs.lemmas.Bool.{eqb-true}
@@ -13,12 +13,12 @@ use Rattle.dm_tree.specs.declared.forms.Node.{Node}
 use Rattle.dm_tree.specs.declared.forms.Node.TheVariants.{Inner, Cycle, Bound, Open, Hole}
 use Rattle.dm_tree.specs.declared.forms.Leaf.{Leaf}
 use Rattle.dm_feed.specs.Lines.{spelling_of_decision}
-use Rattle.dm_cert.specs.PlanTexts.{line_end, leaf_text, leaf_kind, FitsDecision, FitsNode}
+use Rattle.dm_cert.specs.PlanTexts.{line_end, leaf_text, FitsDecision}
 use Rattle.dm_cert.specs.PlansRead.{IsLeafLine, IsSpelledLeaf}
 use Rattle.dm_cert.specs.Inside.PlanLines.{decision_in, leaf_in}
 use Rattle.dm_cert.specs.Inside.PlanPaths.{IsPath, IsNoPath, GoesOnBehind, ReadSoFar}
 use Rattle.dm_cert.proofs.Options.{none_some, some_pair}
-use Rattle.dm_cert.proofs.DecisionsRead.{decision_back, decision_is, HasDecision}
+use Rattle.dm_cert.proofs.DecisionsRead.{decision_back, decision_is}
 use Rattle.dm_cert.proofs.NodesRead.{leaf_words, leaf_is, leaf_back}
 
 decision_ends : (d : Decision) (rest : List ℕ) → EndsNumber (spelling_of_decision d ++ rest)

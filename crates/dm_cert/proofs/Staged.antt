@@ -1,8 +1,8 @@
 -- The stages of a plan's text: what loops over lines keep, and what is told of the tree at their end.
-use Rattle.std.proofs.Common.{◌≡◌, ℕ, ◌+◌, ◌<◌, ◌≤◌, List, [], ◌∷◌, ◌++◌, length, Result, Ok, Err, refl, sym, ap, subst, ◌∙◌, ◌⊎◌, inl, inr, arith, length-append}
+use Rattle.std.proofs.Common.{◌≡◌, ℕ, ◌+◌, ◌<◌, ◌≤◌, List, [], ◌∷◌, ◌++◌, length, Result, Ok, Err, refl, sym, subst, ◌⊎◌, inl, inr, arith, length-append}
 use Rattle.dm_rows.specs.declared.messages.Decision.{Decision}
 use Rattle.dm_text.specs.Places.{Place}
-use Rattle.dm_text.specs.Judging.{Line, Times, Then, Finds, GoesOn, SpellsValue}
+use Rattle.dm_text.specs.Judging.{Line, Times, SpellsValue}
 use Rattle.dm_text.proofs.Counted.{HasRun, run_begins, run_goes, run_stops, run_ends}
 use Rattle.dm_tree.specs.declared.forms.Node.{Node}
 use Rattle.dm_tree.specs.declared.forms.Leaf.{Leaf}
@@ -11,7 +11,7 @@ use Rattle.dm_tree.specs.Inside.Filling.{pending}
 use Rattle.dm_cert.specs.declared.faults.CertFault.{CertFault}
 use Rattle.dm_cert.specs.declared.growth.Stage.{Stage}
 use Rattle.dm_cert.specs.declared.growth.Stage.TheVariants.{Due, Whole, Broken}
-use Rattle.dm_cert.specs.PlansRead.{Answers, TellsLeaves, TellsNodes, TellsTree, ShowsLeaves, ShowsNodes, IsLeafLine, cut_line, misshapen_line, want_of_memory, no_tree}
+use Rattle.dm_cert.specs.PlansRead.{Answers, TellsLeaves, TellsNodes, TellsTree, ShowsLeaves, IsLeafLine, cut_line, misshapen_line, want_of_memory, no_tree}
 use Rattle.dm_cert.specs.Inside.Growing.{Grows, IsGrownFrom, HasGrown, IsTreeOf}
 use Rattle.dm_cert.proofs.Grown.{fills_at_end, none_while_due, none_if_broken}
 use Rattle.dm_cert.proofs.LeavesFill.{shows_from, fills_from}

@@ -1,27 +1,24 @@
 -- Where a plan is told, its text stands.
-use Rattle.std.proofs.Common.{◌≡◌, ℕ, zero, suc, ◌+◌, ◌-◌, ◌<◌, ◌≤◌, Bool, true, false, cond, eqb, List, [], ◌∷◌, ◌++◌, length, Result, Ok, Err, All, refl, sym, ap, subst, ◌∙◌, ◌⊎◌, inl, inr, arith, append_assoc, append-nil, length-append, codes}
+use Rattle.std.proofs.Common.{◌≡◌, ℕ, zero, suc, ◌+◌, ◌-◌, ◌≤◌, Bool, true, false, cond, eqb, List, [], ◌∷◌, ◌++◌, length, Ok, All, refl, sym, ap, subst, ◌∙◌, arith, append_assoc, append-nil, length-append, codes}
 use Rattle.std.specs.Prelude.{MatchBool}
 use Rattle.std.specs.List.{flat_map}
 use Rattle.std.specs.Fmt.{decimal}
 use Rattle.std.proofs.lemmas.List.Elements.{All-nil, All-cons, All-head, All-tail}
-use Rattle.dm_outside.specs.Printing.{joined}
-use Rattle.dm_text.specs.Places.{Place, IsLineAt, at_start}
-use Rattle.dm_text.specs.Judging.{Line, Times, Then, Finds, Gives, GoesOn, SpellsValue}
-use Rattle.dm_base.specs.declared.ids.EventId.{EventId}
+use Rattle.dm_text.specs.Places.{Place, at_start}
+use Rattle.dm_text.specs.Judging.{Line, Times, Then, Finds, SpellsValue}
 use Rattle.dm_rows.specs.declared.messages.Choice.{Choice}
 use Rattle.dm_rows.specs.declared.messages.Choice.TheVariants.{Change, Pair}
 use Rattle.dm_rows.specs.declared.messages.Decision.{Decision}
 use Rattle.dm_tree.specs.declared.forms.Node.{Node}
 use Rattle.dm_tree.specs.declared.forms.Node.TheVariants.{Inner, Cycle, Bound, Open, Hole}
 use Rattle.dm_tree.specs.declared.forms.Leaf.{Leaf}
-use Rattle.dm_tree.specs.declared.forms.Mark.{Mark}
 use Rattle.dm_tree.specs.declared.plans.Plan.{Plan}
 use Rattle.dm_tree.specs.Trees.{IsTree, first_decision, second_decision}
 use Rattle.dm_feed.specs.Parts.{largest_id, id}
 use Rattle.dm_cert.specs.declared.faults.CertFault.{CertFault}
 use Rattle.dm_cert.specs.declared.plan_lines.Heading.{Heading}
 use Rattle.dm_cert.specs.PlanTexts.{line_end, mark_text, choice_text, leaf_text, node_text, leaves_in, size_text, tree_text, plan_heading, spelling_of_plan, FitsDecision, FitsNode, FitsPlan}
-use Rattle.dm_cert.specs.PlansRead.{IsHeadingLine, IsChoiceLine, IsLeafLine, IsNodeLine, heading_text, size_words, cut_line, misshapen_line, no_tree, plan_of, TellsHeading, TellsChoices, TellsLeaves, TellsNodes, TellsTree, TellsPlan, ShowsLeaves, ShowsNodes, BeginsWithPlan, ReadsText}
+use Rattle.dm_cert.specs.PlansRead.{IsHeadingLine, IsChoiceLine, IsLeafLine, IsNodeLine, heading_text, size_words, cut_line, misshapen_line, no_tree, plan_of, TellsLeaves, TellsNodes, TellsPlan, ShowsLeaves, ShowsNodes, BeginsWithPlan, ReadsText}
 use Rattle.dm_cert.specs.Inside.Growing.{FillsDue, IsFirstLeaf}
 use Rattle.dm_cert.proofs.Grown.{first_lies}
 use Rattle.dm_cert.proofs.LeavesFill.{fills_from}

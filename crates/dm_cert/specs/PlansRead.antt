@@ -9,7 +9,6 @@ use Rattle.dm_rows.specs.declared.messages.Decision.{Decision}
 use Rattle.dm_tree.specs.declared.forms.Node.{Node}
 use Rattle.dm_tree.specs.declared.forms.Node.TheVariants.{Inner, Cycle, Bound, Open, Hole}
 use Rattle.dm_tree.specs.declared.forms.Leaf.{Leaf}
-use Rattle.dm_tree.specs.declared.forms.Mark.{Mark}
 use Rattle.dm_tree.specs.declared.plans.Plan.{Plan}
 use Rattle.dm_tree.specs.Trees.{IsTree, IsOrdered}
 use Rattle.dm_cert.specs.declared.plan_lines.Heading.{Heading}
@@ -136,8 +135,8 @@ TellsTree version size place answer =
 abbrev pub TellsPlan : ℕ → ℕ → Place → Result (Plan × Place) CertFault → Type 0
 TellsPlan version entry =
     Then (TellsHeading version) (λ heading.
-        Then (TellsChoices heading.choices) (λ choices.
-            Then (TellsTree version heading.size) (λ nodes. Gives (plan_of entry heading choices nodes))))
+    Then (TellsChoices heading.choices) (λ choices.
+    Then (TellsTree version heading.size) (λ nodes. Gives (plan_of entry heading choices nodes))))
 
 -- What a reader of lines answers: what is told at the place, which then lies behind what was read. Want of memory may be
 -- answered at any time.

@@ -107,7 +107,13 @@ fn size_words(version: u32) -> &'static str
 }
 
 /// How many lines of choices and of the tree follow, behind the costs.
-fn counts_in(version: u32, mark: Mark, cost: Cost, bound: Cost, line: &[u8]) -> Option<(Heading, &[u8])>
+fn counts_in(
+    version: u32,
+    mark: Mark,
+    cost: Cost,
+    bound: Cost,
+    line: &[u8],
+) -> Option<(Heading, &[u8])>
     ensures { option_map (λ p. (p.0, p.1.now)) result ≡ counts_in version mark cost bound line.now }
 {
     let Some((choices, rest)) = number_behind(line, " choices ") else {
@@ -206,7 +212,10 @@ fn pair_in(line: &[u8]) -> Option<(Node, &[u8])>
         return None;
     };
     if small < large {
-        Some((Node::Inner(Choice::Pair(EventId(small), EventId(large))), rest))
+        Some((
+            Node::Inner(Choice::Pair(EventId(small), EventId(large))),
+            rest,
+        ))
     } else {
         None
     }

@@ -1,7 +1,7 @@
 -- A loop that takes so many steps, one behind the other.
-use Rattle.std.proofs.Common.{◌≡◌, ℕ, zero, suc, ◌+◌, ◌<◌, ◌≤◌, List, [], ◌∷◌, ◌++◌, length, Result, Ok, Err, refl, sym, ap, subst, ◌∙◌, inl, inr, arith, length-append}
+use Rattle.std.proofs.Common.{◌≡◌, ℕ, zero, suc, ◌+◌, ◌<◌, ◌≤◌, List, [], ◌∷◌, ◌++◌, length, Result, Ok, Err, refl, inl, inr, arith, length-append}
 use Rattle.dm_text.specs.Places.{Place}
-use Rattle.dm_text.specs.Judging.{Then, Times, Gives, GoesOn}
+use Rattle.dm_text.specs.Judging.{Times}
 
 -- what is told of the steps that are left, from this place on and with these values before, is told of all of them
 pub record HasRun {V F : Type 0} (step : List V → Place → Result (V × Place) F → Type 0) (count : ℕ) (start : Place) (held : List V) (here : Place) : Type 0 where

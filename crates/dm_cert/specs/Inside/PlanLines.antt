@@ -1,5 +1,5 @@
 -- How the lines of a plan's text are read from their front: a function for each function of the code.
-use Rattle.std.specs.Prelude.{ℕ, ◌==◌, if◌then◌else◌, nat_lt, List, [], ◌∷◌, codes, Option, Some, None, option_and_then}
+use Rattle.std.specs.Prelude.{ℕ, if◌then◌else◌, nat_lt, List, [], ◌∷◌, codes, Option, Some, None, option_and_then}
 use Rattle.std.specs.Option.{option_map}
 use Rattle.dm_base.specs.declared.ids.EventId.{EventId}
 use Rattle.dm_base.specs.declared.ids.ActId.{ActId}
@@ -8,7 +8,7 @@ use Rattle.dm_rows.specs.declared.messages.Choice.TheVariants.{Change, Pair}
 use Rattle.dm_rows.specs.declared.messages.Decision.{Decision}
 use Rattle.dm_rows.specs.declared.messages.Decision.TheVariants.{Keep, Drop, First}
 use Rattle.dm_tree.specs.declared.forms.Node.{Node}
-use Rattle.dm_tree.specs.declared.forms.Node.TheVariants.{Inner, Cycle, Bound, Open, Hole}
+use Rattle.dm_tree.specs.declared.forms.Node.TheVariants.{Inner, Cycle, Bound, Open}
 use Rattle.dm_tree.specs.declared.forms.Mark.{Mark}
 use Rattle.dm_tree.specs.declared.forms.Mark.TheVariants as mark
 use Rattle.dm_feed.specs.Parts.{largest_id}

@@ -1,4 +1,4 @@
-use Rattle.std.proofs.Common.{◌-◌, vec_len}
+use Rattle.std.proofs.Common.{◌-◌}
 use Rattle.dm_cert.specs.Inside.Growing.{HasGrown}
 use Rattle.dm_cert.proofs.plan_reading.grown.Given as goal
 
