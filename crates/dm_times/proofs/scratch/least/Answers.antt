@@ -1,16 +1,5 @@
-use Rattle.dm_times.proofs.Filled.{least_for_rows, no_cycle_of_rows, refused_for_rows}
+use Rattle.dm_rows.proofs.AsGraph.{active_enter_no_passed}
 use Rattle.dm_times.proofs.scratch.least.Goals as goal
 
-pub returns-in-Ok-clause-least : goal.returns-in-Ok-clause-least
-returns-in-Ok-clause-least c =
-    rw c.from_seconds.ensures
-    (least_for_rows c.args.net.now c.args.rows.now _ c.in_ok-constraints.ensures c.in-Ok.seconds.items
-    c.sound.ensures.network.formed.ends_are_known c.in-Ok.ensures.least)
-
-pub returns-in-Ok-clause-no_cycle : goal.returns-in-Ok-clause-no_cycle
-returns-in-Ok-clause-no_cycle c =
-    no_cycle_of_rows c.args.net.now c.args.rows.now _ c.in_ok-constraints.ensures c.in-Ok.ensures.no_cycle
-
-pub returns-clause-refused : goal.returns-clause-refused
-returns-clause-refused c =
-    refused_for_rows c.args.net.now c.args.rows.now _ c.in_ok-constraints.ensures c.in-Err.no_times c.in-Err.ensures.refused
+pub least_holding-requires-clause-enters_no_passed : goal.least_holding-requires-clause-enters_no_passed
+least_holding-requires-clause-enters_no_passed c = active_enter_no_passed c.args.net.now c.args.rows.now
