@@ -32,7 +32,7 @@ use Rattle.dm_relax.proofs.Setting.{DiffersInDecisions, HasDecision, differs_in_
 use Rattle.dm_relax.proofs.Agreeing.{PairJoins, pair_joins, active_same, has_passed_same, passed_same, span_same, kept_agrees, decided_change}
 use Rattle.dm_relax.proofs.Bounding.{sum-le, if_weight, asks_no_more, costs_no_more}
 use Rattle.dm_relax.proofs.Apart.{listed}
-use Rattle.dm_relax.proofs.Completing.{cases_option, change_completed, pair_completed, completion_holds}
+use Rattle.dm_relax.proofs.Completion.{cases_option, change_completed, pair_completed, completion_holds}
 
 -- what binds into an event that has not passed, and what that needs of a paired headway
 active_parts : (passed : Bool) (b : Bool) → cond passed false b ≡ true → (passed ≡ false) × (b ≡ true)

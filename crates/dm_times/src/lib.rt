@@ -16,7 +16,7 @@ mod scratch;
 mod times;
 
 pub use charging::Charging;
-pub use costing::{cost, cost_charging};
+pub use costing::{comes_too_early, cost, cost_charging};
 pub use dm_settle::NoTimes;
 pub use holding::{ActiveActivities, Holding};
 pub use scratch::{least, least_holding};
