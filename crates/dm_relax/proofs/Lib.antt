@@ -8,3 +8,4 @@ pub mod Completed
 pub mod BoundLaw
 pub mod Flagging
 pub mod Gathering
+pub mod Differences

@@ -1,5 +1,5 @@
 -- What the relaxed problem of a path gives.
-use Rattle.std.specs.Prelude.{ℕ, ◌≡◌, List, Option, None, slice_get}
+use Rattle.std.specs.Prelude.{ℕ, ◌≡◌, List, Option, slice_get}
 use Rattle.dm_network.specs.Net.{Net}
 use Rattle.dm_rows.specs.declared.messages.Decision.{Decision}
 use Rattle.dm_rows.specs.declared.messages.Choice.{Choice}

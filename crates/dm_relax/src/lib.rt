@@ -6,10 +6,12 @@
 //! hold the path's decisions cost less, and that the completion costs as much.
 #![tactic(auto)]
 
+mod completing;
 pub mod laws;
 mod relaxation;
 mod relaxing;
 mod undecided;
 mod unmet;
 
+pub use completing::complete;
 pub use relaxing::{Relaxed, relax};

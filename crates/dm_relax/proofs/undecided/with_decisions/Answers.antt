@@ -1,5 +1,5 @@
 use Rattle.std.proofs.Common.{◌≡◌, List, Some, sym, ap, ◌∙◌, IsSome, refl}
-use Rattle.std.specs.Prelude.{All, Contains}
+use Rattle.std.specs.Prelude.{Contains}
 use Rattle.std.proofs.lemmas.List.Elements.{All-weaker}
 use Rattle.dm_network.specs.Net.{Net}
 use Rattle.dm_network.specs.Start.{IsNetwork}
