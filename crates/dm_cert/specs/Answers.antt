@@ -146,7 +146,8 @@ IsTrueReply s history feed before line (AskPlan budget) (Range v) = IsOutOfRange
 IsTrueReply s history feed before line (AskPlan budget) Plans = HasAllPlans s before budget
 IsTrueReply s history feed before line (AskPlan budget) (Planned plan) = IsPlanFor s history before budget plan
 IsTrueReply s history feed before line AskAdopt NoPlan = latest_plan before ≡ None
-IsTrueReply s history feed before line AskAdopt (Ok n) = IsSomeAnd (latest_plan before) (λ plan. IsAdopted history feed line n plan)
+IsTrueReply s history feed before line AskAdopt (Ok n) =
+    IsSomeAnd (latest_plan before) (λ plan. IsAdopted history feed line n plan)
 IsTrueReply s history feed before line AskAdopt (Old n) = IsSomeAnd (latest_plan before) (λ plan. IsOld history n plan)
 IsTrueReply s history feed before line AskAdopt (Refused at) =
     IsSomeAnd (latest_plan before) (λ plan. HasNoRoom history at.entry at.why plan)

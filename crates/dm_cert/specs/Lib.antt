@@ -1,5 +1,11 @@
--- What feeds are answered, when answers, logs and the journal are true, and how plans and runs are spelled.
+-- What feeds are answered, when answers, logs and the journal are true, how plans and runs are spelled, and which texts are
+-- those of true runs.
 pub mod Answers
 pub mod Logs
+pub mod CoreRun
 pub mod PlanTexts
 pub mod RunTexts
+pub mod Runs
+-- What follows from that, and what it gives on a small network.
+pub mod Laws
+pub mod Worked

@@ -146,4 +146,5 @@ pub record HasNumberAt (logs : List FeedLog) (place at n : ℕ) : Type 0 where
 -- same log or in another.
 abbrev pub KeepsRounds : List FeedLog → ℕ → Type 0
 KeepsRounds logs batch =
-    (place other at later m n : ℕ) → HasNumberAt logs place at m → HasNumberAt logs other later n → at / batch < later / batch → m ≤ n
+    (place other at later m n : ℕ) → HasNumberAt logs place at m → HasNumberAt logs other later n →
+    at / batch < later / batch → m ≤ n

@@ -88,7 +88,7 @@ plan_heading version plan =
 -- a plan's one spelling in a version
 unfoldable pub spelling_of_plan : ℕ → Plan → List ℕ
 spelling_of_plan version plan =
-    joined (plan_heading version plan ∷ flat_map choice_text plan.choices ∷ tree_text version plan.tree ∷ [])
+    plan_heading version plan ++ (flat_map choice_text plan.choices ++ tree_text version plan.tree)
 
 -- ---- what plans may hold
 

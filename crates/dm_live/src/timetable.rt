@@ -14,7 +14,7 @@ use dm_base::{Secs, Steps};
 use dm_graph::search::Cyclic;
 use dm_network::Network;
 use dm_order::{Order, OrderFault};
-use dm_settle::{Constraints, Marks};
+use dm_settle::{Constraints, Marks, Times, Unwatched, Watcher};
 use std::alloc::Global;
 use std::marker::Model;
 use std::sync::ledger::Ledger;
@@ -27,7 +27,7 @@ use std::sync::ledger::Ledger;
 pub struct LiveTimetable {
     constraints: Constraints,
     order: Order,
-    times: Vec<Secs>,
+    times: Times,
 
     /// The events whose times may not be right, by place of the event.
     marks: Marks,
@@ -44,7 +44,7 @@ impl Model for LiveTimetable {
     ghost use Rattle.std.specs.Prelude.{length};
     ghost use Rattle.dm_live.specs.Inside.Placing.{IsClear};
 
-    ghost view = { λ l. record { given = l.constraints; order = l.order; times = l.times.items; marks = l.marks } };
+    ghost view = { λ l. record { given = l.constraints; order = l.order; times = l.times; marks = l.marks } };
 
     ghost invariant = { λ l. IsClear (length l.marks) l.placed };
 }
@@ -70,7 +70,7 @@ impl LiveTimetable {
         ensures refused { IfErr result (RefusesLive net.now constraints) }
     {
         align(&mut order, net, &constraints)?;
-        let times = vec![in alloc; 0; net.events()]?;
+        let times = Times::room(alloc, net)?;
         let marks = Marks::all(alloc, net.events())?;
         let placed = Marks::new(alloc, net.events())?;
         Ok(LiveTimetable {
@@ -93,6 +93,27 @@ impl LiveTimetable {
         ensures unchanged { self.new ≡ record self.old { times = self.new.times; marks = self.new.marks } }
         ensures few_reads { ReadsFew (arcs_given net.now self.old.given) self.old self.new steps.old steps.new }
     {
+        self.settle_watched(net, &mut Unwatched, steps);
+    }
+
+    /// The same, with a watcher that is told of each time that changes.
+    pub fn settle_watched<L: Ledger, W: Watcher>(
+        &mut self,
+        net: &Network,
+        watcher: &mut W,
+        steps: &mut Steps<L>,
+    )
+        requires live { IsLive net.now self.old }
+        requires knows { W.knows watcher.old net.now self.old.given self.old.times }
+        ensures least { AreLeast (graph_given net.now self.new.given) self.new.times }
+        ensures early { AreEarly self.new.times }
+        ensures live { IsLive net.now self.new }
+        ensures at_rest { IsAtRest self.new }
+        ensures unchanged { self.new ≡ record self.old { times = self.new.times; marks = self.new.marks } }
+        ensures few_reads { ReadsFew (arcs_given net.now self.old.given) self.old self.new steps.old steps.new }
+        ensures knows { W.knows watcher.new net.now self.new.given self.new.times }
+        ensures flags { W.flags watcher.new ≡ W.flags watcher.old }
+    {
         net.sound();
         place_marks(
             &mut self.marks,
@@ -100,12 +121,13 @@ impl LiveTimetable {
             self.order.ranks(),
             &mut self.placed,
         );
-        self.placed.settle(
+        self.placed.settle_watched(
             net,
             &self.constraints,
             self.order.order(),
             self.order.ranks(),
             &mut self.times,
+            watcher,
             steps,
         );
     }
@@ -146,7 +168,7 @@ impl LiveTimetable {
     {
         let differs = self.time(i) != time;
         self.constraints.set_floor(i, time);
-        self.times[i] = time;
+        self.times.set(i, time);
         self.marks.clear(i);
         if differs {
             mark_heads(&mut self.marks, net, &self.constraints, i, steps);
@@ -208,7 +230,7 @@ impl LiveTimetable {
     }
 
     /// The times of the events.
-    pub fn times(&self) -> &[Secs]
+    pub fn times(&self) -> &Times
         ensures { result.now ≡ self.now.times }
     {
         &self.times
@@ -219,7 +241,7 @@ impl LiveTimetable {
         requires { i < length self.now.times }
         ensures { result ≡ slice_index self.now.times i }
     {
-        self.times[i]
+        self.times.time(i)
     }
 
     /// Whether the activity at a place is held.

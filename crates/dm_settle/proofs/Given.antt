@@ -1,6 +1,5 @@
 -- The graph that constraints give: its bounds, its orders and cycles, and the times and marks of a computation from scratch.
-use Rattle.std.proofs.Common.{◌≡◌, ℕ, zero, suc, ◌<◌, Bool, true, List, [], ◌∷◌, ◌++◌, length, take, drop, replicate, refl, ap, ◌∙◌, arith, slice_index}
-use Rattle.std.proofs.lemmas.List.{take-append-le, take_all}
+use Rattle.std.proofs.Common.{◌≡◌, ℕ, zero, suc, ◌<◌, Bool, true, List, [], ◌∷◌, length, replicate, refl, ap, ◌∙◌, arith, slice_index}
 use Rattle.dm_base.specs.declared.ids.ActId.{ActId}
 use Rattle.dm_graph.specs.Arcs.{Arcs, Chain, IsCycle, IsOrder}
 use Rattle.dm_graph.specs.Arrays.{AreRanks}
@@ -39,10 +38,6 @@ all_marked g order ranks times marks ranked are as_many as_many_times = record {
       ap (λ (ms : List Bool). is_marked ms (slice_index ranks e)) are ∙ marked_in g.shape.events (slice_index ranks e) (ranked.has_place e lt) in
       absurd cc;
 }
-
--- times that were lent come back whole
-pub lent_back : (n : ℕ) (new old : List ℕ) → length new ≡ n → take n (new ++ drop (length new) old) ≡ new
-lent_back n new old many = take-append-le n new (drop (length new) old) (omega arith) ∙ take_all n new (omega arith)
 
 -- a cycle of held activities names activities alone
 chain_names : (g : Arcs) (i : ℕ) (chain : List ℕ) (j : ℕ) → Chain g i chain j → (k : ℕ) → k < length chain → slice_index chain k < g.arcs

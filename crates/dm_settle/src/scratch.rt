@@ -9,24 +9,25 @@ ghost use Rattle.dm_settle.specs.Settling.{AreLeast, AreEarly};
 use crate::constraints::Constraints;
 use crate::faults::NoTimes;
 use crate::marks::Marks;
-use dm_base::{ActId, Items, Secs, Steps};
+use crate::times::Times;
+use dm_base::{ActId, Items, Steps};
 use dm_graph::search::{Cyclic, Search};
 use dm_network::Network;
 use std::alloc::{AllocError, Global};
 use std::marker::Brand;
 use std::sync::ledger::{Blank, Ledger};
 
-/// The least timetable of the constraints, in seconds by place of the event. [`NoTimes::Cycle`] comes exactly where held
+/// The least timetable of the constraints. [`NoTimes::Cycle`] comes exactly where held
 /// activities form a cycle, unless memory is short first: then [`NoTimes::OutOfMemory`]. Its time is linear in events and
 /// activities.
 pub fn least_times(
     alloc: Global,
     net: &Network,
     constraints: &Constraints,
-) -> Result<Vec<Secs>, NoTimes>
+) -> Result<Times, NoTimes>
     requires { IsSizedFor net.now constraints.now }
-    ensures least { IfOk result (λ times. AreLeast (graph_given net.now constraints.now) times.items) }
-    ensures early { IfOk result (λ times. AreEarly times.items) }
+    ensures least { IfOk result (λ times. AreLeast (graph_given net.now constraints.now) times) }
+    ensures early { IfOk result (λ times. AreEarly times) }
     ensures no_cycle { OnOk result (HasNoCycleOf net.now (is_held constraints.now.held)) }
     ensures refused { IfErr result (RefusesTimes net.now constraints.now) }
 {
@@ -39,19 +40,19 @@ fn least_times_with<L: Ledger>(
     net: &Network,
     constraints: &Constraints,
     blank: Blank,
-) -> Result<Vec<Secs>, NoTimes>
+) -> Result<Times, NoTimes>
     requires sized { IsSizedFor net.now constraints.now }
     requires name { blank.name ≡ L.name }
     requires parts { blank.parts ≡ L.parts }
     requires has_a_part { 0 < blank.parts }
-    ensures least { IfOk result (λ times. AreLeast (graph_given net.now constraints.now) times.items) }
-    ensures early { IfOk result (λ times. AreEarly times.items) }
+    ensures least { IfOk result (λ times. AreLeast (graph_given net.now constraints.now) times) }
+    ensures early { IfOk result (λ times. AreEarly times) }
     ensures no_cycle { OnOk result (HasNoCycleOf net.now (is_held constraints.now.held)) }
     ensures refused { IfErr result (RefusesTimes net.now constraints.now) }
 {
     let mut steps = Steps::<L>::new(blank);
     let search = search_order(alloc, net, constraints)?;
-    let mut times = vec![in alloc; 0; net.events()]?;
+    let mut times = Times::room(alloc, net)?;
     let mut marks = Marks::all(alloc, net.events())?;
     marks.settle(
         net,

@@ -11,17 +11,18 @@ use Rattle.dm_graph.proofs.Timetables.{same_is_least_alike}
 use Rattle.dm_graph.proofs.Transfers.{cycle_carries}
 use Rattle.dm_network.specs.Net.{Net, EndsAreKnown}
 use Rattle.dm_network.specs.Held.{arcs_of, is_held, HasNoCycleOf, ShowsCycleOf}
+use Rattle.dm_rows.specs.Active.{is_active, HasNoCycle}
 use Rattle.dm_rows.specs.Rows.{RowsValue}
-use Rattle.dm_rows.specs.Timetable.{IsLeastHolding, floor_of, span_of, graph_holding}
+use Rattle.dm_rows.specs.Timetable.{IsLeast, IsLeastHolding, floor_of, span_of, graph_holding}
 use Rattle.dm_rows.specs.Laws.{EntersNoPassed}
-use Rattle.dm_rows.proofs.AsGraph.{least_from_graph}
+use Rattle.dm_rows.proofs.AsGraph.{least_from_graph, active_enter_no_passed}
 use Rattle.dm_settle.specs.Constraints.{ConstraintsValue, arcs_given, graph_given, nothing_held}
 use Rattle.dm_settle.specs.Settling.{AreLeast}
 use Rattle.dm_settle.specs.Constraints.{RefusesTimes as RefusesGiven}
 use Rattle.dm_settle.specs.declared.faults.NoTimes.{NoTimes}
 use Rattle.dm_settle.specs.declared.faults.NoTimes.TheVariants.{Cycle, OutOfMemory}
 use Rattle.dm_times.specs.Faults.{RefusesHolding}
-use Rattle.dm_times.specs.Inside.Filling.{AreConstraintsHolding, HoldsTo, FloorsTo, SpansTo}
+use Rattle.dm_times.specs.Inside.Filling.{AreConstraintsHolding, AreConstraintsOf, HoldsTo, FloorsTo, SpansTo}
 
 -- the first n items are by a function, and so is the next one that is set
 one_more : {A : Type 0} (xs : List A) (d v : A) (f : ℕ → A) (n : ℕ) → n < length xs → ((k : ℕ) → k < n → get_or xs k d ≡ f k) →
@@ -142,24 +143,34 @@ module _ (net : Net) (rows : RowsValue) (held : ℕ → Bool) (given : Constrain
   }
 
   -- what is least for the constraints is least for the rows
-  pub least_for_rows : (times : List ℕ) → EndsAreKnown net → EntersNoPassed net rows held → AreLeast (graph_given net given) times →
+  pub least_for_held : (times : List ℕ) → EndsAreKnown net → EntersNoPassed net rows held → AreLeast (graph_given net given) times →
       IsLeastHolding net rows held times
-  least_for_rows times known enters l =
+  least_for_held times known enters l =
       least_from_graph net rows held times known l.as_many enters
       (same_is_least_alike (graph_given net given) (graph_holding net rows held) (slice_index times) asks_no_more asks_no_less l.least)
 
-  pub no_cycle_of_rows : HasNoCycleOf net (is_held given.held) → HasNoCycleOf net held
-  no_cycle_of_rows none cycle c = none cycle (cycle_carries (arcs_of net held) (arcs_given net given) back cycle c)
+  pub no_cycle_of_held : HasNoCycleOf net (is_held given.held) → HasNoCycleOf net held
+  no_cycle_of_held none cycle c = none cycle (cycle_carries (arcs_of net held) (arcs_given net given) back cycle c)
 
-  pub shows_cycle_of_rows : (ids : List ActId) → ShowsCycleOf net (is_held given.held) ids → ShowsCycleOf net held ids
-  shows_cycle_of_rows ids s = record {
+  pub shows_cycle_of_held : (ids : List ActId) → ShowsCycleOf net (is_held given.held) ids → ShowsCycleOf net held ids
+  shows_cycle_of_held ids s = record {
     places = s.places;
     is_cycle = cycle_carries (arcs_given net given) (arcs_of net held) there s.places s.is_cycle;
     named = s.named;
   }
 
 -- why the constraints have no times is why the rows have none
-pub refused_for_rows : (net : Net) (rows : RowsValue) (held : ℕ → Bool) (given : ConstraintsValue) → AreConstraintsHolding net rows held given →
+pub refused_for_held : (net : Net) (rows : RowsValue) (held : ℕ → Bool) (given : ConstraintsValue) → AreConstraintsHolding net rows held given →
     (fault : NoTimes) → RefusesGiven net given fault → RefusesHolding net held fault
-refused_for_rows net rows held given are (Cycle ids) h = shows_cycle_of_rows net rows held given are ids h
-refused_for_rows net rows held given are OutOfMemory h = tt
+refused_for_held net rows held given are (Cycle ids) h = shows_cycle_of_held net rows held given are ids h
+refused_for_held net rows held given are OutOfMemory h = tt
+
+-- and so where the active activities are held
+pub least_for_rows : (net : Net) (rows : RowsValue) (given : ConstraintsValue) → AreConstraintsOf net rows given → (times : List ℕ) →
+    EndsAreKnown net → AreLeast (graph_given net given) times → IsLeast net rows times
+least_for_rows net rows given are times known l =
+    least_for_held net rows (is_active net rows) given are times known (active_enter_no_passed net rows) l
+
+pub no_cycle_of_rows : (net : Net) (rows : RowsValue) (given : ConstraintsValue) → AreConstraintsOf net rows given →
+    HasNoCycleOf net (is_held given.held) → HasNoCycle net rows
+no_cycle_of_rows net rows given are none = no_cycle_of_held net rows (is_active net rows) given are none

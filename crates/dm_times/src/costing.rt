@@ -8,10 +8,10 @@ ghost use Rattle.dm_rows.specs.Cost.{cost_of, cost_charging, event_cost, charged
 
 use crate::charging::{Charging, DroppedChanges};
 use crate::filling::span_of;
-use crate::times::Times;
 use dm_base::{ActKind, Cost, EventKind, Milli};
 use dm_network::Network;
 use dm_rows::Rows;
+use dm_settle::Times;
 
 /// What the rows' least timetable costs, in thousandths of passenger seconds: the lateness of the arrivals, and the penalty
 /// for each dropped change whose head has not passed and for each change that its passed head has missed. The penalty is in

@@ -65,7 +65,7 @@ fn set_spans(net: &Network, rows: &Rows, constraints: &mut Constraints)
 }
 
 /// The least time of an event by itself, in seconds: its passed time, or else the later of its planned time and the clock.
-fn floor_of(net: &Network, rows: &Rows, i: usize) -> Secs
+pub fn floor_of(net: &Network, rows: &Rows, i: usize) -> Secs
     requires sized { IsSized net.now rows.now }
     requires is_event { i < length net.now.events }
     ensures value { result ≡ floor_of net.now rows.now i }

@@ -13,11 +13,10 @@ mod filling;
 mod holding;
 pub mod laws;
 mod scratch;
-mod times;
 
 pub use charging::Charging;
 pub use costing::{comes_too_early, cost, cost_charging};
-pub use dm_settle::NoTimes;
+pub use dm_settle::{NoTimes, Times};
+pub use filling::{floor_of, span_of};
 pub use holding::{ActiveActivities, Holding};
 pub use scratch::{least, least_holding};
-pub use times::Times;

@@ -9,10 +9,9 @@ ghost use Rattle.dm_times.specs.Faults.{RefusesTimes, RefusesHolding};
 
 use crate::filling::constraints_holding;
 use crate::holding::{ActiveActivities, Holding};
-use crate::times::Times;
 use dm_network::Network;
 use dm_rows::Rows;
-use dm_settle::{NoTimes, least_times};
+use dm_settle::{NoTimes, Times, least_times};
 use std::alloc::Global;
 
 /// The least timetable of the rows, in time that is linear in events and activities. [`NoTimes::Cycle`] comes exactly where
@@ -44,8 +43,5 @@ pub fn least_holding<H: Holding>(
 {
     net.sound();
     let constraints = constraints_holding(alloc, net, rows, holding)?;
-    match least_times(alloc, net, &constraints) {
-        Ok(seconds) => Ok(Times::from_seconds(seconds)),
-        Err(no_times) => Err(no_times),
-    }
+    least_times(alloc, net, &constraints)
 }

@@ -9,3 +9,4 @@ pub mod Matching
 pub mod Asking
 pub mod Given
 pub mod Growing
+pub mod Admitted

@@ -2,6 +2,7 @@
 pub mod Trees
 pub mod Relaxed
 pub mod Plans
+pub mod Laws
 -- States of loops: checked, and not to be believed.
 pub mod Inside
 -- What these give on a small network.

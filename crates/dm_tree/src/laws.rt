@@ -1,4 +1,5 @@
 //! What holds of all trees and plans. A law has no code: it is proved as the contract of an empty function.
+ghost use Rattle.dm_tree.specs.Laws.{TruePlansAreAdmitted};
 ghost use Rattle.dm_tree.specs.Trees.{LeadsToWhatStands};
 ghost use Rattle.dm_tree.specs.Worked.{LeavesNoneOpen, PresentChoicesAreNotShown, WorkedPlanIsTrue};
 
@@ -20,4 +21,9 @@ pub fn present_choices_are_not_shown()
 /// Where children lead from the root to a node, by their decisions, there the node stands at the path of these decisions.
 pub fn leads_to_what_stands()
     ensures { LeadsToWhatStands }
+{}
+
+/// Nothing refuses the choices of a true plan, where the history has room for them.
+pub fn true_plans_are_admitted()
+    ensures { TruePlansAreAdmitted }
 {}

@@ -5,7 +5,7 @@ use Rattle.dm_live.proofs.timetable.LiveTimetable.set_floor.Goals as goal
 
 pub returns-then-falls-clause-live : goal.returns-then-falls-clause-live
 returns-then-falls-clause-live c =
-    floor_moves c.args.net.now (record { given = c.self.inside.constraints; order = c.self.inside.order; times = c.self.inside.times.items; marks = c.self.inside.marks })
+    floor_moves c.args.net.now (record { given = c.self.inside.constraints; order = c.self.inside.order; times = c.self.inside.times; marks = c.self.inside.marks })
     (subst (IsLive c.args.net.now) (sym c.self.view_is) c.requires.live) c.args.i c.args.floor c.requires.is_event
     c.set_floor.new.self c.mark.new.self c.set_floor.ensures c.mark.ensures
 
@@ -17,7 +17,7 @@ returns-else-late-clause-live c =
     let time = c.time.ensures in
     let rises : slice_index c.args.self.now.given.floors c.args.i ≤ c.args.floor = omega arith in
     let low : c.args.floor ≤ slice_index c.args.self.now.times c.args.i = omega arith in
-    floor_rises c.args.net.now (record { given = c.self.inside.constraints; order = c.self.inside.order; times = c.self.inside.times.items; marks = c.self.inside.marks })
+    floor_rises c.args.net.now (record { given = c.self.inside.constraints; order = c.self.inside.order; times = c.self.inside.times; marks = c.self.inside.marks })
     (subst (IsLive c.args.net.now) (sym c.self.view_is) c.requires.live) c.args.i c.args.floor c.requires.is_event
     (subst (λ (v : LiveValue). slice_index v.given.floors c.args.i ≤ c.args.floor) (sym c.self.view_is) rises)
     (subst (λ (v : LiveValue). c.args.floor ≤ slice_index v.times c.args.i) (sym c.self.view_is) low)

@@ -1,0 +1,9 @@
+pub mod DueLines
+pub mod Holding
+pub mod Leaves
+pub mod ListsOfLogs
+pub mod Numbers
+pub mod OneDispatcher
+pub mod Stepping
+pub mod TakingBack
+pub mod TrueLogs

@@ -1,0 +1,167 @@
+//! Plans in print, version 2. Nothing here takes memory.
+ghost use Rattle.std.specs.Prelude.{◌≡◌, ◌∷◌, ◌++◌, [], codes, length};
+ghost use Rattle.std.specs.Fmt.{decimal};
+ghost use Rattle.std.specs.List.{flat_map};
+ghost use Rattle.dm_outside.specs.Printing.{Prints, Puts, joined};
+ghost use Rattle.dm_cert.specs.PlanTexts.{choice_text, node_text, plan_heading, spelling_of_plan};
+
+use dm_outside::{Page, Piece, Sink, WriteFault};
+use dm_rows::{Choice, Decision};
+use dm_tree::{Mark, Node, Plan};
+
+// Prints what a plan is and how many lines follow.
+#[tactic(auto, unfolding(crate::specs::PlanTexts::plan_heading))]
+fn put_heading<K: Sink>(sink: &mut K, page: &mut Page, plan: &Plan) -> Result<(), WriteFault>
+    ensures { Prints K.taken K.faults sink.old sink.new page.old page.new result (plan_heading 2 plan.now) }
+{
+    let mark = match plan.mark {
+        Mark::Optimal => "plan optimal cost ",
+        Mark::Open => "plan open cost ",
+    };
+    let pieces = [
+        Piece::Text(mark),
+        Piece::Number(plan.cost),
+        Piece::Text(" bound "),
+        Piece::Number(plan.bound),
+        Piece::Text(" choices "),
+        Piece::Number(plan.choices.as_slice().len() as u128),
+        Piece::Text(" nodes "),
+        Piece::Number(plan.tree.as_slice().len() as u128),
+        Piece::Text("\n"),
+    ];
+    page.put(sink, &pieces)
+}
+
+// Prints a choice of a plan.
+#[tactic(auto, unfolding(crate::specs::PlanTexts::choice_text))]
+fn put_choice<K: Sink>(sink: &mut K, page: &mut Page, decision: Decision) -> Result<(), WriteFault>
+    ensures { Prints K.taken K.faults sink.old sink.new page.old page.new result (choice_text decision) }
+{
+    match decision {
+        Decision::Keep(act) => put_number(sink, page, "choice keep ", act.0 as u128),
+        Decision::Drop(act) => put_number(sink, page, "choice drop ", act.0 as u128),
+        Decision::First(first, second) => {
+            put_numbers(
+                sink,
+                page,
+                "choice first ",
+                first.0 as u128,
+                second.0 as u128,
+            )
+        }
+    }
+}
+
+// Prints a node.
+#[tactic(auto, unfolding(crate::specs::PlanTexts::node_text))]
+fn put_node<K: Sink>(sink: &mut K, page: &mut Page, node: Node) -> Result<(), WriteFault>
+    ensures { Prints K.taken K.faults sink.old sink.new page.old page.new result (node_text node) }
+{
+    match node {
+        Node::Inner(choice) => put_inner(sink, page, choice),
+        Node::Cycle => page.put_bytes(sink, b"cycle\n"),
+        Node::Bound(cost) => put_number(sink, page, "bound ", cost),
+        Node::Open(cost) => put_number(sink, page, "open ", cost),
+        Node::Hole => Ok(()),
+    }
+}
+
+// Prints a node with a choice.
+#[tactic(auto, unfolding(crate::specs::PlanTexts::node_text))]
+fn put_inner<K: Sink>(sink: &mut K, page: &mut Page, choice: Choice) -> Result<(), WriteFault>
+    ensures { Prints K.taken K.faults sink.old sink.new page.old page.new result (node_text (Node.Inner choice)) }
+{
+    match choice {
+        Choice::Change(act) => put_number(sink, page, "inner change ", act.0 as u128),
+        Choice::Pair(small, large) => {
+            put_numbers(sink, page, "inner pair ", small.0 as u128, large.0 as u128)
+        }
+    }
+}
+
+// Prints words, a number and a line end.
+fn put_number<K: Sink>(
+    sink: &mut K,
+    page: &mut Page,
+    words: &str,
+    number: u128,
+) -> Result<(), WriteFault>
+    ensures { Prints K.taken K.faults sink.old sink.new page.old page.new result (joined (words.now ∷ decimal number ∷ codes "\n" ∷ [])) }
+{
+    let pieces = [Piece::Text(words), Piece::Number(number), Piece::Text("\n")];
+    page.put(sink, &pieces)
+}
+
+// Prints words, two numbers and a line end.
+fn put_numbers<K: Sink>(
+    sink: &mut K,
+    page: &mut Page,
+    words: &str,
+    first: u128,
+    second: u128,
+) -> Result<(), WriteFault>
+    ensures { Prints K.taken K.faults sink.old sink.new page.old page.new result (joined (words.now ∷ decimal first ∷ codes " " ∷ decimal second ∷ codes "\n" ∷ [])) }
+{
+    let pieces = [
+        Piece::Text(words),
+        Piece::Number(first),
+        Piece::Text(" "),
+        Piece::Number(second),
+        Piece::Text("\n"),
+    ];
+    page.put(sink, &pieces)
+}
+
+// Prints the choices of a plan.
+fn put_choices<K: Sink>(
+    sink: &mut K,
+    page: &mut Page,
+    choices: &[Decision],
+) -> Result<(), WriteFault>
+    ensures { Prints K.taken K.faults sink.old sink.new page.old page.new result (flat_map choice_text choices.now) }
+{
+    for choice in choices {
+        let Ok(()) = put_choice(sink, page, *choice) else {
+            return Err(WriteFault);
+        };
+    }
+    Ok(())
+}
+
+// Prints the nodes of a plan's tree.
+fn put_nodes<K: Sink>(sink: &mut K, page: &mut Page, nodes: &[Node]) -> Result<(), WriteFault>
+    ensures { Prints K.taken K.faults sink.old sink.new page.old page.new result (flat_map node_text nodes.now) }
+{
+    for node in nodes {
+        let Ok(()) = put_node(sink, page, *node) else {
+            return Err(WriteFault);
+        };
+    }
+    Ok(())
+}
+
+/// Prints the one spelling of the plan in version 2, behind all that was printed through the page before.
+pub fn put_plan<K: Sink>(sink: &mut K, page: &mut Page, plan: &Plan) -> Result<(), WriteFault>
+    ensures { Prints K.taken K.faults sink.old sink.new page.old page.new result (spelling_of_plan 2 plan.now) }
+{
+    let Ok(()) = put_heading(sink, page, plan) else {
+        return Err(WriteFault);
+    };
+    let Ok(()) = put_choices(sink, page, plan.choices.as_slice()) else {
+        return Err(WriteFault);
+    };
+    put_nodes(sink, page, plan.tree.as_slice())
+}
+
+/// Prints the one spelling of the plan in version 2: from the word `plan` to the line end of the last node. It takes no
+/// memory. A write fault comes only where a write failed; the sink has then taken a front of the spelling, and not all
+/// of it.
+pub fn print_plan<K: Sink>(plan: &Plan, sink: &mut K) -> Result<(), WriteFault>
+    ensures { Puts K.taken K.faults sink.old sink.new result (spelling_of_plan 2 plan.now) }
+{
+    let mut page = Page::new();
+    let Ok(()) = put_plan(sink, &mut page, plan) else {
+        return Err(WriteFault);
+    };
+    page.finish(sink)
+}

@@ -1,0 +1,2 @@
+-- States of loops. Who believes what a replay promises need not read them.
+pub mod Entering

@@ -1,0 +1,11 @@
+use Rattle.dm_propagate.proofs.Following.{follows_least, follows_no_cycle}
+use Rattle.dm_propagate.proofs.engine.Engine.new.Goals as goal
+
+pub returns-clause-least : goal.returns-clause-least
+returns-clause-least c =
+    follows_least c.args.net.now c.args.rows c.in-Ok.live c.sound.ensures.network.formed.ends_are_known c.in-Ok.ensures.live.live
+    c.in-Ok.ensures.live.at_rest c.in-Ok.ensures.live.follows
+
+pub returns-clause-no_cycle : goal.returns-clause-no_cycle
+returns-clause-no_cycle c =
+    follows_no_cycle c.args.net.now c.args.rows c.in-Ok.live c.in-Ok.ensures.live.live c.in-Ok.ensures.live.follows

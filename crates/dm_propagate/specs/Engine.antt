@@ -1,0 +1,32 @@
+-- What contracts see of an engine, and what holds of it between its changes.
+use Rattle.std.specs.Prelude.{ℕ, ◌≡◌, ◌<◌, List, length, slice_index}
+use Rattle.dm_live.specs.Live.{LiveValue, IsLive, IsAtRest}
+use Rattle.dm_network.specs.Net.{Net}
+use Rattle.dm_network.specs.Held.{is_held}
+use Rattle.dm_rows.specs.Active.{is_active}
+use Rattle.dm_rows.specs.Rows.{RowsValue, IsSized}
+use Rattle.dm_rows.specs.Timetable.{floor_of, span_of}
+use Rattle.dm_settle.specs.Constraints.{ConstraintsValue}
+
+-- rows, and the timetable that is kept for them
+pub record EngineValue : Type 0 where
+  pub rows : RowsValue
+  pub live : LiveValue
+
+abbrev pub times_of : EngineValue → List ℕ
+times_of engine = engine.live.times
+
+-- What the timetable is held to are the rows: the active activities are held, each event has its floor and each activity its
+-- span.
+pub record FollowsRows (net : Net) (rows : RowsValue) (given : ConstraintsValue) : Type 0 where
+  pub held : (a : ℕ) → a < length net.activities → is_held given.held a ≡ is_active net rows a
+  pub floors : (i : ℕ) → i < length net.events → slice_index given.floors i ≡ floor_of net rows i
+  pub spans : (a : ℕ) → a < length net.activities → slice_index given.spans a ≡ span_of net rows a
+
+-- The rows are of the network, its timetable is held to them, and no time is left to be computed: so the times are the least
+-- timetable of the rows, and these have no cycle.
+pub record IsEngineOf (net : Net) (engine : EngineValue) : Type 0 where
+  pub sized : IsSized net engine.rows
+  pub live : IsLive net engine.live
+  pub at_rest : IsAtRest engine.live
+  pub follows : FollowsRows net engine.rows engine.live.given

@@ -1,0 +1,205 @@
+//! The engine, its changes and its readers.
+ghost use Rattle.std.specs.Prelude.{◌≡◌, ◌^◌, ◌<◌, ◌≤◌, All, fold, IfOk, IfErr, OnOk, OnErr};
+ghost use Rattle.dm_base.specs.declared.limits.TheConstants.{PENALTY};
+ghost use Rattle.dm_rows.specs.Rows.{IsSized};
+ghost use Rattle.dm_rows.specs.Active.{IsCycle, HasNoCycle};
+ghost use Rattle.dm_rows.specs.Reach.{Reaches, ReachesFlip};
+ghost use Rattle.dm_rows.specs.Resolve.{after_change, after_flip};
+ghost use Rattle.dm_rows.specs.Cost.{cost_of};
+ghost use Rattle.dm_rows.specs.Timetable.{IsLeast};
+ghost use Rattle.dm_times.specs.Faults.{RefusesTimes};
+ghost use Rattle.dm_propagate.specs.Engine.{IsEngineOf, times_of};
+
+use crate::setting::set_flips;
+use crate::starting::live_for;
+use crate::sweeping::{move_to, try_rows};
+use dm_base::{Cost, Steps};
+use dm_graph::search::Cyclic;
+use dm_live::LiveTimetable;
+use dm_network::Network;
+use dm_rows::{Change, Flip, Rows};
+use dm_settle::{NoTimes, Times};
+use dm_times::cost;
+use std::alloc::Global;
+use std::marker::Model;
+use std::sync::ledger::Ledger;
+
+/// The rows of a day over one network, and their least timetable.
+///
+/// Its calls take the network with which it was made, of which contracts say that it is an engine of it: [`Engine::new`]
+/// ensures it, and [`Engine::update`] keeps it.
+#[derive(Drop)]
+pub struct Engine {
+    rows: Rows,
+
+    /// The rows that a change is tried on. Between calls they are the same.
+    twin: Rows,
+    live: LiveTimetable,
+}
+
+impl Model for Engine {
+    ghost use Rattle.std.specs.Prelude.{◌≡◌};
+    ghost use Rattle.dm_propagate.specs.Engine.{EngineValue};
+
+    ghost Value = { EngineValue };
+
+    ghost view = { λ e. record { rows = e.rows; live = e.live } };
+
+    ghost invariant = { λ e. e.twin ≡ e.rows };
+}
+
+impl Engine {
+    /// The engine of these rows, with the room of all its changes. [`NoTimes::Cycle`] comes exactly where the rows have a
+    /// cycle, unless memory is short first: then [`NoTimes::OutOfMemory`]. Its time is linear in events and activities.
+    pub fn new(alloc: Global, net: &Network, rows: Rows) -> Result<Engine, NoTimes>
+        requires { IsSized net.now rows }
+        ensures engine { IfOk result (IsEngineOf net.now) }
+        ensures rows { IfOk result (λ engine. engine.rows ≡ rows) }
+        ensures least { IfOk result (λ engine. IsLeast net.now rows (times_of engine)) }
+        ensures no_cycle { OnOk result (HasNoCycle net.now rows) }
+        ensures refused { IfErr result (RefusesTimes net.now rows) }
+    {
+        net.sound();
+        let live = match live_for(alloc, net, &rows) {
+            Ok(live) => live,
+            Err(no_times) => return Err(no_times),
+        };
+        let twin = rows.copy()?;
+        Ok(Engine { rows, twin, live })
+    }
+
+    /// Makes a change, and computes the times that it moves. [`Cyclic`] comes exactly where the changed rows have a cycle:
+    /// then the engine is as before, and [`Engine::last_cycle`] is such a cycle.
+    pub fn update<L: Ledger>(
+        &mut self,
+        net: &Network,
+        change: &Change,
+        steps: &mut Steps<L>,
+    ) -> Result<(), Cyclic>
+        requires engine { IsEngineOf net.now self.old }
+        requires reaches { Reaches self.old.rows change.now }
+        ensures engine { IsEngineOf net.now self.new }
+        ensures rows { OnOk result (self.new.rows ≡ after_change self.old.rows change.now) }
+        ensures least { IsLeast net.now self.new.rows (times_of self.new) }
+        ensures no_cycle { OnOk result (HasNoCycle net.now self.new.rows) }
+        ensures unchanged { OnErr result ((self.new.rows ≡ self.old.rows) × (times_of self.new ≡ times_of self.old)) }
+        ensures cycle { OnErr result (IsCycle net.now (after_change self.old.rows change.now) self.new.live.order.cycle) }
+    {
+        net.sound();
+        self.twin.apply(change);
+        match move_to(&mut self.live, net, &self.rows, &self.twin, steps) {
+            Ok(()) => {
+                self.rows.apply(change);
+                Ok(())
+            }
+            Err(Cyclic) => {
+                self.twin.copy_from(&self.rows);
+                Err(Cyclic)
+            }
+        }
+    }
+
+    /// Sets each decision of a list in turn, as [`Engine::update`] makes a change.
+    pub fn adopt<L: Ledger>(
+        &mut self,
+        net: &Network,
+        flips: &[Flip],
+        steps: &mut Steps<L>,
+    ) -> Result<(), Cyclic>
+        requires engine { IsEngineOf net.now self.old }
+        requires reach { All (ReachesFlip self.old.rows) flips.now }
+        ensures engine { IsEngineOf net.now self.new }
+        ensures rows { OnOk result (self.new.rows ≡ fold after_flip self.old.rows flips.now) }
+        ensures least { IsLeast net.now self.new.rows (times_of self.new) }
+        ensures no_cycle { OnOk result (HasNoCycle net.now self.new.rows) }
+        ensures unchanged { OnErr result ((self.new.rows ≡ self.old.rows) × (times_of self.new ≡ times_of self.old)) }
+        ensures cycle { OnErr result (IsCycle net.now (fold after_flip self.old.rows flips.now) self.new.live.order.cycle) }
+    {
+        net.sound();
+        set_flips(&mut self.twin, flips);
+        match move_to(&mut self.live, net, &self.rows, &self.twin, steps) {
+            Ok(()) => {
+                set_flips(&mut self.rows, flips);
+                Ok(())
+            }
+            Err(Cyclic) => {
+                self.twin.copy_from(&self.rows);
+                Err(Cyclic)
+            }
+        }
+    }
+
+    /// Whether the rows have no cycle after a change, which is not made: the engine stays as it is. [`Cyclic`] comes exactly
+    /// where they have one, and [`Engine::last_cycle`] is such a cycle.
+    pub fn try_update<L: Ledger>(
+        &mut self,
+        net: &Network,
+        change: &Change,
+        steps: &mut Steps<L>,
+    ) -> Result<(), Cyclic>
+        requires engine { IsEngineOf net.now self.old }
+        requires reaches { Reaches self.old.rows change.now }
+        ensures engine { IsEngineOf net.now self.new }
+        ensures unchanged { (self.new.rows ≡ self.old.rows) × (times_of self.new ≡ times_of self.old) }
+        ensures no_cycle { OnOk result (HasNoCycle net.now (after_change self.old.rows change.now)) }
+        ensures cycle { OnErr result (IsCycle net.now (after_change self.old.rows change.now) self.new.live.order.cycle) }
+    {
+        self.twin.apply(change);
+        let outcome = try_rows(&mut self.live, net, &self.rows, &self.twin, steps);
+        self.twin.copy_from(&self.rows);
+        outcome
+    }
+
+    /// Whether the rows have no cycle with the decisions of a list set, as [`Engine::try_update`].
+    pub fn try_adopt<L: Ledger>(
+        &mut self,
+        net: &Network,
+        flips: &[Flip],
+        steps: &mut Steps<L>,
+    ) -> Result<(), Cyclic>
+        requires engine { IsEngineOf net.now self.old }
+        requires reach { All (ReachesFlip self.old.rows) flips.now }
+        ensures engine { IsEngineOf net.now self.new }
+        ensures unchanged { (self.new.rows ≡ self.old.rows) × (times_of self.new ≡ times_of self.old) }
+        ensures no_cycle { OnOk result (HasNoCycle net.now (fold after_flip self.old.rows flips.now)) }
+        ensures cycle { OnErr result (IsCycle net.now (fold after_flip self.old.rows flips.now) self.new.live.order.cycle) }
+    {
+        set_flips(&mut self.twin, flips);
+        let outcome = try_rows(&mut self.live, net, &self.rows, &self.twin, steps);
+        self.twin.copy_from(&self.rows);
+        outcome
+    }
+
+    /// The rows.
+    pub fn rows(&self) -> &Rows
+        ensures { result.now ≡ self.now.rows }
+    {
+        &self.rows
+    }
+
+    /// The times of the events.
+    pub fn times(&self) -> &Times
+        ensures { result.now ≡ times_of self.now }
+    {
+        self.live.times()
+    }
+
+    /// What the times cost, in thousandths of passenger seconds, at a penalty in seconds for each passenger, at most
+    /// 1,000,000. It takes no memory.
+    pub fn cost(&self, net: &Network, penalty: u64) -> Cost
+        requires engine { IsEngineOf net.now self.now }
+        requires penalty { penalty ≤ PENALTY }
+        ensures cost { result ≡ cost_of net.now self.now.rows (times_of self.now) penalty }
+        ensures limit { result < 2 ^ 100 }
+    {
+        net.sound();
+        cost(net, &self.rows, self.live.times(), penalty)
+    }
+
+    /// The activities of the cycle for which a change was refused last, each head the next tail.
+    pub fn last_cycle(&self) -> &[usize]
+        ensures { result.now ≡ self.now.live.order.cycle }
+    {
+        self.live.last_cycle()
+    }
+}

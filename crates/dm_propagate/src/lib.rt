@@ -1,0 +1,15 @@
+//! The engine: the rows of a day and their least timetable, kept through every change.
+//!
+//! It stands on dm_live, whose timetable it holds to the rows: the active activities are held, and floors and spans are the
+//! rows'. A change is first made to a twin of the rows, and the timetable is brought to follow that one. Where the changed
+//! rows have a cycle it is brought back, so that a refused change leaves the engine as it was. Once it is made, an engine
+//! takes no memory.
+#![tactic(auto)]
+
+mod engine;
+pub mod laws;
+mod setting;
+mod starting;
+mod sweeping;
+
+pub use engine::Engine;

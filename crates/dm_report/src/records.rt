@@ -1,0 +1,176 @@
+//! The records of a run besides its logs, in print.
+ghost use Rattle.std.specs.Prelude.{◌≡◌, ◌<◌, ◌∷◌, ◌++◌, [], codes, length};
+ghost use Rattle.std.specs.List.{flat_map};
+ghost use Rattle.dm_outside.specs.Printing.{Prints};
+ghost use Rattle.dm_cert.specs.RunTexts.{entry_text, entries_text, note_text, time_text, timetable_text, header_text, boards_text, heading_text, ending_text};
+
+use crate::words::{put_number, put_numbers};
+use dm_base::Cost;
+use dm_cert::Note;
+use dm_feed::put_message;
+use dm_network::Network;
+use dm_outside::{Page, Piece, Sink, WriteFault};
+use dm_rows::Entry;
+use dm_times::Times;
+
+/// Prints the version, the penalty, and how many feeds and entries there are.
+#[tactic(auto, unfolding(dm_cert::specs::RunTexts::header_text))]
+pub fn put_header<K: Sink>(
+    sink: &mut K,
+    page: &mut Page,
+    penalty: u64,
+    feeds: usize,
+    entries: usize,
+) -> Result<(), WriteFault>
+    ensures { Prints K.taken K.faults sink.old sink.new page.old page.new result (header_text 2 penalty feeds entries) }
+{
+    let pieces = [
+        Piece::Text("dm-run "),
+        Piece::Number(2),
+        Piece::Text("\npenalty "),
+        Piece::Number(penalty as u128),
+        Piece::Text("\nfeeds "),
+        Piece::Number(feeds as u128),
+        Piece::Text("\nentries "),
+        Piece::Number(entries as u128),
+        Piece::Text("\n"),
+    ];
+    page.put(sink, &pieces)
+}
+
+/// Prints an entry.
+fn put_entry<K: Sink>(
+    sink: &mut K,
+    page: &mut Page,
+    number: usize,
+    entry: &Entry,
+) -> Result<(), WriteFault>
+    ensures { Prints K.taken K.faults sink.old sink.new page.old page.new result (entry_text number entry.now) }
+{
+    let pieces = [
+        Piece::Text("entry "),
+        Piece::Number(number as u128),
+        Piece::Text(" feed "),
+        Piece::Number(entry.feed as u128),
+        Piece::Text(" line "),
+        Piece::Number(entry.line as u128),
+        Piece::Text(" "),
+    ];
+    let Ok(()) = page.put(sink, &pieces) else {
+        return Err(WriteFault);
+    };
+    let Ok(()) = put_message(sink, page, &entry.message) else {
+        return Err(WriteFault);
+    };
+    page.put_bytes(sink, b"\n")
+}
+
+/// Prints all entries.
+pub fn put_entries<K: Sink>(
+    sink: &mut K,
+    page: &mut Page,
+    entries: &[Entry],
+) -> Result<(), WriteFault>
+    ensures { Prints K.taken K.faults sink.old sink.new page.old page.new result (entries_text 1 entries.now) }
+{
+    for (i, entry) in entries.iter().enumerate() {
+        let Ok(()) = put_entry(sink, page, i + 1, entry) else {
+            return Err(WriteFault);
+        };
+    }
+    Ok(())
+}
+
+/// Prints a dropped board.
+#[tactic(auto, unfolding(dm_cert::specs::RunTexts::note_text))]
+fn put_note<K: Sink>(sink: &mut K, page: &mut Page, note: Note) -> Result<(), WriteFault>
+    ensures { Prints K.taken K.faults sink.old sink.new page.old page.new result (note_text note) }
+{
+    let pieces = [
+        Piece::Text("board "),
+        Piece::Number(note.board as u128),
+        Piece::Text(" stop "),
+        Piece::Number(note.stop as u128),
+        Piece::Text(" dropped "),
+        Piece::Number(note.entry as u128),
+        Piece::Text("\n"),
+    ];
+    page.put(sink, &pieces)
+}
+
+/// Prints the dropped boards.
+pub fn put_notes<K: Sink>(sink: &mut K, page: &mut Page, notes: &[Note]) -> Result<(), WriteFault>
+    ensures { Prints K.taken K.faults sink.old sink.new page.old page.new result (flat_map note_text notes.now) }
+{
+    for note in notes {
+        let Ok(()) = put_note(sink, page, *note) else {
+            return Err(WriteFault);
+        };
+    }
+    Ok(())
+}
+
+/// Prints how many boards were dropped.
+#[tactic(auto, unfolding(dm_cert::specs::RunTexts::boards_text))]
+pub fn put_boards<K: Sink>(sink: &mut K, page: &mut Page, notes: usize) -> Result<(), WriteFault>
+    ensures { Prints K.taken K.faults sink.old sink.new page.old page.new result (boards_text notes) }
+{
+    put_number(sink, page, "boards ", notes as u128, "\n")
+}
+
+/// Prints after how many entries the times are.
+#[tactic(auto, unfolding(dm_cert::specs::RunTexts::heading_text))]
+pub fn put_heading<K: Sink>(sink: &mut K, page: &mut Page, entries: usize) -> Result<(), WriteFault>
+    ensures { Prints K.taken K.faults sink.old sink.new page.old page.new result (heading_text entries) }
+{
+    put_number(sink, page, "times ", entries as u128, "\n")
+}
+
+/// Prints the id and the time of an event.
+#[tactic(auto, unfolding(dm_cert::specs::RunTexts::time_text))]
+fn put_time<K: Sink>(
+    sink: &mut K,
+    page: &mut Page,
+    net: &Network,
+    times: &Times,
+    i: usize,
+) -> Result<(), WriteFault>
+    requires is_event { i < length net.now.events }
+    requires has_time { i < length times.now }
+    ensures { Prints K.taken K.faults sink.old sink.new page.old page.new result (time_text net.now times.now i) }
+{
+    put_numbers(
+        sink,
+        page,
+        net.event(i).id.0 as u128,
+        "; ",
+        times.time(i) as u128,
+        "\n",
+    )
+}
+
+/// Prints the times of all events.
+pub fn put_times<K: Sink>(
+    sink: &mut K,
+    page: &mut Page,
+    net: &Network,
+    times: &Times,
+) -> Result<(), WriteFault>
+    requires { length times.now ≡ length net.now.events }
+    ensures { Prints K.taken K.faults sink.old sink.new page.old page.new result (timetable_text net.now times.now) }
+{
+    for i in 0..net.events() {
+        let Ok(()) = put_time(sink, page, net, times, i) else {
+            return Err(WriteFault);
+        };
+    }
+    Ok(())
+}
+
+/// Prints the cost and the last line.
+#[tactic(auto, unfolding(dm_cert::specs::RunTexts::ending_text))]
+pub fn put_ending<K: Sink>(sink: &mut K, page: &mut Page, cost: Cost) -> Result<(), WriteFault>
+    ensures { Prints K.taken K.faults sink.old sink.new page.old page.new result (ending_text cost) }
+{
+    put_number(sink, page, "cost ", cost, "\ndone\n")
+}

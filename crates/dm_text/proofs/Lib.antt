@@ -1,0 +1,4 @@
+-- What is read from the front of a line, and what that says of the line.
+pub mod Cutting
+pub mod Reading
+pub mod Judged
