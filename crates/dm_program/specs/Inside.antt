@@ -1,5 +1,0 @@
-pub mod Answers
-pub mod Asked
-pub mod Stages
-pub mod Opening
-pub mod Cuts
