@@ -1,34 +1,23 @@
 -- The completion of a path that violates nothing has the relaxed times and the relaxed cost.
-use Rattle.std.proofs.Common.{◌≡◌, ℕ, ◌+◌, ◌*◌, ◌<◌, ◌≤◌, Bool, true, false, cond, eqb, ltb, List, [], ◌∷◌, ◌++◌, length, map, Option, Some, None, IsTrue, refl, sym, ap, subst, ◌∙◌, ◌⊎◌, inl, inr, arith}
-use Rattle.std.specs.Prelude.{filter, Contains, All, not, ◌&&◌, ◌==◌, nat_lt, sum_by, if◌then◌else◌}
-use Rattle.std.specs.List.{range_with_len, list_any}
-use Rattle.std.proofs.lemmas.Bool.{cases_Bool, both_ways, not-true, not_from_true, not_from_false, and_from, and_parts, and_cases, and_left, and_right, false_from_ne_true, ltb-true, ltb-false, eqb-true, eq-eqb, cond-true, cond-false}
+use Rattle.std.proofs.Common.{◌≡◌, ℕ, ◌<◌, Bool, true, false, List, ◌++◌, length, map, Option, Some, None, refl, sym, ap, subst, ◌∙◌, ◌⊎◌, inl, inr, arith}
+use Rattle.std.specs.Prelude.{filter, Contains, All, not, nat_lt}
+use Rattle.std.specs.List.{range_with_len}
+use Rattle.std.proofs.lemmas.Bool.{not_from_true, and_right, cond-false}
 use Rattle.std.proofs.lemmas.List.{map-append}
-use Rattle.std.proofs.lemmas.List.Elements.{All-contains, All-filter, All-weaker, Contains-append_left, Contains-append_right, Contains-get_or}
+use Rattle.std.proofs.lemmas.List.Elements.{All-contains, All-filter, All-weaker, Contains-append_left, Contains-append_right}
 use Rattle.std.proofs.lemmas.List.Folds.{list_any_at}
 use Rattle.std.proofs.lemmas.List.FromFn.{length-range_with_len, get_or-range_with_len}
-use Rattle.dm_graph.specs.Arcs.{Binds}
-use Rattle.dm_graph.proofs.Timetables.{least_for_more}
-use Rattle.dm_network.specs.Net.{Net, activity_at, pair_at, is_change, is_headway}
-use Rattle.dm_network.specs.Pairs.{pair_place, IsHeadwayFrom, FormPair}
-use Rattle.dm_network.specs.Start.{IsNetwork, first_event}
+use Rattle.dm_network.specs.Net.{Net, pair_at}
+use Rattle.dm_network.specs.Start.{IsNetwork}
 use Rattle.dm_rows.specs.declared.messages.Choice.{Choice}
 use Rattle.dm_rows.specs.declared.messages.Decision.{Decision}
 use Rattle.dm_rows.specs.Rows.{RowsValue, IsSized, kept_at, small_first_at}
 use Rattle.dm_rows.specs.Decide.{free_choices_of, choice_of, change_choice, pair_choice, is_free_change, is_free_pair, with_decisions, IsChoiceList}
-use Rattle.dm_rows.specs.Active.{has_passed, is_active, binds, HasNoCycle}
-use Rattle.dm_rows.specs.Timetable.{time_at, span_of, IsLeast, Meets, MeetsHolding, graph_holding, graph_of}
-use Rattle.dm_rows.specs.Cost.{event_cost, charged_weight, is_dropped_change, missed_weight, comes_too_early, cost_of}
-use Rattle.dm_rows.specs.Relax.{is_same_choice, is_decided, is_undecided_change, is_undecided_pair, is_of_undecided, is_relaxed_active, is_relaxed_dropped, is_of_pair, is_unmet_from, has_unmet_from, is_violated_change, is_violated_pair, violated_choices_of}
-use Rattle.dm_rows.proofs.AsGraph.{least_to_graph, least_from_graph, to_graph, relaxed_enter_no_passed, active_enter_no_passed}
-use Rattle.dm_tree.specs.Relaxed.{IsRelaxedLeast, relaxed_cost_of, IsViolated}
-use Rattle.dm_times.proofs.Meeting.{rows_are_met}
+use Rattle.dm_rows.specs.Timetable.{time_at}
+use Rattle.dm_rows.specs.Relax.{is_same_choice, is_decided, is_undecided_change, is_undecided_pair}
 use Rattle.dm_relax.specs.Complete.{change_decision, pair_decision, completed_kept, completed_small_first, completed_change, completed_pair, completion_of}
-use Rattle.dm_relax.specs.Laws.{ViolatesNothing, Completes}
-use Rattle.dm_relax.proofs.Naming.{Names, of_change, of_pair, names, change_decides, pair_decides, same_itself, pair_found}
-use Rattle.dm_relax.proofs.Setting.{DiffersInDecisions, HasDecision, differs_in_none, differs_with, has_each, has_kept, has_first}
-use Rattle.dm_relax.proofs.Agreeing.{PairJoins, pair_joins, active_same, has_passed_same, passed_same, span_same, kept_agrees, decided_change}
-use Rattle.dm_relax.proofs.Bounding.{sum-le, if_weight, asks_no_more, costs_no_more}
+use Rattle.dm_relax.proofs.Naming.{Names, of_change, of_pair, names, change_decides, pair_decides, same_itself}
+use Rattle.dm_relax.proofs.Setting.{HasDecision, has_each, has_kept, has_first}
 use Rattle.dm_relax.proofs.Apart.{listed, Apart, free_are_apart, choice_list_from, in_map, map_through}
 
 places_below : (test : ℕ → Bool) (n : ℕ) → All (λ i. i < n) (filter test (range_with_len 0 n))

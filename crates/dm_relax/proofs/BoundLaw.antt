@@ -1,5 +1,5 @@
 -- The relaxed cost is a bound, and a completion reaches it.
-use Rattle.std.proofs.Common.{◌≡◌, ℕ, ◌≤◌, List, sym, subst}
+use Rattle.std.proofs.Common.{ℕ, ◌≤◌, List, sym, subst}
 use Rattle.std.specs.Prelude.{Contains, All}
 use Rattle.std.proofs.lemmas.List.Elements.{All-contains, Contains-get_or}
 use Rattle.dm_network.specs.Net.{Net}
@@ -12,7 +12,7 @@ use Rattle.dm_relax.specs.Complete.{completion_of}
 use Rattle.dm_relax.specs.Laws.{Holds, RelaxedCostIsABound}
 use Rattle.dm_relax.proofs.Setting.{HasDecision, DiffersInDecisions, differs_in_none, differs_with, has_each}
 use Rattle.dm_relax.proofs.Bounding.{costs_no_more, relaxed_has_no_cycle}
-use Rattle.dm_relax.proofs.Completing.{completion_decides, completion_holds, completion_is_list}
+use Rattle.dm_relax.proofs.Completion.{completion_decides, completion_holds, completion_is_list}
 use Rattle.dm_relax.proofs.Completed.{completed_least, completed_has_no_cycle, completed_costs}
 
 pub all_from : {X : Type 0} (P : X → Type 0) (xs : List X) → ((x : X) → Contains xs x → P x) → All P xs
