@@ -1,0 +1,12 @@
+pub mod Cutting
+pub mod Digits
+pub mod Answering
+pub mod Within
+pub mod Printed
+pub mod Spelled
+pub mod Finished
+pub mod Ending
+pub mod Arcs
+pub mod Beginning
+pub mod OneRun
+pub mod Converse

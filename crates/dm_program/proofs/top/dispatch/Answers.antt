@@ -1,0 +1,34 @@
+use Rattle.std.proofs.Common.{Global}
+use Rattle.std.specs.Prelude.{map, string_bytes}
+use Rattle.dm_program.proofs.Converse.{ends_outside, ends_at, ends_well}
+use Rattle.dm_program.proofs.top.dispatch.Goals as goal
+
+pub returns-clause-headline : goal.returns-clause-headline
+returns-clause-headline g c = λ e. rw e at c.run.ensures.ends
+
+pub returns-clause-usage : goal.returns-clause-usage
+returns-clause-usage g c = λ e. rw e at c.run.ensures.ends
+
+pub returns-clause-refused : goal.returns-clause-refused
+returns-clause-refused g c = λ e. rw e at c.run.ensures.ends
+
+pub returns-clause-read_fault : goal.returns-clause-read_fault
+returns-clause-read_fault g c = λ e. rw e at c.run.ensures.ends
+
+pub returns-clause-write_fault : goal.returns-clause-write_fault
+returns-clause-write_fault g c = λ e. rw e at c.run.ensures.ends
+
+pub returns-clause-no_memory : goal.returns-clause-no_memory
+returns-clause-no_memory g c = λ e. rw e at c.run.ensures.ends
+
+pub returns-clause-outside : goal.returns-clause-outside
+returns-clause-outside g c = λ outside.
+    ends_outside g.K.Sink.taken g.K.Sink.faults (g.H.Shelf.files c.args.shelf.now) (g.H.Shelf.is_sound c.args.shelf.now) (map (string_bytes {Z = Global}) c.args.words.now) c.args.out.now c.run.new.out outside c.run.result c.run.ensures.ends
+
+pub returns-clause-first_refusal : goal.returns-clause-first_refusal
+returns-clause-first_refusal g c = λ command flaw asked known first.
+    ends_at g.K.Sink.taken g.K.Sink.faults (g.H.Shelf.files c.args.shelf.now) (g.H.Shelf.is_sound c.args.shelf.now) (map (string_bytes {Z = Global}) c.args.words.now) c.args.out.now c.run.new.out command asked known flaw first c.run.result c.run.ensures.ends
+
+pub returns-clause-complete : goal.returns-clause-complete
+returns-clause-complete g c = λ command input asked known is sound unrisen.
+    ends_well g.K.Sink.taken g.K.Sink.faults (g.H.Shelf.files c.args.shelf.now) (g.H.Shelf.is_sound c.args.shelf.now) (map (string_bytes {Z = Global}) c.args.words.now) c.args.out.now c.run.new.out command asked known input is sound unrisen c.run.result c.run.ensures.ends

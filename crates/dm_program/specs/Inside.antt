@@ -1,0 +1,5 @@
+pub mod Answers
+pub mod Asked
+pub mod Stages
+pub mod Opening
+pub mod Cuts
