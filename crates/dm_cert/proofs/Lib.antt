@@ -7,3 +7,4 @@ pub mod OneDispatcher
 pub mod Stepping
 pub mod TakingBack
 pub mod TrueLogs
+pub mod Fitting
