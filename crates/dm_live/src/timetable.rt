@@ -14,7 +14,7 @@ use dm_base::{Secs, Steps};
 use dm_graph::search::Cyclic;
 use dm_network::Network;
 use dm_order::{Order, OrderFault};
-use dm_settle::{Constraints, Marks, Times};
+use dm_settle::{Constraints, Marks, Times, Unwatched, Watcher};
 use std::alloc::Global;
 use std::marker::Model;
 use std::sync::ledger::Ledger;
@@ -93,6 +93,27 @@ impl LiveTimetable {
         ensures unchanged { self.new ≡ record self.old { times = self.new.times; marks = self.new.marks } }
         ensures few_reads { ReadsFew (arcs_given net.now self.old.given) self.old self.new steps.old steps.new }
     {
+        self.settle_watched(net, &mut Unwatched, steps);
+    }
+
+    /// The same, with a watcher that is told of each time that changes.
+    pub fn settle_watched<L: Ledger, W: Watcher>(
+        &mut self,
+        net: &Network,
+        watcher: &mut W,
+        steps: &mut Steps<L>,
+    )
+        requires live { IsLive net.now self.old }
+        requires knows { W.knows watcher.old net.now self.old.given self.old.times }
+        ensures least { AreLeast (graph_given net.now self.new.given) self.new.times }
+        ensures early { AreEarly self.new.times }
+        ensures live { IsLive net.now self.new }
+        ensures at_rest { IsAtRest self.new }
+        ensures unchanged { self.new ≡ record self.old { times = self.new.times; marks = self.new.marks } }
+        ensures few_reads { ReadsFew (arcs_given net.now self.old.given) self.old self.new steps.old steps.new }
+        ensures knows { W.knows watcher.new net.now self.new.given self.new.times }
+        ensures flags { W.flags watcher.new ≡ W.flags watcher.old }
+    {
         net.sound();
         place_marks(
             &mut self.marks,
@@ -100,12 +121,13 @@ impl LiveTimetable {
             self.order.ranks(),
             &mut self.placed,
         );
-        self.placed.settle(
+        self.placed.settle_watched(
             net,
             &self.constraints,
             self.order.order(),
             self.order.ranks(),
             &mut self.times,
+            watcher,
             steps,
         );
     }

@@ -1,11 +1,11 @@
 -- No time is later than the ranks of the events allow, and so each is below the limit of all times.
-use Rattle.std.proofs.Common.{◌≡◌, ℕ, zero, suc, ◌+◌, ◌<◌, ◌≤◌, Bool, true, List, length, refl, sym, ap, subst, ◌∙◌, ◌*◌, ◌^◌, ◌⊎◌, inl, inr, arith, slice_index}
+use Rattle.std.proofs.Common.{◌≡◌, ℕ, zero, suc, ◌+◌, ◌-◌, ◌<◌, ◌≤◌, Bool, true, List, refl, sym, ap, subst, ◌∙◌, ◌*◌, ◌^◌, ◌⊎◌, inl, inr, arith, slice_index}
 use Rattle.std.proofs.lemmas.Bool.{cases_Bool, cases_lt, cases_eq}
 use Rattle.std.proofs.lemmas.List.{get_or_past}
 use Rattle.dm_base.specs.declared.limits.TheConstants.{EVENTS, PASSED_TIME, BOUND, DELAY}
 use Rattle.dm_graph.specs.Arcs.{Arcs, Binds, HasNoCycle}
 use Rattle.dm_graph.specs.Arrays.{AreRanks}
-use Rattle.dm_graph.specs.Graph.{Graph}
+use Rattle.dm_graph.specs.Graph.{Graph, IsJoin}
 use Rattle.dm_graph.proofs.Chains.{Rises}
 use Rattle.dm_graph.proofs.Rounds.{least_is_bounded}
 use Rattle.dm_settle.specs.Constraints.{IsBounded}
@@ -70,10 +70,6 @@ rank_where-holds : {A : Type 0} (d : A ⊎ (A → ⊥)) (r : ℕ) → A → rank
 rank_where-holds (inl a) r h = refl
 rank_where-holds (inr not_a) r h = absurd (not_a h)
 
-rank_where-le : {A : Type 0} (d : A ⊎ (A → ⊥)) (r : ℕ) → rank_where d r ≤ suc r
-rank_where-le (inl a) r = omega arith
-rank_where-le (inr not_a) r = omega arith
-
 rank_where-rises : {A : Type 0} (d : A ⊎ (A → ⊥)) (r s : ℕ) → (A → r < s) → rank_where d r < suc s
 rank_where-rises (inl a) r s up = let h = up a in omega arith
 rank_where-rises (inr not_a) r s up = omega arith
@@ -84,10 +80,6 @@ moving_rank g ranks marks e = rank_where (moves_or g ranks marks e) (slice_index
 pub moving_rank-moves : (g : Arcs) (ranks : List ℕ) (marks : List Bool) (e : ℕ) → MayMove g ranks marks e → moving_rank g ranks marks e ≡ suc (slice_index ranks e)
 unfolding moving_rank
 moving_rank-moves g ranks marks e may = rank_where-holds (moves_or g ranks marks e) (slice_index ranks e) may
-
-moving_rank-le : (g : Arcs) (ranks : List ℕ) (marks : List Bool) (e : ℕ) → moving_rank g ranks marks e ≤ suc (slice_index ranks e)
-unfolding moving_rank
-moving_rank-le g ranks marks e = rank_where-le (moves_or g ranks marks e) (slice_index ranks e)
 
 moving_rank-below : (g : Arcs) (ranks : List ℕ) (marks : List Bool) (e s : ℕ) → (MayMove g ranks marks e → slice_index ranks e < s) → moving_rank g ranks marks e < suc s
 unfolding moving_rank
@@ -142,22 +134,7 @@ module _ (g : Graph) (ranks times : List ℕ) (first : List Bool) (bounded : IsB
       (suc (moving_rank g.shape ranks first (g.shape.tail a))) (g.shape.tail a) (omega arith) (omega arith) binds.from_event in
       omega arith
 
-  -- where every event has its time, each time is early
-  pub all_are_early : (order : List ℕ) → AreRanks g.shape.events order ranks → length times ≡ g.shape.events →
-      ((e : ℕ) → e < g.shape.events → IsSettled g times e) → AreEarly times
-  all_are_early order ranked as_many settled e =
-      elim (cases_lt e g.shape.events) [
-        | inl is_event ↦
-            let few = bounded.few in
-            let place = ranked.has_place e is_event in
-            let rank = moving_rank-le g.shape ranks first e in
-            let early = settled_is_early (suc (suc (slice_index ranks e))) (λ f below _. settled f below)
-            (suc (suc (slice_index ranks e))) e (omega arith) (omega arith) is_event in
-            omega arith
-        | inr past ↦ let none : slice_index times e ≡ 0 = get_or_past times e 0 (omega arith) in omega arith
-      ]
-
--- the same of the least timetable, where there is no cycle
+-- the times of the least timetable are early, where there is no cycle
 most : (n : ℕ) → n ≤ EVENTS → PASSED_TIME + n * (BOUND + DELAY) < 2 ^ 38
 most n few = omega arith
 
@@ -170,3 +147,11 @@ least_is_early g times bounded none least e =
           omega arith
       | inr past ↦ let many = least.as_many in let nothing : slice_index times e ≡ 0 = get_or_past times e 0 (omega arith) in omega arith
     ]
+
+-- what the floor and the arcs into an event allow is early where the tails are
+pub join_is_early : (g : Graph) (times : List ℕ) (e time : ℕ) → g.floor e ≤ PASSED_TIME → ((a : ℕ) → g.span a ≤ BOUND + DELAY) →
+    TailsAreEarly g times e → IsJoin g (slice_index times) e time → time < 2 ^ 38
+join_is_early g times e time floor spans tails join =
+    let last : time ≤ 2 ^ 38 - 1 =
+    join.least (2 ^ 38 - 1) (omega arith) (λ a binds head. let tail = tails a binds head in let span = spans a in omega arith) in
+    omega arith

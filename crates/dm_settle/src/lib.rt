@@ -5,8 +5,8 @@
 //! together a graph. A pass computes the marked events anew, in the order, and goes on along the held activities out of
 //! every event whose time has changed, so that raises and falls are served alike. What it leaves is the least timetable of
 //! the graph, and it reads the rows of few events ([`Marks::settle`]). With every event marked it is the computation from
-//! scratch ([`least_times`]), which shows a cycle exactly where the held activities have one. Every time is below 2^38
-//! seconds.
+//! scratch ([`least_times`]), which shows a cycle exactly where the held activities have one. A [`Watcher`] is told of each
+//! time that a pass writes. Every time is below 2^38 seconds.
 #![tactic(auto)]
 
 mod constraints;
@@ -17,9 +17,11 @@ mod pass;
 mod scratch;
 mod time;
 mod times;
+mod watching;
 
 pub use constraints::Constraints;
 pub use faults::NoTimes;
 pub use marks::Marks;
 pub use scratch::least_times;
 pub use times::Times;
+pub use watching::{Unwatched, Watcher};

@@ -1,7 +1,7 @@
 //! The pass along an order that computes the marked events anew.
-ghost use Rattle.std.specs.Prelude.{ℕ, ◌≡◌, ◌+◌, ◌<◌, true, length, slice_index, slice_set};
+ghost use Rattle.std.specs.Prelude.{ℕ, ◌≡◌, ◌<◌, true, length, slice_index, slice_set};
 ghost use Rattle.dm_graph.specs.Arrays.{AreRanks};
-ghost use Rattle.dm_network.specs.Net.{activity_at};
+ghost use Rattle.dm_network.specs.Net.{activity_at, places_out_of};
 ghost use Rattle.dm_settle.specs.Constraints.{IsSizedFor, arcs_given, graph_given};
 ghost use Rattle.dm_settle.specs.Marked.{NoneFrom};
 ghost use Rattle.dm_settle.specs.Settling.{AreLeast, AreEarly, GoesForward, MarksUnsettled, ReadsFew};
@@ -11,7 +11,8 @@ use crate::constraints::Constraints;
 use crate::marks::Marks;
 use crate::time::time_of;
 use crate::times::Times;
-use dm_base::{Secs, Steps};
+use crate::watching::{Unwatched, Watcher};
+use dm_base::Steps;
 use dm_network::Network;
 use std::sync::ledger::Ledger;
 
@@ -40,47 +41,53 @@ impl Marks {
         ensures none_left { NoneFrom self.new 0 }
         ensures few_reads { ReadsFew (arcs_given net.now constraints.now) ranks.now (record { marks = self.old; times = times.old; steps = steps.old }) (record { marks = self.new; times = times.new; steps = steps.new }) }
     {
-        self.pass(net, constraints, order, ranks, &mut times.seconds, steps);
+        self.settle_watched(net, constraints, order, ranks, times, &mut Unwatched, steps);
     }
 
-    /// The same, over a list of the times.
-    fn pass<L: Ledger>(
+    /// The same, with a watcher that is told of each time that changes.
+    pub fn settle_watched<L: Ledger, W: Watcher>(
         &mut self,
         net: &Network,
         constraints: &Constraints,
         order: &[usize],
         ranks: &[usize],
-        times: &mut [Secs],
+        times: &mut Times,
+        watcher: &mut W,
         steps: &mut Steps<L>,
     )
         requires sized { IsSizedFor net.now constraints.now }
         requires ranks { AreRanks (length net.now.events) order.now ranks.now }
         requires forward { GoesForward (arcs_given net.now constraints.now) ranks.now self.old }
         requires marks { MarksUnsettled (graph_given net.now constraints.now) ranks.now self.old times.old }
+        requires knows { W.knows watcher.old net.now constraints.now times.old }
         ensures least { AreLeast (graph_given net.now constraints.now) times.new }
         ensures early { AreEarly times.new }
         ensures room { length self.new ≡ length self.old }
         ensures none_left { NoneFrom self.new 0 }
         ensures few_reads { ReadsFew (arcs_given net.now constraints.now) ranks.now (record { marks = self.old; times = times.old; steps = steps.old }) (record { marks = self.new; times = times.new; steps = steps.new }) }
+        ensures knows { W.knows watcher.new net.now constraints.now times.new }
+        ensures flags { W.flags watcher.new ≡ W.flags watcher.old }
     {
         net.sound();
         constraints.within_limits();
         let mut place = 0;
         while let Some(next) = self.first_from(place) {
-            self.renew(net, constraints, ranks, order[next], times, steps);
+            self.renew(net, constraints, ranks, order[next], times, watcher, steps);
             place = next + 1;
         }
+        times.is_early();
     }
 
-    /// Computes a marked event anew and takes its mark away. If its time changes, the heads of the held activities out of
-    /// it are marked. Answers whether it does.
-    fn renew<L: Ledger>(
+    /// Computes a marked event anew and takes its mark away. If its time changes, the watcher is told, and the heads of the
+    /// held activities out of it are marked. Answers whether it does.
+    fn renew<L: Ledger, W: Watcher>(
         &mut self,
         net: &Network,
         constraints: &Constraints,
         ranks: &[usize],
         event: usize,
-        times: &mut [Secs],
+        times: &mut Times,
+        watcher: &mut W,
         steps: &mut Steps<L>,
     ) -> bool
         requires sized { IsSizedFor net.now constraints.now }
@@ -89,36 +96,43 @@ impl Marks {
         requires as_many_ranks { length ranks.now ≡ length net.now.events }
         requires ranks { (e : ℕ) → e < length net.now.events → slice_index ranks.now e < length self.old }
         requires early { TailsAreEarly (graph_given net.now constraints.now) times.old event }
-        ensures { Renews result (graph_given net.now constraints.now) ranks.now event (record { marks = self.old; times = times.old; steps = steps.old }) (record { marks = self.new; times = times.new; steps = steps.new }) }
+        requires knows { W.knows watcher.old net.now constraints.now times.old }
+        ensures renews { Renews result (graph_given net.now constraints.now) ranks.now event (record { marks = self.old; times = times.old; steps = steps.old }) (record { marks = self.new; times = times.new; steps = steps.new }) }
+        ensures knows { W.knows watcher.new net.now constraints.now times.new }
+        ensures flags { W.flags watcher.new ≡ W.flags watcher.old }
     {
         self.clear(ranks[event]);
-        let time = time_of(net, constraints, times, event, steps);
-        if time == times[event] {
+        let into = net.in_row(event, steps);
+        let time = time_of(net, constraints, times, event, into);
+        if time == times.time(event) {
             return false;
         }
-        times[event] = time;
-        self.mark_heads(net, constraints, ranks, event, steps);
+        let out_of = net.out_row(event, steps);
+        watcher.moves(net, constraints, times, event, time, into, out_of);
+        times.set(event, time);
+        self.mark_heads(net, constraints, ranks, event, out_of);
         true
     }
 
-    /// Marks the heads of the held activities out of an event.
-    fn mark_heads<L: Ledger>(
+    /// Marks the heads of the held activities out of an event, whose row this is.
+    fn mark_heads(
         &mut self,
         net: &Network,
         constraints: &Constraints,
         ranks: &[usize],
         event: usize,
-        steps: &mut Steps<L>,
+        out_of: &[usize],
     )
         requires sized { IsSizedFor net.now constraints.now }
         requires is_event { event < length net.now.events }
+        requires row { out_of.now ≡ places_out_of net.now event }
         requires as_many_ranks { length ranks.now ≡ length net.now.events }
         requires ranks { (e : ℕ) → e < length net.now.events → slice_index ranks.now e < length self.old }
-        ensures marks { MarksHeads (arcs_given net.now constraints.now) ranks.now event self.old self.new }
-        ensures counted { steps.new ≡ steps.old + 1 }
+        ensures { MarksHeads (arcs_given net.now constraints.now) ranks.now event self.old self.new }
     {
         net.sound();
-        for a in net.out_row(event, steps) {
+        let _event = event;
+        for a in out_of {
             if constraints.is_held(*a) {
                 self.mark_head(net, ranks, *a);
             }

@@ -10,7 +10,7 @@ use std::marker::Model;
 /// The time of each event, by place, in seconds. Every time is below 2^38.
 #[derive(Debug, Drop)]
 pub struct Times {
-    pub(crate) seconds: Vec<Secs>,
+    seconds: Vec<Secs>,
 }
 
 impl Model for Times {

@@ -11,10 +11,10 @@ use Rattle.dm_settle.specs.Settling.{IsSettled, MayMove, MarksUnsettled, State, 
 abbrev pub latest : ℕ → ℕ
 latest n = PASSED_TIME + n * (BOUND + DELAY)
 
--- the tails of the arcs that bind into the event are below the limit of all times
+-- the tails of the arcs that bind into the event are so early that the event is below the limit of all times
 abbrev pub TailsAreEarly : Graph → List ℕ → ℕ → Type 0
 TailsAreEarly g times e =
-    (a : ℕ) → Binds g.shape a → g.shape.head a ≡ e → slice_index times (g.shape.tail a) < 2 ^ 38
+    (a : ℕ) → Binds g.shape a → g.shape.head a ≡ e → slice_index times (g.shape.tail a) + (BOUND + DELAY) < 2 ^ 38
 
 -- the time when the head of an arc can be
 abbrev pub time_along : Graph → List ℕ → ℕ → ℕ

@@ -3,4 +3,4 @@ use Rattle.dm_settle.specs.Inside.Pass.{HasJoined}
 use Rattle.dm_settle.proofs.time.time_of.Given as goal
 
 abbrev pub invariant-loop-a : goal.invariant-loop-a
-invariant-loop-a g l = HasJoined (graph_given l.net l.constraints) l.times l.event l.a-items l.a-index l.time
+invariant-loop-a l = HasJoined (graph_given l.net l.constraints) l.times l.event l.into l.a-index l.time

@@ -7,37 +7,37 @@ use Rattle.dm_settle.proofs.marks.Marks.mark_heads.Goals as goal
 use Rattle.dm_settle.proofs.marks.Marks.mark_heads.Goals.{then-is_held, else-is_held}
 
 pub is_held-requires : goal.is_held-requires
-is_held-requires g c =
-    let leads = leads_out c.args.net.now c.args.event c.loop-a.a-index c.out_row-a-items.result.now c.out_row-a-items.ensures.places (omega arith) in
+is_held-requires c =
+    let leads = leads_out c.args.net.now c.args.event c.loop-a.a-index c.args.out_of.now c.requires.row (omega arith) in
     let is_activity = leads.is_activity in
     let sized = c.requires.sized.held in
     omega arith
 
 pub mark_head-requires-clause-is_activity : goal.mark_head-requires-clause-is_activity
-mark_head-requires-clause-is_activity g c =
-    (leads_out c.args.net.now c.args.event c.loop-a.a-index c.out_row-a-items.result.now c.out_row-a-items.ensures.places (omega arith)).is_activity
+mark_head-requires-clause-is_activity c =
+    (leads_out c.args.net.now c.args.event c.loop-a.a-index c.args.out_of.now c.requires.row (omega arith)).is_activity
 
 pub loop-a-preserved : goal.loop-a-preserved
-loop-a-preserved g c =
+loop-a-preserved c =
     let marked : List Bool → Type 0 =
-    λ now. HasMarked (arcs_given c.args.net.now c.args.constraints.now) c.args.ranks.now c.args.event c.out_row-a-items.result.now (c.loop-a.a-index + 1) c.args.self.now now in
+    λ now. HasMarked (arcs_given c.args.net.now c.args.constraints.now) c.args.ranks.now c.args.event c.args.out_of.now (c.loop-a.a-index + 1) c.args.self.now now in
     elim c.if-is_held.branch [
       | then-is_held w ↦
           let known = c.sound.ensures.network.formed.ends_are_known in
-          let leads = leads_out c.args.net.now c.args.event c.loop-a.a-index c.out_row-a-items.result.now c.out_row-a-items.ensures.places (omega arith) in
+          let leads = leads_out c.args.net.now c.args.event c.loop-a.a-index c.args.out_of.now c.requires.row (omega arith) in
           let head = known.heads _ leads.is_activity in
           let place = c.requires.ranks _ head in
           let same = c.loop-a.invariant.as_many in
           subst marked (sym (w.self-is ∙ w.mark_head.ensures))
-          (marked_with c.args.net.now (is_held c.args.constraints.now.held) c.args.ranks.now c.args.event c.out_row-a-items.result.now c.loop-a.a-index c.args.self.now c.loop-a.self
-          c.loop-a.invariant known c.out_row-a-items.ensures.places (omega arith) (sym c.is_held.ensures ∙ w.if-is_held.true) (omega arith))
+          (marked_with c.args.net.now (is_held c.args.constraints.now.held) c.args.ranks.now c.args.event c.args.out_of.now c.loop-a.a-index c.args.self.now c.loop-a.self
+          c.loop-a.invariant known c.requires.row (omega arith) (sym c.is_held.ensures ∙ w.if-is_held.true) (omega arith))
       | else-is_held w ↦
           subst marked (sym w.self-is)
-          (marked_without c.args.net.now (is_held c.args.constraints.now.held) c.args.ranks.now c.args.event c.out_row-a-items.result.now c.loop-a.a-index c.args.self.now c.loop-a.self
+          (marked_without c.args.net.now (is_held c.args.constraints.now.held) c.args.ranks.now c.args.event c.args.out_of.now c.loop-a.a-index c.args.self.now c.loop-a.self
           c.loop-a.invariant (sym c.is_held.ensures ∙ w.if-is_held.false))
     ]
 
-pub returns-clause-marks : goal.returns-clause-marks
-returns-clause-marks g c =
-    marked_whole c.args.net.now (is_held c.args.constraints.now.held) c.args.ranks.now c.args.event c.out_row-a-items.result.now c.loop-a.a-index c.args.self.now c.loop-a.self
-    c.loop-a.invariant c.out_row-a-items.ensures.places (omega arith)
+pub returns : goal.returns
+returns c =
+    marked_whole c.args.net.now (is_held c.args.constraints.now.held) c.args.ranks.now c.args.event c.args.out_of.now c.loop-a.a-index c.args.self.now c.loop-a.self
+    c.loop-a.invariant c.requires.row (omega arith)

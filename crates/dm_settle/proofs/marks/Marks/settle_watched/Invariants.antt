@@ -1,0 +1,15 @@
+use Rattle.std.proofs.Common.{◌≡◌, ◌-◌, length}
+use Rattle.dm_settle.specs.Constraints.{arcs_given, graph_given}
+use Rattle.dm_settle.specs.Inside.Pass.{IsPassing, HasRead}
+use Rattle.dm_settle.proofs.marks.Marks.settle_watched.Given as goal
+
+abbrev pub invariant-loop-next : goal.invariant-loop-next
+invariant-loop-next g l = record {
+  passing : IsPassing (graph_given l.net l.constraints) l.ranks l.initial.self l.self l.times l.place;
+  read : HasRead (arcs_given l.net l.constraints) l.ranks (record { marks = l.initial.self; times = l.initial.times; steps = l.initial.steps }) (record { marks = l.self; times = l.times; steps = l.steps }) l.place;
+  knows : g.W.Watcher.knows l.watcher l.net l.constraints l.times;
+  flags : g.W.Watcher.flags l.watcher ≡ g.W.Watcher.flags l.initial.watcher;
+}
+
+abbrev pub decreases-loop-next : goal.decreases-loop-next
+decreases-loop-next g l = length l.order - l.place
