@@ -1,5 +1,5 @@
 -- No LF stands in a line in print.
-use Rattle.std.proofs.Common.{◌≡◌, ◌≢◌, ℕ, ◌+◌, ◌^◌, ◌<◌, ◌≤◌, Bool, true, false, cond, eqb, not, List, [], ◌∷◌, ◌++◌, length, All, refl, sym, ap, ◌∙◌, arith, codes, get_or, ◌&&◌}
+use Rattle.std.proofs.Common.{◌≡◌, ◌≢◌, ℕ, ◌^◌, ◌<◌, ◌≤◌, Bool, true, false, cond, eqb, not, List, [], ◌∷◌, ◌++◌, All, refl, sym, ◌∙◌, arith, codes, get_or}
 use Rattle.std.specs.List.{list_all, flat_map}
 use Rattle.std.specs.Fmt.{decimal}
 use Rattle.std.proofs.lemmas.Bool.{eq-eqb, ne_eqb}
@@ -8,7 +8,6 @@ use Rattle.std.proofs.lemmas.List.Folds.{list_all-append}
 use Rattle.std.proofs.lemmas.List.Elements.{All-head, All-tail}
 use Rattle.dm_base.proofs.Decimals.{IsDigits-decimal}
 use Rattle.dm_text.specs.Places.{HasNoLineFeed}
-use Rattle.dm_rows.specs.declared.messages.Choice.{Choice}
 use Rattle.dm_rows.specs.declared.messages.Choice.TheVariants.{Change, Pair}
 use Rattle.dm_rows.specs.declared.messages.Decision.{Decision}
 use Rattle.dm_rows.specs.declared.messages.Decision.TheVariants.{Keep, Drop, First}
@@ -21,7 +20,7 @@ use Rattle.dm_feed.specs.Parts.{id}
 use Rattle.dm_cert.specs.declared.plan_lines.Heading.{Heading}
 use Rattle.dm_cert.specs.PlanTexts.{mark_text, FitsDecision, FitsNode, largest_cost}
 use Rattle.dm_cert.specs.PlansRead.{IsSpelledLeaf, IsSpelledNode, size_words}
-use Rattle.dm_cert.proofs.HeadingsRead.{front_text, costs_text}
+use Rattle.dm_cert.proofs.HeadingsRead.{front_text}
 use Rattle.dm_cert.proofs.NodesRead.{node_words}
 use Rattle.dm_cert.proofs.PathsRead.{words}
 

@@ -1,14 +1,13 @@
 -- Where a plan's text stands, the plan is told, and nothing else is.
-use Rattle.std.proofs.Common.{◌≡◌, ℕ, zero, suc, ◌+◌, ◌-◌, ◌<◌, ◌≤◌, Bool, true, false, cond, eqb, List, [], ◌∷◌, ◌++◌, length, Option, Some, None, Result, Ok, Err, All, refl, sym, ap, subst, ◌∙◌, ◌⊎◌, inl, inr, arith, append_assoc, append-nil, length-append, codes, drop}
+use Rattle.std.proofs.Common.{◌≡◌, ℕ, zero, suc, ◌+◌, ◌≤◌, Bool, true, false, cond, eqb, List, [], ◌∷◌, ◌++◌, length, Option, Some, Result, Ok, Err, All, refl, sym, ap, subst, ◌∙◌, ◌⊎◌, inl, inr, arith, append_assoc, append-nil, length-append, codes, drop}
 use Rattle.std.proofs.Math.Seq.{drop-append_seam}
 use Rattle.std.specs.Prelude.{MatchBool}
 use Rattle.std.specs.List.{flat_map}
 use Rattle.std.specs.Fmt.{decimal}
 use Rattle.std.proofs.lemmas.List.{append_cancel_right}
 use Rattle.std.proofs.lemmas.List.Elements.{All-nil, All-cons, All-head, All-tail, All-append}
-use Rattle.dm_base.specs.declared.limits.TheConstants.{TEXT}
-use Rattle.dm_text.specs.Places.{Place, IsLineAt, HasNoLineFeed, at_start}
-use Rattle.dm_text.specs.Judging.{Line, Times, Then, Finds, Gives, GoesOn, SpellsValue, IsSingle}
+use Rattle.dm_text.specs.Places.{Place, HasNoLineFeed, at_start}
+use Rattle.dm_text.specs.Judging.{Line, Times, Then, Finds, Gives, SpellsValue, IsSingle}
 use Rattle.dm_text.proofs.Judged.{line_one, then_one, times_one, finds_one, gives_one, SpellOne}
 use Rattle.dm_rows.specs.declared.messages.Choice.{Choice}
 use Rattle.dm_rows.specs.declared.messages.Choice.TheVariants.{Change, Pair}
@@ -18,16 +17,15 @@ use Rattle.dm_tree.specs.declared.forms.Node.{Node}
 use Rattle.dm_tree.specs.declared.forms.Node.TheVariants.{Inner, Cycle, Bound, Open, Hole}
 use Rattle.dm_tree.specs.declared.forms.Leaf.{Leaf}
 use Rattle.dm_tree.specs.declared.plans.Plan.{Plan}
-use Rattle.dm_tree.specs.Trees.{IsTree, IsOrdered, first_decision, second_decision}
-use Rattle.dm_tree.specs.Inside.Filling.{is_ordered}
+use Rattle.dm_tree.specs.Trees.{IsTree, first_decision, second_decision}
 use Rattle.dm_tree.proofs.Filled.{ordered_from}
 use Rattle.dm_feed.specs.declared.vocabulary.Word.TheVariants as named
-use Rattle.dm_feed.specs.Parts.{largest_id, Fits, id, word}
+use Rattle.dm_feed.specs.Parts.{Fits, id, word}
 use Rattle.dm_feed.specs.Lines.{spelling_of_decision}
 use Rattle.dm_cert.specs.declared.faults.CertFault.{CertFault}
 use Rattle.dm_cert.specs.declared.plan_lines.Heading.{Heading}
-use Rattle.dm_cert.specs.PlanTexts.{line_end, choice_text, leaf_text, node_text, leaves_at, leaves_in, size_text, tree_text, plan_heading, spelling_of_plan, FitsDecision, FitsNode, FitsPlan, largest_cost}
-use Rattle.dm_cert.specs.PlansRead.{IsHeadingLine, IsChoiceLine, IsLeafLine, IsNodeLine, IsSpelledLeaf, IsSpelledNode, heading_text, size_words, cut_line, misshapen_line, want_of_memory, no_tree, plan_of, TellsHeading, TellsChoices, TellsLeaves, TellsNodes, TellsTree, TellsPlan, ShowsLeaves, ShowsNodes, BeginsWithPlan, ReadsText, ReadsPlan}
+use Rattle.dm_cert.specs.PlanTexts.{line_end, choice_text, leaf_text, node_text, leaves_at, leaves_in, tree_text, plan_heading, spelling_of_plan, FitsDecision, FitsNode, FitsPlan, largest_cost}
+use Rattle.dm_cert.specs.PlansRead.{IsHeadingLine, IsChoiceLine, IsLeafLine, IsNodeLine, IsSpelledLeaf, IsSpelledNode, heading_text, cut_line, misshapen_line, want_of_memory, no_tree, plan_of, TellsHeading, TellsChoices, TellsLeaves, TellsNodes, TellsTree, TellsPlan, ShowsLeaves, ShowsNodes, BeginsWithPlan, ReadsPlan}
 use Rattle.dm_cert.specs.PlanLaws.{IsHeld, PlansHaveOwnTexts}
 use Rattle.dm_cert.specs.Inside.Growing.{FillsDue, IsFirstLeaf}
 use Rattle.dm_cert.proofs.DecisionsRead.{Reads, reads_choice, choice_spelled, decision_back}
@@ -39,7 +37,7 @@ use Rattle.dm_cert.specs.Inside.PlanLines.{decision_in, choice_in, heading_in, n
 use Rattle.dm_cert.proofs.Grown.{first_lies, asks, AsksChoice, AsksLeaf, longer, same_first, choice_is}
 use Rattle.dm_cert.proofs.LeavesFill.{fills_from, leaf_same}
 use Rattle.dm_cert.proofs.ToldTexts.{heading_same}
-use Rattle.dm_cert.proofs.LineFeeds.{NoFeed, has_no_feed, choice_no_feed, heading_no_feed, leaf_no_feed, node_no_feed, path_no_feed}
+use Rattle.dm_cert.proofs.LineFeeds.{has_no_feed, choice_no_feed, heading_no_feed, leaf_no_feed, node_no_feed, path_no_feed}
 
 -- ---- lines are told where they stand
 
@@ -269,7 +267,7 @@ plan_stands version plan place rest fits counted left =
     let chosen = times_stand IsChoiceLine choice_text [] plan.choices first_place (tree ++ rest) (all_choices plan.choices fits.choices) refl in
     let grown = tree_stands (eqb version 1) plan.tree chosen.next rest fits.is_tree fits.nodes chosen.left in
     let line = line_stands (IsHeadingLine version) (heading_text version) h place (list ++ (tree ++ rest))
-        (heading_line version h fits.cost fits.bound counted.choices counted.size) (at ∙ ap (λ xs. xs ++ (list ++ (tree ++ rest))) same) in
+    (heading_line version h fits.cost fits.bound counted.choices counted.size) (at ∙ ap (λ xs. xs ++ (list ++ (tree ++ rest))) same) in
     record {
       next = grown.next;
       left = grown.left;
@@ -384,8 +382,8 @@ plan_single version entry =
     then_one (TellsHeading version) (λ h. Then (TellsChoices h.choices) (λ choices. Then (TellsTree version h.size) (λ nodes. Gives (plan_of entry h choices nodes))))
     (line_one cut_line misshapen_line (IsHeadingLine version) (reads_one (IsHeadingLine version) (heading_in version) (reads_heading version)))
     (λ h. then_one (TellsChoices h.choices) (λ choices. Then (TellsTree version h.size) (λ nodes. Gives (plan_of entry h choices nodes)))
-        (times_one (λ before. Line cut_line misshapen_line IsChoiceLine) (λ before. line_one cut_line misshapen_line IsChoiceLine (reads_one IsChoiceLine choice_in reads_choice)) h.choices [])
-        (λ choices. then_one (TellsTree version h.size) (λ nodes. Gives (plan_of entry h choices nodes)) (tree_single_at (eqb version 1) h.size) (λ nodes. gives_one (plan_of entry h choices nodes))))
+    (times_one (λ before. Line cut_line misshapen_line IsChoiceLine) (λ before. line_one cut_line misshapen_line IsChoiceLine (reads_one IsChoiceLine choice_in reads_choice)) h.choices [])
+    (λ choices. then_one (TellsTree version h.size) (λ nodes. Gives (plan_of entry h choices nodes)) (tree_single_at (eqb version 1) h.size) (λ nodes. gives_one (plan_of entry h choices nodes))))
 
 -- ---- what is answered of bytes that begin with a plan's text
 
