@@ -3,7 +3,7 @@ use Rattle.dm_live.specs.Live.{LiveValue}
 use Rattle.dm_settle.specs.Constraints.{ConstraintsValue}
 use Rattle.dm_propagate.specs.Engine.{FollowsRows}
 use Rattle.dm_propagate.proofs.Following.{follows_least}
-use Rattle.dm_propagate.proofs.sweeping.come_back.Goals as goal
+use Rattle.dm_propagate.proofs.moving.come_back.Goals as goal
 
 pub returns-clause-least : goal.returns-clause-least
 returns-clause-least g c =
