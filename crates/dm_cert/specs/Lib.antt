@@ -4,8 +4,12 @@ pub mod Answers
 pub mod Logs
 pub mod CoreRun
 pub mod PlanTexts
+pub mod PlansRead
+pub mod PlanLaws
 pub mod RunTexts
 pub mod Runs
 -- What follows from that, and what it gives on a small network.
 pub mod Laws
 pub mod Worked
+-- How lines are read: checked, and not to be believed.
+pub mod Inside

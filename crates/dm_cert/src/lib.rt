@@ -6,11 +6,18 @@
 //! answers the items of feeds in some order: true logs are exactly what it reaches ([`laws`]).
 #![tactic(auto)]
 
+mod faults;
+mod growth;
 pub mod laws;
+mod leaf_lines;
 mod notes;
+mod plan_lines;
+mod plan_reading;
 mod plan_text;
 mod replies;
 
+pub use faults::{CertFault, CertKind};
 pub use notes::Note;
+pub use plan_reading::read_plan;
 pub use plan_text::{print_plan, put_plan};
 pub use replies::{FeedLog, LogItem, Reply};

@@ -6,10 +6,14 @@
 //! takes no memory.
 #![tactic(auto)]
 
+mod changing;
 mod engine;
+mod held;
 pub mod laws;
+mod moving;
 mod setting;
 mod starting;
 mod sweeping;
+mod turning;
 
 pub use engine::Engine;

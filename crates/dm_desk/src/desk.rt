@@ -1,0 +1,32 @@
+//! What answers messages and questions.
+
+ghost use Rattle.dm_desk.specs.Desks.{Posts, TellsTime, TellsCost, TellsLength};
+
+use dm_base::{Cost, EventId, Secs};
+use dm_rows::{At, Entry, Refusal};
+
+/// What enters messages into a history and answers questions about it. Each call may first come to see more of the history,
+/// which others have entered; its answer is then that of one dispatcher's table at the history that is seen.
+pub trait Desk {
+    ghost use Rattle.dm_desk.specs.Desks.{DeskValue};
+
+    /// The network, start rows and penalty, the history that was seen, and which of its entries were entered here.
+    ghost value: { Self → DeskValue };
+
+    /// Enters a message, and answers its number. A refusal is the first that applies at the history that is seen, or want of
+    /// memory, and nothing is entered then.
+    fn post(&mut self, entry: Entry) -> Result<u32, At<Refusal>>
+        ensures { Posts (value self.old) (value self.new) entry result };
+
+    /// The time of an event in seconds, and at how many entries, or that there is no such event.
+    fn time(&mut self, event: EventId) -> Result<(Secs, u32), At<Refusal>>
+        ensures { TellsTime (value self.old) (value self.new) event result };
+
+    /// The cost in thousandths of passenger seconds, and at how many entries.
+    fn cost(&mut self) -> (Cost, u32)
+        ensures { TellsCost (value self.old) (value self.new) result };
+
+    /// How many entries there are.
+    fn length(&mut self) -> u32
+        ensures { TellsLength (value self.old) (value self.new) result };
+}

@@ -1,0 +1,283 @@
+-- The changes of one board.
+use Rattle.std.proofs.Common.{◌≡◌, ℕ, zero, suc, ◌+◌, ◌<◌, ◌≤◌, Bool, true, false, cond, eqb, List, [], ◌∷◌, ◌++◌, length, Option, Some, None, Result, Ok, Err, refl, sym, ap, subst, ◌∙◌, inl, inr, arith, length-append, slice_index}
+use Rattle.std.specs.Prelude.{All, IfSome, IsSome, OnOk, ◌==◌, unwrap_or, if◌then◌else◌}
+use Rattle.std.proofs.lemmas.Bool.{cases_lt, cases_eq, eqb-true, eq-eqb, ne_eqb}
+use Rattle.std.proofs.lemmas.List.Elements.{All-push}
+use Rattle.std.proofs.lemmas.List.Sums.{length-filter, count_by-le-length}
+use Rattle.std.proofs.lemmas.List.FromFn.{length-range_with_len}
+use Rattle.std.specs.List.{range_with_len}
+use Rattle.dm_base.specs.declared.ids.StopId.{StopId}
+use Rattle.dm_graph.proofs.Windows.{kept_at, StandsAt, stands_in}
+use Rattle.dm_network.specs.Net.{Net, event_at, event_place, no_event, places_at}
+use Rattle.dm_network.specs.Start.{IsNetwork}
+use Rattle.dm_network.proofs.Keys.{key_is_found}
+use Rattle.dm_rows.specs.Timetable.{time_at}
+use Rattle.dm_outside.specs.Board.{times_after, Sets}
+use Rattle.dm_publish.specs.Shown.{IsAtStop, AllStand, ShowsTimes, KeepsOthers, IsSoundFor}
+use Rattle.dm_publish.specs.Inside.Refreshing.{TellsTime, IsDue, Gathers, TakesChanges, Refreshes}
+
+-- ---- the events at a stop
+
+stop_of : ℕ → StopId
+stop_of stop = record { 0 = stop }
+
+-- each place in the row of a stop is that of an event there
+pub at_stop : (net : Net) (stop k : ℕ) (row : List ℕ) → row ≡ places_at net (record { 0 = stop }) → k < length row → IsAtStop net stop (slice_index row k)
+at_stop net stop k row is below =
+    let kept = kept_at (λ i. (event_at net i).stop.0 == stop) 0 (length net.events) k (subst (λ (xs : List ℕ). k < length xs) is below) in
+    let there : IsAtStop net stop (slice_index (places_at net (record { 0 = stop })) k) =
+    record { is_event = let b = kept.below in omega arith; at_stop = eqb-true _ stop kept.passes } in
+    subst (λ (xs : List ℕ). IsAtStop net stop (slice_index xs k)) (sym is) there
+
+-- each event there stands in the row
+stands_there : (net : Net) (stop i : ℕ) → IsAtStop net stop i → StandsAt (places_at net (record { 0 = stop })) i
+stands_there net stop i at =
+    let b = at.is_event in
+    stands_in (λ j. (event_at net j).stop.0 == stop) 0 (length net.events) i (eq-eqb _ stop at.at_stop) (omega arith) (omega arith)
+
+pub row_is_short : (net : Net) (stop : ℕ) (row : List ℕ) → row ≡ places_at net (record { 0 = stop }) → length row ≤ length net.events
+row_is_short net stop row is =
+    let p : ℕ → Bool = λ i. (event_at net i).stop.0 == stop in
+    let a = length-filter p (range_with_len 0 (length net.events)) in
+    let b = count_by-le-length p (range_with_len 0 (length net.events)) in
+    let c = length-range_with_len 0 (length net.events) in
+    let d = ap length is in
+    omega arith
+
+-- ---- changes made in turn
+
+after_push : (shown : ℕ → Option ℕ) (changes : List (ℕ × ℕ)) (c : ℕ × ℕ) (e : ℕ) →
+    times_after shown (changes ++ c ∷ []) e ≡ (if e == c.0 then Some c.1 else times_after shown changes e)
+after_push shown [] c e = refl
+after_push shown (b ∷ changes) c e = after_push (λ other. if other == b.0 then Some b.1 else shown other) changes c e
+
+-- all changes give each event its one time
+abbrev GivesTimes : (ℕ → ℕ) → List (ℕ × ℕ) → Type 0
+GivesTimes f changes = All (λ (c : ℕ × ℕ). c.1 ≡ f c.0) changes
+
+given : (e n : ℕ) (t : ℕ) (o : Option ℕ) (r : Option ℕ) → (e ≡ n → Some t ≡ r) → (o ≡ r) → (if e == n then Some t else o) ≡ r
+given e n t o r same other =
+    elim (eqb e n) as (λ b. eqb e n ≡ b → cond b (Some t) o ≡ r) [ true ↦ λ q. same (eqb-true e n q) | false ↦ λ q. other ] refl
+
+-- what stands with its time still does after them
+stays : (f : ℕ → ℕ) (changes : List (ℕ × ℕ)) (shown : ℕ → Option ℕ) (e : ℕ) → GivesTimes f changes → shown e ≡ Some (f e) →
+    times_after shown changes e ≡ Some (f e)
+stays f [] shown e h is = is
+stays f (c ∷ changes) shown e h is =
+    stays f changes (λ other. if other == c.0 then Some c.1 else shown other) e (λ k d lt. h (suc k) d (omega arith))
+    (given e c.0 c.1 (shown e) (Some (f e)) (λ same. ap Some (h zero c (omega arith) ∙ ap f (sym same))) is)
+
+-- what no change names stands as before
+not_named : (changes : List (ℕ × ℕ)) (shown : ℕ → Option ℕ) (e : ℕ) → All (λ (c : ℕ × ℕ). e ≡ c.0 → ⊥) changes →
+    times_after shown changes e ≡ shown e
+not_named [] shown e h = refl
+not_named (c ∷ changes) shown e h =
+    not_named changes (λ other. if other == c.0 then Some c.1 else shown other) e (λ k d lt. h (suc k) d (omega arith))
+    ∙ given e c.0 c.1 (shown e) (shown e) (λ same. absurd (h zero c (omega arith) same)) refl
+
+module _ (net : Net) (x : List ℕ) (network : IsNetwork net) where
+  -- the time of the event with this id
+  time_named : ℕ → ℕ
+  time_named e = time_at x (unwrap_or (event_place net (record { 0 = e })) 0)
+
+  event_found : (i : ℕ) → i < length net.events → event_place net (event_at net i).id ≡ Some i
+  event_found i below =
+      key_is_found (λ (v : _). v.id.0) net.events network.formed.events_ascend (event_at net i).id.0 i no_event below refl
+
+  time_of : (i : ℕ) → i < length net.events → time_named (event_at net i).id.0 ≡ time_at x i
+  unfolding time_named
+  time_of i below = ap (λ (o : Option ℕ). time_at x (unwrap_or o 0)) (event_found i below)
+
+  module _ (stop : ℕ) where
+    due_times : (changes : List (ℕ × ℕ)) → All (IsDue net x stop) changes → GivesTimes time_named changes
+    due_times changes h k d lt =
+        let due = h k d lt in
+        due.time ∙ (sym (time_of due.place due.at_stop.is_event) ∙ ap time_named (sym due.event))
+
+    -- nothing is gathered yet
+    pub gathered_none : (told : Option (ℕ → Option ℕ)) (places : List ℕ) (changes : List (ℕ × ℕ)) → changes ≡ [] → Gathers net x stop told places 0 changes
+    gathered_none told places changes empty =
+        let l : length changes ≡ 0 = ap length empty in
+        record {
+          due = λ k d lt. absurd (omega arith);
+          shows = no_shows told;
+          none = no_none told;
+          few = omega arith;
+        }
+      where
+        no_shows : (told : Option (ℕ → Option ℕ)) → IfSome told (λ shown. (j : ℕ) → j < 0 →
+            times_after shown changes (event_at net (slice_index places j)).id.0 ≡ Some (time_at x (slice_index places j)))
+        no_shows None = tt
+        no_shows (Some shown) = λ j lt. absurd (omega arith)
+
+        no_none : (told : Option (ℕ → Option ℕ)) → IfSome told (λ shown. AllStand net x stop shown → changes ≡ [])
+        no_none None = tt
+        no_none (Some shown) = λ all. empty
+
+    module _ (places : List ℕ) (row_is : places ≡ places_at net (record { 0 = stop })) (k : ℕ) (below : k < length places) where
+      id_at : ℕ → ℕ
+      id_at j = (event_at net (slice_index places j)).id.0
+
+      at_row : (j : ℕ) → j < length places → IsAtStop net stop (slice_index places j)
+      at_row j lt = at_stop net stop j places row_is lt
+
+      -- an event that stands with its time
+      pub gathered_standing : (told : Option (ℕ → Option ℕ)) (changes : List (ℕ × ℕ)) → Gathers net x stop told places k changes →
+          TellsTime told (event_at net (slice_index places k)).id.0 (time_at x (slice_index places k)) true → Gathers net x stop told places (k + 1) changes
+      gathered_standing None changes g tells = record { due = g.due; shows = tt; none = tt; few = let f = g.few in omega arith }
+      gathered_standing (Some shown) changes g tells =
+          record {
+            due = g.due;
+            shows = λ j lt. elim (cases_lt j k) [
+              | inl before ↦ g.shows j before
+              | inr past ↦
+                  let same : k ≡ j = omega arith in
+                  let time : time_named (event_at net (slice_index places k)).id.0 ≡ time_at x (slice_index places k) = time_of (slice_index places k) (at_row k below).is_event in
+                  let there : times_after shown changes (event_at net (slice_index places k)).id.0 ≡ Some (time_at x (slice_index places k)) =
+                  stays time_named changes shown (event_at net (slice_index places k)).id.0 (due_times changes g.due) (tells ∙ ap Some (sym time)) ∙ ap Some time in
+                  subst (λ (i : ℕ). times_after shown changes (event_at net (slice_index places i)).id.0 ≡ Some (time_at x (slice_index places i))) same there
+            ];
+            none = g.none;
+            few = let f = g.few in omega arith;
+          }
+
+      -- an event that does not
+      pub gathered_change : (told : Option (ℕ → Option ℕ)) (changes : List (ℕ × ℕ)) → Gathers net x stop told places k changes →
+          TellsTime told (event_at net (slice_index places k)).id.0 (time_at x (slice_index places k)) false →
+          Gathers net x stop told places (k + 1) (changes ++ ((event_at net (slice_index places k)).id.0, time_at x (slice_index places k)) ∷ [])
+      gathered_change told changes g tells =
+          let c : ℕ × ℕ = ((event_at net (slice_index places k)).id.0, time_at x (slice_index places k)) in
+          record {
+            due = All-push (IsDue net x stop) changes c g.due (record { place = slice_index places k; at_stop = at_row k below; event = refl; time = refl });
+            shows = all_show told g.shows;
+            none = not_all told tells;
+            few = let f = g.few in let l = length-append changes (c ∷ []) in omega arith;
+          }
+        where
+          all_show : (told : Option (ℕ → Option ℕ)) →
+              IfSome told (λ shown. (j : ℕ) → j < k → times_after shown changes (event_at net (slice_index places j)).id.0 ≡ Some (time_at x (slice_index places j))) →
+              IfSome told (λ shown. (j : ℕ) → j < k + 1 →
+              times_after shown (changes ++ ((event_at net (slice_index places k)).id.0, time_at x (slice_index places k)) ∷ []) (event_at net (slice_index places j)).id.0 ≡ Some (time_at x (slice_index places j)))
+          all_show None h = tt
+          all_show (Some shown) h = λ j lt.
+              let c : ℕ × ℕ = ((event_at net (slice_index places k)).id.0, time_at x (slice_index places k)) in
+              let e : ℕ = (event_at net (slice_index places j)).id.0 in
+              let in_row : j < length places = omega arith in
+              let time_k : time_named c.0 ≡ c.1 = time_of (slice_index places k) (at_row k below).is_event in
+              let time_j : time_named e ≡ time_at x (slice_index places j) = time_of (slice_index places j) (at_row j in_row).is_event in
+              after_push shown changes c e ∙ elim (cases_eq e c.0) [
+                | inl same ↦ rw (eq-eqb e c.0 same) (ap Some (sym time_k ∙ (ap time_named (sym same) ∙ time_j)))
+                | inr ne ↦ rw (ne_eqb e c.0 ne) (h j (earlier j lt ne))
+              ]
+            where
+              earlier : (j : ℕ) → j < k + 1 → ((event_at net (slice_index places j)).id.0 ≡ (event_at net (slice_index places k)).id.0 → ⊥) → j < k
+              earlier j lt ne = elim (cases_lt j k) [
+                | inl before ↦ before
+                | inr past ↦ let same : j ≡ k = omega arith in absurd (ne (ap (λ (i : ℕ). (event_at net (slice_index places i)).id.0) same))
+              ]
+
+          not_all : (told : Option (ℕ → Option ℕ)) → TellsTime told (event_at net (slice_index places k)).id.0 (time_at x (slice_index places k)) false →
+              IfSome told (λ shown. AllStand net x stop shown → changes ++ ((event_at net (slice_index places k)).id.0, time_at x (slice_index places k)) ∷ [] ≡ [])
+          not_all None t = tt
+          not_all (Some shown) t = λ all. absurd (t (all (slice_index places k) (at_row k below)))
+
+    -- one event more, with the changes that stand after it
+    pub gathered_next : (told : Option (ℕ → Option ℕ)) (places : List ℕ) (row_is : places ≡ places_at net (record { 0 = stop })) (k : ℕ) (below : k < length places)
+        (changes : List (ℕ × ℕ)) (e t : ℕ) → Gathers net x stop told places k changes →
+        e ≡ (event_at net (slice_index places k)).id.0 → t ≡ time_at x (slice_index places k) →
+        (answer : Bool) → TellsTime told e t answer → (after : List (ℕ × ℕ)) → after ≡ (if answer then changes else changes ++ (e, t) ∷ []) →
+        Gathers net x stop told places (k + 1) after
+    gathered_next told places row_is k below changes e t g e-is t-is answer tells after is =
+        rw is (elim answer as (λ (b : Bool). TellsTime told e t b → Gathers net x stop told places (k + 1) (if b then changes else changes ++ (e, t) ∷ [])) [
+          | true ↦ λ h. gathered_standing places row_is k below told changes g
+              (subst (λ (u : ℕ). TellsTime told (event_at net (slice_index places k)).id.0 u true) t-is (subst (λ (v : ℕ). TellsTime told v t true) e-is h))
+          | false ↦ λ h. rw (e-is, t-is) (gathered_change places row_is k below told changes g
+              (subst (λ (u : ℕ). TellsTime told (event_at net (slice_index places k)).id.0 u false) t-is (subst (λ (v : ℕ). TellsTime told v t false) e-is h)))
+        ] tells)
+
+    module _ (changes : List (ℕ × ℕ)) where
+      -- with all that was gathered, each event at the stop has its time
+      all_stand : (shown : ℕ → Option ℕ) → Gathers net x stop (Some shown) (places_at net (record { 0 = stop })) (length (places_at net (record { 0 = stop }))) changes →
+          AllStand net x stop (times_after shown changes)
+      all_stand shown g i at =
+          let there = stands_there net stop i at in
+          subst (λ (v : ℕ). times_after shown changes (event_at net v).id.0 ≡ Some (time_at x v)) there.is (g.shows there.place there.within)
+
+      others_stand : (shown : ℕ → Option ℕ) → All (IsDue net x stop) changes → (event : ℕ) →
+          ((i : ℕ) → IsAtStop net stop i → (event_at net i).id.0 ≡ event → ⊥) → times_after shown changes event ≡ shown event
+      others_stand shown due event none =
+          not_named changes shown event (λ k d lt same. let h = due k d lt in none h.place h.at_stop (sym h.event ∙ sym same))
+
+      all_sound : (is_sound : ℕ → Type 0) → All (IsDue net x stop) changes → IsSoundFor net stop is_sound → All (λ (c : ℕ × ℕ). is_sound c.0) changes
+      all_sound is_sound due sound k d lt = let h = due k d lt in subst is_sound (sym h.event) (sound h.place h.at_stop)
+
+      abbrev AllGathered : Option (ℕ → Option ℕ) → Type 0
+      AllGathered told = Gathers net x stop told (places_at net (record { 0 = stop })) (length (places_at net (record { 0 = stop }))) changes
+
+      shows_by_sets : (told now : Option (ℕ → Option ℕ)) → AllGathered told → Sets told now changes → IsSome told → ShowsTimes net x stop now
+      shows_by_sets None now g sets some = absurd (let e : IsSome {T = ℕ → Option ℕ} None = some in cc)
+      shows_by_sets (Some shown) None g sets some = absurd sets
+      shows_by_sets (Some shown) (Some after) g sets some = λ i at. sets (event_at net i).id.0 ∙ all_stand shown g i at
+
+      others_by_sets : (told now : Option (ℕ → Option ℕ)) → AllGathered told → Sets told now changes → KeepsOthers net stop told now
+      others_by_sets None now g sets = tt
+      others_by_sets (Some shown) None g sets = sets
+      others_by_sets (Some shown) (Some after) g sets = λ event none. sets event ∙ others_stand shown g.due event none
+
+      -- where there is nothing to show the board shows the times already
+      quiet_sets : (told : Option (ℕ → Option ℕ)) → changes ≡ [] → Sets told told changes
+      quiet_sets None empty = tt
+      quiet_sets (Some shown) empty = λ event. sym (ap (λ (cs : List (ℕ × ℕ)). times_after shown cs event) empty)
+
+      -- a board that is called has something to show
+      not_quiet : (A : Type 0) (told : Option (ℕ → Option ℕ)) → AllGathered told → (changes ≡ [] → ⊥) → IfSome told (λ shown. AllStand net x stop shown → A)
+      not_quiet A None g some = tt
+      not_quiet A (Some shown) g some = λ all. absurd (some (g.none all))
+
+-- all events of the row are looked at
+pub gathered_all : (net : Net) (x : List ℕ) (stop : ℕ) (told : Option (ℕ → Option ℕ)) (places : List ℕ) → places ≡ places_at net (record { 0 = stop }) →
+    (k : ℕ) → k ≡ length places → (changes : List (ℕ × ℕ)) → Gathers net x stop told places k changes →
+    Gathers net x stop told (places_at net (record { 0 = stop })) (length (places_at net (record { 0 = stop }))) changes
+gathered_all net x stop told places row k over changes g =
+    subst (λ (row : List ℕ). Gathers net x stop told row (length row) changes) row (subst (λ (n : ℕ). Gathers net x stop told places n changes) over g)
+
+-- ---- the board
+
+on_ok : {T E P Q : Type 0} (result : Result T E) → (P → Q) → OnOk result P → OnOk result Q
+on_ok (Ok t) f h = f h
+on_ok (Err e) f h = h
+
+module _ {B : Type 0} (place : B → ℕ) (times : B → Option (ℕ → Option ℕ)) (faults : B → ℕ) (is_sound : B → ℕ → Type 0)
+    (net : Net) (x : List ℕ) (network : IsNetwork net) (before : B) (changes : List (ℕ × ℕ))
+    (g : Gathers net x (place before) (times before) (places_at net (record { 0 = place before })) (length (places_at net (record { 0 = place before }))) changes) where
+  same_quiet : (told : Option (ℕ → Option ℕ)) → IfSome told (λ shown. AllStand net x (place before) shown → before ≡ before)
+  same_quiet None = tt
+  same_quiet (Some shown) = λ all. refl
+
+  pub refreshed_quietly : {T E : Type 0} → changes ≡ [] → (t : T) → Refreshes {E = E} place times faults is_sound net x before before (Ok t)
+  refreshed_quietly empty t =
+      record {
+        same_stop = refl;
+        later = omega arith;
+        stays_sound = λ h. h;
+        succeeds = λ h. refl;
+        risen = tt;
+        shows = shows_by_sets net x network (place before) changes (times before) (times before) g (quiet_sets net x network (place before) changes (times before) empty);
+        others = others_by_sets net x network (place before) changes (times before) (times before) g (quiet_sets net x network (place before) changes (times before) empty);
+        quiet = same_quiet (times before);
+      }
+
+  pub refreshed_by_show : {T E : Type 0} (now : B) (result : Result T E) → (changes ≡ [] → ⊥) →
+      TakesChanges place times faults is_sound before now changes result → Refreshes place times faults is_sound net x before now result
+  refreshed_by_show now result some takes =
+      record {
+        same_stop = takes.same_stop;
+        later = takes.cause.later;
+        stays_sound = λ h i at. let here : IsAtStop net (place before) i = subst (λ (s : ℕ). IsAtStop net s i) takes.same_stop at in
+            takes.stays_sound (all_sound net x network (place before) changes (is_sound before) g.due h) (event_at net i).id.0 (h i here);
+        succeeds = λ h. takes.sound (all_sound net x network (place before) changes (is_sound before) g.due h);
+        risen = takes.cause.failed;
+        shows = on_ok result (shows_by_sets net x network (place before) changes (times before) (times now) g) takes.sets;
+        others = on_ok result (others_by_sets net x network (place before) changes (times before) (times now) g) takes.sets;
+        quiet = not_quiet net x network (place before) changes (now ≡ before) (times before) g some;
+      }

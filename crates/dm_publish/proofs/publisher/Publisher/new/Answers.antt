@@ -1,0 +1,9 @@
+use Rattle.std.proofs.Common.{arith}
+use Rattle.dm_publish.proofs.Notes.{no_notes}
+use Rattle.dm_publish.proofs.publisher.Publisher.new.Goals as goal
+
+pub invariant_of-result : goal.invariant_of-result
+invariant_of-result c =
+    let notes = c.in_ok-with_capacity.ensures.capacity in
+    let changes = c.in_ok-with_capacity-2.ensures.capacity in
+    (c.requires, omega arith, omega arith, no_notes c.args.boards _ c.in_ok-with_capacity.ensures.items)

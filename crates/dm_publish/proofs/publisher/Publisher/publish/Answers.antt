@@ -1,0 +1,27 @@
+use Rattle.std.proofs.Common.{◌≡◌, ◌<◌, length, ap, ◌∙◌, arith, refl}
+use Rattle.std.proofs.lemmas.Option.{slice_get_read}
+use Rattle.dm_publish.proofs.Turned.{published_none, published_next, published_all, as_long}
+use Rattle.dm_publish.proofs.publisher.Publisher.publish.Goals as goal
+
+pub loop-index-init : goal.loop-index-init
+loop-index-init g c = (published_none _ _ _ _ c.args.net.now c.args.timetable.now c.args.entry c.args.boards.now.items c.args.self.now.notes, refl, refl)
+
+pub loop-index-preserved : goal.loop-index-preserved
+loop-index-preserved g c =
+    let same = as_long _ _ _ _ c.args.net.now c.args.timetable.now c.args.entry c.args.boards.now.items c.args.self.now.notes _ _ _ c.loop-index.invariant.0 in
+    let below : c.loop-index.index < length c.loop-index.boards.items = omega arith in
+    let stands = slice_get_read c.loop-index.boards.items (length c.loop-index.boards.items) c.loop-index.index c.index_mut.result.now refl below c.index_mut.ensures.value in (
+      published_next _ _ _ _ c.args.net.now c.args.timetable.now c.args.entry c.args.boards.now.items c.args.self.now.notes c.loop-index.index c.loop-index.boards.items
+          c.loop-index.self.notes c.loop-index.invariant.0 c.index_mut.result.now c.keep_up.new.board below stands c.keep_up.new.self.notes c.keep_up.ensures.turn,
+      c.keep_up.ensures.same_boards ∙ c.loop-index.invariant.1,
+      c.keep_up.ensures.same_events ∙ c.loop-index.invariant.2,
+    )
+
+pub returns-clause-published : goal.returns-clause-published
+returns-clause-published g c =
+    let same = as_long _ _ _ _ c.args.net.now c.args.timetable.now c.args.entry c.args.boards.now.items c.args.self.now.notes _ _ _ c.loop-index.invariant.0 in
+    let over : c.loop-index.index ≡ length c.args.boards.now.items = omega arith in
+    let was : length c.self.inside.notes.items ≡ length c.args.self.now.notes = ap (λ (v : _). length v.notes) c.self.view_is in
+    let is : length c.self-2.inside.notes.items ≡ length c.loop-index.self.notes = ap (λ (v : _). length v.notes) c.self-2.view_is in
+    published_all _ _ _ _ c.args.net.now c.args.timetable.now c.args.entry c.args.boards.now.items c.args.self.now.notes c.loop-index.index c.loop-index.boards.items
+    c.loop-index.self.notes _ c.loop-index.invariant.0 over (omega arith)

@@ -1,0 +1,3 @@
+-- One board and states of loops. Who believes what publishing promises need not read them.
+pub mod Refreshing
+pub mod Turns

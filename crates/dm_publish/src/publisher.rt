@@ -1,0 +1,123 @@
+//! Boards kept up to date.
+ghost use Rattle.std.specs.Prelude.{◌≡◌, ◌<◌, ◌≤◌, [], length, vec_len, IfOk};
+ghost use Rattle.dm_base.specs.declared.limits.TheConstants.{BOARDS};
+ghost use Rattle.dm_publish.specs.Value.{PublisherValue};
+ghost use Rattle.dm_publish.specs.Publishing.{has_note, Publishes};
+ghost use Rattle.dm_publish.specs.Inside.Turns.{TakesTurn};
+
+use crate::refreshing::{refresh, stop_of};
+use dm_base::Secs;
+use dm_cert::Note;
+use dm_network::Network;
+use dm_outside::{Board, Failed};
+use dm_times::Times;
+use std::alloc::{AllocError, Global};
+use std::marker::Model;
+
+/// Which boards of a list were dropped, and the room to show the others what has changed.
+#[derive(Drop)]
+pub struct Publisher {
+    boards: usize,
+    events: usize,
+    notes: Vec<Note>,
+    changes: Vec<(u32, Secs)>,
+}
+
+impl Model for Publisher {
+    ghost use Rattle.std.specs.Prelude.{ℕ, ◌≤◌, vec_capacity};
+    ghost use Rattle.dm_base.specs.declared.limits.TheConstants.{BOARDS};
+    ghost use Rattle.dm_publish.specs.Value.{PublisherValue};
+    ghost use Rattle.dm_publish.specs.Inside.Turns.{AreNotesOf};
+
+    ghost Value = { PublisherValue };
+
+    ghost view = { λ p. record { boards = p.boards; events = p.events; notes = p.notes.items } };
+
+    ghost invariant = { λ p.
+        (p.boards ≤ BOARDS) × (p.boards ≤ vec_capacity p.notes) × (p.events ≤ vec_capacity p.changes) × AreNotesOf p.boards p.notes.items };
+}
+
+impl Publisher {
+    /// A publisher for so many boards, at most 64, that show times of this network. It makes all the room that it needs.
+    pub fn new(alloc: Global, net: &Network, boards: usize) -> Result<Publisher, AllocError>
+        requires { boards ≤ BOARDS }
+        ensures { IfOk result (λ p. p ≡ record { boards = boards; events = length net.now.events; notes = [] }) }
+    {
+        Ok(Publisher {
+            boards,
+            events: net.events(),
+            notes: Vec::with_capacity(alloc, boards)?,
+            changes: Vec::with_capacity(alloc, net.events())?,
+        })
+    }
+
+    /// The notes of all boards that were dropped, in the order in which they were.
+    pub fn notes(&self) -> &[Note]
+        ensures { result.now ≡ self.now.notes }
+    {
+        self.notes.as_slice()
+    }
+
+    /// Shows each board that no note names the events of its stop whose times differ, in ascending order of ids, and calls it
+    /// for nothing else. A board whose show fails is dropped: a note names it, and nothing is shown to it any more. It
+    /// answers how many were dropped. Entry numbers are how many entries the history has.
+    pub fn publish(
+        &mut self,
+        net: &Network,
+        timetable: &Times,
+        entry: u32,
+        boards: &mut Vec<Box<dyn Board>>,
+    ) -> usize
+        requires events { length net.now.events ≡ self.old.events }
+        requires times { length timetable.now ≡ length net.now.events }
+        requires boards { vec_len boards.old ≡ self.old.boards }
+        ensures published { Publishes place times faults is_sound net.now timetable.now entry boards.old.items boards.new.items self.old.notes self.new.notes result }
+        ensures same_boards { self.new.boards ≡ self.old.boards }
+        ensures same_events { self.new.events ≡ self.old.events }
+    {
+        let before = self.notes.len();
+        for index in 0..boards.len() {
+            self.keep_up(net, timetable, entry, index, &mut boards[index]);
+        }
+        self.notes.len() - before
+    }
+
+    /// Shows the board at a place the times of its stop, unless a note names it.
+    fn keep_up(
+        &mut self,
+        net: &Network,
+        timetable: &Times,
+        entry: u32,
+        index: usize,
+        board: &mut Box<dyn Board>,
+    )
+        requires events { length net.now.events ≡ self.old.events }
+        requires times { length timetable.now ≡ length net.now.events }
+        requires is_board { index < self.old.boards }
+        ensures turn { TakesTurn place times faults is_sound net.now timetable.now entry index self.old.notes self.new.notes board.old board.new }
+        ensures same_boards { self.new.boards ≡ self.old.boards }
+        ensures same_events { self.new.events ≡ self.old.events }
+    {
+        if has_note(&self.notes, index) {
+            return;
+        }
+        if let Err(Failed) = refresh(net, timetable, board, &mut self.changes) {
+            let note = Note {
+                board: index as u32 + 1,
+                stop: stop_of(board).0,
+                entry,
+            };
+            let Ok(()) = self.notes.push(note) else {
+                unreachable!();
+            };
+        }
+    }
+}
+
+/// Whether a note names the board at a place.
+fn has_note(notes: &[Note], index: usize) -> bool
+    requires { index < BOARDS }
+    ensures { result ≡ has_note notes.now index }
+{
+    notes.iter().any(|note| index + 1 == note.board as usize)
+}

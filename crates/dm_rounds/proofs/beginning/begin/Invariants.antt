@@ -1,0 +1,5 @@
+use Rattle.dm_rounds.specs.Inside.Jobs.{BeginAll}
+use Rattle.dm_rounds.proofs.beginning.begin.Given as goal
+
+abbrev pub invariant-loop-feed : goal.invariant-loop-feed
+invariant-loop-feed g l = BeginAll l.yielded l.jobs.items

@@ -1,0 +1,4 @@
+-- What answering feeds in rounds comes to.
+pub mod Rounds
+-- States of rounds: checked, and not to be believed.
+pub mod Inside

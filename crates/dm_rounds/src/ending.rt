@@ -1,0 +1,53 @@
+//! Feeds that have ended.
+
+ghost use Rattle.std.specs.Prelude.{◌≡◌, ℕ, true, Some, slice_get, map, IfOk};
+ghost use Rattle.dm_rounds.specs.Inside.Jobs.{HasEnded, stop_in, log_in};
+ghost use Rattle.dm_rounds.specs.declared.jobs.Job.{Job as AJob};
+
+use crate::jobs::{Job, Progress};
+use dm_base::Items;
+use dm_cert::FeedLog;
+use dm_feed::FeedStop;
+use std::alloc::{AllocError, Global};
+
+/// Whether all feeds have ended.
+pub fn have_ended<S>(jobs: &[Job<S>]) -> bool
+    ensures { result ≡ true → (k : ℕ) (job : AJob S) → slice_get jobs.now k ≡ Some job → HasEnded job.progress }
+{
+    for job in jobs {
+        if let Progress::Reading(_) = job.progress {
+            return false;
+        }
+    }
+    true
+}
+
+/// The logs of the feeds.
+pub fn logs_of<S: Drop>(alloc: Global, jobs: Vec<Job<S>>) -> Result<Vec<FeedLog>, AllocError>
+    ensures { IfOk result (λ logs. logs.items ≡ map log_in jobs.items) }
+{
+    let mut logs = Vec::new(alloc);
+    for job in jobs {
+        logs.push(log_of(job))?;
+    }
+    Ok(logs)
+}
+
+fn log_of<S: Drop>(job: Job<S>) -> FeedLog
+    ensures { result ≡ log_in job }
+{
+    let stop = stop_of(&job.progress);
+    FeedLog {
+        items: Items::from_vec(job.log),
+        stop,
+    }
+}
+
+fn stop_of<S>(progress: &Progress<S>) -> FeedStop
+    ensures { result ≡ stop_in progress.now }
+{
+    match progress {
+        Progress::Reading(_) => FeedStop::End,
+        Progress::Ended(stop) => *stop,
+    }
+}

@@ -1,0 +1,50 @@
+//! A feed that is being answered.
+
+ghost use Rattle.std.specs.Prelude.{◌≡◌, OnOk};
+ghost use Rattle.dm_rounds.specs.Inside.Jobs.{CanRead, StepsFrom};
+ghost use Rattle.dm_desk.specs.Answered.{HasSeenLegal};
+
+use dm_cert::LogItem;
+use dm_desk::{Desk, Hold, answer_batch};
+use dm_feed::{FeedStop, LineReader};
+use dm_outside::Source;
+use std::alloc::AllocError;
+
+/// How far a feed was read.
+#[derive(Drop)]
+pub enum Progress<S> {
+    /// It may have lines left.
+    Reading(LineReader<S>),
+
+    /// It is read no further.
+    Ended(FeedStop),
+}
+
+/// A feed and its log.
+#[derive(Drop)]
+pub struct Job<S> {
+    pub progress: Progress<S>,
+    pub log: Vec<LogItem>,
+}
+
+/// Answers the next lines of a feed that has not ended, so many of them or all that are left.
+pub fn answer_job<S: Source + Drop, D: Desk, H: Hold>(
+    job: &mut Job<S>,
+    desk: &mut D,
+    gate: &H,
+    feed: u32,
+    batch: u32,
+) -> Result<(), AllocError>
+    requires legal { HasSeenLegal (D.value desk.old) }
+    requires can_read { CanRead job.old.progress }
+    ensures { OnOk result (StepsFrom S.left S.is_sound job.old.progress job.old.log.items job.new (D.value desk.old) (D.value desk.new) feed batch) }
+{
+    let Progress::Reading(reader) = &mut job.progress else {
+        return Ok(());
+    };
+    match answer_batch(reader, desk, gate, feed, batch, &mut job.log)? {
+        Some(stop) => job.progress = Progress::Ended(stop),
+        None => {}
+    }
+    Ok(())
+}
