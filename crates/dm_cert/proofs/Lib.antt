@@ -20,3 +20,4 @@ pub mod TakingBack
 pub mod ToldTexts
 pub mod TrueLogs
 pub mod Fitting
+pub mod WorkedRun
