@@ -19,3 +19,5 @@ pub mod Stepping
 pub mod TakingBack
 pub mod ToldTexts
 pub mod TrueLogs
+pub mod Fitting
+pub mod WorkedRun

@@ -173,7 +173,6 @@ plan_told version entry plan place next low told =
     (record {
       left = all;
       fits = record {
-        entry = low;
         choices = subst (All FitsDecision) (sym choices.is) choices.good;
         cost = told.told.spelled.cost;
         bound = told.told.spelled.bound;

@@ -2,7 +2,7 @@
 ghost use Rattle.dm_cert.specs.CoreRun.{TrueLogsAreOneDispatchers};
 ghost use Rattle.dm_cert.specs.Laws.{LogsStayTrue, DueLinesRise, LogsAnswerFirst, LeavesAreTheTrees};
 ghost use Rattle.dm_cert.specs.PlanLaws.{PlansHaveOwnTexts};
-ghost use Rattle.dm_cert.specs.Worked.{QuietRunIsSpelled, LateRunIsSpelled, PlannedRunIsSpelled, PlanIsSpelled};
+ghost use Rattle.dm_cert.specs.Worked.{QuietRunIsSpelled, LateRunIsSpelled, PlannedRunIsSpelled, PlannedRunIsTrue, PlanIsSpelled};
 
 /// A log that is true of a history stays true as the history grows: an answer needs only the entries up to its number.
 pub fn logs_stay_true()
@@ -43,6 +43,11 @@ pub fn late_run_is_spelled()
 /// And where a plan is asked for besides, in version 1.
 pub fn planned_run_is_spelled()
     ensures { PlannedRunIsSpelled }
+{}
+
+/// And that run is true from the start, so that its texts of both versions are those of a true run.
+pub fn planned_run_is_true()
+    ensures { PlannedRunIsTrue }
 {}
 
 /// And the plan in version 2.
