@@ -2,8 +2,8 @@
 use Rattle.std.proofs.Common.{◌≡◌, ◌≢◌, ℕ, zero, suc, ◌+◌, ◌<◌, ◌≤◌, true, false, List, [], ◌∷◌, length, Option, Some, None, refl, sym, ap, subst, ◌∙◌, ◌⊎◌, inl, inr, arith, slice_index, slice_index_or, get_or-set_same, get_or-set_other}
 use Rattle.std.specs.Prelude.{nat_eq, unwrap_or, max}
 use Rattle.std.specs.List.{Contains, IsDistinct, AllByRecursion}
-use Rattle.std.proofs.lemmas.Bool.{cases_eq, ne_eqb}
-use Rattle.std.proofs.lemmas.Map.Keys.{IsDistinct-cons}
+use Rattle.std.proofs.lemmas.Bool.{cases_eq, ne_eqb, eq-eqb}
+use Rattle.std.proofs.lemmas.Map.Keys.{IsDistinct-cons, IsDistinct-head}
 use Rattle.dm_network.specs.Net.{Net}
 use Rattle.dm_rows.specs.Active.{is_active}
 use Rattle.dm_rows.specs.Resolve.{after_change}
@@ -222,3 +222,29 @@ module _ (net : Net) (rows : RowsValue) (before turned after : LiveValue) (first
       (few_read change size event many (subst (λ (o : RowsValue). FollowsRows net o turned.given) is follows) reads
       (subst (λ (o : RowsValue). IsLeast net o after.times) is least)
       (subst (λ (o : RowsValue). MarksFor net o change before turned first mid) is marks) kind on)
+
+-- where no time changes, a delay of an event makes two rows be read at most
+module _ (net : Net) (rows : RowsValue) (i d : ℕ) (x : List ℕ) where
+  none_changed : (moved : List ℕ) → ((e : ℕ) → Contains moved e → IsChanged x x e) → length moved ≡ 0
+  none_changed [] changed = refl
+  none_changed (e ∷ rest) changed = absurd (changed e (in_front rest e) refl)
+
+  moves_one : (e : ℕ) → MayMove net rows (EventDelay i d) x x e → e ≡ i
+  moves_one e (inl touched) = touched
+  moves_one e (inr follows) = absurd (follows.1 refl)
+
+  one_moves : (renewed : List ℕ) → IsDistinct nat_eq renewed → ((e : ℕ) → Contains renewed e → e ≡ i) → length renewed ≤ 1
+  one_moves [] distinct each = omega arith
+  one_moves (e ∷ []) distinct each = omega arith
+  one_moves (e ∷ f ∷ rest) distinct each =
+      let same : e ≡ f = each e (in_front (f ∷ rest) e) ∙ sym (each f (behind (f ∷ rest) e f (in_front rest f))) in
+      let apart : nat_eq e f ≡ false = (IsDistinct-head nat_eq e (f ∷ rest) distinct).0 in
+      let equal : nat_eq e f ≡ true = eq-eqb e f same in
+      absurd cc
+
+  pub two_rows : (first last : ℕ) → ReadsFew net rows (EventDelay i d) x x first last → last ≤ first + 2
+  two_rows first last few =
+      let none = none_changed few.moved few.changed in
+      let one = one_moves few.renewed few.renewed_once (λ e c. moves_one e (few.may_move e c)) in
+      let counted = few.counted in
+      omega arith

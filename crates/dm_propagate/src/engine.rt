@@ -71,7 +71,8 @@ impl Engine {
     }
 
     /// Makes a change, and computes the times that it moves. [`Cyclic`] comes exactly where the changed rows have a cycle:
-    /// then the engine is as before, and [`Engine::last_cycle`] is such a cycle.
+    /// then the engine is as before, and [`Engine::last_cycle`] is such a cycle. For a delay, a pass or a clock that is not
+    /// taken back, it reads the rows of the events that this can move, and not of the others.
     pub fn update<L: Ledger>(
         &mut self,
         net: &Network,
