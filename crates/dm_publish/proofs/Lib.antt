@@ -1,3 +1,4 @@
 pub mod Gathered
 pub mod Notes
 pub mod Turned
+pub mod TrueNotes

@@ -96,14 +96,14 @@ module _ {B : Type 0} (place : B → ℕ) (times : B → Option (ℕ → Option 
   turn_stop : (at : ℕ) (mid mid' : List Note) (b b' : B) → TakesTurn place times faults is_sound net x entry at mid mid' b b' → place b' ≡ place b
   turn_stop at mid mid' b b' (is_left h e s) = ap place s
   turn_stop at mid mid' b b' (is_shown h e r ok s) = s.same_stop
-  turn_stop at mid mid' b b' (is_dropped h e r f err s) = s.same_stop
+  turn_stop at mid mid' b b' (is_dropped h e fits r f err s) = s.same_stop
 
   -- notes are never taken away
   turn_notes : (at : ℕ) (mid mid' : List Note) (b b' : B) → TakesTurn place times faults is_sound net x entry at mid mid' b b' →
       (i : ℕ) → has_note mid' i ≡ false → has_note mid i ≡ false
   turn_notes at mid mid' b b' (is_left h e s) i n = ap (λ (ns : List Note). has_note ns i) (sym e) ∙ n
   turn_notes at mid mid' b b' (is_shown h e r ok s) i n = ap (λ (ns : List Note). has_note ns i) (sym e) ∙ n
-  turn_notes at mid mid' b b' (is_dropped h e r f err s) i n =
+  turn_notes at mid mid' b b' (is_dropped h e fits r f err s) i n =
       no_left (has_note mid i) (has_note (note_of at (place b) entry ∷ []) i)
       (sym (list_any-append (λ (note : Note). eqb (i + 1) note.board) mid (note_of at (place b) entry ∷ [])) ∙ (ap (λ (ns : List Note). has_note ns i) (sym e) ∙ n))
 
@@ -133,7 +133,7 @@ module _ {B : Type 0} (place : B → ℕ) (times : B → Option (ℕ → Option 
         others = λ _. subst (λ (stop : ℕ). KeepsOthers net stop (times b) (times b')) (sym s.same_stop) others;
         quiet = s.quiet;
       }
-  turn_keeps at mid mid' b b' same (is_dropped h e r f err s) =
+  turn_keeps at mid mid' b b' same (is_dropped h e fits r f err s) =
       let free : has_note noted at ≡ false = sym same ∙ h in
       let own : has_note (note_of at (place b) entry ∷ []) at ≡ true = ap (λ (v : Bool). v || false) (eq-eqb (at + 1) (at + 1) refl) in
       let has : has_note mid' at ≡ true =
@@ -225,6 +225,7 @@ module _ {B : Type 0} (place : B → ℕ) (times : B → Option (ℕ → Option 
           stands = get_elsewhere cur k was.at b' (λ e. omega arith) ∙ was.stands;
           named = was.named;
           of_stop = was.of_stop;
+          stop_fits = was.stop_fits;
           at_entry = was.at_entry;
           had_none = was.had_none;
           risen = was.risen;
@@ -248,10 +249,10 @@ module _ {B : Type 0} (place : B → ℕ) (times : B → Option (ℕ → Option 
           low = low_still;
         }
 
-    published_more : (mid' : List Note) → mid' ≡ mid ++ note_of k (place b) entry ∷ [] → has_note mid k ≡ false → (r : Result (Unit {0}) Failed) (f : Failed) → r ≡ Err f →
+    published_more : (mid' : List Note) → mid' ≡ mid ++ note_of k (place b) entry ∷ [] → has_note mid k ≡ false → place b ≤ 4294967295 → (r : Result (Unit {0}) Failed) (f : Failed) → r ≡ Err f →
         Refreshes place times faults is_sound net x b b' r → TakesTurn place times faults is_sound net x entry k mid mid' b b' →
         IsPublishedTo place times faults is_sound net x entry old (set cur k b') noted mid' (k + 1)
-    published_more mid' e none r f err s turn =
+    published_more mid' e none fits r f err s turn =
         let note : Note = note_of k (place b) entry in
         let free : has_note noted k ≡ false = sym (same_note noted done.fresh mid k done.notes done.low) ∙ none in
         let new : IsDropped place faults is_sound net entry old (set cur k b') noted note = record {
@@ -262,6 +263,7 @@ module _ {B : Type 0} (place : B → ℕ) (times : B → Option (ℕ → Option 
           stands = get_at cur k b' below;
           named = refl;
           of_stop = refl;
+          stop_fits = fits;
           at_entry = refl;
           had_none = free;
           risen = from_err r f err s.risen;
@@ -289,7 +291,7 @@ module _ {B : Type 0} (place : B → ℕ) (times : B → Option (ℕ → Option 
         IsPublishedTo place times faults is_sound net x entry old (set cur k b') noted mid' (k + 1)
     published_next mid' (is_left h e s) = published_same mid' e (is_left h e s)
     published_next mid' (is_shown h e r ok s) = published_same mid' e (is_shown h e r ok s)
-    published_next mid' (is_dropped h e r f err s) = published_more mid' e h r f err s (is_dropped h e r f err s)
+    published_next mid' (is_dropped h e fits r f err s) = published_more mid' e h fits r f err s (is_dropped h e fits r f err s)
 
   pub as_long : (new : List B) (mid : List Note) (k : ℕ) → IsPublishedTo place times faults is_sound net x entry old new noted mid k → length new ≡ length old
   as_long new mid k done = sym (length-map new place) ∙ (ap length done.stops ∙ length-map old place)

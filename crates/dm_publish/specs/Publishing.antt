@@ -39,6 +39,7 @@ pub record IsDropped {B : Type 0} (place : B → ℕ) (faults : B → ℕ) (is_s
   pub stands : slice_get new at ≡ Some now
   pub named : note.board ≡ at + 1
   pub of_stop : note.stop ≡ place before
+  pub stop_fits : note.stop ≤ 4294967295
   pub at_entry : note.entry ≡ entry
   pub had_none : has_note noted at ≡ false
   pub risen : HasRisen (faults before) (faults now)

@@ -1,6 +1,7 @@
 //! Boards kept up to date.
-ghost use Rattle.std.specs.Prelude.{◌≡◌, ◌<◌, ◌≤◌, [], length, vec_len, IfOk};
+ghost use Rattle.std.specs.Prelude.{ℕ, ◌≡◌, ◌<◌, ◌≤◌, [], length, vec_len, IfOk};
 ghost use Rattle.dm_base.specs.declared.limits.TheConstants.{BOARDS};
+ghost use Rattle.dm_cert.specs.Runs.{AreTrueNotes};
 ghost use Rattle.dm_publish.specs.Value.{PublisherValue};
 ghost use Rattle.dm_publish.specs.Publishing.{has_note, Publishes};
 ghost use Rattle.dm_publish.specs.Inside.Turns.{TakesTurn};
@@ -72,6 +73,9 @@ impl Publisher {
         requires times { length timetable.now ≡ length net.now.events }
         requires boards { vec_len boards.old ≡ self.old.boards }
         ensures published { Publishes place times faults is_sound net.now timetable.now entry boards.old.items boards.new.items self.old.notes self.new.notes result }
+
+        // Notes that are true at an earlier entry are so with the new ones.
+        ensures true_notes { (entries : ℕ) → entries ≤ entry → AreTrueNotes entries self.old.notes → AreTrueNotes entry self.new.notes }
         ensures same_boards { self.new.boards ≡ self.old.boards }
         ensures same_events { self.new.events ≡ self.old.events }
     {

@@ -66,7 +66,8 @@ fn gather(net: &Network, timetable: &Times, board: &Box<dyn Board>, changes: &mu
 
 /// The stop whose events a board shows.
 pub(crate) fn stop_of(board: &Box<dyn Board>) -> StopId
-    ensures { result ≡ record { 0 = place board.now } }
+    ensures stop { result ≡ record { 0 = place board.now } }
+    ensures fits { place board.now ≤ 4294967295 }
 {
     StopId(board.stop())
 }

@@ -23,7 +23,7 @@ pub data TakesTurn {B : Type 0} (place : B → ℕ) (times : B → Option (ℕ �
   is_left : has_note noted at ≡ true → noted_now ≡ noted → now ≡ before → TakesTurn place times faults is_sound net x entry at noted noted_now before now
   is_shown : has_note noted at ≡ false → noted_now ≡ noted → (result : Result (Unit {0}) Failed) → result ≡ Ok tt →
       Refreshes place times faults is_sound net x before now result → TakesTurn place times faults is_sound net x entry at noted noted_now before now
-  is_dropped : has_note noted at ≡ false → noted_now ≡ noted ++ note_of at (place before) entry ∷ [] → (result : Result (Unit {0}) Failed) → (f : Failed) → result ≡ Err f →
+  is_dropped : has_note noted at ≡ false → noted_now ≡ noted ++ note_of at (place before) entry ∷ [] → place before ≤ 4294967295 → (result : Result (Unit {0}) Failed) → (f : Failed) → result ≡ Err f →
       Refreshes place times faults is_sound net x before now result → TakesTurn place times faults is_sound net x entry at noted noted_now before now
 
 -- the first k boards are kept up, and the others are as before

@@ -18,7 +18,7 @@ time-time-requires g c =
 
 pub loop-i-preserved : goal.loop-i-preserved
 loop-i-preserved g c =
-    let row = c.at_stop-i-items.ensures ∙ ap (places_at c.args.net.now) c.stop_of-stop.ensures in
+    let row = c.at_stop-i-items.ensures ∙ ap (places_at c.args.net.now) c.stop_of-stop.ensures.stop in
     let id = ap (λ (e : _). e.id.0) c.event.ensures in
     let next = gathered_next c.args.net.now c.args.timetable.now c.sound.ensures.network _ _ c.at_stop-i-items.result.now row c.loop-i.i-index c.loop-i-test.true
     c.loop-i.changes.items c.event.result.now.id.0 c.time-time.result c.loop-i.invariant.0 id c.time-time.ensures.value c.stands.result c.stands.ensures c.if-not-stands.changes.items in
@@ -43,6 +43,6 @@ unreachable-requires g c =
 
 pub returns-clause-gathered : goal.returns-clause-gathered
 returns-clause-gathered g c =
-    let row = c.at_stop-i-items.ensures ∙ ap (places_at c.args.net.now) c.stop_of-stop.ensures in
+    let row = c.at_stop-i-items.ensures ∙ ap (places_at c.args.net.now) c.stop_of-stop.ensures.stop in
     let over : c.loop-i.i-index ≡ length c.at_stop-i-items.result.now = omega arith in
     gathered_all c.args.net.now c.args.timetable.now _ _ c.at_stop-i-items.result.now row c.loop-i.i-index over c.loop-i.changes.items c.loop-i.invariant.0

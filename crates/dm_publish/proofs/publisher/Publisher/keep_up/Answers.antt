@@ -1,4 +1,4 @@
-use Rattle.std.proofs.Common.{◌≡◌, ◌<◌, ◌∷◌, [], ◌++◌, ℕ, false, List, ap, sym, ◌∙◌, arith, refl}
+use Rattle.std.proofs.Common.{◌≡◌, ◌<◌, ◌∷◌, [], ◌++◌, ℕ, false, List, ◌≤◌, subst, ap, sym, ◌∙◌, arith, refl}
 use Rattle.dm_cert.specs.declared.notes.Note.{Note}
 use Rattle.dm_publish.specs.Publishing.{has_note}
 use Rattle.dm_publish.specs.Inside.Turns.{note_of, is_shown, is_dropped}
@@ -30,9 +30,10 @@ returns-in-Ok-clause-turn g c =
     let notes : c.self.inside.notes.items ≡ c.args.self.now.notes = ap (λ (v : _). v.notes) c.self.view_is in
     let none : has_note c.args.self.now.notes c.args.index ≡ false =
     sym (c.if-has_note.ensures ∙ ap (λ (notes : List Note). has_note notes c.args.index) (c.deref.ensures.value ∙ notes)) in
-    let stop = ap (λ (s : _). s.0) c.stop_of.ensures ∙ c.refresh.ensures.refreshed.same_stop in
+    let stop = ap (λ (s : _). s.0) c.stop_of.ensures.stop ∙ c.refresh.ensures.refreshed.same_stop in
     is_dropped none (c.in-Ok.ensures.items ∙ (ap (λ (ns : List Note). ns ++ note_of c.args.index c.stop_of.result.0 c.args.entry ∷ []) notes
-    ∙ ap (λ (s : ℕ). c.args.self.now.notes ++ note_of c.args.index s c.args.entry ∷ []) stop)) c.refresh.result c.in-Err.field-0 c.in-Err.is c.refresh.ensures.refreshed
+    ∙ ap (λ (s : ℕ). c.args.self.now.notes ++ note_of c.args.index s c.args.entry ∷ []) stop))
+    (subst (λ (s : ℕ). s ≤ 4294967295) c.refresh.ensures.refreshed.same_stop c.stop_of.ensures.fits) c.refresh.result c.in-Err.field-0 c.in-Err.is c.refresh.ensures.refreshed
 
 pub returns-in_default-clause-turn : goal.returns-in_default-clause-turn
 returns-in_default-clause-turn g c =

@@ -1,5 +1,8 @@
-use Rattle.std.proofs.Common.{◌≡◌, ◌<◌, length, ap, ◌∙◌, arith, refl}
+use Rattle.std.proofs.Common.{◌≤◌, ◌≡◌, ◌<◌, length, ap, ◌∙◌, arith, refl}
 use Rattle.std.proofs.lemmas.Option.{slice_get_read}
+use Rattle.dm_base.specs.declared.limits.TheConstants.{BOARDS}
+use Rattle.dm_publish.proofs.Notes.{few_notes}
+use Rattle.dm_publish.proofs.TrueNotes.{notes_stay_true}
 use Rattle.dm_publish.proofs.Turned.{published_none, published_next, published_all, as_long}
 use Rattle.dm_publish.proofs.publisher.Publisher.publish.Goals as goal
 
@@ -25,3 +28,19 @@ returns-clause-published g c =
     let is : length c.self-2.inside.notes.items ≡ length c.loop-index.self.notes = ap (λ (v : _). length v.notes) c.self-2.view_is in
     published_all _ _ _ _ c.args.net.now c.args.timetable.now c.args.entry c.args.boards.now.items c.args.self.now.notes c.loop-index.index c.loop-index.boards.items
     c.loop-index.self.notes _ c.loop-index.invariant.0 over (omega arith)
+
+pub returns-clause-true_notes : goal.returns-clause-true_notes
+returns-clause-true_notes g c =
+    let same = as_long _ _ _ _ c.args.net.now c.args.timetable.now c.args.entry c.args.boards.now.items c.args.self.now.notes _ _ _ c.loop-index.invariant.0 in
+    let over : c.loop-index.index ≡ length c.args.boards.now.items = omega arith in
+    let published = published_all _ _ _ _ c.args.net.now c.args.timetable.now c.args.entry c.args.boards.now.items c.args.self.now.notes c.loop-index.index c.loop-index.boards.items
+    c.loop-index.self.notes _ c.loop-index.invariant.0 over refl in
+    let made : c.self.inside.boards ≡ c.args.self.now.boards = ap (λ (v : _). v.boards) c.self.view_is in
+    let most = c.self.invariant.0 in
+    let boards : length c.args.boards.now.items ≤ BOARDS = omega arith in
+    let is : length c.self-2.inside.notes.items ≡ length c.loop-index.self.notes = ap (λ (v : _). length v.notes) c.self-2.view_is in
+    let most_now = c.self-2.invariant.0 in
+    let low = few_notes c.self-2.inside.boards c.self-2.inside.notes.items c.self-2.invariant.3 in
+    let few : length c.loop-index.self.notes ≤ BOARDS = omega arith in
+    notes_stay_true _ _ _ _ c.args.net.now c.args.timetable.now c.args.entry c.args.boards.now.items c.loop-index.boards.items c.args.self.now.notes
+    c.loop-index.self.notes _ published boards few
