@@ -151,7 +151,7 @@ pub record Reads {V : Type 0} (spells : V → List ℕ → Type 0) (line : List 
   pub is : (v : V) → read ≡ Some v → spells v line
   pub back : (v : V) → spells v line → read ≡ Some v
 
-choice_spelled : (d : Decision) → choice_text d ≡ (codes "choice" ++ (spelling_of_decision d ++ [])) ++ line_end
+pub choice_spelled : (d : Decision) → choice_text d ≡ (codes "choice" ++ (spelling_of_decision d ++ [])) ++ line_end
 unfolding choice_text
 choice_spelled d = sym (ap (λ xs. codes "choice" ++ xs) (append_assoc (spelling_of_decision d) [] line_end))
 

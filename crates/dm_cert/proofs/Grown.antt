@@ -106,10 +106,10 @@ asks path due (Bound c ∷ nodes) l leaves f = inr (leaf_asks path due (Bound c)
 asks path due (Open c ∷ nodes) l leaves f = inr (leaf_asks path due (Open c) nodes l leaves f)
 asks path due (Hole ∷ nodes) l leaves f = absurd f
 
-longer : (path tail : List Decision) (d : Decision) → path ≡ path ++ (d ∷ tail) → ⊥
+pub longer : (path tail : List Decision) (d : Decision) → path ≡ path ++ (d ∷ tail) → ⊥
 longer path tail d e = let n : length path ≡ length (path ++ (d ∷ tail)) = ap length e in absurd (omega (arith, n, length-append path (d ∷ tail)))
 
-same_first : (path t u : List Decision) (d e : Decision) → path ++ (d ∷ t) ≡ path ++ (e ∷ u) → d ≡ e
+pub same_first : (path t u : List Decision) (d e : Decision) → path ++ (d ∷ t) ≡ path ++ (e ∷ u) → d ≡ e
 same_first path t u d e p = let q = append_cancel_left path (d ∷ t) (e ∷ u) p in cc
 
 -- ---- steps

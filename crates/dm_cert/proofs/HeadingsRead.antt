@@ -42,7 +42,7 @@ words_end_number true rest = refl
 words_end_number false rest = refl
 
 -- what stands behind the mark of a first line
-abbrev costs_text : ℕ → Heading → List ℕ → List ℕ
+abbrev pub costs_text : ℕ → Heading → List ℕ → List ℕ
 costs_text version h rest =
     codes " cost " ++ (decimal h.cost ++ (codes " bound " ++ (decimal h.bound ++ (codes " choices " ++ (decimal h.choices ++ (size_words version ++ (decimal h.size ++ rest)))))))
 
@@ -92,10 +92,10 @@ costs_is version m line h rest e =
 
 -- ---- the line
 
-abbrev front_text : ℕ → Heading → List ℕ
+abbrev pub front_text : ℕ → Heading → List ℕ
 front_text version h = codes "plan " ++ (mark_text h.mark ++ costs_text version h [])
 
-heading_spelled : (version : ℕ) (h : Heading) → heading_text version h ≡ front_text version h ++ line_end
+pub heading_spelled : (version : ℕ) (h : Heading) → heading_text version h ≡ front_text version h ++ line_end
 unfolding heading_text
 heading_spelled version h = sym (simp (append_assoc, append-nil))
 

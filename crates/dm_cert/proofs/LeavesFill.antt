@@ -25,7 +25,7 @@ some_due n = ne_eqb (suc n) 0 (λ e. absurd (omega arith))
 one_less : (n : ℕ) → suc n - 1 ≡ n
 one_less n = omega arith
 
-leaf_same : (l : Leaf) (path : List Decision) (n : Node) → l.path ≡ path → l.node ≡ n → leaf_at path n ≡ l
+pub leaf_same : (l : Leaf) (path : List Decision) (n : Node) → l.path ≡ path → l.node ≡ n → leaf_at path n ≡ l
 leaf_same l path n p q = sym (ap (λ x. leaf_at x l.node) p ∙ ap (λ x. leaf_at path x) q)
 
 leaf_to : (path : List Decision) (n : Node) (due : List (List Decision)) (ns : List Node) (leaves : List Leaf) → IsFirstLeaf path n leaves (FillsDue due ns) →

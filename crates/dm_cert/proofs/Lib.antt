@@ -5,6 +5,7 @@ pub mod HeadingsRead
 pub mod Holding
 pub mod Leaves
 pub mod LeavesFill
+pub mod LineFeeds
 pub mod Lined
 pub mod ListsOfLogs
 pub mod NodesRead
@@ -13,7 +14,10 @@ pub mod OneDispatcher
 pub mod Options
 pub mod PathsRead
 pub mod Staged
+pub mod SpelledPlans
 pub mod Stepping
 pub mod TakingBack
 pub mod ToldTexts
 pub mod TrueLogs
+pub mod Fitting
+pub mod WorkedRun

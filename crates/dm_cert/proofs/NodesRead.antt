@@ -127,7 +127,7 @@ leaf_back Hole rest is fits ends = absurd is
 -- ---- nodes of version 2
 
 -- a node's line without its end
-abbrev node_words : Node → List ℕ
+abbrev pub node_words : Node → List ℕ
 node_words (Inner (Change a)) = codes "inner change " ++ (decimal a.0 ++ [])
 node_words (Inner (Pair i j)) = codes "inner pair " ++ (decimal i.0 ++ (codes " " ++ (decimal j.0 ++ [])))
 node_words Cycle = codes "cycle" ++ []
@@ -135,7 +135,7 @@ node_words (Bound c) = codes "bound " ++ (decimal c ++ [])
 node_words (Open c) = codes "open " ++ (decimal c ++ [])
 node_words Hole = []
 
-node_spelled : (n : Node) → IsSpelledNode n → node_text n ≡ node_words n ++ line_end
+pub node_spelled : (n : Node) → IsSpelledNode n → node_text n ≡ node_words n ++ line_end
 unfolding node_text
 node_spelled (Inner (Change a)) is = sym (simp (append_assoc, append-nil))
 node_spelled (Inner (Pair i j)) is = sym (simp (append_assoc, append-nil))

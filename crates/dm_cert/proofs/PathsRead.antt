@@ -39,7 +39,7 @@ read_nothing bytes = record {
   alone = λ path is. record { tail = path; is = refl; stands = is };
 }
 
-no_decision_in_nothing : decision_in [] ≡ None
+pub no_decision_in_nothing : decision_in [] ≡ None
 unfolding behind
 no_decision_in_nothing = refl
 
@@ -112,10 +112,10 @@ none_read bytes rest held some none far = λ path is. let went = far.alone path 
 
 -- ---- leaves
 
-abbrev words : Node → List ℕ → List ℕ
+abbrev pub words : Node → List ℕ → List ℕ
 words n rest = leaf_words (codes "leaf cycle") (codes "leaf bound ") (codes "leaf open ") n rest
 
-leaf_spelled : (n : Node) (path : List Decision) → IsSpelledLeaf n → leaf_text (record { path = path; node = n }) ≡ words n (flat_map spelling_of_decision path) ++ line_end
+pub leaf_spelled : (n : Node) (path : List Decision) → IsSpelledLeaf n → leaf_text (record { path = path; node = n }) ≡ words n (flat_map spelling_of_decision path) ++ line_end
 unfolding leaf_text
 leaf_spelled (Inner c) path is = absurd is
 leaf_spelled Cycle path is = refl

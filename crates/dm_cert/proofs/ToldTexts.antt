@@ -144,7 +144,7 @@ pub record PlanTold (version entry : ℕ) (plan : Plan) (place next : Place) : T
   pub fits : FitsPlan plan
   pub entry_is : plan.entry ≡ entry
 
-heading_same : (version : ℕ) (h : Heading) (entry : ℕ) (choices : List Decision) (nodes : List Node) → length choices ≡ h.choices → size_text version nodes ≡ size_words version ++ (decimal h.size ++ []) →
+pub heading_same : (version : ℕ) (h : Heading) (entry : ℕ) (choices : List Decision) (nodes : List Node) → length choices ≡ h.choices → size_text version nodes ≡ size_words version ++ (decimal h.size ++ []) →
     plan_heading version (plan_of entry h choices nodes) ≡ heading_text version h
 unfolding plan_heading heading_text
 heading_same version h entry choices nodes count size =
@@ -173,7 +173,6 @@ plan_told version entry plan place next low told =
     (record {
       left = all;
       fits = record {
-        entry = low;
         choices = subst (All FitsDecision) (sym choices.is) choices.good;
         cost = told.told.spelled.cost;
         bound = told.told.spelled.bound;

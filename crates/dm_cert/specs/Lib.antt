@@ -5,6 +5,7 @@ pub mod Logs
 pub mod CoreRun
 pub mod PlanTexts
 pub mod PlansRead
+pub mod PlanLaws
 pub mod RunTexts
 pub mod Runs
 -- What follows from that, and what it gives on a small network.

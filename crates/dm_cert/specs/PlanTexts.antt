@@ -108,9 +108,8 @@ FitsNode Hole = Unit {0}
 abbrev pub FitsDecision : Decision → Type 0
 FitsDecision decision = All Fits (parts_of_decision decision)
 
--- the numbers of a plan are not too large, and its nodes are one whole tree
+-- the numbers that are printed of a plan are not too large, and its nodes are one whole tree
 pub record FitsPlan (plan : Plan) : Type 0 where
-  pub entry : plan.entry ≤ largest_id
   pub choices : All FitsDecision plan.choices
   pub cost : plan.cost ≤ largest_cost
   pub bound : plan.bound ≤ largest_cost

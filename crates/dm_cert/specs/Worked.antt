@@ -1,15 +1,17 @@
 -- Runs on the connection at one station with penalty 10, and their texts as worked out by hand.
-use Rattle.std.specs.Prelude.{◌≡◌, List, [], ◌∷◌, ◌++◌, codes}
+use Rattle.std.specs.Prelude.{ℕ, ◌≡◌, List, [], ◌∷◌, ◌++◌, codes}
 use Rattle.dm_rows.specs.declared.messages.Entry.{Entry}
 use Rattle.dm_rows.specs.declared.messages.Message.{Message}
 use Rattle.dm_rows.specs.declared.messages.Message.TheVariants.{DelayEvent}
-use Rattle.dm_rows.specs.Examples.{event_id, connection}
+use Rattle.dm_rows.specs.Examples.{event_id, connection, at_start}
 use Rattle.dm_feed.specs.declared.grammar.Line.TheVariants.{Say, Plan}
 use Rattle.dm_feed.specs.declared.feed.FeedStop.TheVariants.{End}
 use Rattle.dm_tree.specs.Worked.{worked_plan}
 use Rattle.dm_cert.specs.declared.replies.Reply.TheVariants.{Ok, Planned}
 use Rattle.dm_cert.specs.declared.replies.LogItem.{LogItem}
 use Rattle.dm_cert.specs.declared.replies.LogItem.TheVariants.{Answered}
+use Rattle.dm_cert.specs.PlanTexts.{IsVersion}
+use Rattle.dm_cert.specs.Runs.{IsRunText}
 use Rattle.dm_cert.specs.RunTexts.{Run, item_text, run_text}
 
 abbrev pub a_minute_late : Message
@@ -72,6 +74,11 @@ PlannedRunIsSpelled =
     ++ codes "2 plan 100 -> 1 plan optimal cost 940000 bound 940000 choices 2 leaves 2\nchoice drop 5\nchoice first 5 3\n"
     ++ codes "leaf bound 1075000 keep 5\nleaf bound 940000 drop 5\nend\nboards 0\ntimes 1\n"
     ++ codes "1; 160\n2; 250\n3; 260\n4; 340\n5; 270\n6; 365\ncost 1075000\ndone\n"
+
+-- the run is true, and has a text, in both versions
+abbrev pub PlannedRunIsTrue : Type 0
+PlannedRunIsTrue =
+    (version : ℕ) → IsVersion version → IsRunText connection at_start 10 (run_text version (late_run (late_item ∷ plan_item ∷ [])))
 
 -- the same plan in the later version
 abbrev pub PlanIsSpelled : Type 0

@@ -1,7 +1,8 @@
 //! What holds of all answers, logs and texts. A law has no code: it is proved as the contract of an empty function.
 ghost use Rattle.dm_cert.specs.CoreRun.{TrueLogsAreOneDispatchers};
 ghost use Rattle.dm_cert.specs.Laws.{LogsStayTrue, DueLinesRise, LogsAnswerFirst, LeavesAreTheTrees};
-ghost use Rattle.dm_cert.specs.Worked.{QuietRunIsSpelled, LateRunIsSpelled, PlannedRunIsSpelled, PlanIsSpelled};
+ghost use Rattle.dm_cert.specs.PlanLaws.{PlansHaveOwnTexts};
+ghost use Rattle.dm_cert.specs.Worked.{QuietRunIsSpelled, LateRunIsSpelled, PlannedRunIsSpelled, PlannedRunIsTrue, PlanIsSpelled};
 
 /// A log that is true of a history stays true as the history grows: an answer needs only the entries up to its number.
 pub fn logs_stay_true()
@@ -44,7 +45,18 @@ pub fn planned_run_is_spelled()
     ensures { PlannedRunIsSpelled }
 {}
 
+/// And that run is true from the start, so that its texts of both versions are those of a true run.
+pub fn planned_run_is_true()
+    ensures { PlannedRunIsTrue }
+{}
+
 /// And the plan in version 2.
 pub fn plan_is_spelled()
     ensures { PlanIsSpelled }
+{}
+
+/// Different plans for one entry have different texts in a version, none is a proper front of another, and what follows a
+/// plan's text does not change how it is read.
+pub fn plans_have_own_texts()
+    ensures { PlansHaveOwnTexts }
 {}

@@ -1,9 +1,10 @@
 //! Plans read from their texts, line by line.
-ghost use Rattle.std.specs.Prelude.{◌≡◌, ◌+◌, ◌<◌, ◌≤◌, length, IfOk};
+ghost use Rattle.dm_tree.specs.declared.plans.Plan.{Plan as PlanValue};
+ghost use Rattle.std.specs.Prelude.{◌≡◌, ◌⊎◌, ℕ, ◌+◌, ◌<◌, ◌≤◌, length, IfOk};
 ghost use Rattle.dm_base.specs.declared.limits.TheConstants.{TEXT};
 ghost use Rattle.dm_text.specs.Judging.{Line};
 ghost use Rattle.dm_cert.specs.PlanTexts.{IsVersion};
-ghost use Rattle.dm_cert.specs.PlansRead.{Answers, BeginsWithPlan, ReadsPlan, TellsChoices, TellsHeading, TellsNodes, TellsPlan, TellsTree, IsChoiceLine, IsNodeLine, cut_line, misshapen_line};
+ghost use Rattle.dm_cert.specs.PlansRead.{Answers, BeginsWithPlan, ReadsPlan, TellsChoices, TellsHeading, TellsNodes, TellsPlan, TellsTree, IsChoiceLine, IsNodeLine, cut_line, misshapen_line, want_of_memory};
 ghost use Rattle.dm_cert.specs.Inside.Growing.{AnswersGrown, IsTreeOf};
 
 use crate::growth::{Growth, Stage};
@@ -240,6 +241,10 @@ pub fn read_plan(
     requires short { length bytes.now ≤ TEXT }
     ensures reads { ReadsPlan version entry bytes.now result }
     ensures ok { IfOk result (λ read. BeginsWithPlan version entry bytes.now read.0 read.1) }
+
+    // A plan whose text stands there is read, unless memory runs out.
+    ensures exactly { (plan : PlanValue) (used : ℕ) → BeginsWithPlan version entry bytes.now plan used →
+        (result ≡ Ok (plan, used)) ⊎ (result ≡ Err want_of_memory) }
 {
     let mut lines = Lines::new(bytes);
     let plan = match plan_at(alloc, version, entry, &mut lines) {

@@ -1,9 +1,9 @@
 //! Plans in print, version 2. Nothing here takes memory.
-ghost use Rattle.std.specs.Prelude.{◌≡◌, ◌∷◌, ◌++◌, [], codes, length};
+ghost use Rattle.std.specs.Prelude.{◌≡◌, ◌≤◌, ◌∷◌, ◌++◌, [], codes, length, All, OnOk};
 ghost use Rattle.std.specs.Fmt.{decimal};
 ghost use Rattle.std.specs.List.{flat_map};
 ghost use Rattle.dm_outside.specs.Printing.{Prints, Puts, joined};
-ghost use Rattle.dm_cert.specs.PlanTexts.{choice_text, node_text, plan_heading, spelling_of_plan};
+ghost use Rattle.dm_cert.specs.PlanTexts.{choice_text, node_text, plan_heading, spelling_of_plan, largest_cost, FitsDecision, FitsNode, FitsPlan};
 
 use dm_outside::{Page, Piece, Sink, WriteFault};
 use dm_rows::{Choice, Decision};
@@ -12,17 +12,20 @@ use dm_tree::{Mark, Node, Plan};
 // Prints what a plan is and how many lines follow.
 #[tactic(auto, unfolding(crate::specs::PlanTexts::plan_heading))]
 fn put_heading<K: Sink>(sink: &mut K, page: &mut Page, plan: &Plan) -> Result<(), WriteFault>
-    ensures { Prints K.taken K.faults sink.old sink.new page.old page.new result (plan_heading 2 plan.now) }
+    ensures text { Prints K.taken K.faults sink.old sink.new page.old page.new result (plan_heading 2 plan.now) }
+    ensures cost { plan.now.cost ≤ largest_cost }
+    ensures bound { plan.now.bound ≤ largest_cost }
 {
+    let (cost, bound) = (plan.cost, plan.bound);
     let mark = match plan.mark {
         Mark::Optimal => "plan optimal cost ",
         Mark::Open => "plan open cost ",
     };
     let pieces = [
         Piece::Text(mark),
-        Piece::Number(plan.cost),
+        Piece::Number(cost),
         Piece::Text(" bound "),
-        Piece::Number(plan.bound),
+        Piece::Number(bound),
         Piece::Text(" choices "),
         Piece::Number(plan.choices.as_slice().len() as u128),
         Piece::Text(" nodes "),
@@ -35,7 +38,8 @@ fn put_heading<K: Sink>(sink: &mut K, page: &mut Page, plan: &Plan) -> Result<()
 // Prints a choice of a plan.
 #[tactic(auto, unfolding(crate::specs::PlanTexts::choice_text))]
 fn put_choice<K: Sink>(sink: &mut K, page: &mut Page, decision: Decision) -> Result<(), WriteFault>
-    ensures { Prints K.taken K.faults sink.old sink.new page.old page.new result (choice_text decision) }
+    ensures text { Prints K.taken K.faults sink.old sink.new page.old page.new result (choice_text decision) }
+    ensures fits { FitsDecision decision }
 {
     match decision {
         Decision::Keep(act) => put_number(sink, page, "choice keep ", act.0 as u128),
@@ -55,7 +59,8 @@ fn put_choice<K: Sink>(sink: &mut K, page: &mut Page, decision: Decision) -> Res
 // Prints a node.
 #[tactic(auto, unfolding(crate::specs::PlanTexts::node_text))]
 fn put_node<K: Sink>(sink: &mut K, page: &mut Page, node: Node) -> Result<(), WriteFault>
-    ensures { Prints K.taken K.faults sink.old sink.new page.old page.new result (node_text node) }
+    ensures text { Prints K.taken K.faults sink.old sink.new page.old page.new result (node_text node) }
+    ensures fits { FitsNode node }
 {
     match node {
         Node::Inner(choice) => put_inner(sink, page, choice),
@@ -69,7 +74,8 @@ fn put_node<K: Sink>(sink: &mut K, page: &mut Page, node: Node) -> Result<(), Wr
 // Prints a node with a choice.
 #[tactic(auto, unfolding(crate::specs::PlanTexts::node_text))]
 fn put_inner<K: Sink>(sink: &mut K, page: &mut Page, choice: Choice) -> Result<(), WriteFault>
-    ensures { Prints K.taken K.faults sink.old sink.new page.old page.new result (node_text (Node.Inner choice)) }
+    ensures text { Prints K.taken K.faults sink.old sink.new page.old page.new result (node_text (Node.Inner choice)) }
+    ensures fits { FitsNode (Node.Inner choice) }
 {
     match choice {
         Choice::Change(act) => put_number(sink, page, "inner change ", act.0 as u128),
@@ -118,7 +124,8 @@ fn put_choices<K: Sink>(
     page: &mut Page,
     choices: &[Decision],
 ) -> Result<(), WriteFault>
-    ensures { Prints K.taken K.faults sink.old sink.new page.old page.new result (flat_map choice_text choices.now) }
+    ensures text { Prints K.taken K.faults sink.old sink.new page.old page.new result (flat_map choice_text choices.now) }
+    ensures fits { OnOk result (All FitsDecision choices.now) }
 {
     for choice in choices {
         let Ok(()) = put_choice(sink, page, *choice) else {
@@ -130,7 +137,8 @@ fn put_choices<K: Sink>(
 
 // Prints the nodes of a plan's tree.
 fn put_nodes<K: Sink>(sink: &mut K, page: &mut Page, nodes: &[Node]) -> Result<(), WriteFault>
-    ensures { Prints K.taken K.faults sink.old sink.new page.old page.new result (flat_map node_text nodes.now) }
+    ensures text { Prints K.taken K.faults sink.old sink.new page.old page.new result (flat_map node_text nodes.now) }
+    ensures fits { OnOk result (All FitsNode nodes.now) }
 {
     for node in nodes {
         let Ok(()) = put_node(sink, page, *node) else {
@@ -142,7 +150,8 @@ fn put_nodes<K: Sink>(sink: &mut K, page: &mut Page, nodes: &[Node]) -> Result<(
 
 /// Prints the one spelling of the plan in version 2, behind all that was printed through the page before.
 pub fn put_plan<K: Sink>(sink: &mut K, page: &mut Page, plan: &Plan) -> Result<(), WriteFault>
-    ensures { Prints K.taken K.faults sink.old sink.new page.old page.new result (spelling_of_plan 2 plan.now) }
+    ensures text { Prints K.taken K.faults sink.old sink.new page.old page.new result (spelling_of_plan 2 plan.now) }
+    ensures fits { OnOk result (FitsPlan plan.now) }
 {
     let Ok(()) = put_heading(sink, page, plan) else {
         return Err(WriteFault);

@@ -12,7 +12,7 @@ use Rattle.dm_feed.specs.declared.grammar.Heard.{Heard}
 use Rattle.dm_feed.specs.declared.grammar.Heard.TheVariants.{Blank, Line as Spoken, Malformed as Unheard}
 use Rattle.dm_feed.specs.declared.grammar.Line.{Line}
 use Rattle.dm_feed.specs.declared.grammar.Line.TheVariants as line
-use Rattle.dm_feed.specs.Lines.{IsQuiet, Hears}
+use Rattle.dm_feed.specs.Lines.{IsQuiet, Hears, IsSpelledLine}
 use Rattle.dm_feed.specs.Feeds.{ReaderValue, GivesDue, Answers}
 use Rattle.dm_feed.specs.DueItems.{DueItem, item}
 use Rattle.dm_feed.proofs.Imagined.{go_on_giving, stop_seen}
@@ -21,6 +21,7 @@ use Rattle.dm_cert.specs.declared.replies.LogItem.TheVariants.{Malformed, Answer
 use Rattle.dm_cert.specs.declared.replies.Reply.{Reply}
 use Rattle.dm_cert.specs.Answers.{Setting}
 use Rattle.dm_cert.specs.Logs.{Kind, free, told, entered, kind_of, line_of, Follows, AreTrueAnswers, names, due_of, taken_as, without_plans}
+use Rattle.dm_cert.specs.RunTexts.{IsSpelledItem}
 use Rattle.dm_cert.proofs.Numbers.{last_line, last_number, order_push}
 use Rattle.dm_cert.proofs.TrueLogs.{answers_grow, answers_push, numbers_within}
 use Rattle.dm_desk.specs.Desks.{DeskValue, GoesOn}
@@ -49,18 +50,19 @@ pub goes_nowhere : (desk : DeskValue) → HasSeenLegal desk → GoesOn desk desk
 goes_nowhere desk legal = record { setting = refl; later = ([], append-nil desk.seen); legal = legal }
 
 -- a line that was answered
-pub answered_line : (before now : DeskValue) (feed here : ℕ) (said : Line) (reply : Reply) → (AsksForPlans said → ⊥) → Replies before now feed here said reply → AnswersLine before now feed here (Spoken said) (Answered here said reply)
-answered_line before now feed here said reply none r = record {
+pub answered_line : (before now : DeskValue) (feed here : ℕ) (said : Line) (reply : Reply) → IsSpelledLine said → (AsksForPlans said → ⊥) → Replies before now feed here said reply → AnswersLine before now feed here (Spoken said) (Answered here said reply)
+answered_line before now feed here said reply spelled none r = record {
   due = ap (item here) (sym (taken_now said none));
   goes_on = r.goes_on;
   is_true = r.is_true;
   between = r.between;
+  spelled = (spelled, r.spelled);
   named = λ n. r.named n;
 }
 
-pub answered_as_heard : (before now : DeskValue) (feed here : ℕ) (heard : Heard) (said : Line) (reply : Reply) → heard ≡ Spoken said → (AsksForPlans said → ⊥) × Replies before now feed here said reply → AnswersLine before now feed here heard (Answered here said reply)
-answered_as_heard before now feed here heard said reply is r =
-    subst (λ (h : Heard). AnswersLine before now feed here h (Answered here said reply)) (sym is) (answered_line before now feed here said reply r.0 r.1)
+pub answered_as_heard : (before now : DeskValue) (feed here : ℕ) (heard : Heard) (said : Line) (reply : Reply) → heard ≡ Spoken said → IsDueHeard heard → (AsksForPlans said → ⊥) × Replies before now feed here said reply → AnswersLine before now feed here heard (Answered here said reply)
+answered_as_heard before now feed here heard said reply is due r =
+    subst (λ (h : Heard). AnswersLine before now feed here h (Answered here said reply)) (sym is) (answered_line before now feed here said reply (subst IsDueHeard is due) r.0 r.1)
 
 -- a line that was taken as malformed
 pub unanswered : (desk now : DeskValue) (feed here : ℕ) (heard : Heard) → now ≡ desk → HasSeenLegal desk → without_plans heard ≡ Unheard → AnswersLine desk now feed here heard (Malformed here)
@@ -71,6 +73,7 @@ unanswered desk now feed here heard same legal is =
       goes_on = goes_nowhere desk legal;
       is_true = λ items. tt;
       between = tt;
+      spelled = tt;
       named = λ n. zero-add (times n desk.mine);
     })
 
@@ -161,6 +164,7 @@ module _ {S : Type 0} where
             ∙ (ap (λ (d : DueItem). map (taken_as without_plans) h.due ++ d ∷ []) a.due ∙ sym (map-append (taken_as without_plans) h.due (item here heard ∷ []))));
         answers = answers_push now.setting now.seen feed [] items x (still_true before now feed items a.goes_on h.answers) (a.is_true items);
         in_order = order_push 0 0 items x h.in_order (omega (arith, last, line, due.number)) (follows_between (last_number 0 items) (length before.seen) (length now.seen) (kind_of x) number a.between);
+        spelled = All-push IsSpelledItem items x h.spelled a.spelled;
         passed = All-push (λ answered. line_of answered ≤ reader.lines) items x (λ k d low. omega (arith, h.passed k d low, due.number, due.lines)) (omega (arith, line, due.lines));
       }
 

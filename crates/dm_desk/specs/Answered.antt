@@ -7,6 +7,7 @@ use Rattle.dm_feed.specs.DueItems.{DueItem, GivesLines, StopsSo}
 use Rattle.dm_rows.specs.History.{IsLegal}
 use Rattle.dm_cert.specs.declared.replies.LogItem.{LogItem}
 use Rattle.dm_cert.specs.Logs.{Kind, free, told, entered, kind_of, line_of, AreTrueAnswers, IsInOrder, names, due_of, taken_as, without_plans}
+use Rattle.dm_cert.specs.RunTexts.{IsSpelledItem}
 use Rattle.dm_desk.specs.Desks.{DeskValue, GoesOn}
 
 -- how often a number stands in a list
@@ -25,7 +26,7 @@ abbrev pub IsOpen : {S : Type 0} → ReaderValue S → Type 0
 IsOpen reader = (reader.stop ≡ None) ⊎ (reader.stop ≡ Some End)
 
 -- The log answers the due lines that a reader has given since its start, in order; what it holds is true of the history that
--- the desk has seen.
+-- the desk has seen, and has a spelling.
 pub record IsAnswered {S : Type 0} (left : S → Option (List ℕ)) (start reader : ReaderValue S) (desk : DeskValue) (feed : ℕ) (items : List LogItem) : Type 0 where
   pub due : List DueItem
   pub given : GivesLines left start due reader
@@ -33,6 +34,7 @@ pub record IsAnswered {S : Type 0} (left : S → Option (List ℕ)) (start reade
   pub answers : AreTrueAnswers desk.setting desk.seen feed [] items
   pub in_order : IsInOrder 0 0 items
   pub passed : All (λ answered. line_of answered ≤ reader.lines) items
+  pub spelled : All IsSpelledItem items
 
 -- The feed was answered so up to its stop.
 pub record IsEnded {S : Type 0} (left : S → Option (List ℕ)) (start : ReaderValue S) (desk : DeskValue) (feed : ℕ) (items : List LogItem) (stop : FeedStop) : Type 0 where

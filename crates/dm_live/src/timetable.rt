@@ -229,6 +229,13 @@ impl LiveTimetable {
         }
     }
 
+    /// What the events are held to.
+    pub fn constraints(&self) -> &Constraints
+        ensures { result.now ≡ self.now.given }
+    {
+        &self.constraints
+    }
+
     /// The times of the events.
     pub fn times(&self) -> &Times
         ensures { result.now ≡ self.now.times }

@@ -1,3 +1,8 @@
 -- States of loops. Who believes what an engine promises need not read them.
 pub mod Sweeping
 pub mod Setting
+-- What a change concerns, and what is held and marked while it is made.
+pub mod Concern
+pub mod Turning
+pub mod Changing
+pub mod Altering

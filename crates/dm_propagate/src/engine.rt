@@ -7,12 +7,14 @@ ghost use Rattle.dm_rows.specs.Reach.{Reaches, ReachesFlip};
 ghost use Rattle.dm_rows.specs.Resolve.{after_change, after_flip};
 ghost use Rattle.dm_rows.specs.Cost.{cost_of};
 ghost use Rattle.dm_rows.specs.Timetable.{IsLeast};
+ghost use Rattle.dm_rows.specs.Touch.{IsDelayPassOrClock};
 ghost use Rattle.dm_times.specs.Faults.{RefusesTimes};
 ghost use Rattle.dm_propagate.specs.Engine.{IsEngineOf, times_of};
+ghost use Rattle.dm_propagate.specs.Reading.{KeepsClock, ReadsFew};
 
+use crate::moving::{Alteration, move_to, try_rows};
 use crate::setting::set_flips;
 use crate::starting::live_for;
-use crate::sweeping::{move_to, try_rows};
 use dm_base::{Cost, Steps};
 use dm_graph::search::Cyclic;
 use dm_live::LiveTimetable;
@@ -69,7 +71,8 @@ impl Engine {
     }
 
     /// Makes a change, and computes the times that it moves. [`Cyclic`] comes exactly where the changed rows have a cycle:
-    /// then the engine is as before, and [`Engine::last_cycle`] is such a cycle.
+    /// then the engine is as before, and [`Engine::last_cycle`] is such a cycle. For a delay, a pass or a clock that is not
+    /// taken back, it reads the rows of the events that this can move, and not of the others.
     pub fn update<L: Ledger>(
         &mut self,
         net: &Network,
@@ -84,10 +87,12 @@ impl Engine {
         ensures no_cycle { OnOk result (HasNoCycle net.now self.new.rows) }
         ensures unchanged { OnErr result ((self.new.rows ≡ self.old.rows) × (times_of self.new ≡ times_of self.old)) }
         ensures cycle { OnErr result (IsCycle net.now (after_change self.old.rows change.now) self.new.live.order.cycle) }
+        ensures few_reads { IsDelayPassOrClock change.now → KeepsClock self.old.rows change.now → ReadsFew net.now (after_change self.old.rows change.now) change.now (times_of self.old) (times_of self.new) steps.old steps.new }
     {
         net.sound();
         self.twin.apply(change);
-        match move_to(&mut self.live, net, &self.rows, &self.twin, steps) {
+        let what = Alteration::Change(change);
+        match move_to(&mut self.live, net, &self.rows, &self.twin, &what, steps) {
             Ok(()) => {
                 self.rows.apply(change);
                 Ok(())
@@ -117,7 +122,8 @@ impl Engine {
     {
         net.sound();
         set_flips(&mut self.twin, flips);
-        match move_to(&mut self.live, net, &self.rows, &self.twin, steps) {
+        let what = Alteration::Adoption(flips);
+        match move_to(&mut self.live, net, &self.rows, &self.twin, &what, steps) {
             Ok(()) => {
                 set_flips(&mut self.rows, flips);
                 Ok(())
@@ -145,7 +151,8 @@ impl Engine {
         ensures cycle { OnErr result (IsCycle net.now (after_change self.old.rows change.now) self.new.live.order.cycle) }
     {
         self.twin.apply(change);
-        let outcome = try_rows(&mut self.live, net, &self.rows, &self.twin, steps);
+        let what = Alteration::Change(change);
+        let outcome = try_rows(&mut self.live, net, &self.rows, &self.twin, &what, steps);
         self.twin.copy_from(&self.rows);
         outcome
     }
@@ -165,7 +172,8 @@ impl Engine {
         ensures cycle { OnErr result (IsCycle net.now (fold after_flip self.old.rows flips.now) self.new.live.order.cycle) }
     {
         set_flips(&mut self.twin, flips);
-        let outcome = try_rows(&mut self.live, net, &self.rows, &self.twin, steps);
+        let what = Alteration::Adoption(flips);
+        let outcome = try_rows(&mut self.live, net, &self.rows, &self.twin, &what, steps);
         self.twin.copy_from(&self.rows);
         outcome
     }

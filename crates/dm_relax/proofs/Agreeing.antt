@@ -1,22 +1,21 @@
 -- Rows that have all decisions of a path agree in what the path decides.
-use Rattle.std.proofs.Common.{◌≡◌, ℕ, ◌+◌, ◌<◌, ◌≤◌, Bool, true, false, cond, eqb, List, [], ◌∷◌, ◌++◌, length, Option, Some, None, IsTrue, refl, sym, ap, subst, ◌∙◌, ◌⊎◌, inl, inr, arith}
-use Rattle.std.specs.Prelude.{Contains, All, not, ◌&&◌, is_some, unwrap_or, max, slice_index_or, position, ◌==◌, if◌then◌else◌}
+use Rattle.std.proofs.Common.{◌≡◌, ℕ, ◌+◌, ◌<◌, Bool, true, false, cond, List, [], ◌∷◌, length, Option, Some, None, refl, sym, ap, subst, ◌∙◌, ◌⊎◌, inl, inr, arith}
+use Rattle.std.specs.Prelude.{Contains, not, ◌&&◌, is_some, unwrap_or, max, slice_index_or, ◌==◌}
 use Rattle.std.specs.List.{list_any}
-use Rattle.std.proofs.lemmas.Bool.{cases_Bool, not-true, not-false, not_from_false, not_from_true, both_ways, and_from, and_parts, and_cases, or_cases, cond-true, cond-false}
-use Rattle.std.proofs.lemmas.List.Elements.{All-contains, Contains-append_right}
+use Rattle.std.proofs.lemmas.Bool.{cases_Bool, not-false, not_from_false, both_ways, and_from, and_cases, or_cases, cond-true, cond-false}
+use Rattle.std.proofs.lemmas.List.Elements.{Contains-append_right}
 use Rattle.std.proofs.lemmas.List.Quantifiers.{position-Some}
 use Rattle.dm_base.specs.declared.rows.ActKind.{ActKind}
 use Rattle.dm_base.specs.declared.rows.ActKind.TheVariants.{Drive, Wait, Turnaround, Change, Headway}
 use Rattle.dm_network.specs.Net.{Net, event_at, activity_at, pair_at, no_pair, is_change, is_headway}
-use Rattle.dm_network.specs.Pairs.{joins, pair_place, own_pair}
+use Rattle.dm_network.specs.Pairs.{joins, pair_place}
 use Rattle.dm_network.specs.Start.{IsNetwork, first_event}
 use Rattle.dm_network.proofs.PairKeys.{joins-true}
-use Rattle.dm_rows.specs.declared.messages.Choice.{Choice}
 use Rattle.dm_rows.specs.declared.messages.Decision.{Decision}
-use Rattle.dm_rows.specs.Rows.{RowsValue, IsSized, kept_at, small_first_at, passed_at}
-use Rattle.dm_rows.specs.Active.{has_passed, is_active, binds, binds_in_pair}
+use Rattle.dm_rows.specs.Rows.{RowsValue, kept_at, small_first_at, passed_at}
+use Rattle.dm_rows.specs.Active.{has_passed, is_active, binds}
 use Rattle.dm_rows.specs.Timetable.{floor_of, span_of, planned_time}
-use Rattle.dm_rows.specs.Decide.{free_choices_of, choice_of, change_choice, pair_choice, is_free_change, is_free_pair}
+use Rattle.dm_rows.specs.Decide.{choice_of, change_choice, pair_choice, is_free_change, is_free_pair}
 use Rattle.dm_rows.specs.Relax.{is_same_choice, is_decided, is_undecided_change, is_undecided_pair, is_of_undecided}
 use Rattle.dm_tree.proofs.Standing.{is_either}
 use Rattle.dm_relax.specs.Complete.{change_decision, pair_decision}

@@ -1,9 +1,9 @@
 -- The relaxed problem of a path asks no more, and charges for no more, than rows that have all decisions of the path.
-use Rattle.std.proofs.Common.{◌≡◌, ℕ, zero, suc, ◌+◌, ◌*◌, ◌<◌, ◌≤◌, Bool, true, false, cond, List, [], ◌∷◌, length, Option, Some, None, IsTrue, refl, sym, ap, subst, ◌∙◌, ◌⊎◌, inl, inr, arith}
-use Rattle.std.specs.Prelude.{Contains, not, ◌&&◌, nat_lt, sum_by, is_some, slice_index_or, if◌then◌else◌}
+use Rattle.std.proofs.Common.{◌≡◌, ℕ, zero, suc, ◌+◌, ◌*◌, ◌<◌, ◌≤◌, Bool, true, false, cond, List, length, Option, Some, None, refl, sym, ap, ◌∙◌, inl, inr, arith}
+use Rattle.std.specs.Prelude.{Contains, not, ◌&&◌, sum_by, is_some}
 use Rattle.std.specs.List.{range_with_len}
 use Rattle.std.proofs.Math.Nat.{mul-le-mul_left}
-use Rattle.std.proofs.lemmas.Bool.{cases_Bool, cases_lt, not-true, and_from, and_parts, ltb-true, lt-ltb}
+use Rattle.std.proofs.lemmas.Bool.{cases_lt, not-true, and_from, and_parts, ltb-true, lt-ltb}
 use Rattle.std.proofs.lemmas.List.{get_or_past}
 use Rattle.std.proofs.lemmas.List.Sums.{sum_by-cons}
 use Rattle.dm_graph.specs.Arcs.{Binds, BindsIn}
@@ -16,7 +16,7 @@ use Rattle.dm_network.specs.Start.{IsNetwork}
 use Rattle.dm_rows.specs.declared.messages.Decision.{Decision}
 use Rattle.dm_rows.specs.Rows.{RowsValue, kept_at, passed_at}
 use Rattle.dm_rows.specs.Active.{has_passed, is_active, active_arcs, HasNoCycle}
-use Rattle.dm_rows.specs.Timetable.{time_at, span_of, IsLeast, IsLeastHolding, MeetsHolding, graph_holding, graph_of}
+use Rattle.dm_rows.specs.Timetable.{time_at, span_of, IsLeast, graph_holding, graph_of}
 use Rattle.dm_rows.specs.Cost.{is_arrival, event_cost, charged_weight, is_dropped_change, missed_weight, comes_too_early, cost_of}
 use Rattle.dm_rows.specs.Decide.{with_decisions}
 use Rattle.dm_rows.specs.Relax.{is_of_undecided, is_undecided_change, is_relaxed_active, is_relaxed_dropped}

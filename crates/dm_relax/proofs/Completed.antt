@@ -1,38 +1,36 @@
 -- Rows that have every decision of the completion have the relaxed times and the relaxed cost.
-use Rattle.std.proofs.Common.{◌≡◌, ℕ, ◌+◌, ◌*◌, ◌<◌, ◌≤◌, Bool, true, false, cond, eqb, ltb, List, [], ◌∷◌, ◌++◌, length, get_or, Option, Some, None, IsTrue, IsSome, refl, sym, ap, subst, ◌∙◌, ◌⊎◌, inl, inr, arith}
-use Rattle.std.specs.Prelude.{Contains, All, not, ◌&&◌, ◌==◌, nat_lt, sum_by, slice_index_or, if◌then◌else◌}
-use Rattle.std.specs.List.{range_with_len, list_any}
+use Rattle.std.proofs.Common.{◌≡◌, ℕ, ◌+◌, ◌<◌, ◌≤◌, Bool, true, false, cond, List, length, get_or, Option, Some, None, IsSome, refl, sym, ap, subst, ◌∙◌, ◌⊎◌, inl, inr, arith}
+use Rattle.std.specs.Prelude.{Contains, not, ◌&&◌, ◌==◌, nat_lt, sum_by, slice_index_or}
+use Rattle.std.specs.List.{range_with_len}
 use Rattle.std.proofs.Math.Nat.{mul-le-mul_left}
-use Rattle.std.proofs.lemmas.Bool.{cases_Bool, both_ways, not-true, not_from_false, and_from, and_parts, and_cases, false_from_ne_true, ltb-true, ltb-false, lt-ltb, eqb-true, eq-eqb, cond-true, cond-false}
+use Rattle.std.proofs.lemmas.Bool.{cases_Bool, both_ways, not-true, not_from_false, and_from, and_parts, and_cases, false_from_ne_true, ltb-true, ltb-false, eqb-true, eq-eqb, cond-true, cond-false}
 use Rattle.std.proofs.lemmas.List.Elements.{Contains-append_left, Contains-append_right}
 use Rattle.std.proofs.lemmas.List.Folds.{list_any_at}
 use Rattle.std.proofs.lemmas.List.FromFn.{length-range_with_len, get_or-range_with_len}
 use Rattle.dm_base.specs.declared.rows.ActKind.{ActKind}
 use Rattle.dm_base.specs.declared.rows.ActKind.TheVariants.{Drive, Wait, Turnaround, Change as ChangeKind, Headway}
-use Rattle.dm_graph.specs.Graph.{Meets as MeetsGraph}
 use Rattle.dm_graph.proofs.Timetables.{least_for_more}
 use Rattle.dm_network.specs.Net.{Net, event_at, activity_at, pair_at, is_change, is_headway}
-use Rattle.dm_network.specs.Pairs.{pair_place, own_pair, IsHeadwayFrom, FormPair}
+use Rattle.dm_network.specs.Pairs.{pair_place, IsHeadwayFrom, FormPair}
 use Rattle.dm_network.specs.Start.{IsNetwork, first_event}
-use Rattle.dm_rows.specs.declared.messages.Choice.{Choice}
 use Rattle.dm_rows.specs.declared.messages.Decision.{Decision}
 use Rattle.dm_rows.specs.Rows.{RowsValue, IsSized, kept_at, small_first_at, passed_at}
 use Rattle.dm_rows.specs.Active.{has_passed, is_active, binds, HasNoCycle}
 use Rattle.dm_rows.specs.Timetable.{time_at, span_of, planned_time, IsLeast, Meets, graph_holding, graph_of}
-use Rattle.dm_rows.specs.Cost.{event_cost, charged_weight, is_dropped_change, missed_weight, comes_too_early, cost_of}
+use Rattle.dm_rows.specs.Cost.{charged_weight, is_dropped_change, missed_weight, comes_too_early, cost_of}
 use Rattle.dm_rows.specs.Decide.{change_choice, pair_choice, is_free_change, is_free_pair, with_decisions, IsChoiceList}
 use Rattle.dm_rows.specs.Relax.{is_decided, is_undecided_change, is_undecided_pair, is_of_undecided, is_relaxed_active, is_relaxed_dropped, is_of_pair, is_unmet_from, has_unmet_from, is_violated_change, is_violated_pair}
 use Rattle.dm_rows.proofs.AsGraph.{least_to_graph, least_from_graph, to_graph, relaxed_enter_no_passed, active_enter_no_passed}
 use Rattle.dm_tree.specs.Relaxed.{relaxed_cost_of}
 use Rattle.dm_times.proofs.Meeting.{rows_are_met}
-use Rattle.dm_relax.specs.Complete.{change_decision, pair_decision, completed_kept, completed_small_first, completed_change, completed_pair, completion_of}
+use Rattle.dm_relax.specs.Complete.{completed_kept, completed_small_first, completed_change, completed_pair, completion_of}
 use Rattle.dm_relax.specs.Laws.{ViolatesNothing}
 use Rattle.dm_relax.proofs.Naming.{pair_found, pair_found_back}
 use Rattle.dm_relax.proofs.Setting.{DiffersInDecisions, HasDecision, differs_in_none, differs_with, has_each, has_kept, has_first}
-use Rattle.dm_relax.proofs.Agreeing.{PairJoins, pair_joins, active_same, has_passed_same, passed_same, span_same, kept_agrees, decided_change}
+use Rattle.dm_relax.proofs.Agreeing.{pair_joins, active_same, has_passed_same, passed_same, span_same, kept_agrees, decided_change}
 use Rattle.dm_relax.proofs.Bounding.{sum-le, if_weight, asks_no_more, costs_no_more}
 use Rattle.dm_relax.proofs.Apart.{listed}
-use Rattle.dm_relax.proofs.Completing.{cases_option, change_completed, pair_completed, completion_holds}
+use Rattle.dm_relax.proofs.Completion.{cases_option, change_completed, pair_completed, completion_holds}
 
 -- what binds into an event that has not passed, and what that needs of a paired headway
 active_parts : (passed : Bool) (b : Bool) → cond passed false b ≡ true → (passed ≡ false) × (b ≡ true)

@@ -3,6 +3,9 @@ pub mod Setting
 pub mod Agreeing
 pub mod Bounding
 pub mod Apart
-pub mod Completing
+pub mod Completion
 pub mod Completed
-pub mod Relaxing
+pub mod BoundLaw
+pub mod Flagging
+pub mod Gathering
+pub mod Differences

@@ -1,6 +1,6 @@
 -- What a decision of a free choice names.
-use Rattle.std.proofs.Common.{◌≡◌, ℕ, ◌+◌, ◌<◌, Bool, true, false, cond, eqb, ltb, List, [], ◌∷◌, ◌++◌, length, map, get_or, Option, Some, None, refl, sym, ap, subst, ◌∙◌, ◌⊎◌, inl, inr, arith}
-use Rattle.std.specs.Prelude.{filter, Contains, All, option_map, ◌&&◌}
+use Rattle.std.proofs.Common.{◌≡◌, ℕ, ◌<◌, Bool, true, false, eqb, List, length, map, get_or, Some, refl, sym, ap, ◌∙◌, inl, inr, arith}
+use Rattle.std.specs.Prelude.{filter, Contains, All, option_map}
 use Rattle.std.specs.List.{range_with_len}
 use Rattle.std.proofs.lemmas.Bool.{eqb-true, eq-eqb, ne_eqb, lt-ltb, le-ltb, and_parts, and_from}
 use Rattle.std.proofs.lemmas.List.{get_or-map, length-map}
@@ -9,7 +9,7 @@ use Rattle.std.proofs.lemmas.List.Elements.{All-filter, filter_passes, Contains-
 use Rattle.dm_base.specs.declared.ids.ActId.{ActId}
 use Rattle.dm_base.specs.declared.ids.EventId.{EventId}
 use Rattle.dm_network.specs.Net.{Net, event_at, activity_at, pair_at, no_event, no_activity, no_pair, event_place, activity_place}
-use Rattle.dm_network.specs.Pairs.{joins, pair_place, IsPaired}
+use Rattle.dm_network.specs.Pairs.{joins, pair_place}
 use Rattle.dm_network.specs.Start.{IsNetwork}
 use Rattle.dm_network.specs.Inside.Flat.{ArePairsInOrder}
 use Rattle.dm_network.proofs.Keys.{key_is_found, key_rises}
@@ -17,7 +17,7 @@ use Rattle.dm_network.proofs.PairKeys.{pair_is_found, joins_forward, joins_backw
 use Rattle.dm_rows.specs.declared.messages.Choice.{Choice}
 use Rattle.dm_rows.specs.declared.messages.Choice.TheVariants.{Change, Pair}
 use Rattle.dm_rows.specs.declared.messages.Decision.{Decision}
-use Rattle.dm_rows.specs.declared.messages.Decision.TheVariants.{Keep, Drop, First}
+use Rattle.dm_rows.specs.declared.messages.Decision.TheVariants.{Keep, First}
 use Rattle.dm_rows.specs.declared.messages.Flip.{Flip}
 use Rattle.dm_rows.specs.declared.messages.Flip.TheVariants.{Keep as KeepFlip, Drop as DropFlip, First as FirstFlip}
 use Rattle.dm_rows.specs.Rows.{RowsValue}

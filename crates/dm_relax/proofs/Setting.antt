@@ -1,24 +1,23 @@
 -- What the rows have after decisions of free choices, one after another.
-use Rattle.std.proofs.Common.{◌≡◌, ◌≢◌, ℕ, ◌<◌, Bool, true, false, List, [], ◌∷◌, ◌++◌, length, set, get_or, Option, Some, None, IsTrue, refl, sym, ap, subst, ◌∙◌, ◌⊎◌, inl, inr, arith}
-use Rattle.std.specs.Prelude.{Contains, All, not, slice_get}
-use Rattle.std.proofs.lemmas.Bool.{cases_Bool, cases_eq, not-true, not_from_false, both_ways}
+use Rattle.std.proofs.Common.{◌≡◌, ℕ, ◌<◌, Bool, true, false, List, [], ◌∷◌, length, set, Option, Some, None, refl, sym, ap, subst, ◌∙◌, ◌⊎◌, inl, inr, arith}
+use Rattle.std.specs.Prelude.{Contains, All, slice_get}
+use Rattle.std.proofs.lemmas.Bool.{cases_Bool, not-true, not_from_false, both_ways}
 use Rattle.std.proofs.lemmas.Grind.{get_or-set_at}
 use Rattle.std.proofs.lemmas.List.{get_or-set_other, length-set}
 use Rattle.std.proofs.lemmas.List.Elements.{All-head, All-tail, All-contains, Contains-append_cases, Contains-append_right, Contains-push_cases}
 use Rattle.std.proofs.lemmas.Option.{slice_get-get_or}
 use Rattle.dm_network.specs.Net.{Net}
 use Rattle.dm_network.specs.Start.{IsNetwork}
-use Rattle.dm_rows.specs.declared.messages.Choice.{Choice}
 use Rattle.dm_rows.specs.declared.messages.Decision.{Decision}
 use Rattle.dm_rows.specs.declared.messages.Flip.{Flip}
 use Rattle.dm_rows.specs.declared.messages.Flip.TheVariants.{Keep, Drop, First}
 use Rattle.dm_rows.specs.Rows.{RowsValue, IsSized, kept_at, small_first_at}
-use Rattle.dm_rows.specs.Resolve.{flip_named, after_flip}
+use Rattle.dm_rows.specs.Resolve.{flip_named}
 use Rattle.dm_rows.specs.Decide.{free_choices_of, change_choice, pair_choice, choice_of, with_flip, with_decisions, IsChoiceList}
 use Rattle.dm_rows.specs.Relax.{is_same_choice}
 use Rattle.dm_tree.specs.Plans.{is_set}
 use Rattle.dm_relax.specs.Complete.{change_decision, pair_decision}
-use Rattle.dm_relax.proofs.Naming.{Names, of_change, of_pair, names, change_flip, change_flips, pair_flips, change_decides, pair_decides, one_change, one_pair, same_choice, same_itself}
+use Rattle.dm_relax.proofs.Naming.{Names, of_change, of_pair, names, change_flip, change_flips, pair_flips, change_decides, pair_decides, same_choice, same_itself}
 
 -- rows that differ from others in decisions alone
 pub record DiffersInDecisions (rows r : RowsValue) : Type 0 where

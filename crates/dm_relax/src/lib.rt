@@ -1,4 +1,17 @@
 //! The relaxed problem of a path of decisions, and what completes a path that violates nothing.
+//!
+//! It stands on dm_times for least timetables and costs, and on dm_tree for what the relaxed problem of a path is. [`relax`]
+//! gives its least times, what they cost, and the first undecided choice that they violate, or a cycle exactly where it has
+//! one; [`complete`] gives the choices that a path leads to where nothing is violated. Its law says that no choices that
+//! hold the path's decisions cost less, and that the completion costs as much.
 #![tactic(auto)]
 
+mod completing;
 pub mod laws;
+mod relaxation;
+mod relaxing;
+mod undecided;
+mod unmet;
+
+pub use completing::complete;
+pub use relaxing::{Relaxed, relax};

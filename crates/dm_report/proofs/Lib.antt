@@ -1,1 +1,3 @@
+pub mod Adopted
 pub mod Printed
+pub mod RunFits

@@ -7,6 +7,7 @@
 #![tactic(auto)]
 
 mod answers;
+mod fitting;
 mod records;
 mod runs;
 mod summaries;

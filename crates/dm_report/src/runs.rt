@@ -1,7 +1,7 @@
 //! Runs and timetables in print.
-ghost use Rattle.std.specs.Prelude.{◌≡◌, length};
+ghost use Rattle.std.specs.Prelude.{◌≡◌, length, OnOk};
 ghost use Rattle.dm_outside.specs.Printing.{Prints, Puts};
-ghost use Rattle.dm_cert.specs.RunTexts.{IsSpelledRun, run_text, timetable_text};
+ghost use Rattle.dm_cert.specs.RunTexts.{IsSpelledRun, FitsRun, run_text, timetable_text};
 ghost use Rattle.dm_report.specs.Printed.{printed_run};
 
 use crate::answers::put_logs;
@@ -41,10 +41,12 @@ pub struct Run<'a> {
 /// Prints a run whole.
 fn put_run<K: Sink>(sink: &mut K, page: &mut Page, run: &Run<'_>) -> Result<(), WriteFault>
     requires { IsSpelledRun (printed_run run.now) }
-    ensures { Prints K.taken K.faults sink.old sink.new page.old page.new result (run_text 2 (printed_run run.now)) }
+    ensures text { Prints K.taken K.faults sink.old sink.new page.old page.new result (run_text 2 (printed_run run.now)) }
+    ensures fits { OnOk result (FitsRun (printed_run run.now)) }
 {
-    let entries = run.history.as_slice();
-    let Ok(()) = put_header(sink, page, run.penalty, run.logs.len(), entries.len()) else {
+    let (entries, penalty, cost) = (run.history.as_slice(), run.penalty, run.cost);
+    run.times.is_early();
+    let Ok(()) = put_header(sink, page, penalty, run.logs.len(), entries.len()) else {
         return Err(WriteFault);
     };
     let Ok(()) = put_entries(sink, page, entries) else {
@@ -65,15 +67,17 @@ fn put_run<K: Sink>(sink: &mut K, page: &mut Page, run: &Run<'_>) -> Result<(), 
     let Ok(()) = put_times(sink, page, run.net, run.times) else {
         return Err(WriteFault);
     };
-    put_ending(sink, page, run.cost)
+    put_ending(sink, page, cost)
 }
 
 /// Writes the one spelling of the run in version 2. The run has one: no log item is of an adopted list as a line, tells want
 /// of memory, or tells a full history at another number of entries than 1,000,000; and there is a time for each event. A write
-/// fault comes only where a write failed; the sink has then taken a front of the spelling, and not all of it.
+/// fault comes only where a write failed; the sink has then taken a front of the spelling, and not all of it. What was printed
+/// whole has no number that its type would not hold: callers learn it here.
 pub fn print_run<K: Sink>(run: &Run<'_>, sink: &mut K) -> Result<(), WriteFault>
     requires { IsSpelledRun (printed_run run.now) }
-    ensures { Puts K.taken K.faults sink.old sink.new result (run_text 2 (printed_run run.now)) }
+    ensures text { Puts K.taken K.faults sink.old sink.new result (run_text 2 (printed_run run.now)) }
+    ensures fits { OnOk result (FitsRun (printed_run run.now)) }
 {
     let mut page = Page::new();
     let Ok(()) = put_run(sink, &mut page, run) else {

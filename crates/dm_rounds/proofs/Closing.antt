@@ -1,5 +1,5 @@
 -- How rounds begin, follow each other and end.
-use Rattle.std.proofs.Common.{◌≡◌, ℕ, zero, suc, ◌+◌, ◌<◌, ◌≤◌, inl, inr, cond, List, [], ◌∷◌, ◌++◌, length, map, Option, Some, None, IsSome, refl, sym, ap, subst, ◌∙◌, arith, length-append, get_or, set, slice_get}
+use Rattle.std.proofs.Common.{◌≡◌, ℕ, zero, suc, ◌+◌, ◌<◌, ◌≤◌, inl, inr, cond, List, [], ◌∷◌, ◌++◌, length, map, Option, Some, None, IsSome, refl, sym, ap, subst, ◌∙◌, arith, length-append, get_or, set, slice_get, All}
 use Rattle.std.specs.Prelude.{count_by, sum_by}
 use Rattle.std.proofs.lemmas.List.{length-set, length-map}
 use Rattle.std.proofs.lemmas.List.Elements.{All-nil}
@@ -9,6 +9,7 @@ use Rattle.dm_feed.specs.declared.feed.FeedStop.TheVariants.{Fault}
 use Rattle.dm_cert.specs.declared.replies.LogItem.{LogItem}
 use Rattle.dm_cert.specs.declared.replies.FeedLog.{FeedLog}
 use Rattle.dm_cert.specs.Logs.{line_of, AreTrueAnswers, IsInOrder, names, all_items, IsTrueLog, HasNumberAt}
+use Rattle.dm_cert.specs.RunTexts.{IsSpelledItem}
 use Rattle.dm_desk.specs.Desks.{DeskValue}
 use Rattle.dm_desk.specs.Answered.{HasSeenLegal}
 use Rattle.dm_desk.proofs.Answering.{goes_nowhere}
@@ -33,6 +34,12 @@ job_in_order left is_sound (Some source) desk number (Reading reader) items j = 
 job_in_order left is_sound None desk number (Reading reader) items j = absurd j
 job_in_order left is_sound (Some source) desk number (Ended stop) items j = j.in_order
 job_in_order left is_sound None desk number (Ended stop) items j = j.in_order
+
+job_spelled : {S : Type 0} (left : S → Option (List ℕ)) (is_sound : S → Type 0) (feed : Option S) (desk : DeskValue) (number : ℕ) (progress : Progress S) (items : List LogItem) → IsJob left is_sound feed desk number progress items → All IsSpelledItem items
+job_spelled left is_sound (Some source) desk number (Reading reader) items j = j.answered.spelled
+job_spelled left is_sound None desk number (Reading reader) items j = absurd j
+job_spelled left is_sound (Some source) desk number (Ended stop) items j = j.spelled
+job_spelled left is_sound None desk number (Ended stop) items j = j.spelled
 
 job_can_read : {S : Type 0} (left : S → Option (List ℕ)) (is_sound : S → Type 0) (feed : Option S) (desk : DeskValue) (number : ℕ) (progress : Progress S) (items : List LogItem) → IsJob left is_sound feed desk number progress items → CanRead progress
 job_can_read left is_sound (Some source) desk number (Reading reader) items j = j.is_open
@@ -133,14 +140,14 @@ module _ {S : Type 0} (left : S → Option (List ℕ)) (is_sound : S → Type 0)
       let Q : List LogItem → Type 0 = λ l. IsJob left is_sound (Some source) desk number (Reading (new_reader source)) l in
       subst P (sym b.0) (subst Q (sym b.1)
       (record {
-        answered = record { due = []; given = refl; answered = refl; answers = tt; in_order = tt; passed = All-nil (λ answered. line_of answered ≤ 0) };
+        answered = record { due = []; given = refl; answered = refl; answers = tt; in_order = tt; passed = All-nil (λ answered. line_of answered ≤ 0); spelled = All-nil IsSpelledItem };
         is_open = inl refl;
         sound = λ x. x;
       }))
   begin_job None desk number job b =
       let P : Progress S → Type 0 = λ p. IsJob left is_sound None desk number p job.log.items in
       let Q : List LogItem → Type 0 = λ l. IsJob left is_sound None desk number (Ended Fault) l in
-      subst P (sym b.0) (subst Q (sym b.1) (record { log_for = record { none = refl; fault = refl }; answers = tt; in_order = tt }))
+      subst P (sym b.0) (subst Q (sym b.1) (record { log_for = record { none = refl; fault = refl }; answers = tt; in_order = tt; spelled = All-nil IsSpelledItem }))
 
   begin_empty : (feed : Option S) (job : Job S) → Begins feed job → job.log.items ≡ []
   begin_empty (Some source) job b = b.1
@@ -220,6 +227,12 @@ module _ {S : Type 0} (left : S → Option (List ℕ)) (is_sound : S → Type 0)
               answers = job_true left is_sound feed desk (k + 1) at.0.progress at.0.log.items j;
               in_order = job_in_order left is_sound feed desk (k + 1) at.0.progress at.0.log.items j;
             });
+        spelled = λ k log e.
+            let at = log_at jobs k log e in
+            let feed = get_or feeds k None in
+            let j = s.each k feed at.0 (feed_at feeds jobs k at.0 s.as_many at.1) at.1 in
+            let Q : FeedLog → Type 0 = λ l. All IsSpelledItem l.items in
+            subst Q (sym at.2) (job_spelled left is_sound feed desk (k + 1) at.0.progress at.0.log.items j);
         named = λ n. omega (arith, names_in_logs n jobs, s.named n);
         rounds = λ k l a b m n x y lt. s.kept k a l b m n (number_at jobs k a m x) (number_at jobs l b n y) lt;
       })

@@ -37,6 +37,7 @@ still_answered left start reader before now feed items on a = record {
   answers = still_true before now feed items on a.answers;
   in_order = a.in_order;
   passed = a.passed;
+  spelled = a.spelled;
 }
 
 job_grows : {S : Type 0} (left : S → Option (List ℕ)) (is_sound : S → Type 0) (feed : Option S) (before now : DeskValue) (number : ℕ) (progress : Progress S) (items : List LogItem) → GoesOn before now → IsJob left is_sound feed before number progress items → IsJob left is_sound feed now number progress items
@@ -46,8 +47,8 @@ job_grows left is_sound (Some source) before now number (Reading reader) items o
   sound = j.sound;
 }
 job_grows left is_sound None before now number (Reading reader) items on j = j
-job_grows left is_sound (Some source) before now number (Ended stop) items on j = record { log_for = j.log_for; answers = still_true before now number items on j.answers; in_order = j.in_order }
-job_grows left is_sound None before now number (Ended stop) items on j = record { log_for = j.log_for; answers = still_true before now number items on j.answers; in_order = j.in_order }
+job_grows left is_sound (Some source) before now number (Ended stop) items on j = record { log_for = j.log_for; answers = still_true before now number items on j.answers; in_order = j.in_order; spelled = j.spelled }
+job_grows left is_sound None before now number (Ended stop) items on j = record { log_for = j.log_for; answers = still_true before now number items on j.answers; in_order = j.in_order; spelled = j.spelled }
 
 -- ---- numbers
 
@@ -236,6 +237,7 @@ module _ {S : Type 0} (left : S → Option (List ℕ)) (is_sound : S → Type 0)
         log_for = finished_log source now number after stop e (λ fault x. answers.cause fault (j.sound x));
         answers = e.answered.answers;
         in_order = e.answered.in_order;
+        spelled = e.answered.spelled;
       }
 
   feed_then : (feed : Option S) (reader then : ReaderValue S) (stop : Option FeedStop) (before now : DeskValue) (number : ℕ) (items after : List LogItem) → AnswersBatch left is_sound reader then before now number batch items after stop → (is_sound reader.source → is_sound then.source)

@@ -10,18 +10,19 @@ use Rattle.dm_graph.specs.Graph.{AsksNoMore}
 use Rattle.dm_graph.proofs.Timetables.{same_is_least_alike}
 use Rattle.dm_graph.proofs.Transfers.{cycle_carries}
 use Rattle.dm_network.specs.Net.{Net, EndsAreKnown}
-use Rattle.dm_network.specs.Held.{is_held, HasNoCycleOf, ShowsCycleOf}
+use Rattle.dm_network.specs.Held.{arcs_of, is_held, HasNoCycleOf, ShowsCycleOf}
+use Rattle.dm_rows.specs.Active.{is_active, HasNoCycle}
 use Rattle.dm_rows.specs.Rows.{RowsValue}
-use Rattle.dm_rows.specs.Active.{is_active, active_arcs, HasNoCycle, ShowsCycle}
-use Rattle.dm_rows.specs.Timetable.{IsLeast, floor_of, span_of, graph_of}
-use Rattle.dm_rows.proofs.AsGraph.{active_enter_no_passed, least_from_graph}
+use Rattle.dm_rows.specs.Timetable.{IsLeast, IsLeastHolding, floor_of, span_of, graph_holding}
+use Rattle.dm_rows.specs.Laws.{EntersNoPassed}
+use Rattle.dm_rows.proofs.AsGraph.{least_from_graph, active_enter_no_passed}
 use Rattle.dm_settle.specs.Constraints.{ConstraintsValue, arcs_given, graph_given, nothing_held}
 use Rattle.dm_settle.specs.Settling.{AreLeast}
 use Rattle.dm_settle.specs.Constraints.{RefusesTimes as RefusesGiven}
 use Rattle.dm_settle.specs.declared.faults.NoTimes.{NoTimes}
 use Rattle.dm_settle.specs.declared.faults.NoTimes.TheVariants.{Cycle, OutOfMemory}
-use Rattle.dm_times.specs.Faults.{RefusesTimes}
-use Rattle.dm_times.specs.Inside.Filling.{AreConstraintsOf, HoldsTo, FloorsTo, SpansTo}
+use Rattle.dm_times.specs.Faults.{RefusesHolding}
+use Rattle.dm_times.specs.Inside.Filling.{AreConstraintsHolding, AreConstraintsOf, HoldsTo, FloorsTo, SpansTo}
 
 -- the first n items are by a function, and so is the next one that is set
 one_more : {A : Type 0} (xs : List A) (d v : A) (f : ℕ → A) (n : ℕ) → n < length xs → ((k : ℕ) → k < n → get_or xs k d ≡ f k) →
@@ -32,15 +33,15 @@ one_more xs d v f n below each is k lt =
       | inr other ↦ get_or-set_other xs n k v d other ∙ each k (omega arith)
     ]
 
-pub holds_none : (net : Net) (rows : RowsValue) (given : ConstraintsValue) → HoldsTo net rows 0 given given
-holds_none net rows given = record { size = refl; each = λ a lt. absurd (omega arith); floors = refl; spans = refl }
+pub holds_none : (held : ℕ → Bool) (given : ConstraintsValue) → HoldsTo held 0 given given
+holds_none held given = record { size = refl; each = λ a lt. absurd (omega arith); floors = refl; spans = refl }
 
-pub holds_next : (net : Net) (rows : RowsValue) (n : ℕ) (before now : ConstraintsValue) (b : Bool) → n < length before.held →
-    b ≡ is_active net rows n → HoldsTo net rows n before now → HoldsTo net rows (n + 1) before (record now { held = set now.held n b })
-holds_next net rows n before now b below is h =
+pub holds_next : (held : ℕ → Bool) (n : ℕ) (before now : ConstraintsValue) (b : Bool) → n < length before.held →
+    b ≡ held n → HoldsTo held n before now → HoldsTo held (n + 1) before (record now { held = set now.held n b })
+holds_next held n before now b below is h =
     record {
       size = length-set now.held n b ∙ h.size;
-      each = one_more now.held false b (is_active net rows) n (let size = h.size in omega arith) h.each is;
+      each = one_more now.held false b held n (let size = h.size in omega arith) h.each is;
       floors = h.floors;
       spans = h.spans;
     }
@@ -84,10 +85,10 @@ pub spans_size : (net : Net) (given : ConstraintsValue) → given ≡ nothing_he
 spans_size net given is = ap (λ (g : ConstraintsValue). length g.spans) is ∙ length-replicate (length net.activities) 0
 
 -- filled in one list after the other, they are the rows'
-pub filled : (net : Net) (rows : RowsValue) (empty holding floored given : ConstraintsValue) → empty ≡ nothing_held net →
-    HoldsTo net rows (length net.activities) empty holding → FloorsTo net rows (length net.events) holding floored →
-    SpansTo net rows (length net.activities) floored given → AreConstraintsOf net rows given
-filled net rows empty holding floored given is held floors spans =
+pub filled : (net : Net) (rows : RowsValue) (held_to : ℕ → Bool) (empty holding floored given : ConstraintsValue) → empty ≡ nothing_held net →
+    HoldsTo held_to (length net.activities) empty holding → FloorsTo net rows (length net.events) holding floored →
+    SpansTo net rows (length net.activities) floored given → AreConstraintsHolding net rows held_to given
+filled net rows held_to empty holding floored given is held floors spans =
     record {
       sized = record {
         held = ap length (spans.held ∙ floors.held) ∙ held.size ∙ held_size net empty is;
@@ -100,8 +101,8 @@ filled net rows empty holding floored given is held floors spans =
     }
 
 -- the graph of the constraints is that of the rows
-module _ (net : Net) (rows : RowsValue) (given : ConstraintsValue) (are : AreConstraintsOf net rows given) where
-  there : (a : ℕ) → Binds (arcs_given net given) a → BindsIn (arcs_given net given) (active_arcs net rows) a
+module _ (net : Net) (rows : RowsValue) (held : ℕ → Bool) (given : ConstraintsValue) (are : AreConstraintsHolding net rows held given) where
+  there : (a : ℕ) → Binds (arcs_given net given) a → BindsIn (arcs_given net given) (arcs_of net held) a
   there a b = record {
     binds = record {
       is_arc = b.is_arc;
@@ -113,7 +114,7 @@ module _ (net : Net) (rows : RowsValue) (given : ConstraintsValue) (are : AreCon
     same_head = refl;
   }
 
-  back : (a : ℕ) → Binds (active_arcs net rows) a → BindsIn (active_arcs net rows) (arcs_given net given) a
+  back : (a : ℕ) → Binds (arcs_of net held) a → BindsIn (arcs_of net held) (arcs_given net given) a
   back a b = record {
     binds = record {
       is_arc = b.is_arc;
@@ -125,7 +126,7 @@ module _ (net : Net) (rows : RowsValue) (given : ConstraintsValue) (are : AreCon
     same_head = refl;
   }
 
-  asks_no_more : AsksNoMore (graph_given net given) (graph_of net rows)
+  asks_no_more : AsksNoMore (graph_given net given) (graph_holding net rows held)
   asks_no_more = record {
     same_events = refl;
     floors = λ e lt. let is = are.floors e lt in omega arith;
@@ -133,7 +134,7 @@ module _ (net : Net) (rows : RowsValue) (given : ConstraintsValue) (are : AreCon
     spans = λ a b. let is = are.spans a b.is_arc in omega arith;
   }
 
-  asks_no_less : AsksNoMore (graph_of net rows) (graph_given net given)
+  asks_no_less : AsksNoMore (graph_holding net rows held) (graph_given net given)
   asks_no_less = record {
     same_events = refl;
     floors = λ e lt. let is = are.floors e lt in omega arith;
@@ -142,23 +143,34 @@ module _ (net : Net) (rows : RowsValue) (given : ConstraintsValue) (are : AreCon
   }
 
   -- what is least for the constraints is least for the rows
-  pub least_for_rows : (times : List ℕ) → EndsAreKnown net → AreLeast (graph_given net given) times → IsLeast net rows times
-  least_for_rows times known l =
-      least_from_graph net rows (is_active net rows) times known l.as_many (active_enter_no_passed net rows)
-      (same_is_least_alike (graph_given net given) (graph_of net rows) (slice_index times) asks_no_more asks_no_less l.least)
+  pub least_for_held : (times : List ℕ) → EndsAreKnown net → EntersNoPassed net rows held → AreLeast (graph_given net given) times →
+      IsLeastHolding net rows held times
+  least_for_held times known enters l =
+      least_from_graph net rows held times known l.as_many enters
+      (same_is_least_alike (graph_given net given) (graph_holding net rows held) (slice_index times) asks_no_more asks_no_less l.least)
 
-  pub no_cycle_of_rows : HasNoCycleOf net (is_held given.held) → HasNoCycle net rows
-  no_cycle_of_rows none cycle c = none cycle (cycle_carries (active_arcs net rows) (arcs_given net given) back cycle c)
+  pub no_cycle_of_held : HasNoCycleOf net (is_held given.held) → HasNoCycleOf net held
+  no_cycle_of_held none cycle c = none cycle (cycle_carries (arcs_of net held) (arcs_given net given) back cycle c)
 
-  pub shows_cycle_of_rows : (ids : List ActId) → ShowsCycleOf net (is_held given.held) ids → ShowsCycle net rows ids
-  shows_cycle_of_rows ids s = record {
+  pub shows_cycle_of_held : (ids : List ActId) → ShowsCycleOf net (is_held given.held) ids → ShowsCycleOf net held ids
+  shows_cycle_of_held ids s = record {
     places = s.places;
-    is_cycle = cycle_carries (arcs_given net given) (active_arcs net rows) there s.places s.is_cycle;
+    is_cycle = cycle_carries (arcs_given net given) (arcs_of net held) there s.places s.is_cycle;
     named = s.named;
   }
 
 -- why the constraints have no times is why the rows have none
-pub refused_for_rows : (net : Net) (rows : RowsValue) (given : ConstraintsValue) → AreConstraintsOf net rows given → (fault : NoTimes) →
-    RefusesGiven net given fault → RefusesTimes net rows fault
-refused_for_rows net rows given are (Cycle ids) h = shows_cycle_of_rows net rows given are ids h
-refused_for_rows net rows given are OutOfMemory h = tt
+pub refused_for_held : (net : Net) (rows : RowsValue) (held : ℕ → Bool) (given : ConstraintsValue) → AreConstraintsHolding net rows held given →
+    (fault : NoTimes) → RefusesGiven net given fault → RefusesHolding net held fault
+refused_for_held net rows held given are (Cycle ids) h = shows_cycle_of_held net rows held given are ids h
+refused_for_held net rows held given are OutOfMemory h = tt
+
+-- and so where the active activities are held
+pub least_for_rows : (net : Net) (rows : RowsValue) (given : ConstraintsValue) → AreConstraintsOf net rows given → (times : List ℕ) →
+    EndsAreKnown net → AreLeast (graph_given net given) times → IsLeast net rows times
+least_for_rows net rows given are times known l =
+    least_for_held net rows (is_active net rows) given are times known (active_enter_no_passed net rows) l
+
+pub no_cycle_of_rows : (net : Net) (rows : RowsValue) (given : ConstraintsValue) → AreConstraintsOf net rows given →
+    HasNoCycleOf net (is_held given.held) → HasNoCycle net rows
+no_cycle_of_rows net rows given are none = no_cycle_of_held net rows (is_active net rows) given are none

@@ -142,7 +142,7 @@ fn missed_weight(net: &Network, rows: &Rows, times: &Times, a: usize) -> Milli
 }
 
 /// Whether the head of an activity comes before its tail and its span allow.
-fn comes_too_early(net: &Network, rows: &Rows, times: &Times, a: usize) -> bool
+pub fn comes_too_early(net: &Network, rows: &Rows, times: &Times, a: usize) -> bool
     requires sized { IsSized net.now rows.now }
     requires size { length times.now ≡ length net.now.events }
     requires is_activity { a < length net.now.activities }

@@ -3,35 +3,42 @@ ghost use Rattle.std.specs.Prelude.{◌≡◌, ◌+◌, ◌<◌, ◌≤◌, leng
 ghost use Rattle.dm_base.specs.declared.limits.TheConstants.{PASSED_TIME, BOUND, DELAY};
 ghost use Rattle.dm_rows.specs.Rows.{IsSized};
 ghost use Rattle.dm_rows.specs.Timetable.{floor_of, span_of};
-ghost use Rattle.dm_times.specs.Inside.Filling.{AreConstraintsOf, HoldsTo, FloorsTo, SpansTo};
+ghost use Rattle.dm_times.specs.Inside.Filling.{AreConstraintsHolding, HoldsTo, FloorsTo, SpansTo};
 
+use crate::holding::Holding;
 use dm_base::Secs;
 use dm_network::Network;
-use dm_rows::{Rows, is_active};
+use dm_rows::Rows;
 use dm_settle::Constraints;
 use std::alloc::{AllocError, Global};
 
-/// The active activities held, each with its lower bound and delay, and each event held to its passed time, or to the later
-/// of its planned time and the clock.
-pub fn constraints_of(alloc: Global, net: &Network, rows: &Rows) -> Result<Constraints, AllocError>
-    requires { IsSized net.now rows.now }
-    ensures { IfOk result (AreConstraintsOf net.now rows.now) }
+/// These activities held, each with its lower bound and delay, and each event held to its passed time, or to the later of its
+/// planned time and the clock.
+pub fn constraints_holding<H: Holding>(
+    alloc: Global,
+    net: &Network,
+    rows: &Rows,
+    holding: &H,
+) -> Result<Constraints, AllocError>
+    requires sized { IsSized net.now rows.now }
+    requires places { H.places holding.now ≡ length net.now.activities }
+    ensures { IfOk result (AreConstraintsHolding net.now rows.now (H.held holding.now)) }
 {
     let mut constraints = Constraints::new(alloc, net)?;
-    hold_active(net, rows, &mut constraints);
+    hold_each(net, holding, &mut constraints);
     set_floors(net, rows, &mut constraints);
     set_spans(net, rows, &mut constraints);
     Ok(constraints)
 }
 
-/// Holds the active activities.
-fn hold_active(net: &Network, rows: &Rows, constraints: &mut Constraints)
-    requires sized { IsSized net.now rows.now }
+/// Holds these activities.
+fn hold_each<H: Holding>(net: &Network, holding: &H, constraints: &mut Constraints)
+    requires places { H.places holding.now ≡ length net.now.activities }
     requires size { length constraints.old.held ≡ length net.now.activities }
-    ensures { HoldsTo net.now rows.now (length net.now.activities) constraints.old constraints.new }
+    ensures { HoldsTo (H.held holding.now) (length net.now.activities) constraints.old constraints.new }
 {
     for a in 0..net.activities() {
-        constraints.hold(a, is_active(net, rows, a));
+        constraints.hold(a, holding.is_held(a));
     }
 }
 

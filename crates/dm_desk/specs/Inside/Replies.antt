@@ -10,6 +10,7 @@ use Rattle.dm_cert.specs.declared.replies.LogItem.{LogItem}
 use Rattle.dm_cert.specs.declared.replies.Reply.{Reply}
 use Rattle.dm_cert.specs.Answers.{IsTrueReply, IsTrueAnswer}
 use Rattle.dm_cert.specs.Logs.{kind_of, kind_of_reply, is_entered, names, due_of, taken_as, without_plans}
+use Rattle.dm_cert.specs.RunTexts.{IsSpelledReply, IsSpelledItem}
 use Rattle.dm_desk.specs.Desks.{DeskValue, GoesOn}
 use Rattle.dm_desk.specs.Answered.{IsBetween, times}
 
@@ -33,6 +34,7 @@ pub record Replies (before now : DeskValue) (feed line : ℕ) (said : Line) (rep
   pub goes_on : GoesOn before now
   pub is_true : (items : List LogItem) → IsTrueReply now.setting now.seen feed items line said reply
   pub between : IsBetween (length before.seen) (length now.seen) (kind_of_reply reply)
+  pub spelled : IsSpelledReply reply
   pub named : (n : ℕ) → count_by (is_entered n) (kind_of_reply reply ∷ []) + times n before.mine ≡ times n now.mine
 
 abbrev pub RepliesTo : DeskValue → DeskValue → ℕ → ℕ → Line → Option Reply → Type 0
@@ -45,4 +47,5 @@ pub record AnswersLine (before now : DeskValue) (feed line : ℕ) (heard : Heard
   pub goes_on : GoesOn before now
   pub is_true : (items : List LogItem) → IsTrueAnswer now.setting now.seen feed items answered
   pub between : IsBetween (length before.seen) (length now.seen) (kind_of answered)
+  pub spelled : IsSpelledItem answered
   pub named : (n : ℕ) → count_by (names n) (answered ∷ []) + times n before.mine ≡ times n now.mine

@@ -30,13 +30,6 @@ pub record ReleasesTo (net : Net) (rows : RowsValue) (n : ℕ) (before after : L
   pub only : HoldsOnlyActive net rows after.given n
   pub cycle : after.order.cycle ≡ before.order.cycle
 
--- the first n events have their floors, and what is held, the spans and the cycle are as before
-pub record FloorsTo (net : Net) (rows : RowsValue) (n : ℕ) (before after : LiveValue) : Type 0 where
-  pub live : IsLive net after
-  pub each : (i : ℕ) → i < n → slice_index after.given.floors i ≡ floor_of net rows i
-  pub held : after.given.held ≡ before.given.held
-  pub cycle : after.order.cycle ≡ before.order.cycle
-
 -- the first n activities have their spans, and what is held, the floors and the cycle are as before
 pub record SpansTo (net : Net) (rows : RowsValue) (n : ℕ) (before after : LiveValue) : Type 0 where
   pub live : IsLive net after

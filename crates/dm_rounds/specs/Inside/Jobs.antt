@@ -1,11 +1,12 @@
 -- States of feeds that are answered in rounds.
-use Rattle.std.specs.Prelude.{ℕ, ◌≡◌, ◌+◌, ◌*◌, ◌/◌, ◌<◌, ◌≤◌, List, [], length, count_by, sum_by, slice_get, Option, Some, None}
+use Rattle.std.specs.Prelude.{ℕ, ◌≡◌, ◌+◌, ◌*◌, ◌/◌, ◌<◌, ◌≤◌, List, [], length, count_by, sum_by, slice_get, All, Option, Some, None}
 use Rattle.dm_feed.specs.declared.feed.FeedStop.{FeedStop}
 use Rattle.dm_feed.specs.declared.feed.FeedStop.TheVariants.{End, Fault}
 use Rattle.dm_feed.specs.Feeds.{ReaderValue}
 use Rattle.dm_cert.specs.declared.replies.LogItem.{LogItem}
 use Rattle.dm_cert.specs.declared.replies.FeedLog.{FeedLog}
 use Rattle.dm_cert.specs.Logs.{kind_of, number_in, AreTrueAnswers, IsInOrder, names}
+use Rattle.dm_cert.specs.RunTexts.{IsSpelledItem}
 use Rattle.dm_desk.specs.Desks.{DeskValue, GoesOn}
 use Rattle.dm_desk.specs.Answered.{times, IsOpen, IsAnswered, AnswersBatch, HasSeenLegal}
 use Rattle.dm_rounds.specs.declared.jobs.Progress.{Progress}
@@ -30,6 +31,7 @@ pub record IsFinished {S : Type 0} (left : S → Option (List ℕ)) (is_sound : 
   pub log_for : IsLogFor left is_sound feed (record { items = items; stop = stop })
   pub answers : AreTrueAnswers desk.setting desk.seen number [] items
   pub in_order : IsInOrder 0 0 items
+  pub spelled : All IsSpelledItem items
 
 abbrev pub IsJob : {S : Type 0} → (S → Option (List ℕ)) → (S → Type 0) → Option S → DeskValue → ℕ → Progress S → List LogItem → Type 0
 IsJob left is_sound (Some source) desk number (Reading reader) items = IsReading left is_sound source reader desk number items

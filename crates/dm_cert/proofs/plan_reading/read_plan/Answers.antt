@@ -1,5 +1,6 @@
 use Rattle.std.proofs.Common.{arith}
 use Rattle.dm_cert.proofs.ToldTexts.{left_behind, begins_with, reads_text}
+use Rattle.dm_cert.proofs.SpelledPlans.{begun_is_read, fault_is_read}
 use Rattle.dm_cert.proofs.plan_reading.read_plan.Goals as goal
 
 pub overflow_sub-result : goal.overflow_sub-result
@@ -13,3 +14,11 @@ returns-clause-reads c =
 pub returns-clause-ok : goal.returns-clause-ok
 returns-clause-ok c =
     begins_with c.args.version c.args.entry _ c.args.bytes.now _ _ _ (omega arith) c.new-lines.ensures c.left-left.ensures c.in-Ok.ensures
+
+pub returns-clause-exactly : goal.returns-clause-exactly
+returns-clause-exactly c = λ plan used begins. begun_is_read c.args.version c.args.entry c.args.bytes.now _ plan used c.requires.short (returns-clause-reads c) begins
+
+pub returns-in-Err-clause-exactly : goal.returns-in-Err-clause-exactly
+returns-in-Err-clause-exactly c = λ plan used begins.
+    begun_is_read c.args.version c.args.entry c.args.bytes.now _ plan used c.requires.short
+    (fault_is_read c.args.version c.args.entry c.args.bytes.now _ c.in-Err.fault c.new-lines.ensures c.in-Err.ensures) begins

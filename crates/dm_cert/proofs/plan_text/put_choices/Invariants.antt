@@ -1,9 +1,10 @@
-use Rattle.std.proofs.Common.{take}
+use Rattle.std.proofs.Common.{take, All}
 use Rattle.std.specs.List.{flat_map}
 use Rattle.dm_outside.specs.Printing.{Gathers}
-use Rattle.dm_cert.specs.PlanTexts.{choice_text}
+use Rattle.dm_cert.specs.PlanTexts.{choice_text, FitsDecision}
 use Rattle.dm_cert.proofs.plan_text.put_choices.Given as goal
 
 abbrev pub invariant-loop-choice : goal.invariant-loop-choice
 invariant-loop-choice g l =
     Gathers g.K.Sink.taken g.K.Sink.faults l.fn.sink l.sink l.fn.page l.page (flat_map choice_text (take l.choice-index l.choices))
+    × All FitsDecision (take l.choice-index l.choices)

@@ -1,4 +1,4 @@
-use Rattle.dm_relax.proofs.Relaxing.{relaxed_cost_is_a_bound}
+use Rattle.dm_relax.proofs.BoundLaw.{relaxed_cost_is_a_bound}
 use Rattle.dm_relax.proofs.laws.relaxed_cost_is_a_bound.Goals as goal
 
 pub returns : goal.returns

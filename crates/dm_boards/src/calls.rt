@@ -1,0 +1,42 @@
+//! The calls that a form in memory was given, some of which fail.
+ghost use Rattle.std.specs.Prelude.{◌≡◌, ◌+◌, ◌<◌, ◌≤◌, All, Contains, IsTrue, ◌↔◌};
+ghost use Rattle.dm_outside.specs.Calls.{IsListed, NoneListed, next_call};
+ghost use Rattle.dm_outside.specs.Faults.{HasRisen};
+
+/// How many calls an object was given and how many of them failed, each until its last value.
+#[derive(Clone, Copy)]
+pub(crate) struct Calls {
+    pub made: u64,
+    pub faults: u64,
+}
+
+impl Calls {
+    pub(crate) fn new() -> Calls
+        ensures made { result.made ≡ 0 }
+        ensures faults { result.faults ≡ 0 }
+    {
+        Calls { made: 0, faults: 0 }
+    }
+
+    // Counts a call, and says whether its number is listed among those that fail.
+    pub(crate) fn is_listed(&mut self, fails: &[u64]) -> bool
+        ensures listed { IsTrue result ↔ IsListed self.old.made fails.now }
+        ensures made { self.new.made ≡ next_call self.old.made }
+        ensures faults { self.new.faults ≡ self.old.faults }
+    {
+        if self.made == u64::MAX {
+            return false;
+        }
+        self.made += 1;
+        fails.contains(&self.made)
+    }
+
+    // Counts a fault.
+    pub(crate) fn add_fault(&mut self)
+        ensures risen { HasRisen self.old.faults self.new.faults }
+        ensures later { self.old.faults ≤ self.new.faults }
+        ensures made { self.new.made ≡ self.old.made }
+    {
+        self.faults = self.faults.saturating_add(1);
+    }
+}

@@ -1,0 +1,7 @@
+//! What holds of all texts. A law has no code: it is proved as the contract of an empty function.
+ghost use Rattle.dm_check.specs.Laws.{EmptyTextIsCut};
+
+/// Of the empty text it is told that its first line is truncated, and nothing else.
+pub fn empty_text_is_cut()
+    ensures { EmptyTextIsCut }
+{}

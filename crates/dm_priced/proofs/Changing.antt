@@ -1,0 +1,118 @@
+-- How the sums change where one event has another time, where an event passes, and where a span or a charge changes.
+use Rattle.std.proofs.Common.{◌≡◌, ◌≢◌, ℕ, zero, suc, ◌+◌, ◌<◌, Bool, false, List, [], ◌∷◌, length, sum_by, replicate, refl, sym, ap, ◌∙◌, ◌&&◌, if◌then◌else◌, inl, inr, arith, nat_lt, eq-eqb, eqb-true, slice_index, get_or-set_same, get_or-set_other}
+use Rattle.std.specs.Prelude.{◌==◌, slice_set}
+use Rattle.std.specs.List.{range_with_len}
+use Rattle.std.proofs.lemmas.Bool.{cases_lt, lt-ltb, le-ltb, and_right}
+use Rattle.dm_network.specs.Net.{Net, activity_at, is_change, places_into, places_out_of}
+use Rattle.dm_rows.specs.Cost.{event_cost, charged_weight}
+use Rattle.dm_priced.specs.Priced.{is_flagged, comes_too_early, missed_weight, lateness_of, charged_of, missed_of}
+use Rattle.dm_priced.specs.Inside.Adding.{cost_at, missed_at}
+use Rattle.dm_priced.proofs.Sums.{sum_none, sum_moves, sum_moves_row, sum_moves_rows}
+
+differs : (j i : ℕ) → (j == i) ≡ false → j ≢ i
+differs j i not is = let yes = eq-eqb j i is in absurd cc
+
+-- a list with what it has
+pub set_same : (x : List ℕ) (e : ℕ) → slice_set x e (slice_index x e) ≡ x
+set_same [] e = refl
+set_same (t ∷ x) zero = refl
+set_same (t ∷ x) (suc e) = ap (λ (xs : List ℕ). t ∷ xs) (set_same x e)
+
+-- whether an event comes too early after itself is for its span alone to say
+alone : (u v span : ℕ) → nat_lt u (u + span) ≡ nat_lt v (v + span)
+alone u v span =
+    elim (cases_lt 0 span) [
+      | inl some ↦ lt-ltb u (u + span) (omega arith) ∙ sym (lt-ltb v (v + span) (omega arith))
+      | inr none ↦ le-ltb u (u + span) (omega arith) ∙ sym (le-ltb v (v + span) (omega arith))
+    ]
+
+pub lateness_moves : (net : Net) (x : List ℕ) (e t : ℕ) → e < length net.events → length x ≡ length net.events →
+    lateness_of net (slice_set x e t) + cost_at net e (slice_index x e) ≡ lateness_of net x + cost_at net e t
+lateness_moves net x e t lt many =
+    let moved = sum_moves (event_cost net x) (event_cost net (slice_set x e t)) e
+    (λ k ne. ap (λ (u : ℕ). cost_at net k u) (get_or-set_other x e k t 0 ne)) 0 (length net.events) (omega arith) (omega arith) in
+    let here : event_cost net (slice_set x e t) e ≡ cost_at net e t = ap (λ (u : ℕ). cost_at net e u) (get_or-set_same x e t 0 (omega arith)) in
+    omega (arith, moved, here)
+
+module _ (net : Net) (passed : List Bool) (spans x : List ℕ) (e t : ℕ) (lt : e < length x) where
+  away : (k : ℕ) → ((activity_at net k).head == e) ≡ false → ((activity_at net k).tail == e) ≡ false →
+      missed_weight net passed spans (slice_set x e t) k ≡ missed_weight net passed spans x k
+  away k head tail =
+      ap (λ (u : ℕ). missed_at net passed k u (slice_index (slice_set x e t) (activity_at net k).head) (slice_index spans k))
+      (get_or-set_other x e (activity_at net k).tail t 0 (differs _ e tail))
+      ∙ ap (λ (v : ℕ). missed_at net passed k (slice_index x (activity_at net k).tail) v (slice_index spans k))
+      (get_or-set_other x e (activity_at net k).head t 0 (differs _ e head))
+
+  around : (k : ℕ) → (activity_at net k).head ≡ e → (activity_at net k).tail ≡ e →
+      missed_weight net passed spans (slice_set x e t) k ≡ missed_weight net passed spans x k
+  around k head tail =
+      let span : ℕ = slice_index spans k in
+      let late : Bool → ℕ = λ b. if is_change (activity_at net k).kind && is_flagged passed (activity_at net k).head && b then (activity_at net k).weight else 0 in
+      ap (λ (u : ℕ). missed_at net passed k u (slice_index (slice_set x e t) (activity_at net k).head) span)
+      (ap (slice_index (slice_set x e t)) tail ∙ get_or-set_same x e t 0 lt)
+      ∙ ap (λ (v : ℕ). missed_at net passed k t v span) (ap (slice_index (slice_set x e t)) head ∙ get_or-set_same x e t 0 lt)
+      ∙ ap late (alone t (slice_index x e) span)
+      ∙ ap (λ (v : ℕ). missed_at net passed k (slice_index x e) v span) (ap (slice_index x) (sym head))
+      ∙ ap (λ (u : ℕ). missed_at net passed k u (slice_index x (activity_at net k).head) span) (ap (slice_index x) (sym tail))
+
+  pub missed_moves : (into out_of : List ℕ) → into ≡ places_into net e → out_of ≡ places_out_of net e →
+      missed_of net passed spans (slice_set x e t)
+      + (sum_by (missed_weight net passed spans x) into + sum_by (missed_weight net passed spans x) out_of)
+      ≡ missed_of net passed spans x
+      + (sum_by (missed_weight net passed spans (slice_set x e t)) into + sum_by (missed_weight net passed spans (slice_set x e t)) out_of)
+  missed_moves into out_of into_is out_is =
+      rw (into_is, out_is)
+      (sum_moves_rows (missed_weight net passed spans x) (missed_weight net passed spans (slice_set x e t))
+      (λ k. (activity_at net k).head == e) (λ k. (activity_at net k).tail == e) away
+      (λ k head tail. around k (eqb-true _ e head) (eqb-true _ e tail)) (range_with_len 0 (length net.activities)))
+
+-- an activity with another span
+pub span_moves : (net : Net) (passed : List Bool) (spans x : List ℕ) (a span : ℕ) → a < length net.activities → a < length spans →
+    missed_of net passed (slice_set spans a span) x
+    + missed_at net passed a (slice_index x (activity_at net a).tail) (slice_index x (activity_at net a).head) (slice_index spans a)
+    ≡ missed_of net passed spans x + missed_at net passed a (slice_index x (activity_at net a).tail) (slice_index x (activity_at net a).head) span
+span_moves net passed spans x a span lt within =
+    let at : ℕ → ℕ = λ s. missed_at net passed a (slice_index x (activity_at net a).tail) (slice_index x (activity_at net a).head) s in
+    let moved = sum_moves (missed_weight net passed spans x) (missed_weight net passed (slice_set spans a span) x) a
+    (λ k ne. ap (λ (s : ℕ). missed_at net passed k (slice_index x (activity_at net k).tail) (slice_index x (activity_at net k).head) s)
+    (get_or-set_other spans a k span 0 ne)) 0 (length net.activities) (omega arith) (omega arith) in
+    let here : missed_weight net passed (slice_set spans a span) x a ≡ at span = ap at (get_or-set_same spans a span 0 within) in
+    omega (arith, moved, here)
+
+-- an event that has passed or not
+pub passed_moves : (net : Net) (passed : List Bool) (spans x : List ℕ) (i : ℕ) (flag : Bool) (into : List ℕ) → into ≡ places_into net i →
+    missed_of net (slice_set passed i flag) spans x + sum_by (missed_weight net passed spans x) into
+    ≡ missed_of net passed spans x + sum_by (missed_weight net (slice_set passed i flag) spans x) into
+passed_moves net passed spans x i flag into into_is =
+    rw into_is
+    (sum_moves_row (missed_weight net passed spans x) (missed_weight net (slice_set passed i flag) spans x) (λ k. (activity_at net k).head == i)
+    (λ k head. ap (λ (b : Bool). if is_change (activity_at net k).kind && b && comes_too_early net spans x k then (activity_at net k).weight else 0)
+    (get_or-set_other passed i (activity_at net k).head flag false (differs _ i head))) (range_with_len 0 (length net.activities)))
+
+-- an activity that is charged for or not
+pub charge_moves : (net : Net) (charged : List Bool) (a : ℕ) (flag : Bool) → a < length net.activities → a < length charged →
+    charged_of net (slice_set charged a flag) + (if is_flagged charged a then (activity_at net a).weight else 0)
+    ≡ charged_of net charged + (if flag then (activity_at net a).weight else 0)
+charge_moves net charged a flag lt within =
+    let at : Bool → ℕ = λ b. if b then (activity_at net a).weight else 0 in
+    let moved = sum_moves (charged_weight net (is_flagged charged)) (charged_weight net (is_flagged (slice_set charged a flag))) a
+    (λ k ne. ap (λ (b : Bool). if b then (activity_at net k).weight else 0) (get_or-set_other charged a k flag false ne)) 0 (length net.activities) (omega arith) (omega arith) in
+    let here : charged_weight net (is_flagged (slice_set charged a flag)) a ≡ at flag = ap at (get_or-set_same charged a flag false within) in
+    omega (arith, moved, here)
+
+-- where nothing is flagged, nothing is charged for and nothing is missed
+none_flagged : (n k : ℕ) → is_flagged (replicate n false) k ≡ false
+none_flagged zero k = refl
+none_flagged (suc n) zero = refl
+none_flagged (suc n) (suc k) = none_flagged n k
+
+pub none_charged : (net : Net) (charged : List Bool) (n : ℕ) → charged ≡ replicate n false → charged_of net charged ≡ 0
+none_charged net charged n are =
+    rw are (sum_none (charged_weight net (is_flagged (replicate n false))) (range_with_len 0 (length net.activities))
+    (λ k. ap (λ (b : Bool). if b then (activity_at net k).weight else 0) (none_flagged n k)))
+
+pub none_missed : (net : Net) (passed : List Bool) (spans x : List ℕ) (n : ℕ) → passed ≡ replicate n false → missed_of net passed spans x ≡ 0
+none_missed net passed spans x n are =
+    rw are (sum_none (missed_weight net (replicate n false) spans x) (range_with_len 0 (length net.activities))
+    (λ k. let late : Bool → ℕ = λ b. if b && comes_too_early net spans x k then (activity_at net k).weight else 0 in
+    ap late (and_right (is_change (activity_at net k).kind) _ (none_flagged n (activity_at net k).head))))

@@ -1,0 +1,5 @@
+pub mod Changing
+pub mod Limits
+pub mod Moves
+pub mod Pricing
+pub mod Sums

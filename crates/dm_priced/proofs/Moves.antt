@@ -1,0 +1,170 @@
+-- Every move keeps a timetable priced, and its sums within their limits.
+use Rattle.std.proofs.Common.{◌≡◌, ℕ, ◌+◌, ◌-◌, ◌*◌, ◌^◌, ◌<◌, ◌≤◌, Bool, false, List, length, sum_by, replicate, sym, ap, ◌∙◌, if◌then◌else◌, arith, slice_index, length-set}
+use Rattle.std.specs.Prelude.{slice_set}
+use Rattle.std.proofs.lemmas.List.{length-replicate}
+use Rattle.dm_base.specs.declared.limits.TheConstants.{EVENTS, WEIGHT}
+use Rattle.dm_live.specs.Live.{LiveValue, IsLive, with_span, with_head}
+use Rattle.dm_network.specs.Net.{Net, activity_at, places_into, IsWithinLimits}
+use Rattle.dm_settle.specs.Settling.{AreEarly}
+use Rattle.dm_priced.specs.Priced.{PricedValue, IsPriced, is_flagged, missed_weight, lateness_of, charged_of, missed_of}
+use Rattle.dm_priced.specs.Inside.Adding.{AreKnown, AreWithin, missed_at}
+use Rattle.dm_priced.proofs.Changing.{passed_moves, span_moves, charge_moves, none_charged, none_missed}
+use Rattle.dm_priced.proofs.Limits.{lateness_within, charged_within, missed_within}
+use Rattle.dm_priced.proofs.Pricing.{sum_of_same}
+
+pub within_beside : (net : Net) → IsWithinLimits net → (priced : PricedValue) → priced.sums.lateness ≤ EVENTS * (WEIGHT * 2 ^ 38) → IsPriced net priced →
+    AreWithin priced.sums
+within_beside net within priced low is =
+    let b = charged_within net within priced.charged in
+    let c = missed_within net within priced.passed priced.live.given.spans priced.live.times in
+    let is_charged = is.charged in
+    let is_missed = is.missed in
+    record { lateness = low; charged = omega (arith, b, is_charged); missed = omega (arith, c, is_missed) }
+
+pub within_where_priced : (net : Net) → IsWithinLimits net → (priced : PricedValue) → AreEarly priced.live.times → IsPriced net priced → AreWithin priced.sums
+within_where_priced net within priced early is =
+    let a = lateness_within net within priced.live.times early in
+    let is_lateness = is.lateness in
+    within_beside net within priced (omega (arith, a, is_lateness)) is
+
+-- a new one
+pub new_is_priced : (net : Net) (live : LiveValue) (passed charged : List Bool) (lateness : ℕ) (x : List ℕ) → IsLive net live →
+    passed ≡ replicate (length net.events) false → charged ≡ replicate (length net.activities) false → lateness ≡ lateness_of net x → x ≡ live.times →
+    IsPriced net (record { live = live; passed = passed; charged = charged; sums = record { lateness = lateness; charged = 0; missed = 0 } })
+new_is_priced net live passed charged lateness x is passed_are charged_are lateness_is times_are = record {
+  live = is;
+  as_many_passed = ap length passed_are ∙ length-replicate (length net.events) false;
+  as_many_charged = ap length charged_are ∙ length-replicate (length net.activities) false;
+  lateness = lateness_is ∙ ap (lateness_of net) times_are;
+  charged = sym (none_charged net charged (length net.activities) charged_are);
+  missed = sym (none_missed net passed live.given.spans live.times (length net.events) passed_are);
+}
+
+-- the weights along a row, as they are read
+along_is : (net : Net) (passed flags : List Bool) (spans spans_read x read : List ℕ) (i t : ℕ) (row : List ℕ) →
+    flags ≡ passed → spans_read ≡ spans → read ≡ x → t ≡ slice_index read i →
+    sum_by (missed_weight net flags spans_read (slice_set read i t)) row ≡ sum_by (missed_weight net passed spans x) row
+along_is net passed flags spans spans_read x read i t row flags_are spans_are times_are t_is =
+    sum_of_same net flags spans_read read i t row t_is
+    ∙ ap (λ (fs : List Bool). sum_by (missed_weight net fs spans_read read) row) flags_are
+    ∙ ap (λ (ss : List ℕ). sum_by (missed_weight net passed ss read) row) spans_are
+    ∙ ap (λ (xs : List ℕ). sum_by (missed_weight net passed spans xs) row) times_are
+
+module _ (net : Net) (priced : PricedValue) (is : IsPriced net priced) where
+  -- times that a watcher has been told of
+  pub told_is_priced : (live : LiveValue) (passed : List Bool) (spans x : List ℕ) (lateness missed : ℕ) → IsLive net live →
+      AreKnown net passed spans x lateness missed → passed ≡ priced.passed → spans ≡ live.given.spans → x ≡ live.times →
+      IsPriced net (record { live = live; passed = priced.passed; charged = priced.charged; sums = record { lateness = lateness; charged = priced.sums.charged; missed = missed } })
+  told_is_priced live passed spans x lateness missed is_live known passed_are spans_are times_are = record {
+    live = is_live;
+    as_many_passed = is.as_many_passed;
+    as_many_charged = is.as_many_charged;
+    lateness = known.is_lateness ∙ ap (lateness_of net) times_are;
+    charged = is.charged;
+    missed = known.is_missed ∙ ap (λ (fs : List Bool). missed_of net fs spans x) passed_are ∙ ap (λ (ss : List ℕ). missed_of net priced.passed ss x) spans_are
+        ∙ ap (missed_of net priced.passed live.given.spans) times_are;
+  }
+
+  -- an event that has passed or not
+  module _ (i : ℕ) (flag : Bool) (into : List ℕ) (into_is : into ≡ places_into net i) (before after t : ℕ) (spans x : List ℕ) (flags flags_now : List Bool)
+      (spans_are : spans ≡ priced.live.given.spans) (times_are : x ≡ priced.live.times) (t_is : t ≡ slice_index x i)
+      (flags_are : flags ≡ priced.passed) (now_are : flags_now ≡ slice_set priced.passed i flag)
+      (before_is : before ≡ sum_by (missed_weight net flags spans (slice_set x i t)) into)
+      (after_is : after ≡ sum_by (missed_weight net flags_now spans (slice_set x i t)) into) where
+    passed_balance : missed_of net (slice_set priced.passed i flag) priced.live.given.spans priced.live.times + before ≡ priced.sums.missed + after
+    passed_balance =
+        let moved = passed_moves net priced.passed priced.live.given.spans priced.live.times i flag into into_is in
+        let one = before_is ∙ along_is net priced.passed flags priced.live.given.spans spans priced.live.times x i t into flags_are spans_are times_are t_is in
+        let other = after_is ∙ along_is net (slice_set priced.passed i flag) flags_now priced.live.given.spans spans priced.live.times x i t into now_are spans_are times_are t_is in
+        let missed = is.missed in
+        omega (arith, moved, one, other, missed)
+
+    pub passed_holds : before ≤ priced.sums.missed + after
+    passed_holds = let b = passed_balance in omega (arith, b)
+
+    pub passed_is_priced :
+        IsPriced net (record {
+          live = priced.live;
+          passed = slice_set priced.passed i flag;
+          charged = priced.charged;
+          sums = record { lateness = priced.sums.lateness; charged = priced.sums.charged; missed = priced.sums.missed + after - before };
+        })
+    passed_is_priced = record {
+      live = is.live;
+      as_many_passed = length-set priced.passed i flag ∙ is.as_many_passed;
+      as_many_charged = is.as_many_charged;
+      lateness = is.lateness;
+      charged = is.charged;
+      missed = let b = passed_balance in omega (arith, b);
+    }
+
+  -- an activity that is charged for or not
+  module _ (a : ℕ) (flag : Bool) (lt : a < length net.activities) (before after : ℕ)
+      (before_is : before ≡ (if is_flagged priced.charged a then (activity_at net a).weight else 0))
+      (after_is : after ≡ (if flag then (activity_at net a).weight else 0)) where
+    charge_balance : charged_of net (slice_set priced.charged a flag) + before ≡ priced.sums.charged + after
+    charge_balance =
+        let many = is.as_many_charged in
+        let moved = charge_moves net priced.charged a flag lt (omega arith) in
+        let charged = is.charged in
+        omega (arith, moved, charged, before_is, after_is)
+
+    pub charge_holds : before ≤ priced.sums.charged + after
+    charge_holds = let b = charge_balance in omega (arith, b)
+
+    pub charge_is_priced :
+        IsPriced net (record {
+          live = priced.live;
+          passed = priced.passed;
+          charged = slice_set priced.charged a flag;
+          sums = record { lateness = priced.sums.lateness; charged = priced.sums.charged + after - before; missed = priced.sums.missed };
+        })
+    charge_is_priced = record {
+      live = is.live;
+      as_many_passed = is.as_many_passed;
+      as_many_charged = length-set priced.charged a flag ∙ is.as_many_charged;
+      lateness = is.lateness;
+      charged = let b = charge_balance in omega (arith, b);
+      missed = is.missed;
+    }
+
+  -- an activity with another span
+  module _ (a span : ℕ) (lt : a < length net.activities) (before after earlier : ℕ) (flags : List Bool) (x again : List ℕ)
+      (flags_are : flags ≡ priced.passed) (times_are : x ≡ priced.live.times) (again_are : again ≡ priced.live.times) (flags_again : List Bool) (flags_again_are : flags_again ≡ priced.passed)
+      (earlier_is : earlier ≡ slice_index priced.live.given.spans a)
+      (before_is : before ≡ missed_at net flags a (slice_index x (activity_at net a).tail) (slice_index x (activity_at net a).head) earlier)
+      (after_is : after ≡ missed_at net flags_again a (slice_index again (activity_at net a).tail) (slice_index again (activity_at net a).head) span) where
+    span_balance : missed_of net priced.passed (slice_set priced.live.given.spans a span) priced.live.times + before ≡ priced.sums.missed + after
+    span_balance =
+        let many = is.live.sized.spans in
+        let moved = span_moves net priced.passed priced.live.given.spans priced.live.times a span lt (omega arith) in
+        let at : List Bool → List ℕ → ℕ → ℕ = λ fs xs s. missed_at net fs a (slice_index xs (activity_at net a).tail) (slice_index xs (activity_at net a).head) s in
+        let one : before ≡ at priced.passed priced.live.times (slice_index priced.live.given.spans a) =
+        before_is ∙ ap (λ (fs : List Bool). at fs x earlier) flags_are ∙ ap (λ (xs : List ℕ). at priced.passed xs earlier) times_are ∙ ap (at priced.passed priced.live.times) earlier_is in
+        let other : after ≡ at priced.passed priced.live.times span =
+        after_is ∙ ap (λ (fs : List Bool). at fs again span) flags_again_are ∙ ap (λ (xs : List ℕ). at priced.passed xs span) again_are in
+        let missed = is.missed in
+        omega (arith, moved, one, other, missed)
+
+    pub span_holds : before ≤ priced.sums.missed + after
+    span_holds = let b = span_balance in omega (arith, b)
+
+    pub span_is_priced : (live : LiveValue) → IsLive net live →
+        live ≡ record priced.live { given = with_span priced.live.given a span; marks = with_head net priced.live.marks a } →
+        IsPriced net (record {
+          live = live;
+          passed = priced.passed;
+          charged = priced.charged;
+          sums = record { lateness = priced.sums.lateness; charged = priced.sums.charged; missed = priced.sums.missed + after - before };
+        })
+    span_is_priced live is_live live_is = record {
+      live = is_live;
+      as_many_passed = is.as_many_passed;
+      as_many_charged = is.as_many_charged;
+      lateness = is.lateness ∙ ap (λ (l : LiveValue). lateness_of net l.times) (sym live_is);
+      charged = is.charged;
+      missed =
+          let b = span_balance in
+          let now : priced.sums.missed + after - before ≡ missed_of net priced.passed (slice_set priced.live.given.spans a span) priced.live.times = omega (arith, b) in
+          now ∙ ap (λ (l : LiveValue). missed_of net priced.passed l.given.spans l.times) (sym live_is);
+    }

@@ -1,0 +1,43 @@
+-- What one event and one activity add to the sums, and the limits of these.
+use Rattle.std.specs.Prelude.{ℕ, ◌≡◌, ◌+◌, ◌-◌, ◌*◌, ◌^◌, ◌&&◌, ◌<◌, ◌≤◌, nat_lt, Bool, List, length, take, slice_index, sum_by, if◌then◌else◌}
+use Rattle.std.specs.List.{range_with_len}
+use Rattle.dm_base.specs.declared.limits.TheConstants.{EVENTS, ACTIVITIES, WEIGHT}
+use Rattle.dm_network.specs.Net.{Net, event_at, activity_at, is_change}
+use Rattle.dm_rows.specs.Cost.{is_arrival}
+use Rattle.dm_priced.specs.Priced.{SumsValue, is_flagged, lateness_of, missed_of}
+
+-- what the lateness of an event costs at a time
+abbrev pub cost_at : Net → ℕ → ℕ → ℕ
+cost_at net i time = if is_arrival (event_at net i).kind then (event_at net i).weight * (time - (event_at net i).time) else 0
+
+-- the weight of a change, if its head has passed and comes before its tail and this span allow
+abbrev pub missed_at : Net → List Bool → ℕ → ℕ → ℕ → ℕ → ℕ
+missed_at net passed a tail head span =
+    if is_change (activity_at net a).kind && is_flagged passed (activity_at net a).head && nat_lt head (tail + span)
+    then (activity_at net a).weight else 0
+
+-- the sums of the times are known
+pub record AreKnown (net : Net) (passed : List Bool) (spans x : List ℕ) (lateness missed : ℕ) : Type 0 where
+  pub as_many : length passed ≡ length net.events
+  pub is_lateness : lateness ≡ lateness_of net x
+  pub is_missed : missed ≡ missed_of net passed spans x
+
+-- the places are those of activities
+abbrev pub AreActivities : Net → List ℕ → Type 0
+AreActivities net places = (k : ℕ) → k < length places → slice_index places k < length net.activities
+
+-- the total of a function over the first n places of a row, where each adds at most so much
+pub record IsTotalOf (f : ℕ → ℕ) (row : List ℕ) (n most total : ℕ) : Type 0 where
+  pub sum : total ≡ sum_by f (take n row)
+  pub bound : total ≤ n * most
+
+-- the total of a function over the places before n, where each adds at most so much
+pub record IsTotalBelow (f : ℕ → ℕ) (n most total : ℕ) : Type 0 where
+  pub sum : total ≡ sum_by f (range_with_len 0 n)
+  pub bound : total ≤ n * most
+
+-- no sum is above what the limits of a network and of its times allow
+pub record AreWithin (sums : SumsValue) : Type 0 where
+  pub lateness : sums.lateness ≤ EVENTS * (WEIGHT * 2 ^ 38)
+  pub charged : sums.charged ≤ ACTIVITIES * WEIGHT
+  pub missed : sums.missed ≤ ACTIVITIES * WEIGHT

@@ -1,0 +1,291 @@
+//! The timetable with its price, its moves and its readers.
+ghost use Rattle.std.specs.Prelude.{ℕ, ◌≡◌, ◌+◌, ◌*◌, ◌^◌, ◌<◌, ◌≤◌, ◌⊎◌, Bool, true, false, length, replicate, slice_index, slice_set, IfOk, OnOk, OnErr};
+ghost use Rattle.dm_base.specs.declared.limits.TheConstants.{PASSED_TIME, BOUND, DELAY, PENALTY};
+ghost use Rattle.dm_live.specs.Live.{IsLive, IsAtRest, IsEnteredByNone, IsFixed, ReadsFew, with_mark, with_head, with_floor, with_span, with_held};
+ghost use Rattle.dm_network.specs.Held.{is_held, IsCycleOf, HasNoCycleOf};
+ghost use Rattle.dm_network.specs.Net.{Net, places_into, places_out_of};
+ghost use Rattle.dm_settle.specs.Constraints.{arcs_given, graph_given};
+ghost use Rattle.dm_settle.specs.Settling.{AreLeast};
+ghost use Rattle.dm_priced.specs.Priced.{is_flagged, IsPriced, priced_cost};
+
+use crate::adding::{missed_along, missed_with, weight_if};
+use crate::totals::lateness_of;
+use crate::watch::Watch;
+use dm_base::{Cost, Secs, Steps};
+use dm_graph::search::Cyclic;
+use dm_live::LiveTimetable;
+use dm_network::Network;
+use dm_settle::Watcher;
+use std::alloc::{AllocError, Global};
+use std::marker::Model;
+use std::sync::ledger::Ledger;
+
+/// A live timetable, with what it costs.
+///
+/// Events and activities go by place; times, floors and spans are seconds. Its calls take the network with which it was
+/// made, of which contracts say that it is priced: [`PricedTimetable::new`] ensures it, and every call keeps it.
+#[derive(Drop)]
+pub struct PricedTimetable {
+    live: LiveTimetable,
+
+    /// The events that have passed.
+    passed: Vec<bool>,
+
+    /// The activities that are charged for.
+    charged: Vec<bool>,
+    lateness: Cost,
+    charged_weight: Cost,
+    missed_weight: Cost,
+}
+
+impl Model for PricedTimetable {
+    ghost use Rattle.dm_priced.specs.Priced.{PricedValue};
+    ghost use Rattle.dm_priced.specs.Inside.Adding.{AreWithin};
+
+    ghost Value = { PricedValue };
+
+    ghost view = { λ p. record { live = p.live; passed = p.passed.items; charged = p.charged.items; sums = record { lateness = p.lateness; charged = p.charged_weight; missed = p.missed_weight } } };
+
+    ghost invariant = { λ p. AreWithin (record { lateness = p.lateness; charged = p.charged_weight; missed = p.missed_weight }) };
+}
+
+impl PricedTimetable {
+    /// A live timetable with its price, where no event has passed and nothing is charged for. Its time is linear in events.
+    pub fn new(
+        alloc: Global,
+        net: &Network,
+        live: LiveTimetable,
+    ) -> Result<PricedTimetable, AllocError>
+        requires { IsLive net.now live }
+        ensures priced { IfOk result (IsPriced net.now) }
+        ensures live { IfOk result (λ priced. priced.live ≡ live) }
+        ensures passed { IfOk result (λ priced. priced.passed ≡ replicate (length net.now.events) false) }
+        ensures charged { IfOk result (λ priced. priced.charged ≡ replicate (length net.now.activities) false) }
+    {
+        net.sound();
+        live.times().is_early();
+        let passed = vec![in alloc; false; net.events()]?;
+        let charged = vec![in alloc; false; net.activities()]?;
+        let lateness = lateness_of(net, live.times());
+        Ok(PricedTimetable {
+            live,
+            passed,
+            charged,
+            lateness,
+            charged_weight: 0,
+            missed_weight: 0,
+        })
+    }
+
+    /// Computes the marked events anew, as [`LiveTimetable::settle`] does.
+    pub fn settle<L: Ledger>(&mut self, net: &Network, steps: &mut Steps<L>)
+        requires { IsPriced net.now self.old }
+        ensures priced { IsPriced net.now self.new }
+        ensures least { AreLeast (graph_given net.now self.new.live.given) self.new.live.times }
+        ensures at_rest { IsAtRest self.new.live }
+        ensures unchanged { self.new ≡ record self.old { live = record self.old.live { times = self.new.live.times; marks = self.new.live.marks }; sums = self.new.sums } }
+        ensures few_reads { ReadsFew (arcs_given net.now self.old.live.given) self.old.live self.new.live steps.old steps.new }
+    {
+        net.sound();
+        let mut watch = Watch {
+            passed: &self.passed,
+            lateness: self.lateness,
+            missed: self.missed_weight,
+        };
+        self.live.settle_watched(net, &mut watch, steps);
+        self.live.times().is_early();
+        self.lateness = watch.lateness;
+        self.missed_weight = watch.missed;
+    }
+
+    /// Sets the floor of an event, as [`LiveTimetable::set_floor`] does.
+    pub fn set_floor(&mut self, net: &Network, i: usize, floor: Secs)
+        requires priced { IsPriced net.now self.old }
+        requires is_event { i < length net.now.events }
+        requires limit { floor ≤ PASSED_TIME }
+        ensures priced { IsPriced net.now self.new }
+        ensures floor { self.new.live.given ≡ with_floor self.old.live.given i floor }
+        ensures marked { (floor < slice_index self.old.live.given.floors i) ⊎ (slice_index self.old.live.times i < floor) → self.new.live.marks ≡ with_mark self.old.live.marks i }
+        ensures unmarked { slice_index self.old.live.given.floors i ≤ floor → floor ≤ slice_index self.old.live.times i → self.new.live.marks ≡ self.old.live.marks }
+        ensures order { self.new.live.order ≡ self.old.live.order }
+        ensures times { self.new.live.times ≡ self.old.live.times }
+        ensures others { self.new ≡ record self.old { live = self.new.live } }
+    {
+        self.live.set_floor(net, i, floor);
+    }
+
+    /// Fixes the time of an event into which nothing is held, as [`LiveTimetable::fix`] does. The rows are those of the
+    /// activities into the event and out of it.
+    pub fn fix<L: Ledger>(
+        &mut self,
+        net: &Network,
+        i: usize,
+        time: Secs,
+        into: &[usize],
+        out_of: &[usize],
+        steps: &mut Steps<L>,
+    )
+        requires priced { IsPriced net.now self.old }
+        requires is_event { i < length net.now.events }
+        requires entered { IsEnteredByNone net.now self.old.live.given.held i }
+        requires limit { time ≤ PASSED_TIME }
+        requires into { into.now ≡ places_into net.now i }
+        requires out_of { out_of.now ≡ places_out_of net.now i }
+        ensures priced { IsPriced net.now self.new }
+        ensures fixed { IsFixed (arcs_given net.now self.old.live.given) i time self.old.live self.new.live steps.old steps.new }
+        ensures floor { self.new.live.given ≡ with_floor self.old.live.given i time }
+        ensures order { self.new.live.order ≡ self.old.live.order }
+        ensures others { self.new ≡ record self.old { live = self.new.live; sums = self.new.sums } }
+    {
+        net.sound();
+        let mut watch = Watch {
+            passed: &self.passed,
+            lateness: self.lateness,
+            missed: self.missed_weight,
+        };
+        let constraints = self.live.constraints();
+        watch.moves(net, constraints, self.live.times(), i, time, into, out_of);
+        self.live.fix(net, i, time, steps);
+        self.live.times().is_early();
+        self.lateness = watch.lateness;
+        self.missed_weight = watch.missed;
+    }
+
+    /// Sets the span of an activity, as [`LiveTimetable::set_span`] does.
+    pub fn set_span(&mut self, net: &Network, a: usize, span: Secs)
+        requires priced { IsPriced net.now self.old }
+        requires is_activity { a < length net.now.activities }
+        requires limit { span ≤ BOUND + DELAY }
+        ensures priced { IsPriced net.now self.new }
+        ensures span { self.new ≡ record self.old { live = record self.old.live { given = with_span self.old.live.given a span; marks = with_head net.now self.old.live.marks a }; sums = self.new.sums } }
+    {
+        net.sound();
+        let earlier = self.live.span(a);
+        let before = missed_with(net, &self.passed, self.live.times(), a, earlier);
+        let after = missed_with(net, &self.passed, self.live.times(), a, span);
+        self.live.set_span(net, a, span);
+        self.missed_weight = self.missed_weight + after - before;
+    }
+
+    /// Lets an activity go, as [`LiveTimetable::release`] does.
+    pub fn release(&mut self, net: &Network, a: usize)
+        requires priced { IsPriced net.now self.old }
+        requires is_activity { a < length net.now.activities }
+        ensures priced { IsPriced net.now self.new }
+        ensures held { self.new.live.given ≡ with_held self.old.live.given a false }
+        ensures mark { self.new.live.marks ≡ with_head net.now self.old.live.marks a }
+        ensures times { self.new.live.times ≡ self.old.live.times }
+        ensures cycle_stays { self.new.live.order.cycle ≡ self.old.live.order.cycle }
+        ensures others { self.new ≡ record self.old { live = self.new.live } }
+    {
+        self.live.release(net, a);
+    }
+
+    /// Holds an activity, or refuses it, as [`LiveTimetable::hold`] does.
+    pub fn hold(&mut self, net: &Network, a: usize) -> Result<(), Cyclic>
+        requires priced { IsPriced net.now self.old }
+        requires is_activity { a < length net.now.activities }
+        ensures priced { IsPriced net.now self.new }
+        ensures held { OnOk result (self.new.live.given ≡ with_held self.old.live.given a true) }
+        ensures mark { OnOk result (self.new.live.marks ≡ with_head net.now self.old.live.marks a) }
+        ensures times { self.new.live.times ≡ self.old.live.times }
+        ensures no_cycle { OnOk result (HasNoCycleOf net.now (is_held (with_held self.old.live.given a true).held)) }
+        ensures cycle_stays { OnOk result (self.new.live.order.cycle ≡ self.old.live.order.cycle) }
+        ensures unchanged { OnErr result (self.new.live ≡ record self.old.live { order = record self.old.live.order { cycle = self.new.live.order.cycle } }) }
+        ensures cycle { OnErr result (IsCycleOf net.now (is_held (with_held self.old.live.given a true).held) self.new.live.order.cycle) }
+        ensures others { self.new ≡ record self.old { live = self.new.live } }
+    {
+        match self.live.hold(net, a) {
+            Ok(()) => Ok(()),
+            Err(Cyclic) => Err(Cyclic),
+        }
+    }
+
+    /// Takes an event as passed. The row is that of the activities into it.
+    pub fn pass(&mut self, net: &Network, i: usize, into: &[usize])
+        requires priced { IsPriced net.now self.old }
+        requires is_event { i < length net.now.events }
+        requires into { into.now ≡ places_into net.now i }
+        ensures priced { IsPriced net.now self.new }
+        ensures passed { self.new ≡ record self.old { passed = slice_set self.old.passed i true; sums = self.new.sums } }
+    {
+        self.set_passed(net, i, true, into);
+    }
+
+    /// Takes an event as one that has not passed. The row is that of the activities into it.
+    pub fn recall(&mut self, net: &Network, i: usize, into: &[usize])
+        requires priced { IsPriced net.now self.old }
+        requires is_event { i < length net.now.events }
+        requires into { into.now ≡ places_into net.now i }
+        ensures priced { IsPriced net.now self.new }
+        ensures passed { self.new ≡ record self.old { passed = slice_set self.old.passed i false; sums = self.new.sums } }
+    {
+        self.set_passed(net, i, false, into);
+    }
+
+    fn set_passed(&mut self, net: &Network, i: usize, passed: bool, into: &[usize])
+        requires priced { IsPriced net.now self.old }
+        requires is_event { i < length net.now.events }
+        requires into { into.now ≡ places_into net.now i }
+        ensures priced { IsPriced net.now self.new }
+        ensures passed { self.new ≡ record self.old { passed = slice_set self.old.passed i passed; sums = self.new.sums } }
+    {
+        net.sound();
+        let constraints = self.live.constraints();
+        let times = self.live.times();
+        let time = times.time(i);
+        let before = missed_along(net, constraints, &self.passed, times, i, time, into);
+        self.passed[i] = passed;
+        let after = missed_along(net, constraints, &self.passed, times, i, time, into);
+        self.missed_weight = self.missed_weight + after - before;
+    }
+
+    /// Charges for an activity, or no longer.
+    pub fn charge(&mut self, net: &Network, a: usize, charged: bool)
+        requires priced { IsPriced net.now self.old }
+        requires is_activity { a < length net.now.activities }
+        ensures priced { IsPriced net.now self.new }
+        ensures charged { self.new ≡ record self.old { charged = slice_set self.old.charged a charged; sums = self.new.sums } }
+    {
+        net.sound();
+        let weight = net.activity(a).weight;
+        let before = weight_if(self.is_charged(a), weight);
+        let after = weight_if(charged, weight);
+        self.charged_weight = self.charged_weight + after - before;
+        self.charged[a] = charged;
+    }
+
+    /// What the timetable costs, in thousandths of passenger seconds, for a penalty in seconds for each passenger, at most
+    /// 1,000,000. It is a sum of three numbers that are kept.
+    pub fn cost(&self, penalty: u64) -> Cost
+        requires { penalty ≤ PENALTY }
+        ensures cost { (net : Net) → IsPriced net self.now → result ≡ priced_cost net self.now penalty }
+        ensures limit { result < 2 ^ 100 }
+    {
+        let penalty = penalty as u128;
+        self.lateness + penalty * self.charged_weight + penalty * self.missed_weight
+    }
+
+    /// The timetable.
+    pub fn live(&self) -> &LiveTimetable
+        ensures { result.now ≡ self.now.live }
+    {
+        &self.live
+    }
+
+    /// Whether the event at a place has passed.
+    pub fn is_passed(&self, i: usize) -> bool
+        requires { i < length self.now.passed }
+        ensures { result ≡ is_flagged self.now.passed i }
+    {
+        self.passed[i]
+    }
+
+    /// Whether the activity at a place is charged for.
+    pub fn is_charged(&self, a: usize) -> bool
+        requires { a < length self.now.charged }
+        ensures { result ≡ is_flagged self.now.charged a }
+    {
+        self.charged[a]
+    }
+}

@@ -1,0 +1,48 @@
+//! The sums of the times, kept through a pass.
+ghost use Rattle.std.specs.Prelude.{◌≡◌, length};
+ghost use Rattle.dm_priced.specs.Priced.{lateness_of};
+ghost use Rattle.dm_priced.specs.Inside.Adding.{AreKnown};
+
+use crate::adding::{cost_at, missed_along};
+use dm_base::{Cost, Secs};
+use dm_network::Network;
+use dm_settle::{Constraints, Times, Watcher};
+
+/// What the lateness of the arrivals costs, and the weight of the changes that are missed, by the events that have passed.
+#[derive(Clone, Copy)]
+pub struct Watch<'a> {
+    pub passed: &'a [bool],
+    pub lateness: Cost,
+    pub missed: Cost,
+}
+
+impl Watcher for Watch<'_> {
+    ghost use Rattle.dm_priced.specs.Inside.Adding.{AreKnown};
+
+    ghost knows = { λ w net given x. AreKnown net w.passed.now given.spans x w.lateness w.missed };
+
+    ghost flags = { λ w. w.passed.now };
+
+    fn moves(
+        &mut self,
+        net: &Network,
+        constraints: &Constraints,
+        times: &Times,
+        event: usize,
+        time: Secs,
+        into: &[usize],
+        out_of: &[usize],
+    ) {
+        net.sound();
+        times.is_early();
+        let earlier = times.time(event);
+        let cost = cost_at(net, event, time);
+        let was = cost_at(net, event, earlier);
+        self.lateness = self.lateness + cost - was;
+        let missed_into = missed_along(net, constraints, self.passed, times, event, time, into);
+        let missed_out = missed_along(net, constraints, self.passed, times, event, time, out_of);
+        let was_into = missed_along(net, constraints, self.passed, times, event, earlier, into);
+        let was_out = missed_along(net, constraints, self.passed, times, event, earlier, out_of);
+        self.missed = self.missed + (missed_into + missed_out) - (was_into + was_out);
+    }
+}

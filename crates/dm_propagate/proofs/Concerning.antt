@@ -1,0 +1,240 @@
+-- Which activities, floors and spans a change leaves as they are.
+use Rattle.std.proofs.Common.{◌≡◌, ℕ, zero, suc, ◌+◌, ◌<◌, Bool, true, false, cond, List, [], ◌∷◌, length, Option, Some, None, refl, sym, ap, subst, ◌∙◌, ◌⊎◌, inl, inr, arith, fold, slice_index, get_or-set_other}
+use Rattle.std.specs.Prelude.{slice_set, slice_get, is_some, unwrap_or, max}
+use Rattle.std.proofs.lemmas.Bool.{cases_eq, cases_Bool}
+use Rattle.std.proofs.lemmas.List.Quantifiers.{position-Some}
+use Rattle.dm_base.specs.declared.rows.ActKind.{ActKind}
+use Rattle.dm_base.specs.declared.rows.ActKind.TheVariants.{Drive, Wait, Turnaround, Change as ChangeKind, Headway}
+use Rattle.dm_network.specs.Net.{Net, event_at, activity_at, pair_at, no_pair, is_headway}
+use Rattle.dm_network.specs.Pairs.{joins, own_pair, pair_place, IsPaired}
+use Rattle.dm_network.proofs.PairKeys.{joins-true}
+use Rattle.dm_rows.specs.Active.{is_active, binds, has_passed}
+use Rattle.dm_rows.specs.Resolve.{after_change, after_flip}
+use Rattle.dm_rows.specs.Rows.{RowsValue, passed_at, kept_at, small_first_at}
+use Rattle.dm_rows.specs.Timetable.{planned_time, floor_of, span_of}
+use Rattle.dm_rows.specs.declared.messages.Flip.{Flip}
+use Rattle.dm_rows.specs.declared.messages.Flip.TheVariants.{Keep, Drop, First}
+use Rattle.dm_rows.specs.declared.messages.Change.{Change}
+use Rattle.dm_rows.specs.declared.messages.Change.TheVariants.{EventDelay, ActDelay, Passed, Recalled, Flipped, Adopted, Clock}
+use Rattle.dm_settle.specs.Constraints.{ConstraintsValue}
+use Rattle.dm_live.specs.Live.{LiveValue}
+use Rattle.dm_propagate.specs.Engine.{FollowsRows}
+use Rattle.dm_propagate.specs.Inside.Changing.{IsTurnRefused}
+use Rattle.dm_propagate.specs.Inside.Concern.{LeadsAt, IsDecided, IsDecidedBefore, IsConcerned, MovesFloor, MovesSpan, FollowsBut}
+
+-- what an activity needs to bind is the same where the parts that it reads are
+binds_alike : (net : Net) (rows after : RowsValue) (kind : ActKind) (pair : Option ℕ) (tail a : ℕ) → kept_at after a ≡ kept_at rows a →
+    has_passed after tail ≡ has_passed rows tail → ((p : ℕ) → pair ≡ Some p → small_first_at after p ≡ small_first_at rows p) →
+    binds net after kind pair tail a ≡ binds net rows kind pair tail a
+binds_alike net rows after Drive pair tail a kept passed first = refl
+binds_alike net rows after Wait pair tail a kept passed first = refl
+binds_alike net rows after Turnaround pair tail a kept passed first = refl
+binds_alike net rows after ChangeKind pair tail a kept passed first = kept
+binds_alike net rows after Headway None tail a kept passed first = refl
+binds_alike net rows after Headway (Some p) tail a kept passed first =
+    let here : small_first_at after p ≡ small_first_at rows p = first p refl in
+    rw (passed, here) refl
+
+active_alike : (net : Net) (rows after : RowsValue) (a : ℕ) → has_passed after (activity_at net a).head ≡ has_passed rows (activity_at net a).head →
+    kept_at after a ≡ kept_at rows a → has_passed after (activity_at net a).tail ≡ has_passed rows (activity_at net a).tail →
+    ((p : ℕ) → (activity_at net a).pair ≡ Some p → small_first_at after p ≡ small_first_at rows p) → is_active net after a ≡ is_active net rows a
+active_alike net rows after a head kept tail first =
+    ap (λ (b : Bool). cond b false (binds net after (activity_at net a).kind (activity_at net a).pair (activity_at net a).tail a)) head
+    ∙ ap (λ (b : Bool). cond (has_passed rows (activity_at net a).head) false b)
+    (binds_alike net rows after (activity_at net a).kind (activity_at net a).pair (activity_at net a).tail a kept tail first)
+
+-- a flip leaves every activity but those that it decides about
+flip_leaves : (net : Net) (rows : RowsValue) (flip : Flip) (b : ℕ) →
+    ((p : ℕ) → (activity_at net b).pair ≡ Some p → ((activity_at net b).tail ≡ (pair_at net p).small) ⊎ ((activity_at net b).tail ≡ (pair_at net p).large)) →
+    (is_active net (after_flip rows flip) b ≡ is_active net rows b) ⊎ IsDecided net flip b
+flip_leaves net rows (Keep a) b ends =
+    elim (cases_eq b a) [
+      | inl is ↦ inr is
+      | inr ne ↦ inl (active_alike net rows (after_flip rows (Keep a)) b refl (get_or-set_other rows.kept a b true true ne) refl (λ p e. refl))
+    ]
+flip_leaves net rows (Drop a) b ends =
+    elim (cases_eq b a) [
+      | inl is ↦ inr is
+      | inr ne ↦ inl (active_alike net rows (after_flip rows (Drop a)) b refl (get_or-set_other rows.kept a b false true ne) refl (λ p e. refl))
+    ]
+flip_leaves net rows (First p small) b ends = pair_leaves (activity_at net b).pair refl where
+  pair_leaves : (pair : Option ℕ) → (activity_at net b).pair ≡ pair →
+      (is_active net (after_flip rows (First p small)) b ≡ is_active net rows b) ⊎ IsDecided net (First p small) b
+  pair_leaves None none = inl (active_alike net rows (after_flip rows (First p small)) b refl refl refl (λ q e. let e' : Some q ≡ None = sym e ∙ none in absurd cc))
+  pair_leaves (Some q) some =
+      elim (cases_eq q p) [
+        | inl is ↦ inr (subst (λ (r : ℕ). ((activity_at net b).tail ≡ (pair_at net r).small) ⊎ ((activity_at net b).tail ≡ (pair_at net r).large)) is (ends q some))
+        | inr ne ↦ inl (active_alike net rows (after_flip rows (First p small)) b refl refl refl
+            (λ r e. let same : r ≡ q = cc in get_or-set_other rows.small_first p r small true (λ at. ne (sym same ∙ at))))
+      ]
+
+decided_later : (net : Net) (flip : Flip) (flips : List Flip) (n b : ℕ) → IsDecidedBefore net flips n b → IsDecidedBefore net (flip ∷ flips) (suc n) b
+decided_later net flip flips n b d =
+    let lt = d.before in
+    record { flip = d.flip; place = suc d.place; before = omega arith; there = d.there; decided = d.decided }
+
+-- an activity of a pair leads out of one of its events
+abbrev EndsAtPair : Net → ℕ → Type 0
+EndsAtPair net b =
+    (p : ℕ) → (activity_at net b).pair ≡ Some p → ((activity_at net b).tail ≡ (pair_at net p).small) ⊎ ((activity_at net b).tail ≡ (pair_at net p).large)
+
+flips_leave : (net : Net) (rows : RowsValue) (flips : List Flip) (b : ℕ) → EndsAtPair net b →
+    (is_active net (fold after_flip rows flips) b ≡ is_active net rows b) ⊎ IsDecidedBefore net flips (length flips) b
+flips_leave net rows [] b ends = inl refl
+flips_leave net rows (flip ∷ flips) b ends =
+    elim (flip_leaves net rows flip b ends) [
+      | inl same ↦ elim (flips_leave net (after_flip rows flip) flips b ends) [
+        | inl later ↦ inl (later ∙ same)
+        | inr decided ↦ inr (decided_later net flip flips (length flips) b decided)
+      ]
+      | inr decided ↦ inr (record { flip = flip; place = 0; before = omega arith; there = refl; decided = decided })
+    ]
+
+-- a passed event, or one that is recalled, leaves every activity but those at it
+pub passed_leaves : (net : Net) (rows : RowsValue) (i : ℕ) (o : Option ℕ) (b : ℕ) →
+    (is_active net (record rows { passed = slice_set rows.passed i o }) b ≡ is_active net rows b) ⊎ LeadsAt net i b
+passed_leaves net rows i o b =
+    elim (cases_eq (activity_at net b).head i) [
+      | inl is ↦ inr (inl is)
+      | inr no_head ↦ elim (cases_eq (activity_at net b).tail i) [
+        | inl is ↦ inr (inr is)
+        | inr no_tail ↦ inl (active_alike net rows (record rows { passed = slice_set rows.passed i o }) b
+            (ap is_some (get_or-set_other rows.passed i (activity_at net b).head o None no_head)) refl
+            (ap is_some (get_or-set_other rows.passed i (activity_at net b).tail o None no_tail)) (λ p e. refl))
+      ]
+    ]
+
+change_leaves : (net : Net) (rows : RowsValue) (change : Change) (b : ℕ) → EndsAtPair net b →
+    (is_active net (after_change rows change) b ≡ is_active net rows b) ⊎ IsConcerned net change b
+change_leaves net rows (EventDelay i d) b ends = inl refl
+change_leaves net rows (ActDelay a d) b ends = inl refl
+change_leaves net rows (Passed i t) b ends = passed_leaves net rows i (Some t) b
+change_leaves net rows (Recalled i) b ends = passed_leaves net rows i None b
+change_leaves net rows (Flipped flip) b ends = flip_leaves net rows flip b ends
+change_leaves net rows (Adopted flips) b ends = flips_leave net rows flips b ends
+change_leaves net rows (Clock t) b ends = inl refl
+
+-- floors and spans
+flip_keeps_floor : (net : Net) (rows : RowsValue) (flip : Flip) (i : ℕ) → floor_of net (after_flip rows flip) i ≡ floor_of net rows i
+flip_keeps_floor net rows (Keep a) i = refl
+flip_keeps_floor net rows (Drop a) i = refl
+flip_keeps_floor net rows (First p small) i = refl
+
+flips_keep_floor : (net : Net) (rows : RowsValue) (flips : List Flip) (i : ℕ) → floor_of net (fold after_flip rows flips) i ≡ floor_of net rows i
+flips_keep_floor net rows [] i = refl
+flips_keep_floor net rows (flip ∷ flips) i = flips_keep_floor net (after_flip rows flip) flips i ∙ flip_keeps_floor net rows flip i
+
+flip_keeps_span : (net : Net) (rows : RowsValue) (flip : Flip) (a : ℕ) → span_of net (after_flip rows flip) a ≡ span_of net rows a
+flip_keeps_span net rows (Keep b) a = refl
+flip_keeps_span net rows (Drop b) a = refl
+flip_keeps_span net rows (First p small) a = refl
+
+flips_keep_span : (net : Net) (rows : RowsValue) (flips : List Flip) (a : ℕ) → span_of net (fold after_flip rows flips) a ≡ span_of net rows a
+flips_keep_span net rows [] a = refl
+flips_keep_span net rows (flip ∷ flips) a = flips_keep_span net (after_flip rows flip) flips a ∙ flip_keeps_span net rows flip a
+
+floor_leaves : (net : Net) (rows : RowsValue) (change : Change) (i : ℕ) →
+    (floor_of net (after_change rows change) i ≡ floor_of net rows i) ⊎ MovesFloor change i
+floor_leaves net rows (EventDelay e d) i =
+    elim (cases_eq i e) [
+      | inl is ↦ inr is
+      | inr ne ↦ inl (ap (λ (delay : ℕ). unwrap_or (passed_at rows i) (max ((event_at net i).time + delay) rows.clock)) (get_or-set_other rows.event_delays e i d 0 ne))
+    ]
+floor_leaves net rows (ActDelay a d) i = inl refl
+floor_leaves net rows (Passed e t) i =
+    elim (cases_eq i e) [
+      | inl is ↦ inr is
+      | inr ne ↦ inl (ap (λ (o : Option ℕ). unwrap_or o (max (planned_time net rows i) rows.clock)) (get_or-set_other rows.passed e i (Some t) None ne))
+    ]
+floor_leaves net rows (Recalled e) i =
+    elim (cases_eq i e) [
+      | inl is ↦ inr is
+      | inr ne ↦ inl (ap (λ (o : Option ℕ). unwrap_or o (max (planned_time net rows i) rows.clock)) (get_or-set_other rows.passed e i None None ne))
+    ]
+floor_leaves net rows (Flipped flip) i = inl (flip_keeps_floor net rows flip i)
+floor_leaves net rows (Adopted flips) i = inl (flips_keep_floor net rows flips i)
+floor_leaves net rows (Clock t) i = inr tt
+
+span_leaves : (net : Net) (rows : RowsValue) (change : Change) (a : ℕ) →
+    (span_of net (after_change rows change) a ≡ span_of net rows a) ⊎ MovesSpan change a
+span_leaves net rows (EventDelay e d) a = inl refl
+span_leaves net rows (ActDelay b d) a =
+    elim (cases_eq a b) [
+      | inl is ↦ inr is
+      | inr ne ↦ inl (ap (λ (delay : ℕ). (activity_at net a).lower + delay) (get_or-set_other rows.act_delays b a d 0 ne))
+    ]
+span_leaves net rows (Passed e t) a = inl refl
+span_leaves net rows (Recalled e) a = inl refl
+span_leaves net rows (Flipped flip) a = inl (flip_keeps_span net rows flip a)
+span_leaves net rows (Adopted flips) a = inl (flips_keep_span net rows flips a)
+span_leaves net rows (Clock t) a = inl refl
+
+-- a paired headway leads out of one of the events of its pair
+pair_ends : (net : Net) → IsPaired net → (b : ℕ) → b < length net.activities → EndsAtPair net b
+pair_ends net paired b lt p some =
+    elim (cases_Bool (is_headway (activity_at net b).kind)) [
+      | inl headway ↦
+          let own : own_pair net (activity_at net b) ≡ pair_place net (activity_at net b).tail (activity_at net b).head = rw headway refl in
+          let found : pair_place net (activity_at net b).tail (activity_at net b).head ≡ Some p = sym own ∙ sym (paired.belongs b lt) ∙ some in
+          let there = position-Some (λ q. joins q (activity_at net b).tail (activity_at net b).head) net.pairs p no_pair found in
+          elim (joins-true (pair_at net p) (activity_at net b).tail (activity_at net b).head there.1) [
+            | inl forward ↦ inl (sym forward.0)
+            | inr backward ↦ inr (sym backward.1)
+          ]
+      | inr other ↦
+          let none : own_pair net (activity_at net b) ≡ None = rw other refl in
+          let e : Some p ≡ None = sym some ∙ paired.belongs b lt ∙ none in
+          absurd cc
+    ]
+
+-- what follows the rows follows those after a change but for what it concerns, and the other way round
+module _ (net : Net) (paired : IsPaired net) (rows : RowsValue) (change : Change) (given : ConstraintsValue) where
+  pub follows_but_after : FollowsRows net rows given → FollowsBut net (after_change rows change) change given
+  follows_but_after f = record {
+    held = λ a lt. elim (change_leaves net rows change a (pair_ends net paired a lt)) [ inl same ↦ inl (f.held a lt ∙ sym same) | inr concerned ↦ inr concerned ];
+    floors = λ i lt. elim (floor_leaves net rows change i) [ inl same ↦ inl (f.floors i lt ∙ sym same) | inr moves ↦ inr moves ];
+    spans = λ a lt. elim (span_leaves net rows change a) [ inl same ↦ inl (f.spans a lt ∙ sym same) | inr moves ↦ inr moves ];
+  }
+
+  pub follows_but_before : FollowsBut net (after_change rows change) change given → FollowsBut net rows change given
+  follows_but_before f = record {
+    held = λ a lt. elim (f.held a lt) [
+      | inl is ↦ elim (change_leaves net rows change a (pair_ends net paired a lt)) [ inl same ↦ inl (is ∙ same) | inr concerned ↦ inr concerned ]
+      | inr concerned ↦ inr concerned
+    ];
+    floors = λ i lt. elim (f.floors i lt) [
+      | inl is ↦ elim (floor_leaves net rows change i) [ inl same ↦ inl (is ∙ same) | inr moves ↦ inr moves ]
+      | inr moves ↦ inr moves
+    ];
+    spans = λ a lt. elim (f.spans a lt) [
+      | inl is ↦ elim (span_leaves net rows change a) [ inl same ↦ inl (is ∙ same) | inr moves ↦ inr moves ]
+      | inr moves ↦ inr moves
+    ];
+  }
+
+-- one flip decides as a list of it alone
+pub by_one : (net : Net) (flip : Flip) (b : ℕ) → IsDecided net flip b → IsDecidedBefore net (flip ∷ []) 1 b
+by_one net flip b d = record { flip = flip; place = 0; before = omega arith; there = refl; decided = d }
+
+first_of_one : (net : Net) (flip g : Flip) (k b : ℕ) → k < 1 → slice_get (flip ∷ []) k ≡ Some g → IsDecided net g b → IsDecided net flip b
+first_of_one net flip g zero b lt there d = let is : g ≡ flip = cc in subst (λ (f : Flip). IsDecided net f b) is d
+first_of_one net flip g (suc k) b lt there d = absurd (omega arith)
+
+one_by : (net : Net) (flip : Flip) (b : ℕ) → IsDecidedBefore net (flip ∷ []) 1 b → IsDecided net flip b
+one_by net flip b d = first_of_one net flip d.flip d.place b d.before d.there d.decided
+
+pub followed_by_one : (net : Net) (rows : RowsValue) (change : Change) (flip : Flip) → change ≡ Flipped flip → (before after : LiveValue) →
+    IsTurnRefused net rows (IsDecidedBefore net (flip ∷ []) 1) before after → after.given.floors ≡ before.given.floors →
+    FollowsBut net rows change before.given → FollowsBut net rows change after.given
+followed_by_one net rows change flip is before after refused floors follows =
+    let was : FollowsBut net rows (Flipped flip) before.given = subst (λ (c : Change). FollowsBut net rows c before.given) is follows in
+    let now : FollowsBut net rows (Flipped flip) after.given =
+    record {
+      held = λ a lt. elim (refused.held a lt (elim (was.held a lt) [ inl same ↦ inl same | inr d ↦ inr (by_one net flip a d) ])) [
+        | inl same ↦ inl same
+        | inr d ↦ inr (one_by net flip a d)
+      ];
+      floors = λ i lt. elim (was.floors i lt) [ inl same ↦ inl (ap (λ (xs : List ℕ). slice_index xs i) floors ∙ same) | inr never ↦ absurd never ];
+      spans = λ a lt. elim (was.spans a lt) [ inl same ↦ inl (ap (λ (xs : List ℕ). slice_index xs a) refused.spans ∙ same) | inr never ↦ absurd never ];
+    } in
+    subst (λ (c : Change). FollowsBut net rows c after.given) (sym is) now

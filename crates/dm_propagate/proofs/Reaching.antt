@@ -1,0 +1,27 @@
+-- Changes that are in range for rows of the same sizes.
+use Rattle.std.proofs.Common.{◌≡◌, ℕ, ◌<◌, length, subst, arith}
+use Rattle.dm_network.specs.Net.{Net}
+use Rattle.dm_rows.specs.Reach.{Reaches, ReachesFlip}
+use Rattle.dm_rows.specs.Rows.{RowsValue, IsSized}
+use Rattle.dm_rows.specs.declared.messages.Flip.{Flip}
+use Rattle.dm_rows.specs.declared.messages.Flip.TheVariants.{Keep, Drop, First}
+use Rattle.dm_rows.specs.declared.messages.Change.{Change}
+use Rattle.dm_rows.specs.declared.messages.Change.TheVariants.{EventDelay, ActDelay, Passed, Recalled, Flipped, Adopted, Clock}
+
+module _ (net : Net) (rows other : RowsValue) (sized : IsSized net rows) (alike : IsSized net other) where
+  flip_reaches : (flip : Flip) → ReachesFlip rows flip → ReachesFlip other flip
+  flip_reaches (Keep a) h = let s = sized.kept in let o = alike.kept in omega arith
+  flip_reaches (Drop a) h = let s = sized.kept in let o = alike.kept in omega arith
+  flip_reaches (First p small) h = let s = sized.small_first in let o = alike.small_first in omega arith
+
+  pub reaches_alike : (change : Change) → Reaches rows change → Reaches other change
+  reaches_alike (EventDelay i d) h = let s = sized.event_delays in let o = alike.event_delays in (omega (arith, h.0), h.1)
+  reaches_alike (ActDelay a d) h = let s = sized.act_delays in let o = alike.act_delays in (omega (arith, h.0), h.1)
+  reaches_alike (Passed i t) h = let s = sized.passed in let o = alike.passed in (omega (arith, h.0), h.1)
+  reaches_alike (Recalled i) h = let s = sized.passed in let o = alike.passed in omega arith
+  reaches_alike (Flipped flip) h = flip_reaches flip h
+  reaches_alike (Adopted flips) h = λ k d lt. flip_reaches _ (h k d lt)
+  reaches_alike (Clock t) h = h
+
+pub event_is_reached : (rows : RowsValue) (change : Change) → Reaches rows change → (i t : ℕ) → change ≡ Passed i t → i < length rows.passed
+event_is_reached rows change reaches i t is = let h : Reaches rows (Passed i t) = subst (Reaches rows) is reaches in h.0

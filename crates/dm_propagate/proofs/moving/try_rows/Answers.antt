@@ -1,0 +1,39 @@
+use Rattle.std.proofs.Common.{sym, subst}
+use Rattle.std.proofs.lemmas.Result.{on_ok_weaker}
+use Rattle.dm_rows.specs.Rows.{RowsValue}
+use Rattle.dm_propagate.specs.Inside.Altering.{change_in}
+use Rattle.dm_propagate.specs.Inside.Concern.{FollowsBut}
+use Rattle.dm_propagate.proofs.Concerning.{follows_but_after, follows_but_before}
+use Rattle.dm_propagate.proofs.Following.{follows_least, follows_no_cycle, one_least}
+use Rattle.dm_propagate.proofs.Reaching.{reaches_alike}
+use Rattle.dm_propagate.proofs.moving.try_rows.Goals as goal
+
+pub turn_to-outcome-requires-clause-reaches : goal.turn_to-outcome-requires-clause-reaches
+turn_to-outcome-requires-clause-reaches g c =
+    reaches_alike c.args.net.now c.args.rows.now c.args.other.now c.requires.sized c.requires.other_sized (change_in c.args.what.now) c.requires.reaches
+
+pub turn_to-outcome-requires-clause-follows : goal.turn_to-outcome-requires-clause-follows
+turn_to-outcome-requires-clause-follows g c =
+    subst (λ (rows : RowsValue). FollowsBut c.args.net.now rows (change_in c.args.what.now) c.args.live.now.given) (sym c.requires.other)
+    (follows_but_after c.args.net.now c.sound.ensures.network.formed.is_paired c.args.rows.now (change_in c.args.what.now) c.args.live.now.given c.requires.follows)
+
+pub come_back-requires-clause-follows : goal.come_back-requires-clause-follows
+come_back-requires-clause-follows g c =
+    follows_but_before c.args.net.now c.sound.ensures.network.formed.is_paired c.args.rows.now (change_in c.args.what.now) c.turn_to-outcome.new.live.given
+    (subst (λ (rows : RowsValue). FollowsBut c.args.net.now rows (change_in c.args.what.now) c.turn_to-outcome.new.live.given) c.requires.other
+    c.turn_to-outcome.ensures.followed)
+
+pub come_back-requires-clause-no_cycle : goal.come_back-requires-clause-no_cycle
+come_back-requires-clause-no_cycle g c =
+    follows_no_cycle c.args.net.now c.args.rows.now c.args.live.now c.requires.live c.requires.follows
+
+pub returns-clause-times : goal.returns-clause-times
+returns-clause-times g c =
+    one_least c.args.net.now c.args.rows.now c.come_back.new.live.times c.args.live.now.times c.come_back.ensures.least
+    (follows_least c.args.net.now c.args.rows.now c.args.live.now c.sound.ensures.network.formed.ends_are_known c.requires.live c.requires.at_rest c.requires.follows)
+
+pub returns-clause-no_cycle : goal.returns-clause-no_cycle
+returns-clause-no_cycle g c =
+    on_ok_weaker c.turn_to-outcome.result
+    (λ follows. follows_no_cycle c.args.net.now c.args.other.now c.turn_to-outcome.new.live c.turn_to-outcome.ensures.live follows)
+    c.turn_to-outcome.ensures.follows

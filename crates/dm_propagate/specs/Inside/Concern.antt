@@ -1,0 +1,67 @@
+-- Which activities, floors and spans a change concerns.
+use Rattle.std.specs.Prelude.{ℕ, ◌≡◌, ◌<◌, ◌⊎◌, List, length, slice_index, slice_get, Some}
+use Rattle.dm_network.specs.Net.{Net, activity_at, pair_at}
+use Rattle.dm_network.specs.Held.{is_held}
+use Rattle.dm_rows.specs.declared.messages.Flip.{Flip}
+use Rattle.dm_rows.specs.declared.messages.Flip.TheVariants.{Keep, Drop, First}
+use Rattle.dm_rows.specs.declared.messages.Change.{Change}
+use Rattle.dm_rows.specs.declared.messages.Change.TheVariants.{EventDelay, ActDelay, Passed, Recalled, Flipped, Adopted, Clock}
+use Rattle.dm_rows.specs.Active.{is_active}
+use Rattle.dm_rows.specs.Rows.{RowsValue}
+use Rattle.dm_rows.specs.Timetable.{floor_of, span_of}
+use Rattle.dm_settle.specs.Constraints.{ConstraintsValue}
+
+-- the activity leads into the event or out of it
+abbrev pub LeadsAt : Net → ℕ → ℕ → Type 0
+LeadsAt net i b = ((activity_at net b).head ≡ i) ⊎ ((activity_at net b).tail ≡ i)
+
+-- the activity is the change that is decided, or leads out of an event of the pair that is
+abbrev pub IsDecided : Net → Flip → ℕ → Type 0
+IsDecided net (Keep a) b = b ≡ a
+IsDecided net (Drop a) b = b ≡ a
+IsDecided net (First p small) b =
+    ((activity_at net b).tail ≡ (pair_at net p).small) ⊎ ((activity_at net b).tail ≡ (pair_at net p).large)
+
+-- one of the first n flips decides about the activity
+pub record IsDecidedBefore (net : Net) (flips : List Flip) (n : ℕ) (b : ℕ) : Type 0 where
+  pub flip : Flip
+  pub place : ℕ
+  pub before : place < n
+  pub there : slice_get flips place ≡ Some flip
+  pub decided : IsDecided net flip b
+
+-- the change may make the activity active, or take that away
+abbrev pub IsConcerned : Net → Change → ℕ → Type 0
+IsConcerned net (EventDelay i d) b = ⊥
+IsConcerned net (ActDelay a d) b = ⊥
+IsConcerned net (Passed i t) b = LeadsAt net i b
+IsConcerned net (Recalled i) b = LeadsAt net i b
+IsConcerned net (Flipped flip) b = IsDecided net flip b
+IsConcerned net (Adopted flips) b = IsDecidedBefore net flips (length flips) b
+IsConcerned net (Clock t) b = ⊥
+
+-- the change may move the floor of the event
+abbrev pub MovesFloor : Change → ℕ → Type 0
+MovesFloor (EventDelay e d) i = i ≡ e
+MovesFloor (ActDelay a d) i = ⊥
+MovesFloor (Passed e t) i = i ≡ e
+MovesFloor (Recalled e) i = i ≡ e
+MovesFloor (Flipped flip) i = ⊥
+MovesFloor (Adopted flips) i = ⊥
+MovesFloor (Clock t) i = Unit {0}
+
+-- the change may move the span of the activity
+abbrev pub MovesSpan : Change → ℕ → Type 0
+MovesSpan (EventDelay i d) b = ⊥
+MovesSpan (ActDelay a d) b = b ≡ a
+MovesSpan (Passed i t) b = ⊥
+MovesSpan (Recalled i) b = ⊥
+MovesSpan (Flipped flip) b = ⊥
+MovesSpan (Adopted flips) b = ⊥
+MovesSpan (Clock t) b = ⊥
+
+-- the active activities are held, and floors and spans are those of the rows, but for what the change concerns
+pub record FollowsBut (net : Net) (rows : RowsValue) (change : Change) (given : ConstraintsValue) : Type 0 where
+  pub held : (a : ℕ) → a < length net.activities → (is_held given.held a ≡ is_active net rows a) ⊎ IsConcerned net change a
+  pub floors : (i : ℕ) → i < length net.events → (slice_index given.floors i ≡ floor_of net rows i) ⊎ MovesFloor change i
+  pub spans : (a : ℕ) → a < length net.activities → (slice_index given.spans a ≡ span_of net rows a) ⊎ MovesSpan change a

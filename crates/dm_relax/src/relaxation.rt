@@ -1,0 +1,100 @@
+//! The relaxed problem of a path, filled in.
+ghost use Rattle.std.specs.Prelude.{◌≡◌, ◌<◌, length, IfOk};
+ghost use Rattle.dm_network.specs.Net.{activity_at};
+ghost use Rattle.dm_rows.specs.Rows.{IsSized};
+ghost use Rattle.dm_rows.specs.Decide.{IsChoiceList, with_decisions};
+ghost use Rattle.dm_rows.specs.Relax.{is_undecided_change, is_undecided_pair, is_of_undecided};
+ghost use Rattle.dm_relax.specs.Inside.Flags.{AreFlags};
+
+use crate::undecided::{undecided_changes, undecided_pairs, with_decisions};
+use dm_base::ActKind;
+use dm_network::Network;
+use dm_rows::{Decision, Rows, is_active};
+use dm_times::{Charging, Holding};
+use std::alloc::{AllocError, Global};
+
+/// The rows with the decisions of a path set, and which changes and pairs the path leaves undecided.
+#[derive(Drop)]
+pub struct Relaxation<'a> {
+    pub net: &'a Network,
+    pub rows: &'a Rows,
+    pub path: &'a [Decision],
+    pub set: Rows,
+    pub changes: Vec<bool>,
+    pub pairs: Vec<bool>,
+    ghost is_set: { set ≡ with_decisions net.now rows.now path.now },
+    ghost sized: { IsSized net.now set },
+    ghost changes_are: { AreFlags (is_undecided_change net.now rows.now path.now) (length net.now.activities) changes.items },
+    ghost pairs_are: { AreFlags (is_undecided_pair net.now rows.now path.now) (length net.now.pairs) pairs.items },
+}
+
+impl<'a> Relaxation<'a> {
+    /// The relaxed problem of the path.
+    pub fn new(
+        alloc: Global,
+        net: &'a Network,
+        rows: &'a Rows,
+        path: &'a [Decision],
+    ) -> Result<Relaxation<'a>, AllocError>
+        requires sized { IsSized net.now rows.now }
+        requires list { IsChoiceList net.now rows.now path.now }
+        ensures net { IfOk result (λ r. r.net.now ≡ net.now) }
+        ensures rows { IfOk result (λ r. r.rows.now ≡ rows.now) }
+        ensures path { IfOk result (λ r. r.path.now ≡ path.now) }
+    {
+        Ok(Relaxation {
+            net,
+            rows,
+            path,
+            set: with_decisions(alloc, net, rows, path)?,
+            changes: undecided_changes(alloc, net, rows, path)?,
+            pairs: undecided_pairs(alloc, net, rows, path)?,
+        })
+    }
+
+    /// Whether the activity belongs to a choice that is undecided.
+    fn is_of_undecided(&self, a: usize) -> bool
+        requires { a < length self.now.net.now.activities }
+        ensures { result ≡ is_of_undecided self.now.net.now self.now.rows.now self.now.path.now a (activity_at self.now.net.now a).pair }
+    {
+        self.net.sound();
+        match self.net.activity(a).pair {
+            None => self.changes[a],
+            Some(p) => self.pairs[p],
+        }
+    }
+}
+
+impl Holding for Relaxation<'_> {
+    ghost use Rattle.std.specs.Prelude.{length};
+    ghost use Rattle.dm_rows.specs.Relax.{is_relaxed_active};
+
+    ghost places = { λ r. length r.net.now.activities };
+
+    ghost held = { λ r. is_relaxed_active r.net.now r.rows.now r.path.now };
+
+    fn is_held(&self, a: usize) -> bool {
+        if self.is_of_undecided(a) {
+            return false;
+        }
+        is_active(self.net, &self.set, a)
+    }
+}
+
+impl Charging for Relaxation<'_> {
+    ghost use Rattle.std.specs.Prelude.{length};
+    ghost use Rattle.dm_rows.specs.Relax.{is_relaxed_dropped};
+
+    ghost places = { λ r. length r.net.now.activities };
+
+    ghost charged = { λ r. is_relaxed_dropped r.net.now r.rows.now r.path.now };
+
+    fn is_charged(&self, a: usize) -> bool {
+        self.net.sound();
+        let activity = self.net.activity(a);
+        matches!(activity.kind, ActKind::Change)
+            && !self.set.kept(a)
+            && self.set.passed(activity.head).is_none()
+            && !self.changes[a]
+    }
+}

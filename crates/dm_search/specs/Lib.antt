@@ -1,0 +1,3 @@
+-- What a search does with a path, and what holds of all true plans.
+pub mod Steps
+pub mod Laws
