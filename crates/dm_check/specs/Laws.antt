@@ -1,11 +1,24 @@
 -- What holds of all texts.
-use Rattle.std.specs.Prelude.{ℕ, []}
+use Rattle.std.specs.Prelude.{ℕ, ◌≡◌, List, []}
 use Rattle.dm_network.specs.Net.{Net}
 use Rattle.dm_rows.specs.Rows.{RowsValue}
+use Rattle.dm_cert.specs.PlanTexts.{IsVersion}
+use Rattle.dm_cert.specs.RunTexts.{run_text}
 use Rattle.dm_check.specs.declared.verdicts.BadKind.TheVariants.{Truncated}
 use Rattle.dm_check.specs.declared.verdicts.Verdict.TheVariants.{Bad}
-use Rattle.dm_check.specs.FalseRecords.{IsVerdict}
+use Rattle.dm_check.specs.FalseRecords.{IsVerdict, IsGood}
 
 -- the first line of the empty text is missing
 abbrev pub EmptyTextIsCut : Type 0
 EmptyTextIsCut = (net : Net) (start : RowsValue) (penalty : ℕ) → IsVerdict net start penalty [] (Bad 1 Truncated)
+
+-- a good text is the spelling of the run that is told of it, in a version
+pub record IsSpelledIn (net : Net) (start : RowsValue) (penalty : ℕ) (text : List ℕ) (entries plans : ℕ) (good : IsGood net start penalty text entries plans) : Type 0 where
+  pub version : ℕ
+  pub is_version : IsVersion version
+  pub spelled : text ≡ run_text version good.run
+
+abbrev pub GoodTextsAreSpelled : Type 0
+GoodTextsAreSpelled =
+    (net : Net) (start : RowsValue) (penalty : ℕ) (text : List ℕ) (entries plans : ℕ) (good : IsGood net start penalty text entries plans) →
+    IsSpelledIn net start penalty text entries plans good

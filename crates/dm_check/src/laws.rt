@@ -1,7 +1,12 @@
 //! What holds of all texts. A law has no code: it is proved as the contract of an empty function.
-ghost use Rattle.dm_check.specs.Laws.{EmptyTextIsCut};
+ghost use Rattle.dm_check.specs.Laws.{EmptyTextIsCut, GoodTextsAreSpelled};
 
 /// Of the empty text it is told that its first line is truncated, and nothing else.
 pub fn empty_text_is_cut()
     ensures { EmptyTextIsCut }
+{}
+
+/// A good text is the spelling, in one of the versions, of the run that is told of it.
+pub fn good_texts_are_spelled()
+    ensures { GoodTextsAreSpelled }
 {}

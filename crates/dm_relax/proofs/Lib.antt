@@ -9,3 +9,4 @@ pub mod BoundLaw
 pub mod Flagging
 pub mod Gathering
 pub mod Differences
+pub mod Differing

@@ -1,5 +1,5 @@
 -- How a relaxed problem stands to the choices that hold its path's decisions.
-use Rattle.std.specs.Prelude.{ℕ, ◌≡◌, ◌≤◌, List, map, All, Contains}
+use Rattle.std.specs.Prelude.{ℕ, ◌≡◌, ◌≤◌, IsTrue, List, map, All, Contains}
 use Rattle.dm_network.specs.Net.{Net}
 use Rattle.dm_network.specs.Start.{IsNetwork}
 use Rattle.dm_rows.specs.declared.messages.Decision.{Decision}
@@ -10,7 +10,8 @@ use Rattle.dm_rows.specs.Timetable.{IsLeast}
 use Rattle.dm_rows.specs.Cost.{Costs, cost_of}
 use Rattle.dm_rows.specs.Decide.{IsChoiceList, free_choices_of, choice_of, with_decisions}
 use Rattle.dm_tree.specs.Relaxed.{IsRelaxedLeast, relaxed_cost_of, RelaxedCosts, HasNoRelaxedCycle, IsViolated}
-use Rattle.dm_relax.specs.Complete.{completion_of}
+use Rattle.dm_tree.specs.Plans.{AreSomeOf}
+use Rattle.dm_relax.specs.Complete.{completion_of, differs_from, differences_from}
 
 -- a network, its rows, a path of decisions of free choices, and a choice list that holds them
 pub record Holds (net : Net) (rows : RowsValue) (path choices : List Decision) : Type 0 where
@@ -45,3 +46,19 @@ pub record RelaxedCostIsABound : Type 0 where
   pub completion : (net : Net) (rows : RowsValue) (path : List Decision) (x : List ℕ) → IsNetwork net → IsSized net rows →
       IsChoiceList net rows path → ViolatesNothing net rows path x →
       Completes net rows path (completion_of net rows path x) x
+
+-- decisions that decide some free choices, in order and none twice, each otherwise than the rows have it, and with which the
+-- rows have no cycle, these least times and the relaxed cost of the path
+pub record CompletesByDifferences (net : Net) (rows : RowsValue) (path decisions : List Decision) (x : List ℕ) : Type 0 where
+  pub in_order : AreSomeOf (free_choices_of net rows) (map choice_of decisions)
+  pub differ : All (λ d. IsTrue (differs_from net rows d)) decisions
+  pub no_cycle : HasNoCycle net (with_decisions net rows decisions)
+  pub least : IsLeast net (with_decisions net rows decisions) x
+  pub cost : (penalty : ℕ) → cost_of net (with_decisions net rows decisions) x penalty ≡ relaxed_cost_of net rows path x penalty
+
+-- Where nothing is violated, what differs from the rows in the completion completes the path as well.
+abbrev pub DifferencesComplete : Type 0
+DifferencesComplete =
+    (net : Net) (rows : RowsValue) (path : List Decision) (x : List ℕ) → IsNetwork net → IsSized net rows →
+    IsChoiceList net rows path → ViolatesNothing net rows path x →
+    CompletesByDifferences net rows path (differences_from net rows (completion_of net rows path x)) x
