@@ -6,11 +6,11 @@ use Rattle.dm_rows.specs.declared.messages.Entry.{Entry}
 use Rattle.dm_rows.specs.Rows.{RowsValue}
 use Rattle.dm_rows.specs.Timetable.{IsLeast}
 use Rattle.dm_rows.specs.Cost.{cost_of}
-use Rattle.dm_rows.specs.History.{IsLegal}
+use Rattle.dm_rows.specs.History.{rows_at, IsLegal}
 use Rattle.dm_feed.specs.Parts.{largest_id}
 use Rattle.dm_cert.specs.declared.notes.Note.{Note}
 use Rattle.dm_cert.specs.declared.replies.FeedLog.{FeedLog}
-use Rattle.dm_cert.specs.Answers.{Setting, rows_after}
+use Rattle.dm_cert.specs.Answers.{Setting}
 use Rattle.dm_cert.specs.Logs.{AreTrueLogs}
 use Rattle.dm_cert.specs.PlanTexts.{IsVersion}
 use Rattle.dm_cert.specs.RunTexts.{Run, run_text, IsSpelledRun, FitsRun}
@@ -41,7 +41,7 @@ setting_of version start run = record { net = run.net; start = start; penalty = 
 
 -- the rows after all its entries
 abbrev pub rows_at_end : RowsValue → Run → RowsValue
-rows_at_end start run = rows_after (setting_of 2 start run) run.history (length run.history)
+rows_at_end start run = rows_at run.net start run.history (length run.history)
 
 -- There are 1 to 64 feeds. The history is legal from the rows at the start, every log is true, and the notes are. The times
 -- are least after all entries, and the cost is theirs.

@@ -1,0 +1,4 @@
+pub mod WordLists
+pub mod Stopping
+pub mod OneCommand
+pub mod Asking

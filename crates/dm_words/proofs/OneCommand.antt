@@ -1,0 +1,131 @@
+-- Words ask for one thing at most.
+use Rattle.std.proofs.Common.{codes, eqb, eq-eqb, get_or, true, false, ◌≡◌, ℕ, List, [], ◌∷◌, Option, Some, None, Result, Ok, refl, sym, ap, subst, ◌∙◌}
+use Rattle.dm_lintim.specs.Columns.{FileColumns, ReadsFileColumns}
+use Rattle.dm_lintim.specs.declared.columns.ColumnFault.{ColumnFault}
+use Rattle.dm_lintim.proofs.WordLemmas.{columns_one}
+use Rattle.dm_words.specs.Options.{GivesOption, penalty_option, batch_option, boards_option, event_columns_option, activity_columns_option, event_delays_option, activity_delays_option}
+use Rattle.dm_words.specs.Stops.{AreBoards}
+use Rattle.dm_words.specs.Words.{Command, FilesAsked, RunAsked, CheckAsked, GenAsked, RunOf, CheckOf, GenOf, Asks, AsksFiles, AsksRun, AsksCheck, AsksGen, IsNumber, IsNumberOr, IsPenalty, IsBatch, HasBoards, event_words, activity_words}
+use Rattle.dm_words.proofs.Stopping.{spell_one}
+
+given_one : (option : List ℕ) (words : List (List ℕ)) (a b : Option (List ℕ)) → GivesOption option words a → GivesOption option words b → a ≡ b
+given_one option words None None p q = refl
+given_one option words None (Some y) p q = let e = p in let f = q.0 in cc (e, f)
+given_one option words (Some x) None p q = let e = p.0 in let f = q in cc (e, f)
+given_one option words (Some x) (Some y) p q = let e = p.0 in let f = q.0 in cc (e, f)
+
+number_one : (text : List ℕ) (least most a b : ℕ) → IsNumber text least most a → IsNumber text least most b → a ≡ b
+number_one text least most a b p q = p.is ∙ sym q.is
+
+number_or_one : (given : Option (List ℕ)) (least most standard a b : ℕ) → IsNumberOr given least most standard a → IsNumberOr given least most standard b → a ≡ b
+number_or_one None least most standard a b p q = p ∙ sym q
+number_or_one (Some text) least most standard a b p q = number_one text least most a b p q
+
+penalty_one : (words : List (List ℕ)) (a b : ℕ) → IsPenalty words a → IsPenalty words b → a ≡ b
+penalty_one words a b p q =
+    let same = given_one penalty_option words p.value q.value p.given q.given in
+    number_or_one q.value _ _ _ a b (subst (λ (v : Option (List ℕ)). IsNumberOr v _ _ _ a) same p.is) q.is
+
+batch_one : (words : List (List ℕ)) (a b : ℕ) → IsBatch words a → IsBatch words b → a ≡ b
+batch_one words a b p q =
+    let same = given_one batch_option words p.value q.value p.given q.given in
+    number_or_one q.value _ _ _ a b (subst (λ (v : Option (List ℕ)). IsNumberOr v _ _ _ a) same p.is) q.is
+
+stops_one : (given : Option (List ℕ)) (a b : List ℕ) → AreBoards given a → AreBoards given b → a ≡ b
+stops_one None a b p q = p ∙ sym q
+stops_one (Some text) a b p q = spell_one _ a b p.spelled q.spelled
+
+boards_one : (words : List (List ℕ)) (a b : List ℕ) → HasBoards words a → HasBoards words b → a ≡ b
+boards_one words a b p q =
+    let same = given_one boards_option words p.value q.value p.given q.given in
+    stops_one q.value a b (subst (λ (v : Option (List ℕ)). AreBoards v a) same p.are) q.are
+
+abbrev columns_read : FileColumns → Result FileColumns ColumnFault
+columns_read columns = Ok columns
+
+read_is : (a b : FileColumns) → columns_read a ≡ columns_read b → a ≡ b
+read_is a b e = cc
+
+pub first_name : (a c : List ℕ) (b d : List (List ℕ)) → a ∷ b ≡ c ∷ d → a ≡ c
+first_name a c b d e = cc
+
+later_names : (a c : List ℕ) (b d : List (List ℕ)) → a ∷ b ≡ c ∷ d → b ≡ d
+later_names a c b d e = cc
+
+pub second_name : (a b c d : List ℕ) → a ∷ b ∷ [] ≡ c ∷ d ∷ [] → b ≡ d
+second_name a b c d e = cc
+
+files_are : (x y : FilesAsked) → x.folder ≡ y.folder → x.penalty ≡ y.penalty → x.columns ≡ y.columns → x.event_delays ≡ y.event_delays → x.activity_delays ≡ y.activity_delays → x ≡ y
+files_are x y folder penalty columns events activities =
+    ap (λ v. record x { folder = v }) folder
+    ∙ (ap (λ v. record x { folder = y.folder; penalty = v }) penalty
+    ∙ (ap (λ v. record x { folder = y.folder; penalty = y.penalty; columns = v }) columns
+    ∙ (ap (λ v. record x { folder = y.folder; penalty = y.penalty; columns = y.columns; event_delays = v }) events
+    ∙ ap (λ v. record y { activity_delays = v }) activities)))
+
+files_one : (words : List (List ℕ)) (x y : FilesAsked) → x.folder ≡ y.folder → AsksFiles words x → AsksFiles words y → x ≡ y
+files_one words x y folder p q =
+    let events = given_one event_columns_option words p.events q.events p.gives_events q.gives_events in
+    let activities = given_one activity_columns_option words p.activities q.activities p.gives_activities q.gives_activities in
+    let columns = columns_one (event_words q.events) (activity_words q.activities) (Ok x.columns) (Ok y.columns)
+    (subst (λ (a : Option (List ℕ)). ReadsFileColumns (event_words q.events) (activity_words a) (Ok x.columns)) activities
+    (subst (λ (e : Option (List ℕ)). ReadsFileColumns (event_words e) (activity_words p.activities) (Ok x.columns)) events p.are_columns)) q.are_columns in
+    files_are x y folder (penalty_one words x.penalty y.penalty p.penalty q.penalty) (read_is x.columns y.columns columns)
+    (given_one event_delays_option words x.event_delays y.event_delays p.gives_event_delays q.gives_event_delays)
+    (given_one activity_delays_option words x.activity_delays y.activity_delays p.gives_activity_delays q.gives_activity_delays)
+
+run_is : (x y : RunAsked) → x.files ≡ y.files → x.feeds ≡ y.feeds → x.batch ≡ y.batch → x.boards ≡ y.boards → x ≡ y
+run_is x y files feeds batch boards =
+    ap (λ v. record x { files = v }) files
+    ∙ (ap (λ v. record x { files = y.files; feeds = v }) feeds
+    ∙ (ap (λ v. record x { files = y.files; feeds = y.feeds; batch = v }) batch
+    ∙ ap (λ v. record y { boards = v }) boards))
+
+run_one : (words : List (List ℕ)) (x y : RunAsked) → AsksRun words x → AsksRun words y → x ≡ y
+run_one words x y p q =
+    let names = sym p.names ∙ q.names in
+    run_is x y (files_one words x.files y.files (first_name x.files.folder y.files.folder x.feeds y.feeds names) p.files q.files)
+    (later_names x.files.folder y.files.folder x.feeds y.feeds names) (batch_one words x.batch y.batch p.batch q.batch)
+    (boards_one words x.boards y.boards p.boards q.boards)
+
+check_is : (x y : CheckAsked) → x.files ≡ y.files → x.text ≡ y.text → x ≡ y
+check_is x y files text = ap (λ v. record x { files = v }) files ∙ ap (λ v. record y { text = v }) text
+
+check_one : (words : List (List ℕ)) (x y : CheckAsked) → AsksCheck words x → AsksCheck words y → x ≡ y
+check_one words x y p q =
+    let names = sym p.names ∙ q.names in
+    check_is x y (files_one words x.files y.files (first_name x.files.folder y.files.folder (x.text ∷ []) (y.text ∷ []) names) p.files q.files)
+    (second_name x.files.folder x.text y.files.folder y.text names)
+
+gen_is : (x y : GenAsked) → x.number ≡ y.number → x.trains ≡ y.trains → x.penalty ≡ y.penalty → x ≡ y
+gen_is x y number trains penalty =
+    ap (λ v. record x { number = v }) number
+    ∙ (ap (λ v. record x { number = y.number; trains = v }) trains ∙ ap (λ v. record y { penalty = v }) penalty)
+
+gen_one : (words : List (List ℕ)) (x y : GenAsked) → AsksGen words x → AsksGen words y → x ≡ y
+gen_one words x y p q =
+    let names = sym p.names ∙ q.names in
+    let number = first_name p.number q.number (p.trains ∷ []) (q.trains ∷ []) names in
+    let trains = second_name p.number p.trains q.number q.trains names in
+    gen_is x y (number_one q.number _ _ x.number y.number (subst (λ (t : List ℕ). IsNumber t _ _ x.number) number p.is_number) q.is_number)
+    (number_one q.trains _ _ x.trains y.trains (subst (λ (t : List ℕ). IsNumber t _ _ x.trains) trains p.are_trains) q.are_trains)
+    (penalty_one words x.penalty y.penalty p.penalty q.penalty)
+
+-- words that begin otherwise are not one word
+pub differ : (a b word : List ℕ) → word ≡ a → word ≡ b → eqb (get_or a 0 0) (get_or b 0 0) ≡ false → ⊥
+differ a b word p q other =
+    let same : get_or a 0 0 ≡ get_or b 0 0 = ap (λ (w : List ℕ). get_or w 0 0) (sym p ∙ q) in
+    let both : false ≡ true = sym other ∙ eq-eqb (get_or a 0 0) (get_or b 0 0) same in
+    cc
+
+pub one_command : (words : List (List ℕ)) (x y : Command) → Asks words x → Asks words y → x ≡ y
+one_command [] x y p q = absurd p
+one_command (word ∷ words) (RunOf x) (RunOf y) p q = ap RunOf (run_one words x y p.1 q.1)
+one_command (word ∷ words) (CheckOf x) (CheckOf y) p q = ap CheckOf (check_one words x y p.1 q.1)
+one_command (word ∷ words) (GenOf x) (GenOf y) p q = ap GenOf (gen_one words x y p.1 q.1)
+one_command (word ∷ words) (RunOf x) (CheckOf y) p q = absurd (differ (codes "run") (codes "check") word p.0 q.0 refl)
+one_command (word ∷ words) (RunOf x) (GenOf y) p q = absurd (differ (codes "run") (codes "gen") word p.0 q.0 refl)
+one_command (word ∷ words) (CheckOf x) (RunOf y) p q = absurd (differ (codes "check") (codes "run") word p.0 q.0 refl)
+one_command (word ∷ words) (CheckOf x) (GenOf y) p q = absurd (differ (codes "check") (codes "gen") word p.0 q.0 refl)
+one_command (word ∷ words) (GenOf x) (RunOf y) p q = absurd (differ (codes "gen") (codes "run") word p.0 q.0 refl)
+one_command (word ∷ words) (GenOf x) (CheckOf y) p q = absurd (differ (codes "gen") (codes "check") word p.0 q.0 refl)

@@ -1,0 +1,15 @@
+use Rattle.std.proofs.Common.{◌∙◌, sym, map, filter, string_bytes}
+use Rattle.dm_words.specs.Options.{is_name}
+use Rattle.dm_words.proofs.OneCommand.{first_name}
+use Rattle.dm_words.proofs.command.read_run.Goals as goal
+
+pub returns-in_default-read_files : goal.returns-in_default-read_files
+returns-in_default-read_files c = λ asked asks.
+    c.in_default-read_files.ensures asked.files (first_name asked.files.folder c.in-Some.folder.now asked.feeds (filter is_name (map string_bytes c.in-Some.rest.now))
+    (sym asks.names ∙ c.in-Some.ensures)) asks.files
+
+pub returns-in_default-batch_of : goal.returns-in_default-batch_of
+returns-in_default-batch_of c = λ asked asks. c.in_default-batch_of.ensures _ asks.batch
+
+pub returns-in_default-stops_of : goal.returns-in_default-stops_of
+returns-in_default-stops_of c = λ asked asks. c.in_default-stops_of.ensures _ asks.boards

@@ -1,0 +1,2 @@
+-- States of loops. Who believes what words ask for need not read them.
+pub mod Pieces

@@ -1,0 +1,154 @@
+-- What the words of a command line ask for: `run DIR FEED..`, `check DIR TEXT` or `gen NUMBER TRAINS`, with options among them.
+use Rattle.std.specs.Prelude.{ℕ, ◌≡◌, ◌≤◌, true, ◌||◌, List, [], ◌∷◌, ◌++◌, length, filter, Option, Some, None, unwrap_or, Ok, codes}
+use Rattle.std.specs.List.{list_all}
+use Rattle.dm_base.specs.declared.limits.TheConstants.{PENALTY, FEEDS}
+use Rattle.dm_base.specs.Numbers.{IsDigits, whole_value}
+use Rattle.dm_lintim.specs.Columns.{FileColumns, ReadsFileColumns}
+use Rattle.dm_words.specs.Options.{GivesOption, activity_columns_option, activity_delays_option, batch_option, boards_option, event_columns_option, event_delays_option, is_name, is_option, options_of, penalty_option}
+use Rattle.dm_words.specs.Stops.{AreBoards}
+use Rattle.dm_words.specs.declared.files.TheConstants.{STANDARD_PENALTY}
+use Rattle.dm_words.specs.declared.command.TheConstants.{BATCH, STANDARD_BATCH, TRAINS, LARGEST_NUMBER}
+use Rattle.dm_words.specs.declared.options.Kind.{Kind}
+use Rattle.dm_words.specs.declared.options.Kind.TheVariants.{Run, Check, Gen}
+
+-- the files of a folder, and the options that go with them; the files of delays are named where there are any
+pub record FilesAsked : Type 0 where
+  pub folder : List ℕ
+  pub penalty : ℕ
+  pub columns : FileColumns
+  pub event_delays : Option (List ℕ)
+  pub activity_delays : Option (List ℕ)
+
+-- a run over these files: its feeds, how many lines of each are answered in a round, and the stops of its boards
+pub record RunAsked : Type 0 where
+  pub files : FilesAsked
+  pub feeds : List (List ℕ)
+  pub batch : ℕ
+  pub boards : List ℕ
+
+-- the check of a text against these files
+pub record CheckAsked : Type 0 where
+  pub files : FilesAsked
+  pub text : List ℕ
+
+-- a generated day
+pub record GenAsked : Type 0 where
+  pub number : ℕ
+  pub trains : ℕ
+  pub penalty : ℕ
+
+-- what words may ask for
+pub data Command : Type 0 where
+  RunOf : RunAsked → Command
+  CheckOf : CheckAsked → Command
+  GenOf : GenAsked → Command
+
+-- the text is this number, in decimal digits, from least to most
+pub record IsNumber (text : List ℕ) (least most n : ℕ) : Type 0 where
+  pub digits : IsDigits text
+  pub is : n ≡ whole_value text
+  pub from : least ≤ n
+  pub to : n ≤ most
+
+-- the same of an option's value, or the standard number where it is not given
+abbrev pub IsNumberOr : Option (List ℕ) → ℕ → ℕ → ℕ → ℕ → Type 0
+IsNumberOr None least most standard n = n ≡ standard
+IsNumberOr (Some text) least most standard n = IsNumber text least most n
+
+-- the penalty in seconds for each passenger
+pub record IsPenalty (words : List (List ℕ)) (penalty : ℕ) : Type 0 where
+  pub value : Option (List ℕ)
+  pub given : GivesOption penalty_option words value
+  pub is : IsNumberOr value 0 PENALTY STANDARD_PENALTY penalty
+
+-- how many lines of each feed are answered in a round
+pub record IsBatch (words : List (List ℕ)) (batch : ℕ) : Type 0 where
+  pub value : Option (List ℕ)
+  pub given : GivesOption batch_option words value
+  pub is : IsNumberOr value 1 BATCH STANDARD_BATCH batch
+
+-- the stops of the boards
+pub record HasBoards (words : List (List ℕ)) (boards : List ℕ) : Type 0 where
+  pub value : Option (List ℕ)
+  pub given : GivesOption boards_option words value
+  pub are : AreBoards value boards
+
+-- the column words of a file, which stand in the standard order where none are given
+abbrev pub standard_event_words : List ℕ
+standard_event_words = codes "id,periodic-id,type,time,weight,stop"
+
+abbrev pub standard_activity_words : List ℕ
+standard_activity_words = codes "id,periodic-id,type,tail,head,lower,upper,weight"
+
+abbrev pub event_words : Option (List ℕ) → List ℕ
+event_words given = unwrap_or given standard_event_words
+
+abbrev pub activity_words : Option (List ℕ) → List ℕ
+activity_words given = unwrap_or given standard_activity_words
+
+-- the options of the files of a folder have these values
+pub record AsksFiles (words : List (List ℕ)) (asked : FilesAsked) : Type 0 where
+  pub events : Option (List ℕ)
+  pub activities : Option (List ℕ)
+  pub penalty : IsPenalty words asked.penalty
+  pub gives_events : GivesOption event_columns_option words events
+  pub gives_activities : GivesOption activity_columns_option words activities
+  pub gives_event_delays : GivesOption event_delays_option words asked.event_delays
+  pub gives_activity_delays : GivesOption activity_delays_option words asked.activity_delays
+  pub are_columns : ReadsFileColumns (event_words events) (activity_words activities) (Ok asked.columns)
+
+-- each word is a name or an option of the command
+abbrev pub AreKnown : Kind → List (List ℕ) → Type 0
+AreKnown kind words = list_all (λ word. is_name word || is_option (options_of kind) word) words ≡ true
+
+-- What the words behind `run` ask for: the names are a folder and 1 to FEEDS feeds, and the options have these values.
+pub record AsksRun (words : List (List ℕ)) (asked : RunAsked) : Type 0 where
+  pub known : AreKnown Run words
+  pub names : filter is_name words ≡ asked.files.folder ∷ asked.feeds
+  pub some_feed : 1 ≤ length asked.feeds
+  pub few_feeds : length asked.feeds ≤ FEEDS
+  pub files : AsksFiles words asked.files
+  pub batch : IsBatch words asked.batch
+  pub boards : HasBoards words asked.boards
+
+-- What the words behind `check` ask for: the names are a folder and a text.
+pub record AsksCheck (words : List (List ℕ)) (asked : CheckAsked) : Type 0 where
+  pub known : AreKnown Check words
+  pub names : filter is_name words ≡ asked.files.folder ∷ asked.text ∷ []
+  pub files : AsksFiles words asked.files
+
+-- What the words behind `gen` ask for: the names are a number of 64 bits and a count of 1 to TRAINS trains.
+pub record AsksGen (words : List (List ℕ)) (asked : GenAsked) : Type 0 where
+  pub number : List ℕ
+  pub trains : List ℕ
+  pub known : AreKnown Gen words
+  pub names : filter is_name words ≡ number ∷ trains ∷ []
+  pub is_number : IsNumber number 0 LARGEST_NUMBER asked.number
+  pub are_trains : IsNumber trains 1 TRAINS asked.trains
+  pub penalty : IsPenalty words asked.penalty
+
+-- the words, without the program's name, ask for this
+abbrev pub Asks : List (List ℕ) → Command → Type 0
+Asks [] command = ⊥
+Asks (word ∷ words) (RunOf asked) = (word ≡ codes "run") × AsksRun words asked
+Asks (word ∷ words) (CheckOf asked) = (word ≡ codes "check") × AsksCheck words asked
+Asks (word ∷ words) (GenOf asked) = (word ≡ codes "gen") × AsksGen words asked
+
+-- the words ask for nothing
+abbrev pub AsksNothing : List (List ℕ) → Type 0
+AsksNothing words = (command : Command) → Asks words command → ⊥
+
+-- the name of a file of the folder, as it is opened
+abbrev pub in_folder : FilesAsked → List ℕ → List ℕ
+in_folder asked name = asked.folder ++ (codes "/" ++ name)
+
+-- the stops of the boards of what words ask for
+abbrev pub boards_of_command : Command → List ℕ
+boards_of_command (RunOf asked) = asked.boards
+boards_of_command (CheckOf asked) = []
+boards_of_command (GenOf asked) = []
+
+-- the stops are those that the words ask for, or none where they ask for nothing
+pub record AreStopsOf (words : List (List ℕ)) (stops : List ℕ) : Type 0 where
+  pub asked : (command : Command) → Asks words command → stops ≡ boards_of_command command
+  pub nothing : AsksNothing words → stops ≡ []

@@ -1,0 +1,19 @@
+//! The words of a command line, and what they ask for.
+//!
+//! It stands on dm_lintim for column words and on dm_base for numbers and limits. [`read_words`] gives what the words of
+//! `run`, `check` and `gen` ask for, exactly where they ask for something, and takes no memory. [`board_words`] gives the
+//! stops of the boards that a run is to have. That words ask for one thing at most is a law.
+#![tactic(auto)]
+
+mod boards;
+mod command;
+mod files;
+pub mod laws;
+mod options;
+mod stops;
+
+pub use boards::board_words;
+pub use command::{CheckWords, CommandWords, GenWords, RunWords, read_words};
+pub use files::FileWords;
+pub use options::Names;
+pub use stops::Stops;

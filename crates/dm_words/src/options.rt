@@ -1,0 +1,171 @@
+//! Words that are names, and words that are options.
+ghost use Rattle.std.specs.Prelude.{◌≡◌, ◌≤◌, ◌∷◌, [], ◌||◌, ℕ, Option, List, Some, None, map, filter, length, string_bytes, MatchOption};
+ghost use Rattle.std.specs.Option.{option_map};
+ghost use Rattle.std.specs.List.{list_all};
+ghost use Rattle.dm_words.specs.Options.{GivesOption, behind, file_options, is_name, is_option, options_of, values_of};
+
+/// How the word of each option begins.
+pub const PENALTY_OPTION: &str = "--penalty=";
+
+pub const BATCH_OPTION: &str = "--batch=";
+
+pub const EVENT_COLUMNS: &str = "--event-columns=";
+
+pub const ACTIVITY_COLUMNS: &str = "--activity-columns=";
+
+pub const EVENT_DELAYS: &str = "--event-delays=";
+
+pub const ACTIVITY_DELAYS: &str = "--activity-delays=";
+
+pub const BOARDS_OPTION: &str = "--boards=";
+
+/// A command, by which its words may have these options or those.
+#[derive(Clone, Copy, PartialEq, Eq, Debug)]
+pub enum Kind {
+    Run,
+    Check,
+    Gen,
+}
+
+/// What stands behind the text, where the word begins with it.
+pub fn behind<'a>(text: &str, word: &'a str) -> Option<&'a str>
+    ensures { option_map (λ x. x.now) result ≡ behind text.now word.now }
+{
+    word.strip_prefix(text)
+}
+
+fn is_name(word: &str) -> bool
+    ensures { result ≡ is_name word.now }
+{
+    match word.as_bytes() {
+        [] => false,
+        [first, ..] => *first != b'-',
+    }
+}
+
+/// Whether the word is an option of the files of a folder.
+fn is_file_option(word: &str) -> bool
+    ensures { result ≡ is_option file_options word.now }
+{
+    behind(PENALTY_OPTION, word).is_some()
+        || behind(EVENT_COLUMNS, word).is_some()
+        || behind(ACTIVITY_COLUMNS, word).is_some()
+        || behind(EVENT_DELAYS, word).is_some()
+        || behind(ACTIVITY_DELAYS, word).is_some()
+}
+
+/// Whether the word is an option of the command.
+fn is_option(kind: Kind, word: &str) -> bool
+    ensures { result ≡ is_option (options_of kind) word.now }
+{
+    match kind {
+        Kind::Run => {
+            behind(BATCH_OPTION, word).is_some()
+                || behind(BOARDS_OPTION, word).is_some()
+                || is_file_option(word)
+        }
+        Kind::Check => is_file_option(word),
+        Kind::Gen => behind(PENALTY_OPTION, word).is_some(),
+    }
+}
+
+/// Whether each word is a name or an option of the command.
+pub fn are_known(kind: Kind, words: &[String]) -> bool
+    ensures { result ≡ list_all (λ word. is_name word || is_option (options_of kind) word) (map string_bytes words.now) }
+{
+    for word in words {
+        if !is_name(word.as_str()) && !is_option(kind, word.as_str()) {
+            return false;
+        }
+    }
+    true
+}
+
+/// The first value that the words give an option, and the words behind it.
+fn next_value<'a>(option: &str, words: &'a [String]) -> Option<(&'a str, &'a [String])>
+    ensures { MatchOption result (values_of option.now (map string_bytes words.now) ≡ [])
+        (λ next. values_of option.now (map string_bytes words.now) ≡ next.0.now ∷ values_of option.now (map string_bytes next.1.now)) }
+{
+    for (place, word) in words.iter().enumerate() {
+        if let Some(value) = behind(option, word.as_str()) {
+            return Some((value, &words[place + 1..]));
+        }
+    }
+    None
+}
+
+/// A value that is no text, or stands twice.
+pub fn given<'a>(option: &str, words: &'a [String]) -> Option<Option<&'a str>>
+    ensures { MatchOption result ((v : Option (List ℕ)) → GivesOption option.now (map string_bytes words.now) v → ⊥)
+        (λ v. GivesOption option.now (map string_bytes words.now) (option_map (λ x. x.now) v)) }
+{
+    let Some((value, rest)) = next_value(option, words) else {
+        return Some(None);
+    };
+    if value.is_empty() || next_value(option, rest).is_some() {
+        return None;
+    }
+    Some(Some(value))
+}
+
+/// The first of the words that is a name, and the words behind it.
+pub fn next_name(words: &[String]) -> Option<(&str, &[String])>
+    ensures { MatchOption result (filter is_name (map string_bytes words.now) ≡ [])
+        (λ next. filter is_name (map string_bytes words.now) ≡ next.0.now ∷ filter is_name (map string_bytes next.1.now)) }
+{
+    for (place, word) in words.iter().enumerate() {
+        if is_name(word.as_str()) {
+            return Some((word.as_str(), &words[place + 1..]));
+        }
+    }
+    None
+}
+
+/// How many of the words are names.
+pub fn count_names(words: &[String]) -> usize
+    ensures { result ≡ length (filter is_name (map string_bytes words.now)) }
+{
+    let mut count = 0;
+    for word in words {
+        if is_name(word.as_str()) {
+            count += 1;
+        }
+    }
+    count
+}
+
+/// The two names of the words, where they are two.
+pub fn two_names(words: &[String]) -> Option<(&str, &str)>
+    ensures { MatchOption result ((one other : List ℕ) → filter is_name (map string_bytes words.now) ≡ one ∷ other ∷ [] → ⊥)
+        (λ names. filter is_name (map string_bytes words.now) ≡ names.0.now ∷ names.1.now ∷ []) }
+{
+    let Some((one, rest)) = next_name(words) else {
+        return None;
+    };
+    let Some((other, rest)) = next_name(rest) else {
+        return None;
+    };
+    if next_name(rest).is_some() {
+        return None;
+    }
+    Some((one, other))
+}
+
+/// The names among some words, in their order.
+#[derive(Clone, Copy)]
+pub struct Names<'a> {
+    pub(crate) words: &'a [String],
+}
+
+impl<'a> Names<'a> {
+    /// The first name, and the names behind it.
+    pub fn split_first(self) -> Option<(&'a str, Names<'a>)>
+        ensures { MatchOption result (filter is_name (map string_bytes self.entry.words.now) ≡ [])
+            (λ next. filter is_name (map string_bytes self.entry.words.now) ≡ next.0.now ∷ filter is_name (map string_bytes next.1.words.now)) }
+    {
+        match next_name(self.words) {
+            Some((name, words)) => Some((name, Names { words })),
+            None => None,
+        }
+    }
+}
