@@ -1,8 +1,12 @@
 -- What holds of all texts.
-use Rattle.std.specs.Prelude.{ℕ, ◌≡◌, List, []}
+use Rattle.std.specs.Prelude.{ℕ, ◌≡◌, List, [], Result}
 use Rattle.dm_network.specs.Net.{Net}
 use Rattle.dm_rows.specs.Rows.{RowsValue}
+use Rattle.dm_text.specs.Places.{Place}
+use Rattle.dm_tree.specs.declared.plans.Plan.{Plan}
+use Rattle.dm_cert.specs.declared.faults.CertFault.{CertFault}
 use Rattle.dm_cert.specs.PlanTexts.{IsVersion}
+use Rattle.dm_cert.specs.PlansRead.{TellsPlan}
 use Rattle.dm_cert.specs.RunTexts.{run_text}
 use Rattle.dm_check.specs.declared.verdicts.BadKind.TheVariants.{Truncated}
 use Rattle.dm_check.specs.declared.verdicts.Verdict.TheVariants.{Bad}
@@ -22,3 +26,9 @@ abbrev pub GoodTextsAreSpelled : Type 0
 GoodTextsAreSpelled =
     (net : Net) (start : RowsValue) (penalty : ℕ) (text : List ℕ) (entries plans : ℕ) (good : IsGood net start penalty text entries plans) →
     IsSpelledIn net start penalty text entries plans good
+
+-- of a place one thing alone is told about the plan whose text should begin there: the plan, or one fault
+abbrev pub PlansAreToldOnce : Type 0
+PlansAreToldOnce =
+    (version entry : ℕ) (place : Place) (one other : Result (Plan × Place) CertFault) → TellsPlan version entry place one →
+    TellsPlan version entry place other → one ≡ other

@@ -1,5 +1,5 @@
 //! What holds of all texts. A law has no code: it is proved as the contract of an empty function.
-ghost use Rattle.dm_check.specs.Laws.{EmptyTextIsCut, GoodTextsAreSpelled};
+ghost use Rattle.dm_check.specs.Laws.{EmptyTextIsCut, GoodTextsAreSpelled, PlansAreToldOnce};
 
 /// Of the empty text it is told that its first line is truncated, and nothing else.
 pub fn empty_text_is_cut()
@@ -9,4 +9,10 @@ pub fn empty_text_is_cut()
 /// A good text is the spelling, in one of the versions, of the run that is told of it.
 pub fn good_texts_are_spelled()
     ensures { GoodTextsAreSpelled }
+{}
+
+/// Of a place one thing alone is told about the plan whose text should begin there: the plan with the place behind it, or one
+/// fault. So each fault of a plan that is read comes exactly where it is told.
+pub fn plans_are_told_once()
+    ensures { PlansAreToldOnce }
 {}

@@ -1,0 +1,2 @@
+-- When a priced timetable evaluates the relaxed problem of a path.
+pub mod Evaluating

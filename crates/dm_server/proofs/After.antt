@@ -1,0 +1,88 @@
+-- What a table refuses after its history, and that it never refuses a true plan there.
+use Rattle.std.proofs.Common.{◌≡◌, ℕ, ◌<◌, ◌≤◌, List, length, take, fold, Ok, Err, refl, sym, ap, subst, ◌∙◌, arith}
+use Rattle.std.proofs.lemmas.List.{take-append-le}
+use Rattle.std.specs.Prelude.{Result, IfErr}
+use mathlib.Core.List.{IsPrefix}
+use Rattle.dm_base.specs.declared.limits.TheConstants.{ENTRIES}
+use Rattle.dm_network.specs.Net.{Net}
+use Rattle.dm_network.specs.Start.{IsNetwork}
+use Rattle.dm_rows.specs.declared.messages.Entry.{Entry}
+use Rattle.dm_rows.specs.declared.messages.Message.{Message}
+use Rattle.dm_rows.specs.declared.messages.Message.TheVariants.{Adopt}
+use Rattle.dm_rows.specs.declared.messages.Refusal.{Refusal}
+use Rattle.dm_rows.specs.declared.messages.Refusal.TheVariants.{Range, UnknownEvent, UnknownActivity, UnknownChange, UnknownPair, Passed, NotPassed, Back, Cycle, Full, OutOfMemory}
+use Rattle.dm_rows.specs.History.{rows_at}
+use Rattle.dm_rows.specs.Refuse.{Refuses, RefusesNothing}
+use Rattle.dm_rows.specs.Resolve.{after}
+use Rattle.dm_rows.specs.Rows.{RowsValue}
+use Rattle.dm_table.specs.Value.{TableValue, IsTable}
+use Rattle.dm_table.specs.Answers.{RefusesPost}
+use Rattle.dm_tree.specs.declared.plans.Plan.{Plan}
+use Rattle.dm_tree.specs.Plans.{whole_task, IsTruePlan}
+use Rattle.dm_tree.proofs.Admitted.{true_plans_are_admitted}
+use Rattle.dm_turn.proofs.Fronts.{prefix_length}
+use Rattle.dm_server.specs.declared.kept.Base.{Base}
+use Rattle.dm_server.specs.Answers.{base_of, rows_after, RefusesAfter, IsTrueOf}
+
+-- what a table refuses a message for is a refusal after its history
+refused_after : (table : TableValue) → IsTable table → (m : Message) (r : Refusal) → RefusesPost table.network table.rows (length table.history) m r →
+    RefusesAfter (base_of table) table.history m r
+refused_after table is m OutOfMemory h = tt
+refused_after table is m (Range v) h = subst (λ (rows : RowsValue). Refuses table.network rows (length table.history) m (Range v)) is.replayed h
+refused_after table is m (UnknownEvent e) h = subst (λ (rows : RowsValue). Refuses table.network rows (length table.history) m (UnknownEvent e)) is.replayed h
+refused_after table is m (UnknownActivity a) h = subst (λ (rows : RowsValue). Refuses table.network rows (length table.history) m (UnknownActivity a)) is.replayed h
+refused_after table is m (UnknownChange a) h = subst (λ (rows : RowsValue). Refuses table.network rows (length table.history) m (UnknownChange a)) is.replayed h
+refused_after table is m (UnknownPair i j) h = subst (λ (rows : RowsValue). Refuses table.network rows (length table.history) m (UnknownPair i j)) is.replayed h
+refused_after table is m (Passed e t) h = subst (λ (rows : RowsValue). Refuses table.network rows (length table.history) m (Passed e t)) is.replayed h
+refused_after table is m (NotPassed e) h = subst (λ (rows : RowsValue). Refuses table.network rows (length table.history) m (NotPassed e)) is.replayed h
+refused_after table is m (Back t) h = subst (λ (rows : RowsValue). Refuses table.network rows (length table.history) m (Back t)) is.replayed h
+refused_after table is m (Cycle ids) h = subst (λ (rows : RowsValue). Refuses table.network rows (length table.history) m (Cycle ids)) is.replayed h
+refused_after table is m (Full k) h = subst (λ (rows : RowsValue). Refuses table.network rows (length table.history) m (Full k)) is.replayed h
+
+pub answer_after : (table : TableValue) → IsTable table → (m : Message) (answer : Result ℕ Refusal) →
+    IfErr answer (RefusesPost table.network table.rows (length table.history) m) → IfErr answer (RefusesAfter (base_of table) table.history m)
+answer_after table is m (Ok n) h = tt
+answer_after table is m (Err r) h = refused_after table is m r h
+
+-- the rows after the first entries are those of a longer history
+rows_longer : (net : Net) (start : RowsValue) (seen history : List Entry) (n : ℕ) → IsPrefix seen history → n ≤ length seen →
+    rows_at net start seen n ≡ rows_at net start history n
+rows_longer net start seen history n prefix le =
+    ap (fold (λ rows (e : Entry). after net rows e.message) start)
+    (sym (take-append-le n seen prefix.0 le) ∙ ap (take n) prefix.1)
+
+-- a plan that is true of a history's rows is so of a longer one's
+pub true_of_longer : (base : Base) (seen history : List Entry) (plan : Plan) → IsPrefix seen history → IsTrueOf base seen plan → IsTrueOf base history plan
+true_of_longer base seen history plan prefix is =
+    record {
+      budget = is.budget;
+      within = let short = prefix_length seen history prefix in let within = is.within in omega arith;
+      is_true =
+          subst (λ (rows : RowsValue). IsTruePlan (whole_task base.network rows base.penalty is.budget) plan)
+          (rows_longer base.network base.start seen history plan.entry prefix is.within) is.is_true;
+    }
+
+-- a plan that is true of the rows after as many entries as there are is never refused
+pub never_refused : (base : Base) (history : List Entry) (plan : Plan) → IsNetwork base.network → IsTrueOf base history plan →
+    length history ≤ plan.entry → length history < ENTRIES →
+    RefusesNothing (Refuses base.network (rows_after base history) (length history) (Adopt plan.choices))
+never_refused base history plan network is all few =
+    let within = is.within in
+    let same : plan.entry ≡ length history = omega arith in
+    true_plans_are_admitted base.network (rows_after base history) base.penalty is.budget (length history) plan network few
+    (subst (λ (n : ℕ). IsTruePlan (whole_task base.network (rows_at base.network base.start history n) base.penalty is.budget) plan) same is.is_true)
+
+-- so nothing but want of memory refuses it
+pub only_memory : (base : Base) (history : List Entry) (m : Message) → RefusesNothing (Refuses base.network (rows_after base history) (length history) m) →
+    (r : Refusal) → RefusesAfter base history m r → r ≡ OutOfMemory
+only_memory base history m nothing OutOfMemory h = refl
+only_memory base history m nothing (Range v) h = absurd (nothing (Range v) h)
+only_memory base history m nothing (UnknownEvent e) h = absurd (nothing (UnknownEvent e) h)
+only_memory base history m nothing (UnknownActivity a) h = absurd (nothing (UnknownActivity a) h)
+only_memory base history m nothing (UnknownChange a) h = absurd (nothing (UnknownChange a) h)
+only_memory base history m nothing (UnknownPair i j) h = absurd (nothing (UnknownPair i j) h)
+only_memory base history m nothing (Passed e t) h = absurd (nothing (Passed e t) h)
+only_memory base history m nothing (NotPassed e) h = absurd (nothing (NotPassed e) h)
+only_memory base history m nothing (Back t) h = absurd (nothing (Back t) h)
+only_memory base history m nothing (Cycle ids) h = absurd (nothing (Cycle ids) h)
+only_memory base history m nothing (Full k) h = absurd (nothing (Full k) h)
