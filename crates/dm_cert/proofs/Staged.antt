@@ -12,7 +12,7 @@ use Rattle.dm_cert.specs.declared.faults.CertFault.{CertFault}
 use Rattle.dm_cert.specs.declared.growth.Stage.{Stage}
 use Rattle.dm_cert.specs.declared.growth.Stage.TheVariants.{Due, Whole, Broken}
 use Rattle.dm_cert.specs.PlansRead.{Answers, TellsLeaves, TellsNodes, TellsTree, ShowsLeaves, IsLeafLine, cut_line, misshapen_line, want_of_memory, no_tree}
-use Rattle.dm_cert.specs.Inside.Growing.{Grows, IsGrownFrom, HasGrown, IsTreeOf}
+use Rattle.dm_cert.specs.Inside.Growing.{Grows, IsGrownFrom, IsTreeOf}
 use Rattle.dm_cert.proofs.Grown.{fills_at_end, none_while_due, none_if_broken}
 use Rattle.dm_cert.proofs.LeavesFill.{shows_from, fills_from}
 
@@ -38,6 +38,13 @@ lines_go spells count start here next held new v run less told new_is =
 
 abbrev leaf_step : List Leaf → Place → Result (Leaf × Place) CertFault → Type 0
 leaf_step before = Line cut_line misshapen_line IsLeafLine
+
+-- leaves were read so far, and the tree has grown from them
+pub record HasGrown (count taken : ℕ) (start here : Place) (held : List Node) (path : List Decision) (stage : Stage) : Type 0 where
+  pub leaves : List Leaf
+  pub run : HasRun {F = CertFault} (λ before. Line cut_line misshapen_line IsLeafLine) count start leaves here
+  pub counted : taken ≡ length leaves
+  pub grows : Grows leaves held path stage
 
 pub grown_begins : (count : ℕ) (start : Place) (held : List Node) (path : List Decision) (stage : Stage) → Grows [] held path stage → HasGrown count 0 start start held path stage
 grown_begins count start held path stage g = record { leaves = []; run = run_begins leaf_step count start; counted = refl; grows = g }

@@ -1,5 +1,5 @@
 -- A tree that grows from its leaves in preorder.
-use Rattle.std.specs.Prelude.{ℕ, ◌≡◌, ◌⊎◌, true, List, [], ◌∷◌, ◌++◌, length, Result, Ok, Err}
+use Rattle.std.specs.Prelude.{ℕ, ◌≡◌, ◌⊎◌, true, List, [], ◌∷◌, ◌++◌, Result, Ok, Err}
 use Rattle.dm_rows.specs.declared.messages.Decision.{Decision}
 use Rattle.dm_tree.specs.declared.forms.Node.{Node}
 use Rattle.dm_tree.specs.declared.forms.Node.TheVariants.{Inner, Cycle, Bound, Open, Hole}
@@ -7,11 +7,9 @@ use Rattle.dm_tree.specs.declared.forms.Leaf.{Leaf}
 use Rattle.dm_tree.specs.Trees.{first_decision, second_decision, IsTree}
 use Rattle.dm_tree.specs.Inside.Filling.{is_ordered, pending}
 use Rattle.dm_text.specs.Places.{Place}
-use Rattle.dm_text.specs.Judging.{Line}
-use Rattle.dm_text.proofs.Counted.{HasRun}
 use Rattle.dm_cert.specs.declared.faults.CertFault.{CertFault}
 use Rattle.dm_cert.specs.declared.growth.Growth.{Growth}
-use Rattle.dm_cert.specs.PlansRead.{TellsLeaves, IsLeafLine, cut_line, misshapen_line, want_of_memory, no_tree}
+use Rattle.dm_cert.specs.PlansRead.{TellsLeaves, want_of_memory, no_tree}
 use Rattle.dm_cert.specs.declared.growth.Stage.{Stage}
 use Rattle.dm_cert.specs.declared.growth.Stage.TheVariants.{Due, Whole, Broken}
 
@@ -68,13 +66,6 @@ pub record IsGrownFrom (count : ℕ) (old new : Place) (held : List Node) (path 
 abbrev pub AnswersGrown : ℕ → Place → Place → Result Growth CertFault → Type 0
 AnswersGrown count old new (Ok growth) = IsGrownFrom count old new growth.nodes.items growth.path.items growth.stage
 AnswersGrown count old new (Err fault) = (fault ≡ want_of_memory) ⊎ TellsLeaves count old (Err fault)
-
--- leaves were read so far, and the tree has grown from them
-pub record HasGrown (count taken : ℕ) (start here : Place) (held : List Node) (path : List Decision) (stage : Stage) : Type 0 where
-  pub leaves : List Leaf
-  pub run : HasRun {F = CertFault} (λ before. Line cut_line misshapen_line IsLeafLine) count start leaves here
-  pub counted : taken ≡ length leaves
-  pub grows : Grows leaves held path stage
 
 -- the tree of the nodes, or there is none
 abbrev pub IsTreeOf : List Node → Result (List Node) CertFault → Type 0

@@ -1,5 +1,5 @@
 use Rattle.std.proofs.Common.{◌-◌}
-use Rattle.dm_cert.specs.Inside.Growing.{HasGrown}
+use Rattle.dm_cert.proofs.Staged.{HasGrown}
 use Rattle.dm_cert.proofs.plan_reading.grown.Given as goal
 
 abbrev pub invariant-loop-taken : goal.invariant-loop-taken
