@@ -17,7 +17,7 @@ const EVENTS: &[u8] =
 const ACTIVITIES: &[u8] =
     b"# activity-id; periodic-id; type; tail; head; lower; upper; passengers\n1; 1; \"drive\"; 1; 2; 90; 100; 10\n2; 2; \"wait\"; 2; 3; 10; 30; 10\n3; 3; \"drive\"; 3; 4; 80; 100; 10\n4; 4; \"drive\"; 5; 6; 95; 110; 5\n5; 5; \"change\"; 2; 5; 20; 79; 4\n6; 6; \"headway\"; 3; 5; 8; 60; 0\n7; 7; \"headway\"; 5; 3; 8; 60; 0\n";
 
-// What the shelf of a run holds and how it fails. The delay files are `net/d` and `net/e`.
+// What the shelf of a run holds and how it fails. The delay files are `net/d` and `net/e`, the feeds `f` and `g`.
 #[derive(Clone, Copy)]
 struct Case<'a> {
     events: &'a [u8],
@@ -25,12 +25,14 @@ struct Case<'a> {
     event_delays: &'a [u8],
     activity_delays: &'a [u8],
     feed: &'a [u8],
+    second: &'a [u8],
 
-    // Which openings fail, and which reads of each file but the feed.
+    // Which openings fail, and which reads of each file but the first feed.
     opens: &'a [u64],
     event_reads: &'a [u64],
     activity_reads: &'a [u64],
     delay_reads: &'a [u64],
+    second_reads: &'a [u64],
 
     // Which writes of the sink fail.
     writes: &'a [u64],
@@ -43,10 +45,12 @@ const GOOD: Case<'static> = Case {
     event_delays: b"",
     activity_delays: b"",
     feed: b"",
+    second: b"",
     opens: &[],
     event_reads: &[],
     activity_reads: &[],
     delay_reads: &[],
+    second_reads: &[],
     writes: &[],
     piece: 100_000,
 };
@@ -95,6 +99,12 @@ fn run_case<R: Threads + Wait + Sync + AllocGlobal>(
             piece: 7,
             fails: &[],
         },
+        MemFile {
+            name: "g",
+            bytes: case.second,
+            piece: 5,
+            fails: case.second_reads,
+        },
     ];
     let words = texts(rt.alloc(), words)?;
     let mut shelf = MemShelf::new(&files, case.opens);
@@ -123,6 +133,14 @@ const DELAYED: &[&str] = &[
     "f",
     "--penalty=10",
 ];
+
+// The whole text of a run over good files whose one feed cannot be opened.
+const UNOPENED: &[u8] =
+    b"dm-run 2\npenalty 10\nfeeds 1\nentries 0\nfeed 1 0\nfault\nboards 0\ntimes 0\n1; 100\n2; 200\n3; 220\n4; 300\n5; 230\n6; 330\ncost 0\ndone\n";
+
+// The whole text of a late first train, told by one feed, beside a feed whose third line cannot be read.
+const HALF_READ: &[u8] =
+    b"dm-run 2\npenalty 10\nfeeds 2\nentries 1\nentry 1 feed 1 line 1 delay event 1 60\nfeed 1 1\n1 delay event 1 60 -> 1 ok\nend\nfeed 2 2\n1 read -> 1 read\n2 read -> 1 read\nfault\nboards 0\ntimes 1\n1; 160\n2; 250\n3; 260\n4; 340\n5; 270\n6; 365\ncost 1075000\ndone\n";
 
 fn ends<R: Threads + Wait + Sync + AllocGlobal>(
     rt: &R,
@@ -192,7 +210,7 @@ fn what_cannot_be_opened(rt: HostRuntime) -> Result<(), Fail> {
         ),
         ([3].as_slice(), b"read fault net/d\n".as_slice()),
         ([4].as_slice(), b"read fault net/e\n".as_slice()),
-        ([5].as_slice(), b"read fault f\n".as_slice()),
+        ([5].as_slice(), UNOPENED),
     ] {
         let case = Case { opens, ..GOOD };
         assert!(rt; ends(&rt, DELAYED, &case, Status::ReadFault, text)?);
@@ -228,6 +246,19 @@ fn first_reads_that_fail(rt: HostRuntime) -> Result<(), Fail> {
     for (case, text) in cases {
         assert!(rt; ends(&rt, DELAYED, &case, Status::ReadFault, text)?);
     }
+    Ok(())
+}
+
+#[test]
+fn feed_that_fails_at_its_third_read(rt: HostRuntime) -> Result<(), Fail> {
+    let case = Case {
+        feed: b"delay event 1 60\n",
+        second: b"read\nread\nread\n",
+        second_reads: &[3],
+        ..GOOD
+    };
+    let words = &["run", "net", "--penalty=10", "f", "g"];
+    assert!(rt; ends(&rt, words, &case, Status::ReadFault, HALF_READ)?);
     Ok(())
 }
 

@@ -1,4 +1,5 @@
 -- What the words of a command are, seen by contracts.
+use Rattle.std.specs.Prelude.{map}
 use Rattle.std.specs.Option.{option_map}
 use Rattle.dm_input.specs.Words.{Command, FilesAsked, RunAsked, RunOf}
 use Rattle.dm_input.specs.declared.words.FileWords.{FileWords}
@@ -17,7 +18,7 @@ files_of words =
     }
 
 abbrev pub run_of : RunWords → RunAsked
-run_of words = record { files = files_of words.files; feed = words.feed.now }
+run_of words = record { files = files_of words.files; feeds = map (λ feed. feed.now) words.feeds.items; batch = words.batch }
 
 abbrev pub command_of : CommandWords → Command
 command_of (Run words) = RunOf (run_of words)

@@ -1,14 +1,15 @@
 //! What the words of a command line ask for.
-ghost use Rattle.std.specs.Prelude.{◌≡◌, ◌≢◌, ◌∷◌, [], ◌||◌, ℕ, Option, List, Some, None, Ok, map, filter, is_some, string_bytes, MatchOption, IfSome, IfNone, unwrap_or};
+ghost use Rattle.std.specs.Prelude.{◌≡◌, ◌≢◌, ◌∷◌, [], ◌||◌, ℕ, Option, List, Some, None, Ok, map, filter, is_some, string_bytes, MatchOption, IfOk, OnErr, length, unwrap_or};
 ghost use Rattle.std.specs.Option.{option_map};
 ghost use Rattle.std.specs.List.{list_all};
 ghost use Rattle.dm_lintim.specs.Columns.{FileColumns, ReadsFileColumns};
-ghost use Rattle.dm_input.specs.Words.{Asks, AsksBehind, AsksNothing, GivesOption, IsPenalty, RunAsked, behind, is_name, is_option, values_of, event_words, activity_words};
-ghost use Rattle.dm_input.specs.Asked.{command_of, run_of};
+ghost use Rattle.dm_input.specs.Words.{Asks, AsksForRun, AsksNothing, AsksRun, AsksSomeRun, FilesAsked, GivesFiles, GivesOption, IsBatch, IsPenalty, RunAsked, behind, file_options, is_name, is_option, run_options, values_of, event_words, activity_words};
+ghost use Rattle.dm_input.specs.Asked.{command_of, files_of, run_of};
 
-use dm_base::limits::PENALTY;
+use dm_base::limits::{FEEDS, PENALTY};
 use dm_base::read_whole;
 use dm_lintim::Columns;
+use std::alloc::{AllocError, Global};
 
 /// How the word of each option begins.
 const PENALTY_OPTION: &str = "--penalty=";
@@ -21,8 +22,16 @@ const EVENT_DELAYS: &str = "--event-delays=";
 
 const ACTIVITY_DELAYS: &str = "--activity-delays=";
 
+const BATCH: &str = "--batch=";
+
 /// The penalty where the words give none, in seconds for each passenger.
 const STANDARD_PENALTY: u64 = 3_600;
+
+/// The lines of a batch where the words give none.
+const STANDARD_BATCH: u64 = 16;
+
+/// The most lines of a batch.
+const LONGEST_BATCH: u64 = 1_000_000;
 
 /// The columns of the files where the words give none.
 const STANDARD_EVENTS: &str = "id,periodic-id,type,time,weight,stop";
@@ -45,8 +54,9 @@ fn is_name(word: &str) -> bool
     }
 }
 
-fn is_option(word: &str) -> bool
-    ensures { result ≡ is_option word.now }
+/// Whether the word is an option that goes with the files of a folder.
+fn is_file_option(word: &str) -> bool
+    ensures { result ≡ is_option file_options word.now }
 {
     behind(PENALTY_OPTION, word).is_some()
         || behind(EVENT_COLUMNS, word).is_some()
@@ -55,11 +65,18 @@ fn is_option(word: &str) -> bool
         || behind(ACTIVITY_DELAYS, word).is_some()
 }
 
+/// Whether the word is an option of a run.
+fn is_run_option(word: &str) -> bool
+    ensures { result ≡ is_option run_options word.now }
+{
+    behind(BATCH, word).is_some() || is_file_option(word)
+}
+
 fn are_known(words: &[String]) -> bool
-    ensures { result ≡ list_all (λ word. is_name word || is_option word) (map string_bytes words.now) }
+    ensures { result ≡ list_all (λ word. is_name word || is_option run_options word) (map string_bytes words.now) }
 {
     for word in words {
-        if !is_name(word.as_str()) && !is_option(word.as_str()) {
+        if !is_name(word.as_str()) && !is_run_option(word.as_str()) {
             return false;
         }
     }
@@ -106,21 +123,30 @@ fn given<'a>(option: &str, words: &'a [String]) -> Option<Option<&'a str>>
     Some(Some(value))
 }
 
-/// The two names of the words, where they are two.
-fn two_names(words: &[String]) -> Option<(&str, &str)>
-    ensures { MatchOption result ((folder feed : List ℕ) → filter is_name (map string_bytes words.now) ≡ folder ∷ feed ∷ [] → ⊥)
-        (λ names. filter is_name (map string_bytes words.now) ≡ names.0.now ∷ names.1.now ∷ []) }
+/// How many of the words may name a folder or a feed.
+fn count_names(words: &[String]) -> usize
+    ensures count { result ≡ length (filter is_name (map string_bytes words.now)) }
 {
-    let Some((folder, rest)) = next_name(words) else {
-        return None;
-    };
-    let Some((feed, rest)) = next_name(rest) else {
-        return None;
-    };
-    if next_name(rest).is_some() {
-        return None;
+    let mut count = 0;
+    for word in words {
+        if is_name(word.as_str()) {
+            count += 1;
+        }
     }
-    Some((folder, feed))
+    count
+}
+
+/// The words that may name a folder or a feed.
+fn names_of(alloc: Global, words: &[String]) -> Result<Vec<&str>, AllocError>
+    ensures { IfOk result (λ names. map (λ name. name.now) names.items ≡ filter is_name (map string_bytes words.now)) }
+{
+    let mut names = Vec::new(alloc);
+    for word in words {
+        if is_name(word.as_str()) {
+            names.push(word.as_str())?;
+        }
+    }
+    Ok(names)
 }
 
 /// The penalty that a value spells.
@@ -133,6 +159,20 @@ fn penalty_of(given: Option<&str>) -> Option<u64>
     };
     match read_whole(text.as_bytes()) {
         Ok(number) if number <= PENALTY => Some(number),
+        _ => None,
+    }
+}
+
+/// The lines of a batch that a value spells.
+fn batch_of(given: Option<&str>) -> Option<u64>
+    ensures { MatchOption result ((n : ℕ) → IsBatch (option_map (λ x. x.now) given.entry) n → ⊥)
+        (λ n. IsBatch (option_map (λ x. x.now) given.entry) n) }
+{
+    let Some(text) = given else {
+        return Some(STANDARD_BATCH);
+    };
+    match read_whole(text.as_bytes()) {
+        Ok(number) if number > 0 && number <= LONGEST_BATCH => Some(number),
         _ => None,
     }
 }
@@ -182,8 +222,11 @@ pub struct FileWords<'a> {
 pub struct RunWords<'a> {
     pub files: FileWords<'a>,
 
-    /// The name of the feed, as it is opened.
-    pub feed: &'a str,
+    /// The names of the feeds in order, 1 to `FEEDS`, as they are opened.
+    pub feeds: Vec<&'a str>,
+
+    /// The lines that a feed answers in one round, 1 to 1,000,000.
+    pub batch: u64,
 }
 
 /// What words ask for.
@@ -192,17 +235,11 @@ pub enum CommandWords<'a> {
     Run(RunWords<'a>),
 }
 
-/// What the words behind `run` ask for.
-fn read_behind(words: &[String]) -> Option<RunWords<'_>>
-    ensures { MatchOption result ((asked : RunAsked) → AsksBehind (map string_bytes words.now) asked → ⊥)
-        (λ run. AsksBehind (map string_bytes words.now) (run_of run)) }
+/// What words say of the files of a folder.
+fn read_files_of<'a>(folder: &'a str, words: &'a [String]) -> Option<FileWords<'a>>
+    ensures { MatchOption result ((asked : FilesAsked) → GivesFiles (map string_bytes words.now) asked → ⊥)
+        (λ files. (files.folder.now ≡ folder.now) × GivesFiles (map string_bytes words.now) (files_of files)) }
 {
-    if !are_known(words) {
-        return None;
-    }
-    let Some((folder, feed)) = two_names(words) else {
-        return None;
-    };
     let Some(penalty) = given(PENALTY_OPTION, words) else {
         return None;
     };
@@ -224,38 +261,77 @@ fn read_behind(words: &[String]) -> Option<RunWords<'_>>
     let Some(activity_delays) = given(ACTIVITY_DELAYS, words) else {
         return None;
     };
-    let files = FileWords {
+    Some(FileWords {
         folder,
         penalty,
         columns,
         event_delays,
         activity_delays,
+    })
+}
+
+/// What the words behind `run` ask for.
+fn read_run(alloc: Global, words: &[String]) -> Result<Option<RunWords<'_>>, AllocError>
+    ensures run { IfOk result (λ run. MatchOption run ((asked : RunAsked) → AsksRun (map string_bytes words.now) asked → ⊥)
+        (λ run. AsksRun (map string_bytes words.now) (run_of run))) }
+    ensures asks { OnErr result (AsksSomeRun (map string_bytes words.now)) }
+{
+    if !are_known(words) {
+        return Ok(None);
+    }
+    let Some((folder, rest)) = next_name(words) else {
+        return Ok(None);
     };
-    Some(RunWords { files, feed })
+    let Some(files) = read_files_of(folder, words) else {
+        return Ok(None);
+    };
+    let Some(batch) = given(BATCH, words) else {
+        return Ok(None);
+    };
+    let Some(batch) = batch_of(batch) else {
+        return Ok(None);
+    };
+    let count = count_names(rest);
+    if count == 0 || count > FEEDS {
+        return Ok(None);
+    }
+    let feeds = names_of(alloc, rest)?;
+    Ok(Some(RunWords {
+        files,
+        feeds,
+        batch,
+    }))
 }
 
 /// What a command word and the words behind it ask for.
-fn read_with<'a>(command: &str, rest: &'a [String]) -> Option<CommandWords<'a>>
-    ensures { MatchOption result (AsksNothing (command.now ∷ map string_bytes rest.now))
-        (λ asked. Asks (command.now ∷ map string_bytes rest.now) (command_of asked)) }
+fn read_with<'a>(
+    alloc: Global,
+    command: &str,
+    rest: &'a [String],
+) -> Result<Option<CommandWords<'a>>, AllocError>
+    ensures asked { IfOk result (λ asked. MatchOption asked (AsksNothing (command.now ∷ map string_bytes rest.now))
+        (λ asked. Asks (command.now ∷ map string_bytes rest.now) (command_of asked))) }
+    ensures asks { OnErr result (AsksForRun (command.now ∷ map string_bytes rest.now)) }
 {
     if command != "run" {
-        return None;
+        return Ok(None);
     }
-    match read_behind(rest) {
-        Some(run) => Some(CommandWords::Run(run)),
-        None => None,
+    match read_run(alloc, rest)? {
+        Some(run) => Ok(Some(CommandWords::Run(run))),
+        None => Ok(None),
     }
 }
 
 /// What the words ask for, which are those without the program's name, or nothing where they are in no form.
-/// A word `--NAME=VALUE` is an option wherever it stands behind the command word.
-pub fn read_words(words: &[String]) -> Option<CommandWords<'_>>
-    ensures { MatchOption result (AsksNothing (map string_bytes words.now))
-        (λ asked. Asks (map string_bytes words.now) (command_of asked)) }
+/// A word `--NAME=VALUE` is an option wherever it stands behind the command word. Only the list of the feeds takes memory, and
+/// only where the words ask for a run.
+pub fn read_words(alloc: Global, words: &[String]) -> Result<Option<CommandWords<'_>>, AllocError>
+    ensures asks { OnErr result (AsksForRun (map string_bytes words.now)) }
+    ensures asked { IfOk result (λ asked. MatchOption asked (AsksNothing (map string_bytes words.now))
+        (λ asked. Asks (map string_bytes words.now) (command_of asked))) }
 {
     let Some((command, rest)) = words.split_first() else {
-        return None;
+        return Ok(None);
     };
-    read_with(command.as_str(), rest)
+    read_with(alloc, command.as_str(), rest)
 }

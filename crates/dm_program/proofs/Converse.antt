@@ -1,62 +1,137 @@
 -- Where words and files determine how a run ends.
-use Rattle.std.proofs.Common.{◌≡◌, ℕ, List, Option, refl, ap, subst, ◌∙◌, inl, inr, ◌⊎◌}
+use Rattle.std.proofs.Common.{◌≡◌, ℕ, ◌<◌, ◌≤◌, ◌⊎◌, inl, inr, Bool, true, false, cond, ◌+◌, ◌||◌, List, [], ◌∷◌, length, Option, Some, None, Ok, Err, refl, sym, ap, subst, ◌∙◌, arith, get_or, slice_get}
 use Rattle.std.specs.Prelude.{IsSome}
+use Rattle.std.specs.List.{list_any}
+use Rattle.std.proofs.lemmas.Bool.{false≢true}
+use Rattle.std.proofs.lemmas.Option.{slice_get_within, slice_get-get_or, get_or_from_slice_get}
+use Rattle.dm_base.specs.declared.limits.TheConstants.{FEED}
 use Rattle.dm_outside.specs.Faults.{HasRisen}
-use Rattle.dm_input.specs.Input.{Told}
-use Rattle.dm_input.specs.Words.{Command, Asks, AsksNothing}
+use Rattle.dm_input.specs.Input.{Told, IsHeld, Opening, OpeningAnswer, IsUnread}
+use Rattle.dm_input.specs.Order.{SameFlaw}
+use Rattle.dm_input.specs.Lines.{refused_line, read_fault_line}
+use Rattle.dm_input.specs.Words.{Command, RunAsked, RunOf, Asks, AsksNothing}
+use Rattle.dm_input.specs.declared.flaws.InputFlaw.{InputFlaw}
 use Rattle.dm_input.proofs.OneCommand.{one_command}
-use Rattle.dm_program.specs.declared.input.Flaw.{Flaw}
-use Rattle.dm_program.specs.Input.{Input, IsInput, IsFirstRefusal, IsUnread, SameFlaw, read_fault_line, refused_line}
-use Rattle.dm_program.proofs.OneRun.{not_refused, one_refusal, sound_is_read, unread_by}
+use Rattle.dm_input.proofs.OneOpening.{opening_is_one, not_after}
+use Rattle.dm_feed.specs.declared.feed.FeedStop.{FeedStop}
+use Rattle.dm_feed.specs.declared.feed.FeedStop.TheVariants.{End, Fault, Long}
+use Rattle.dm_feed.specs.DueItems.{DueItem, EndsWith}
+use Rattle.dm_cert.specs.declared.replies.FeedLog.{FeedLog}
+use Rattle.dm_rounds.proofs.Places.{behind_one}
 use Rattle.dm_program.specs.declared.status.Status.{Status}
-use Rattle.dm_program.specs.declared.status.Status.TheVariants.{Ok, Usage, Refused, ReadFault, WriteFault, NoMemory}
-use Rattle.dm_program.specs.Ends.{Ends, EndsAt, AreSound, IsReadFault, IsRefusal}
+use Rattle.dm_program.specs.declared.status.Status.TheVariants.{Ok as Well, Usage, Refused, ReadFault, WriteFault, NoMemory}
+use Rattle.dm_program.specs.Feeds.{IsLogOfName, IsLogOfHeld, AreLogsOf, is_fault, is_long, status_of}
+use Rattle.dm_program.specs.Headline.{IsRunOf}
+use Rattle.dm_program.specs.Ends.{IsRefusal, IsReadFault, Ends, EndsAt, AreSound, AreShort}
+
+some_is : {X : Type 0} (x y : X) → Some x ≡ Some y → x ≡ y
+some_is x y e = cc
+
+held_is : (told : Told) (name x y : List ℕ) → IsSome told → IsHeld told name x → IsHeld told name y → x ≡ y
+held_is None name x y known h k = absurd (false≢true known)
+held_is (Some files) name x y known h k = some_is x y (sym h ∙ k)
+
+run_is : (x y : RunAsked) → RunOf x ≡ RunOf y → x ≡ y
+run_is x y e = cc
+
+-- ---- feeds that end well
+
+not_fault : (stop : FeedStop) → stop ≡ End → is_fault stop ≡ false
+not_fault stop e = ap is_fault e
+
+not_long : (stop : FeedStop) → stop ≡ End → is_long stop ≡ false
+not_long stop e = ap is_long e
+
+none_any : (p : FeedStop → Bool) → p End ≡ false → (logs : List FeedLog) → ((k : ℕ) (log : FeedLog) → slice_get logs k ≡ Some log → log.stop ≡ End) → list_any (λ log. p log.stop) logs ≡ false
+none_any p no_end [] all = refl
+none_any p no_end (log ∷ logs) all =
+    let here : p log.stop ≡ false = ap p (all 0 log (slice_get-get_or (log ∷ logs) 0 log (omega arith))) ∙ no_end in
+    let rest = none_any p no_end logs (λ k l e. all (k + 1) l (behind_one log logs k l e)) in
+    ap (λ b. b || list_any (λ log. p log.stop) logs) here ∙ rest
+
+ends_all_well : (logs : List FeedLog) → ((k : ℕ) (log : FeedLog) → slice_get logs k ≡ Some log → log.stop ≡ End) → status_of logs ≡ Well
+ends_all_well logs all =
+    ap (λ b. cond b ReadFault (cond (list_any (λ log. is_long log.stop) logs) Refused Well)) (none_any is_fault refl logs all)
+    ∙ ap (λ b. cond b Refused Well) (none_any is_long refl logs all)
+
+end_of : (stop : FeedStop) (bytes : List ℕ) (due : List DueItem) → (stop ≡ Fault → ⊥) → length bytes ≤ FEED → EndsWith bytes due stop → stop ≡ End
+end_of End bytes due no_fault short ends = refl
+end_of Fault bytes due no_fault short ends = absurd (no_fault refl)
+end_of Long bytes due no_fault short ends = absurd (omega (arith, ends.1))
+
+name_ends : (told : Told) (is_sound : List ℕ → Type 0) (name bytes : List ℕ) (log : FeedLog) → IsSome told → IsHeld told name bytes → length bytes ≤ FEED → is_sound name → IsLogOfName told is_sound name log → log.stop ≡ End
+name_ends told is_sound name bytes log known held short sound (inl l) =
+    end_of log.stop l.bytes l.log_of.due (λ fault. l.cause fault sound) (omega (arith, ap length (held_is told name l.bytes bytes known l.held held))) l.log_of.ends
+name_ends told is_sound name bytes log known held short sound (inr l) = absurd (l.cause sound)
 
 module _ {K : Type 0} (taken : K → Option (List ℕ)) (faults : K → ℕ) (told : Told) (is_sound : List ℕ → Type 0) (words : List (List ℕ)) (before now : K) where
   -- how a run ends whose words ask for nothing
   pub ends_outside : AsksNothing words → (result : Status) → Ends taken faults told is_sound words before now result → (result ≡ Usage) ⊎ (result ≡ WriteFault)
   ends_outside nothing Usage h = inl refl
   ends_outside nothing WriteFault h = inr refl
-  ends_outside nothing Ok h = absurd (nothing h.holds.command h.holds.asked)
-  ends_outside nothing Refused h = absurd (nothing h.holds.command h.holds.asked)
-  ends_outside nothing ReadFault h = absurd (nothing h.holds.command h.holds.asked)
-  ends_outside nothing NoMemory h = absurd (nothing h.command h.asked)
+  ends_outside nothing Well h = absurd (nothing (RunOf h.holds.asked) h.holds.is_asked)
+  ends_outside nothing Refused h = elim (h.holds) [ inl r ↦ absurd (nothing (RunOf r.asked) r.is_asked) | inr r ↦ absurd (nothing (RunOf r.asked) r.is_asked) ]
+  ends_outside nothing ReadFault h = elim (h.holds) [ inl r ↦ absurd (nothing (RunOf r.asked) r.is_asked) | inr r ↦ absurd (nothing (RunOf r.asked) r.is_asked) ]
+  ends_outside nothing NoMemory h = absurd (nothing (RunOf h.asked) h.is_asked)
 
-  module _ (command : Command) (asked : Asks words command) (known : IsSome told) where
-    same_command : (other : Command) → Asks words other → other ≡ command
-    same_command other asks = one_command words other command asks asked
+  module _ (asked : RunAsked) (asks : Asks words (RunOf asked)) (known : IsSome told) where
+    same_asked : (other : RunAsked) → Asks words (RunOf other) → other ≡ asked
+    same_asked other also = run_is other asked (one_command words (RunOf other) (RunOf asked) also asks)
+
+    opens_here : (status : Status) (text : List ℕ) (r : IsRunOf told is_sound words status text) → OpeningAnswer told asked.files (Ok r.opening)
+    opens_here status text r = subst (λ (a : RunAsked). OpeningAnswer told a.files (Ok r.opening)) (same_asked r.asked r.is_asked) r.opens
 
     -- how a run ends of which this is the first refusal
-    pub ends_at : (flaw : Flaw) → IsFirstRefusal told command flaw → (result : Status) → Ends taken faults told is_sound words before now result → EndsAt command flaw (taken before) (taken now) result
-    ends_at flaw first Ok h =
-        let same = same_command h.holds.command h.holds.asked in
-        absurd (not_refused told command known h.holds.input (subst (λ (c : Command). IsInput told c h.holds.input) same h.holds.is_input) flaw first)
-    ends_at flaw first Usage h = absurd (h.holds.outside command asked)
+    pub ends_at : (flaw : InputFlaw) → OpeningAnswer told asked.files (Err flaw) → (result : Status) → Ends taken faults told is_sound words before now result → EndsAt asked flaw (taken before) (taken now) result
+    ends_at flaw first Well h = absurd (opening_is_one told asked.files known (Ok h.holds.opening) (Err flaw) (opens_here Well h.text h.holds) first)
+    ends_at flaw first Usage h = absurd (h.holds.outside (RunOf asked) asks)
     ends_at flaw first Refused h =
-        let r : IsRefusal told words h.text = h.holds in
-        let same = same_command r.command r.asked in
-        let shown : SameFlaw r.flaw flaw = one_refusal told command known r.flaw flaw (subst (λ (c : Command). IsFirstRefusal told c r.flaw) same r.refusal) first in
-        record { text = h.text; holds = (r.flaw, shown, r.line ∙ ap (λ (c : Command). refused_line c r.flaw) same); appended = h.appended }
+        elim (h.holds) as (λ _. EndsAt asked flaw (taken before) (taken now) Refused) [
+          | inl r ↦
+              let same = same_asked r.asked r.is_asked in
+              let shown : SameFlaw r.flaw flaw = opening_is_one told asked.files known (Err r.flaw) (Err flaw) (subst (λ (a : RunAsked). OpeningAnswer told a.files (Err r.flaw)) same r.refusal) first in
+              record { text = h.text; holds = (r.flaw, shown, r.line ∙ ap (λ (a : RunAsked). refused_line a.files r.flaw) same); appended = h.appended }
+          | inr r ↦ absurd (opening_is_one told asked.files known (Ok r.opening) (Err flaw) (opens_here Refused h.text r) first)
+        ]
     ends_at flaw first ReadFault h =
-        let r : IsReadFault told is_sound words h.text = h.holds in
-        let same = same_command r.command r.asked in
-        let unread : IsUnread told is_sound command r.part = subst (λ (c : Command). IsUnread told is_sound c r.part) same r.unread in
-        record { text = h.text; holds = (r.part, unread_by told is_sound command known r.part unread flaw first, r.line ∙ ap (λ (c : Command). read_fault_line c r.part) same); appended = h.appended }
+        elim (h.holds) as (λ _. EndsAt asked flaw (taken before) (taken now) ReadFault) [
+          | inl r ↦
+              let same = same_asked r.asked r.is_asked in
+              let unread : IsUnread told is_sound asked.files r.file = subst (λ (a : RunAsked). IsUnread told is_sound a.files r.file) same r.unread in
+              record { text = h.text; holds = (r.file, not_after told asked.files known flaw first r.file unread.passes, r.line ∙ ap (λ (a : RunAsked). read_fault_line a.files r.file) same); appended = h.appended }
+          | inr r ↦ absurd (opening_is_one told asked.files known (Ok r.opening) (Err flaw) (opens_here ReadFault h.text r) first)
+        ]
     ends_at flaw first WriteFault h = tt
     ends_at flaw first NoMemory h = tt
 
-    -- how a run ends whose words and files are good and told sound, over a sink that does not fail
-    pub ends_well : (input : Input) → IsInput told command input → AreSound is_sound command → (HasRisen (faults before) (faults now) → ⊥)
-        → (result : Status) → Ends taken faults told is_sound words before now result → (result ≡ Ok) ⊎ (result ≡ NoMemory)
-    ends_well input is sound unrisen Ok h = inl refl
-    ends_well input is sound unrisen NoMemory h = inr refl
-    ends_well input is sound unrisen WriteFault h = absurd (unrisen h.front.risen)
-    ends_well input is sound unrisen Usage h = absurd (h.holds.outside command asked)
-    ends_well input is sound unrisen Refused h =
-        let r : IsRefusal told words h.text = h.holds in
-        let same = same_command r.command r.asked in
-        absurd (not_refused told command known input is r.flaw (subst (λ (c : Command). IsFirstRefusal told c r.flaw) same r.refusal))
-    ends_well input is sound unrisen ReadFault h =
-        let r : IsReadFault told is_sound words h.text = h.holds in
-        let unread : IsUnread told is_sound command r.part = subst (λ (c : Command). IsUnread told is_sound c r.part) (same_command r.command r.asked) r.unread in
-        absurd (sound_is_read told is_sound command r.part unread sound)
+    -- the feeds of a run all end well where each is short and sound
+    run_ends_well : AreShort told asked → AreSound is_sound asked → (status : Status) (text : List ℕ) → IsRunOf told is_sound words status text → status ≡ Well
+    run_ends_well short sound status text r =
+        let same = same_asked r.asked r.is_asked in
+        let of : AreLogsOf told is_sound asked.feeds r.run.logs = subst (λ (a : RunAsked). AreLogsOf told is_sound a.feeds r.run.logs) same r.logs in
+        r.has_status
+        ∙ ends_all_well r.run.logs (λ k log e.
+        let name = get_or asked.feeds k [] in
+        let at = slice_get-get_or asked.feeds k [] (omega (arith, slice_get_within r.run.logs k log e, of.as_many)) in
+        let given = short k name at in
+        name_ends told is_sound name given.0 log known given.1 given.2 (sound.feeds k name at) (of.each k name log at e))
+
+    -- how a run ends whose words, files and feeds are good and told sound, over a sink that does not fail
+    pub ends_well : (opening : Opening) → OpeningAnswer told asked.files (Ok opening) → AreShort told asked → AreSound is_sound asked → (HasRisen (faults before) (faults now) → ⊥)
+        → (result : Status) → Ends taken faults told is_sound words before now result → (result ≡ Well) ⊎ (result ≡ NoMemory)
+    ends_well opening opens short sound unrisen Well h = inl refl
+    ends_well opening opens short sound unrisen NoMemory h = inr refl
+    ends_well opening opens short sound unrisen WriteFault h = absurd (unrisen h.front.risen)
+    ends_well opening opens short sound unrisen Usage h = absurd (h.holds.outside (RunOf asked) asks)
+    ends_well opening opens short sound unrisen Refused h =
+        elim (h.holds) as (λ _. (Refused ≡ Well) ⊎ (Refused ≡ NoMemory)) [
+          | inl r ↦ absurd (opening_is_one told asked.files known (Ok opening) (Err r.flaw) opens (subst (λ (a : RunAsked). OpeningAnswer told a.files (Err r.flaw)) (same_asked r.asked r.is_asked) r.refusal))
+          | inr r ↦ inl (run_ends_well short sound Refused h.text r)
+        ]
+    ends_well opening opens short sound unrisen ReadFault h =
+        elim (h.holds) as (λ _. (ReadFault ≡ Well) ⊎ (ReadFault ≡ NoMemory)) [
+          | inl r ↦
+              let unread : IsUnread told is_sound asked.files r.file = subst (λ (a : RunAsked). IsUnread told is_sound a.files r.file) (same_asked r.asked r.is_asked) r.unread in
+              absurd (unread.unsound (sound.files r.file unread.name unread.named))
+          | inr r ↦ inl (run_ends_well short sound ReadFault h.text r)
+        ]

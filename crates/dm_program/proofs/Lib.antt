@@ -1,12 +1,6 @@
-pub mod Cutting
-pub mod Digits
-pub mod Answering
-pub mod Within
-pub mod Printed
-pub mod Spelled
-pub mod Finished
-pub mod Ending
-pub mod Arcs
-pub mod Beginning
-pub mod OneRun
+pub mod Asked
+pub mod Closing
 pub mod Converse
+pub mod Opened
+pub mod Printed
+pub mod Tables

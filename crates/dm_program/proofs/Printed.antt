@@ -1,94 +1,170 @@
--- A text that is printed part by part.
-use Rattle.std.proofs.Common.{◌≡◌, ℕ, zero, suc, ◌+◌, ◌-◌, ◌<◌, ◌≤◌, List, [], ◌∷◌, ◌++◌, length, drop, get_or, Option, refl, sym, ap, subst, ◌∙◌, append_assoc, append-nil, add-one, arith}
-use Rattle.std.specs.List.{flat_map, range_with_len}
-use Rattle.std.proofs.Math.Seq.{drop-cons}
-use Rattle.dm_outside.specs.Printing.{Gathers, Breaks}
-use Rattle.dm_outside.proofs.Printing.{prints_none, prints_then, prints_fault_at}
-use Rattle.dm_rows.specs.declared.messages.Entry.{Entry}
-use Rattle.std.specs.Prelude.{codes}
-use Rattle.std.specs.Fmt.{decimal}
-use Rattle.dm_base.specs.declared.ids.EventId.{EventId}
-use Rattle.dm_outside.specs.Printing.{joined}
-use Rattle.dm_rows.specs.declared.messages.Message.TheVariants.{DelayEvent}
-use Rattle.dm_program.specs.declared.lines.Line.TheVariants.{Say}
-use Rattle.dm_program.specs.declared.log.Reply.{Reply}
-use Rattle.dm_program.specs.declared.log.LogItem.{LogItem}
-use Rattle.dm_program.specs.declared.log.LogItem.TheVariants.{Answered}
-use Rattle.dm_program.specs.declared.log.FeedStop.TheVariants.{End}
-use Rattle.dm_program.specs.Runs.{line_end, reply_text, item_text, entry_text, entries_text, feed_text, stop_text, logs_text}
+-- A run that is answered has a spelling, and is true.
+use Rattle.std.proofs.Common.{◌≡◌, ◌≢◌, ℕ, suc, zero, ◌+◌, ◌-◌, ◌<◌, ◌≤◌, inl, inr, Bool, cond, eqb, true, false, List, [], ◌∷◌, ◌++◌, length, map, Option, Some, None, Ok, refl, sym, ap, subst, ◌∙◌, arith, zero-add, get_or, slice_get, All}
+use Rattle.std.specs.Prelude.{◌==◌, count_by, IfSome}
+use Rattle.std.specs.List.{range_with_len}
+use Rattle.std.proofs.lemmas.List.Elements.{All-nil}
+use Rattle.std.proofs.lemmas.List.Sums.{sum_by-append, sum_by-cons}
+use Rattle.std.proofs.lemmas.Option.{slice_get_within, slice_get-get_or, get_or_from_slice_get}
+use Rattle.std.proofs.lemmas.Bool.{cases_eq, eq-eqb, ne_eqb, cases_lt}
+use Rattle.dm_network.specs.Net.{Net}
+use Rattle.dm_rows.specs.Rows.{RowsValue}
+use Rattle.dm_rows.specs.Cost.{cost_of}
+use Rattle.dm_rows.specs.Timetable.{IsLeast}
+use Rattle.dm_input.specs.Input.{Told, IsHeld, Opening, OpeningAnswer}
+use Rattle.dm_input.specs.Words.{RunAsked, RunOf, Asks}
+use Rattle.dm_feed.specs.declared.feed.FeedStop.TheVariants.{Fault}
+use Rattle.dm_cert.specs.declared.replies.FeedLog.{FeedLog}
+use Rattle.dm_cert.specs.Logs.{names, all_items, AreTrueLogs, KeepsRounds}
+use Rattle.dm_cert.specs.RunTexts.{Run, IsSpelledRun, IsSpelledLog, FitsRun, run_text}
+use Rattle.dm_cert.specs.Runs.{IsTrueRun, IsTextOf, AreTrueNotes, IsTrueNote, setting_of}
+use Rattle.dm_desk.specs.Desks.{DeskValue}
+use Rattle.dm_desk.specs.Answered.{times}
+use Rattle.dm_rounds.specs.Rounds.{IsLogFrom, IsUnopened, IsLogFor, AnswersFeeds}
+use Rattle.dm_table.specs.Value.{TableValue, IsTable}
+use Rattle.dm_program.specs.declared.status.Status.{Status}
+use Rattle.dm_program.specs.Feeds.{IsLogOfHeld, IsLogOfUnopened, IsLogOfName, AreLogsOf, status_of}
+use Rattle.dm_program.specs.Headline.{IsRunOf}
+use Rattle.dm_program.specs.Inside.Stages.{desk_of, numbers_to, Begins, IsOpenedAs, IsOpened, AreOpened, AreWithin, RunsOver, run_in}
+use Rattle.dm_program.proofs.Tables.{one_more_number}
 
--- a front of the whole is printed, and this is still to come
-pub record PrintedTo {K : Type 0} (taken : K → Option (List ℕ)) (faults : K → ℕ) (before now : K) (held_before held_now whole later : List ℕ) : Type 0 where
-  pub front : List ℕ
-  pub gathered : Gathers taken faults before now held_before held_now front
-  pub is : whole ≡ front ++ later
+-- ---- numbers
 
-module _ {K : Type 0} {taken : K → Option (List ℕ)} {faults : K → ℕ} where
-  pub printed_none : (s : K) (p whole later : List ℕ) → whole ≡ later → PrintedTo taken faults s s p p whole later
-  printed_none s p whole later e = record { front = []; gathered = prints_none s p; is = e }
+abbrev one_where : Bool → ℕ
+one_where b = cond b 1 0
 
-  pub printed_next : {a b c : K} {p q r whole later : List ℕ} (x rest : List ℕ) → PrintedTo taken faults a b p q whole later → later ≡ x ++ rest → Gathers taken faults b c q r x → PrintedTo taken faults a c p r whole rest
-  printed_next {a} {b} {c} {p} {q} {r} {whole} {later} x rest so_far e now =
+abbrev one_if : ℕ → ℕ → ℕ
+one_if n m = one_where (m == n)
+
+if_is : (b c : Bool) → b ≡ c → one_where b ≡ one_where c
+if_is b c e = ap one_where e
+
+is_one : (n m : ℕ) → m ≡ n → one_if n m ≡ 1
+is_one n m same = if_is (m == n) true (eq-eqb m n same)
+
+is_none : (n m : ℕ) → m ≢ n → one_if n m ≡ 0
+is_none n m other = if_is (m == n) false (ne_eqb m n other)
+
+with_last : (n m : ℕ) (numbers : List ℕ) → times n (numbers ++ m ∷ []) ≡ times n numbers + one_if n m
+with_last n m numbers = omega (arith, sum_by-append (one_if n) numbers (m ∷ []), sum_by-cons (one_if n) m [])
+
+one_more : (len n : ℕ) → times n (numbers_to (suc len)) ≡ times n (numbers_to len) + one_if n (len + 1)
+one_more len n =
+    let size : suc len ≡ len + 1 = omega arith in
+    ap (times n) (ap numbers_to size ∙ one_more_number len) ∙ with_last n (len + 1) (numbers_to len)
+
+none_above : (len n : ℕ) → len < n → times n (numbers_to len) ≡ 0
+none_above zero n low = refl
+none_above (suc len) n low = omega (arith, one_more len n, is_none n (len + 1) (λ e. omega arith), none_above len n (omega arith))
+
+pub each_once : (len n : ℕ) → 0 < n → n ≤ len → times n (numbers_to len) ≡ 1
+each_once zero n some low = absurd (omega arith)
+each_once (suc len) n some low =
+    elim (cases_eq (len + 1) n) [
+      | inl same ↦ omega (arith, one_more len n, is_one n (len + 1) same, none_above len n (omega arith))
+      | inr other ↦
+          let below : n ≤ len = elim (cases_lt len n) [ inl lt ↦ absurd (other (omega arith)) | inr le ↦ le ] in
+          omega (arith, one_more len n, is_none n (len + 1) other, each_once len n some below)
+    ]
+
+-- ---- one run
+
+module _ {S : Type 0} (left : S → Option (List ℕ)) (source_sound : S → Type 0) (net : Net) (rows : RowsValue) (price : ℕ) (feeds : List (Option S)) (batch : ℕ) (table : TableValue) (logs : List FeedLog) (r : RunsOver left source_sound net rows price feeds batch table logs) where
+  pub run_is_spelled : IsSpelledRun (run_in table logs)
+  run_is_spelled = record {
+    logs = λ k d low. r.answers.spelled k (get_or logs k d) (slice_get-get_or logs k d low);
+    times = r.is_table.least.meets.size;
+  }
+
+  same_setting : (desk_of table).setting ≡ (desk_of r.before).setting
+  same_setting = r.answers.goes_on.setting
+
+  same_net : table.network ≡ net
+  same_net = ap (λ s. s.net) same_setting ∙ r.begins.network
+
+  same_start : table.start ≡ rows
+  same_start = ap (λ s. s.start) same_setting ∙ r.begins.start
+
+  same_penalty : table.penalty ≡ price
+  same_penalty = ap (λ s. s.penalty) same_setting ∙ r.begins.penalty
+
+  logs_are_true : AreTrueLogs (desk_of table).setting table.history logs
+  logs_are_true = record {
+    each = r.answers.are_true;
+    once = λ n some low.
+        let before : times n (numbers_to (length r.before.history)) ≡ 0 = ap (λ l. times n (numbers_to (length l))) r.begins.history in
+        omega (arith, r.answers.named n, before, each_once (length table.history) n some low);
+  }
+
+  no_notes : AreTrueNotes (length table.history) []
+  no_notes = record {
+    few = omega arith;
+    each = All-nil (IsTrueNote (length table.history));
+    once = λ i j one other x y same. absurd (omega (arith, slice_get_within [] i one x));
+    in_order = λ i j one other x y low. absurd (omega (arith, slice_get_within [] i one x));
+  }
+
+  run_is_true : 1 ≤ length logs → length logs ≤ 64 → IsTrueRun 2 table.start (run_in table logs)
+  run_is_true some few = record {
+    some_feed = some;
+    few_feeds = few;
+    legal = r.is_table.legal;
+    logs = logs_are_true;
+    notes = no_notes;
+    least = subst (λ (x : RowsValue). IsLeast table.network x table.times) r.is_table.replayed r.is_table.least;
+    cost = ap (λ (x : RowsValue). cost_of table.network x table.times table.penalty) r.is_table.replayed;
+  }
+
+  -- ---- its logs
+
+  held_in : (told : Told) (is_sound : List ℕ → Type 0) (name : List ℕ) (source : S) (bytes : List ℕ) → IsOpenedAs left source_sound told is_sound name source → (known : Option (List ℕ)) → left source ≡ known → IfSome known (λ rest. rest ≡ bytes) → IsHeld told name bytes
+  held_in told is_sound name source bytes o None is same = subst (λ (t : Told). IsHeld t name bytes) (sym (o.untold is)) tt
+  held_in told is_sound name source bytes o (Some rest) is same = subst (IsHeld told name) same (o.held rest is)
+
+  held_log : (told : Told) (is_sound : List ℕ → Type 0) (name : List ℕ) (source : S) (log : FeedLog) → IsOpenedAs left source_sound told is_sound name source → IsLogFrom left source_sound source log → IsLogOfHeld told is_sound name log
+  held_log told is_sound name source log o l = record {
+    bytes = l.bytes;
+    held = held_in told is_sound name source l.bytes o (left source) refl l.told;
+    log_of = l.log_of;
+    cause = λ fault sound. l.cause fault (o.sound sound);
+  }
+
+  log_of_name : (told : Told) (is_sound : List ℕ → Type 0) (name : List ℕ) (feed : Option S) (log : FeedLog) → IsOpened left source_sound told is_sound name feed → IsLogFor left source_sound feed log → IsLogOfName told is_sound name log
+  log_of_name told is_sound name (Some source) log o l = inl (held_log told is_sound name source log o l)
+  log_of_name told is_sound name None log o l = inr (record { none = l.none; fault = l.fault; cause = o })
+
+  pub logs_of_names : (told : Told) (is_sound : List ℕ → Type 0) (names : List (List ℕ)) → AreOpened left source_sound told is_sound names feeds → AreLogsOf told is_sound names logs
+  logs_of_names told is_sound names o = record {
+    as_many = r.answers.as_many ∙ o.as_many;
+    each = λ k name log n l.
+        let feed = get_or feeds k None in
+        let at = slice_get-get_or feeds k None (omega (arith, slice_get_within names k name n, o.as_many)) in
+        log_of_name told is_sound name feed log (o.each k name feed n at) (r.answers.logs_for k feed log at l);
+  }
+
+  -- ---- its text
+
+  pub is_run_of : (told : Told) (is_sound : List ℕ → Type 0) (words : List (List ℕ)) (asked : RunAsked) (opening : Opening) → Asks words (RunOf asked) → AreWithin asked → OpeningAnswer told asked.files (Ok opening) → opening.net ≡ net → opening.rows ≡ rows → price ≡ asked.files.penalty
+      → batch ≡ asked.batch → AreOpened left source_sound told is_sound asked.feeds feeds → FitsRun (run_in table logs) → (status : Status) → status ≡ status_of logs → IsRunOf told is_sound words status (run_text 2 (run_in table logs))
+  is_run_of told is_sound words asked opening asks within opens is_net is_rows is_price is_batch opened fits status is_status =
+      let of = logs_of_names told is_sound asked.feeds opened in
+      let start : table.start ≡ opening.rows = same_start ∙ sym is_rows in
       record {
-        front = so_far.front ++ x;
-        gathered = prints_then so_far.gathered now;
-        is = so_far.is ∙ (ap (λ (l : List ℕ). so_far.front ++ l) e ∙ sym (append_assoc so_far.front x rest));
+        asked = asked;
+        is_asked = asks;
+        opening = opening;
+        opens = opens;
+        run = run_in table logs;
+        net = same_net ∙ sym is_net;
+        penalty = same_penalty ∙ is_price;
+        notes = refl;
+        logs = of;
+        rounds = subst (KeepsRounds logs) is_batch r.answers.rounds;
+        has_status = is_status;
+        is_text = record {
+          is_version = inr refl;
+          is_true = subst (λ (x : RowsValue). IsTrueRun 2 x (run_in table logs)) start (run_is_true (omega (arith, of.as_many, within.some_feed)) (omega (arith, of.as_many, within.few_feeds)));
+          fits = fits;
+          is_spelled = run_is_spelled;
+          spelled = refl;
+        };
       }
-
-  pub printed_fault : {a b c : K} {p q whole later : List ℕ} (x rest : List ℕ) → PrintedTo taken faults a b p q whole later → later ≡ x ++ rest → Breaks taken faults b c q x → Breaks taken faults a c p whole
-  printed_fault {a} {b} {c} {p} {q} {whole} {later} x rest so_far e fault =
-      subst (Breaks taken faults a c p) (sym (so_far.is ∙ ap (λ (l : List ℕ). so_far.front ++ l) e)) (prints_fault_at rest so_far.gathered fault)
-
-  pub printed_all : {a b : K} {p q whole later : List ℕ} → PrintedTo taken faults a b p q whole later → later ≡ [] → Gathers taken faults a b p q whole
-  printed_all {a} {b} {p} {q} {whole} {later} so_far e =
-      subst (Gathers taken faults a b p q) (sym (so_far.is ∙ (ap (λ (l : List ℕ). so_far.front ++ l) e ∙ append-nil so_far.front))) so_far.gathered
-
--- ---- one log
-
-pub log_parts : (items : List LogItem) → logs_text 1 (record { items = items; stop = End } ∷ []) ≡ feed_text 1 (length items) ++ (flat_map item_text items ++ stop_text End)
-log_parts items = append-nil (feed_text 1 (length items) ++ (flat_map item_text items ++ stop_text End))
-
-module _ {K : Type 0} {taken : K → Option (List ℕ)} {faults : K → ℕ} where
-  pub gathers_as : {a b : K} {p q : List ℕ} (x y : List ℕ) → y ≡ x → Gathers taken faults a b p q x → Gathers taken faults a b p q y
-  gathers_as {a} {b} {p} {q} x y e g = subst (Gathers taken faults a b p q) (sym e) g
-
-  pub breaks_as : {a b : K} {p : List ℕ} (x y : List ℕ) → y ≡ x → Breaks taken faults a b p x → Breaks taken faults a b p y
-  breaks_as {a} {b} {p} x y e g = subst (Breaks taken faults a b p) (sym e) g
-
--- ---- what is still to come in a loop
-
-drop_next : {X : Type 0} (i : ℕ) (xs : List X) (x : X) → i < length xs → x ≡ get_or xs i x → drop i xs ≡ x ∷ drop (i + 1) xs
-drop_next i xs x lt is =
-    drop-cons xs i x lt ∙ (ap (λ y. y ∷ drop (suc i) xs) (sym is) ∙ ap (λ (k : ℕ). x ∷ drop k xs) (sym (add-one i)))
-
-pub entries_more : (n i : ℕ) (entries : List Entry) (entry : Entry) → i < length entries → entry ≡ get_or entries i entry → entries_text n (drop i entries) ≡ entry_text n entry ++ entries_text (n + 1) (drop (i + 1) entries)
-entries_more n i entries entry lt is = ap (entries_text n) (drop_next i entries entry lt is)
-
-pub items_more : {X : Type 0} (f : X → List ℕ) (i : ℕ) (items : List X) (item : X) → i < length items → item ≡ get_or items i item → flat_map f (drop i items) ≡ f item ++ flat_map f (drop (i + 1) items)
-items_more f i items item lt is = ap (flat_map f) (drop_next i items item lt is)
-
-pub range_more : (f : ℕ → List ℕ) (i n : ℕ) → i < n → flat_map f (range_with_len i (n - i)) ≡ f i ++ flat_map f (range_with_len (i + 1) (n - (i + 1)))
-range_more f i n lt =
-    let e : n - i ≡ suc (n - (i + 1)) = omega arith in
-    ap (λ (k : ℕ). flat_map f (range_with_len i k)) e
-
-pub range_start : (f : ℕ → List ℕ) (n : ℕ) → flat_map f (range_with_len 0 n) ≡ flat_map f (range_with_len 0 (n - 0))
-range_start f n = let e : n ≡ n - 0 = omega arith in ap (λ (k : ℕ). flat_map f (range_with_len 0 k)) e
-
-pub range_end : (f : ℕ → List ℕ) (i n : ℕ) → n ≤ i → flat_map f (range_with_len i (n - i)) ≡ []
-range_end f i n le = let e : n - i ≡ 0 = omega arith in ap (λ (k : ℕ). flat_map f (range_with_len i k)) e
-
-pub drop_end : {X : Type 0} (xs : List X) (i : ℕ) → length xs ≤ i → drop i xs ≡ []
-drop_end [] zero le = refl
-drop_end [] (suc i) le = refl
-drop_end (x ∷ xs) zero le = absurd (omega arith)
-drop_end (x ∷ xs) (suc i) le = drop_end xs i (omega arith)
-
--- ---- the parts of an answered line
-
-regroup : (a b c r : List ℕ) → a ++ (codes " " ++ ((codes "delay event " ++ (b ++ (codes " " ++ (c ++ [])))) ++ (codes " -> " ++ (r ++ (line_end ++ []))))) ≡ (a ++ (codes " delay event " ++ (b ++ (codes " " ++ (c ++ (codes " -> " ++ [])))))) ++ (r ++ (line_end ++ []))
-regroup a b c r = simp append_assoc
-
-pub answer_parts : (line : ℕ) (e : EventId) (d : ℕ) (reply : Reply) → item_text (Answered line (Say (DelayEvent e d)) reply) ≡ joined (decimal line ∷ codes " delay event " ∷ decimal e.0 ∷ codes " " ∷ decimal d ∷ codes " -> " ∷ []) ++ joined (reply_text reply ∷ line_end ∷ [])
-unfolding item_text
-answer_parts line e d reply = regroup (decimal line) (decimal e.0) (decimal d) (reply_text reply)

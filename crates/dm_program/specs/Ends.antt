@@ -1,15 +1,16 @@
 -- How a run ends: what is due to be written for each status, and why.
-use Rattle.std.specs.Prelude.{ℕ, ◌≡◌, ◌⊎◌, List, Option, Some}
+use Rattle.std.specs.Prelude.{ℕ, ◌≡◌, ◌≤◌, ◌⊎◌, List, length, slice_get, Option, Some, Result, Err}
 use Rattle.std.specs.Io.KnownBytes.{Appends, Keeps}
-use Rattle.dm_input.specs.Input.{Told}
-use Rattle.dm_input.specs.Lines.{usage_line}
-use Rattle.dm_input.specs.Words.{Command, Asks, AsksNothing}
+use Rattle.dm_base.specs.declared.limits.TheConstants.{FEED}
+use Rattle.dm_input.specs.Input.{Told, IsHeld, OpeningAnswer, IsUnread, file_name}
+use Rattle.dm_input.specs.Lines.{usage_line, refused_line, read_fault_line}
+use Rattle.dm_input.specs.Order.{SameFlaw, IsReadBy}
+use Rattle.dm_input.specs.Words.{RunAsked, RunOf, Asks, AsksNothing}
+use Rattle.dm_input.specs.declared.flaws.File.{File}
+use Rattle.dm_input.specs.declared.flaws.InputFlaw.{InputFlaw}
 use Rattle.dm_outside.specs.Printing.{TakesAll, TakesFront}
-use Rattle.dm_program.specs.declared.input.Flaw.{Flaw}
-use Rattle.dm_program.specs.declared.input.Part.{Part}
 use Rattle.dm_program.specs.declared.status.Status.{Status}
 use Rattle.dm_program.specs.declared.status.Status.TheVariants.{Ok, Usage, Refused, ReadFault, WriteFault, NoMemory}
-use Rattle.dm_program.specs.Input.{IsFirstRefusal, IsReadBy, IsUnread, SameFlaw, part_name, read_fault_line, refused_line}
 use Rattle.dm_program.specs.Headline.{IsRunOf}
 
 -- the words ask for no run
@@ -19,26 +20,27 @@ pub record IsUsage (words : List (List ℕ)) (text : List ℕ) : Type 0 where
 
 -- what is refused first, of bytes that are those that the shelf tells
 pub record IsRefusal (told : Told) (words : List (List ℕ)) (text : List ℕ) : Type 0 where
-  pub command : Command
-  pub flaw : Flaw
-  pub asked : Asks words command
-  pub refusal : IsFirstRefusal told command flaw
-  pub line : text ≡ refused_line command flaw
+  pub asked : RunAsked
+  pub is_asked : Asks words (RunOf asked)
+  pub flaw : InputFlaw
+  pub refusal : OpeningAnswer told asked.files (Err flaw)
+  pub line : text ≡ refused_line asked.files flaw
 
--- a file or the feed that the shelf does not tell sound, where nothing is refused before it
+-- a file that the shelf does not tell sound, where nothing is refused before it
 pub record IsReadFault (told : Told) (is_sound : List ℕ → Type 0) (words : List (List ℕ)) (text : List ℕ) : Type 0 where
-  pub command : Command
-  pub part : Part
-  pub asked : Asks words command
-  pub unread : IsUnread told is_sound command part
-  pub line : text ≡ read_fault_line command part
+  pub asked : RunAsked
+  pub is_asked : Asks words (RunOf asked)
+  pub file : File
+  pub unread : IsUnread told is_sound asked.files file
+  pub line : text ≡ read_fault_line asked.files file
 
--- the text that is due at a status; a write fault and want of memory have none of their own
+-- The text that is due at a status; a write fault and want of memory have none of their own. A run whose feeds did not all
+-- end well has its whole text.
 abbrev pub IsDue : Told → (List ℕ → Type 0) → List (List ℕ) → Status → List ℕ → Type 0
-IsDue told is_sound words Ok text = IsRunOf told words text
+IsDue told is_sound words Ok text = IsRunOf told is_sound words Ok text
 IsDue told is_sound words Usage text = IsUsage words text
-IsDue told is_sound words Refused text = IsRefusal told words text
-IsDue told is_sound words ReadFault text = IsReadFault told is_sound words text
+IsDue told is_sound words Refused text = IsRefusal told words text ⊎ IsRunOf told is_sound words Refused text
+IsDue told is_sound words ReadFault text = IsReadFault told is_sound words text ⊎ IsRunOf told is_sound words ReadFault text
 IsDue told is_sound words WriteFault text = ⊥
 IsDue told is_sound words NoMemory text = ⊥
 
@@ -57,18 +59,15 @@ pub record FailsToWrite {K : Type 0} (taken : K → Option (List ℕ)) (faults :
 
 -- the words ask for a run, for which there was not enough memory, and nothing was written
 pub record WantsMemory (before now : Option (List ℕ)) (words : List (List ℕ)) : Type 0 where
-  pub command : Command
-  pub asked : Asks words command
+  pub asked : RunAsked
+  pub is_asked : Asks words (RunOf asked)
   pub kept : Keeps before now
 
 -- how a run ends, by its status
 abbrev pub Ends : {K : Type 0} → (K → Option (List ℕ)) → (K → ℕ) → Told → (List ℕ → Type 0) → List (List ℕ) → K → K → Status → Type 0
-Ends taken faults told is_sound words before now Ok = Writes (taken before) (taken now) (IsRunOf told words)
-Ends taken faults told is_sound words before now Usage = Writes (taken before) (taken now) (IsUsage words)
-Ends taken faults told is_sound words before now Refused = Writes (taken before) (taken now) (IsRefusal told words)
-Ends taken faults told is_sound words before now ReadFault = Writes (taken before) (taken now) (IsReadFault told is_sound words)
 Ends taken faults told is_sound words before now WriteFault = FailsToWrite taken faults before now (IsDue told is_sound words)
 Ends taken faults told is_sound words before now NoMemory = WantsMemory (taken before) (taken now) words
+Ends taken faults told is_sound words before now status = Writes (taken before) (taken now) (IsDue told is_sound words status)
 
 -- the text was written whole, and the status is the one of that, or the sink failed
 abbrev pub EndsAs : {K : Type 0} → (K → Option (List ℕ)) → (K → ℕ) → K → K → List ℕ → Status → Status → Type 0
@@ -77,17 +76,23 @@ EndsAs taken faults before now text status result =
     ⊎ ((result ≡ WriteFault) × TakesFront taken faults before now text)
 
 -- How a run ends of which this is the first refusal: with its line, in which another cycle may be shown, or with a read
--- fault at its part or an earlier one, or with a write fault or want of memory.
-abbrev pub EndsAt : Command → Flaw → Option (List ℕ) → Option (List ℕ) → Status → Type 0
-EndsAt command flaw before now Refused =
-    Writes before now (λ text. (shown : Flaw) × SameFlaw shown flaw × (text ≡ refused_line command shown))
-EndsAt command flaw before now ReadFault =
-    Writes before now (λ text. (at : Part) × IsReadBy at flaw × (text ≡ read_fault_line command at))
-EndsAt command flaw before now WriteFault = Unit {0}
-EndsAt command flaw before now NoMemory = Unit {0}
-EndsAt command flaw before now Ok = ⊥
-EndsAt command flaw before now Usage = ⊥
+-- fault at its file or an earlier one, or with a write fault or want of memory.
+abbrev pub EndsAt : RunAsked → InputFlaw → Option (List ℕ) → Option (List ℕ) → Status → Type 0
+EndsAt asked flaw before now Refused =
+    Writes before now (λ text. (shown : InputFlaw) × SameFlaw shown flaw × (text ≡ refused_line asked.files shown))
+EndsAt asked flaw before now ReadFault =
+    Writes before now (λ text. (file : File) × IsReadBy file flaw × (text ≡ read_fault_line asked.files file))
+EndsAt asked flaw before now WriteFault = Unit {0}
+EndsAt asked flaw before now NoMemory = Unit {0}
+EndsAt asked flaw before now Ok = ⊥
+EndsAt asked flaw before now Usage = ⊥
 
 -- the shelf tells each name of the run sound
-abbrev pub AreSound : (List ℕ → Type 0) → Command → Type 0
-AreSound is_sound command = (part : Part) (name : List ℕ) → part_name command part ≡ Some name → is_sound name
+pub record AreSound (is_sound : List ℕ → Type 0) (asked : RunAsked) : Type 0 where
+  pub files : (file : File) (name : List ℕ) → file_name asked.files file ≡ Some name → is_sound name
+  pub feeds : (place : ℕ) (name : List ℕ) → slice_get asked.feeds place ≡ Some name → is_sound name
+
+-- the shelf has each feed, with at most as many bytes as a feed may have
+abbrev pub AreShort : Told → RunAsked → Type 0
+AreShort told asked =
+    (place : ℕ) (name : List ℕ) → slice_get asked.feeds place ≡ Some name → (bytes : List ℕ) × IsHeld told name bytes × (length bytes ≤ FEED)

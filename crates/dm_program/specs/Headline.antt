@@ -1,21 +1,26 @@
--- What a run's text is: the promise of the whole program, for one feed of event delays.
-use Rattle.std.specs.Prelude.{ℕ, List, [], ◌∷◌}
-use Rattle.dm_input.specs.Input.{Told}
-use Rattle.dm_input.specs.Words.{Command, Asks}
-use Rattle.dm_rows.specs.declared.messages.Entry.{Entry}
-use Rattle.dm_program.specs.declared.log.FeedLog.{FeedLog}
-use Rattle.dm_program.specs.Input.{Input, IsInput, penalty_of}
-use Rattle.dm_program.specs.Logs.{IsLogOf}
-use Rattle.dm_program.specs.Runs.{IsRunText}
+-- What a run's text is: the promise of the whole program, for feeds that are answered in rounds.
+use Rattle.std.specs.Prelude.{ℕ, ◌≡◌, List, [], Ok}
+use Rattle.dm_input.specs.Input.{Told, Opening, OpeningAnswer}
+use Rattle.dm_input.specs.Words.{RunAsked, RunOf, Asks}
+use Rattle.dm_cert.specs.Logs.{KeepsRounds}
+use Rattle.dm_cert.specs.RunTexts.{Run}
+use Rattle.dm_cert.specs.Runs.{IsTextOf}
+use Rattle.dm_program.specs.declared.status.Status.{Status}
+use Rattle.dm_program.specs.Feeds.{AreLogsOf, status_of}
 
--- The text is that of a run: of the network, the start rows and the feed that the words and the bytes under their names
--- determine, which are those that the shelf tells, and of a journal and a log of the feed's bytes.
-pub record IsRunOf (told : Told) (words : List (List ℕ)) (text : List ℕ) : Type 0 where
-  pub command : Command
-  pub input : Input
-  pub history : List Entry
-  pub log : FeedLog
-  pub asked : Asks words command
-  pub is_input : IsInput told command input
-  pub log_of : IsLogOf input.feed log
-  pub run : IsRunText (record { net = input.opening.net; start = input.opening.rows; history = history }) (penalty_of command) (log ∷ []) text
+-- The text is that of a true run, in version 2: of the network and the start rows that the words and the bytes under their
+-- names determine, at the penalty of the words, with a log for each feed. The logs keep to rounds of the words' batch, and
+-- the status is theirs.
+pub record IsRunOf (told : Told) (is_sound : List ℕ → Type 0) (words : List (List ℕ)) (status : Status) (text : List ℕ) : Type 0 where
+  pub asked : RunAsked
+  pub is_asked : Asks words (RunOf asked)
+  pub opening : Opening
+  pub opens : OpeningAnswer told asked.files (Ok opening)
+  pub run : Run
+  pub net : run.net ≡ opening.net
+  pub penalty : run.penalty ≡ asked.files.penalty
+  pub notes : run.notes ≡ []
+  pub logs : AreLogsOf told is_sound asked.feeds run.logs
+  pub rounds : KeepsRounds run.logs asked.batch
+  pub has_status : status ≡ status_of run.logs
+  pub is_text : IsTextOf 2 opening.rows run text

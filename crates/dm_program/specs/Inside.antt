@@ -1,5 +1,1 @@
-pub mod Answers
-pub mod Asked
 pub mod Stages
-pub mod Opening
-pub mod Cuts

@@ -9,10 +9,10 @@ pub enum Status {
     /// The words are in no form.
     Usage = 2,
 
-    /// A file, the network, a start row or the feed is refused.
+    /// A file, the network or a start row is refused, or a feed is too long and none could not be read.
     Refused = 3,
 
-    /// A file or the feed could not be read.
+    /// A file or a feed could not be read.
     ReadFault = 4,
 
     /// The text could not be written whole.

@@ -1,3 +1,2 @@
-pub mod Adopted
+pub mod Fits
 pub mod Printed
-pub mod RunFits

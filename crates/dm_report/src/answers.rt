@@ -1,13 +1,11 @@
 //! What feeds were answered, in print.
-ghost use Rattle.std.specs.Prelude.{◌≡◌, ◌≤◌, ◌∷◌, ◌++◌, [], codes, length, All, OnOk};
+ghost use Rattle.std.specs.Prelude.{◌≡◌, ◌∷◌, ◌++◌, [], codes, length, All};
 ghost use Rattle.std.specs.Fmt.{decimal};
 ghost use Rattle.std.specs.List.{flat_map};
 ghost use Rattle.dm_outside.specs.Printing.{Prints, joined};
-ghost use Rattle.dm_cert.specs.PlanTexts.{line_end, spelling_of_plan, FitsPlan};
-ghost use Rattle.dm_cert.specs.RunTexts.{spaced_id, reason_text, reply_text, item_text, feed_text, stop_text, log_text, logs_text, IsSpelledReason, IsSpelledReply, IsSpelledItem, IsSpelledLog, FitsReason, FitsReply, FitsItem, FitsLog};
-ghost use Rattle.dm_feed.specs.Parts.{largest_id};
+ghost use Rattle.dm_cert.specs.PlanTexts.{line_end, spelling_of_plan};
+ghost use Rattle.dm_cert.specs.RunTexts.{spaced_id, reason_text, reply_text, item_text, feed_text, stop_text, log_text, logs_text, IsSpelledReason, IsSpelledReply, IsSpelledItem, IsSpelledLog};
 
-use crate::fitting::line_fits;
 use crate::words::{put_number, put_numbers, put_pair};
 use dm_base::ActId;
 use dm_cert::{FeedLog, LogItem, Reply, put_plan};
@@ -18,16 +16,14 @@ use dm_tree::Plan;
 
 /// Prints an activity's id with a space in front.
 fn put_id<K: Sink>(sink: &mut K, page: &mut Page, id: ActId) -> Result<(), WriteFault>
-    ensures text { Prints K.taken K.faults sink.old sink.new page.old page.new result (spaced_id id) }
-    ensures fits { id.0 ≤ largest_id }
+    ensures { Prints K.taken K.faults sink.old sink.new page.old page.new result (spaced_id id) }
 {
     page.put(sink, &[Piece::Text(" "), Piece::Number(id.0 as u128)])
 }
 
 /// Prints the activities of a cycle, each with a space in front.
 fn put_ids<K: Sink>(sink: &mut K, page: &mut Page, ids: &[ActId]) -> Result<(), WriteFault>
-    ensures text { Prints K.taken K.faults sink.old sink.new page.old page.new result (flat_map spaced_id ids.now) }
-    ensures fits { OnOk result (All (λ id. id.0 ≤ largest_id) ids.now) }
+    ensures { Prints K.taken K.faults sink.old sink.new page.old page.new result (flat_map spaced_id ids.now) }
 {
     for id in ids {
         let Ok(()) = put_id(sink, page, *id) else {
@@ -39,8 +35,7 @@ fn put_ids<K: Sink>(sink: &mut K, page: &mut Page, ids: &[ActId]) -> Result<(), 
 
 /// Prints a cycle.
 fn put_cycle<K: Sink>(sink: &mut K, page: &mut Page, ids: &[ActId]) -> Result<(), WriteFault>
-    ensures text { Prints K.taken K.faults sink.old sink.new page.old page.new result (codes "cycle" ++ flat_map spaced_id ids.now) }
-    ensures fits { OnOk result (All (λ id. id.0 ≤ largest_id) ids.now) }
+    ensures { Prints K.taken K.faults sink.old sink.new page.old page.new result (codes "cycle" ++ flat_map spaced_id ids.now) }
 {
     let Ok(()) = page.put_bytes(sink, b"cycle") else {
         return Err(WriteFault);
@@ -51,8 +46,7 @@ fn put_cycle<K: Sink>(sink: &mut K, page: &mut Page, ids: &[ActId]) -> Result<()
 /// Prints why something is refused.
 fn put_reason<K: Sink>(sink: &mut K, page: &mut Page, why: &Refusal) -> Result<(), WriteFault>
     requires { IsSpelledReason why.now }
-    ensures text { Prints K.taken K.faults sink.old sink.new page.old page.new result (reason_text why.now) }
-    ensures fits { OnOk result (FitsReason why.now) }
+    ensures { Prints K.taken K.faults sink.old sink.new page.old page.new result (reason_text why.now) }
 {
     match why {
         Refusal::Range(value) => put_number(sink, page, "range ", *value as u128, ""),
@@ -87,8 +81,7 @@ fn put_refusal<K: Sink>(
     why: &Refusal,
 ) -> Result<(), WriteFault>
     requires { IsSpelledReason why.now }
-    ensures text { Prints K.taken K.faults sink.old sink.new page.old page.new result (joined (decimal entry ∷ codes " refused " ∷ reason_text why.now ∷ line_end ∷ [])) }
-    ensures fits { OnOk result (FitsReason why.now) }
+    ensures { Prints K.taken K.faults sink.old sink.new page.old page.new result (joined (decimal entry ∷ codes " refused " ∷ reason_text why.now ∷ line_end ∷ [])) }
 {
     let Ok(()) = put_number(sink, page, "", entry as u128, " refused ") else {
         return Err(WriteFault);
@@ -101,11 +94,9 @@ fn put_refusal<K: Sink>(
 
 /// Prints a plan behind the entry that it is for.
 fn put_planned<K: Sink>(sink: &mut K, page: &mut Page, plan: &Plan) -> Result<(), WriteFault>
-    ensures text { Prints K.taken K.faults sink.old sink.new page.old page.new result (joined (decimal plan.now.entry ∷ codes " " ∷ spelling_of_plan 2 plan.now ∷ [])) }
-    ensures fits { OnOk result (FitsReply (Reply.Planned plan.now)) }
+    ensures { Prints K.taken K.faults sink.old sink.new page.old page.new result (joined (decimal plan.now.entry ∷ codes " " ∷ spelling_of_plan 2 plan.now ∷ [])) }
 {
-    let entry = plan.entry;
-    let Ok(()) = put_number(sink, page, "", entry as u128, " ") else {
+    let Ok(()) = put_number(sink, page, "", plan.entry as u128, " ") else {
         return Err(WriteFault);
     };
     put_plan(sink, page, plan)
@@ -115,8 +106,7 @@ fn put_planned<K: Sink>(sink: &mut K, page: &mut Page, plan: &Plan) -> Result<()
 #[tactic(auto, unfolding(dm_cert::specs::RunTexts::reply_text))]
 fn put_reply<K: Sink>(sink: &mut K, page: &mut Page, reply: &Reply) -> Result<(), WriteFault>
     requires { IsSpelledReply reply.now }
-    ensures text { Prints K.taken K.faults sink.old sink.new page.old page.new result (reply_text 2 reply.now) }
-    ensures fits { OnOk result (FitsReply reply.now) }
+    ensures { Prints K.taken K.faults sink.old sink.new page.old page.new result (reply_text 2 reply.now) }
 {
     match reply {
         Reply::Ok(n) => put_number(sink, page, "", *n as u128, " ok\n"),
@@ -142,10 +132,8 @@ fn put_answer<K: Sink>(
     reply: &Reply,
 ) -> Result<(), WriteFault>
     requires { IsSpelledItem (LogItem.Answered line said.now reply.now) }
-    ensures text { Prints K.taken K.faults sink.old sink.new page.old page.new result (item_text 2 (LogItem.Answered line said.now reply.now)) }
-    ensures fits { OnOk result (FitsItem (LogItem.Answered line said.now reply.now)) }
+    ensures { Prints K.taken K.faults sink.old sink.new page.old page.new result (item_text 2 (LogItem.Answered line said.now reply.now)) }
 {
-    line_fits(said);
     let Ok(()) = put_number(sink, page, "", line as u128, " ") else {
         return Err(WriteFault);
     };
@@ -162,8 +150,7 @@ fn put_answer<K: Sink>(
 #[tactic(auto, unfolding(dm_cert::specs::RunTexts::item_text))]
 fn put_item<K: Sink>(sink: &mut K, page: &mut Page, item: &LogItem) -> Result<(), WriteFault>
     requires { IsSpelledItem item.now }
-    ensures text { Prints K.taken K.faults sink.old sink.new page.old page.new result (item_text 2 item.now) }
-    ensures fits { OnOk result (FitsItem item.now) }
+    ensures { Prints K.taken K.faults sink.old sink.new page.old page.new result (item_text 2 item.now) }
 {
     match item {
         LogItem::Malformed { line } => put_number(sink, page, "", *line as u128, " malformed\n"),
@@ -174,8 +161,7 @@ fn put_item<K: Sink>(sink: &mut K, page: &mut Page, item: &LogItem) -> Result<()
 /// Prints the items of a log.
 fn put_items<K: Sink>(sink: &mut K, page: &mut Page, items: &[LogItem]) -> Result<(), WriteFault>
     requires { All IsSpelledItem items.now }
-    ensures text { Prints K.taken K.faults sink.old sink.new page.old page.new result (flat_map (item_text 2) items.now) }
-    ensures fits { OnOk result (All FitsItem items.now) }
+    ensures { Prints K.taken K.faults sink.old sink.new page.old page.new result (flat_map (item_text 2) items.now) }
 {
     for item in items {
         let Ok(()) = put_item(sink, page, item) else {
@@ -225,8 +211,7 @@ fn put_log<K: Sink>(
     log: &FeedLog,
 ) -> Result<(), WriteFault>
     requires { IsSpelledLog log.now }
-    ensures text { Prints K.taken K.faults sink.old sink.new page.old page.new result (log_text 2 number log.now) }
-    ensures fits { OnOk result (FitsLog log.now) }
+    ensures { Prints K.taken K.faults sink.old sink.new page.old page.new result (log_text 2 number log.now) }
 {
     let items = log.items.as_slice();
     let Ok(()) = put_feed(sink, page, number, items.len()) else {
@@ -241,8 +226,7 @@ fn put_log<K: Sink>(
 /// Prints the logs of all feeds.
 pub fn put_logs<K: Sink>(sink: &mut K, page: &mut Page, logs: &[FeedLog]) -> Result<(), WriteFault>
     requires { All IsSpelledLog logs.now }
-    ensures text { Prints K.taken K.faults sink.old sink.new page.old page.new result (logs_text 2 1 logs.now) }
-    ensures fits { OnOk result (All FitsLog logs.now) }
+    ensures { Prints K.taken K.faults sink.old sink.new page.old page.new result (logs_text 2 1 logs.now) }
 {
     for (i, log) in logs.iter().enumerate() {
         let Ok(()) = put_log(sink, page, i + 1, log) else {

@@ -3,7 +3,8 @@
 //! It stands on dm_cert, whose `specs/` say how runs are spelled, on dm_history and dm_times for what is printed, and on
 //! dm_outside for the page that gathers bytes before a sink takes them. [`print_run`] writes exactly a run's spelling in
 //! version 2, [`write_timetable`] the times of a network's events, and [`write_summary`] what a generated day comes to.
-//! Where a write fails the sink has taken a front of the text, and not all of it. Nothing here takes memory.
+//! Where a write fails the sink has taken a front of the text, and not all of it. [`Run::fits`] tells that a run's numbers are
+//! those of their types. Nothing here takes memory.
 #![tactic(auto)]
 
 mod answers;

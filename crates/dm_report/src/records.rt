@@ -1,10 +1,9 @@
 //! The records of a run besides its logs, in print.
-ghost use Rattle.std.specs.Prelude.{◌≡◌, ◌<◌, ◌∷◌, ◌++◌, [], codes, length, All, OnOk};
+ghost use Rattle.std.specs.Prelude.{◌≡◌, ◌<◌, ◌∷◌, ◌++◌, [], codes, length};
 ghost use Rattle.std.specs.List.{flat_map};
 ghost use Rattle.dm_outside.specs.Printing.{Prints};
-ghost use Rattle.dm_cert.specs.RunTexts.{entry_text, entries_text, note_text, time_text, timetable_text, header_text, boards_text, heading_text, ending_text, FitsEntry, FitsNote};
+ghost use Rattle.dm_cert.specs.RunTexts.{entry_text, entries_text, note_text, time_text, timetable_text, header_text, boards_text, heading_text, ending_text};
 
-use crate::fitting::message_fits;
 use crate::words::{put_number, put_numbers};
 use dm_base::Cost;
 use dm_cert::Note;
@@ -46,18 +45,15 @@ fn put_entry<K: Sink>(
     number: usize,
     entry: &Entry,
 ) -> Result<(), WriteFault>
-    ensures text { Prints K.taken K.faults sink.old sink.new page.old page.new result (entry_text number entry.now) }
-    ensures fits { FitsEntry entry.now }
+    ensures { Prints K.taken K.faults sink.old sink.new page.old page.new result (entry_text number entry.now) }
 {
-    message_fits(&entry.message);
-    let (feed, line) = (entry.feed, entry.line);
     let pieces = [
         Piece::Text("entry "),
         Piece::Number(number as u128),
         Piece::Text(" feed "),
-        Piece::Number(feed as u128),
+        Piece::Number(entry.feed as u128),
         Piece::Text(" line "),
-        Piece::Number(line as u128),
+        Piece::Number(entry.line as u128),
         Piece::Text(" "),
     ];
     let Ok(()) = page.put(sink, &pieces) else {
@@ -75,8 +71,7 @@ pub fn put_entries<K: Sink>(
     page: &mut Page,
     entries: &[Entry],
 ) -> Result<(), WriteFault>
-    ensures text { Prints K.taken K.faults sink.old sink.new page.old page.new result (entries_text 1 entries.now) }
-    ensures fits { OnOk result (All FitsEntry entries.now) }
+    ensures { Prints K.taken K.faults sink.old sink.new page.old page.new result (entries_text 1 entries.now) }
 {
     for (i, entry) in entries.iter().enumerate() {
         let Ok(()) = put_entry(sink, page, i + 1, entry) else {
@@ -89,8 +84,7 @@ pub fn put_entries<K: Sink>(
 /// Prints a dropped board.
 #[tactic(auto, unfolding(dm_cert::specs::RunTexts::note_text))]
 fn put_note<K: Sink>(sink: &mut K, page: &mut Page, note: Note) -> Result<(), WriteFault>
-    ensures text { Prints K.taken K.faults sink.old sink.new page.old page.new result (note_text note) }
-    ensures fits { FitsNote note }
+    ensures { Prints K.taken K.faults sink.old sink.new page.old page.new result (note_text note) }
 {
     let pieces = [
         Piece::Text("board "),
@@ -106,8 +100,7 @@ fn put_note<K: Sink>(sink: &mut K, page: &mut Page, note: Note) -> Result<(), Wr
 
 /// Prints the dropped boards.
 pub fn put_notes<K: Sink>(sink: &mut K, page: &mut Page, notes: &[Note]) -> Result<(), WriteFault>
-    ensures text { Prints K.taken K.faults sink.old sink.new page.old page.new result (flat_map note_text notes.now) }
-    ensures fits { OnOk result (All FitsNote notes.now) }
+    ensures { Prints K.taken K.faults sink.old sink.new page.old page.new result (flat_map note_text notes.now) }
 {
     for note in notes {
         let Ok(()) = put_note(sink, page, *note) else {

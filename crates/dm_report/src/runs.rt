@@ -1,10 +1,11 @@
 //! Runs and timetables in print.
-ghost use Rattle.std.specs.Prelude.{◌≡◌, length, OnOk};
+ghost use Rattle.std.specs.Prelude.{◌≡◌, length};
 ghost use Rattle.dm_outside.specs.Printing.{Prints, Puts};
-ghost use Rattle.dm_cert.specs.RunTexts.{IsSpelledRun, FitsRun, run_text, timetable_text};
+ghost use Rattle.dm_cert.specs.RunTexts.{FitsRun, IsSpelledRun, run_text, timetable_text};
 ghost use Rattle.dm_report.specs.Printed.{printed_run};
 
 use crate::answers::put_logs;
+use crate::fitting::{entries_fit, logs_fit, notes_fit, times_fit};
 use crate::records::{
     put_boards, put_ending, put_entries, put_header, put_heading, put_notes, put_times,
 };
@@ -38,15 +39,27 @@ pub struct Run<'a> {
     pub cost: Cost,
 }
 
+impl<'a> Run<'a> {
+    /// Each number of the run is one that its type holds, which is known where the number is read. This reads them all.
+    pub fn fits(&self)
+        ensures { FitsRun (printed_run self.now) }
+    {
+        let _penalty = self.penalty;
+        let _cost = self.cost;
+        entries_fit(self.history.as_slice());
+        logs_fit(self.logs);
+        notes_fit(self.notes);
+        times_fit(self.times);
+    }
+}
+
 /// Prints a run whole.
 fn put_run<K: Sink>(sink: &mut K, page: &mut Page, run: &Run<'_>) -> Result<(), WriteFault>
     requires { IsSpelledRun (printed_run run.now) }
-    ensures text { Prints K.taken K.faults sink.old sink.new page.old page.new result (run_text 2 (printed_run run.now)) }
-    ensures fits { OnOk result (FitsRun (printed_run run.now)) }
+    ensures { Prints K.taken K.faults sink.old sink.new page.old page.new result (run_text 2 (printed_run run.now)) }
 {
-    let (entries, penalty, cost) = (run.history.as_slice(), run.penalty, run.cost);
-    run.times.is_early();
-    let Ok(()) = put_header(sink, page, penalty, run.logs.len(), entries.len()) else {
+    let entries = run.history.as_slice();
+    let Ok(()) = put_header(sink, page, run.penalty, run.logs.len(), entries.len()) else {
         return Err(WriteFault);
     };
     let Ok(()) = put_entries(sink, page, entries) else {
@@ -67,17 +80,15 @@ fn put_run<K: Sink>(sink: &mut K, page: &mut Page, run: &Run<'_>) -> Result<(), 
     let Ok(()) = put_times(sink, page, run.net, run.times) else {
         return Err(WriteFault);
     };
-    put_ending(sink, page, cost)
+    put_ending(sink, page, run.cost)
 }
 
 /// Writes the one spelling of the run in version 2. The run has one: no log item is of an adopted list as a line, tells want
 /// of memory, or tells a full history at another number of entries than 1,000,000; and there is a time for each event. A write
-/// fault comes only where a write failed; the sink has then taken a front of the spelling, and not all of it. What was printed
-/// whole has no number that its type would not hold: callers learn it here.
+/// fault comes only where a write failed; the sink has then taken a front of the spelling, and not all of it.
 pub fn print_run<K: Sink>(run: &Run<'_>, sink: &mut K) -> Result<(), WriteFault>
     requires { IsSpelledRun (printed_run run.now) }
-    ensures text { Puts K.taken K.faults sink.old sink.new result (run_text 2 (printed_run run.now)) }
-    ensures fits { OnOk result (FitsRun (printed_run run.now)) }
+    ensures { Puts K.taken K.faults sink.old sink.new result (run_text 2 (printed_run run.now)) }
 {
     let mut page = Page::new();
     let Ok(()) = put_run(sink, &mut page, run) else {

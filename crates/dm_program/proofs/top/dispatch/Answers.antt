@@ -26,9 +26,9 @@ returns-clause-outside g c = λ outside.
     ends_outside g.K.Sink.taken g.K.Sink.faults (g.H.Shelf.files c.args.shelf.now) (g.H.Shelf.is_sound c.args.shelf.now) (map (string_bytes {Z = Global}) c.args.words.now) c.args.out.now c.run.new.out outside c.run.result c.run.ensures.ends
 
 pub returns-clause-first_refusal : goal.returns-clause-first_refusal
-returns-clause-first_refusal g c = λ command flaw asked known first.
-    ends_at g.K.Sink.taken g.K.Sink.faults (g.H.Shelf.files c.args.shelf.now) (g.H.Shelf.is_sound c.args.shelf.now) (map (string_bytes {Z = Global}) c.args.words.now) c.args.out.now c.run.new.out command asked known flaw first c.run.result c.run.ensures.ends
+returns-clause-first_refusal g c = λ asked flaw asks known first.
+    ends_at g.K.Sink.taken g.K.Sink.faults (g.H.Shelf.files c.args.shelf.now) (g.H.Shelf.is_sound c.args.shelf.now) (map (string_bytes {Z = Global}) c.args.words.now) c.args.out.now c.run.new.out asked asks known flaw first c.run.result c.run.ensures.ends
 
 pub returns-clause-complete : goal.returns-clause-complete
-returns-clause-complete g c = λ command input asked known is sound unrisen.
-    ends_well g.K.Sink.taken g.K.Sink.faults (g.H.Shelf.files c.args.shelf.now) (g.H.Shelf.is_sound c.args.shelf.now) (map (string_bytes {Z = Global}) c.args.words.now) c.args.out.now c.run.new.out command asked known input is sound unrisen c.run.result c.run.ensures.ends
+returns-clause-complete g c = λ asked opening asks known opens short sound unrisen.
+    ends_well g.K.Sink.taken g.K.Sink.faults (g.H.Shelf.files c.args.shelf.now) (g.H.Shelf.is_sound c.args.shelf.now) (map (string_bytes {Z = Global}) c.args.words.now) c.args.out.now c.run.new.out asked asks known opening opens short sound unrisen c.run.result c.run.ensures.ends

@@ -1,40 +1,35 @@
-use Rattle.dm_input.specs.Asked.{run_of}
-use Rattle.dm_input.specs.Words.{RunOf}
-use Rattle.dm_program.proofs.Ending.{ends_later, ends_refused, ends_unread, ends_run, ends_memory, ready_items}
+use Rattle.std.proofs.Common.{map, refl}
+use Rattle.dm_input.specs.Asked.{run_of, files_of}
+use Rattle.dm_input.specs.Stops.{opening_in}
+use Rattle.dm_program.specs.Feeds.{status_of}
+use Rattle.dm_program.proofs.Asked.{opening_starts}
+use Rattle.dm_program.proofs.Closing.{ends_stopped, ends_run}
+use Rattle.dm_program.proofs.Opened.{kept_then, opened_at_entry}
+use Rattle.dm_program.proofs.Printed.{run_is_spelled, is_run_of}
 use Rattle.dm_program.proofs.top.run_asked.Goals as goal
 
-pub end_run-requires-clause-items : goal.end_run-requires-clause-items
-end_run-requires-clause-items g c =
-    let a = c.in-Ok.answered in
-    ready_items (g.H.Shelf.files c.args.shelf.now) (RunOf (run_of c.args.run.now)) a.net a.penalty a.history.items a.items.items a.times a.cost c.in-Ok.ensures.ready
+pub returns-in-Err-clause-ends : goal.returns-in-Err-clause-ends
+returns-in-Err-clause-ends g c = λ words asks.
+    ends_stopped g.K.Sink.taken g.K.Sink.faults (g.H.Shelf.files c.args.shelf.now) (g.H.Shelf.is_sound c.args.shelf.now) words c.args.out.now c.end_stopped.new.out (run_of c.args.run.now) asks c.in-Err.stop c.end_stopped.result
+    c.in-Err.ensures.stops c.end_stopped.ensures.ends
 
-pub returns-in-Ok-clause-ends : goal.returns-in-Ok-clause-ends
-returns-in-Ok-clause-ends g c = λ words asks.
-    let a = c.in-Ok.answered in
-    ends_run g.K.Sink.taken g.K.Sink.faults (g.H.Shelf.files c.args.shelf.now) (g.H.Shelf.is_sound c.args.shelf.now) words c.args.out.now c.end_run.new.out
-    (RunOf (run_of c.args.run.now)) a.net a.penalty a.history.items a.items.items a.times a.cost asks c.in-Ok.ensures.ready c.end_run.result c.end_run.ensures
+pub end_run-requires : goal.end_run-requires
+end_run-requires g c =
+    run_is_spelled g.H.Src.Source.left g.H.Src.Source.is_sound _ _ _ _ _ c.in-Ok-answered.answered.table c.in-Ok-answered.answered.logs.items c.in-Ok-answered.ensures
 
-pub returns-in-Err-Refused-clause-ends : goal.returns-in-Err-Refused-clause-ends
-returns-in-Err-Refused-clause-ends g c = λ words asks.
-    let stops = rw c.in-Err-Refused.field-0-is at c.in-Err-Refused.ensures.stops in
-    ends_refused g.K.Sink.taken g.K.Sink.faults (g.H.Shelf.files c.args.shelf.now) (g.H.Shelf.is_sound c.args.shelf.now) words c.args.out.now c.end_refused.new.out
-    (RunOf (run_of c.args.run.now)) c.in-Err-Refused.flaw c.end_refused.result asks stops c.end_refused.ensures
+pub returns-in-Ok-answered-clause-ends : goal.returns-in-Ok-answered-clause-ends
+returns-in-Ok-answered-clause-ends g c = λ words asks.
+    let told = g.H.Shelf.files c.args.shelf.now in
+    let is_sound = g.H.Shelf.is_sound c.args.shelf.now in
+    let table = c.in-Ok-answered.answered.table in
+    let logs = c.in-Ok-answered.answered.logs.items in
+    let feeds = c.in-Ok-open_feeds.feeds.items in
+    let opened =
+        opened_at_entry g.H.Src.Source.left g.H.Src.Source.is_sound (g.H.Shelf.files c.read_opening.new.shelf) told (g.H.Shelf.is_sound c.read_opening.new.shelf) is_sound _ feeds c.in-Ok.ensures.kept.same c.in-Ok.ensures.kept.sound
+        (rw c.as_slice.ensures.value at c.in-Ok-open_feeds.ensures.opened) in
+    ends_run g.K.Sink.taken g.K.Sink.faults told is_sound words c.args.out.now c.end_run.new.out logs _ c.end_run.result
+    (is_run_of g.H.Src.Source.left g.H.Src.Source.is_sound _ _ _ feeds _ table logs c.in-Ok-answered.ensures told is_sound words (run_of c.args.run.now) (opening_in c.in-Ok.opened) asks c.requires.within c.in-Ok.ensures.opening refl refl refl refl opened c.end_run.ensures.fits
+    (status_of logs) refl) c.end_run.ensures.ends
 
-pub returns-in-Err-ReadFault-clause-ends : goal.returns-in-Err-ReadFault-clause-ends
-returns-in-Err-ReadFault-clause-ends g c = λ words asks.
-    let stops = rw c.in-Err-ReadFault.field-0-is at c.in-Err-ReadFault.ensures.stops in
-    ends_unread g.K.Sink.taken g.K.Sink.faults (g.H.Shelf.files c.args.shelf.now) (g.H.Shelf.is_sound c.args.shelf.now) words c.args.out.now c.end_unread.new.out
-    (RunOf (run_of c.args.run.now)) c.in-Err-ReadFault.part c.end_unread.result asks stops c.end_unread.ensures
-
-pub returns-in-Err-NoMemory-clause-ends : goal.returns-in-Err-NoMemory-clause-ends
-returns-in-Err-NoMemory-clause-ends g c = λ words asks.
-    ends_memory g.K.Sink.taken c.args.out.now words (RunOf (run_of c.args.run.now)) asks
-
-pub returns-in-Ok-clause-later : goal.returns-in-Ok-clause-later
-returns-in-Ok-clause-later g c = ends_later g.K.Sink.taken g.K.Sink.faults _ _ _ _ _ c.end_run.ensures
-
-pub returns-in-Err-Refused-clause-later : goal.returns-in-Err-Refused-clause-later
-returns-in-Err-Refused-clause-later g c = ends_later g.K.Sink.taken g.K.Sink.faults _ _ _ _ _ c.end_refused.ensures
-
-pub returns-in-Err-ReadFault-clause-later : goal.returns-in-Err-ReadFault-clause-later
-returns-in-Err-ReadFault-clause-later g c = ends_later g.K.Sink.taken g.K.Sink.faults _ _ _ _ _ c.end_unread.ensures
+pub returns-in-Ok-answered-clause-kept : goal.returns-in-Ok-answered-clause-kept
+returns-in-Ok-answered-clause-kept g c = kept_then g.H.Shelf.files g.H.Shelf.is_sound _ _ _ c.in-Ok.ensures.kept c.in-Ok-open_feeds.ensures.kept

@@ -8,29 +8,29 @@ use Rattle.dm_outside.proofs.Printing.{prints_then_fault, prints_fault, prints_f
 use Rattle.dm_report.proofs.Printed.{breaks_as, prints_last_as, answer_parts}
 use Rattle.dm_report.proofs.answers.put_answer.Goals as goal
 
-pub returns-in_default-clause-text : goal.returns-in_default-clause-text
+pub returns-in_default : goal.returns-in_default
 unfolding item_text
-returns-in_default-clause-text g c =
+returns-in_default g c =
     breaks_as (answer_parts (decimal c.args.line) (spelling_of_line c.args.said.now) (reply_text 2 c.args.reply.now))
     (prints_fault (spelling_of_line c.args.said.now ++ (codes " -> " ++ reply_text 2 c.args.reply.now)) c.in_default.ensures)
 
-pub returns-in_default-put_line-clause-text : goal.returns-in_default-put_line-clause-text
+pub returns-in_default-put_line : goal.returns-in_default-put_line
 unfolding item_text
-returns-in_default-put_line-clause-text g c =
+returns-in_default-put_line g c =
     breaks_as (answer_parts (decimal c.args.line) (spelling_of_line c.args.said.now) (reply_text 2 c.args.reply.now))
     (prints_fault_at (codes " -> " ++ reply_text 2 c.args.reply.now) c.in-Ok.ensures c.in_default-put_line.ensures)
 
-pub returns-in_default-put_bytes-clause-text : goal.returns-in_default-put_bytes-clause-text
+pub returns-in_default-put_bytes : goal.returns-in_default-put_bytes
 unfolding item_text
-returns-in_default-put_bytes-clause-text g c =
+returns-in_default-put_bytes g c =
     breaks_as (answer_parts (decimal c.args.line) (spelling_of_line c.args.said.now) (reply_text 2 c.args.reply.now))
     (prints_then_fault c.in-Ok.ensures (prints_fault_at (reply_text 2 c.args.reply.now) c.in-Ok-put_line.ensures c.in_default-put_bytes.ensures))
 
-pub returns-clause-text : goal.returns-clause-text
+pub returns : goal.returns
 unfolding item_text
-returns-clause-text g c =
+returns g c =
     prints_last_as c.put_reply.new.sink c.put_reply.new.page (spelling_of_line c.args.said.now ++ (codes " -> " ++ reply_text 2 c.args.reply.now))
     (item_text 2 (Answered c.args.line c.args.said.now c.args.reply.now)) c.put_reply.result
     (answer_parts (decimal c.args.line) (spelling_of_line c.args.said.now) (reply_text 2 c.args.reply.now)) c.in-Ok.ensures
     (prints_last c.put_reply.new.sink c.put_reply.new.page (codes " -> " ++ reply_text 2 c.args.reply.now) c.put_reply.result c.in-Ok-put_line.ensures
-    (prints_last c.put_reply.new.sink c.put_reply.new.page (reply_text 2 c.args.reply.now) c.put_reply.result c.in-Ok-put_bytes.ensures c.put_reply.ensures.text))
+    (prints_last c.put_reply.new.sink c.put_reply.new.page (reply_text 2 c.args.reply.now) c.put_reply.result c.in-Ok-put_bytes.ensures c.put_reply.ensures))

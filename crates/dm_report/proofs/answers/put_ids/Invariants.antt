@@ -1,7 +1,4 @@
-use Rattle.std.proofs.Common.{take, All}
-use Rattle.std.proofs.Common.{◌≤◌}
-use Rattle.dm_base.specs.declared.ids.ActId.{ActId}
-use Rattle.dm_feed.specs.Parts.{largest_id}
+use Rattle.std.proofs.Common.{take}
 use Rattle.std.specs.List.{flat_map}
 use Rattle.dm_outside.specs.Printing.{Gathers}
 use Rattle.dm_cert.specs.RunTexts.{spaced_id}
@@ -10,4 +7,3 @@ use Rattle.dm_report.proofs.answers.put_ids.Given as goal
 abbrev pub invariant-loop-id : goal.invariant-loop-id
 invariant-loop-id g l =
     Gathers g.K.Sink.taken g.K.Sink.faults l.fn.sink l.sink l.fn.page l.page (flat_map spaced_id (take l.id-index l.ids))
-    × All (λ (a : ActId). a.0 ≤ largest_id) (take l.id-index l.ids)

@@ -1,18 +1,11 @@
-use Rattle.std.proofs.lemmas.List.Elements.{All-nil}
-use Rattle.dm_cert.specs.RunTexts.{item_text, FitsItem}
-use Rattle.dm_outside.proofs.Printing.{prints_none, prints_next, prints_fault_next}
-use Rattle.dm_cert.proofs.Fitting.{fits_next}
+use Rattle.dm_cert.specs.RunTexts.{item_text}
+use Rattle.dm_outside.proofs.Printing.{prints_next, prints_fault_next}
 use Rattle.dm_report.proofs.answers.put_items.Goals as goal
 
-pub loop-item-init : goal.loop-item-init
-loop-item-init g c = (prints_none _ _, All-nil FitsItem)
-
 pub loop-item-preserved : goal.loop-item-preserved
-loop-item-preserved g c = (
-  prints_next (item_text 2) c.args.items.now c.loop-item.item-index _ _ c.loop-item-test.true c.item-item.is c.loop-item.invariant.0 c.in-Ok.ensures.text,
-  fits_next FitsItem c.args.items.now c.loop-item.item-index _ _ c.loop-item-test.true c.item-item.is c.loop-item.invariant.1 c.in-Ok.ensures.fits,
-)
+loop-item-preserved g c =
+    prints_next (item_text 2) c.args.items.now c.loop-item.item-index _ _ c.loop-item-test.true c.item-item.is c.loop-item.invariant c.in-Ok.ensures
 
-pub returns-in_default-clause-text : goal.returns-in_default-clause-text
-returns-in_default-clause-text g c =
-    prints_fault_next (item_text 2) c.args.items.now c.loop-item.item-index _ _ c.loop-item-test.true c.item-item.is c.loop-item.invariant.0 c.in_default.ensures.text
+pub returns-in_default : goal.returns-in_default
+returns-in_default g c =
+    prints_fault_next (item_text 2) c.args.items.now c.loop-item.item-index _ _ c.loop-item-test.true c.item-item.is c.loop-item.invariant c.in_default.ensures

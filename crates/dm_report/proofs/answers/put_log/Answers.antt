@@ -5,26 +5,26 @@ use Rattle.dm_outside.proofs.Printing.{prints_fault, prints_fault_at, prints_las
 use Rattle.dm_report.proofs.Printed.{breaks_as, prints_last_as, log_parts}
 use Rattle.dm_report.proofs.answers.put_log.Goals as goal
 
-pub returns-in_default-clause-text : goal.returns-in_default-clause-text
+pub returns-in_default : goal.returns-in_default
 unfolding log_text
-returns-in_default-clause-text g c =
+returns-in_default g c =
     let feed = rw c.as_slice-items.ensures at c.in_default.ensures in
     breaks_as (log_parts (feed_text c.args.number (length c.args.log.now.items)) (flat_map (item_text 2) c.args.log.now.items) (stop_text c.args.log.now.stop))
     (prints_fault (flat_map (item_text 2) c.args.log.now.items ++ stop_text c.args.log.now.stop) feed)
 
-pub returns-in_default-put_items-clause-text : goal.returns-in_default-put_items-clause-text
+pub returns-in_default-put_items : goal.returns-in_default-put_items
 unfolding log_text
-returns-in_default-put_items-clause-text g c =
+returns-in_default-put_items g c =
     let feed = rw c.as_slice-items.ensures at c.in-Ok.ensures in
-    let items = rw c.as_slice-items.ensures at c.in_default-put_items.ensures.text in
+    let items = rw c.as_slice-items.ensures at c.in_default-put_items.ensures in
     breaks_as (log_parts (feed_text c.args.number (length c.args.log.now.items)) (flat_map (item_text 2) c.args.log.now.items) (stop_text c.args.log.now.stop))
     (prints_fault_at (stop_text c.args.log.now.stop) feed items)
 
-pub returns-clause-text : goal.returns-clause-text
+pub returns : goal.returns
 unfolding log_text
-returns-clause-text g c =
+returns g c =
     let feed = rw c.as_slice-items.ensures at c.in-Ok.ensures in
-    let items = rw c.as_slice-items.ensures at c.in-Ok-put_items.ensures.text in
+    let items = rw c.as_slice-items.ensures at c.in-Ok-put_items.ensures in
     prints_last_as c.put_stop.new.sink c.put_stop.new.page (flat_map (item_text 2) c.args.log.now.items ++ stop_text c.args.log.now.stop)
     (log_text 2 c.args.number c.args.log.now) c.put_stop.result
     (log_parts (feed_text c.args.number (length c.args.log.now.items)) (flat_map (item_text 2) c.args.log.now.items) (stop_text c.args.log.now.stop)) feed

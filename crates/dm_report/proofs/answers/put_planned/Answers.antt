@@ -6,12 +6,12 @@ use Rattle.dm_outside.proofs.Printing.{prints_fault}
 use Rattle.dm_report.proofs.Printed.{breaks_as, prints_last_as, plan_parts}
 use Rattle.dm_report.proofs.answers.put_planned.Goals as goal
 
-pub returns-in_default-clause-text : goal.returns-in_default-clause-text
-returns-in_default-clause-text g c =
+pub returns-in_default : goal.returns-in_default
+returns-in_default g c =
     breaks_as (plan_parts (decimal c.args.plan.now.entry) (spelling_of_plan 2 c.args.plan.now)) (prints_fault (spelling_of_plan 2 c.args.plan.now) c.in_default.ensures)
 
-pub returns-clause-text : goal.returns-clause-text
-returns-clause-text g c =
+pub returns : goal.returns
+returns g c =
     prints_last_as c.put_plan.new.sink c.put_plan.new.page (spelling_of_plan 2 c.args.plan.now)
     (joined (decimal c.args.plan.now.entry ∷ codes " " ∷ spelling_of_plan 2 c.args.plan.now ∷ [])) c.put_plan.result
     (plan_parts (decimal c.args.plan.now.entry) (spelling_of_plan 2 c.args.plan.now)) c.in-Ok.ensures c.put_plan.ensures.text

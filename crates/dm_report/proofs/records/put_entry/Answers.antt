@@ -7,21 +7,21 @@ use Rattle.dm_outside.proofs.Printing.{prints_fault, prints_fault_at, prints_las
 use Rattle.dm_report.proofs.Printed.{breaks_as, prints_last_as, entry_parts}
 use Rattle.dm_report.proofs.records.put_entry.Goals as goal
 
-pub returns-in_default-clause-text : goal.returns-in_default-clause-text
+pub returns-in_default : goal.returns-in_default
 unfolding entry_text
-returns-in_default-clause-text g c =
+returns-in_default g c =
     breaks_as (entry_parts (decimal c.args.number) (decimal c.args.entry.now.feed) (decimal c.args.entry.now.line) (spelling_of_message c.args.entry.now.message))
     (prints_fault (spelling_of_message c.args.entry.now.message ++ line_end) c.in_default.ensures)
 
-pub returns-in_default-put_message-clause-text : goal.returns-in_default-put_message-clause-text
+pub returns-in_default-put_message : goal.returns-in_default-put_message
 unfolding entry_text
-returns-in_default-put_message-clause-text g c =
+returns-in_default-put_message g c =
     breaks_as (entry_parts (decimal c.args.number) (decimal c.args.entry.now.feed) (decimal c.args.entry.now.line) (spelling_of_message c.args.entry.now.message))
     (prints_fault_at line_end c.in-Ok.ensures c.in_default-put_message.ensures)
 
-pub returns-clause-text : goal.returns-clause-text
+pub returns : goal.returns
 unfolding entry_text
-returns-clause-text g c =
+returns g c =
     prints_last_as c.put_bytes.new.sink c.put_bytes.new.self (spelling_of_message c.args.entry.now.message ++ line_end)
     (entry_text c.args.number c.args.entry.now) c.put_bytes.result
     (entry_parts (decimal c.args.number) (decimal c.args.entry.now.feed) (decimal c.args.entry.now.line) (spelling_of_message c.args.entry.now.message)) c.in-Ok.ensures

@@ -1,5 +1,5 @@
 use Rattle.dm_outside.proofs.Printing.{finishes}
 use Rattle.dm_report.proofs.runs.print_run.Goals as goal
 
-pub returns-clause-text : goal.returns-clause-text
-returns-clause-text g c = finishes c.finish.new.sink c.finish.result c.new-page.ensures c.in-Ok.ensures.text c.finish.ensures
+pub returns : goal.returns
+returns g c = finishes c.finish.new.sink c.finish.result c.new-page.ensures c.in-Ok.ensures c.finish.ensures

@@ -1,0 +1,16 @@
+use Rattle.dm_input.proofs.words.read_files_of.Goals as goal
+
+pub returns-in_default : goal.returns-in_default
+returns-in_default c = λ asked gives. c.in_default.ensures _ gives.gives_penalty
+
+pub returns-in_default-given : goal.returns-in_default-given
+returns-in_default-given c = λ asked gives. c.in_default-given.ensures _ gives.gives_events
+
+pub returns-in_default-given-2 : goal.returns-in_default-given-2
+returns-in_default-given-2 c = λ asked gives. c.in_default-given-2.ensures _ gives.gives_activities
+
+pub returns-in_default-given-3 : goal.returns-in_default-given-3
+returns-in_default-given-3 c = λ asked gives. c.in_default-given-3.ensures _ gives.gives_event_delays
+
+pub returns-in_default-given-4 : goal.returns-in_default-given-4
+returns-in_default-given-4 c = λ asked gives. c.in_default-given-4.ensures _ gives.gives_activity_delays
