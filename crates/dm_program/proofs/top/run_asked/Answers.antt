@@ -25,8 +25,8 @@ returns-in-Ok-answered-clause-ends g c = λ words asks.
     let logs = c.in-Ok-answered.answered.logs.items in
     let feeds = c.in-Ok-open_feeds.feeds.items in
     let opened =
-        opened_at_entry g.H.Src.Source.left g.H.Src.Source.is_sound (g.H.Shelf.files c.read_opening.new.shelf) told (g.H.Shelf.is_sound c.read_opening.new.shelf) is_sound _ feeds c.in-Ok.ensures.kept.same c.in-Ok.ensures.kept.sound
-        (rw c.as_slice.ensures.value at c.in-Ok-open_feeds.ensures.opened) in
+    opened_at_entry g.H.Src.Source.left g.H.Src.Source.is_sound (g.H.Shelf.files c.read_opening.new.shelf) told (g.H.Shelf.is_sound c.read_opening.new.shelf) is_sound _ feeds c.in-Ok.ensures.kept.same c.in-Ok.ensures.kept.sound
+    (rw c.as_slice.ensures.value at c.in-Ok-open_feeds.ensures.opened) in
     ends_run g.K.Sink.taken g.K.Sink.faults told is_sound words c.args.out.now c.end_run.new.out logs _ c.end_run.result
     (is_run_of g.H.Src.Source.left g.H.Src.Source.is_sound _ _ _ feeds _ table logs c.in-Ok-answered.ensures told is_sound words (run_of c.args.run.now) (opening_in c.in-Ok.opened) asks c.requires.within c.in-Ok.ensures.opening refl refl refl refl opened c.end_run.ensures.fits
     (status_of logs) refl) c.end_run.ensures.ends
