@@ -3,7 +3,7 @@ use Rattle.dm_text.specs.Judging.{Line}
 use Rattle.dm_text.proofs.Counted.{run_begins, run_ends}
 use Rattle.dm_cert.specs.PlansRead.{IsChoiceLine, cut_line, misshapen_line}
 use Rattle.dm_cert.proofs.Staged.{lines_stop, lines_go}
-use Rattle.dm_cert.proofs.plan_reading.choices.Goals as goal
+use Rattle.dm_cert.proofs.plan_reading.read_choices.Goals as goal
 
 pub loop-lines-init : goal.loop-lines-init
 loop-lines-init c = rw c.new-choices.ensures.items (run_begins (λ before. Line cut_line misshapen_line IsChoiceLine) c.args.count c.args.lines.now)

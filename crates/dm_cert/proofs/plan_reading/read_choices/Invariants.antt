@@ -3,7 +3,7 @@ use Rattle.dm_text.specs.Judging.{Line}
 use Rattle.dm_text.proofs.Counted.{HasRun}
 use Rattle.dm_cert.specs.declared.faults.CertFault.{CertFault}
 use Rattle.dm_cert.specs.PlansRead.{IsChoiceLine, cut_line, misshapen_line}
-use Rattle.dm_cert.proofs.plan_reading.choices.Given as goal
+use Rattle.dm_cert.proofs.plan_reading.read_choices.Given as goal
 
 abbrev pub invariant-loop-lines : goal.invariant-loop-lines
 invariant-loop-lines l = HasRun {F = CertFault} (λ before. Line cut_line misshapen_line IsChoiceLine) l.count l.initial.lines l.choices.items l.lines
