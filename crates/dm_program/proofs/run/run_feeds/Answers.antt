@@ -1,12 +1,11 @@
-use Rattle.std.proofs.Common.{map, refl}
-use Rattle.dm_input.specs.Asked.{run_of, files_of}
+use Rattle.std.proofs.Common.{refl}
+use Rattle.dm_words.specs.Asked.{run_of}
 use Rattle.dm_input.specs.Stops.{opening_in}
 use Rattle.dm_program.specs.Feeds.{status_of}
-use Rattle.dm_program.proofs.Asked.{opening_starts}
 use Rattle.dm_program.proofs.Closing.{ends_stopped, ends_run}
 use Rattle.dm_program.proofs.Opened.{kept_then, opened_at_entry}
 use Rattle.dm_program.proofs.Printed.{run_is_spelled, is_run_of}
-use Rattle.dm_program.proofs.top.run_asked.Goals as goal
+use Rattle.dm_program.proofs.run.run_feeds.Goals as goal
 
 pub returns-in-Err-clause-ends : goal.returns-in-Err-clause-ends
 returns-in-Err-clause-ends g c = λ words asks.
@@ -26,7 +25,7 @@ returns-in-Ok-answered-clause-ends g c = λ words asks.
     let feeds = c.in-Ok-open_feeds.feeds.items in
     let opened =
     opened_at_entry g.H.Src.Source.left g.H.Src.Source.is_sound (g.H.Shelf.files c.read_opening.new.shelf) told (g.H.Shelf.is_sound c.read_opening.new.shelf) is_sound _ feeds c.in-Ok.ensures.kept.same c.in-Ok.ensures.kept.sound
-    (rw c.as_slice.ensures.value at c.in-Ok-open_feeds.ensures.opened) in
+    (rw (c.as_slice.ensures.value, c.in-Ok-names_of.ensures) at c.in-Ok-open_feeds.ensures.opened) in
     ends_run g.K.Sink.taken g.K.Sink.faults told is_sound words c.args.out.now c.end_run.new.out logs _ c.end_run.result
     (is_run_of g.H.Src.Source.left g.H.Src.Source.is_sound _ _ _ feeds _ table logs c.in-Ok-answered.ensures told is_sound words (run_of c.args.run.now) (opening_in c.in-Ok.opened) asks c.requires.within c.in-Ok.ensures.opening refl refl refl refl opened c.end_run.ensures.fits
     (status_of logs) refl) c.end_run.ensures.ends
