@@ -1,5 +1,5 @@
 -- What one more answer does to a log.
-use Rattle.std.proofs.Common.{◌≡◌, ℕ, ◌+◌, ◌≤◌, inl, inr, cond, List, [], ◌∷◌, ◌++◌, length, map, Option, Some, None, IfSome, refl, sym, ap, subst, ◌∙◌, arith, append-nil, append_assoc, length-append, zero-add, All, get_or}
+use Rattle.std.proofs.Common.{◌≡◌, ℕ, ◌+◌, ◌≤◌, inl, inr, cond, List, [], ◌∷◌, ◌++◌, length, Option, Some, None, IfSome, refl, sym, ap, subst, ◌∙◌, arith, append-nil, append_assoc, length-append, zero-add, All, get_or}
 use Rattle.std.proofs.lemmas.List.Elements.{All-nil, All-push, All-append, All-head, All-tail}
 use Rattle.std.proofs.lemmas.List.{map-append}
 use Rattle.std.proofs.lemmas.List.Sums.{sum_by-append}
@@ -10,15 +10,12 @@ use Rattle.dm_feed.specs.declared.feed.FeedStop.TheVariants.{End, Fault}
 use Rattle.dm_feed.specs.declared.feed.Next.TheVariants.{Due, Stop}
 use Rattle.dm_feed.specs.declared.grammar.Heard.{Heard}
 use Rattle.dm_feed.specs.declared.grammar.Heard.TheVariants.{Blank, Line as Spoken, Malformed as Unheard}
-use Rattle.dm_feed.specs.declared.grammar.Line.{Line}
-use Rattle.dm_feed.specs.declared.grammar.Line.TheVariants as line
-use Rattle.dm_feed.specs.Lines.{IsQuiet, Hears, IsSpelledLine}
+use Rattle.dm_feed.specs.Lines.{IsQuiet, Hears}
 use Rattle.dm_feed.specs.Feeds.{ReaderValue, GivesDue, Answers}
 use Rattle.dm_feed.specs.DueItems.{DueItem, item}
 use Rattle.dm_feed.proofs.Imagined.{go_on_giving, stop_seen}
 use Rattle.dm_cert.specs.declared.replies.LogItem.{LogItem}
 use Rattle.dm_cert.specs.declared.replies.LogItem.TheVariants.{Malformed, Answered}
-use Rattle.dm_cert.specs.declared.replies.Reply.{Reply}
 use Rattle.dm_cert.specs.Answers.{Setting}
 use Rattle.dm_cert.specs.Logs.{Kind, free, told, entered, kind_of, line_of, Follows, names, due_of}
 use Rattle.dm_cert.specs.RunTexts.{IsSpelledItem}
@@ -26,38 +23,12 @@ use Rattle.dm_cert.proofs.Numbers.{last_line, last_number, order_push}
 use Rattle.dm_cert.proofs.TrueLogs.{answers_grow, answers_push, numbers_within}
 use Rattle.dm_desk.specs.Desks.{DeskValue, GoesOn}
 use Rattle.dm_desk.specs.Answered.{times, IsBetween, IsOpen, IsAnswered, AreTrueOf, AnswersMore, HasSize, HasCause, AnswersBatch, HasSeenLegal}
-use Rattle.dm_desk.specs.Inside.Replies.{IsDueHeard, Replies, AnswersLine}
+use Rattle.dm_desk.specs.Inside.Replies.{IsDueHeard, AnswersLine}
 
 -- ---- one line
 
 pub goes_nowhere : (desk : DeskValue) → HasSeenLegal desk → GoesOn desk desk
 goes_nowhere desk legal = record { setting = refl; later = ([], append-nil desk.seen); legal = legal }
-
--- a line that was answered
-pub answered_line : (before now : DeskValue) (feed here : ℕ) (items : List LogItem) (said : Line) (reply : Reply) → IsSpelledLine said → Replies before now feed here items said reply → AnswersLine before now feed here items (Spoken said) (Answered here said reply)
-answered_line before now feed here items said reply spelled r = record {
-  due = refl;
-  goes_on = r.goes_on;
-  is_true = r.is_true;
-  between = r.between;
-  spelled = (spelled, r.spelled);
-  named = λ n. r.named n;
-}
-
-pub answered_as_heard : (before now : DeskValue) (feed here : ℕ) (items : List LogItem) (heard : Heard) (said : Line) (reply : Reply) → heard ≡ Spoken said → IsDueHeard heard → Replies before now feed here items said reply → AnswersLine before now feed here items heard (Answered here said reply)
-answered_as_heard before now feed here items heard said reply is due r =
-    subst (λ (h : Heard). AnswersLine before now feed here items h (Answered here said reply)) (sym is) (answered_line before now feed here items said reply (subst IsDueHeard is due) r)
-
--- a line in no form
-pub unanswered : (desk : DeskValue) (feed here : ℕ) (items : List LogItem) (heard : Heard) → HasSeenLegal desk → heard ≡ Unheard → AnswersLine desk desk feed here items heard (Malformed here)
-unanswered desk feed here items heard legal is = record {
-  due = ap (item here) (sym is);
-  goes_on = goes_nowhere desk legal;
-  is_true = tt;
-  between = tt;
-  spelled = tt;
-  named = λ n. zero-add (times n desk.mine);
-}
 
 -- ---- one item more
 

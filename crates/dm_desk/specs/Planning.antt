@@ -1,5 +1,5 @@
 -- What a planner plans for, and what it gives.
-use Rattle.std.specs.Prelude.{ℕ, ◌≡◌, ◌≤◌}
+use Rattle.std.specs.Prelude.{ℕ, ◌≡◌}
 use Rattle.dm_network.specs.Net.{Net}
 use Rattle.dm_rows.specs.declared.rows.Snapshot.{Snapshot}
 use Rattle.dm_tree.specs.declared.plans.Plan.{Plan}

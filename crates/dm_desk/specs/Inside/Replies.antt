@@ -1,5 +1,5 @@
 -- What the answer to one line does.
-use Rattle.std.specs.Prelude.{ℕ, ◌≡◌, ◌+◌, ◌≤◌, ◌∷◌, [], List, length, count_by, Option, Some, None, IfSome}
+use Rattle.std.specs.Prelude.{ℕ, ◌≡◌, ◌+◌, ◌≤◌, ◌∷◌, [], List, length, count_by, Option, None, IfSome}
 use Rattle.dm_base.specs.declared.limits.TheConstants.{PLANS}
 use Rattle.dm_feed.specs.declared.grammar.Heard.{Heard}
 use Rattle.dm_feed.specs.declared.grammar.Heard.TheVariants.{Blank, Line as Spoken, Malformed as Unheard}
