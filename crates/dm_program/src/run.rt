@@ -8,6 +8,7 @@ ghost use Rattle.dm_rounds.specs.Rounds.{AnswersFeeds};
 ghost use Rattle.dm_program.specs.Inside.Stages.{IsAtStart, Begins, desk_of, RunsOver};
 
 use crate::desk::TableDesk;
+use crate::planner::OwnThread;
 use dm_cert::FeedLog;
 use dm_desk::Hold;
 use dm_network::Network;
@@ -47,8 +48,13 @@ pub fn answer_run<'n, R: Wait, S: Source + Drop, H: Hold>(
     net.sound();
     let table = new_table(alloc, net, rows, penalty)?;
     table.sound();
-    let mut desk = TableDesk { table };
-    let logs = answer_feeds(rt, alloc, feeds, &mut desk, gate, batch)?;
+    let mut desk = TableDesk { alloc, table };
+    let planner = OwnThread {
+        alloc,
+        net,
+        penalty,
+    };
+    let logs = answer_feeds(rt, alloc, feeds, &mut desk, &planner, gate, batch)?;
     let table = desk.table;
     table.sound();
     Ok(Answered { table, logs })
