@@ -2,23 +2,19 @@
 use Rattle.std.proofs.Common.{◌≡◌, ℕ, ◌+◌, ◌<◌, ◌≤◌, inl, inr, List, [], ◌∷◌, ◌++◌, length, refl, sym, ap, subst, ◌∙◌, arith, append-nil, length-append}
 use Rattle.std.proofs.lemmas.List.FromFn.{length-map-range_with_len}
 use Rattle.dm_base.specs.declared.limits.TheConstants.{ENTRIES}
-use Rattle.dm_network.specs.Net.{Net}
 use Rattle.dm_network.specs.Start.{IsNetwork}
 use Rattle.dm_rows.specs.declared.messages.Decision.{Decision}
 use Rattle.dm_rows.specs.declared.messages.Entry.{Entry}
-use Rattle.dm_rows.specs.declared.messages.Message.{Message}
 use Rattle.dm_rows.specs.declared.messages.Message.TheVariants.{Adopt}
 use Rattle.dm_rows.specs.declared.messages.At.{At}
 use Rattle.dm_rows.specs.declared.messages.Refusal.{Refusal}
 use Rattle.dm_rows.specs.declared.messages.Refusal.TheVariants.{OutOfMemory}
-use Rattle.dm_rows.specs.Rows.{RowsValue}
-use Rattle.dm_rows.specs.Refuse.{Refuses, RefusesNothing}
+use Rattle.dm_rows.specs.Refuse.{Refuses}
 use Rattle.dm_tree.specs.declared.plans.Plan.{Plan}
-use Rattle.dm_tree.specs.Plans.{whole_task, IsTruePlan}
 use Rattle.dm_tree.proofs.Admitted.{true_plans_are_admitted}
 use Rattle.dm_cert.specs.Answers.{Setting, rows_after}
-use Rattle.dm_desk.specs.Desks.{DeskValue, GoesOn, Looks, Enters, RefusesEntry, IsTrueOf, adopts, EntersPlan}
-use Rattle.dm_table.specs.Value.{TableValue, IsTable}
+use Rattle.dm_desk.specs.Desks.{Looks, Enters, RefusesEntry, IsTrueOf, EntersPlan}
+use Rattle.dm_table.specs.Value.{TableValue}
 use Rattle.dm_program.specs.Inside.Stages.{desk_of, numbers_to}
 
 size_of_numbers : (n : ℕ) → length (numbers_to n) ≡ n
