@@ -15,6 +15,7 @@ ghost use Rattle.dm_program.specs.Inside.Stages.{AreWithin, IsAtStart, Begins, d
 use crate::desk::TableDesk;
 use crate::ends::end_stopped;
 use crate::feeds::{names_of, open_feeds};
+use crate::planner::OwnThread;
 use crate::print::end_run;
 use crate::status::Status;
 use dm_cert::FeedLog;
@@ -99,8 +100,13 @@ pub fn answer_run<'n, R: Wait, S: Source + Drop, H: Hold>(
     net.sound();
     let table = new_table(alloc, net, rows, penalty)?;
     table.sound();
-    let mut desk = TableDesk { table };
-    let logs = answer_feeds(rt, alloc, feeds, &mut desk, gate, batch)?;
+    let mut desk = TableDesk { alloc, table };
+    let planner = OwnThread {
+        alloc,
+        net,
+        penalty,
+    };
+    let logs = answer_feeds(rt, alloc, feeds, &mut desk, &planner, gate, batch)?;
     let table = desk.table;
     table.sound();
     Ok(Answered { table, logs })
