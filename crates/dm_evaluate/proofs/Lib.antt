@@ -1,1 +1,4 @@
 pub mod Relaxing
+pub mod Paths
+pub mod Turning
+pub mod Directions

@@ -5,4 +5,5 @@
 //! relaxed problem, at any time its cost is the relaxed cost of its times, and the relaxed problem has no cycle.
 #![tactic(auto)]
 
+mod headways;
 pub mod laws;

@@ -1,0 +1,4 @@
+-- Two paths of which the second has one decision more, and states of loops. Who believes what an evaluator promises need not
+-- read them.
+pub mod Paths
+pub mod Moves
