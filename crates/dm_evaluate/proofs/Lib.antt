@@ -1,4 +1,9 @@
 pub mod Relaxing
 pub mod Paths
-pub mod Turning
+pub mod Headings
 pub mod Directions
+pub mod Flipping
+pub mod FlipNames
+pub mod Moving
+pub mod Lists
+pub mod Decided

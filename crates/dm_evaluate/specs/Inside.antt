@@ -2,3 +2,5 @@
 -- read them.
 pub mod Paths
 pub mod Moves
+pub mod Undecided
+pub mod Places

@@ -66,7 +66,7 @@ pub fn release_direction<L: Ledger>(
 
 /// Holds those of these activities that are headways of a pair. One that would make a cycle is refused, and then no more are
 /// held.
-#[tactic(auto, using(crate::proofs::Turning::none_turned, crate::proofs::Turning::next_turned, crate::proofs::Turning::next_refused))]
+#[tactic(auto, using(crate::proofs::Headings::none_turned, crate::proofs::Headings::next_turned, crate::proofs::Headings::next_refused))]
 fn hold_each(
     priced: &mut PricedTimetable,
     net: &Network,
@@ -89,7 +89,7 @@ fn hold_each(
 }
 
 /// Holds an activity where it is a headway of a pair, unless it would make a cycle.
-#[tactic(auto, using(crate::proofs::Turning::turned_not, crate::proofs::Turning::turned_one, crate::proofs::Turning::refused_one))]
+#[tactic(auto, using(crate::proofs::Headings::turned_not, crate::proofs::Headings::turned_one, crate::proofs::Headings::refused_one))]
 fn hold_one(
     priced: &mut PricedTimetable,
     net: &Network,
@@ -112,7 +112,7 @@ fn hold_one(
 }
 
 /// Lets those of these activities go that are headways of a pair.
-#[tactic(auto, using(crate::proofs::Turning::none_turned, crate::proofs::Turning::next_turned))]
+#[tactic(auto, using(crate::proofs::Headings::none_turned, crate::proofs::Headings::next_turned))]
 fn release_each(priced: &mut PricedTimetable, net: &Network, pair: usize, row: &[usize])
     requires priced { IsPriced net.now priced.old }
     requires are_activities { All (λ a. a < length net.now.activities) row.now }
@@ -126,7 +126,7 @@ fn release_each(priced: &mut PricedTimetable, net: &Network, pair: usize, row: &
 }
 
 /// Lets an activity go where it is a headway of a pair.
-#[tactic(auto, using(crate::proofs::Turning::turned_not, crate::proofs::Turning::turned_one))]
+#[tactic(auto, using(crate::proofs::Headings::turned_not, crate::proofs::Headings::turned_one))]
 fn release_one(priced: &mut PricedTimetable, net: &Network, pair: usize, a: usize)
     requires priced { IsPriced net.now priced.old }
     requires is_activity { a < length net.now.activities }

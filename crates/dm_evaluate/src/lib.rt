@@ -5,5 +5,12 @@
 //! relaxed problem, at any time its cost is the relaxed cost of its times, and the relaxed problem has no cycle.
 #![tactic(auto)]
 
+mod evaluator;
 mod headways;
 pub mod laws;
+mod naming;
+mod places;
+mod turning;
+mod undecided;
+
+pub use evaluator::Evaluator;

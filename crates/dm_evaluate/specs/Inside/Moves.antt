@@ -24,6 +24,12 @@ is_charged_by (Keep a) b = false
 is_charged_by (Drop a) b = b == a
 is_charged_by (First p small) b = false
 
+-- the activity or the pair of the decision is one of the network's
+abbrev pub ReachesNet : Net → Flip → Type 0
+ReachesNet net (Keep a) = a < length net.activities
+ReachesNet net (Drop a) = a < length net.activities
+ReachesNet net (First p small) = p < length net.pairs
+
 -- what is held, or charged for, with these places set to a value
 abbrev pub set_where : (ℕ → Bool) → Bool → (ℕ → Bool) → ℕ → Bool
 set_where some value flags b = if some b then value else flags b
