@@ -7,3 +7,4 @@ pub mod FlipNames
 pub mod Moving
 pub mod Lists
 pub mod Decided
+pub mod Rooted

@@ -4,3 +4,4 @@ pub mod Paths
 pub mod Moves
 pub mod Undecided
 pub mod Places
+pub mod Starting

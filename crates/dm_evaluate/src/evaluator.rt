@@ -3,12 +3,15 @@ ghost use Rattle.std.specs.Prelude.{ℕ, ◌≡◌, ◌++◌, ◌^◌, ◌<◌, 
 ghost use Rattle.dm_base.specs.declared.limits.TheConstants.{PENALTY};
 ghost use Rattle.dm_rows.specs.Rows.{IsSized};
 ghost use Rattle.dm_rows.specs.Decide.{IsChoiceList};
-ghost use Rattle.dm_rows.specs.Relax.{is_decided};
+ghost use Rattle.dm_rows.specs.Relax.{is_decided, is_relaxed_active};
+ghost use Rattle.dm_times.specs.Faults.{RefusesHolding};
 ghost use Rattle.dm_tree.specs.Relaxed.{IsRelaxedLeast, relaxed_cost_of, IsRelaxedCycle, HasNoRelaxedCycle};
 ghost use Rattle.dm_evaluate.specs.Evaluator.{IsEvaluatorOf, times_of, cycle_of, path_without};
 
+use crate::free::all_undecided;
 use crate::naming::flip_of;
 use crate::places::place_of;
+use crate::starting::root_timetable;
 use crate::turning::{turn_off, turn_on};
 use crate::undecided::Undecided;
 use dm_base::{Cost, Steps};
@@ -16,7 +19,8 @@ use dm_graph::search::Cyclic;
 use dm_network::Network;
 use dm_priced::PricedTimetable;
 use dm_rows::{Choice, Decision, Rows};
-use dm_settle::Times;
+use dm_settle::{NoTimes, Times};
+use std::alloc::Global;
 use std::marker::Model;
 use std::sync::ledger::Ledger;
 
@@ -45,6 +49,32 @@ impl Model for Evaluator {
 }
 
 impl Evaluator {
+    /// The evaluator of the path without a decision, with the room of all its moves. [`NoTimes::Cycle`] comes exactly where what
+    /// then binds has a cycle, and shows one, unless memory is short first: then [`NoTimes::OutOfMemory`]. Its time is linear
+    /// in events and activities where the trains go in the order of their scheduled times.
+    pub fn new(alloc: Global, net: &Network, rows: Rows) -> Result<Evaluator, NoTimes>
+        requires { IsSized net.now rows }
+        ensures evaluator { IfOk result (IsEvaluatorOf net.now) }
+        ensures rows { IfOk result (λ evaluator. evaluator.rows ≡ rows) }
+        ensures path { IfOk result (λ evaluator. evaluator.path ≡ []) }
+        ensures least { IfOk result (λ evaluator. IsRelaxedLeast net.now rows [] (times_of evaluator)) }
+        ensures no_cycle { OnOk result (HasNoRelaxedCycle net.now rows []) }
+        ensures refused { IfErr result (RefusesHolding net.now (is_relaxed_active net.now rows [])) }
+    {
+        net.sound();
+        let undecided = all_undecided(alloc, net, &rows)?;
+        let path = Vec::with_capacity(alloc, undecided.changes.len() + undecided.pairs.len())?;
+        match root_timetable(alloc, net, &rows) {
+            Ok(priced) => Ok(Evaluator {
+                rows,
+                path,
+                undecided,
+                priced,
+            }),
+            Err(no_times) => Err(no_times),
+        }
+    }
+
     /// Decides a choice that is free and that the path leaves undecided, and computes the times that this moves. [`Cyclic`]
     /// comes exactly where what then binds has a cycle: then the path and the times are as before, and
     /// [`Evaluator::last_cycle`] is such a cycle. It takes no memory.

@@ -6,10 +6,13 @@
 #![tactic(auto)]
 
 mod evaluator;
+mod filling;
+mod free;
 mod headways;
 pub mod laws;
 mod naming;
 mod places;
+mod starting;
 mod turning;
 mod undecided;
 
