@@ -8,3 +8,4 @@ pub mod Moving
 pub mod Lists
 pub mod Decided
 pub mod Rooted
+pub mod Violating

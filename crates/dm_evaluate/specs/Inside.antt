@@ -5,3 +5,4 @@ pub mod Moves
 pub mod Undecided
 pub mod Places
 pub mod Starting
+pub mod Violations

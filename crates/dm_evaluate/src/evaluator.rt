@@ -6,6 +6,7 @@ ghost use Rattle.dm_rows.specs.Decide.{IsChoiceList};
 ghost use Rattle.dm_rows.specs.Relax.{is_decided, is_relaxed_active};
 ghost use Rattle.dm_times.specs.Faults.{RefusesHolding};
 ghost use Rattle.dm_tree.specs.Relaxed.{IsRelaxedLeast, relaxed_cost_of, IsRelaxedCycle, HasNoRelaxedCycle};
+ghost use Rattle.dm_relax.specs.Relaxed.{first_violated};
 ghost use Rattle.dm_evaluate.specs.Evaluator.{IsEvaluatorOf, times_of, cycle_of, path_without};
 
 use crate::free::all_undecided;
@@ -14,6 +15,7 @@ use crate::places::place_of;
 use crate::starting::root_timetable;
 use crate::turning::{turn_off, turn_on};
 use crate::undecided::Undecided;
+use crate::violations::{first_violated_change, first_violated_pair};
 use dm_base::{Cost, Steps};
 use dm_graph::search::Cyclic;
 use dm_network::Network;
@@ -155,6 +157,20 @@ impl Evaluator {
     {
         net.sound();
         self.priced.cost(penalty)
+    }
+
+    /// The first choice that is undecided and that the times violate, the changes in ascending id and then the pairs, or None
+    /// where they violate nothing. Its time is linear in the changes and the headways of undecided pairs.
+    pub fn violated<L: Ledger>(&self, net: &Network, steps: &mut Steps<L>) -> Option<Choice>
+        requires { IsEvaluatorOf net.now self.now }
+        ensures { result ≡ first_violated net.now self.now.rows self.now.path (times_of self.now) }
+    {
+        let times = self.priced.live().times();
+        let change = first_violated_change(net, &self.rows, &self.undecided.changes, times);
+        if change.is_some() {
+            return change;
+        }
+        first_violated_pair(net, &self.rows, &self.undecided.pairs, times, steps)
     }
 
     /// The activities of the cycle for which a decision was refused last, each head the next tail.

@@ -140,7 +140,7 @@ fn release_one(priced: &mut PricedTimetable, net: &Network, pair: usize, a: usiz
 }
 
 /// Whether the activity is a headway of the pair.
-fn is_headway_of(net: &Network, a: usize, pair: usize) -> bool
+pub fn is_headway_of(net: &Network, a: usize, pair: usize) -> bool
     requires { a < length net.now.activities }
     ensures { result ≡ is_of_pair pair (activity_at net.now a).pair }
 {

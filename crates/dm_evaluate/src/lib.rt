@@ -15,5 +15,6 @@ mod places;
 mod starting;
 mod turning;
 mod undecided;
+mod violations;
 
 pub use evaluator::Evaluator;
