@@ -1,5 +1,5 @@
 -- A direction of a pair that is held or let go, and the timetable settled.
-use Rattle.std.proofs.Common.{◌≡◌, ℕ, ◌+◌, ◌<◌, Bool, true, false, cond, List, length, Some, get_or, refl, sym, ap, subst, ◌∙◌, ◌⊎◌, inl, inr, arith, slice_index}
+use Rattle.std.proofs.Common.{◌≡◌, ℕ, ◌<◌, Bool, true, false, List, length, Some, get_or, refl, sym, ap, ◌∙◌, inl, inr, arith, slice_index}
 use Rattle.std.specs.Prelude.{◌==◌}
 use Rattle.std.proofs.lemmas.Bool.{cases_Bool, and_parts, and_from, eqb-true, eq-eqb, both_ways, cond-true, cond-false}
 use Rattle.std.proofs.lemmas.List.{get_or_default}
@@ -9,7 +9,6 @@ use Rattle.dm_network.specs.Net.{Net, activity_at, places_out_of}
 use Rattle.dm_network.specs.Held.{arcs_of, is_held, IsCycleOf}
 use Rattle.dm_rows.specs.Relax.{is_of_pair}
 use Rattle.dm_settle.proofs.Marking.{leads_out, stands_out}
-use Rattle.dm_live.specs.Live.{LiveValue}
 use Rattle.dm_priced.specs.Priced.{PricedValue}
 use Rattle.dm_evaluate.specs.Inside.Moves.{is_directed, set_where, TurnsTo, Stays, IsAmong, KeepsBut, TurnsAmong, IsRefused}
 use Rattle.dm_evaluate.proofs.Headings.{its_pair}

@@ -1,5 +1,5 @@
 -- What the flip of a decision of a free choice is.
-use Rattle.std.proofs.Common.{◌≡◌, ℕ, ◌<◌, Bool, true, false, length, Some, None, sym, ap, subst, ◌∙◌, Option}
+use Rattle.std.proofs.Common.{◌≡◌, true, false, Some, None, sym, ap, subst, ◌∙◌}
 use Rattle.std.specs.Prelude.{Contains}
 use Rattle.dm_network.specs.Net.{Net}
 use Rattle.dm_network.specs.Start.{IsNetwork}
@@ -9,8 +9,7 @@ use Rattle.dm_rows.specs.declared.messages.Flip.TheVariants.{Keep, Drop, First}
 use Rattle.dm_rows.specs.Decide.{free_choices_of, choice_of}
 use Rattle.dm_rows.specs.Resolve.{flip_named}
 use Rattle.dm_rows.specs.Rows.{RowsValue}
-use Rattle.dm_relax.specs.Complete.{change_decision, pair_decision}
-use Rattle.dm_relax.proofs.Naming.{Names, of_change, of_pair, names, change_flip, change_flips, pair_flips}
+use Rattle.dm_relax.proofs.Naming.{Names, of_change, of_pair, names, change_flips, pair_flips}
 use Rattle.dm_evaluate.specs.Inside.Paths.{IsFlipOf}
 use Rattle.dm_evaluate.specs.Inside.Moves.{ReachesNet}
 

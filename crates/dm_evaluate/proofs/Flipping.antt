@@ -1,14 +1,11 @@
 -- A change that is held or let go, charged for or not.
-use Rattle.std.proofs.Common.{◌≡◌, ◌≢◌, ℕ, ◌<◌, Bool, true, false, cond, List, length, refl, sym, ap, subst, ◌∙◌, ◌⊎◌, inl, inr, arith, get_or-set_same, get_or-set_other}
+use Rattle.std.proofs.Common.{◌≡◌, ℕ, ◌<◌, Bool, false, List, length, sym, ap, ◌∙◌, inl, inr, get_or-set_same, get_or-set_other}
 use Rattle.std.specs.Prelude.{slice_set, ◌==◌}
 use Rattle.std.proofs.lemmas.Bool.{cases_eq, cond-true, cond-false, eq-eqb, ne_eqb}
 use Rattle.dm_network.specs.Net.{Net}
 use Rattle.dm_network.specs.Held.{is_held, IsCycleOf}
-use Rattle.dm_settle.specs.Constraints.{ConstraintsValue}
-use Rattle.dm_live.specs.Live.{LiveValue, with_held}
-use Rattle.dm_priced.specs.Priced.{PricedValue}
-use Rattle.dm_evaluate.specs.Inside.Moves.{set_where, TurnsTo, Stays}
-use Rattle.dm_evaluate.proofs.Directions.{IsSettledFrom, cycle_within}
+use Rattle.dm_evaluate.specs.Inside.Moves.{set_where}
+use Rattle.dm_evaluate.proofs.Directions.{cycle_within}
 
 -- one flag that is set
 pub set_one : (flags : List Bool) (a : ℕ) (value : Bool) → a < length flags → (b : ℕ) →

@@ -1,13 +1,13 @@
 -- Choice lists with one decision more or one less, and how long they can be.
-use Rattle.std.proofs.Common.{◌≡◌, ℕ, zero, suc, ◌+◌, ◌<◌, ◌≤◌, Bool, true, false, not, List, [], ◌∷◌, ◌++◌, length, map, get_or, take, drop, Some, refl, sym, ap, subst, ◌∙◌, ◌⊎◌, inl, inr, arith}
-use Rattle.std.specs.Prelude.{Contains, All, filter, slice_get}
+use Rattle.std.proofs.Common.{◌≡◌, ℕ, zero, suc, ◌+◌, ◌<◌, ◌≤◌, Bool, true, false, not, List, [], ◌∷◌, ◌++◌, length, map, get_or, take, drop, Some, refl, sym, ap, subst, ◌∙◌, inl, inr, arith}
+use Rattle.std.specs.Prelude.{Contains, filter, slice_get}
 use Rattle.std.specs.List.{IsDistinct, range_with_len, list_any}
 use Rattle.std.specs.Cmp.{IsEquivalence}
 use Rattle.std.proofs.lemmas.Bool.{cases_Bool, cond-true, cond-false, cond_both, not_from_true, not_from_false, both_ways, false_from_ne_true}
 use Rattle.std.proofs.lemmas.List.{get_or-map, length-map, length-append}
 use Rattle.std.proofs.lemmas.List.FromFn.{length-range_with_len}
 use Rattle.std.proofs.lemmas.List.Filters.{length-filter_both}
-use Rattle.std.proofs.lemmas.List.Elements.{All-contains, All-filter, Contains-append_left, Contains-append_right, Contains-push_cases, Contains-get_or}
+use Rattle.std.proofs.lemmas.List.Elements.{All-contains, Contains-append_left, Contains-append_right, Contains-push_cases}
 use Rattle.std.proofs.lemmas.Map.Keys.{IsDistinct-from_apart}
 use Rattle.std.proofs.lemmas.Map.Made.{length-le_from_is_member}
 use Rattle.std.proofs.lemmas.Option.{slice_get-get_or, slice_get_within}
@@ -128,6 +128,7 @@ module _ (net : Net) (rows : RowsValue) (path : List Decision) (d : Decision) (l
       before [] k x at = absurd (let n = slice_get_within {A = Decision} [] k x at in omega (arith, n))
       before (y ∷ xs) zero x at = at
       before (y ∷ xs) (suc k) x at = before xs k x at
+
       behind : (xs : List Decision) → slice_get (xs ++ d ∷ []) (length xs) ≡ Some d
       behind [] = refl
       behind (y ∷ xs) = behind xs
@@ -216,8 +217,11 @@ apart_filter p [] a = tt
 apart_filter p (x ∷ xs) a =
     let rest = apart_filter p xs a.1 in
     cond_both (p x) (x ∷ filter p xs) (filter p xs) (λ ys. Apart (map choice_of ys))
-    (λ t. (λ h. let one = mapped choice_of (filter p xs) (choice_of x) h in
-    a.0 (subst (Contains (map choice_of xs)) one.2 (in_map xs one.0 (filter_is_in p xs one.0 one.1).0)), rest))
+    (λ t. (
+      λ h. let one = mapped choice_of (filter p xs) (choice_of x) h in
+          a.0 (subst (Contains (map choice_of xs)) one.2 (in_map xs one.0 (filter_is_in p xs one.0 one.1).0)),
+      rest,
+    ))
     (λ f. rest)
   where
     in_map : (ys : List Decision) (y : Decision) → Contains ys y → Contains (map choice_of ys) (choice_of y)

@@ -1,7 +1,7 @@
 -- A decision that is made or taken back: from the relaxed problem of one path to that of the other.
-use Rattle.std.proofs.Common.{◌≡◌, ℕ, ◌+◌, ◌<◌, ◌≤◌, Bool, true, false, cond, not, List, length, Some, get_or, refl, sym, ap, subst, ◌∙◌, ◌⊎◌, inl, inr, arith, slice_index}
+use Rattle.std.proofs.Common.{◌≡◌, ℕ, ◌<◌, Bool, true, false, cond, List, length, Some, refl, sym, ap, ◌∙◌, inl, inr, arith, slice_index}
 use Rattle.std.specs.Prelude.{◌==◌, ◌&&◌}
-use Rattle.std.proofs.lemmas.Bool.{cases_Bool, cases_eq, and_parts, and_from, and_left, eqb-true, eqb-false, eq-eqb, both_ways, cond-true, cond-false}
+use Rattle.std.proofs.lemmas.Bool.{cases_Bool, cases_eq, and_parts, and_left, eqb-true, eqb-false, both_ways}
 use Rattle.std.proofs.lemmas.Grind.{same_number_lists}
 use Rattle.dm_network.specs.Net.{Net, activity_at}
 use Rattle.dm_network.specs.Held.{is_held, IsCycleOf}
@@ -10,17 +10,15 @@ use Rattle.dm_rows.specs.declared.messages.Decision.{Decision}
 use Rattle.dm_rows.specs.declared.messages.Flip.{Flip}
 use Rattle.dm_rows.specs.declared.messages.Flip.TheVariants.{Keep, Drop, First}
 use Rattle.dm_rows.specs.Rows.{RowsValue, IsSized}
-use Rattle.dm_rows.specs.Active.{has_passed}
-use Rattle.dm_rows.specs.Timetable.{floor_of, span_of}
 use Rattle.dm_rows.specs.Decide.{IsChoiceList, with_decisions}
 use Rattle.dm_rows.specs.Relax.{is_of_pair, is_relaxed_active, is_relaxed_dropped}
 use Rattle.dm_relax.proofs.Setting.{DiffersInDecisions, differs_in_none, differs_with}
 use Rattle.dm_relax.proofs.Agreeing.{has_passed_same, span_same, floor_same}
-use Rattle.dm_priced.specs.Priced.{PricedValue, IsPriced, FollowsPrice, is_flagged}
+use Rattle.dm_priced.specs.Priced.{PricedValue, IsPriced, is_flagged}
 use Rattle.dm_tree.specs.Relaxed.{IsRelaxedLeast, IsRelaxedCycle}
 use Rattle.dm_evaluate.specs.Evaluating.{Evaluates}
 use Rattle.dm_evaluate.specs.Inside.Paths.{AddsDecision, IsOfChange, IsOfPair, IsFlipOf}
-use Rattle.dm_evaluate.specs.Inside.Moves.{is_directed, is_bound_by, is_charged_by, set_where, TurnsTo, Turns, Stays, IsOff}
+use Rattle.dm_evaluate.specs.Inside.Moves.{is_directed, is_bound_by, is_charged_by, set_where, Turns, Stays, IsOff}
 use Rattle.dm_evaluate.proofs.Headings.{its_pair, no_pair}
 use Rattle.dm_evaluate.proofs.Directions.{cycle_within}
 use Rattle.dm_evaluate.proofs.Paths.{relaxed_same, dropped_same, change_apart, change_not_of, change_bound_before, change_dropped_before, change_binds, change_dropped, pair_no_change, pair_not_of, pair_bound_before, pair_binds}

@@ -1,8 +1,8 @@
 -- What binds and what is charged for in the relaxed problems of two paths of which the second has one decision more.
-use Rattle.std.proofs.Common.{◌≡◌, ℕ, ◌<◌, Bool, true, false, cond, List, [], ◌∷◌, length, Option, Some, None, refl, sym, ap, subst, ◌∙◌, ◌⊎◌, inl, inr, arith}
+use Rattle.std.proofs.Common.{◌≡◌, ℕ, ◌<◌, Bool, true, false, List, [], ◌∷◌, length, Option, Some, None, refl, sym, ap, subst, ◌∙◌, inl, inr, arith}
 use Rattle.std.specs.Prelude.{Contains, not, ◌&&◌, ◌==◌}
 use Rattle.std.specs.List.{list_any}
-use Rattle.std.proofs.lemmas.Bool.{cases_Bool, not-true, not-false, not_from_true, not_from_false, and_from, and_parts, and_left, and_right, and_cases, or_left, or_right, cond-true, cond-false, both_ways, false_from_ne_true}
+use Rattle.std.proofs.lemmas.Bool.{cases_Bool, not-true, not_from_true, not_from_false, and_from, and_parts, and_right, or_left, or_right, cond-true, cond-false, both_ways, false_from_ne_true}
 use Rattle.dm_base.specs.declared.rows.ActKind.{ActKind}
 use Rattle.dm_base.specs.declared.rows.ActKind.TheVariants.{Drive, Wait, Turnaround, Change, Headway}
 use Rattle.dm_network.specs.Net.{Net, activity_at, pair_at, is_change, is_headway}
@@ -14,7 +14,6 @@ use Rattle.dm_rows.specs.Active.{has_passed, is_active, binds}
 use Rattle.dm_rows.specs.Cost.{is_dropped_change}
 use Rattle.dm_rows.specs.Decide.{IsChoiceList, is_free_change, is_free_pair, change_choice, pair_choice, choice_of, with_decisions}
 use Rattle.dm_rows.specs.Relax.{is_same_choice, is_decided, is_undecided_change, is_undecided_pair, is_of_undecided, is_relaxed_active, is_relaxed_dropped}
-use Rattle.dm_relax.specs.Complete.{change_decision, pair_decision}
 use Rattle.dm_relax.proofs.Naming.{same_choice, same_itself, change_decides, pair_decides, one_change, one_pair}
 use Rattle.dm_relax.proofs.Setting.{DiffersInDecisions, HasDecision, differs_in_none, differs_with, has_each, has_kept, has_first, in_front}
 use Rattle.dm_relax.proofs.Agreeing.{passes_one, PairJoins, pair_joins, change_has_no_pair, has_passed_same, active_same, kept_agrees, decided_change}

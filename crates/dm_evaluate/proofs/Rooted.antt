@@ -1,10 +1,10 @@
 -- The timetable of the path without a decision.
-use Rattle.std.proofs.Common.{◌≡◌, ℕ, ◌<◌, Bool, true, false, not, ◌&&◌, List, [], length, refl, sym, ap, ◌∙◌, arith}
+use Rattle.std.proofs.Common.{◌≡◌, ℕ, Bool, true, false, not, ◌&&◌, List, [], length, refl, sym, ap, ◌∙◌}
 use Rattle.std.specs.Prelude.{replicate}
 use Rattle.std.proofs.lemmas.List.{get_or-replicate}
 use Rattle.dm_network.specs.Net.{Net, activity_at, is_change}
-use Rattle.dm_network.specs.Held.{is_held, IsCycleOf}
-use Rattle.dm_live.specs.Live.{HasHeldCycle, RefusesLive}
+use Rattle.dm_network.specs.Held.{is_held}
+use Rattle.dm_live.specs.Live.{RefusesLive}
 use Rattle.dm_order.specs.declared.faults.OrderFault.{OrderFault}
 use Rattle.dm_order.specs.declared.faults.OrderFault.TheVariants.{Cyclic, OutOfMemory}
 use Rattle.dm_priced.specs.Priced.{PricedValue, IsPriced, is_flagged}
@@ -14,7 +14,7 @@ use Rattle.dm_rows.specs.Rows.{RowsValue, kept_at}
 use Rattle.dm_settle.specs.Constraints.{ConstraintsValue}
 use Rattle.dm_times.specs.Inside.Filling.{AreConstraintsHolding}
 use Rattle.dm_evaluate.specs.Evaluating.{Evaluates}
-use Rattle.dm_evaluate.specs.Inside.Starting.{HasRootCycle, RefusesRoot, HasPassedTo}
+use Rattle.dm_evaluate.specs.Inside.Starting.{RefusesRoot, HasPassedTo}
 use Rattle.dm_evaluate.proofs.Directions.{cycle_within}
 
 -- nothing is charged for

@@ -22,11 +22,7 @@ use std::marker::Brand;
 use std::sync::ledger::{Blank, Ledger};
 
 /// The settled timetable, or a cycle exactly where what binds has one.
-pub fn root_timetable(
-    alloc: Global,
-    net: &Network,
-    rows: &Rows,
-) -> Result<PricedTimetable, NoTimes>
+pub fn root_timetable(alloc: Global, net: &Network, rows: &Rows) -> Result<PricedTimetable, NoTimes>
     requires { IsSized net.now rows.now }
     ensures root { IfOk result (IsRoot net.now rows.now) }
     ensures refused { IfErr result (RefusesHolding net.now (is_relaxed_active net.now rows.now [])) }

@@ -1,5 +1,5 @@
 -- A timetable that is made for the relaxed problem in which nothing is decided.
-use Rattle.std.specs.Prelude.{ℕ, ◌≡◌, ◌<◌, Bool, List, [], length}
+use Rattle.std.specs.Prelude.{ℕ, ◌≡◌, ◌<◌, Bool, List, []}
 use Rattle.dm_network.specs.Net.{Net}
 use Rattle.dm_network.specs.Held.{IsCycleOf}
 use Rattle.dm_live.specs.Live.{LiveValue, IsLive, IsAtRest}

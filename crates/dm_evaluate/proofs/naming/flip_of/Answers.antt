@@ -1,6 +1,5 @@
 use Rattle.std.proofs.Common.{sym, ◌∙◌}
 use Rattle.dm_evaluate.proofs.FlipNames.{flip_is, flip_reaches, flip_is_named}
-use Rattle.dm_evaluate.proofs.Rooted.{refuses_root}
 use Rattle.dm_evaluate.proofs.naming.flip_of.Goals as goal
 
 pub unreachable-requires : goal.unreachable-requires

@@ -1,5 +1,4 @@
 use Rattle.std.proofs.Common.{[], subst}
-use Rattle.dm_order.specs.declared.faults.OrderFault.TheVariants.{Cyclic}
 use Rattle.dm_order.specs.Refuse.{RefusesOrder}
 use Rattle.dm_rows.specs.Active.{IsCycle}
 use Rattle.dm_rows.specs.Rows.{RowsValue}

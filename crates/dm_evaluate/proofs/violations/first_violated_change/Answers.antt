@@ -1,4 +1,4 @@
-use Rattle.std.proofs.Common.{ℕ, Bool, Some, length, sym, ap, ◌∙◌, arith}
+use Rattle.std.proofs.Common.{Some, length, sym, ap, ◌∙◌, arith}
 use Rattle.dm_network.specs.declared.parts.Activity.{Activity}
 use Rattle.dm_rows.specs.declared.messages.Choice.TheVariants.{Change}
 use Rattle.dm_rows.specs.Cost.{comes_too_early}

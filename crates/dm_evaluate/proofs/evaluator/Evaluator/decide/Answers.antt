@@ -1,10 +1,9 @@
-use Rattle.std.proofs.Common.{◌≡◌, ◌∷◌, [], ◌++◌, List, ℕ, refl, sym, ap, subst, ◌∙◌, arith}
-use Rattle.std.specs.Vec.{vec_len, vec_capacity}
+use Rattle.std.proofs.Common.{◌∷◌, [], ◌++◌, sym, ap, subst, ◌∙◌, arith}
 use Rattle.dm_rows.specs.Decide.{IsChoiceList}
 use Rattle.dm_tree.specs.Relaxed.{HasNoRelaxedCycle, IsRelaxedCycle}
 use Rattle.dm_evaluate.specs.Evaluator.{EvaluatorValue, IsEvaluatorOf, times_of}
 use Rattle.dm_evaluate.proofs.Lists.{decides_free}
-use Rattle.dm_evaluate.proofs.Decided.{evaluator_least, evaluator_no_cycle, room_for, decide_off, decide_room, decide_cycle, decide_is, refused_is, refused_times}
+use Rattle.dm_evaluate.proofs.Decided.{evaluator_least, evaluator_no_cycle, decide_off, decide_room, decide_cycle, decide_is, refused_is, refused_times}
 use Rattle.dm_evaluate.proofs.evaluator.Evaluator.decide.Goals as goal
 
 pub flip_of-flip-requires : goal.flip_of-flip-requires
@@ -71,7 +70,7 @@ returns-in-Err-clause-unchanged g c =
     let was = subst (IsEvaluatorOf net) (sym c.self.view_is) c.requires.evaluator in (
       ap (λ (e : EvaluatorValue). e.path) c.self.view_is,
       refused_times net c.sound.ensures.network old was c.turn_on.new.priced c.in-Err.ensures.priced c.in-Err.ensures.at_rest c.in-Err.ensures.stays
-      ∙ ap times_of c.self.view_is,
+          ∙ ap times_of c.self.view_is,
     )
 
 pub returns-in-Err-clause-cycle : goal.returns-in-Err-clause-cycle
