@@ -35,6 +35,7 @@ impl Calls {
     pub(crate) fn add_fault(&mut self)
         ensures risen { HasRisen self.old.faults self.new.faults }
         ensures later { self.old.faults ≤ self.new.faults }
+        ensures counted { self.new.faults ≡ next_call self.old.faults }
         ensures made { self.new.made ≡ self.old.made }
     {
         self.faults = self.faults.saturating_add(1);

@@ -133,6 +133,8 @@ impl Board for MemBoard {
         ensures fails { IsErr result ↔ Fails self.old.made self.old.fails self.old.ids changes.now }
         ensures failed { OnErr result (self.new.times ≡ self.old.times) }
         ensures counted { self.new.made ≡ next_call self.old.made }
+        ensures faultless { OnOk result (self.new.faults ≡ self.old.faults) }
+        ensures faulted { OnErr result (self.new.faults ≡ next_call self.old.faults) }
         ensures same_ids { self.new.ids ≡ self.old.ids }
         ensures same_fails { self.new.fails ≡ self.old.fails }
     {

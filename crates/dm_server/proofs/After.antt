@@ -1,7 +1,8 @@
--- What a table refuses after its history, and that it never refuses a true plan there.
-use Rattle.std.proofs.Common.{◌≡◌, ℕ, ◌<◌, ◌≤◌, List, length, take, fold, Ok, Err, refl, sym, ap, subst, ◌∙◌, arith}
+-- What a table refuses after its history, that it never refuses a true plan there, and what a pass has then seen.
+use Rattle.std.proofs.Common.{◌≡◌, ℕ, ◌<◌, ◌≤◌, true, false, List, [], ◌∷◌, ◌++◌, length, take, fold, Ok, Err, refl, sym, ap, subst, ◌∙◌, arith}
 use Rattle.std.proofs.lemmas.List.{take-append-le}
-use Rattle.std.specs.Prelude.{Result, IfErr}
+use Rattle.std.specs.Prelude.{Result, Option, Some, IfErr, IfOk}
+use Rattle.std.specs.Option.{IsSomeAnd}
 use mathlib.Core.List.{IsPrefix}
 use Rattle.dm_base.specs.declared.limits.TheConstants.{ENTRIES}
 use Rattle.dm_network.specs.Net.{Net}
@@ -11,18 +12,21 @@ use Rattle.dm_rows.specs.declared.messages.Message.{Message}
 use Rattle.dm_rows.specs.declared.messages.Message.TheVariants.{Adopt}
 use Rattle.dm_rows.specs.declared.messages.Refusal.{Refusal}
 use Rattle.dm_rows.specs.declared.messages.Refusal.TheVariants.{Range, UnknownEvent, UnknownActivity, UnknownChange, UnknownPair, Passed, NotPassed, Back, Cycle, Full, OutOfMemory}
-use Rattle.dm_rows.specs.History.{rows_at}
+use Rattle.dm_rows.specs.History.{rows_at, IsLegal}
 use Rattle.dm_rows.specs.Refuse.{Refuses, RefusesNothing}
 use Rattle.dm_rows.specs.Resolve.{after}
 use Rattle.dm_rows.specs.Rows.{RowsValue}
+use Rattle.dm_rows.specs.declared.rows.Snapshot.{Snapshot}
 use Rattle.dm_table.specs.Value.{TableValue, IsTable}
 use Rattle.dm_table.specs.Answers.{RefusesPost}
 use Rattle.dm_tree.specs.declared.plans.Plan.{Plan}
 use Rattle.dm_tree.specs.Plans.{whole_task, IsTruePlan}
 use Rattle.dm_tree.proofs.Admitted.{true_plans_are_admitted}
+use Rattle.dm_turn.specs.Passes.{PassValue, numbered}
 use Rattle.dm_turn.proofs.Fronts.{prefix_length}
 use Rattle.dm_server.specs.declared.kept.Base.{Base}
 use Rattle.dm_server.specs.Answers.{base_of, rows_after, RefusesAfter, IsTrueOf}
+use Rattle.dm_server.specs.Inside.Holding.{Gains}
 
 -- what a table refuses a message for is a refusal after its history
 refused_after : (table : TableValue) → IsTable table → (m : Message) (r : Refusal) → RefusesPost table.network table.rows (length table.history) m r →
@@ -86,3 +90,43 @@ only_memory base history m nothing (NotPassed e) h = absurd (nothing (NotPassed 
 only_memory base history m nothing (Back t) h = absurd (nothing (Back t) h)
 only_memory base history m nothing (Cycle ids) h = absurd (nothing (Cycle ids) h)
 only_memory base history m nothing (Full k) h = absurd (nothing (Full k) h)
+
+-- ---- what a pass has seen
+
+-- what holds of the base and the history of a table that is taken
+abbrev Holds : (Base → List Entry → Type 0) → PassValue Base → Type 0
+Holds F pass = IsSomeAnd pass.base (λ base. F base pass.seen)
+
+-- a pass that took a table has its base, and has seen its history
+pub holds_taken : (F : Base → List Entry → Type 0) (before held : PassValue Base) (base : Base) (history : List Entry) → held ≡ record before { holds = true; seen = history } →
+    before.base ≡ Some base → F base history → Holds F held
+holds_taken F before held base history took is h =
+    subst (Holds F) (sym took) (subst (λ (o : Option Base). IsSomeAnd o (λ b. F b history)) (sym is) h)
+
+-- and still so when it has given the table back
+pub holds_given : (F : Base → List Entry → Type 0) (before held now : PassValue Base) (base : Base) (history : List Entry) → held ≡ record before { holds = true; seen = history } →
+    before.base ≡ Some base → now ≡ record held { holds = false } → F base history → Holds F now
+holds_given F before held now base history took is gave h = subst (Holds F) (sym gave) (holds_taken F before held base history took is h)
+
+-- and so with one entry more, where that was entered
+pub holds_more : (F : Base → List Entry → Type 0) (before held added now : PassValue Base) (old new : TableValue) (entry : Entry) (n : ℕ) → held ≡ record before { holds = true; seen = old.history } →
+    before.base ≡ Some (base_of old) → Gains old new entry n →
+    ((e : Entry) → new.history ≡ held.seen ++ e ∷ [] → added ≡ record held { seen = new.history; mine = held.mine ++ numbered (length new.history) e ∷ [] }) →
+    now ≡ record added { holds = false } → F (base_of new) new.history → Holds F now
+holds_more F before held added now old new entry n took is gains adds gave h =
+    let seen : new.history ≡ held.seen ++ entry ∷ [] =
+    gains.gained ∙ ap (λ (xs : List Entry). xs ++ entry ∷ []) (sym (ap (λ (p : PassValue Base). p.seen) took)) in
+    let here : held.base ≡ Some (base_of new) = ap (λ (p : PassValue Base). p.base) took ∙ (is ∙ ap Some (sym gains.base)) in
+    subst (Holds F) (sym gave)
+    (subst (Holds F) (sym (adds entry seen))
+    (subst (λ (o : Option Base). IsSomeAnd o (λ b. F b new.history)) (sym here) h))
+
+-- a legal history
+abbrev pub IsLegalAfter : Base → List Entry → Type 0
+IsLegalAfter base history = IsLegal base.network base.start history
+
+-- what holds of a snapshot after the history of a table
+pub ok_holds : {E : Type 0} (F : Base → List Entry → Snapshot → Type 0) (before held now : PassValue Base) (base : Base) (history : List Entry) → held ≡ record before { holds = true; seen = history } →
+    before.base ≡ Some base → now ≡ record held { holds = false } → (answer : Result Snapshot E) → IfOk answer (F base history) → IfOk answer (λ snapshot. Holds (λ b h. F b h snapshot) now)
+ok_holds F before held now base history took is gave (Ok snapshot) h = holds_given (λ b l. F b l snapshot) before held now base history took is gave h
+ok_holds F before held now base history took is gave (Err e) h = tt

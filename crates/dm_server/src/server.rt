@@ -3,6 +3,7 @@ ghost use Rattle.std.specs.Prelude.{◌≡◌, ◌+◌, ◌-◌, ◌<◌, ◌≤
 ghost use mathlib.Core.List.{IsPrefix};
 ghost use Rattle.std.specs.Option.{ForSome, IsSomeAnd};
 ghost use Rattle.dm_base.specs.declared.limits.TheConstants.{PENALTY};
+ghost use Rattle.dm_rows.specs.Active.{HasNoCycle};
 ghost use Rattle.dm_rows.specs.History.{IsLegal};
 ghost use Rattle.dm_rows.specs.Rows.{IsSized};
 ghost use Rattle.dm_table.specs.Answers.{RefusesTime};
@@ -11,7 +12,6 @@ ghost use Rattle.dm_times.specs.Faults.{RefusesTimes};
 ghost use Rattle.dm_turn.specs.Passes.{longer, AreEntriesOf, AreAllAbove};
 ghost use Rattle.dm_server.specs.Answers.{base_of, rows_after, AreTimesAfter, ShowsTime, CostsAfter, RefusesAfter, RefusesAdopt, IsTrueOf, adopts, HasLooked, HasEntered};
 
-use crate::adopting::AdoptRefusal;
 use crate::holding::{adopt, copy_times, cost, enter, time};
 use crate::kept::Kept;
 use dm_base::{Cost, EventId, Secs};
@@ -19,7 +19,7 @@ use dm_network::Network;
 use dm_rows::{At, Entry, Refusal, Rows, Snapshot};
 use dm_settle::{NoTimes, Times};
 use dm_table::Table;
-use dm_tree::Plan;
+use dm_tree::{AdoptRefusal, Plan};
 use dm_turn::{Pass, Turn};
 use std::alloc::{AllocError, Global};
 use std::marker::Model;
@@ -66,6 +66,7 @@ impl<'n> Server<'n> {
           seen = [];
           mine = [];
         }) }
+        ensures no_cycle { OnOk result (HasNoCycle net.now start) }
         ensures refused { IfErr result (RefusesTimes net.now start) }
     {
         let table = match Table::new(alloc, net, start, penalty) {
@@ -109,12 +110,13 @@ impl<'n> Server<'n> {
         requires turn { pass.old.turn ≡ self.now.id }
         requires idle { pass.old.holds ≡ false }
         ensures entered { IfOk result (HasEntered pass.old pass.new entry) }
-        ensures legal { OnOk result (IsSomeAnd pass.new.base (λ base. IsLegal base.network base.start pass.new.seen)) }
+        ensures legal { IsSomeAnd pass.new.base (λ base. IsLegal base.network base.start pass.new.seen) }
         ensures looked { OnErr result (HasLooked pass.old pass.new) }
         ensures number { IfErr result (λ at. at.entry ≡ length pass.new.seen) }
         ensures refused { IfErr result (λ at. IsSomeAnd pass.new.base (λ base. RefusesAfter base pass.new.seen entry.message at.why)) }
     {
         let mut held = self.turn.take(rt, pass);
+        held.state.table.sound();
         let answer = enter(&mut held.state.table, entry);
         match answer {
             Ok(n) => {
@@ -141,12 +143,14 @@ impl<'n> Server<'n> {
         requires turn { pass.old.turn ≡ self.now.id }
         requires idle { pass.old.holds ≡ false }
         ensures looked { HasLooked pass.old pass.new }
+        ensures legal { IsSomeAnd pass.new.base (λ base. IsLegal base.network base.start pass.new.seen) }
         ensures number { IfOk result (λ answer. answer.1 ≡ length pass.new.seen) }
         ensures time { IfOk result (λ answer. IsSomeAnd pass.new.base (λ base. ShowsTime base pass.new.seen id answer.0)) }
         ensures refused_at { IfErr result (λ at. at.entry ≡ length pass.new.seen) }
         ensures refused { IfErr result (λ at. IsSomeAnd pass.new.base (λ base. RefusesTime base.network id at.why)) }
     {
         let held = self.turn.take(rt, pass);
+        held.state.table.sound();
         let entry = held.state.table.len();
         let answer = time(&held.state.table, id);
         self.turn.give(pass, held);
@@ -161,10 +165,12 @@ impl<'n> Server<'n> {
         requires turn { pass.old.turn ≡ self.now.id }
         requires idle { pass.old.holds ≡ false }
         ensures looked { HasLooked pass.old pass.new }
+        ensures legal { IsSomeAnd pass.new.base (λ base. IsLegal base.network base.start pass.new.seen) }
         ensures number { result.1 ≡ length pass.new.seen }
         ensures cost { IsSomeAnd pass.new.base (λ base. CostsAfter base pass.new.seen result.0) }
     {
         let held = self.turn.take(rt, pass);
+        held.state.table.sound();
         let entry = held.state.table.len();
         let cost = cost(&held.state.table);
         self.turn.give(pass, held);
@@ -176,9 +182,11 @@ impl<'n> Server<'n> {
         requires turn { pass.old.turn ≡ self.now.id }
         requires idle { pass.old.holds ≡ false }
         ensures looked { HasLooked pass.old pass.new }
+        ensures legal { IsSomeAnd pass.new.base (λ base. IsLegal base.network base.start pass.new.seen) }
         ensures number { result ≡ length pass.new.seen }
     {
         let held = self.turn.take(rt, pass);
+        held.state.table.sound();
         let entry = held.state.table.len();
         self.turn.give(pass, held);
         entry
@@ -190,10 +198,12 @@ impl<'n> Server<'n> {
         requires idle { pass.old.holds ≡ false }
         requires size { ForSome pass.old.base (λ base. length into.old ≡ length base.network.events) }
         ensures looked { HasLooked pass.old pass.new }
+        ensures legal { IsSomeAnd pass.new.base (λ base. IsLegal base.network base.start pass.new.seen) }
         ensures number { result ≡ length pass.new.seen }
         ensures times { IsSomeAnd pass.new.base (λ base. AreTimesAfter base pass.new.seen into.new) }
     {
         let held = self.turn.take(rt, pass);
+        held.state.table.sound();
         let entry = held.state.table.len();
         copy_times(&held.state.table, into);
         self.turn.give(pass, held);
@@ -209,8 +219,11 @@ impl<'n> Server<'n> {
         requires turn { pass.old.turn ≡ self.now.id }
         requires idle { pass.old.holds ≡ false }
         ensures looked { HasLooked pass.old pass.new }
+        ensures legal { IsSomeAnd pass.new.base (λ base. IsLegal base.network base.start pass.new.seen) }
         ensures number { IfOk result (λ snapshot. snapshot.entry ≡ length pass.new.seen) }
         ensures rows { IfOk result (λ snapshot. IsSomeAnd pass.new.base (λ base. snapshot.rows ≡ rows_after base pass.new.seen)) }
+        ensures sized { IfOk result (λ snapshot. IsSomeAnd pass.new.base (λ base. IsSized base.network snapshot.rows)) }
+        ensures no_cycle { IfOk result (λ snapshot. IsSomeAnd pass.new.base (λ base. HasNoCycle base.network snapshot.rows)) }
     {
         let held = self.turn.take(rt, pass);
         held.state.table.sound();
@@ -234,11 +247,13 @@ impl<'n> Server<'n> {
         requires idle { pass.old.holds ≡ false }
         requires plan { ForSome pass.old.base (λ base. IsTrueOf base pass.old.seen plan.now) }
         ensures entered { IfOk result (HasEntered pass.old pass.new (adopts plan.now feed line)) }
+        ensures legal { IsSomeAnd pass.new.base (λ base. IsLegal base.network base.start pass.new.seen) }
         ensures number { IfOk result (λ n. n ≡ plan.now.entry + 1) }
         ensures looked { OnErr result (HasLooked pass.old pass.new) }
         ensures refused { IfErr result (RefusesAdopt plan.now pass.new.seen) }
     {
         let mut held = self.turn.take(rt, pass);
+        held.state.table.sound();
         let answer = adopt(self.alloc, &mut held.state.table, plan, feed, line);
         match answer {
             Ok(n) => {

@@ -1,9 +1,10 @@
 use Rattle.std.proofs.Common.{◌≡◌, ◌+◌, List, length, map, refl, sym, subst}
 use Rattle.std.proofs.lemmas.Result.{IfOk-weaker}
 use Rattle.dm_cert.specs.declared.replies.FeedLog.{FeedLog}
+use Rattle.dm_desk.proofs.Asking.{still_plans}
 use Rattle.dm_rounds.specs.Rounds.{AnswersFeeds}
 use Rattle.dm_rounds.specs.Inside.Jobs.{log_in}
-use Rattle.dm_rounds.proofs.Closing.{first_round, can_read_all, ends_rounds, is_some_none, ended_all}
+use Rattle.dm_rounds.proofs.Closing.{first_round, can_read_all, are_true_all, ends_rounds, is_some_none, ended_all}
 use Rattle.dm_rounds.proofs.rounds.answer_feeds.Goals as goal
 use Rattle.dm_rounds.proofs.rounds.answer_feeds.Goals.{in-None, in-Some+then-have_ended}
 
@@ -17,6 +18,13 @@ loop-init g c = record {
 pub answer_round-requires-clause-can_read : goal.answer_round-requires-clause-can_read
 answer_round-requires-clause-can_read g c =
     can_read_all g.S.Source.left g.S.Source.is_sound c.args.batch c.requires.some c.args.feeds.items (g.D.Desk.value c.args.desk.now) c.loop.invariant.rounds c.loop.invariant.low (g.D.Desk.value c.loop.desk) c.loop.jobs.items 0 c.loop.invariant.state
+
+pub answer_round-requires-clause-are_true : goal.answer_round-requires-clause-are_true
+answer_round-requires-clause-are_true g c =
+    are_true_all g.S.Source.left g.S.Source.is_sound c.args.batch c.requires.some c.args.feeds.items (g.D.Desk.value c.args.desk.now) c.loop.invariant.rounds c.loop.invariant.low (g.D.Desk.value c.loop.desk) c.loop.jobs.items 0 c.loop.invariant.state
+
+pub answer_round-requires-clause-plans : goal.answer_round-requires-clause-plans
+answer_round-requires-clause-plans g c = still_plans (g.P.Planner.value c.args.planner.now) (g.D.Desk.value c.args.desk.now) (g.D.Desk.value c.loop.desk) c.loop.invariant.state.goes_on c.requires.plans
 
 pub loop-preserved : goal.loop-preserved
 loop-preserved g c = record {

@@ -1,14 +1,11 @@
-use Rattle.std.proofs.Common.{sym, subst}
-use Rattle.std.specs.Prelude.{Option}
-use Rattle.std.specs.Option.{IsSomeAnd}
-use Rattle.dm_turn.specs.Passes.{PassValue}
-use Rattle.dm_server.specs.declared.kept.Base.{Base}
-use Rattle.dm_server.specs.Answers.{CostsAfter}
+use Rattle.dm_server.specs.Answers.{base_of, CostsAfter}
+use Rattle.dm_server.proofs.After.{holds_given, IsLegalAfter}
 use Rattle.dm_server.proofs.server.Server.cost.Goals as goal
 
 pub returns-clause-cost : goal.returns-clause-cost
 returns-clause-cost g c =
-    let table = c.take-held.result.state.table in
-    subst (λ (p : PassValue Base). IsSomeAnd p.base (λ base. CostsAfter base p.seen c.cost-cost.result)) (sym c.give.ensures)
-    (subst (λ (p : PassValue Base). IsSomeAnd p.base (λ base. CostsAfter base p.seen c.cost-cost.result)) (sym c.take-held.ensures.held)
-    (subst (λ (o : Option Base). IsSomeAnd o (λ base. CostsAfter base table.history c.cost-cost.result)) (sym c.take-held.ensures.base) c.cost-cost.ensures))
+    holds_given (λ base history. CostsAfter base history c.cost-cost.result) c.args.pass.now c.take-held.new.pass c.give.new.pass (base_of c.take-held.result.state.table) c.take-held.result.state.table.history c.take-held.ensures.held c.take-held.ensures.base c.give.ensures c.cost-cost.ensures
+
+pub returns-clause-legal : goal.returns-clause-legal
+returns-clause-legal g c =
+    holds_given IsLegalAfter c.args.pass.now c.take-held.new.pass c.give.new.pass (base_of c.take-held.result.state.table) c.take-held.result.state.table.history c.take-held.ensures.held c.take-held.ensures.base c.give.ensures c.sound.ensures.table.legal
