@@ -22,7 +22,7 @@ use Rattle.dm_relax.proofs.Setting.{in_front, differs_in_none, differs_with}
 use Rattle.dm_search.specs.Finish.{IsKnown}
 use Rattle.dm_search.specs.Laws.{IsTask}
 use Rattle.dm_search.specs.Inside.Ending.{closed, carried, least_with, bound_of, is_open, mark_of, IsPlanOf}
-use Rattle.dm_search.specs.Inside.Searching.{AreBest, IsSearched}
+use Rattle.dm_search.specs.Inside.Searching.{IsUsedUp, Stands}
 use Rattle.dm_search.proofs.Leaves.{Fact, HasLowLeaf, has_low_leaf, from_map, violated_is_undecided}
 use Rattle.dm_search.proofs.Optimal.{allowed_there, chosen, has_base}
 use Rattle.dm_search.proofs.Advancing.{station, leaf_visit}
@@ -167,8 +167,8 @@ was_open best c (Open k) e = by_cost (leb best k) e
     by_cost false e = e
 was_open best c Hole e = cc
 
-module _ (task : Task) (is : IsTask task) (nodes : List Node) (path : List Decision) (cost : ℕ) (best : List Decision)
-    (searched : IsSearched task cost nodes [] path) (are : AreBest task best cost)
+module _ (task : Task) (is : IsTask task) (nodes : List Node) (cost limit : ℕ) (best : List Decision) (stands : Stands task nodes best cost)
+    (used : (c : ℕ) → Contains nodes (Open c) → IsUsedUp task.budget (length nodes) limit c) (low : cost ≤ limit)
     (shape : Shape) (in_preorder : preorder shape ≡ map (closed cost) nodes) (proper : IsProper shape) (whole : IsWhole shape) where
   -- every node is as a true plan asks
   final_at : (q : List Decision) (m : Node) → StandsAt shape q m → IsFinal task cost q m
@@ -181,7 +181,7 @@ module _ (task : Task) (is : IsTask task) (nodes : List Node) (path : List Decis
       subst (λ xs. Contains xs (station q m))
       (sym all ∙ (ap (visits ([] ∷ [])) in_preorder ∙ closed_visits cost ([] ∷ []) nodes)) among in
       let from = from_map (reseated cost) (seen nodes) (station q m) there in
-      subst (λ (l : Leaf). IsFinal task cost l.path l.node) from.2 (final task cost from.0.path from.0.node (searched.settled from.0 from.1))
+      subst (λ (l : Leaf). IsFinal task cost l.path l.node) from.2 (final task cost from.0.path from.0.node (stands.known from.0 from.1))
 
   fact_at : (q : List Decision) (n : Node) → IsFinal task cost q n → Fact task (task.base ++ q) n
   fact_at q (Inner c) inner =
@@ -199,6 +199,7 @@ module _ (task : Task) (is : IsTask task) (nodes : List Node) (path : List Decis
   low_leaf : HasLowLeaf shape cost
   low_leaf =
       let r : RowsValue = with_decisions task.net task.rows best in
+      let are = stands.are_best in
       let list = chosen task is best are.choices in
       has_low_leaf task is.network is.sized r (differs_with task.net task.rows task.rows best (differs_in_none task.rows)) are.costs.no_cycle cost are.costs.cost
       shape task.base proper whole (λ q n s. fact_at q n (final_at q n s)) is.base (has_base task is best list.0 list.1)
@@ -247,12 +248,13 @@ module _ (task : Task) (is : IsTask task) (nodes : List Node) (path : List Decis
   used_up : list_any is_open (preorder shape) ≡ true → task.budget < length (preorder shape) + 2
   used_up is_so =
       let o = some_open (preorder shape) is_so in
+      let at = stands_somewhere shape (Open o.0) o.1 in
+      let less = (final_at at.0 (Open o.0) at.1).less in
       let there : Contains (map (closed cost) nodes) (Open o.0) = subst (λ ns. Contains ns (Open o.0)) in_preorder o.1 in
       let from = from_map (closed cost) nodes (Open o.0) there in
       let was : Contains nodes (Open o.0) = subst (Contains nodes) (was_open cost o.0 from.0 from.2) from.1 in
-      let used = searched.used o.0 was in
       let size : length (preorder shape) ≡ length nodes = ap length in_preorder ∙ length-map nodes (closed cost) in
-      omega (arith, used, size)
+      elim (used o.0 was) [ inl full ↦ omega (arith, full, size) | inr dear ↦ absurd (omega (arith, dear, less, low)) ]
 
   marked_optimal : (b : Bool) → list_any is_open (preorder shape) ≡ b → ((if b then OpenMark else Optimal) ≡ Optimal) ↔ HasNoOpen shape
   marked_optimal true is_so =
@@ -264,16 +266,18 @@ module _ (task : Task) (is : IsTask task) (nodes : List Node) (path : List Decis
   marked_open true is_so e = used_up is_so
   marked_open false isnt e = cc
 
-pub plan_is_true : (task : Task) → IsTask task → (entry : ℕ) (nodes : List Node) (path : List Decision) (cost : ℕ) (best : List Decision) (plan : Plan) →
-    IsSearched task cost nodes [] path → AreBest task best cost → IsPlanOf entry nodes best cost plan → IsTruePlan task plan
-plan_is_true task is entry nodes path cost best plan searched are of =
+pub plan_is_true : (task : Task) → IsTask task → (entry : ℕ) (nodes : List Node) (cost limit : ℕ) (best : List Decision) (plan : Plan) →
+    Stands task nodes best cost → ((c : ℕ) → Contains nodes (Open c) → IsUsedUp task.budget (length nodes) limit c) → cost ≤ limit →
+    IsPlanOf entry nodes best cost plan → IsTruePlan task plan
+plan_is_true task is entry nodes cost limit best plan stands used low of =
     let t = of.whole in
+    let are = stands.are_best in
     let at : preorder t.shape ≡ map (closed cost) nodes = t.in_preorder ∙ of.of_nodes in
-    let final = final_at task is nodes path cost best searched are t.shape at t.proper t.whole in
+    let final = final_at task is nodes cost limit best stands used low t.shape at t.proper t.whole in
     let bound : plan.bound ≡ bound_of cost (preorder t.shape) = of.bounded ∙ ap (bound_of cost) (sym t.in_preorder) in
     let mark : plan.mark ≡ mark_of (preorder t.shape) = of.marked ∙ ap mark_of (sym t.in_preorder) in
     let b : Bool = list_any is_open (preorder t.shape) in
-    let optimal = marked_optimal task is nodes path cost best searched are t.shape at t.proper t.whole b refl in
+    let optimal = marked_optimal task is nodes cost limit best stands used low t.shape at t.proper t.whole b refl in
     record {
       choices = rw of.with_choices are.choices;
       differ = rw of.with_choices are.differ;
@@ -286,14 +290,16 @@ plan_is_true task is entry nodes path cost best plan searched are of =
       cycles = λ p s. final p Cycle s;
       bounds = λ p c s. rw of.of_cost (final p (Bound c) s);
       opens = λ p c s. rw of.of_cost (final p (Open c) s);
-      bound = rw bound (least_of_leaves task is nodes path cost best searched are t.shape at t.proper t.whole (bound_of cost (preorder t.shape)) (least_carried cost (preorder t.shape)));
+      bound = rw bound
+          (least_of_leaves task is nodes cost limit best stands used low t.shape at t.proper t.whole (bound_of cost (preorder t.shape))
+          (least_carried cost (preorder t.shape)));
       mark = (λ e. optimal.0 (sym mark ∙ e), λ none. mark ∙ optimal.1 none);
       size =
-          let few = searched.few in
+          let few = stands.few in
           let size : length plan.tree ≡ length nodes = ap length of.of_nodes ∙ length-map nodes (closed cost) in
           omega (arith, few, size);
       used = λ e.
-          let used = marked_open task is nodes path cost best searched are t.shape at t.proper t.whole b refl (sym mark ∙ e) in
+          let used = marked_open task is nodes cost limit best stands used low t.shape at t.proper t.whole b refl (sym mark ∙ e) in
           let size : length (preorder t.shape) ≡ length plan.tree = ap length t.in_preorder in
           omega (arith, used, size);
     }

@@ -1,5 +1,5 @@
 -- What one step finds is what is known of a leaf.
-use Rattle.std.proofs.Common.{◌≡◌, ℕ, ◌+◌, ◌<◌, ◌≤◌, true, List, refl, sym, subst, ◌∙◌, inl, inr, arith, None, slice_get, lt-ltb}
+use Rattle.std.proofs.Common.{◌≡◌, ℕ, ◌<◌, ◌≤◌, true, List, refl, sym, subst, ◌∙◌, inl, inr, arith, None, slice_get, lt-ltb}
 use Rattle.std.specs.Prelude.{Contains}
 use Rattle.std.proofs.lemmas.List.Elements.{Contains-append_cases}
 use Rattle.std.proofs.lemmas.Option.{slice_get-get_or}
@@ -40,14 +40,14 @@ first_of_none xs x none h =
     cc
 
 module _ (net : Net) (network : IsNetwork net) (rows : RowsValue) (sized : IsSized net rows) (penalty budget : ℕ) (path : List Decision)
-    (list : IsChoiceList net rows path) (best total : ℕ) where
+    (list : IsChoiceList net rows path) (best ceiling : ℕ) where
   abbrev task : Task
   task = whole_task net rows penalty budget
 
-  pub found_cycle : HasRelaxedCycle net rows path → IsSettled task path best total Cycle
+  pub found_cycle : HasRelaxedCycle net rows path → IsSettled task path best ceiling Cycle
   found_cycle h = record { is_leaf = refl; known = record { cycle = h.cycle; is_cycle = h.is_cycle }; used = λ c e. cc }
 
-  pub found_bound : (c : ℕ) → IsPruned net rows path penalty best c → IsSettled task path best total (Bound c)
+  pub found_bound : (c : ℕ) → IsPruned net rows path penalty best c → IsSettled task path best ceiling (Bound c)
   found_bound c h =
       record {
         is_leaf = refl;
@@ -85,15 +85,15 @@ module _ (net : Net) (network : IsNetwork net) (rows : RowsValue) (sized : IsSiz
         violated = got_is_in (violated_choices_of net rows path h.times) 0 choice h.first;
       }
 
-  pub found_open : (c : ℕ) (choice : Choice) → IsBranch net rows path penalty best c choice → budget < total + 2 →
-      IsSettled task path best total (Open c)
-  found_open c choice h full =
-      record { is_leaf = refl; known = (choice, violated_there c choice h); used = λ k e. full }
+  pub found_open : (c : ℕ) (choice : Choice) → IsBranch net rows path penalty best c choice → ceiling ≤ c →
+      IsSettled task path best ceiling (Open c)
+  found_open c choice h dear =
+      record { is_leaf = refl; known = (choice, violated_there c choice h); used = λ k e. let same : c ≡ k = cc in omega arith }
 
   pub found_split : (c : ℕ) (choice : Choice) (old : List Decision) → IsBranch net rows path penalty best c choice → AreBest task old best →
-      total + 2 ≤ budget → IsSplit task path total choice
+      c < ceiling → IsSplit task path ceiling choice
   unfolding violated_there
-  found_split c choice old h are room =
+  found_split c choice old h are less =
       let v = violated_there c choice h in
       let undecided = violated_is_undecided net rows path h.times choice v.violated in
       record {
@@ -107,5 +107,5 @@ module _ (net : Net) (network : IsNetwork net) (rows : RowsValue) (sized : IsSiz
           cheaper = let a = h.less in let b = are.no_dearer in omega arith;
         };
         ordered = free_is_ordered net network rows choice undecided.free;
-        room = room;
+        below = omega arith;
       }

@@ -1,5 +1,5 @@
 -- A start is a search that has settled nothing.
-use Rattle.std.proofs.Common.{◌≡◌, ℕ, ◌≤◌, true, List, [], ◌∷◌, ◌++◌, refl, sym, ap, subst, ◌∙◌, inl, inr, arith, append-nil}
+use Rattle.std.proofs.Common.{◌≡◌, ℕ, ◌≤◌, true, List, [], ◌∷◌, refl, sym, ap, subst, ◌∙◌, inl, inr, arith, append-nil}
 use Rattle.std.specs.Prelude.{Contains}
 use Rattle.dm_network.specs.Net.{Net}
 use Rattle.dm_network.specs.Start.{IsNetwork}
@@ -7,7 +7,7 @@ use Rattle.dm_rows.specs.declared.messages.Choice.{Choice}
 use Rattle.dm_rows.specs.declared.messages.Decision.{Decision}
 use Rattle.dm_rows.specs.Active.{HasNoCycle, is_active}
 use Rattle.dm_rows.specs.Cost.{Costs, cost_of}
-use Rattle.dm_rows.specs.Decide.{IsChoiceList, with_decisions, free_choices_of}
+use Rattle.dm_rows.specs.Decide.{with_decisions, free_choices_of}
 use Rattle.dm_rows.specs.Rows.{RowsValue}
 use Rattle.dm_rows.proofs.AsGraph.{active_enter_no_passed}
 use Rattle.dm_rows.proofs.Holding.{least_exists_without_cycle}
@@ -19,17 +19,15 @@ use Rattle.dm_tree.specs.Inside.Filling.{fills, visits}
 use Rattle.dm_tree.proofs.Filled.{filled}
 use Rattle.dm_tree.proofs.Shown.{one_least}
 use Rattle.dm_tree.proofs.Standing.{visits_below, visits_filled, among_stands}
-use Rattle.dm_relax.proofs.Setting.{in_front}
 use Rattle.dm_search.specs.Finish.{IsKnown, IsStart, AHoleIsAStart}
-use Rattle.dm_search.specs.Laws.{IsTask}
-use Rattle.dm_search.specs.Inside.Searching.{AreBest, IsSearched}
+use Rattle.dm_search.specs.Inside.Searching.{AreBest, Stands}
 
 -- rows have one cost
 one_cost : (net : Net) (rows : RowsValue) (penalty a b : ℕ) → Costs net rows penalty a → Costs net rows penalty b → a ≡ b
 one_cost net rows penalty a b p q =
     p.cost ∙ (ap (λ x. cost_of net rows x penalty) (one_least net rows (is_active net rows) p.times q.times p.least q.least) ∙ sym q.cost)
 
-pub best_at_start : (task : Task) → IsNetwork task.net → (nodes : List Node) (best : List Decision) (cost : ℕ) → IsStart task nodes best →
+best_at_start : (task : Task) → IsNetwork task.net → (nodes : List Node) (best : List Decision) (cost : ℕ) → IsStart task nodes best →
     Costs task.net (with_decisions task.net task.rows best) task.penalty cost → AreBest task best cost
 best_at_start task network nodes best cost s costs =
     let own = least_exists_without_cycle task.net task.rows (is_active task.net task.rows) network.formed.ends_are_known
@@ -46,35 +44,21 @@ best_at_start task network nodes best cost s costs =
       no_dearer = s.no_dearer cost (cost_of task.net task.rows own.0 task.penalty) with of_rows;
     }
 
-pub searched_at_start : (task : Task) → IsTask task → (given nodes rest : List Node) (path best : List Decision) (cost : ℕ) → IsStart task given best →
-    CostsWith task best cost → nodes ≡ [] → path ≡ [] → rest ≡ given → IsSearched task cost nodes rest path
-searched_at_start task is given nodes rest path best cost s costs none root all = rw (none, root, all) at_root
-  where
-    at_root : IsSearched task cost [] given []
-    at_root =
-        let fill : fills true 0 given ≡ true =
-        subst (λ ns. fills true 0 ns ≡ true) (append-nil (preorder s.shape) ∙ s.in_preorder) (filled true s.shape 0 [] s.proper (λ h. cc)) in
-        let visited : visits ([] ∷ []) given ≡ visits_below [] s.shape =
-        subst (λ ns. visits ([] ∷ []) ns ≡ visits_below [] s.shape) (append-nil (preorder s.shape) ∙ s.in_preorder)
-        (visits_filled [] [] s.shape [] s.proper ∙ append-nil (visits_below [] s.shape)) in
-        let few = s.few in
-        record {
-          settled = λ l h. absurd (omega (arith, h.1));
-          few = omega (arith, few);
-          used = λ c h. absurd (omega (arith, h.1));
-          going = inr (record {
-            leads_on = λ ns. refl;
-            fill = fill;
-            known = λ l h.
-                let b = among_stands [] s.shape l (subst (λ xs. Contains xs l) visited h) in
-                subst (λ p. IsKnown task cost p l.node) (sym b.is) (s.known cost costs b.rest l.node b.stands);
-            lists = λ q h.
-                elim (in_front [] q [] h) [
-                  | inl e ↦ subst (λ p. IsChoiceList task.net task.rows (task.base ++ p)) e (subst (IsChoiceList task.net task.rows) (sym (append-nil task.base)) is.base)
-                  | inr r ↦ absurd (omega (arith, r.1))
-                ];
-          });
-        }
+pub stands_at_start : (task : Task) → IsNetwork task.net → (nodes : List Node) (best : List Decision) (cost : ℕ) → IsStart task nodes best →
+    Costs task.net (with_decisions task.net task.rows best) task.penalty cost → Stands task nodes best cost
+stands_at_start task network nodes best cost s costs =
+    let with : CostsWith task best cost = record { no_cycle = s.no_cycle_with; cost = costs } in
+    let visited : visits ([] ∷ []) nodes ≡ visits_below [] s.shape =
+    subst (λ ns. visits ([] ∷ []) ns ≡ visits_below [] s.shape) (append-nil (preorder s.shape) ∙ s.in_preorder)
+    (visits_filled [] [] s.shape [] s.proper ∙ append-nil (visits_below [] s.shape)) in
+    record {
+      known = λ l h.
+          let b = among_stands [] s.shape l (subst (λ xs. Contains xs l) visited h) in
+          subst (λ p. IsKnown task cost p l.node) (sym b.is) (s.known cost with b.rest l.node b.stands);
+      whole = subst (λ ns. fills true 0 ns ≡ true) (append-nil (preorder s.shape) ∙ s.in_preorder) (filled true s.shape 0 [] s.proper (λ h. cc));
+      few = s.few;
+      are_best = best_at_start task network nodes best cost s costs;
+    }
 
 some_of_none : (xs : List Choice) → AreSomeOf xs []
 some_of_none [] = refl

@@ -7,9 +7,10 @@ ghost use Rattle.dm_rows.specs.Cost.{Costs};
 ghost use Rattle.dm_rows.specs.Decide.{IsChoiceList, with_decisions};
 ghost use Rattle.dm_tree.specs.Plans.{whole_task, IsTruePlan};
 ghost use Rattle.dm_search.specs.Finish.{IsStart};
+ghost use Rattle.dm_search.specs.Inside.Searching.{Stands};
 ghost use Rattle.dm_search.specs.Inside.Ending.{closed, carried, least_with, bound_of, is_open, mark_of, IsPlanOf};
 
-use crate::searching::{Best, Search, search_all};
+use crate::searching::{Best, Standing, pass};
 use dm_base::{Cost, Items};
 use dm_network::Network;
 use dm_relax::with_decisions;
@@ -18,9 +19,12 @@ use dm_times::{cost, least};
 use dm_tree::{Mark, Node, Partial, Plan, Tree};
 use std::alloc::{AllocError, Global};
 
+/// How often a tree is gone through before the limit is lifted.
+const PASSES: usize = 256;
+
 /// A true plan for the rows of a snapshot, with the snapshot's entry and a tree of at most `budget` nodes, of which there are
-/// 1 to 16,384. It searches each hole of the tree that it is given, and each open leaf while there is room for two nodes more,
-/// in preorder. The choices that it begins with cost no more than the rows by themselves; a tree of one hole and no choices
+/// 1 to 16,384. It searches each hole of the tree that it is given, and each open leaf while there is room for two nodes more:
+/// first those that cost least. The choices that it begins with cost no more than the rows by themselves; a tree of one hole and no choices
 /// will do where the rows have no cycle. The penalty is in seconds for each passenger, at most 1,000,000.
 pub fn finish(
     alloc: Global,
@@ -41,17 +45,75 @@ pub fn finish(
     net.sound();
     let cost = cost_with(alloc, net, penalty, &snapshot.rows, &best)?;
     let choices = Items::from_vec(best);
-    let mut search = Search::new(alloc, partial.as_slice())?;
-    let best = search_all(
-        alloc,
-        net,
-        penalty,
-        snapshot,
-        &mut search,
-        Best { choices, cost },
-        budget,
-    )?;
-    plan_of(alloc, snapshot.entry, &search.nodes, best)
+    let standing = Standing {
+        nodes: Vec::from_slice(alloc, partial.as_slice())?,
+        best: Best { choices, cost },
+    };
+    let standing = passes(alloc, net, penalty, snapshot, standing, budget)?;
+    let limit = standing.best.cost;
+    let standing = pass(alloc, net, penalty, snapshot, standing, budget, limit)?;
+    plan_of(alloc, snapshot.entry, standing)
+}
+
+/// Goes through the tree with a limit that rises from the least cost of an open leaf, so that the budget is spent where least
+/// is known.
+fn passes(
+    alloc: Global,
+    net: &Network,
+    penalty: u64,
+    snapshot: &Snapshot,
+    standing: Standing,
+    budget: u64,
+) -> Result<Standing, AllocError>
+    requires sized { IsSized net.now snapshot.now.rows }
+    requires penalty { penalty ≤ PENALTY }
+    requires budget { budget ≤ BUDGET }
+    requires stands { Stands (whole_task net.now snapshot.now.rows penalty budget) standing.nodes.items standing.best.choices standing.best.cost }
+    ensures { IfOk result (λ s. Stands (whole_task net.now snapshot.now.rows penalty budget) s.nodes.items s.best.choices s.best.cost) }
+{
+    let mut standing = standing;
+    for _ in 0..PASSES {
+        let Some(limit) = next_limit(&standing.nodes, standing.best.cost, budget) else {
+            return Ok(standing);
+        };
+        standing = pass(alloc, net, penalty, snapshot, standing, budget, limit)?;
+    }
+    Ok(standing)
+}
+
+/// The limit of the next pass: a sixteenth of the way from the least cost of an open leaf up to the best cost; 0 where there
+/// are holes, of which the costs are not known yet; and None where no open leaf costs less or two nodes more have no room.
+fn next_limit(nodes: &[Node], best: Cost, budget: u64) -> Option<Cost> {
+    if nodes.iter().any(|node| matches!(node, Node::Hole)) {
+        return Some(0);
+    }
+    let low = least_open(nodes, best);
+    let room = nodes.len() as u128 + 2 <= budget as u128;
+    if low < best && room {
+        Some(low + (best - low) / 16 + 1)
+    } else {
+        None
+    }
+}
+
+/// The least cost of an open leaf, or that of the best choices where none costs less.
+fn least_open(nodes: &[Node], best: Cost) -> Cost
+    ensures { result ≤ best }
+{
+    let mut low = best;
+    for node in nodes {
+        low = lower(low, *node);
+    }
+    low
+}
+
+fn lower(low: Cost, node: Node) -> Cost
+    ensures { result ≤ low }
+{
+    match node {
+        Node::Open(cost) => low.min(cost),
+        Node::Inner(_) | Node::Cycle | Node::Bound(_) | Node::Hole => low,
+    }
 }
 
 /// What the rows cost with choices with which they have no cycle.
@@ -76,10 +138,11 @@ fn cost_with(
 }
 
 /// The plan with these choices and nodes.
-fn plan_of(alloc: Global, entry: u32, nodes: &[Node], best: Best) -> Result<Plan, AllocError>
-    ensures { IfOk result (IsPlanOf entry nodes.now best.choices best.cost) }
+fn plan_of(alloc: Global, entry: u32, standing: Standing) -> Result<Plan, AllocError>
+    ensures { IfOk result (IsPlanOf entry standing.nodes.items standing.best.choices standing.best.cost) }
 {
-    let closed = closed_nodes(alloc, nodes, best.cost)?;
+    let Standing { nodes, best } = standing;
+    let closed = closed_nodes(alloc, &nodes, best.cost)?;
     let bound = bound_of(&closed, best.cost);
     let mark = mark_of(&closed);
     // Settled nodes are a whole tree, so that only memory may be missing.

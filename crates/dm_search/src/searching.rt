@@ -1,15 +1,15 @@
 //! A tree that is searched node by node in preorder.
-ghost use Rattle.std.specs.Prelude.{ℕ, ◌≡◌, ◌∷◌, ◌++◌, ◌+◌, ◌⊎◌, ◌≤◌, [], length, reverse, List, IfOk, OnOk, MatchBool};
+ghost use Rattle.std.specs.Prelude.{ℕ, ◌≡◌, ◌∷◌, ◌++◌, ◌+◌, ◌⊎◌, ◌≤◌, [], length, reverse, List, Contains, IfOk, OnOk, MatchBool};
 ghost use Rattle.dm_base.specs.declared.limits.TheConstants.{PENALTY, BUDGET};
 ghost use Rattle.dm_rows.specs.declared.messages.Decision.{Decision as DecisionValue};
 ghost use Rattle.dm_rows.specs.Rows.{IsSized};
 ghost use Rattle.dm_rows.specs.Decide.{IsChoiceList};
-ghost use Rattle.dm_tree.specs.declared.forms.Node.TheVariants.{Inner as InnerNode, Hole as HoleNode};
+ghost use Rattle.dm_tree.specs.declared.forms.Node.TheVariants.{Inner as InnerNode, Open as OpenNode, Hole as HoleNode};
 ghost use Rattle.dm_tree.specs.Trees.{first_decision, choice_in};
 ghost use Rattle.dm_tree.specs.Plans.{whole_task};
 ghost use Rattle.dm_tree.specs.Inside.Filling.{is_first_decision, other_decision, pending};
 ghost use Rattle.dm_search.specs.Finish.{IsKnown};
-ghost use Rattle.dm_search.specs.Inside.Searching.{AreBest, IsSearched, IsFound, IsAdvanced};
+ghost use Rattle.dm_search.specs.Inside.Searching.{AreBest, IsUsedUp, IsSearched, Stands, IsCeiling, IsFound, IsAdvanced};
 
 use crate::{Outcome, step};
 use dm_base::{Cost, Items};
@@ -25,13 +25,20 @@ pub(crate) struct Best {
     pub(crate) cost: Cost,
 }
 
+/// The nodes of a tree in preorder, and the best choices so far.
+#[derive(Drop)]
+pub(crate) struct Standing {
+    pub(crate) nodes: Vec<Node>,
+    pub(crate) best: Best,
+}
+
 /// The first nodes of a tree in preorder, the path to the next one, and the nodes from there on, of which the next one stands
 /// last.
 #[derive(Drop)]
-pub(crate) struct Search {
-    pub(crate) nodes: Vec<Node>,
-    pub(crate) path: Vec<Decision>,
-    pub(crate) due: Vec<Node>,
+struct Search {
+    nodes: Vec<Node>,
+    path: Vec<Decision>,
+    due: Vec<Node>,
 }
 
 /// What is found at a leaf.
@@ -49,18 +56,18 @@ pub(crate) enum Found {
 
 impl Search {
     /// Nothing is settled: the root is the next node.
-    pub(crate) fn new(alloc: Global, nodes: &[Node]) -> Result<Search, AllocError>
-        ensures nodes { IfOk result (λ s. s.nodes.items ≡ []) }
-        ensures path { IfOk result (λ s. s.path.items ≡ []) }
-        ensures due { IfOk result (λ s. s.due.items ≡ reverse nodes.now) }
+    fn new(alloc: Global, nodes: Vec<Node>) -> Search
+        ensures nodes { result.nodes.items ≡ [] }
+        ensures path { result.path.items ≡ [] }
+        ensures due { result.due.items ≡ reverse nodes.items }
     {
-        let mut due = Vec::from_slice(alloc, nodes)?;
+        let mut due = nodes;
         due.reverse();
-        Ok(Search {
+        Search {
             nodes: Vec::new(alloc),
             path: Vec::new(alloc),
             due,
-        })
+        }
     }
 
     /// Settles a choice and goes on to its first child.
@@ -100,8 +107,46 @@ impl Search {
     }
 }
 
+/// Goes through a tree in preorder: each hole is searched, and each leaf below the limit while there is room for two nodes
+/// more.
+pub(crate) fn pass(
+    alloc: Global,
+    net: &Network,
+    penalty: u64,
+    snapshot: &Snapshot,
+    standing: Standing,
+    budget: u64,
+    limit: Cost,
+) -> Result<Standing, AllocError>
+    requires sized { IsSized net.now snapshot.now.rows }
+    requires penalty { penalty ≤ PENALTY }
+    requires budget { budget ≤ BUDGET }
+    requires stands { Stands (whole_task net.now snapshot.now.rows penalty budget) standing.nodes.items standing.best.choices standing.best.cost }
+    ensures stands { IfOk result (λ s. Stands (whole_task net.now snapshot.now.rows penalty budget) s.nodes.items s.best.choices s.best.cost) }
+    ensures used { IfOk result (λ s. (c : ℕ) → Contains s.nodes.items (OpenNode c) → IsUsedUp budget (length s.nodes.items) limit c) }
+    ensures no_dearer { IfOk result (λ s. s.best.cost ≤ standing.best.cost) }
+{
+    net.sound();
+    let mut search = Search::new(alloc, standing.nodes);
+    let best = standing.best;
+    let best = search_all(
+        alloc,
+        net,
+        penalty,
+        snapshot,
+        &mut search,
+        best,
+        budget,
+        limit,
+    )?;
+    Ok(Standing {
+        nodes: search.nodes,
+        best,
+    })
+}
+
 /// Settles each node that is due, and gives the best choices that are found on the way.
-pub(crate) fn search_all(
+fn search_all(
     alloc: Global,
     net: &Network,
     penalty: u64,
@@ -109,22 +154,26 @@ pub(crate) fn search_all(
     search: &mut Search,
     best: Best,
     budget: u64,
+    limit: Cost,
 ) -> Result<Best, AllocError>
     requires sized { IsSized net.now snapshot.now.rows }
     requires penalty { penalty ≤ PENALTY }
     requires budget { budget ≤ BUDGET }
     requires best { AreBest (whole_task net.now snapshot.now.rows penalty budget) best.choices best.cost }
-    requires search { IsSearched (whole_task net.now snapshot.now.rows penalty budget) best.cost
+    requires search { IsSearched (whole_task net.now snapshot.now.rows penalty budget) limit best.cost
         search.old.nodes.items (reverse search.old.due.items) search.old.path.items }
     ensures best { IfOk result (λ b. AreBest (whole_task net.now snapshot.now.rows penalty budget) b.choices b.cost) }
-    ensures search { IfOk result (λ b. IsSearched (whole_task net.now snapshot.now.rows penalty budget) b.cost
+    ensures search { IfOk result (λ b. IsSearched (whole_task net.now snapshot.now.rows penalty budget) limit b.cost
         search.new.nodes.items [] search.new.path.items) }
+    ensures no_dearer { IfOk result (λ b. b.cost ≤ best.cost) }
 {
-    let mut best = best;
+    let mut now = best;
     while let Some(node) = search.due.pop() {
-        best = advance(alloc, net, penalty, snapshot, search, node, best, budget)?;
+        now = advance(
+            alloc, net, penalty, snapshot, search, node, now, budget, limit,
+        )?;
     }
-    Ok(best)
+    Ok(now)
 }
 
 /// Settles the node that stands next.
@@ -137,14 +186,15 @@ fn advance(
     node: Node,
     best: Best,
     budget: u64,
+    limit: Cost,
 ) -> Result<Best, AllocError>
     requires sized { IsSized net.now snapshot.now.rows }
     requires penalty { penalty ≤ PENALTY }
     requires budget { budget ≤ BUDGET }
     requires best { AreBest (whole_task net.now snapshot.now.rows penalty budget) best.choices best.cost }
-    requires search { IsSearched (whole_task net.now snapshot.now.rows penalty budget) best.cost
+    requires search { IsSearched (whole_task net.now snapshot.now.rows penalty budget) limit best.cost
         search.old.nodes.items (node ∷ reverse search.old.due.items) search.old.path.items }
-    ensures { IfOk result (IsAdvanced (whole_task net.now snapshot.now.rows penalty budget) (length search.old.nodes.items)
+    ensures { IfOk result (IsAdvanced (whole_task net.now snapshot.now.rows penalty budget) limit (length search.old.nodes.items) best.cost
         search.new.nodes.items (reverse search.new.due.items) search.new.path.items) }
 {
     net.sound();
@@ -153,9 +203,10 @@ fn advance(
         return Ok(best);
     }
     let total = (search.nodes.len() + 1 + search.due.len()) as u64;
+    let ceiling = ceiling_of(total, budget, limit);
     let path = search.path.as_slice();
     match found_at(
-        alloc, net, penalty, snapshot, path, node, best.cost, total, budget,
+        alloc, net, penalty, snapshot, path, node, best.cost, budget, ceiling,
     )? {
         Found::Settled(leaf) => {
             search.leave(leaf)?;
@@ -172,8 +223,15 @@ fn advance(
     }
 }
 
-/// What is found at a leaf of a tree of so many nodes: at a hole, and at an open leaf where there is room for two nodes more,
-/// what one step finds.
+/// How little a leaf costs that is searched in a tree of so many nodes: none is where two nodes more have no room.
+fn ceiling_of(total: u64, budget: u64, limit: Cost) -> Cost
+    requires { total ≤ BUDGET }
+    ensures { IsCeiling budget total limit result }
+{
+    if total + 2 <= budget { limit } else { 0 }
+}
+
+/// What is found at a leaf: at a hole, and at an open leaf below the ceiling, what one step finds.
 fn found_at(
     alloc: Global,
     net: &Network,
@@ -182,24 +240,21 @@ fn found_at(
     path: &[Decision],
     leaf: Node,
     best: Cost,
-    total: u64,
     budget: u64,
+    ceiling: Cost,
 ) -> Result<Found, AllocError>
     requires sized { IsSized net.now snapshot.now.rows }
     requires penalty { penalty ≤ PENALTY }
-    requires budget { budget ≤ BUDGET }
-    requires total { total ≤ budget }
     requires list { IsChoiceList net.now snapshot.now.rows path.now }
     requires leaf { choice_in leaf ≡ None }
     requires best { (choices : List DecisionValue) × AreBest (whole_task net.now snapshot.now.rows penalty budget) choices best }
     requires known { IsKnown (whole_task net.now snapshot.now.rows penalty budget) best path.now leaf }
-    ensures { IfOk result (IsFound (whole_task net.now snapshot.now.rows penalty budget) path.now best total) }
+    ensures { IfOk result (IsFound (whole_task net.now snapshot.now.rows penalty budget) path.now best ceiling) }
 {
     net.sound();
-    let room = total + 2 <= budget;
     match leaf {
         Node::Hole => {}
-        Node::Open(_) if room => {}
+        Node::Open(cost) if cost < ceiling => {}
         Node::Inner(_) | Node::Cycle | Node::Bound(_) | Node::Open(_) => {
             return Ok(Found::Settled(leaf));
         }
@@ -209,7 +264,7 @@ fn found_at(
         Outcome::Pruned(cost) => Ok(Found::Settled(Node::Bound(cost))),
         Outcome::Solved(cost, choices) => Ok(Found::Better(Best { choices, cost })),
         Outcome::Branch(cost, choice) => {
-            if room {
+            if cost < ceiling {
                 Ok(Found::Split(choice))
             } else {
                 Ok(Found::Settled(Node::Open(cost)))
