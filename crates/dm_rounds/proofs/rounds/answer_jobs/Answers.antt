@@ -2,7 +2,7 @@ use Rattle.std.proofs.Common.{sym, arith}
 use Rattle.dm_desk.proofs.Asking.{still_plans}
 use Rattle.dm_rounds.proofs.Places.{get_is}
 use Rattle.dm_rounds.proofs.Closing.{none_below, one_below, all_below}
-use Rattle.dm_rounds.proofs.rounds.answer_round.Goals as goal
+use Rattle.dm_rounds.proofs.rounds.answer_jobs.Goals as goal
 
 pub loop-place-init : goal.loop-place-init
 loop-place-init g c = none_below g.S.Source.left g.S.Source.is_sound c.args.batch c.requires.some (g.D.Desk.value c.args.desk.now) c.args.jobs.items c.requires.legal c.requires.can_read c.requires.are_true
@@ -13,8 +13,11 @@ loop-place-preserved g c =
     (c.in_ok-answer_job.ensures)
     c.loop-place.invariant
 
-pub returns : goal.returns
-returns g c = all_below g.S.Source.left g.S.Source.is_sound c.args.batch c.requires.some (g.D.Desk.value c.args.desk.now) c.args.jobs.items (g.D.Desk.value c.loop-place.desk) c.loop-place.jobs.items c.loop-place.place (omega (arith, c.loop-place.invariant.as_many)) c.loop-place.invariant
+pub returns-clause-later : goal.returns-clause-later
+returns-clause-later g c = c.loop-place.invariant.goes_on
+
+pub returns-clause-round : goal.returns-clause-round
+returns-clause-round g c = all_below g.S.Source.left g.S.Source.is_sound c.args.batch c.requires.some (g.D.Desk.value c.args.desk.now) c.args.jobs.items (g.D.Desk.value c.loop-place.desk) c.loop-place.jobs.items c.loop-place.place (omega (arith, c.loop-place.invariant.as_many)) c.loop-place.invariant
 
 pub answer_job-requires-clause-plans : goal.answer_job-requires-clause-plans
 answer_job-requires-clause-plans g c = still_plans (g.P.Planner.value c.args.planner.now) (g.D.Desk.value c.args.desk.now) (g.D.Desk.value c.loop-place.desk) c.loop-place.invariant.goes_on c.requires.plans
