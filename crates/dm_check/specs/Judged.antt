@@ -7,6 +7,7 @@ use Rattle.dm_cert.specs.Answers.{Setting, rows_after}
 use Rattle.dm_records.specs.RunLines.{Numbered}
 use Rattle.dm_check.specs.FalseRecords.{TellsEntry}
 use Rattle.dm_text.specs.Places.{Place}
+use Rattle.dm_text.specs.Judging.{Times}
 use Rattle.dm_check.specs.declared.faults.Fault.{Fault}
 use Rattle.dm_check.specs.declared.faults.Stop.{Stop}
 use Rattle.dm_check.specs.declared.faults.Stop.TheVariants.{Fault as Found, OutOfMemory}
@@ -46,3 +47,14 @@ abbrev pub TellsNextEntry : Setting → ℕ → List Entry → ℕ → Place →
 TellsNextEntry s feeds before n old new rows (Ok entry) = EntersNext s feeds before n old new rows entry
 TellsNextEntry s feeds before n old new rows (Err (Found fault)) = TellsEntry s feeds before old (Err fault)
 TellsNextEntry s feeds before n old new rows (Err OutOfMemory) = Unit {0}
+
+-- all entries are told, and the rows are those after them
+pub record EntersAll (s : Setting) (feeds count : ℕ) (old new : Place) (rows : RowsValue) (history : List Entry) : Type 0 where
+  pub told : Times count (TellsEntry s feeds) [] old (Ok (history, new))
+  pub rows_are : rows ≡ rows_after s history (length history)
+  pub sized : IsSized s.net rows
+
+abbrev pub TellsEntries : {X : Type 0} → (X → List Entry) → Setting → ℕ → ℕ → Place → Place → RowsValue → Result X Stop → Type 0
+TellsEntries seen s feeds count old new rows (Ok entries) = EntersAll s feeds count old new rows (seen entries)
+TellsEntries seen s feeds count old new rows (Err (Found fault)) = Times count (TellsEntry s feeds) [] old (Err fault)
+TellsEntries seen s feeds count old new rows (Err OutOfMemory) = Unit {0}

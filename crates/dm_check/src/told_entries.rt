@@ -1,12 +1,12 @@
 //! Entries of a text, each accepted by the rows after those before it.
-ghost use Rattle.std.specs.Prelude.{ℕ, ◌≡◌, ◌+◌, ◌<◌, ◌≤◌, List, length};
+ghost use Rattle.std.specs.Prelude.{ℕ, ◌≡◌, ◌+◌, ◌<◌, ◌≤◌, List, length, OnOk};
 ghost use Rattle.dm_base.specs.declared.limits.TheConstants.{ENTRIES, FEEDS};
 ghost use Rattle.dm_rows.specs.declared.messages.Entry.{Entry as EntryValue};
 ghost use Rattle.dm_rows.specs.Rows.{IsSized};
 ghost use Rattle.dm_cert.specs.Answers.{Setting};
 ghost use Rattle.dm_claims.specs.Claims.{IsRoomFor, Tells};
 ghost use Rattle.dm_records.specs.Readings.{numbered};
-ghost use Rattle.dm_check.specs.Judged.{IsAfter, IsInTurn, TellsNextEntry};
+ghost use Rattle.dm_check.specs.Judged.{IsAfter, IsInTurn, TellsNextEntry, TellsEntries};
 
 use crate::faults::{Fault, Stop};
 use crate::told_lines::entry_told;
@@ -33,6 +33,7 @@ pub(crate) fn next_entry(
     requires few { entries < ENTRIES }
     requires few_feeds { feeds ≤ FEEDS }
     ensures tells { (s : Setting) (before : List EntryValue) → IsAfter s net.now before entries rows.old → TellsNextEntry s feeds before entries lines.old lines.new rows.new result }
+    ensures sized { OnOk result (IsSized net.now rows.new) }
     ensures room { IsRoomFor net.now evaluator.new }
 {
     let line = lines.line();
@@ -80,4 +81,35 @@ fn entry_of(said: EntryLine) -> Entry
         line,
         message,
     }
+}
+
+/// As many entries as the header says. The list grows as lines are found. The rows are then those after all of them.
+pub(crate) fn all_entries(
+    alloc: Global,
+    lines: &mut Lines,
+    net: &Network,
+    evaluator: &mut Evaluator,
+    rows: &mut Rows,
+    feeds: usize,
+    count: u32,
+) -> Result<Vec<Entry>, Stop>
+    requires sized { IsSized net.now rows.old }
+    requires room { IsRoomFor net.now evaluator.old }
+    requires few { count ≤ ENTRIES }
+    requires few_feeds { feeds ≤ FEEDS }
+    ensures tells { (s : Setting) → s.net ≡ net.now → rows.old ≡ s.start → TellsEntries (λ v. v.items) s feeds count lines.old lines.new rows.new result }
+    ensures room { IsRoomFor net.now evaluator.new }
+{
+    let mut entries = Vec::new(alloc);
+    while entries.len() < count as usize {
+        let place = entries.len();
+        let entry = match next_entry(alloc, lines, net, evaluator, rows, feeds, place) {
+            Ok(entry) => entry,
+            Err(stop) => return Err(stop),
+        };
+        let Ok(()) = entries.push(entry) else {
+            return Err(Stop::OutOfMemory);
+        };
+    }
+    Ok(entries)
 }
