@@ -5,7 +5,7 @@ use Rattle.dm_rows.specs.Rows.{RowsValue, IsSized}
 use Rattle.dm_rows.specs.declared.messages.Entry.{Entry}
 use Rattle.dm_cert.specs.Answers.{Setting, rows_after}
 use Rattle.dm_records.specs.RunLines.{Numbered}
-use Rattle.dm_check.specs.FalseRecords.{TellsEntry}
+use Rattle.dm_check.specs.FalseRecords.{TellsEntry, TellsTime}
 use Rattle.dm_text.specs.Places.{Place}
 use Rattle.dm_text.specs.Judging.{Times}
 use Rattle.dm_check.specs.declared.faults.Fault.{Fault}
@@ -58,3 +58,14 @@ abbrev pub TellsEntries : {X : Type 0} → (X → List Entry) → Setting → �
 TellsEntries seen s feeds count old new rows (Ok entries) = EntersAll s feeds count old new rows (seen entries)
 TellsEntries seen s feeds count old new rows (Err (Found fault)) = Times count (TellsEntry s feeds) [] old (Err fault)
 TellsEntries seen s feeds count old new rows (Err OutOfMemory) = Unit {0}
+
+-- ---- times
+
+-- the times of all events are told
+pub record ToldTimetable (net : Net) (rows : RowsValue) (old new : Place) : Type 0 where
+  pub times : List ℕ
+  pub told : Times (length net.events) (TellsTime net rows) [] old (Ok (times, new))
+
+abbrev pub TellsTimetable : Net → RowsValue → Place → Place → Result (Unit {0}) Fault → Type 0
+TellsTimetable net rows old new (Ok said) = ToldTimetable net rows old new
+TellsTimetable net rows old new (Err fault) = Times (length net.events) (TellsTime net rows) [] old (Err fault)

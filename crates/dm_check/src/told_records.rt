@@ -4,12 +4,13 @@ ghost use Rattle.dm_base.specs.declared.limits.TheConstants.{FEEDS, ENTRIES, PEN
 ghost use Rattle.dm_rows.specs.Rows.{IsSized};
 ghost use Rattle.dm_rows.specs.Timetable.{IsLeast};
 ghost use Rattle.dm_relaxation.specs.Binding.{AreBelowLimit};
+ghost use Rattle.dm_cert.specs.RunTexts.{Run};
 ghost use Rattle.dm_claims.specs.Claims.{IsRoomFor};
-ghost use Rattle.dm_check.specs.FalseRecords.{TellsNumber, TellsTime, TellsCost};
-ghost use Rattle.dm_check.specs.Judged.{Judges};
+ghost use Rattle.dm_check.specs.FalseRecords.{TellsNumber, TellsTime, TellsCost, TellsEnd};
+ghost use Rattle.dm_check.specs.Judged.{Judges, TellsTimetable};
 
 use crate::faults::Fault;
-use crate::told_lines::{number_told, time_told};
+use crate::told_lines::{number_told, time_told, word_told};
 use crate::verdicts::BadKind;
 use dm_base::Cost;
 use dm_base::limits::{ENTRIES, FEEDS};
@@ -150,4 +151,41 @@ pub(crate) fn cost_told(
             kind: BadKind::Cost,
         })
     }
+}
+
+/// The last line, with nothing behind it.
+pub(crate) fn end_told(lines: &mut Lines) -> Result<(), Fault>
+    ensures { (run : Run) → Judges (TellsEnd run) (λ said. run) lines.old lines.new result }
+{
+    match word_told(lines, "done") {
+        Ok(()) => (),
+        Err(fault) => return Err(fault),
+    }
+    match lines.left() {
+        [] => Ok(()),
+        [_, ..] => Err(Fault {
+            line: lines.line(),
+            kind: BadKind::Form,
+        }),
+    }
+}
+
+/// The times of all events, where the evaluator's times are the least of the rows.
+pub(crate) fn timetable_told(
+    lines: &mut Lines,
+    net: &Network,
+    rows: &Rows,
+    evaluator: &Evaluator,
+) -> Result<(), Fault>
+    requires room { IsRoomFor net.now evaluator.now }
+    requires least { IsLeast net.now rows.now evaluator.now.times }
+    ensures { TellsTimetable net.now rows.now lines.old lines.new result }
+{
+    for i in 0..net.events() {
+        match event_told(lines, net, rows, evaluator, i) {
+            Ok(_time) => (),
+            Err(fault) => return Err(fault),
+        }
+    }
+    Ok(())
 }
