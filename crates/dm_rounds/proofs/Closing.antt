@@ -112,7 +112,7 @@ module _ {S : Type 0} (left : S → Option (List ℕ)) (is_sound : S → Type 0)
   pub none_below : (desk : DeskValue) (jobs : List (Job S)) → HasSeenLegal desk → CanReadAll jobs → AnswersBelow left is_sound batch desk jobs desk jobs 0
   none_below desk jobs legal can = record { legal = legal; as_many = refl; can_read = λ k job high e. can k job e; state = λ feeds first rounds low s. s }
 
-  stays_legal : (p : Progress S) (items : List LogItem) (after : Job S) (desk now : DeskValue) (feed : ℕ) → HasSeenLegal desk → StepsFrom left is_sound p items after desk now feed batch → HasSeenLegal now
+  pub stays_legal : (p : Progress S) (items : List LogItem) (after : Job S) (desk now : DeskValue) (feed : ℕ) → HasSeenLegal desk → StepsFrom left is_sound p items after desk now feed batch → HasSeenLegal now
   stays_legal (Reading reader) items after desk now feed legal x = x.answers.answers.goes_on.legal
   stays_legal (Ended stop) items after desk now feed legal x = subst HasSeenLegal (sym x.desk) legal
 

@@ -1,0 +1,2 @@
+-- Which records a network is built of here.
+pub mod Records

@@ -1,0 +1,3 @@
+-- Which records a network is built of here, and what is known of a pass.
+pub mod Records
+pub mod Passes
