@@ -4,7 +4,7 @@ use Rattle.std.proofs.lemmas.List.{append-nil}
 use Rattle.dm_feed.specs.declared.feed.FeedStop.{FeedStop}
 use Rattle.dm_feed.specs.declared.feed.FeedStop.TheVariants.{End, Fault, Long}
 use Rattle.dm_feed.specs.DueItems.{DueItem, item, AreDueItems, AreItemsOf, EndsWith}
-use Rattle.dm_cert.specs.Logs.{due_of, taken_as, as_heard}
+use Rattle.dm_cert.specs.Logs.{due_of}
 use Rattle.dm_cert.specs.CoreRun.{LinesRise}
 use Rattle.dm_cert.specs.Laws.{DueLinesRise, LogsAnswerFirst, AnswersFirstOf}
 
@@ -26,15 +26,11 @@ lines_rise passed (text ∷ texts) (item line heard ∷ items) (inr h) =
 pub due_lines_rise : DueLinesRise
 due_lines_rise bytes items are = lines_rise 0 _ items are
 
-taken_as_heard : (due : List DueItem) → map (taken_as as_heard) due ≡ due
-taken_as_heard [] = refl
-taken_as_heard (item line heard ∷ due) = ap (λ (items : List DueItem). item line heard ∷ items) (taken_as_heard due)
-
 pub logs_answer_first : LogsAnswerFirst
 logs_answer_first bytes log is = by_stop log.stop is.ends
   where
     answered : is.due ≡ map due_of log.items
-    answered = sym (is.answered ∙ taken_as_heard is.due)
+    answered = sym is.answered
 
     all : AreItemsOf bytes is.due → AnswersFirstOf bytes log
     all are = record { due = is.due; are = are; first = record { others = []; in_order = answered ∙ sym (append-nil (map due_of log.items)) } }

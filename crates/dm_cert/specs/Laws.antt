@@ -6,7 +6,7 @@ use Rattle.dm_tree.specs.Trees.{Shape, preorder, leaves_of, IsProper}
 use Rattle.dm_cert.specs.declared.replies.LogItem.{LogItem}
 use Rattle.dm_cert.specs.declared.replies.FeedLog.{FeedLog}
 use Rattle.dm_cert.specs.Answers.{Setting}
-use Rattle.dm_cert.specs.Logs.{IsTrueLog, as_heard, IsLogOf}
+use Rattle.dm_cert.specs.Logs.{IsTrueLog, IsLogOf}
 use Rattle.dm_cert.specs.CoreRun.{LinesRise, AnswerFirst}
 use Rattle.dm_cert.specs.PlanTexts.{leaves_in}
 
@@ -26,9 +26,9 @@ pub record AnswersFirstOf (bytes : List ℕ) (log : FeedLog) : Type 0 where
   pub are : AreItemsOf bytes due
   pub first : AnswerFirst due log.items
 
--- a log of a feed's bytes answers first due items of theirs, where every line is taken as it is heard
+-- a log of a feed's bytes answers first due items of theirs
 abbrev pub LogsAnswerFirst : Type 0
-LogsAnswerFirst = (bytes : List ℕ) (log : FeedLog) → IsLogOf as_heard bytes log → AnswersFirstOf bytes log
+LogsAnswerFirst = (bytes : List ℕ) (log : FeedLog) → IsLogOf bytes log → AnswersFirstOf bytes log
 
 -- the leaves that are printed of a tree are its leaves, each with its path
 abbrev pub LeavesAreTheTrees : Type 0

@@ -2,9 +2,7 @@
 use Rattle.std.specs.Prelude.{ℕ, ◌≡◌, ◌<◌, ◌≤◌, ◌+◌, ◌==◌, ◌/◌, Bool, false, List, [], ◌∷◌, ◌++◌, length, map, Option, Some, None, slice_get, count_by}
 use Rattle.std.specs.List.{flat_map}
 use Rattle.dm_rows.specs.declared.messages.Entry.{Entry}
-use Rattle.dm_feed.specs.declared.grammar.Line.TheVariants as line
-use Rattle.dm_feed.specs.declared.grammar.Heard.{Heard}
-use Rattle.dm_feed.specs.declared.grammar.Heard.TheVariants.{Blank, Line as Spoken, Malformed as Unheard}
+use Rattle.dm_feed.specs.declared.grammar.Heard.TheVariants.{Line as Spoken, Malformed as Unheard}
 use Rattle.dm_feed.specs.DueItems.{DueItem, item, EndsWith}
 use Rattle.dm_cert.specs.declared.replies.Reply.{Reply}
 use Rattle.dm_cert.specs.declared.replies.Reply.TheVariants.{Ok, Refused, Time, Cost, Read, Planned, Old, NoPlan, Plans, Range}
@@ -106,31 +104,12 @@ abbrev pub due_of : LogItem → DueItem
 due_of (Malformed line) = item line Unheard
 due_of (Answered line said reply) = item line (Spoken said)
 
--- what is heard in a line is taken as this
-abbrev pub taken_as : (Heard → Heard) → DueItem → DueItem
-taken_as hear (item line heard) = item line (hear heard)
-
--- every line is taken as it is heard
-abbrev pub as_heard : Heard → Heard
-as_heard heard = heard
-
--- while no plan is answered, what asks for a plan and what adopts one is taken as malformed
-abbrev pub without_plans : Heard → Heard
-without_plans Blank = Blank
-without_plans (Spoken (line.Say message)) = Spoken (line.Say message)
-without_plans (Spoken (line.Time event)) = Spoken (line.Time event)
-without_plans (Spoken line.CostNow) = Spoken line.CostNow
-without_plans (Spoken (line.Plan budget)) = Unheard
-without_plans (Spoken line.Adopt) = Unheard
-without_plans (Spoken line.Read) = Spoken line.Read
-without_plans Unheard = Unheard
-
--- The log answers the due items of the feed's bytes in order, each taken so. Where the feed was read to its end or is too
--- long, it answers all of them; after a failed read the first ones.
-pub record IsLogOf (hear : Heard → Heard) (bytes : List ℕ) (log : FeedLog) : Type 0 where
+-- The log answers the due items of the feed's bytes in order. Where the feed was read to its end or is too long, it answers
+-- all of them; after a failed read the first ones.
+pub record IsLogOf (bytes : List ℕ) (log : FeedLog) : Type 0 where
   pub due : List DueItem
   pub ends : EndsWith bytes due log.stop
-  pub answered : map due_of log.items ≡ map (taken_as hear) due
+  pub answered : map due_of log.items ≡ due
 
 -- ---- rounds
 

@@ -18,6 +18,7 @@ mod replies;
 
 pub use faults::{CertFault, CertKind};
 pub use notes::Note;
-pub use plan_reading::read_plan;
+pub use plan_lines::{Heading, heading_in};
+pub use plan_reading::{read_choices, read_plan, read_tree};
 pub use plan_text::{print_plan, put_plan};
 pub use replies::{FeedLog, LogItem, Reply};

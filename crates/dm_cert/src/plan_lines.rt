@@ -15,13 +15,13 @@ use dm_tree::{Mark, Node};
 const LARGEST_ID: u128 = 4_294_967_295;
 
 /// What a plan's first line says: with the costs how many lines of choices follow, and how many of the tree.
-#[derive(Clone, Copy)]
-pub(crate) struct Heading {
-    pub(crate) mark: Mark,
-    pub(crate) cost: Cost,
-    pub(crate) bound: Cost,
-    pub(crate) choices: u128,
-    pub(crate) size: u128,
+#[derive(Clone, Copy, PartialEq, Eq, Debug)]
+pub struct Heading {
+    pub mark: Mark,
+    pub cost: Cost,
+    pub bound: Cost,
+    pub choices: u128,
+    pub size: u128,
 }
 
 /// A number behind the text.
@@ -145,8 +145,8 @@ fn costs_in(version: u32, mark: Mark, line: &[u8]) -> Option<(Heading, &[u8])>
     counts_in(version, mark, cost, bound, rest)
 }
 
-/// What a plan's first line says.
-pub(crate) fn heading_in(version: u32, line: &[u8]) -> Option<Heading>
+/// What a plan's first line says, in a version.
+pub fn heading_in(version: u32, line: &[u8]) -> Option<Heading>
     ensures { result ≡ heading_in version line.now }
 {
     let Some((mark, rest)) = mark_in(line) else {

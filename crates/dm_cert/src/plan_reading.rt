@@ -89,8 +89,12 @@ fn node_line(lines: &mut Lines) -> Result<Node, CertFault>
     Ok(node)
 }
 
-/// As many choices as the first line says. The list grows as lines are found, so that a number says nothing of memory.
-fn choices(alloc: Global, lines: &mut Lines, count: u128) -> Result<Vec<Decision>, CertFault>
+/// As many choices of a plan as are counted. The list grows as lines are found, so that a number says nothing of memory.
+pub fn read_choices(
+    alloc: Global,
+    lines: &mut Lines,
+    count: u128,
+) -> Result<Vec<Decision>, CertFault>
     ensures { Answers (TellsChoices count) (λ v. v.items) lines.old lines.new result }
 {
     let mut choices = Vec::new(alloc);
@@ -181,8 +185,13 @@ fn tree_from_nodes(alloc: Global, lines: &mut Lines, size: u128) -> Result<Tree,
     }
 }
 
-/// The tree of a plan in a version.
-fn tree(alloc: Global, version: u32, lines: &mut Lines, size: u128) -> Result<Tree, CertFault>
+/// The tree of a plan in a version, whose lines are so many leaves or nodes.
+pub fn read_tree(
+    alloc: Global,
+    version: u32,
+    lines: &mut Lines,
+    size: u128,
+) -> Result<Tree, CertFault>
     requires { IsVersion version }
     ensures { Answers (TellsTree version size) (λ t. t) lines.old lines.new result }
 {
@@ -207,11 +216,11 @@ pub(crate) fn plan_at(
         Ok(heading) => heading,
         Err(fault) => return Err(fault),
     };
-    let choices = match choices(alloc, lines, heading.choices) {
+    let choices = match read_choices(alloc, lines, heading.choices) {
         Ok(choices) => choices,
         Err(fault) => return Err(fault),
     };
-    let tree = match tree(alloc, version, lines, heading.size) {
+    let tree = match read_tree(alloc, version, lines, heading.size) {
         Ok(tree) => tree,
         Err(fault) => return Err(fault),
     };

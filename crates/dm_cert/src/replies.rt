@@ -26,7 +26,7 @@ pub enum Reply {
     /// A plan for the rows at the entry that it names.
     Planned(Plan),
 
-    /// At so many entries the latest plan is for rows that are gone.
+    /// At so many entries the latest plan is for fewer entries.
     Old(u32),
 
     /// There is no plan to adopt yet.

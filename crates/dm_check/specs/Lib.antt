@@ -1,4 +1,3 @@
 -- How the lines of a run's text are written, and which is the first record that breaks its rule.
-pub mod RunLines
 pub mod FalseRecords
 pub mod Laws

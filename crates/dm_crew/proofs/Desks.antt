@@ -15,9 +15,16 @@ use Rattle.dm_rows.specs.History.{rows_at, IsLegal}
 use Rattle.dm_rows.specs.Refuse.{Refuses}
 use Rattle.dm_rows.specs.Timetable.{time_at, IsLeast}
 use Rattle.dm_cert.specs.Answers.{IsRefused, IsTimeAt, IsUnknownAt}
-use Rattle.dm_desk.specs.Desks.{Looks, Enters, Posts, TellsTime, TellsCost, TellsLength}
+use Rattle.dm_desk.specs.Desks.{Looks, Enters, Posts, TellsTime, TellsCost, TellsLength, IsCopied, IsTrueOf, AdoptsPlan}
+use Rattle.std.specs.Option.{ForSome}
+use Rattle.dm_rows.specs.Active.{HasNoCycle}
+use Rattle.dm_rows.specs.Rows.{IsSized}
+use Rattle.dm_rows.specs.declared.rows.Snapshot.{Snapshot}
+use Rattle.dm_tree.specs.declared.adopting.AdoptRefusal.{AdoptRefusal}
+use Rattle.dm_tree.specs.declared.adopting.AdoptRefusal.TheVariants.{Old, Full, OutOfMemory as NoMemory}
+use Rattle.dm_tree.specs.declared.plans.Plan.{Plan}
 use Rattle.dm_server.specs.declared.kept.Base.{Base}
-use Rattle.dm_server.specs.Answers.{ShowsTime, CostsAfter, RefusesAfter, HasLooked, HasEntered}
+use Rattle.dm_server.specs.Answers.{ShowsTime, CostsAfter, RefusesAfter, HasLooked, HasEntered, RefusesAdopt, adopts, IsTrueOf as ServerIsTrueOf}
 use Rattle.dm_table.specs.Answers.{RefusesTime}
 use Rattle.dm_turn.specs.Passes.{PassValue, numbered}
 use Rattle.dm_turn.proofs.Fronts.{prefix_trans, prefix_length, get_last}
@@ -160,3 +167,28 @@ posts before now entry (Err at) entered legal looked here refused base is = reco
 pub same_posted : {E : Type 0} (before now : PassValue Base) (entry : Entry) (answer : Result ℕ E) → IfOk answer (HasEntered before now entry) → OnErr answer (HasLooked before now) → IsSamePass before now
 same_posted before now entry (Ok n) entered looked = subst (λ (p : PassValue Base). IsSamePass before p) (sym entered.same) refl
 same_posted before now entry (Err e) entered looked = same_looked before now looked
+
+-- ---- plans
+
+pub copied : {E : Type 0} (before now : PassValue Base) (answer : Result Snapshot E) → HasLooked before now → Holds IsLegalAfter now → IfOk answer (λ snapshot. snapshot.entry ≡ length now.seen) → IfOk answer (λ snapshot. Holds (λ base seen. snapshot.rows ≡ rows_at base.network base.start seen (length seen)) now)
+    → IfOk answer (λ snapshot. Holds (λ base seen. IsSized base.network snapshot.rows) now) → IfOk answer (λ snapshot. Holds (λ base seen. HasNoCycle base.network snapshot.rows) now) → (base : Base) → before.base ≡ Some base → IfOk answer (IsCopied (desk_of base before) (desk_of base now))
+copied before now (Ok snapshot) h legal here rows sized no_cycle base is = record {
+  looks = looks base before now is h legal;
+  here = here;
+  rows =
+      holds_at (λ b seen. snapshot.rows ≡ rows_at b.network b.start seen (length seen)) base before now is (base_looked before now h) rows
+      ∙ ap (λ (k : ℕ). rows_at base.network base.start now.seen k) (sym here);
+  sized = holds_at (λ b seen. IsSized b.network snapshot.rows) base before now is (base_looked before now h) sized;
+  no_cycle = holds_at (λ b seen. HasNoCycle b.network snapshot.rows) base before now is (base_looked before now h) no_cycle;
+}
+copied before now (Err e) h legal here rows sized no_cycle base is = tt
+
+pub true_of : (pass : PassValue Base) (plan : Plan) → ForSome pass.base (λ base. IsTrueOf (desk_of base pass) plan) → ForSome pass.base (λ base. ServerIsTrueOf base pass.seen plan)
+true_of pass plan is base e = let t = is base e in record { budget = t.budget; within = t.within; is_true = t.is_true }
+
+pub adopts_plan : (before now : PassValue Base) (plan : Plan) (feed line : ℕ) (answer : Result ℕ AdoptRefusal) → IfOk answer (HasEntered before now (adopts plan feed line)) → Holds IsLegalAfter now → IfOk answer (λ n. n ≡ plan.entry + 1) → OnErr answer (HasLooked before now)
+    → IfErr answer (RefusesAdopt plan now.seen) → (base : Base) → before.base ≡ Some base → AdoptsPlan (desk_of base before) (desk_of base now) plan feed line answer
+adopts_plan before now plan feed line (Ok n) entered legal next looked refused base is = record { enters = enters base before now (adopts plan feed line) n is entered legal; next = next }
+adopts_plan before now plan feed line (Err (Old n)) entered legal next looked refused base is = record { looks = looks base before now is looked legal; here = refused.0; older = refused.1 }
+adopts_plan before now plan feed line (Err (Full n)) entered legal next looked refused base is = record { looks = looks base before now is looked legal; here = refused.0; full = refused.1; present = sym refused.2 }
+adopts_plan before now plan feed line (Err NoMemory) entered legal next looked refused base is = looks base before now is looked legal

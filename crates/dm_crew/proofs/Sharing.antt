@@ -11,9 +11,9 @@ use Rattle.std.specs.Fork.{GivesJobs}
 use Rattle.atomic_table.specs.Seated.{TableId}
 use Rattle.dm_rows.specs.declared.messages.Entry.{Entry}
 use Rattle.dm_rows.specs.History.{IsLegal}
-use Rattle.dm_desk.specs.Answered.{times, HasSeenLegal}
+use Rattle.dm_desk.specs.Answered.{times, HasSeenLegal, AreTrueOf}
 use Rattle.dm_rounds.specs.declared.jobs.Job.{Job}
-use Rattle.dm_rounds.specs.Inside.Jobs.{StepsFrom, CanReadAll, AnswersRound}
+use Rattle.dm_rounds.specs.Inside.Jobs.{StepsFrom, CanReadAll, AllAreTrue, AnswersRound}
 use Rattle.dm_rounds.proofs.Rounding.{some_is}
 use Rattle.dm_rounds.proofs.Closing.{stays_legal}
 use Rattle.dm_server.specs.declared.kept.Base.{Base}
@@ -70,6 +70,7 @@ module _ {S W E : Type 0} (left : S → Option (List ℕ)) (is_sound : S → Typ
     pub based : start.base ≡ Some base
     pub legal : HasSeenLegal (desk_of base start)
     pub can_read : CanReadAll jobs
+    pub are_true : AllAreTrue (desk_of base start) jobs
     pub of_jobs : map job works ≡ jobs
     pub split : All (λ w. pass w ≡ split_of start) works
     pub numbered : (k : ℕ) (w : W) → slice_get works k ≡ Some w → feed w ≡ k + 1
@@ -82,13 +83,13 @@ module _ {S W E : Type 0} (left : S → Option (List ℕ)) (is_sound : S → Typ
   job_at : IsShared → (k : ℕ) (w : W) → slice_get works k ≡ Some w → slice_get jobs k ≡ Some (job w)
   job_at s k w e = ap (λ (l : List (Job S)). slice_get l k) (sym s.of_jobs) ∙ map_at job works k w e
 
-  pub all_ready : IsShared → All (λ w. IsReady turn base (pass w) (job w).progress) works
+  pub all_ready : IsShared → All (λ w. IsReady turn base (feed w) (pass w) (job w)) works
   all_ready s =
-      all_from (λ w. IsReady turn base (pass w) (job w).progress) works
+      all_from (λ w. IsReady turn base (feed w) (pass w) (job w)) works
       (λ k w e.
       let is = all_at (λ w. pass w ≡ split_of start) works k w s.split e in
-      subst (λ (p : PassValue Base). IsReady turn base p (job w).progress) (sym is)
-      (record { here = s.here; idle = refl; based = s.based; legal = s.legal; can_read = s.can_read k (job w) (job_at s k w e) }))
+      subst (λ (p : PassValue Base). IsReady turn base (feed w) p (job w)) (sym is)
+      (record { here = s.here; idle = refl; based = s.based; legal = s.legal; can_read = s.can_read k (job w) (job_at s k w e); are_true = subst (λ (n : ℕ). AreTrueOf (desk_of base start) n (job w).log.items) (sym (s.numbered k w e)) (s.are_true k (job w) (job_at s k w e)) }))
 
   worked_from : IsShared → AreWorked → (k : ℕ) (v : W) → slice_get after k ≡ Some v → (w : W) × (slice_get works k ≡ Some w) × IsWorked left is_sound base batch (k + 1) (split_of start) (job w) (pass v) (job v) (answer v)
   worked_from s a k v e =

@@ -4,13 +4,15 @@ ghost use Rattle.std.specs.Prelude.{◌≡◌, ◌+◌, ◌<◌, ◌≤◌, [], 
 ghost use Rattle.dm_base.specs.declared.limits.TheConstants.{FEEDS, PENALTY};
 ghost use Rattle.dm_rows.specs.Active.{HasNoCycle};
 ghost use Rattle.dm_rows.specs.Rows.{IsSized};
-ghost use Rattle.dm_crew.specs.AtOnce.{AnswersDay};
+ghost use Rattle.dm_desk.specs.Planning.{PlansUnder};
+ghost use Rattle.dm_crew.specs.AtOnce.{AnswersDay, day_desk};
+ghost use Rattle.dm_crew.specs.Passes.{setting_of};
 ghost use Rattle.dm_crew.specs.Inside.Works.{first_pass};
 
 use crate::desk::Seat;
 use crate::rounds::answer_feeds;
 use dm_cert::FeedLog;
-use dm_desk::Hold;
+use dm_desk::{Hold, Planner};
 use dm_network::Network;
 use dm_outside::Source;
 use dm_rows::Rows;
@@ -33,26 +35,34 @@ pub struct AnsweredDay<'n> {
 /// Answers feeds over a server of these rows, at a penalty in seconds for each passenger, until each has ended, in rounds of so
 /// many lines a feed. In a round each feed that has not ended is answered in a thread of its own, or, where none can be made,
 /// by the caller's. A feed that could not be opened is `None`. Want of memory may come at any point up to the end of the last round.
-pub fn answer_at_once<'n, R: Threads + Wait + Sync, S: Source + Send + Drop, H: Hold + Sync>(
+pub fn answer_at_once<
+    'n,
+    R: Threads + Wait + Sync,
+    S: Source + Send + Drop,
+    L: Planner + Sync,
+    H: Hold + Sync,
+>(
     rt: &R,
     alloc: Global,
     net: &'n Network,
     rows: Rows,
     penalty: u64,
     feeds: Vec<Option<S>>,
+    planner: &L,
     gate: &H,
     batch: u32,
 ) -> Result<AnsweredDay<'n>, AllocError>
     requires sized { IsSized net.now rows }
     requires no_cycle { HasNoCycle net.now rows }
     requires penalty { penalty ≤ PENALTY }
+    requires plans { PlansUnder (L.value planner.now) (day_desk net.now rows penalty).setting }
     requires few { length feeds.items ≤ FEEDS }
     requires some { 0 < batch }
     ensures { IfOk result (λ day. AnswersDay S.left S.is_sound net.now rows penalty feeds.items batch day.table day.logs.items) }
 {
     let seats = feeds.len() as u32 + 1;
     let (server, main) = new_server(alloc, net, rows, penalty, seats)?;
-    answer_over::<Brand, R, S, H>(rt, alloc, server, main, feeds, gate, batch)
+    answer_over::<Brand, R, S, L, H>(rt, alloc, server, main, feeds, planner, gate, batch)
 }
 
 // Answers feeds over a server with no entries, and closes it.
@@ -61,6 +71,7 @@ fn answer_over<
     P: Seat + Send + Sync,
     R: Threads + Wait + Sync,
     S: Source + Send + Drop,
+    L: Planner + Sync,
     H: Hold + Sync,
 >(
     rt: &R,
@@ -68,16 +79,27 @@ fn answer_over<
     server: Server<'n>,
     mut main: Pass<Kept<'n>>,
     feeds: Vec<Option<S>>,
+    planner: &L,
     gate: &H,
     batch: u32,
 ) -> Result<AnsweredDay<'n>, AllocError>
     requires pass { main ≡ first_pass server.id P.base server.seats }
+    requires plans { PlansUnder (L.value planner.now) (setting_of P.base) }
     requires few { length feeds.items ≤ FEEDS }
     requires rooms { length feeds.items < server.seats }
     requires some { 0 < batch }
     ensures { IfOk result (λ day. AnswersDay S.left S.is_sound P.base.network P.base.start P.base.penalty feeds.items batch day.table day.logs.items) }
 {
-    let logs = answer_feeds::<P, R, S, H>(rt, alloc, &server, &mut main, feeds, gate, batch)?;
+    let logs = answer_feeds::<P, R, S, L, H>(
+        rt,
+        alloc,
+        &server,
+        &mut main,
+        feeds,
+        planner,
+        gate,
+        batch,
+    )?;
     let table = server.close(main);
     Ok(AnsweredDay { table, logs })
 }

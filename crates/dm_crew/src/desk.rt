@@ -1,15 +1,18 @@
 //! A server and one of its passes, as a desk.
 
-ghost use Rattle.std.specs.Prelude.{◌≡◌, false, Some};
-ghost use Rattle.dm_desk.specs.Desks.{Posts, TellsTime, TellsCost, TellsLength};
+ghost use Rattle.std.specs.Prelude.{◌≡◌, false, Some, IfOk};
+ghost use Rattle.std.specs.Option.{ForSome};
+ghost use Rattle.dm_desk.specs.Desks.{Posts, TellsTime, TellsCost, TellsLength, IsCopied, IsTrueOf, AdoptsPlan};
 ghost use Rattle.dm_server.specs.declared.kept.Base.{Base as ABase};
 ghost use Rattle.dm_crew.specs.Passes.{desk_of, IsSamePass};
 
 use dm_base::{Cost, EventId, Secs};
 use dm_desk::Desk;
-use dm_rows::{At, Entry, Refusal};
+use dm_rows::{At, Entry, Refusal, Snapshot};
 use dm_server::{Kept, Server};
+use dm_tree::{AdoptRefusal, Plan};
 use dm_turn::Pass;
+use std::alloc::AllocError;
 use std::marker::{Brand, PhantomData};
 use std::sync::Wait;
 
@@ -64,6 +67,14 @@ impl<R: Wait, P: Seat> Desk for ServerDesk<'_, '_, '_, R, P> {
     fn length(&mut self) -> u32 {
         length(self.rt, self.server, &mut self.pass)
     }
+
+    fn snapshot(&mut self) -> Result<Snapshot, AllocError> {
+        snapshot(self.rt, self.server, &mut self.pass)
+    }
+
+    fn adopt(&mut self, plan: &Plan, feed: u32, line: u32) -> Result<u32, AdoptRefusal> {
+        adopt(self.rt, self.server, &mut self.pass, plan, feed, line)
+    }
 }
 
 // Enters a message.
@@ -114,4 +125,36 @@ fn length<'n, R: Wait>(rt: &R, server: &Server<'n>, pass: &mut Pass<Kept<'n>>) -
     ensures tells { (base : ABase) → pass.old.base ≡ Some base → TellsLength (desk_of base pass.old) (desk_of base pass.new) result }
 {
     server.length(rt, pass)
+}
+
+// How many entries there are, and rows equal to those after them.
+fn snapshot<'n, R: Wait>(
+    rt: &R,
+    server: &Server<'n>,
+    pass: &mut Pass<Kept<'n>>,
+) -> Result<Snapshot, AllocError>
+    requires turn { pass.old.turn ≡ server.now.id }
+    requires idle { pass.old.holds ≡ false }
+    ensures same { IsSamePass pass.old pass.new }
+    ensures copied { (base : ABase) → pass.old.base ≡ Some base → IfOk result (IsCopied (desk_of base pass.old) (desk_of base pass.new)) }
+{
+    server.snapshot(rt, pass)
+}
+
+// Adopts a plan that is true of rows that were seen.
+fn adopt<'n, R: Wait>(
+    rt: &R,
+    server: &Server<'n>,
+    pass: &mut Pass<Kept<'n>>,
+    plan: &Plan,
+    feed: u32,
+    line: u32,
+) -> Result<u32, AdoptRefusal>
+    requires turn { pass.old.turn ≡ server.now.id }
+    requires idle { pass.old.holds ≡ false }
+    requires plan { ForSome pass.old.base (λ base. IsTrueOf (desk_of base pass.old) plan.now) }
+    ensures same { IsSamePass pass.old pass.new }
+    ensures adopts { (base : ABase) → pass.old.base ≡ Some base → AdoptsPlan (desk_of base pass.old) (desk_of base pass.new) plan.now feed line result }
+{
+    server.adopt(rt, pass, plan, feed, line)
 }

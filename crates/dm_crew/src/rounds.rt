@@ -4,15 +4,16 @@ ghost use Rattle.std.specs.Prelude.{◌≡◌, ℕ, ◌+◌, ◌-◌, ◌<◌, �
 ghost use Rattle.dm_base.specs.declared.limits.TheConstants.{FEEDS};
 ghost use Rattle.dm_rows.specs.History.{IsLegal};
 ghost use Rattle.dm_desk.specs.Answered.{HasSeenLegal};
+ghost use Rattle.dm_desk.specs.Planning.{PlansUnder};
 ghost use Rattle.dm_rounds.specs.Rounds.{AnswersFeeds};
-ghost use Rattle.dm_rounds.specs.Inside.Jobs.{AnswersRound, CanReadAll, log_in};
-ghost use Rattle.dm_crew.specs.Passes.{desk_of, IsSamePass};
+ghost use Rattle.dm_rounds.specs.Inside.Jobs.{AnswersRound, CanReadAll, AllAreTrue, log_in};
+ghost use Rattle.dm_crew.specs.Passes.{setting_of, desk_of, IsSamePass};
 ghost use Rattle.dm_crew.specs.Inside.Works.{split_of, IsGathered};
 
 use crate::desk::Seat;
 use crate::work::{Work, work_all};
 use dm_cert::FeedLog;
-use dm_desk::Hold;
+use dm_desk::{Hold, Planner};
 use dm_outside::Source;
 use dm_rounds::{Job, begin, have_ended, log_of};
 use dm_server::{Kept, Server};
@@ -28,6 +29,7 @@ pub fn answer_feeds<
     P: Seat + Send + Sync,
     R: Threads + Wait + Sync,
     S: Source + Send + Drop,
+    L: Planner + Sync,
     H: Hold + Sync,
 >(
     rt: &R,
@@ -35,6 +37,7 @@ pub fn answer_feeds<
     server: &Server<'n>,
     main: &mut Pass<Kept<'n>>,
     feeds: Vec<Option<S>>,
+    planner: &L,
     gate: &H,
     batch: u32,
 ) -> Result<Vec<FeedLog>, AllocError>
@@ -42,6 +45,7 @@ pub fn answer_feeds<
     requires idle { main.old.holds ≡ false }
     requires base { main.old.base ≡ Some P.base }
     requires legal { HasSeenLegal (desk_of P.base main.old) }
+    requires plans { PlansUnder (L.value planner.now) (setting_of P.base) }
     requires few { length feeds.items ≤ FEEDS }
     requires rooms { length feeds.items < main.old.room }
     requires some { 0 < batch }
@@ -54,7 +58,7 @@ pub fn answer_feeds<
         if have_ended(&jobs) {
             break;
         }
-        jobs = answer_round::<P, R, S, H>(rt, alloc, server, main, jobs, gate, batch)?;
+        jobs = answer_round::<P, R, S, L, H>(rt, alloc, server, main, jobs, planner, gate, batch)?;
     }
     logs_of(logs, jobs)
 }
@@ -77,6 +81,7 @@ fn answer_round<
     P: Seat + Send + Sync,
     R: Threads + Wait + Sync,
     S: Source + Send + Drop,
+    L: Planner + Sync,
     H: Hold + Sync,
 >(
     rt: &R,
@@ -84,6 +89,7 @@ fn answer_round<
     server: &Server<'n>,
     main: &mut Pass<Kept<'n>>,
     jobs: Vec<Job<S>>,
+    planner: &L,
     gate: &H,
     batch: u32,
 ) -> Result<Vec<Job<S>>, AllocError>
@@ -91,7 +97,9 @@ fn answer_round<
     requires idle { main.old.holds ≡ false }
     requires base { main.old.base ≡ Some P.base }
     requires legal { HasSeenLegal (desk_of P.base main.old) }
+    requires plans { PlansUnder (L.value planner.now) (setting_of P.base) }
     requires can_read { CanReadAll jobs.items }
+    requires are_true { AllAreTrue (desk_of P.base main.old) jobs.items }
     requires few { vec_len jobs ≤ FEEDS }
     requires rooms { vec_len jobs < main.old.room }
     requires some { 0 < batch }
@@ -99,7 +107,7 @@ fn answer_round<
     ensures round { IfOk result (λ after. AnswersRound S.left S.is_sound batch (desk_of P.base main.old) jobs.items (desk_of P.base main.new) after.items) }
 {
     let works = share_out(alloc, server, main, jobs)?;
-    let works = work_all::<P, R, S, H>(rt, server, works, gate, batch)?;
+    let works = work_all::<P, R, S, L, H>(rt, server, works, planner, gate, batch)?;
     gather::<P, S>(alloc, server, main, works)
 }
 

@@ -1,5 +1,5 @@
 -- What one more answer does to a log.
-use Rattle.std.proofs.Common.{◌≡◌, ℕ, ◌+◌, ◌≤◌, inl, inr, cond, List, [], ◌∷◌, ◌++◌, length, map, Option, Some, None, IfSome, refl, sym, ap, subst, ◌∙◌, arith, append-nil, append_assoc, length-append, zero-add, All, get_or}
+use Rattle.std.proofs.Common.{◌≡◌, ℕ, ◌+◌, ◌≤◌, inl, inr, cond, List, [], ◌∷◌, ◌++◌, length, Option, Some, None, IfSome, refl, sym, ap, subst, ◌∙◌, arith, append-nil, append_assoc, length-append, zero-add, All, get_or}
 use Rattle.std.proofs.lemmas.List.Elements.{All-nil, All-push, All-append, All-head, All-tail}
 use Rattle.std.proofs.lemmas.List.{map-append}
 use Rattle.std.proofs.lemmas.List.Sums.{sum_by-append}
@@ -10,75 +10,25 @@ use Rattle.dm_feed.specs.declared.feed.FeedStop.TheVariants.{End, Fault}
 use Rattle.dm_feed.specs.declared.feed.Next.TheVariants.{Due, Stop}
 use Rattle.dm_feed.specs.declared.grammar.Heard.{Heard}
 use Rattle.dm_feed.specs.declared.grammar.Heard.TheVariants.{Blank, Line as Spoken, Malformed as Unheard}
-use Rattle.dm_feed.specs.declared.grammar.Line.{Line}
-use Rattle.dm_feed.specs.declared.grammar.Line.TheVariants as line
-use Rattle.dm_feed.specs.Lines.{IsQuiet, Hears, IsSpelledLine}
+use Rattle.dm_feed.specs.Lines.{IsQuiet, Hears}
 use Rattle.dm_feed.specs.Feeds.{ReaderValue, GivesDue, Answers}
 use Rattle.dm_feed.specs.DueItems.{DueItem, item}
 use Rattle.dm_feed.proofs.Imagined.{go_on_giving, stop_seen}
 use Rattle.dm_cert.specs.declared.replies.LogItem.{LogItem}
 use Rattle.dm_cert.specs.declared.replies.LogItem.TheVariants.{Malformed, Answered}
-use Rattle.dm_cert.specs.declared.replies.Reply.{Reply}
 use Rattle.dm_cert.specs.Answers.{Setting}
-use Rattle.dm_cert.specs.Logs.{Kind, free, told, entered, kind_of, line_of, Follows, AreTrueAnswers, names, due_of, taken_as, without_plans}
+use Rattle.dm_cert.specs.Logs.{Kind, free, told, entered, kind_of, line_of, Follows, names, due_of}
 use Rattle.dm_cert.specs.RunTexts.{IsSpelledItem}
 use Rattle.dm_cert.proofs.Numbers.{last_line, last_number, order_push}
 use Rattle.dm_cert.proofs.TrueLogs.{answers_grow, answers_push, numbers_within}
 use Rattle.dm_desk.specs.Desks.{DeskValue, GoesOn}
-use Rattle.dm_desk.specs.Answered.{times, IsBetween, IsOpen, IsAnswered, AnswersMore, HasSize, HasCause, AnswersBatch, HasSeenLegal}
-use Rattle.dm_desk.specs.Inside.Replies.{IsDueHeard, AsksForPlans, Replies, AnswersLine}
+use Rattle.dm_desk.specs.Answered.{times, IsBetween, IsOpen, IsAnswered, AreTrueOf, AnswersMore, HasSize, HasCause, AnswersBatch, HasSeenLegal}
+use Rattle.dm_desk.specs.Inside.Replies.{IsDueHeard, AnswersLine}
 
 -- ---- one line
 
-taken_now : (said : Line) → (AsksForPlans said → ⊥) → without_plans (Spoken said) ≡ Spoken said
-taken_now (line.Say m) none = refl
-taken_now (line.Time e) none = refl
-taken_now line.CostNow none = refl
-taken_now (line.Plan b) none = absurd (none tt)
-taken_now line.Adopt none = absurd (none tt)
-taken_now line.Read none = refl
-
-taken_later : (said : Line) → AsksForPlans said → without_plans (Spoken said) ≡ Unheard
-taken_later (line.Say m) asks = absurd asks
-taken_later (line.Time e) asks = absurd asks
-taken_later line.CostNow asks = absurd asks
-taken_later (line.Plan b) asks = refl
-taken_later line.Adopt asks = refl
-taken_later line.Read asks = absurd asks
-
 pub goes_nowhere : (desk : DeskValue) → HasSeenLegal desk → GoesOn desk desk
 goes_nowhere desk legal = record { setting = refl; later = ([], append-nil desk.seen); legal = legal }
-
--- a line that was answered
-pub answered_line : (before now : DeskValue) (feed here : ℕ) (said : Line) (reply : Reply) → IsSpelledLine said → (AsksForPlans said → ⊥) → Replies before now feed here said reply → AnswersLine before now feed here (Spoken said) (Answered here said reply)
-answered_line before now feed here said reply spelled none r = record {
-  due = ap (item here) (sym (taken_now said none));
-  goes_on = r.goes_on;
-  is_true = r.is_true;
-  between = r.between;
-  spelled = (spelled, r.spelled);
-  named = λ n. r.named n;
-}
-
-pub answered_as_heard : (before now : DeskValue) (feed here : ℕ) (heard : Heard) (said : Line) (reply : Reply) → heard ≡ Spoken said → IsDueHeard heard → (AsksForPlans said → ⊥) × Replies before now feed here said reply → AnswersLine before now feed here heard (Answered here said reply)
-answered_as_heard before now feed here heard said reply is due r =
-    subst (λ (h : Heard). AnswersLine before now feed here h (Answered here said reply)) (sym is) (answered_line before now feed here said reply (subst IsDueHeard is due) r.0 r.1)
-
--- a line that was taken as malformed
-pub unanswered : (desk now : DeskValue) (feed here : ℕ) (heard : Heard) → now ≡ desk → HasSeenLegal desk → without_plans heard ≡ Unheard → AnswersLine desk now feed here heard (Malformed here)
-unanswered desk now feed here heard same legal is =
-    subst (λ (d : DeskValue). AnswersLine desk d feed here heard (Malformed here)) (sym same)
-    (record {
-      due = ap (item here) (sym is);
-      goes_on = goes_nowhere desk legal;
-      is_true = λ items. tt;
-      between = tt;
-      spelled = tt;
-      named = λ n. zero-add (times n desk.mine);
-    })
-
-pub unanswered_line : (desk now : DeskValue) (feed here : ℕ) (said : Line) → now ≡ desk → HasSeenLegal desk → AsksForPlans said → AnswersLine desk now feed here (Spoken said) (Malformed here)
-unanswered_line desk now feed here said same legal asks = unanswered desk now feed here (Spoken said) same legal (taken_later said asks)
 
 -- ---- one item more
 
@@ -107,12 +57,12 @@ wider first last begin end (entered n) low high between = (omega (arith, between
 pub no_shorter : (before now : List Entry) → IsPrefix before now → length before ≤ length now
 no_shorter before now p = omega (arith, ap length p.1, length-append before p.0)
 
-pub still_true : (before now : DeskValue) (feed : ℕ) (items : List LogItem) → GoesOn before now → AreTrueAnswers before.setting before.seen feed [] items → AreTrueAnswers now.setting now.seen feed [] items
+pub still_true : (before now : DeskValue) (feed : ℕ) (items : List LogItem) → GoesOn before now → AreTrueOf before feed items → AreTrueOf now feed items
 still_true before now feed items on true_before =
     let grown = answers_grow before.setting before.seen on.later.0 feed [] items true_before in
-    let P : List Entry → Type 0 = λ seen. AreTrueAnswers before.setting seen feed [] items in
+    let P : List Entry → Type 0 = λ seen. AreTrueOf (record before { seen = seen }) feed items in
     let here = subst P on.later.1 grown in
-    let Q : Setting → Type 0 = λ s. AreTrueAnswers s now.seen feed [] items in
+    let Q : Setting → Type 0 = λ s. AreTrueOf (record now { setting = s }) feed items in
     subst Q (sym on.setting) here
 
 size_then : (n a b : ℕ) (stop : Option FeedStop) → a ≡ n → HasSize 1 b stop → HasSize (n + 1) (a + b) stop
@@ -150,7 +100,7 @@ module _ {S : Type 0} where
       absurd cc
 
   still_answered : (left : S → Option (List ℕ)) (start reader_before reader : ReaderValue S) (before now : DeskValue) (feed here : ℕ) (heard : Heard) (items : List LogItem) (x : LogItem) → reader_before.stop ≡ None → GivesDue left reader_before reader here heard
-      → AnswersLine before now feed here heard x → IsAnswered left start reader_before before feed items → IsAnswered left start reader now feed (items ++ x ∷ [])
+      → AnswersLine before now feed here items heard x → IsAnswered left start reader_before before feed items → IsAnswered left start reader now feed (items ++ x ∷ [])
   still_answered left start reader_before reader before now feed here heard items x none due a h =
       let line : line_of x ≡ here = sym (line_of_due x) ∙ ap line_in a.due in
       let number = numbers_within before.setting before.seen feed 0 [] items (omega arith) h.answers in
@@ -158,21 +108,18 @@ module _ {S : Type 0} where
       record {
         due = h.due ++ item here heard ∷ [];
         given = go_on_giving left start reader_before reader h.due here heard h.given none due;
-        answered =
-            map-append due_of items (x ∷ [])
-            ∙ (ap (λ (l : List DueItem). l ++ due_of x ∷ []) h.answered
-            ∙ (ap (λ (d : DueItem). map (taken_as without_plans) h.due ++ d ∷ []) a.due ∙ sym (map-append (taken_as without_plans) h.due (item here heard ∷ []))));
-        answers = answers_push now.setting now.seen feed [] items x (still_true before now feed items a.goes_on h.answers) (a.is_true items);
+        answered = map-append due_of items (x ∷ []) ∙ (ap (λ (l : List DueItem). l ++ due_of x ∷ []) h.answered ∙ ap (λ (d : DueItem). h.due ++ d ∷ []) a.due);
+        answers = answers_push now.setting now.seen feed [] items x (still_true before now feed items a.goes_on h.answers) a.is_true;
         in_order = order_push 0 0 items x h.in_order (omega (arith, last, line, due.number)) (follows_between (last_number 0 items) (length before.seen) (length now.seen) (kind_of x) number a.between);
         spelled = All-push IsSpelledItem items x h.spelled a.spelled;
         passed = All-push (λ answered. line_of answered ≤ reader.lines) items x (λ k d low. omega (arith, h.passed k d low, due.number, due.lines)) (omega (arith, line, due.lines));
       }
 
   -- one line more was answered
-  pub one_more : (left : S → Option (List ℕ)) (is_sound : S → Type 0) (reader_before reader : ReaderValue S) (before now : DeskValue) (feed here : ℕ) (heard : Heard) (items items_now : List LogItem) (x : LogItem) → IsOpen reader_before
+  pub one_more : (left : S → Option (List ℕ)) (is_sound : S → Type 0) (reader_before reader : ReaderValue S) (before now : DeskValue) (feed here : ℕ) (heard : Heard) (items items_now : List LogItem) (x : LogItem) → IsOpen reader_before → AreTrueOf before feed items
       → (reader_before.stop ≡ None → GivesDue left reader_before reader here heard) → IfSome reader_before.stop (λ first. (Due here heard ≡ Stop first) × (reader ≡ reader_before)) → items_now ≡ items ++ x ∷ []
-      → AnswersLine before now feed here heard x → AnswersBatch left is_sound reader_before reader before now feed 1 items items_now None
-  one_more left is_sound reader_before reader before now feed here heard items items_now x is_open gives stays behind a =
+      → AnswersLine before now feed here items heard x → AnswersBatch left is_sound reader_before reader before now feed 1 items items_now None
+  one_more left is_sound reader_before reader before now feed here heard items items_now x is_open are_true gives stays behind a =
       let none = not_stopped reader_before reader here heard is_open stays in
       let due = gives none in
       record {
@@ -184,6 +131,7 @@ module _ {S : Type 0} where
           between = All-push (λ answered. IsBetween (length before.seen) (length now.seen) (kind_of answered)) [] x (All-nil (λ answered. IsBetween (length before.seen) (length now.seen) (kind_of answered))) a.between;
           named = a.named;
         };
+        are_true = subst (AreTrueOf now feed) (sym behind) (answers_push now.setting now.seen feed [] items x (still_true before now feed items a.goes_on are_true) a.is_true);
         still = λ start h. subst (λ (l : List LogItem). IsAnswered left start reader now feed l) (sym behind) (still_answered left start reader_before reader before now feed here heard items x none due a h);
         is_open = λ _. open_behind left reader_before reader here heard due;
         cause = tt;
@@ -205,15 +153,16 @@ module _ {S : Type 0} where
       absurd cc
 
   -- no line was left
-  pub stopped : (left : S → Option (List ℕ)) (faults : S → ℕ) (is_sound : S → Type 0) (before now : ReaderValue S) (desk : DeskValue) (feed : ℕ) (items : List LogItem) (stop : FeedStop) → HasSeenLegal desk → IsOpen before
+  pub stopped : (left : S → Option (List ℕ)) (faults : S → ℕ) (is_sound : S → Type 0) (before now : ReaderValue S) (desk : DeskValue) (feed : ℕ) (items : List LogItem) (stop : FeedStop) → HasSeenLegal desk → AreTrueOf desk feed items → IsOpen before
       → (before.stop ≡ None → Answers left faults is_sound before now (Stop stop)) → IfSome before.stop (λ first. (Stop stop ≡ Stop first) × (now ≡ before)) → AnswersBatch left is_sound before now desk desk feed 1 items items (Some stop)
-  stopped left faults is_sound before now desk feed items stop legal is_open answers stays =
+  stopped left faults is_sound before now desk feed items stop legal are_true is_open answers stays =
       let again = again_alone before now stop stays in
       record {
         more = [];
         behind = sym (append-nil items);
         size = omega arith;
         answers = record { goes_on = goes_nowhere desk legal; between = All-nil (λ answered. IsBetween (length desk.seen) (length desk.seen) (kind_of answered)); named = λ n. zero-add (times n desk.mine) };
+        are_true = are_true;
         still = λ start h. record {
           reader = before;
           last = now;
@@ -226,12 +175,13 @@ module _ {S : Type 0} where
 
   -- ---- one after another
 
-  pub none_yet : (left : S → Option (List ℕ)) (is_sound : S → Type 0) (reader : ReaderValue S) (desk : DeskValue) (feed : ℕ) (items : List LogItem) → HasSeenLegal desk → IsOpen reader → AnswersBatch left is_sound reader reader desk desk feed 0 items items None
-  none_yet left is_sound reader desk feed items legal is_open = record {
+  pub none_yet : (left : S → Option (List ℕ)) (is_sound : S → Type 0) (reader : ReaderValue S) (desk : DeskValue) (feed : ℕ) (items : List LogItem) → HasSeenLegal desk → AreTrueOf desk feed items → IsOpen reader → AnswersBatch left is_sound reader reader desk desk feed 0 items items None
+  none_yet left is_sound reader desk feed items legal are_true is_open = record {
     more = [];
     behind = sym (append-nil items);
     size = refl;
     answers = record { goes_on = goes_nowhere desk legal; between = All-nil (λ answered. IsBetween (length desk.seen) (length desk.seen) (kind_of answered)); named = λ n. zero-add (times n desk.mine) };
+    are_true = are_true;
     still = λ start h. h;
     is_open = λ _. is_open;
     cause = tt;
@@ -249,6 +199,7 @@ module _ {S : Type 0} where
     behind = two.behind ∙ (ap (λ (l : List LogItem). l ++ two.more) one.behind ∙ append_assoc i0 one.more two.more);
     size = subst (λ (k : ℕ). HasSize (n + 1) k stop) (sym (length-append one.more two.more)) (size_then n (length one.more) (length two.more) stop one.size two.size);
     answers = more_then d0 d1 d2 one.more two.more one.answers two.answers;
+    are_true = two.are_true;
     still = λ start h. two.still start (one.still start h);
     is_open = two.is_open;
     cause = cause_then is_sound r0 r1 stop stays two.cause;
@@ -262,6 +213,7 @@ module _ {S : Type 0} where
     behind = b.behind;
     size = omega (arith, b.size);
     answers = b.answers;
+    are_true = b.are_true;
     still = b.still;
     is_open = b.is_open;
     cause = b.cause;

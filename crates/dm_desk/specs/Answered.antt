@@ -6,7 +6,7 @@ use Rattle.dm_feed.specs.Feeds.{ReaderValue}
 use Rattle.dm_feed.specs.DueItems.{DueItem, GivesLines, StopsSo}
 use Rattle.dm_rows.specs.History.{IsLegal}
 use Rattle.dm_cert.specs.declared.replies.LogItem.{LogItem}
-use Rattle.dm_cert.specs.Logs.{Kind, free, told, entered, kind_of, line_of, AreTrueAnswers, IsInOrder, names, due_of, taken_as, without_plans}
+use Rattle.dm_cert.specs.Logs.{Kind, free, told, entered, kind_of, line_of, AreTrueAnswers, IsInOrder, names, due_of}
 use Rattle.dm_cert.specs.RunTexts.{IsSpelledItem}
 use Rattle.dm_desk.specs.Desks.{DeskValue, GoesOn}
 
@@ -25,13 +25,17 @@ IsBetween first last (entered n) = (first < n) × (n ≤ last)
 abbrev pub IsOpen : {S : Type 0} → ReaderValue S → Type 0
 IsOpen reader = (reader.stop ≡ None) ⊎ (reader.stop ≡ Some End)
 
+-- the items of a feed are true of the history that the desk has seen
+abbrev pub AreTrueOf : DeskValue → ℕ → List LogItem → Type 0
+AreTrueOf desk feed items = AreTrueAnswers desk.setting desk.seen feed [] items
+
 -- The log answers the due lines that a reader has given since its start, in order; what it holds is true of the history that
 -- the desk has seen, and has a spelling.
 pub record IsAnswered {S : Type 0} (left : S → Option (List ℕ)) (start reader : ReaderValue S) (desk : DeskValue) (feed : ℕ) (items : List LogItem) : Type 0 where
   pub due : List DueItem
   pub given : GivesLines left start due reader
-  pub answered : map due_of items ≡ map (taken_as without_plans) due
-  pub answers : AreTrueAnswers desk.setting desk.seen feed [] items
+  pub answered : map due_of items ≡ due
+  pub answers : AreTrueOf desk feed items
   pub in_order : IsInOrder 0 0 items
   pub passed : All (λ answered. line_of answered ≤ reader.lines) items
   pub spelled : All IsSpelledItem items
@@ -70,6 +74,7 @@ pub record AnswersBatch {S : Type 0} (left : S → Option (List ℕ)) (is_sound 
   pub behind : items ≡ items_before ++ more
   pub size : HasSize batch (length more) stop
   pub answers : AnswersMore before now more
+  pub are_true : AreTrueOf now feed items
   pub still : (start : ReaderValue S) → IsAnswered left start reader_before before feed items_before → IsAnsweredUpTo left start reader now feed items stop
   pub is_open : stop ≡ None → IsOpen reader
   pub cause : HasCause is_sound reader_before stop

@@ -1,13 +1,22 @@
 -- What contracts see of a desk, and what its calls do.
-use Rattle.std.specs.Prelude.{ℕ, ◌≡◌, ◌<◌, ◌⊎◌, ◌++◌, ◌∷◌, [], List, length, Result, Ok, Err}
+use Rattle.std.specs.Prelude.{ℕ, ◌≡◌, ◌+◌, ◌<◌, ◌≤◌, ◌⊎◌, ◌++◌, ◌∷◌, [], List, length, Result, Ok, Err}
 use mathlib.Core.List.{IsPrefix}
+use Rattle.dm_base.specs.declared.limits.TheConstants.{ENTRIES}
 use Rattle.dm_base.specs.declared.ids.EventId.{EventId}
 use Rattle.dm_rows.specs.declared.messages.Entry.{Entry}
 use Rattle.dm_rows.specs.declared.messages.At.{At}
+use Rattle.dm_rows.specs.declared.messages.Message.TheVariants.{Adopt}
+use Rattle.dm_rows.specs.declared.rows.Snapshot.{Snapshot}
 use Rattle.dm_rows.specs.declared.messages.Refusal.{Refusal}
 use Rattle.dm_rows.specs.declared.messages.Refusal.TheVariants.{OutOfMemory}
+use Rattle.dm_rows.specs.Active.{HasNoCycle}
 use Rattle.dm_rows.specs.History.{IsLegal}
-use Rattle.dm_cert.specs.Answers.{Setting, IsEntry, IsRefused, IsTimeAt, IsUnknownAt, IsCostAt}
+use Rattle.dm_rows.specs.Rows.{IsSized}
+use Rattle.dm_tree.specs.declared.adopting.AdoptRefusal.{AdoptRefusal}
+use Rattle.dm_tree.specs.declared.adopting.AdoptRefusal.TheVariants.{Old, Full, OutOfMemory as NoMemory}
+use Rattle.dm_tree.specs.declared.plans.Plan.{Plan}
+use Rattle.dm_tree.specs.Plans.{whole_task, IsTruePlan}
+use Rattle.dm_cert.specs.Answers.{Setting, rows_after, IsEntry, IsRefused, IsTimeAt, IsUnknownAt, IsCostAt}
 
 -- what answers go by besides the entries, the entries that were seen, and the numbers of those that were entered here
 pub record DeskValue : Type 0 where
@@ -70,3 +79,47 @@ pub record TellsCost (before now : DeskValue) (told : ℕ × ℕ) : Type 0 where
 pub record TellsLength (before now : DeskValue) (told : ℕ) : Type 0 where
   pub looks : Looks before now
   pub here : told ≡ length now.seen
+
+-- ---- plans
+
+-- how many entries the history that is seen has, and equal rows, which have no cycle
+pub record IsCopied (before now : DeskValue) (snapshot : Snapshot) : Type 0 where
+  pub looks : Looks before now
+  pub here : snapshot.entry ≡ length now.seen
+  pub rows : snapshot.rows ≡ rows_after now.setting now.seen snapshot.entry
+  pub sized : IsSized now.setting.net snapshot.rows
+  pub no_cycle : HasNoCycle now.setting.net snapshot.rows
+
+-- for some budget the plan is true of the rows after as many entries as it names, which were seen
+pub record IsTrueOf (desk : DeskValue) (plan : Plan) : Type 0 where
+  pub budget : ℕ
+  pub within : plan.entry ≤ length desk.seen
+  pub is_true : IsTruePlan (whole_task desk.setting.net (rows_after desk.setting desk.seen plan.entry) desk.setting.penalty budget) plan
+
+-- the entry that adopts a plan
+abbrev pub adopts : Plan → ℕ → ℕ → Entry
+adopts plan feed line = record { feed = feed; line = line; message = Adopt plan.choices }
+
+-- the plan's choices were entered, behind the entries that it is for
+pub record EntersPlan (before now : DeskValue) (plan : Plan) (feed line n : ℕ) : Type 0 where
+  pub enters : Enters before now (adopts plan feed line) n
+  pub next : n ≡ plan.entry + 1
+
+-- the history that is seen has more entries than the plan is for
+pub record FindsOld (before now : DeskValue) (plan : Plan) (n : ℕ) : Type 0 where
+  pub looks : Looks before now
+  pub here : n ≡ length now.seen
+  pub older : plan.entry < n
+
+-- it has as many, and takes no more
+pub record FindsNoRoom (before now : DeskValue) (plan : Plan) (n : ℕ) : Type 0 where
+  pub looks : Looks before now
+  pub here : n ≡ length now.seen
+  pub full : n ≡ ENTRIES
+  pub present : n ≡ plan.entry
+
+abbrev pub AdoptsPlan : DeskValue → DeskValue → Plan → ℕ → ℕ → Result ℕ AdoptRefusal → Type 0
+AdoptsPlan before now plan feed line (Ok n) = EntersPlan before now plan feed line n
+AdoptsPlan before now plan feed line (Err (Old n)) = FindsOld before now plan n
+AdoptsPlan before now plan feed line (Err (Full n)) = FindsNoRoom before now plan n
+AdoptsPlan before now plan feed line (Err NoMemory) = Looks before now

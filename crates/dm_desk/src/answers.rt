@@ -2,65 +2,79 @@
 
 ghost use Rattle.std.specs.Prelude.{◌≡◌, IfOk};
 ghost use Rattle.dm_feed.specs.Lines.{IsSaid, IsSpelledLine};
-ghost use Rattle.dm_desk.specs.Answered.{HasSeenLegal};
-ghost use Rattle.dm_desk.specs.Inside.Replies.{IsDueHeard, Replies, RepliesTo, AnswersLine};
+ghost use Rattle.dm_desk.specs.Answered.{HasSeenLegal, AreTrueOf};
+ghost use Rattle.dm_desk.specs.Planning.{PlansUnder};
+ghost use Rattle.dm_desk.specs.Inside.Replies.{IsDueHeard, HasPlans, Replies, AnswersLine};
 
+use crate::asked::{adopt, plan};
 use crate::desk::Desk;
+use crate::planner::Planner;
 use dm_base::EventId;
 use dm_cert::{LogItem, Reply};
 use dm_feed::{Heard, Line};
 use dm_rows::{At, Entry, Message, Refusal};
 use std::alloc::AllocError;
 
-/// Answers a due line of a feed.
-pub fn answer<D: Desk>(
+/// Answers a due line of a feed, which was answered these items before.
+pub fn answer<D: Desk, P: Planner>(
     desk: &mut D,
+    planner: &P,
     feed: u32,
     line: u32,
+    items: &[LogItem],
     heard: Heard,
 ) -> Result<LogItem, AllocError>
     requires legal { HasSeenLegal (D.value desk.old) }
+    requires plans { PlansUnder (P.value planner.now) (D.value desk.old).setting }
+    requires are_true { AreTrueOf (D.value desk.old) feed items.now }
     requires due { IsDueHeard heard }
-    ensures { IfOk result (λ item. AnswersLine (D.value desk.old) (D.value desk.new) feed line heard item) }
+    ensures { IfOk result (AnswersLine (D.value desk.old) (D.value desk.new) feed line items.now heard) }
 {
     let Heard::Line(said) = heard else {
         return Ok(LogItem::Malformed { line });
     };
-    match reply_to(desk, feed, line, &said)? {
-        Some(reply) => Ok(LogItem::Answered { line, said, reply }),
-        None => Ok(LogItem::Malformed { line }),
-    }
+    let reply = reply_to(desk, planner, feed, line, items, &said)?;
+    Ok(LogItem::Answered { line, said, reply })
 }
 
-// The reply to what a line says. There is none to one that asks for a plan or adopts one.
-fn reply_to<D: Desk>(
+// The reply to what a line says.
+fn reply_to<D: Desk, P: Planner>(
     desk: &mut D,
+    planner: &P,
     feed: u32,
     line: u32,
+    items: &[LogItem],
     said: &Line,
-) -> Result<Option<Reply>, AllocError>
-    requires { IsSpelledLine said.now }
-    ensures { IfOk result (λ reply. RepliesTo (D.value desk.old) (D.value desk.new) feed line said.now reply) }
+) -> Result<Reply, AllocError>
+    requires legal { HasSeenLegal (D.value desk.old) }
+    requires plans { PlansUnder (P.value planner.now) (D.value desk.old).setting }
+    requires had { HasPlans (D.value desk.old) items.now }
+    requires spelled { IsSpelledLine said.now }
+    ensures { IfOk result (Replies (D.value desk.old) (D.value desk.new) feed line items.now said.now) }
 {
     match said {
-        Line::Say(message) => {
-            let reply = post(desk, feed, line, message)?;
-            Ok(Some(reply))
-        }
-        Line::Time(event) => Ok(Some(time_of(desk, feed, line, *event))),
+        Line::Say(message) => post(desk, feed, line, items, message),
+        Line::Time(event) => Ok(time_of(desk, feed, line, items, *event)),
         Line::CostNow => {
             let (cost, entries) = desk.cost();
-            Ok(Some(Reply::Cost(entries, cost)))
+            Ok(Reply::Cost(entries, cost))
         }
-        Line::Read => Ok(Some(Reply::Read(desk.length()))),
-        Line::Plan(_) | Line::Adopt => Ok(None),
+        Line::Read => Ok(Reply::Read(desk.length())),
+        Line::Plan(budget) => plan(desk, planner, feed, line, items, *budget),
+        Line::Adopt => adopt(desk, feed, line, items),
     }
 }
 
 // Enters a message.
-fn post<D: Desk>(desk: &mut D, feed: u32, line: u32, message: &Message) -> Result<Reply, AllocError>
+fn post<D: Desk>(
+    desk: &mut D,
+    feed: u32,
+    line: u32,
+    _items: &[LogItem],
+    message: &Message,
+) -> Result<Reply, AllocError>
     requires { IsSaid message.now }
-    ensures { IfOk result (λ reply. Replies (D.value desk.old) (D.value desk.new) feed line (Line.Say message.now) reply) }
+    ensures { IfOk result (Replies (D.value desk.old) (D.value desk.new) feed line _items.now (Line.Say message.now)) }
 {
     let entry = Entry {
         feed,
@@ -80,8 +94,14 @@ fn post<D: Desk>(desk: &mut D, feed: u32, line: u32, message: &Message) -> Resul
 }
 
 // The time of an event.
-fn time_of<D: Desk>(desk: &mut D, _feed: u32, _line: u32, event: EventId) -> Reply
-    ensures { Replies (D.value desk.old) (D.value desk.new) _feed _line (Line.Time event) result }
+fn time_of<D: Desk>(
+    desk: &mut D,
+    _feed: u32,
+    _line: u32,
+    _items: &[LogItem],
+    event: EventId,
+) -> Reply
+    ensures { Replies (D.value desk.old) (D.value desk.new) _feed _line _items.now (Line.Time event) result }
 {
     match desk.time(event) {
         Ok((time, entries)) => Reply::Time(entries, time),

@@ -1,33 +1,39 @@
 //! The answers to the next lines of a feed.
 
 ghost use Rattle.std.specs.Prelude.{◌≡◌, ◌≤◌, IfOk};
-ghost use Rattle.dm_desk.specs.Answered.{HasSeenLegal, IsOpen, AnswersBatch};
+ghost use Rattle.dm_desk.specs.Answered.{HasSeenLegal, IsOpen, AreTrueOf, AnswersBatch};
+ghost use Rattle.dm_desk.specs.Planning.{PlansUnder};
 
 use crate::answers::answer;
 use crate::desk::Desk;
 use crate::hold::Hold;
+use crate::planner::Planner;
 use dm_cert::LogItem;
 use dm_feed::{FeedStop, LineReader, Next};
 use dm_outside::Source;
 use std::alloc::AllocError;
 
-/// Answers the next due lines of a feed, so many of them or all that are left, and keeps what was answered behind its log. Where
-/// no line is left it answers why. Want of memory leaves the desk and the log at any point.
-pub fn answer_batch<S: Source, D: Desk, H: Hold>(
+/// Answers the next due lines of a feed, so many of them or all that are left, and keeps what was answered behind its log,
+/// which is true of what the desk has seen. Where no line is left it answers why. Want of memory leaves the desk and the log at
+/// any point.
+pub fn answer_batch<S: Source, D: Desk, P: Planner, H: Hold>(
     reader: &mut LineReader<S>,
     desk: &mut D,
+    planner: &P,
     gate: &H,
     feed: u32,
     batch: u32,
     log: &mut Vec<LogItem>,
 ) -> Result<Option<FeedStop>, AllocError>
     requires legal { HasSeenLegal (D.value desk.old) }
+    requires plans { PlansUnder (P.value planner.now) (D.value desk.old).setting }
+    requires are_true { AreTrueOf (D.value desk.old) feed log.old.items }
     requires open_still { IsOpen reader.old }
     ensures answers { IfOk result (λ stop. AnswersBatch S.left S.is_sound reader.old reader.new (D.value desk.old) (D.value desk.new) feed batch log.old.items log.new.items stop) }
     ensures stays_sound { S.is_sound reader.old.source → S.is_sound reader.new.source }
 {
     for _ in 0..batch {
-        match answer_next(reader, desk, gate, feed, log)? {
+        match answer_next(reader, desk, planner, gate, feed, log)? {
             Some(stop) => return Ok(Some(stop)),
             None => {}
         }
@@ -36,14 +42,17 @@ pub fn answer_batch<S: Source, D: Desk, H: Hold>(
 }
 
 // Answers the next due line.
-fn answer_next<S: Source, D: Desk, H: Hold>(
+fn answer_next<S: Source, D: Desk, P: Planner, H: Hold>(
     reader: &mut LineReader<S>,
     desk: &mut D,
+    planner: &P,
     gate: &H,
     feed: u32,
     log: &mut Vec<LogItem>,
 ) -> Result<Option<FeedStop>, AllocError>
     requires legal { HasSeenLegal (D.value desk.old) }
+    requires plans { PlansUnder (P.value planner.now) (D.value desk.old).setting }
+    requires are_true { AreTrueOf (D.value desk.old) feed log.old.items }
     requires open_still { IsOpen reader.old }
     ensures answers { IfOk result (λ stop. AnswersBatch S.left S.is_sound reader.old reader.new (D.value desk.old) (D.value desk.new) feed 1 log.old.items log.new.items stop) }
     ensures stays_sound { S.is_sound reader.old.source → S.is_sound reader.new.source }
@@ -52,7 +61,7 @@ fn answer_next<S: Source, D: Desk, H: Hold>(
         Next::Stop(stop) => Ok(Some(stop)),
         Next::Due { line, heard } => {
             gate.hold(feed, 1);
-            let item = answer(desk, feed, line, heard)?;
+            let item = answer(desk, planner, feed, line, log.as_slice(), heard)?;
             log.push(item)?;
             gate.hold(feed, 2);
             Ok(None)

@@ -1,9 +1,12 @@
 //! What answers messages and questions.
 
-ghost use Rattle.dm_desk.specs.Desks.{Posts, TellsTime, TellsCost, TellsLength};
+ghost use Rattle.std.specs.Prelude.{IfOk};
+ghost use Rattle.dm_desk.specs.Desks.{Posts, TellsTime, TellsCost, TellsLength, IsCopied, IsTrueOf, AdoptsPlan};
 
 use dm_base::{Cost, EventId, Secs};
-use dm_rows::{At, Entry, Refusal};
+use dm_rows::{At, Entry, Refusal, Snapshot};
+use dm_tree::{AdoptRefusal, Plan};
+use std::alloc::AllocError;
 
 /// What enters messages into a history and answers questions about it. Each call may first come to see more of the history,
 /// which others have entered; its answer is then that of one dispatcher's table at the history that is seen.
@@ -29,4 +32,15 @@ pub trait Desk {
     /// How many entries there are.
     fn length(&mut self) -> u32
         ensures { TellsLength (value self.old) (value self.new) result };
+
+    /// How many entries there are, and rows equal to those after them.
+    fn snapshot(&mut self) -> Result<Snapshot, AllocError>
+        ensures { IfOk result (IsCopied (value self.old) (value self.new)) };
+
+    /// Adopts a plan that is true, for some budget, of the rows after as many entries as it names, and answers the number of
+    /// the entry, which is the next after those. [`AdoptRefusal::Old`] comes exactly where there are more entries by now, and
+    /// [`AdoptRefusal::Full`] exactly where there are as many and there is no room for one, but for want of memory.
+    fn adopt(&mut self, plan: &Plan, feed: u32, line: u32) -> Result<u32, AdoptRefusal>
+        requires { IsTrueOf (value self.old) plan.now }
+        ensures { AdoptsPlan (value self.old) (value self.new) plan.now feed line result };
 }

@@ -1,1 +1,11 @@
 pub mod Relaxing
+pub mod Paths
+pub mod Headings
+pub mod Directions
+pub mod Flipping
+pub mod FlipNames
+pub mod Moving
+pub mod Lists
+pub mod Decided
+pub mod Rooted
+pub mod Violating

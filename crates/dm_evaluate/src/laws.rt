@@ -1,4 +1,4 @@
-//! What holds of every priced timetable that evaluates a path. A law has no code: it is proved as the contract of an empty
+//! What holds of every priced timetable that evaluates a path, and of every evaluator. A law has no code: it is proved as the contract of an empty
 //! function.
 
 ghost use Rattle.std.specs.Prelude.{ℕ, ◌≡◌, List};
@@ -9,6 +9,7 @@ ghost use Rattle.dm_rows.specs.Rows.{RowsValue};
 ghost use Rattle.dm_priced.specs.Priced.{PricedValue, priced_cost};
 ghost use Rattle.dm_tree.specs.Relaxed.{IsRelaxedLeast, relaxed_cost_of, HasNoRelaxedCycle};
 ghost use Rattle.dm_evaluate.specs.Evaluating.{Evaluates};
+ghost use Rattle.dm_evaluate.specs.Evaluator.{EvaluatorValue, IsEvaluatorOf, times_of};
 
 /// At rest it has the least times of the relaxed problem.
 pub fn least_at_rest()
@@ -25,4 +26,9 @@ pub fn costs_as_relaxed()
 /// The relaxed problem of its path has no cycle.
 pub fn has_no_relaxed_cycle()
     ensures { (net : Net) (rows : RowsValue) (path : List Decision) (priced : PricedValue) → Evaluates net rows path priced → HasNoRelaxedCycle net rows path }
+{}
+
+/// An evaluator has the least times of the relaxed problem of its path.
+pub fn evaluators_have_least_times()
+    ensures { (net : Net) (evaluator : EvaluatorValue) → EndsAreKnown net → IsEvaluatorOf net evaluator → IsRelaxedLeast net evaluator.rows evaluator.path (times_of evaluator) }
 {}

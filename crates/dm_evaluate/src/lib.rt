@@ -1,8 +1,22 @@
-//! The relaxed problem of a path of decisions, kept on a priced timetable.
+//! The relaxed problem of a path of decisions, kept while decisions are made and taken back.
 //!
-//! It stands on dm_priced for the timetable with its cost, and on dm_tree for what the relaxed problem of a path is. Its laws
-//! say what a priced timetable that is held to the relaxed problem of a path gives: at rest its times are the least of the
-//! relaxed problem, at any time its cost is the relaxed cost of its times, and the relaxed problem has no cycle.
+//! It stands on dm_priced for the timetable with its cost, on dm_tree for what the relaxed problem of a path is, and on dm_relax
+//! for what decisions do to rows. An [`Evaluator`] begins with the path without a decision; [`Evaluator::decide`] makes one more, or
+//! refuses it exactly where what then binds has a cycle, and [`Evaluator::undecide`] takes any one back. Each move computes the
+//! times that it moves and no others, and takes no memory. Its times are the least ones of the relaxed problem, and its cost
+//! and the first violated choice are theirs.
 #![tactic(auto)]
 
+mod evaluator;
+mod filling;
+mod free;
+mod headways;
 pub mod laws;
+mod naming;
+mod places;
+mod starting;
+mod turning;
+mod undecided;
+mod violations;
+
+pub use evaluator::Evaluator;

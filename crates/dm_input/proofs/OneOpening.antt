@@ -22,7 +22,7 @@ use Rattle.dm_input.specs.declared.flaws.FileFlaw.{FileFlaw}
 use Rattle.dm_input.specs.declared.flaws.FileFlaw.TheVariants.{Record, TooLong}
 use Rattle.dm_input.specs.declared.flaws.InputFlaw.{InputFlaw}
 use Rattle.dm_input.specs.declared.flaws.InputFlaw.TheVariants.{InFile, Network, Start}
-use Rattle.dm_input.specs.Words.{FilesAsked}
+use Rattle.dm_words.specs.Words.{FilesAsked}
 use Rattle.dm_input.specs.Order.{AreOne, IsOne, IsReadBy, SameFault, SameFlaw, stage_of, stage_place, reads}
 use Rattle.dm_input.specs.Input.{Told, IsHeld, AnswersRows, NamedAnswers, FileAnswers, FileStage, EventsAnswer, ActivitiesAnswer, EventDelaysAnswer, ActivityDelaysAnswer, NetworkAnswers, StartAnswers, Raised, Then, IsAnswer, FilesAnswer, OpeningAnswer, PassesBefore, file_name}
 use Rattle.dm_input.proofs.OneNetwork.{one_network}

@@ -13,7 +13,7 @@ use Rattle.dm_input.specs.declared.flaws.InputFlaw.{InputFlaw}
 use Rattle.dm_input.specs.declared.flaws.InputFlaw.TheVariants.{InFile, Network, Start}
 use Rattle.dm_input.specs.declared.flaws.InputStop.{InputStop}
 use Rattle.dm_input.specs.declared.flaws.InputStop.TheVariants.{Refused, ReadFault, NoMemory}
-use Rattle.dm_input.specs.Words.{FilesAsked}
+use Rattle.dm_words.specs.Words.{FilesAsked}
 use Rattle.dm_input.specs.Input.{Told, NamedAnswers, FileStage, EventsAnswer, ActivitiesAnswer, EventDelaysAnswer, ActivityDelaysAnswer, FilesAnswer, FileRows, NetworkAnswers, StartAnswers, OpeningAnswer, PassesBefore, Raised, file_name}
 use Rattle.dm_input.specs.Stops.{IsKept, StopsOpening}
 use Rattle.dm_input.specs.Inside.Stages.{StopsAtFile, StopsAtName, StopsMaking}

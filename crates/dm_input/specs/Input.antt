@@ -21,7 +21,7 @@ use Rattle.dm_input.specs.declared.flaws.FileFlaw.{FileFlaw}
 use Rattle.dm_input.specs.declared.flaws.FileFlaw.TheVariants.{Record, TooLong}
 use Rattle.dm_input.specs.declared.flaws.InputFlaw.{InputFlaw}
 use Rattle.dm_input.specs.declared.flaws.InputFlaw.TheVariants.{InFile, Network, Start}
-use Rattle.dm_input.specs.Words.{FilesAsked, in_folder}
+use Rattle.dm_words.specs.Words.{FilesAsked, in_folder}
 
 -- the name of a file as it is opened; the files of delays have one where the words name them
 abbrev pub file_name : FilesAsked → File → Option (List ℕ)

@@ -1,6 +1,4 @@
--- What words ask for, what words and files determine, in which order they are refused, and the lines that say why.
-pub mod Words
-pub mod Asked
+-- What words and files determine, in which order they are refused, and the lines that say why.
 pub mod Input
 pub mod Stops
 pub mod Order

@@ -16,7 +16,7 @@ use Rattle.dm_input.specs.declared.flaws.FileFlaw.{FileFlaw}
 use Rattle.dm_input.specs.declared.flaws.FileFlaw.TheVariants.{Record, TooLong}
 use Rattle.dm_input.specs.declared.flaws.InputFlaw.{InputFlaw}
 use Rattle.dm_input.specs.declared.flaws.InputFlaw.TheVariants.{InFile, Network, Start}
-use Rattle.dm_input.specs.Words.{FilesAsked}
+use Rattle.dm_words.specs.Words.{FilesAsked}
 use Rattle.dm_input.specs.Input.{file_name}
 
 abbrev pub line_end : List ℕ

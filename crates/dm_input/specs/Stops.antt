@@ -6,7 +6,7 @@ use Rattle.dm_outside.specs.declared.faults.TakeFault.TheVariants.{ReadFault as 
 use Rattle.dm_input.specs.declared.flaws.InputStop.{InputStop}
 use Rattle.dm_input.specs.declared.flaws.InputStop.TheVariants.{Refused, ReadFault, NoMemory}
 use Rattle.dm_input.specs.declared.opening.Opened.{Opened}
-use Rattle.dm_input.specs.Words.{FilesAsked}
+use Rattle.dm_words.specs.Words.{FilesAsked}
 use Rattle.dm_input.specs.Input.{Told, IsHeld, Opening, OpeningAnswer, IsUnread}
 
 -- a shelf tells what it told before

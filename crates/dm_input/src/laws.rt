@@ -1,5 +1,5 @@
 //! What the definitions of inputs say, whatever the words and files: each function's contract is a law, and its body is empty.
-ghost use Rattle.std.specs.Prelude.{◌≡◌, ◌≢◌, ℕ, List, IsSome};
+ghost use Rattle.std.specs.Prelude.{◌≡◌, ◌≢◌, List, IsSome};
 ghost use Rattle.dm_base.specs.declared.rows.ActRow.{ActRow};
 ghost use Rattle.dm_base.specs.declared.rows.EventRow.{EventRow};
 ghost use Rattle.dm_network.specs.Build.{IsBuiltFrom, IsMadeOf, RefusesRecords};
@@ -7,7 +7,7 @@ ghost use Rattle.dm_network.specs.declared.parts.NetFault.{NetFault};
 ghost use Rattle.dm_network.specs.Net.{Net};
 ghost use Rattle.dm_input.specs.Input.{Told, OpeningAnswer};
 ghost use Rattle.dm_input.specs.Order.{IsOne};
-ghost use Rattle.dm_input.specs.Words.{Asks, Command, FilesAsked};
+ghost use Rattle.dm_words.specs.Words.{FilesAsked};
 
 use dm_network::NetFault;
 
@@ -25,9 +25,4 @@ pub fn records_are_made_or_refused()
 /// cycle is shown.
 pub fn openings_are_one()
     ensures { (told : Told) (asked : FilesAsked) → IsSome told → IsOne (OpeningAnswer told asked) }
-{}
-
-/// Words ask for one thing at most.
-pub fn words_ask_for_one_thing()
-    ensures { (words : List (List ℕ)) (one other : Command) → Asks words one → Asks words other → one ≡ other }
 {}

@@ -1,11 +1,11 @@
 //! What words and files determine: a network and its start rows, or the first refusal.
 //!
-//! It stands on dm_lintim, which reads the files, on dm_network and dm_rows, which make the network and the start rows, and
-//! on dm_outside, for shelves and sinks. [`read_words`] gives what the words ask for, exactly where they ask for something.
-//! [`read_opening`] opens, reads and checks the files one after the other, then makes the network, and then the start rows;
-//! it promises what these determine, or the first refusal in this order with its cause. The lines that say why there is
-//! none are put by [`put_usage`], [`put_refused`] and [`put_read_fault`]. That all of this is determined, but for which
-//! cycle of a network is shown, is said in [`laws`].
+//! It stands on dm_words, which reads the words, on dm_lintim, which reads the files, on dm_network and dm_rows, which make
+//! the network and the start rows, and on dm_outside, for shelves and sinks. [`read_opening`] opens, reads and checks the
+//! files one after the other, then makes the network, and then the start rows; it promises what these determine, or the
+//! first refusal in this order with its cause. The lines that say why there is none are put by [`put_usage`],
+//! [`put_refused`] and [`put_read_fault`]. That all of this is determined, but for which cycle of a network is shown, is
+//! said in [`laws`].
 #![tactic(auto)]
 
 mod flaws;
@@ -13,10 +13,8 @@ pub mod laws;
 mod lines;
 mod opening;
 mod reading;
-mod words;
 
 pub use flaws::{File, FileFlaw, InputFlaw, InputStop};
 pub use lines::{put_read_fault, put_refused, put_usage};
 pub use opening::{Opened, read_opening};
 pub use reading::take_name;
-pub use words::{CommandWords, FileWords, RunWords, read_words};

@@ -1,19 +1,19 @@
 //! The lines that say why there is no run.
 ghost use Rattle.std.specs.Prelude.{◌≡◌, [], ◌++◌, codes, unwrap_or};
 ghost use Rattle.std.specs.Option.{option_map};
-ghost use Rattle.dm_input.specs.Words.{in_folder};
+ghost use Rattle.dm_words.specs.Words.{in_folder};
 ghost use Rattle.std.specs.List.{flat_map};
 ghost use Rattle.dm_outside.specs.Printing.{Puts, Prints};
-ghost use Rattle.dm_input.specs.Asked.{files_of};
+ghost use Rattle.dm_words.specs.Asked.{files_of};
 ghost use Rattle.dm_input.specs.Lines.{name_of, kind_text, id_text, cycle_text, network_text, start_text, file_text, flaw_text, refused_line, read_fault_line, usage_line};
 
 use crate::flaws::{File, FileFlaw, InputFlaw};
-use crate::words::FileWords;
 use dm_base::ActId;
 use dm_lintim::{FileFault, FileKind};
 use dm_network::NetFault;
 use dm_outside::{Page, Piece, Sink, WriteFault, put_all};
 use dm_rows::StartFault;
+use dm_words::FileWords;
 
 /// Prints the rule that a record breaks.
 fn print_kind<K: Sink>(sink: &mut K, page: &mut Page, kind: FileKind) -> Result<(), WriteFault>

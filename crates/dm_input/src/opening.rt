@@ -2,18 +2,18 @@
 ghost use Rattle.std.specs.Prelude.{◌≡◌, Ok, IfOk, IfErr};
 ghost use Rattle.dm_rows.specs.Rows.{IsSized};
 ghost use Rattle.dm_rows.specs.StartFaults.{DelaysAreWithin};
-ghost use Rattle.dm_input.specs.Asked.{files_of};
+ghost use Rattle.dm_words.specs.Asked.{files_of};
 ghost use Rattle.dm_input.specs.Input.{NetworkAnswers, StartAnswers, OpeningAnswer};
 ghost use Rattle.dm_input.specs.Stops.{IsKept, StopsOpening, opening_in};
 ghost use Rattle.dm_input.specs.Inside.Stages.{EventsFit, ActivitiesFit, StopsMaking};
 
 use crate::flaws::{InputFlaw, InputStop};
 use crate::reading::read_files;
-use crate::words::FileWords;
 use dm_base::{ActRow, DelayRow, EventRow};
 use dm_network::{NetFault, Network};
 use dm_outside::Shelf;
 use dm_rows::{Rows, StartFault, start_rows};
+use dm_words::FileWords;
 use std::alloc::Global;
 
 /// The network that the records make.

@@ -7,17 +7,17 @@ ghost use Rattle.dm_lintim.specs.declared.fault.FileFault.{FileFault};
 ghost use Rattle.dm_lintim.specs.Files.{ReadsEvents, ReadsActivities, ReadsDelays, no_memory};
 ghost use Rattle.dm_input.specs.declared.flaws.File.{File};
 ghost use Rattle.dm_input.specs.declared.flaws.InputStop.{InputStop};
-ghost use Rattle.dm_input.specs.Asked.{files_of};
+ghost use Rattle.dm_words.specs.Asked.{files_of};
 ghost use Rattle.dm_input.specs.Input.{FileStage, FilesAnswer, NamedAnswers, file_name};
 ghost use Rattle.dm_input.specs.Stops.{IsKept, StopsOpening, Takes};
 ghost use Rattle.dm_input.specs.Inside.Stages.{StopsAtFile, StopsAtName, IsStopBy, AllFit, rows_in};
 
 use crate::flaws::{File, FileFlaw, InputFlaw, InputStop};
-use crate::words::FileWords;
 use dm_base::limits::FILE;
 use dm_base::{ActRow, DelayRow, EventRow};
 use dm_lintim::{Columns, FileFault, FileKind, read_activities, read_delays, read_events};
 use dm_outside::{Shelf, TakeFault, take_all};
+use dm_words::FileWords;
 use std::alloc::{AllocError, Global};
 
 /// A row of one kind of file.

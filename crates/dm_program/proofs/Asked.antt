@@ -1,8 +1,10 @@
 -- What the words of a run say of its numbers, and its start rows.
-use Rattle.std.proofs.Common.{◌≡◌, ℕ, ◌<◌, ◌≤◌, ◌^◌, List, [], ◌∷◌, length, Option, Some, None, Ok, sym, subst, ap, arith}
+use Rattle.std.proofs.Common.{◌≡◌, ℕ, ◌≤◌, List, [], ◌∷◌, Option, Some, None, Ok, sym, subst, arith}
 use Rattle.dm_base.specs.declared.limits.TheConstants.{PENALTY}
 use Rattle.dm_input.specs.Input.{Told, Opening, OpeningAnswer, IsAnswer}
-use Rattle.dm_input.specs.Words.{RunAsked, FilesAsked, Command, RunOf, Asks, IsPenalty, IsBatch}
+use Rattle.dm_words.specs.Words.{RunAsked, FilesAsked, Command, RunOf, CheckOf, GenOf, Asks, IsNumberOr}
+use Rattle.dm_words.specs.declared.command.TheConstants.{BATCH, STANDARD_BATCH}
+use Rattle.dm_words.specs.declared.files.TheConstants.{STANDARD_PENALTY}
 use Rattle.dm_network.specs.Net.{Net}
 use Rattle.dm_network.specs.Start.{IsNetwork}
 use Rattle.dm_rows.specs.Active.{HasNoCycle}
@@ -10,30 +12,31 @@ use Rattle.dm_rows.specs.Rows.{RowsValue}
 use Rattle.dm_times.proofs.Meeting.{start_has_no_cycle}
 use Rattle.dm_program.specs.Inside.Stages.{IsAtStart, AreWithin, IsWithin}
 
-penalty_fits : (given : Option (List ℕ)) (penalty : ℕ) → IsPenalty given penalty → penalty ≤ PENALTY
-penalty_fits None penalty is = omega arith
-penalty_fits (Some text) penalty is = is.2
+no_more : (given : Option (List ℕ)) (least most standard n : ℕ) → standard ≤ most → IsNumberOr given least most standard n → n ≤ most
+no_more None least most standard n low is = omega (arith, is)
+no_more (Some text) least most standard n low is = is.to
 
-some_batch : (given : Option (List ℕ)) (batch : ℕ) → IsBatch given batch → 0 < batch
-some_batch None batch is = omega arith
-some_batch (Some text) batch is = is.2
-
-few_batch : (given : Option (List ℕ)) (batch : ℕ) → IsBatch given batch → batch < 2 ^ 32
-few_batch None batch is = omega arith
-few_batch (Some text) batch is = omega (arith, is.3)
+no_less : (given : Option (List ℕ)) (least most standard n : ℕ) → least ≤ standard → IsNumberOr given least most standard n → least ≤ n
+no_less None least most standard n low is = omega (arith, is)
+no_less (Some text) least most standard n low is = is.from
 
 pub asked_within : (words : List (List ℕ)) (asked : RunAsked) → Asks words (RunOf asked) → AreWithin asked
 asked_within [] asked asks = absurd asks
-asked_within (word ∷ words) asked asks = record {
-  penalty = penalty_fits asks.1.gives_files.penalty asked.files.penalty asks.1.gives_files.is_penalty;
-  some_feed = asks.1.has_feed;
-  few_feeds = asks.1.has_few;
-  some_lines = some_batch asks.1.batch asked.batch asks.1.is_batch;
-  few_lines = few_batch asks.1.batch asked.batch asks.1.is_batch;
-}
+asked_within (word ∷ words) asked asks =
+    let penalty = asks.1.files.penalty in
+    let batch = asks.1.batch in
+    record {
+      penalty = no_more penalty.value 0 PENALTY STANDARD_PENALTY asked.files.penalty (omega arith) penalty.is;
+      some_feed = asks.1.some_feed;
+      few_feeds = asks.1.few_feeds;
+      some_lines = no_less batch.value 1 BATCH STANDARD_BATCH asked.batch (omega arith) batch.is;
+      few_lines = let few = no_more batch.value 1 BATCH STANDARD_BATCH asked.batch (omega arith) batch.is in omega (arith, few);
+    }
 
 pub command_within : (words : List (List ℕ)) (command : Command) → Asks words command → IsWithin command
 command_within words (RunOf asked) asks = asked_within words asked asks
+command_within words (CheckOf asked) asks = tt
+command_within words (GenOf asked) asks = tt
 
 ok_is : (x y : Opening) → IsAnswer x (Ok y) → y ≡ x
 ok_is x y e = cc

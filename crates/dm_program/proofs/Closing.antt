@@ -1,12 +1,12 @@
 -- What each end of a run says of the text that was due.
-use Rattle.std.proofs.Common.{◌≡◌, ℕ, ◌≤◌, ◌⊎◌, inl, inr, Bool, true, false, cond, List, Option, Some, None, Err, refl, sym, ap, subst, ◌∙◌}
+use Rattle.std.proofs.Common.{◌≡◌, ℕ, ◌≤◌, ◌⊎◌, inl, inr, Bool, true, false, cond, List, Option, Some, None, Err, refl, sym, subst}
 use Rattle.std.specs.Io.KnownBytes.{Appends, Keeps}
 use Rattle.std.specs.List.{list_any}
-use Rattle.dm_outside.specs.Printing.{TakesAll, TakesFront}
 use Rattle.dm_input.specs.Input.{Told, OpeningAnswer, IsUnread}
 use Rattle.dm_input.specs.Lines.{usage_line, refused_line, read_fault_line}
 use Rattle.dm_input.specs.Stops.{StopsOpening}
-use Rattle.dm_input.specs.Words.{RunAsked, RunOf, Asks, AsksNothing, AsksForRun}
+use Rattle.dm_words.specs.Words.{Command, RunAsked, RunOf, Asks, AsksNothing}
+use Rattle.dm_words.proofs.OneCommand.{one_command}
 use Rattle.dm_input.specs.declared.flaws.File.{File}
 use Rattle.dm_input.specs.declared.flaws.InputFlaw.{InputFlaw}
 use Rattle.dm_input.specs.declared.flaws.InputStop.{InputStop}
@@ -14,10 +14,18 @@ use Rattle.dm_input.specs.declared.flaws.InputStop.TheVariants.{Refused as StopR
 use Rattle.dm_cert.specs.declared.replies.FeedLog.{FeedLog}
 use Rattle.dm_program.specs.declared.status.Status.{Status}
 use Rattle.dm_program.specs.declared.status.Status.TheVariants.{Ok as Well, Usage, Refused, ReadFault, WriteFault, NoMemory}
+use Rattle.dm_program.specs.Served.{IsServed, AsksServed, AsksNothingServed}
 use Rattle.dm_program.specs.Feeds.{is_fault, is_long, status_of}
 use Rattle.dm_program.specs.Headline.{IsRunOf}
-use Rattle.dm_program.specs.Ends.{IsUsage, IsRefusal, IsReadFault, IsDue, Ends, EndsAs, WantsMemory}
+use Rattle.dm_program.specs.Ends.{IsDue, Ends, EndsAs, WantsMemory}
 use Rattle.dm_program.specs.Inside.Stages.{EndsStopped}
+
+-- words that ask for nothing, or for what is not done, ask for nothing that is done
+pub serves_nothing : (words : List (List ℕ)) → AsksNothing words → AsksNothingServed words
+serves_nothing words nothing asked asks = nothing asked asks.0
+
+pub serves_no : (words : List (List ℕ)) (command : Command) → Asks words command → (IsServed command → ⊥) → AsksNothingServed words
+serves_no words command asks unserved asked also = unserved (subst IsServed (one_command words asked command also.0 asks) also.1)
 
 -- the status of logs is that of a run
 of_two : (fault long : Bool) (s : Status) → s ≡ cond fault ReadFault (cond long Refused Well) → (s ≡ Well) ⊎ ((s ≡ Refused) ⊎ (s ≡ ReadFault))
@@ -56,13 +64,13 @@ module _ {K : Type 0} (taken : K → Option (List ℕ)) (faults : K → ℕ) (to
         | inr part ↦ subst E (sym part.0) (record { status = status; text = text; is_due = due; front = part.1 })
       ]
 
-  pub ends_usage : (result : Status) → AsksNothing words → EndsAs taken faults before now usage_line Usage result → Ends taken faults told is_sound words before now result
+  pub ends_usage : (result : Status) → AsksNothingServed words → EndsAs taken faults before now usage_line Usage result → Ends taken faults told is_sound words before now result
   ends_usage result outside h = ends_due Usage usage_line result (record { outside = outside; line = refl }) h
 
-  pub ends_refused : (asked : RunAsked) (flaw : InputFlaw) (result : Status) → Asks words (RunOf asked) → OpeningAnswer told asked.files (Err flaw) → EndsAs taken faults before now (refused_line asked.files flaw) Refused result → Ends taken faults told is_sound words before now result
+  pub ends_refused : (asked : RunAsked) (flaw : InputFlaw) (result : Status) → AsksServed words (RunOf asked) → OpeningAnswer told asked.files (Err flaw) → EndsAs taken faults before now (refused_line asked.files flaw) Refused result → Ends taken faults told is_sound words before now result
   ends_refused asked flaw result asks refusal h = ends_due Refused (refused_line asked.files flaw) result (inl (record { asked = asked; is_asked = asks; flaw = flaw; refusal = refusal; line = refl })) h
 
-  pub ends_unread : (asked : RunAsked) (file : File) (result : Status) → Asks words (RunOf asked) → IsUnread told is_sound asked.files file → EndsAs taken faults before now (read_fault_line asked.files file) ReadFault result → Ends taken faults told is_sound words before now result
+  pub ends_unread : (asked : RunAsked) (file : File) (result : Status) → AsksServed words (RunOf asked) → IsUnread told is_sound asked.files file → EndsAs taken faults before now (read_fault_line asked.files file) ReadFault result → Ends taken faults told is_sound words before now result
   ends_unread asked file result asks unread h = ends_due ReadFault (read_fault_line asked.files file) result (inl (record { asked = asked; is_asked = asks; file = file; unread = unread; line = refl })) h
 
   pub ends_run : (logs : List FeedLog) (text : List ℕ) (result : Status) → IsRunOf told is_sound words (status_of logs) text → EndsAs taken faults before now text (status_of logs) result → Ends taken faults told is_sound words before now result
@@ -80,15 +88,15 @@ keeps_same None = tt
 keeps_same (Some xs) = refl
 
 -- want of memory
-pub wants_memory : {K : Type 0} (taken : K → Option (List ℕ)) (now : K) (words : List (List ℕ)) (asked : RunAsked) → Asks words (RunOf asked) → WantsMemory (taken now) (taken now) words
+pub wants_memory : {K : Type 0} (taken : K → Option (List ℕ)) (now : K) (words : List (List ℕ)) (asked : Command) → AsksServed words asked → WantsMemory (taken now) (taken now) words
 wants_memory taken now words asked asks = record { asked = asked; is_asked = asks; kept = keeps_same (taken now) }
 
 -- a run that its files stopped
-pub ends_stopped : {K : Type 0} (taken : K → Option (List ℕ)) (faults : K → ℕ) (told : Told) (is_sound : List ℕ → Type 0) (words : List (List ℕ)) (before now : K) (asked : RunAsked) → Asks words (RunOf asked) → (stop : InputStop) (result : Status)
+pub ends_stopped : {K : Type 0} (taken : K → Option (List ℕ)) (faults : K → ℕ) (told : Told) (is_sound : List ℕ → Type 0) (words : List (List ℕ)) (before now : K) (asked : RunAsked) → AsksServed words (RunOf asked) → (stop : InputStop) (result : Status)
     → StopsOpening told is_sound asked.files stop → EndsStopped taken faults asked.files stop before now result → Ends taken faults told is_sound words before now result
 ends_stopped taken faults told is_sound words before now asked asks (StopRefused flaw) result stops h = ends_refused taken faults told is_sound words before now asked flaw result asks stops h
 ends_stopped taken faults told is_sound words before now asked asks (StopUnread file) result stops h = ends_unread taken faults told is_sound words before now asked file result asks stops h
 ends_stopped {K} taken faults told is_sound words before now asked asks StopMemory result stops h =
     let E : Status → Type 0 = Ends taken faults told is_sound words before now in
     let W : K → Type 0 = λ k. WantsMemory (taken before) (taken k) words in
-    subst E (sym h.1) (subst W (sym h.0) (wants_memory taken before words asked asks))
+    subst E (sym h.1) (subst W (sym h.0) (wants_memory taken before words (RunOf asked) asks))

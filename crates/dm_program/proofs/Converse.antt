@@ -1,17 +1,17 @@
 -- Where words and files determine how a run ends.
-use Rattle.std.proofs.Common.{◌≡◌, ℕ, ◌<◌, ◌≤◌, ◌⊎◌, inl, inr, Bool, true, false, cond, ◌+◌, ◌||◌, List, [], ◌∷◌, length, Option, Some, None, Ok, Err, refl, sym, ap, subst, ◌∙◌, arith, get_or, slice_get}
+use Rattle.std.proofs.Common.{◌≡◌, ℕ, ◌≤◌, ◌⊎◌, inl, inr, Bool, false, cond, ◌+◌, ◌||◌, List, [], ◌∷◌, length, Option, Some, None, Ok, Err, refl, sym, ap, subst, ◌∙◌, arith, get_or, slice_get}
 use Rattle.std.specs.Prelude.{IsSome}
 use Rattle.std.specs.List.{list_any}
 use Rattle.std.proofs.lemmas.Bool.{false≢true}
-use Rattle.std.proofs.lemmas.Option.{slice_get_within, slice_get-get_or, get_or_from_slice_get}
+use Rattle.std.proofs.lemmas.Option.{slice_get_within, slice_get-get_or}
 use Rattle.dm_base.specs.declared.limits.TheConstants.{FEED}
 use Rattle.dm_outside.specs.Faults.{HasRisen}
 use Rattle.dm_input.specs.Input.{Told, IsHeld, Opening, OpeningAnswer, IsUnread}
 use Rattle.dm_input.specs.Order.{SameFlaw}
 use Rattle.dm_input.specs.Lines.{refused_line, read_fault_line}
-use Rattle.dm_input.specs.Words.{Command, RunAsked, RunOf, Asks, AsksNothing}
+use Rattle.dm_words.specs.Words.{RunAsked, RunOf}
 use Rattle.dm_input.specs.declared.flaws.InputFlaw.{InputFlaw}
-use Rattle.dm_input.proofs.OneCommand.{one_command}
+use Rattle.dm_words.proofs.OneCommand.{one_command}
 use Rattle.dm_input.proofs.OneOpening.{opening_is_one, not_after}
 use Rattle.dm_feed.specs.declared.feed.FeedStop.{FeedStop}
 use Rattle.dm_feed.specs.declared.feed.FeedStop.TheVariants.{End, Fault, Long}
@@ -20,9 +20,10 @@ use Rattle.dm_cert.specs.declared.replies.FeedLog.{FeedLog}
 use Rattle.dm_rounds.proofs.Places.{behind_one}
 use Rattle.dm_program.specs.declared.status.Status.{Status}
 use Rattle.dm_program.specs.declared.status.Status.TheVariants.{Ok as Well, Usage, Refused, ReadFault, WriteFault, NoMemory}
-use Rattle.dm_program.specs.Feeds.{IsLogOfName, IsLogOfHeld, AreLogsOf, is_fault, is_long, status_of}
+use Rattle.dm_program.specs.Served.{AsksServed, AsksNothingServed}
+use Rattle.dm_program.specs.Feeds.{IsLogOfName, AreLogsOf, is_fault, is_long, status_of}
 use Rattle.dm_program.specs.Headline.{IsRunOf}
-use Rattle.dm_program.specs.Ends.{IsRefusal, IsReadFault, Ends, EndsAt, AreSound, AreShort}
+use Rattle.dm_program.specs.Ends.{Ends, EndsAt, AreSound, AreShort}
 
 some_is : {X : Type 0} (x y : X) → Some x ≡ Some y → x ≡ y
 some_is x y e = cc
@@ -66,17 +67,17 @@ name_ends told is_sound name bytes log known held short sound (inr l) = absurd (
 
 module _ {K : Type 0} (taken : K → Option (List ℕ)) (faults : K → ℕ) (told : Told) (is_sound : List ℕ → Type 0) (words : List (List ℕ)) (before now : K) where
   -- how a run ends whose words ask for nothing
-  pub ends_outside : AsksNothing words → (result : Status) → Ends taken faults told is_sound words before now result → (result ≡ Usage) ⊎ (result ≡ WriteFault)
+  pub ends_outside : AsksNothingServed words → (result : Status) → Ends taken faults told is_sound words before now result → (result ≡ Usage) ⊎ (result ≡ WriteFault)
   ends_outside nothing Usage h = inl refl
   ends_outside nothing WriteFault h = inr refl
   ends_outside nothing Well h = absurd (nothing (RunOf h.holds.asked) h.holds.is_asked)
   ends_outside nothing Refused h = elim (h.holds) [ inl r ↦ absurd (nothing (RunOf r.asked) r.is_asked) | inr r ↦ absurd (nothing (RunOf r.asked) r.is_asked) ]
   ends_outside nothing ReadFault h = elim (h.holds) [ inl r ↦ absurd (nothing (RunOf r.asked) r.is_asked) | inr r ↦ absurd (nothing (RunOf r.asked) r.is_asked) ]
-  ends_outside nothing NoMemory h = absurd (nothing (RunOf h.asked) h.is_asked)
+  ends_outside nothing NoMemory h = absurd (nothing h.asked h.is_asked)
 
-  module _ (asked : RunAsked) (asks : Asks words (RunOf asked)) (known : IsSome told) where
-    same_asked : (other : RunAsked) → Asks words (RunOf other) → other ≡ asked
-    same_asked other also = run_is other asked (one_command words (RunOf other) (RunOf asked) also asks)
+  module _ (asked : RunAsked) (asks : AsksServed words (RunOf asked)) (known : IsSome told) where
+    same_asked : (other : RunAsked) → AsksServed words (RunOf other) → other ≡ asked
+    same_asked other also = run_is other asked (one_command words (RunOf other) (RunOf asked) also.0 asks.0)
 
     opens_here : (status : Status) (text : List ℕ) (r : IsRunOf told is_sound words status text) → OpeningAnswer told asked.files (Ok r.opening)
     opens_here status text r = subst (λ (a : RunAsked). OpeningAnswer told a.files (Ok r.opening)) (same_asked r.asked r.is_asked) r.opens

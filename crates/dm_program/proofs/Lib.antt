@@ -1,3 +1,4 @@
+pub mod Adopting
 pub mod Asked
 pub mod Closing
 pub mod Converse

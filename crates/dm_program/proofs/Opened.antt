@@ -1,12 +1,12 @@
 -- Feeds that are opened one after another.
-use Rattle.std.proofs.Common.{◌≡◌, ℕ, ◌+◌, ◌<◌, ◌≤◌, Bor, List, [], ◌∷◌, ◌++◌, length, map, Option, Some, None, IsSome, inl, inr, refl, sym, ap, subst, ◌∙◌, arith, length-append, slice_get, get_or}
+use Rattle.std.proofs.Common.{◌≡◌, ℕ, ◌+◌, ◌<◌, Bor, List, [], ◌∷◌, ◌++◌, length, map, Option, Some, None, IsSome, inl, inr, refl, sym, ap, subst, ◌∙◌, arith, length-append, slice_get, get_or}
 use Rattle.std.proofs.lemmas.List.{get_or-map, length-map}
-use Rattle.std.proofs.lemmas.Option.{slice_get_within, slice_get-get_or}
+use Rattle.std.proofs.lemmas.Option.{slice_get-get_or}
 use Rattle.dm_input.specs.Input.{Told, IsHeld}
 use Rattle.dm_input.specs.Stops.{IsKept}
 use Rattle.dm_outside.specs.Shelf.{Opens}
 use Rattle.dm_rounds.proofs.Places.{behind_push}
-use Rattle.dm_program.specs.Inside.Stages.{IsOpenedAs, IsOpened, OpenedFirst, AreOpened}
+use Rattle.dm_program.specs.Inside.Stages.{IsOpened, OpenedFirst, AreOpened}
 
 none_is_some : {X : Type 0} (o : Option X) → o ≡ None → IsSome o → ⊥
 none_is_some None is some = absurd cc

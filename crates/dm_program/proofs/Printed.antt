@@ -1,30 +1,28 @@
 -- A run that is answered has a spelling, and is true.
-use Rattle.std.proofs.Common.{◌≡◌, ◌≢◌, ℕ, suc, zero, ◌+◌, ◌-◌, ◌<◌, ◌≤◌, inl, inr, Bool, cond, eqb, true, false, List, [], ◌∷◌, ◌++◌, length, map, Option, Some, None, Ok, refl, sym, ap, subst, ◌∙◌, arith, zero-add, get_or, slice_get, All}
-use Rattle.std.specs.Prelude.{◌==◌, count_by, IfSome}
-use Rattle.std.specs.List.{range_with_len}
+use Rattle.std.proofs.Common.{◌≡◌, ◌≢◌, ℕ, suc, zero, ◌+◌, ◌<◌, ◌≤◌, inl, inr, Bool, cond, true, false, List, [], ◌∷◌, ◌++◌, length, Option, Some, None, Ok, refl, sym, ap, subst, ◌∙◌, arith, get_or}
+use Rattle.std.specs.Prelude.{◌==◌, IfSome}
 use Rattle.std.proofs.lemmas.List.Elements.{All-nil}
 use Rattle.std.proofs.lemmas.List.Sums.{sum_by-append, sum_by-cons}
-use Rattle.std.proofs.lemmas.Option.{slice_get_within, slice_get-get_or, get_or_from_slice_get}
+use Rattle.std.proofs.lemmas.Option.{slice_get_within, slice_get-get_or}
 use Rattle.std.proofs.lemmas.Bool.{cases_eq, eq-eqb, ne_eqb, cases_lt}
 use Rattle.dm_network.specs.Net.{Net}
 use Rattle.dm_rows.specs.Rows.{RowsValue}
 use Rattle.dm_rows.specs.Cost.{cost_of}
 use Rattle.dm_rows.specs.Timetable.{IsLeast}
 use Rattle.dm_input.specs.Input.{Told, IsHeld, Opening, OpeningAnswer}
-use Rattle.dm_input.specs.Words.{RunAsked, RunOf, Asks}
-use Rattle.dm_feed.specs.declared.feed.FeedStop.TheVariants.{Fault}
+use Rattle.dm_words.specs.Words.{RunAsked, RunOf}
 use Rattle.dm_cert.specs.declared.replies.FeedLog.{FeedLog}
-use Rattle.dm_cert.specs.Logs.{names, all_items, AreTrueLogs, KeepsRounds}
-use Rattle.dm_cert.specs.RunTexts.{Run, IsSpelledRun, IsSpelledLog, FitsRun, run_text}
-use Rattle.dm_cert.specs.Runs.{IsTrueRun, IsTextOf, AreTrueNotes, IsTrueNote, setting_of}
-use Rattle.dm_desk.specs.Desks.{DeskValue}
+use Rattle.dm_cert.specs.Logs.{names, AreTrueLogs, KeepsRounds}
+use Rattle.dm_cert.specs.RunTexts.{IsSpelledRun, FitsRun, run_text}
+use Rattle.dm_cert.specs.Runs.{IsTrueRun, AreTrueNotes, IsTrueNote}
 use Rattle.dm_desk.specs.Answered.{times}
-use Rattle.dm_rounds.specs.Rounds.{IsLogFrom, IsUnopened, IsLogFor, AnswersFeeds}
-use Rattle.dm_table.specs.Value.{TableValue, IsTable}
+use Rattle.dm_rounds.specs.Rounds.{IsLogFrom, IsLogFor}
+use Rattle.dm_table.specs.Value.{TableValue}
 use Rattle.dm_program.specs.declared.status.Status.{Status}
-use Rattle.dm_program.specs.Feeds.{IsLogOfHeld, IsLogOfUnopened, IsLogOfName, AreLogsOf, status_of}
+use Rattle.dm_program.specs.Served.{AsksServed}
+use Rattle.dm_program.specs.Feeds.{IsLogOfHeld, IsLogOfName, AreLogsOf, status_of}
 use Rattle.dm_program.specs.Headline.{IsRunOf}
-use Rattle.dm_program.specs.Inside.Stages.{desk_of, numbers_to, Begins, IsOpenedAs, IsOpened, AreOpened, AreWithin, RunsOver, run_in}
+use Rattle.dm_program.specs.Inside.Stages.{desk_of, numbers_to, IsOpenedAs, IsOpened, AreOpened, AreWithin, RunsOver, run_in}
 use Rattle.dm_program.proofs.Tables.{one_more_number}
 
 -- ---- numbers
@@ -143,7 +141,7 @@ module _ {S : Type 0} (left : S → Option (List ℕ)) (source_sound : S → Typ
 
   -- ---- its text
 
-  pub is_run_of : (told : Told) (is_sound : List ℕ → Type 0) (words : List (List ℕ)) (asked : RunAsked) (opening : Opening) → Asks words (RunOf asked) → AreWithin asked → OpeningAnswer told asked.files (Ok opening) → opening.net ≡ net → opening.rows ≡ rows → price ≡ asked.files.penalty
+  pub is_run_of : (told : Told) (is_sound : List ℕ → Type 0) (words : List (List ℕ)) (asked : RunAsked) (opening : Opening) → AsksServed words (RunOf asked) → AreWithin asked → OpeningAnswer told asked.files (Ok opening) → opening.net ≡ net → opening.rows ≡ rows → price ≡ asked.files.penalty
       → batch ≡ asked.batch → AreOpened left source_sound told is_sound asked.feeds feeds → FitsRun (run_in table logs) → (status : Status) → status ≡ status_of logs → IsRunOf told is_sound words status (run_text 2 (run_in table logs))
   is_run_of told is_sound words asked opening asks within opens is_net is_rows is_price is_batch opened fits status is_status =
       let of = logs_of_names told is_sound asked.feeds opened in

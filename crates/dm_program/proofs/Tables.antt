@@ -1,12 +1,11 @@
 -- A table as a desk.
-use Rattle.std.proofs.Common.{◌≡◌, ℕ, ◌+◌, ◌-◌, ◌<◌, ◌≤◌, ◌⊎◌, inl, inr, List, [], ◌∷◌, ◌++◌, length, Option, Some, None, refl, sym, ap, subst, ◌∙◌, arith, append-nil, length-append, zero-add, get_or, slice_get}
+use Rattle.std.proofs.Common.{◌≡◌, ℕ, ◌+◌, ◌-◌, ◌≤◌, ◌⊎◌, inl, inr, List, [], ◌∷◌, ◌++◌, length, Some, refl, sym, ap, subst, ◌∙◌, arith, append-nil, length-append, zero-add, slice_get}
 use Rattle.std.proofs.lemmas.List.FromFn.{map-range_with_len_more}
 use Rattle.std.proofs.Math.Seq.{get_or-append_seam}
 use Rattle.std.proofs.lemmas.Option.{slice_get-get_or}
 use Rattle.dm_network.specs.Net.{Net}
 use Rattle.dm_rows.specs.declared.messages.Entry.{Entry}
 use Rattle.dm_rows.specs.declared.messages.Message.{Message}
-use Rattle.dm_rows.specs.declared.messages.At.{At}
 use Rattle.dm_rows.specs.declared.messages.Refusal.{Refusal}
 use Rattle.dm_rows.specs.declared.messages.Refusal.TheVariants as refusal
 use Rattle.dm_rows.specs.Rows.{RowsValue}
@@ -14,8 +13,8 @@ use Rattle.dm_rows.specs.Active.{is_active}
 use Rattle.dm_rows.specs.Timetable.{IsLeastHolding}
 use Rattle.dm_rows.specs.Cost.{cost_of}
 use Rattle.dm_rows.specs.Refuse.{Refuses}
-use Rattle.dm_rows.specs.History.{rows_at, IsLegal}
-use Rattle.dm_cert.specs.Answers.{Setting, IsRefused, IsCostAt, IsEntry}
+use Rattle.dm_rows.specs.History.{rows_at}
+use Rattle.dm_cert.specs.Answers.{Setting, IsRefused}
 use Rattle.dm_desk.specs.Desks.{DeskValue, GoesOn, Enters, RefusesEntry, TellsCost}
 use Rattle.dm_table.specs.Value.{TableValue, IsTable}
 use Rattle.dm_table.specs.Answers.{RefusesPost}

@@ -1,27 +1,28 @@
 -- How a run ends: what is due to be written for each status, and why.
-use Rattle.std.specs.Prelude.{ℕ, ◌≡◌, ◌≤◌, ◌⊎◌, List, length, slice_get, Option, Some, Result, Err}
+use Rattle.std.specs.Prelude.{ℕ, ◌≡◌, ◌≤◌, ◌⊎◌, List, length, slice_get, Option, Some, Err}
 use Rattle.std.specs.Io.KnownBytes.{Appends, Keeps}
 use Rattle.dm_base.specs.declared.limits.TheConstants.{FEED}
 use Rattle.dm_input.specs.Input.{Told, IsHeld, OpeningAnswer, IsUnread, file_name}
 use Rattle.dm_input.specs.Lines.{usage_line, refused_line, read_fault_line}
 use Rattle.dm_input.specs.Order.{SameFlaw, IsReadBy}
-use Rattle.dm_input.specs.Words.{RunAsked, RunOf, Asks, AsksNothing}
+use Rattle.dm_words.specs.Words.{Command, RunAsked, RunOf}
 use Rattle.dm_input.specs.declared.flaws.File.{File}
 use Rattle.dm_input.specs.declared.flaws.InputFlaw.{InputFlaw}
 use Rattle.dm_outside.specs.Printing.{TakesAll, TakesFront}
 use Rattle.dm_program.specs.declared.status.Status.{Status}
 use Rattle.dm_program.specs.declared.status.Status.TheVariants.{Ok, Usage, Refused, ReadFault, WriteFault, NoMemory}
+use Rattle.dm_program.specs.Served.{AsksServed, AsksNothingServed}
 use Rattle.dm_program.specs.Headline.{IsRunOf}
 
--- the words ask for no run
+-- the words ask for nothing
 pub record IsUsage (words : List (List ℕ)) (text : List ℕ) : Type 0 where
-  pub outside : AsksNothing words
+  pub outside : AsksNothingServed words
   pub line : text ≡ usage_line
 
 -- what is refused first, of bytes that are those that the shelf tells
 pub record IsRefusal (told : Told) (words : List (List ℕ)) (text : List ℕ) : Type 0 where
   pub asked : RunAsked
-  pub is_asked : Asks words (RunOf asked)
+  pub is_asked : AsksServed words (RunOf asked)
   pub flaw : InputFlaw
   pub refusal : OpeningAnswer told asked.files (Err flaw)
   pub line : text ≡ refused_line asked.files flaw
@@ -29,7 +30,7 @@ pub record IsRefusal (told : Told) (words : List (List ℕ)) (text : List ℕ) :
 -- a file that the shelf does not tell sound, where nothing is refused before it
 pub record IsReadFault (told : Told) (is_sound : List ℕ → Type 0) (words : List (List ℕ)) (text : List ℕ) : Type 0 where
   pub asked : RunAsked
-  pub is_asked : Asks words (RunOf asked)
+  pub is_asked : AsksServed words (RunOf asked)
   pub file : File
   pub unread : IsUnread told is_sound asked.files file
   pub line : text ≡ read_fault_line asked.files file
@@ -57,10 +58,10 @@ pub record FailsToWrite {K : Type 0} (taken : K → Option (List ℕ)) (faults :
   pub is_due : due status text
   pub front : TakesFront taken faults before now text
 
--- the words ask for a run, for which there was not enough memory, and nothing was written
+-- the words ask for something, for which there was not enough memory, and nothing was written
 pub record WantsMemory (before now : Option (List ℕ)) (words : List (List ℕ)) : Type 0 where
-  pub asked : RunAsked
-  pub is_asked : Asks words (RunOf asked)
+  pub asked : Command
+  pub is_asked : AsksServed words asked
   pub kept : Keeps before now
 
 -- how a run ends, by its status

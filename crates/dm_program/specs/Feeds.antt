@@ -5,7 +5,7 @@ use Rattle.dm_input.specs.Input.{Told, IsHeld}
 use Rattle.dm_feed.specs.declared.feed.FeedStop.{FeedStop}
 use Rattle.dm_feed.specs.declared.feed.FeedStop.TheVariants.{End, Fault, Long}
 use Rattle.dm_cert.specs.declared.replies.FeedLog.{FeedLog}
-use Rattle.dm_cert.specs.Logs.{IsLogOf, without_plans}
+use Rattle.dm_cert.specs.Logs.{IsLogOf}
 use Rattle.dm_program.specs.declared.status.Status.{Status}
 use Rattle.dm_program.specs.declared.status.Status.TheVariants.{Ok, Refused, ReadFault}
 
@@ -14,7 +14,7 @@ use Rattle.dm_program.specs.declared.status.Status.TheVariants.{Ok, Refused, Rea
 pub record IsLogOfHeld (told : Told) (is_sound : List ℕ → Type 0) (name : List ℕ) (log : FeedLog) : Type 0 where
   pub bytes : List ℕ
   pub held : IsHeld told name bytes
-  pub log_of : IsLogOf without_plans bytes log
+  pub log_of : IsLogOf bytes log
   pub cause : log.stop ≡ Fault → is_sound name → ⊥
 
 -- the name could not be opened: it is not told sound, and its log is empty and ends with a fault

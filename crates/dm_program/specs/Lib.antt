@@ -1,4 +1,5 @@
--- What a run's text is, which logs answer its feeds, and how a run ends.
+-- What is done of what words ask for, what a run's text is, which logs answer its feeds, and how a run ends.
+pub mod Served
 pub mod Headline
 pub mod Feeds
 pub mod Ends

@@ -2,10 +2,28 @@
 
 ghost use Rattle.std.specs.Prelude.{◌≡◌, map, IfOk};
 ghost use Rattle.dm_input.specs.Stops.{IsKept};
+ghost use Rattle.dm_words.specs.Asked.{names_in};
 ghost use Rattle.dm_program.specs.Inside.Stages.{AreOpened, IsOpened};
 
 use dm_outside::Shelf;
+use dm_words::Names;
 use std::alloc::{AllocError, Global};
+
+/// The names of feeds, in their order.
+pub fn names_of<'a>(alloc: Global, feeds: Names<'a>) -> Result<Vec<&'a str>, AllocError>
+    ensures { IfOk result (λ names. map (λ name. name.now) names.items ≡ names_in feeds.entry) }
+{
+    let mut names = Vec::new(alloc);
+    let mut rest = feeds;
+    while let Some((name, others)) = rest.split_first() {
+        match names.push(name) {
+            Ok(()) => {}
+            Err(error) => return Err(error.into()),
+        }
+        rest = others;
+    }
+    Ok(names)
+}
 
 /// Opens the feeds of these names, one after the other. One that cannot be opened is `None`.
 pub fn open_feeds<H: Shelf>(

@@ -1,23 +1,76 @@
-//! A run, from its network and start rows to the answers of its feeds.
+//! A run, from its words to the text of its answered feeds.
 
-ghost use Rattle.std.specs.Prelude.{◌≡◌, ◌<◌, ◌≤◌, length, IfOk};
+ghost use Rattle.std.specs.Prelude.{◌≡◌, ◌<◌, ◌≤◌, ℕ, List, length, IfOk};
 ghost use Rattle.dm_base.specs.declared.limits.TheConstants.{FEEDS, PENALTY};
 ghost use Rattle.dm_rows.specs.Active.{HasNoCycle};
 ghost use Rattle.dm_rows.specs.Rows.{IsSized};
 ghost use Rattle.dm_rounds.specs.Rounds.{AnswersFeeds};
-ghost use Rattle.dm_program.specs.Inside.Stages.{IsAtStart, Begins, desk_of, RunsOver};
+ghost use Rattle.dm_input.specs.Stops.{IsKept};
+ghost use Rattle.dm_words.specs.Asked.{run_of};
+ghost use Rattle.dm_words.specs.Words.{RunOf};
+ghost use Rattle.dm_program.specs.Ends.{Ends};
+ghost use Rattle.dm_program.specs.Served.{AsksServed};
+ghost use Rattle.dm_program.specs.Inside.Stages.{AreWithin, IsAtStart, Begins, desk_of, RunsOver};
 
 use crate::desk::TableDesk;
+use crate::ends::end_stopped;
+use crate::feeds::{names_of, open_feeds};
+use crate::planner::OwnThread;
+use crate::print::end_run;
+use crate::status::Status;
 use dm_cert::FeedLog;
 use dm_desk::Hold;
+use dm_input::{Opened, read_opening};
 use dm_network::Network;
-use dm_outside::Source;
+use dm_outside::{Shelf, Sink, Source};
 use dm_rounds::answer_feeds;
 use dm_rows::Rows;
 use dm_settle::NoTimes;
 use dm_table::Table;
+use dm_words::RunWords;
 use std::alloc::{AllocError, Global};
 use std::sync::Wait;
+
+/// Reads the files of a run, opens and answers its feeds, and prints it.
+pub fn run_feeds<R: Wait, H: Shelf, K: Sink, G: Hold>(
+    rt: &R,
+    alloc: Global,
+    run: &RunWords<'_>,
+    shelf: &mut H,
+    gate: &G,
+    out: &mut K,
+) -> Status
+    requires within { AreWithin (run_of run.now) }
+    ensures ends { (words : List (List ℕ)) → AsksServed words (RunOf (run_of run.now)) → Ends K.taken K.faults (H.files shelf.old) (H.is_sound shelf.old) words out.old out.new result }
+    ensures kept { IsKept H.files H.is_sound shelf.old shelf.new }
+    ensures later { K.faults out.old ≤ K.faults out.new }
+{
+    let opened = match read_opening(alloc, shelf, &run.files) {
+        Ok(opened) => opened,
+        Err(stop) => return end_stopped(&run.files, &stop, out),
+    };
+    let Opened { net, rows } = opened;
+    let Ok(names) = names_of(alloc, run.feeds) else {
+        return Status::NoMemory;
+    };
+    let Ok(feeds) = open_feeds(alloc, shelf, names.as_slice()) else {
+        return Status::NoMemory;
+    };
+    let answered = answer_run(
+        rt,
+        alloc,
+        &net,
+        rows,
+        run.files.penalty,
+        feeds,
+        gate,
+        run.batch as u32,
+    );
+    match answered {
+        Ok(answered) => end_run(&answered, out),
+        Err(AllocError) => Status::NoMemory,
+    }
+}
 
 /// The table of a day, and the logs of its feeds.
 #[derive(Drop)]
@@ -47,8 +100,13 @@ pub fn answer_run<'n, R: Wait, S: Source + Drop, H: Hold>(
     net.sound();
     let table = new_table(alloc, net, rows, penalty)?;
     table.sound();
-    let mut desk = TableDesk { table };
-    let logs = answer_feeds(rt, alloc, feeds, &mut desk, gate, batch)?;
+    let mut desk = TableDesk { alloc, table };
+    let planner = OwnThread {
+        alloc,
+        net,
+        penalty,
+    };
+    let logs = answer_feeds(rt, alloc, feeds, &mut desk, &planner, gate, batch)?;
     let table = desk.table;
     table.sound();
     Ok(Answered { table, logs })

@@ -13,7 +13,7 @@ use Rattle.dm_rows.proofs.PairEnds.{small_is_event, large_is_event}
 use Rattle.dm_rows.specs.declared.messages.Flip.{Flip}
 use Rattle.dm_rows.specs.declared.messages.Flip.TheVariants.{Keep, Drop, First}
 use Rattle.dm_live.specs.Live.{LiveValue}
-use Rattle.dm_propagate.specs.Inside.Concern.{LeadsAt, IsDecided, IsDecidedBefore}
+use Rattle.dm_propagate.specs.Inside.Concern.{LeadsAt, IsDecided, IsOfOneBefore, IsDecidedBefore}
 use Rattle.dm_propagate.specs.Inside.Turning.{IsAmong, Within, LetsGo, TakesUp}
 use Rattle.dm_propagate.proofs.HeldLemmas.{let_go_then, taken_up_then}
 
@@ -88,28 +88,32 @@ module _ (net : Net) (rows : RowsValue) (a : ℕ) (flip : Flip) (decides : (b : 
   taken_up_alone f = record { held = f.held; cycle = f.cycle; taken = λ b d. f.taken b (alone b d) }
 
 -- flips one after another
+pub by_flips : (decides : Flip → ℕ → Type 0) (flips : List Flip) (n : ℕ) (flip : Flip) → slice_get flips n ≡ Some flip → (b : ℕ) →
+    IsOfOneBefore decides flips (n + 1) b → IsOfOneBefore decides flips n b ⊎ decides flip b
+by_flips decides flips n flip there b d = elim (cases_lt d.place n) [
+  | inl earlier ↦ inl (record { flip = d.flip; place = d.place; before = earlier; there = d.there; decided = d.decided })
+  | inr past ↦
+      let before = d.before in
+      let here : d.place ≡ n = omega arith in
+      let same : Some d.flip ≡ Some flip = sym d.there ∙ ap (slice_get flips) here ∙ there in
+      let is : d.flip ≡ flip = cc in
+      inr (subst (λ (f : Flip). decides f b) is d.decided)
+]
+
 module _ (net : Net) (rows : RowsValue) (flips : List Flip) (n : ℕ) (flip : Flip) (there : slice_get flips n ≡ Some flip) (one two three : LiveValue) where
-  by_flips : (b : ℕ) → Within net (IsDecidedBefore net flips (n + 1)) b →
+  within_flips : (b : ℕ) → Within net (IsDecidedBefore net flips (n + 1)) b →
       Within net (IsDecidedBefore net flips n) b ⊎ Within net (IsDecided net flip) b
-  by_flips b (lt, d) = elim (cases_lt d.place n) [
-    | inl earlier ↦ inl (lt, record { flip = d.flip; place = d.place; before = earlier; there = d.there; decided = d.decided })
-    | inr past ↦
-        let before = d.before in
-        let here : d.place ≡ n = omega arith in
-        let same : Some d.flip ≡ Some flip = sym d.there ∙ ap (slice_get flips) here ∙ there in
-        let is : d.flip ≡ flip = cc in
-        inr (lt, subst (λ (f : Flip). IsDecided net f b) is d.decided)
-  ]
+  within_flips b (lt, d) = elim (by_flips (IsDecided net) flips n flip there b d) [ inl earlier ↦ inl (lt, earlier) | inr now ↦ inr (lt, now) ]
 
   pub let_go_next : LetsGo net rows (Within net (IsDecidedBefore net flips n)) one two → LetsGo net rows (Within net (IsDecided net flip)) two three →
       LetsGo net rows (Within net (IsDecidedBefore net flips (n + 1))) one three
   let_go_next f s = let_go_then net rows (Within net (IsDecidedBefore net flips n)) (Within net (IsDecided net flip))
-      (Within net (IsDecidedBefore net flips (n + 1))) one two three by_flips f s
+      (Within net (IsDecidedBefore net flips (n + 1))) one two three within_flips f s
 
   pub taken_up_next : TakesUp net rows (Within net (IsDecidedBefore net flips n)) one two → TakesUp net rows (Within net (IsDecided net flip)) two three →
       TakesUp net rows (Within net (IsDecidedBefore net flips (n + 1))) one three
   taken_up_next f s = taken_up_then net rows (Within net (IsDecidedBefore net flips n)) (Within net (IsDecided net flip))
-      (Within net (IsDecidedBefore net flips (n + 1))) one two three by_flips f s
+      (Within net (IsDecidedBefore net flips (n + 1))) one two three within_flips f s
 
 pub decides_about : (net : Net) (flip : Flip) (a : ℕ) → (flip ≡ Keep a) ⊎ (flip ≡ Drop a) → (b : ℕ) → IsDecided net flip b → b ≡ a
 decides_about net flip a either b d = elim either [

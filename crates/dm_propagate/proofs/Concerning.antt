@@ -20,7 +20,7 @@ use Rattle.dm_settle.specs.Constraints.{ConstraintsValue}
 use Rattle.dm_live.specs.Live.{LiveValue}
 use Rattle.dm_propagate.specs.Engine.{FollowsRows}
 use Rattle.dm_propagate.specs.Inside.Changing.{IsTurnRefused}
-use Rattle.dm_propagate.specs.Inside.Concern.{LeadsAt, IsDecided, IsDecidedBefore, IsConcerned, MovesFloor, MovesSpan, FollowsBut}
+use Rattle.dm_propagate.specs.Inside.Concern.{LeadsAt, IsDecided, IsOfOneBefore, IsDecidedBefore, IsConcerned, MovesFloor, MovesSpan, FollowsBut}
 
 -- what an activity needs to bind is the same where the parts that it reads are
 binds_alike : (net : Net) (rows after : RowsValue) (kind : ActKind) (pair : Option ℕ) (tail a : ℕ) → kept_at after a ≡ kept_at rows a →
@@ -68,8 +68,9 @@ flip_leaves net rows (First p small) b ends = pair_leaves (activity_at net b).pa
             (λ r e. let same : r ≡ q = cc in get_or-set_other rows.small_first p r small true (λ at. ne (sym same ∙ at))))
       ]
 
-decided_later : (net : Net) (flip : Flip) (flips : List Flip) (n b : ℕ) → IsDecidedBefore net flips n b → IsDecidedBefore net (flip ∷ flips) (suc n) b
-decided_later net flip flips n b d =
+pub decided_later : (decides : Flip → ℕ → Type 0) (flip : Flip) (flips : List Flip) (n b : ℕ) → IsOfOneBefore decides flips n b →
+    IsOfOneBefore decides (flip ∷ flips) (suc n) b
+decided_later decides flip flips n b d =
     let lt = d.before in
     record { flip = d.flip; place = suc d.place; before = omega arith; there = d.there; decided = d.decided }
 
@@ -85,7 +86,7 @@ flips_leave net rows (flip ∷ flips) b ends =
     elim (flip_leaves net rows flip b ends) [
       | inl same ↦ elim (flips_leave net (after_flip rows flip) flips b ends) [
         | inl later ↦ inl (later ∙ same)
-        | inr decided ↦ inr (decided_later net flip flips (length flips) b decided)
+        | inr decided ↦ inr (decided_later (IsDecided net) flip flips (length flips) b decided)
       ]
       | inr decided ↦ inr (record { flip = flip; place = 0; before = omega arith; there = refl; decided = decided })
     ]
@@ -213,15 +214,15 @@ module _ (net : Net) (paired : IsPaired net) (rows : RowsValue) (change : Change
   }
 
 -- one flip decides as a list of it alone
-pub by_one : (net : Net) (flip : Flip) (b : ℕ) → IsDecided net flip b → IsDecidedBefore net (flip ∷ []) 1 b
-by_one net flip b d = record { flip = flip; place = 0; before = omega arith; there = refl; decided = d }
+pub by_one : (decides : Flip → ℕ → Type 0) (flip : Flip) (b : ℕ) → decides flip b → IsOfOneBefore decides (flip ∷ []) 1 b
+by_one decides flip b d = record { flip = flip; place = 0; before = omega arith; there = refl; decided = d }
 
-first_of_one : (net : Net) (flip g : Flip) (k b : ℕ) → k < 1 → slice_get (flip ∷ []) k ≡ Some g → IsDecided net g b → IsDecided net flip b
-first_of_one net flip g zero b lt there d = let is : g ≡ flip = cc in subst (λ (f : Flip). IsDecided net f b) is d
-first_of_one net flip g (suc k) b lt there d = absurd (omega arith)
+first_of_one : (decides : Flip → ℕ → Type 0) (flip g : Flip) (k b : ℕ) → k < 1 → slice_get (flip ∷ []) k ≡ Some g → decides g b → decides flip b
+first_of_one decides flip g zero b lt there d = let is : g ≡ flip = cc in subst (λ (f : Flip). decides f b) is d
+first_of_one decides flip g (suc k) b lt there d = absurd (omega arith)
 
-one_by : (net : Net) (flip : Flip) (b : ℕ) → IsDecidedBefore net (flip ∷ []) 1 b → IsDecided net flip b
-one_by net flip b d = first_of_one net flip d.flip d.place b d.before d.there d.decided
+one_by : (decides : Flip → ℕ → Type 0) (flip : Flip) (b : ℕ) → IsOfOneBefore decides (flip ∷ []) 1 b → decides flip b
+one_by decides flip b d = first_of_one decides flip d.flip d.place b d.before d.there d.decided
 
 pub followed_by_one : (net : Net) (rows : RowsValue) (change : Change) (flip : Flip) → change ≡ Flipped flip → (before after : LiveValue) →
     IsTurnRefused net rows (IsDecidedBefore net (flip ∷ []) 1) before after → after.given.floors ≡ before.given.floors →
@@ -230,9 +231,9 @@ followed_by_one net rows change flip is before after refused floors follows =
     let was : FollowsBut net rows (Flipped flip) before.given = subst (λ (c : Change). FollowsBut net rows c before.given) is follows in
     let now : FollowsBut net rows (Flipped flip) after.given =
     record {
-      held = λ a lt. elim (refused.held a lt (elim (was.held a lt) [ inl same ↦ inl same | inr d ↦ inr (by_one net flip a d) ])) [
+      held = λ a lt. elim (refused.held a lt (elim (was.held a lt) [ inl same ↦ inl same | inr d ↦ inr (by_one (IsDecided net) flip a d) ])) [
         | inl same ↦ inl same
-        | inr d ↦ inr (one_by net flip a d)
+        | inr d ↦ inr (one_by (IsDecided net) flip a d)
       ];
       floors = λ i lt. elim (was.floors i lt) [ inl same ↦ inl (ap (λ (xs : List ℕ). slice_index xs i) floors ∙ same) | inr never ↦ absurd never ];
       spans = λ a lt. elim (was.spans a lt) [ inl same ↦ inl (ap (λ (xs : List ℕ). slice_index xs a) refused.spans ∙ same) | inr never ↦ absurd never ];

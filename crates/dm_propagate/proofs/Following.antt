@@ -1,18 +1,18 @@
 -- A live timetable that follows rows: its times are theirs.
-use Rattle.std.proofs.Common.{◌≡◌, ℕ, ◌<◌, List, length, refl, sym, ◌∙◌, arith}
+use Rattle.std.proofs.Common.{◌≡◌, ℕ, ◌<◌, List, length, sym, ◌∙◌, arith}
 use Rattle.std.proofs.lemmas.Grind.{same_number_lists}
-use Rattle.dm_graph.specs.Arcs.{Binds, BindsIn}
-use Rattle.dm_graph.proofs.Transfers.{cycle_carries}
 use Rattle.dm_live.specs.Live.{LiveValue, IsLive, IsAtRest}
 use Rattle.dm_live.proofs.Resting.{least_at_rest, live_has_no_cycle}
 use Rattle.dm_network.specs.Net.{Net, EndsAreKnown}
-use Rattle.dm_network.specs.Held.{arcs_of, is_held}
-use Rattle.dm_rows.specs.Active.{is_active, active_arcs, HasNoCycle}
-use Rattle.dm_rows.specs.Rows.{RowsValue}
+use Rattle.dm_rows.specs.Active.{HasNoCycle}
+use Rattle.dm_rows.specs.Cost.{is_dropped_change}
+use Rattle.dm_rows.specs.Rows.{RowsValue, IsSized}
 use Rattle.dm_rows.specs.Timetable.{IsLeast}
 use Rattle.dm_settle.specs.Constraints.{ConstraintsValue, IsSizedFor}
 use Rattle.dm_times.specs.Inside.Filling.{AreConstraintsOf}
 use Rattle.dm_times.proofs.Filled.{least_for_rows, no_cycle_of_rows}
+use Rattle.dm_priced.specs.Priced.{PricedValue, IsPriced, FollowsPrice}
+use Rattle.dm_propagate.specs.Inside.Flags.{flags_of, AreFlagsOf}
 use Rattle.dm_propagate.specs.Engine.{EngineValue, FollowsRows, IsEngineOf, times_of}
 
 constraints_of_rows : (net : Net) (rows : RowsValue) (given : ConstraintsValue) → IsSizedFor net given → FollowsRows net rows given →
@@ -31,28 +31,26 @@ pub follows_no_cycle : (net : Net) (rows : RowsValue) (live : LiveValue) → IsL
 follows_no_cycle net rows live is follows =
     no_cycle_of_rows net rows live.given (constraints_of_rows net rows live.given is.sized follows) (live_has_no_cycle net live is)
 
--- where the active activities are held, they have no cycle
-pub held_no_cycle : (net : Net) (rows : RowsValue) (live : LiveValue) → IsLive net live →
-    ((a : ℕ) → a < length net.activities → is_held live.given.held a ≡ is_active net rows a) → HasNoCycle net rows
-held_no_cycle net rows live is each cycle c =
-    let back : (a : ℕ) → Binds (active_arcs net rows) a → BindsIn (active_arcs net rows) (arcs_of net (is_held live.given.held)) a =
-    λ a binds. record {
-      binds = record {
-        is_arc = binds.is_arc;
-        is_held = each a binds.is_arc ∙ binds.is_held;
-        from_event = binds.from_event;
-        to_event = binds.to_event;
-      };
-      same_tail = refl;
-      same_head = refl;
-    } in
-    live_has_no_cycle net live is cycle (cycle_carries (active_arcs net rows) (arcs_of net (is_held live.given.held)) back cycle c)
+-- an engine of parts that follow the rows
+pub is_engine : (net : Net) (rows : RowsValue) (priced : PricedValue) → IsSized net rows → IsPriced net priced → IsAtRest priced.live →
+    FollowsRows net rows priced.live.given → AreFlagsOf net rows (flags_of priced) → IsEngineOf net (record { rows = rows; priced = priced })
+is_engine net rows priced sized is rest follows flags = record {
+  sized = sized;
+  priced = is;
+  at_rest = rest;
+  follows = follows;
+  price = record { passed = flags.passed; charged = flags.charged; spans = follows.spans };
+}
+
+pub engine_flags : (net : Net) (rows : RowsValue) (priced : PricedValue) → FollowsPrice net rows (is_dropped_change net rows) priced →
+    AreFlagsOf net rows (flags_of priced)
+engine_flags net rows priced price = record { passed = price.passed; charged = price.charged }
 
 pub engine_least : (net : Net) (engine : EngineValue) → EndsAreKnown net → IsEngineOf net engine → IsLeast net engine.rows (times_of engine)
-engine_least net engine known is = follows_least net engine.rows engine.live known is.live is.at_rest is.follows
+engine_least net engine known is = follows_least net engine.rows engine.priced.live known is.priced.live is.at_rest is.follows
 
 pub engine_no_cycle : (net : Net) (engine : EngineValue) → IsEngineOf net engine → HasNoCycle net engine.rows
-engine_no_cycle net engine is = follows_no_cycle net engine.rows engine.live is.live is.follows
+engine_no_cycle net engine is = follows_no_cycle net engine.rows engine.priced.live is.priced.live is.follows
 
 -- rows have one least timetable
 pub one_least : (net : Net) (rows : RowsValue) (x y : List ℕ) → IsLeast net rows x → IsLeast net rows y → x ≡ y

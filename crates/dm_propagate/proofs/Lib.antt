@@ -1,9 +1,9 @@
 pub mod Around
 pub mod Concerning
 pub mod FewRows
+pub mod Flagging
 pub mod Following
 pub mod HeldLemmas
-pub mod Holding
 pub mod Passing
 pub mod Reaching
 pub mod Turned

@@ -25,3 +25,6 @@ module _ (net : Net) (rows other : RowsValue) (sized : IsSized net rows) (alike 
 
 pub event_is_reached : (rows : RowsValue) (change : Change) → Reaches rows change → (i t : ℕ) → change ≡ Passed i t → i < length rows.passed
 event_is_reached rows change reaches i t is = let h : Reaches rows (Passed i t) = subst (Reaches rows) is reaches in h.0
+
+pub recall_is_reached : (rows : RowsValue) (change : Change) → Reaches rows change → (i : ℕ) → change ≡ Recalled i → i < length rows.passed
+recall_is_reached rows change reaches i is = subst (Reaches rows) is reaches

@@ -1,20 +1,26 @@
 -- What contracts see of an engine, and what holds of it between its changes.
 use Rattle.std.specs.Prelude.{ℕ, ◌≡◌, ◌<◌, List, length, slice_index}
-use Rattle.dm_live.specs.Live.{LiveValue, IsLive, IsAtRest}
+use Rattle.dm_live.specs.Live.{IsAtRest}
 use Rattle.dm_network.specs.Net.{Net}
 use Rattle.dm_network.specs.Held.{is_held}
 use Rattle.dm_rows.specs.Active.{is_active}
+use Rattle.dm_rows.specs.Cost.{is_dropped_change}
 use Rattle.dm_rows.specs.Rows.{RowsValue, IsSized}
 use Rattle.dm_rows.specs.Timetable.{floor_of, span_of}
+use Rattle.dm_priced.specs.Priced.{PricedValue, IsPriced, FollowsPrice}
 use Rattle.dm_settle.specs.Constraints.{ConstraintsValue}
 
--- rows, and the timetable that is kept for them
+-- rows, and the timetable that is kept for them, with its price
 pub record EngineValue : Type 0 where
   pub rows : RowsValue
-  pub live : LiveValue
+  pub priced : PricedValue
 
 abbrev pub times_of : EngineValue → List ℕ
-times_of engine = engine.live.times
+times_of engine = engine.priced.live.times
+
+-- the activities of the cycle for which a change was refused last
+abbrev pub cycle_of : EngineValue → List ℕ
+cycle_of engine = engine.priced.live.order.cycle
 
 -- What the timetable is held to are the rows: the active activities are held, each event has its floor and each activity its
 -- span.
@@ -24,9 +30,10 @@ pub record FollowsRows (net : Net) (rows : RowsValue) (given : ConstraintsValue)
   pub spans : (a : ℕ) → a < length net.activities → slice_index given.spans a ≡ span_of net rows a
 
 -- The rows are of the network, its timetable is held to them, and no time is left to be computed: so the times are the least
--- timetable of the rows, and these have no cycle.
+-- timetable of the rows, and these have no cycle. The price is that of the rows too.
 pub record IsEngineOf (net : Net) (engine : EngineValue) : Type 0 where
   pub sized : IsSized net engine.rows
-  pub live : IsLive net engine.live
-  pub at_rest : IsAtRest engine.live
-  pub follows : FollowsRows net engine.rows engine.live.given
+  pub priced : IsPriced net engine.priced
+  pub at_rest : IsAtRest engine.priced.live
+  pub follows : FollowsRows net engine.rows engine.priced.live.given
+  pub price : FollowsPrice net engine.rows (is_dropped_change net engine.rows) engine.priced

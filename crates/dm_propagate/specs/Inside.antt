@@ -6,3 +6,4 @@ pub mod Concern
 pub mod Turning
 pub mod Changing
 pub mod Altering
+pub mod Flags

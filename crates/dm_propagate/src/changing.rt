@@ -4,18 +4,20 @@ ghost use Rattle.dm_rows.specs.Rows.{IsSized, passed_at};
 ghost use Rattle.dm_rows.specs.Active.{IsCycle};
 ghost use Rattle.dm_rows.specs.Reach.{Reaches, ReachesFlip};
 ghost use Rattle.dm_rows.specs.Timetable.{floor_of};
-ghost use Rattle.dm_live.specs.Live.{IsLive};
+ghost use Rattle.dm_priced.specs.Priced.{IsPriced};
 ghost use Rattle.dm_propagate.specs.Engine.{FollowsRows};
 ghost use Rattle.dm_propagate.specs.Inside.Concern.{FollowsBut, LeadsAt, IsDecidedBefore};
+ghost use Rattle.dm_propagate.specs.Inside.Flags.{flags_of, AreFlagsOf, AreFlagsBut, SetsFlagsAt, SetsFlagsBy};
 ghost use Rattle.dm_propagate.specs.Inside.Changing.{Turns, IsTurnRefused, HasPassed, MarksFor};
 
+use crate::charging::{charge_by_flips, set_flags_at};
 use crate::turning::{
     let_go_around, let_go_by_flips, set_floors, set_place, take_up_around, take_up_by_flips,
 };
 use dm_base::Steps;
 use dm_graph::search::Cyclic;
-use dm_live::LiveTimetable;
 use dm_network::Network;
+use dm_priced::PricedTimetable;
 use dm_rows::{Change, Flip, Rows};
 use dm_times::{floor_of, span_of};
 use std::sync::ledger::Ledger;
@@ -24,26 +26,28 @@ use std::sync::ledger::Ledger;
 /// is refused.
 #[tactic(auto, using(crate::proofs::Turned::enters_none, crate::proofs::Turned::turned, crate::proofs::Turned::turn_refused, crate::proofs::Turned::has_passed))]
 fn turn_event<L: Ledger>(
-    live: &mut LiveTimetable,
+    priced: &mut PricedTimetable,
     net: &Network,
     rows: &Rows,
     event: usize,
     steps: &mut Steps<L>,
 ) -> Result<(), Cyclic>
-    requires live { IsLive net.now live.old }
+    requires priced { IsPriced net.now priced.old }
     requires sized { IsSized net.now rows.now }
     requires is_event { event < length net.now.events }
-    ensures live { IsLive net.now live.new }
-    ensures turned { OnOk result (Turns net.now rows.now (LeadsAt net.now event) live.old live.new) }
-    ensures refused { OnErr result (IsTurnRefused net.now rows.now (LeadsAt net.now event) live.old live.new) }
-    ensures floors { live.new.given.floors ≡ slice_set live.old.given.floors event (floor_of net.now rows.now event) }
-    ensures passed { OnOk result ((t : ℕ) → passed_at rows.now event ≡ Some t → HasPassed net.now rows.now event t live.old live.new steps.old steps.new) }
+    ensures priced { IsPriced net.now priced.new }
+    ensures turned { OnOk result (Turns net.now rows.now (LeadsAt net.now event) priced.old.live priced.new.live) }
+    ensures refused { OnErr result (IsTurnRefused net.now rows.now (LeadsAt net.now event) priced.old.live priced.new.live) }
+    ensures flags { SetsFlagsAt net.now rows.now event (flags_of priced.old) (flags_of priced.new) }
+    ensures floors { priced.new.live.given.floors ≡ slice_set priced.old.live.given.floors event (floor_of net.now rows.now event) }
+    ensures passed { OnOk result ((t : ℕ) → passed_at rows.now event ≡ Some t → HasPassed net.now rows.now event t priced.old.live priced.new.live steps.old steps.new) }
 {
     let into = net.in_row(event, steps);
     let out = net.out_row(event, steps);
-    let_go_around(live, net, rows, event, into, out);
-    set_place(live, net, rows, event, steps);
-    match take_up_around(live, net, rows, event, into, out) {
+    set_flags_at(priced, net, rows, event, into);
+    let_go_around(priced, net, rows, event, into, out);
+    set_place(priced, net, rows, event, into, out, steps);
+    match take_up_around(priced, net, rows, event, into, out) {
         Ok(()) => Ok(()),
         Err(Cyclic) => Err(Cyclic),
     }
@@ -51,22 +55,24 @@ fn turn_event<L: Ledger>(
 
 /// Brings a timetable to follow rows at the activities that flips decide about. One that would make a cycle is refused.
 fn turn_by_flips<L: Ledger>(
-    live: &mut LiveTimetable,
+    priced: &mut PricedTimetable,
     net: &Network,
     rows: &Rows,
     flips: &[Flip],
     steps: &mut Steps<L>,
 ) -> Result<(), Cyclic>
-    requires live { IsLive net.now live.old }
+    requires priced { IsPriced net.now priced.old }
     requires sized { IsSized net.now rows.now }
     requires reaches { All (ReachesFlip rows.now) flips.now }
-    ensures live { IsLive net.now live.new }
-    ensures turned { OnOk result (Turns net.now rows.now (IsDecidedBefore net.now flips.now (length flips.now)) live.old live.new) }
-    ensures refused { OnErr result (IsTurnRefused net.now rows.now (IsDecidedBefore net.now flips.now (length flips.now)) live.old live.new) }
-    ensures floors { live.new.given.floors ≡ live.old.given.floors }
+    ensures priced { IsPriced net.now priced.new }
+    ensures turned { OnOk result (Turns net.now rows.now (IsDecidedBefore net.now flips.now (length flips.now)) priced.old.live priced.new.live) }
+    ensures refused { OnErr result (IsTurnRefused net.now rows.now (IsDecidedBefore net.now flips.now (length flips.now)) priced.old.live priced.new.live) }
+    ensures flags { SetsFlagsBy net.now rows.now flips.now (flags_of priced.old) (flags_of priced.new) }
+    ensures floors { priced.new.live.given.floors ≡ priced.old.live.given.floors }
 {
-    let_go_by_flips(live, net, rows, flips, steps);
-    match take_up_by_flips(live, net, rows, flips, steps) {
+    charge_by_flips(priced, net, rows, flips);
+    let_go_by_flips(priced, net, rows, flips, steps);
+    match take_up_by_flips(priced, net, rows, flips, steps) {
         Ok(()) => Ok(()),
         Err(Cyclic) => Err(Cyclic),
     }
@@ -75,60 +81,64 @@ fn turn_by_flips<L: Ledger>(
 /// Brings a timetable that follows rows, but for what decisions adopted as one concern, to follow them altogether, as
 /// [`turn`].
 pub fn turn_adopted<L: Ledger>(
-    live: &mut LiveTimetable,
+    priced: &mut PricedTimetable,
     net: &Network,
     rows: &Rows,
     flips: &[Flip],
     steps: &mut Steps<L>,
 ) -> Result<(), Cyclic>
-    requires live { IsLive net.now live.old }
+    requires priced { IsPriced net.now priced.old }
     requires sized { IsSized net.now rows.now }
     requires reaches { All (ReachesFlip rows.now) flips.now }
-    requires follows { FollowsBut net.now rows.now (Change.Adopted flips.now) live.old.given }
-    ensures live { IsLive net.now live.new }
-    ensures follows { OnOk result (FollowsRows net.now rows.now live.new.given) }
-    ensures cycle_stays { OnOk result (live.new.order.cycle ≡ live.old.order.cycle) }
-    ensures followed { OnErr result (FollowsBut net.now rows.now (Change.Adopted flips.now) live.new.given) }
-    ensures cycle { OnErr result (IsCycle net.now rows.now live.new.order.cycle) }
+    requires follows { FollowsBut net.now rows.now (Change.Adopted flips.now) priced.old.live.given }
+    requires flags { AreFlagsBut net.now rows.now (Change.Adopted flips.now) (flags_of priced.old) }
+    ensures priced { IsPriced net.now priced.new }
+    ensures follows { OnOk result (FollowsRows net.now rows.now priced.new.live.given) }
+    ensures flags { AreFlagsOf net.now rows.now (flags_of priced.new) }
+    ensures cycle_stays { OnOk result (priced.new.live.order.cycle ≡ priced.old.live.order.cycle) }
+    ensures followed { OnErr result (FollowsBut net.now rows.now (Change.Adopted flips.now) priced.new.live.given) }
+    ensures cycle { OnErr result (IsCycle net.now rows.now priced.new.live.order.cycle) }
 {
-    turn_by_flips(live, net, rows, flips, steps)
+    turn_by_flips(priced, net, rows, flips, steps)
 }
 
 /// Brings a timetable that follows rows, but for what a change concerns, to follow them altogether. Where the rows have a
 /// cycle, it follows them still but for that, and such a cycle is its last.
 pub fn turn<L: Ledger>(
-    live: &mut LiveTimetable,
+    priced: &mut PricedTimetable,
     net: &Network,
     rows: &Rows,
     change: &Change,
     steps: &mut Steps<L>,
 ) -> Result<(), Cyclic>
-    requires live { IsLive net.now live.old }
+    requires priced { IsPriced net.now priced.old }
     requires sized { IsSized net.now rows.now }
     requires reaches { Reaches rows.now change.now }
-    requires follows { FollowsBut net.now rows.now change.now live.old.given }
-    ensures live { IsLive net.now live.new }
-    ensures follows { OnOk result (FollowsRows net.now rows.now live.new.given) }
-    ensures cycle_stays { OnOk result (live.new.order.cycle ≡ live.old.order.cycle) }
-    ensures followed { OnErr result (FollowsBut net.now rows.now change.now live.new.given) }
-    ensures cycle { OnErr result (IsCycle net.now rows.now live.new.order.cycle) }
-    ensures marks { OnOk result (MarksFor net.now rows.now change.now live.old live.new steps.old steps.new) }
+    requires follows { FollowsBut net.now rows.now change.now priced.old.live.given }
+    requires flags { AreFlagsBut net.now rows.now change.now (flags_of priced.old) }
+    ensures priced { IsPriced net.now priced.new }
+    ensures follows { OnOk result (FollowsRows net.now rows.now priced.new.live.given) }
+    ensures flags { AreFlagsOf net.now rows.now (flags_of priced.new) }
+    ensures cycle_stays { OnOk result (priced.new.live.order.cycle ≡ priced.old.live.order.cycle) }
+    ensures followed { OnErr result (FollowsBut net.now rows.now change.now priced.new.live.given) }
+    ensures cycle { OnErr result (IsCycle net.now rows.now priced.new.live.order.cycle) }
+    ensures marks { OnOk result (MarksFor net.now rows.now change.now priced.old.live priced.new.live steps.old steps.new) }
 {
     match change {
         Change::EventDelay { event, .. } => {
-            live.set_floor(net, *event, floor_of(net, rows, *event));
+            priced.set_floor(net, *event, floor_of(net, rows, *event));
             Ok(())
         }
         Change::ActDelay { act, .. } => {
-            live.set_span(net, *act, span_of(net, rows, *act));
+            priced.set_span(net, *act, span_of(net, rows, *act));
             Ok(())
         }
-        Change::Passed { event, .. } => turn_event(live, net, rows, *event, steps),
-        Change::Recalled { event } => turn_event(live, net, rows, *event, steps),
-        Change::Flipped(flip) => turn_by_flips(live, net, rows, &[*flip], steps),
-        Change::Adopted(flips) => turn_adopted(live, net, rows, flips.as_slice(), steps),
+        Change::Passed { event, .. } => turn_event(priced, net, rows, *event, steps),
+        Change::Recalled { event } => turn_event(priced, net, rows, *event, steps),
+        Change::Flipped(flip) => turn_by_flips(priced, net, rows, &[*flip], steps),
+        Change::Adopted(flips) => turn_adopted(priced, net, rows, flips.as_slice(), steps),
         Change::Clock { .. } => {
-            set_floors(live, net, rows);
+            set_floors(priced, net, rows);
             Ok(())
         }
     }

@@ -9,19 +9,18 @@ ghost use Rattle.dm_rows.specs.Cost.{cost_of};
 ghost use Rattle.dm_rows.specs.Timetable.{IsLeast};
 ghost use Rattle.dm_rows.specs.Touch.{IsDelayPassOrClock};
 ghost use Rattle.dm_times.specs.Faults.{RefusesTimes};
-ghost use Rattle.dm_propagate.specs.Engine.{IsEngineOf, times_of};
+ghost use Rattle.dm_propagate.specs.Engine.{IsEngineOf, times_of, cycle_of};
 ghost use Rattle.dm_propagate.specs.Reading.{KeepsClock, ReadsFew};
 
 use crate::moving::{Alteration, move_to, try_rows};
 use crate::setting::set_flips;
-use crate::starting::live_for;
+use crate::starting::priced_for;
 use dm_base::{Cost, Steps};
 use dm_graph::search::Cyclic;
-use dm_live::LiveTimetable;
 use dm_network::Network;
+use dm_priced::PricedTimetable;
 use dm_rows::{Change, Flip, Rows};
 use dm_settle::{NoTimes, Times};
-use dm_times::cost;
 use std::alloc::Global;
 use std::marker::Model;
 use std::sync::ledger::Ledger;
@@ -36,7 +35,7 @@ pub struct Engine {
 
     /// The rows that a change is tried on. Between calls they are the same.
     twin: Rows,
-    live: LiveTimetable,
+    priced: PricedTimetable,
 }
 
 impl Model for Engine {
@@ -45,7 +44,7 @@ impl Model for Engine {
 
     ghost Value = { EngineValue };
 
-    ghost view = { λ e. record { rows = e.rows; live = e.live } };
+    ghost view = { λ e. record { rows = e.rows; priced = e.priced } };
 
     ghost invariant = { λ e. e.twin ≡ e.rows };
 }
@@ -53,6 +52,7 @@ impl Model for Engine {
 impl Engine {
     /// The engine of these rows, with the room of all its changes. [`NoTimes::Cycle`] comes exactly where the rows have a
     /// cycle, unless memory is short first: then [`NoTimes::OutOfMemory`]. Its time is linear in events and activities.
+    #[tactic(auto, using(crate::proofs::Following::is_engine, crate::proofs::Following::engine_flags))]
     pub fn new(alloc: Global, net: &Network, rows: Rows) -> Result<Engine, NoTimes>
         requires { IsSized net.now rows }
         ensures engine { IfOk result (IsEngineOf net.now) }
@@ -62,17 +62,18 @@ impl Engine {
         ensures refused { IfErr result (RefusesTimes net.now rows) }
     {
         net.sound();
-        let live = match live_for(alloc, net, &rows) {
-            Ok(live) => live,
+        let priced = match priced_for(alloc, net, &rows) {
+            Ok(priced) => priced,
             Err(no_times) => return Err(no_times),
         };
         let twin = rows.copy()?;
-        Ok(Engine { rows, twin, live })
+        Ok(Engine { rows, twin, priced })
     }
 
     /// Makes a change, and computes the times that it moves. [`Cyclic`] comes exactly where the changed rows have a cycle:
     /// then the engine is as before, and [`Engine::last_cycle`] is such a cycle. For a delay, a pass or a clock that is not
     /// taken back, it reads the rows of the events that this can move, and not of the others.
+    #[tactic(auto, using(crate::proofs::Following::is_engine, crate::proofs::Following::engine_flags))]
     pub fn update<L: Ledger>(
         &mut self,
         net: &Network,
@@ -86,13 +87,13 @@ impl Engine {
         ensures least { IsLeast net.now self.new.rows (times_of self.new) }
         ensures no_cycle { OnOk result (HasNoCycle net.now self.new.rows) }
         ensures unchanged { OnErr result ((self.new.rows ≡ self.old.rows) × (times_of self.new ≡ times_of self.old)) }
-        ensures cycle { OnErr result (IsCycle net.now (after_change self.old.rows change.now) self.new.live.order.cycle) }
+        ensures cycle { OnErr result (IsCycle net.now (after_change self.old.rows change.now) (cycle_of self.new)) }
         ensures few_reads { IsDelayPassOrClock change.now → KeepsClock self.old.rows change.now → ReadsFew net.now (after_change self.old.rows change.now) change.now (times_of self.old) (times_of self.new) steps.old steps.new }
     {
         net.sound();
         self.twin.apply(change);
         let what = Alteration::Change(change);
-        match move_to(&mut self.live, net, &self.rows, &self.twin, &what, steps) {
+        match move_to(&mut self.priced, net, &self.rows, &self.twin, &what, steps) {
             Ok(()) => {
                 self.rows.apply(change);
                 Ok(())
@@ -105,6 +106,7 @@ impl Engine {
     }
 
     /// Sets each decision of a list in turn, as [`Engine::update`] makes a change.
+    #[tactic(auto, using(crate::proofs::Following::is_engine, crate::proofs::Following::engine_flags))]
     pub fn adopt<L: Ledger>(
         &mut self,
         net: &Network,
@@ -118,12 +120,12 @@ impl Engine {
         ensures least { IsLeast net.now self.new.rows (times_of self.new) }
         ensures no_cycle { OnOk result (HasNoCycle net.now self.new.rows) }
         ensures unchanged { OnErr result ((self.new.rows ≡ self.old.rows) × (times_of self.new ≡ times_of self.old)) }
-        ensures cycle { OnErr result (IsCycle net.now (fold after_flip self.old.rows flips.now) self.new.live.order.cycle) }
+        ensures cycle { OnErr result (IsCycle net.now (fold after_flip self.old.rows flips.now) (cycle_of self.new)) }
     {
         net.sound();
         set_flips(&mut self.twin, flips);
         let what = Alteration::Adoption(flips);
-        match move_to(&mut self.live, net, &self.rows, &self.twin, &what, steps) {
+        match move_to(&mut self.priced, net, &self.rows, &self.twin, &what, steps) {
             Ok(()) => {
                 set_flips(&mut self.rows, flips);
                 Ok(())
@@ -137,6 +139,7 @@ impl Engine {
 
     /// Whether the rows have no cycle after a change, which is not made: the engine stays as it is. [`Cyclic`] comes exactly
     /// where they have one, and [`Engine::last_cycle`] is such a cycle.
+    #[tactic(auto, using(crate::proofs::Following::is_engine, crate::proofs::Following::engine_flags))]
     pub fn try_update<L: Ledger>(
         &mut self,
         net: &Network,
@@ -148,16 +151,17 @@ impl Engine {
         ensures engine { IsEngineOf net.now self.new }
         ensures unchanged { (self.new.rows ≡ self.old.rows) × (times_of self.new ≡ times_of self.old) }
         ensures no_cycle { OnOk result (HasNoCycle net.now (after_change self.old.rows change.now)) }
-        ensures cycle { OnErr result (IsCycle net.now (after_change self.old.rows change.now) self.new.live.order.cycle) }
+        ensures cycle { OnErr result (IsCycle net.now (after_change self.old.rows change.now) (cycle_of self.new)) }
     {
         self.twin.apply(change);
         let what = Alteration::Change(change);
-        let outcome = try_rows(&mut self.live, net, &self.rows, &self.twin, &what, steps);
+        let outcome = try_rows(&mut self.priced, net, &self.rows, &self.twin, &what, steps);
         self.twin.copy_from(&self.rows);
         outcome
     }
 
     /// Whether the rows have no cycle with the decisions of a list set, as [`Engine::try_update`].
+    #[tactic(auto, using(crate::proofs::Following::is_engine, crate::proofs::Following::engine_flags))]
     pub fn try_adopt<L: Ledger>(
         &mut self,
         net: &Network,
@@ -169,11 +173,11 @@ impl Engine {
         ensures engine { IsEngineOf net.now self.new }
         ensures unchanged { (self.new.rows ≡ self.old.rows) × (times_of self.new ≡ times_of self.old) }
         ensures no_cycle { OnOk result (HasNoCycle net.now (fold after_flip self.old.rows flips.now)) }
-        ensures cycle { OnErr result (IsCycle net.now (fold after_flip self.old.rows flips.now) self.new.live.order.cycle) }
+        ensures cycle { OnErr result (IsCycle net.now (fold after_flip self.old.rows flips.now) (cycle_of self.new)) }
     {
         set_flips(&mut self.twin, flips);
         let what = Alteration::Adoption(flips);
-        let outcome = try_rows(&mut self.live, net, &self.rows, &self.twin, &what, steps);
+        let outcome = try_rows(&mut self.priced, net, &self.rows, &self.twin, &what, steps);
         self.twin.copy_from(&self.rows);
         outcome
     }
@@ -189,11 +193,11 @@ impl Engine {
     pub fn times(&self) -> &Times
         ensures { result.now ≡ times_of self.now }
     {
-        self.live.times()
+        self.priced.live().times()
     }
 
     /// What the times cost, in thousandths of passenger seconds, at a penalty in seconds for each passenger, at most
-    /// 1,000,000. It takes no memory.
+    /// 1,000,000. It is a sum of numbers that are kept, and takes no look at the network.
     pub fn cost(&self, net: &Network, penalty: u64) -> Cost
         requires engine { IsEngineOf net.now self.now }
         requires penalty { penalty ≤ PENALTY }
@@ -201,13 +205,13 @@ impl Engine {
         ensures limit { result < 2 ^ 100 }
     {
         net.sound();
-        cost(net, &self.rows, self.live.times(), penalty)
+        self.priced.cost(penalty)
     }
 
     /// The activities of the cycle for which a change was refused last, each head the next tail.
     pub fn last_cycle(&self) -> &[usize]
-        ensures { result.now ≡ self.now.live.order.cycle }
+        ensures { result.now ≡ cycle_of self.now }
     {
-        self.live.last_cycle()
+        self.priced.live().last_cycle()
     }
 }

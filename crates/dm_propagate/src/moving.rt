@@ -1,6 +1,7 @@
 //! A timetable that is moved from rows to those after a change, or only tried on them.
 ghost use Rattle.std.specs.Prelude.{◌≡◌, OnOk, OnErr};
-ghost use Rattle.dm_live.specs.Live.{IsLive, IsAtRest};
+ghost use Rattle.dm_live.specs.Live.{IsAtRest};
+ghost use Rattle.dm_priced.specs.Priced.{IsPriced};
 ghost use Rattle.dm_rows.specs.Rows.{IsSized};
 ghost use Rattle.dm_rows.specs.Active.{IsCycle, HasNoCycle};
 ghost use Rattle.dm_rows.specs.Reach.{Reaches};
@@ -11,13 +12,14 @@ ghost use Rattle.dm_propagate.specs.Engine.{FollowsRows};
 ghost use Rattle.dm_propagate.specs.Reading.{KeepsClock, ReadsFew};
 ghost use Rattle.dm_propagate.specs.Inside.Concern.{FollowsBut};
 ghost use Rattle.dm_propagate.specs.Inside.Altering.{change_in};
+ghost use Rattle.dm_propagate.specs.Inside.Flags.{flags_of, AreFlagsOf, AreFlagsBut};
 ghost use Rattle.dm_propagate.specs.Inside.Changing.{MarksFor};
 
 use crate::changing::{turn, turn_adopted};
 use dm_base::Steps;
 use dm_graph::search::Cyclic;
-use dm_live::LiveTimetable;
 use dm_network::Network;
+use dm_priced::PricedTimetable;
 use dm_rows::{Change, Flip, Rows};
 use std::sync::ledger::Ledger;
 
@@ -31,7 +33,7 @@ pub enum Alteration<'a> {
 /// Brings a timetable that follows rows to follow the others, which are those after a change, and settles it. Where the
 /// others have a cycle, it follows the rows that it followed before, its times are the same, and such a cycle is its last.
 pub fn move_to<L: Ledger>(
-    live: &mut LiveTimetable,
+    priced: &mut PricedTimetable,
     net: &Network,
     rows: &Rows,
     other: &Rows,
@@ -42,25 +44,28 @@ pub fn move_to<L: Ledger>(
     requires other_sized { IsSized net.now other.now }
     requires reaches { Reaches rows.now (change_in what.now) }
     requires other { other.now ≡ after_change rows.now (change_in what.now) }
-    requires live { IsLive net.now live.old }
-    requires at_rest { IsAtRest live.old }
-    requires follows { FollowsRows net.now rows.now live.old.given }
-    ensures live { IsLive net.now live.new }
-    ensures at_rest { IsAtRest live.new }
-    ensures follows { OnOk result (FollowsRows net.now other.now live.new.given) }
-    ensures followed { OnErr result (FollowsRows net.now rows.now live.new.given) }
-    ensures times { OnErr result (live.new.times ≡ live.old.times) }
-    ensures cycle { OnErr result (IsCycle net.now other.now live.new.order.cycle) }
-    ensures few_reads { IsDelayPassOrClock (change_in what.now) → KeepsClock rows.now (change_in what.now) → ReadsFew net.now other.now (change_in what.now) live.old.times live.new.times steps.old steps.new }
+    requires priced { IsPriced net.now priced.old }
+    requires at_rest { IsAtRest priced.old.live }
+    requires follows { FollowsRows net.now rows.now priced.old.live.given }
+    requires flags { AreFlagsOf net.now rows.now (flags_of priced.old) }
+    ensures priced { IsPriced net.now priced.new }
+    ensures at_rest { IsAtRest priced.new.live }
+    ensures follows { OnOk result (FollowsRows net.now other.now priced.new.live.given) }
+    ensures followed { OnErr result (FollowsRows net.now rows.now priced.new.live.given) }
+    ensures flags { OnOk result (AreFlagsOf net.now other.now (flags_of priced.new)) }
+    ensures flags_back { OnErr result (AreFlagsOf net.now rows.now (flags_of priced.new)) }
+    ensures times { OnErr result (priced.new.live.times ≡ priced.old.live.times) }
+    ensures cycle { OnErr result (IsCycle net.now other.now priced.new.live.order.cycle) }
+    ensures few_reads { IsDelayPassOrClock (change_in what.now) → KeepsClock rows.now (change_in what.now) → ReadsFew net.now other.now (change_in what.now) priced.old.live.times priced.new.live.times steps.old steps.new }
 {
     net.sound();
-    match turn_to(live, net, other, what, steps) {
+    match turn_to(priced, net, other, what, steps) {
         Ok(()) => {
-            live.settle(net, steps);
+            priced.settle(net, steps);
             Ok(())
         }
         Err(Cyclic) => {
-            come_back(live, net, rows, what, steps);
+            come_back(priced, net, rows, what, steps);
             Err(Cyclic)
         }
     }
@@ -69,7 +74,7 @@ pub fn move_to<L: Ledger>(
 /// Whether the other rows, which are those after a change, have no cycle: a timetable that follows rows is brought to follow
 /// the others, and back. Where they have one, such a cycle is its last.
 pub fn try_rows<L: Ledger>(
-    live: &mut LiveTimetable,
+    priced: &mut PricedTimetable,
     net: &Network,
     rows: &Rows,
     other: &Rows,
@@ -80,25 +85,27 @@ pub fn try_rows<L: Ledger>(
     requires other_sized { IsSized net.now other.now }
     requires reaches { Reaches rows.now (change_in what.now) }
     requires other { other.now ≡ after_change rows.now (change_in what.now) }
-    requires live { IsLive net.now live.old }
-    requires at_rest { IsAtRest live.old }
-    requires follows { FollowsRows net.now rows.now live.old.given }
-    ensures live { IsLive net.now live.new }
-    ensures at_rest { IsAtRest live.new }
-    ensures followed { FollowsRows net.now rows.now live.new.given }
-    ensures times { live.new.times ≡ live.old.times }
+    requires priced { IsPriced net.now priced.old }
+    requires at_rest { IsAtRest priced.old.live }
+    requires follows { FollowsRows net.now rows.now priced.old.live.given }
+    requires flags { AreFlagsOf net.now rows.now (flags_of priced.old) }
+    ensures priced { IsPriced net.now priced.new }
+    ensures at_rest { IsAtRest priced.new.live }
+    ensures followed { FollowsRows net.now rows.now priced.new.live.given }
+    ensures flags { AreFlagsOf net.now rows.now (flags_of priced.new) }
+    ensures times { priced.new.live.times ≡ priced.old.live.times }
     ensures no_cycle { OnOk result (HasNoCycle net.now other.now) }
-    ensures cycle { OnErr result (IsCycle net.now other.now live.new.order.cycle) }
+    ensures cycle { OnErr result (IsCycle net.now other.now priced.new.live.order.cycle) }
 {
     net.sound();
-    let outcome = turn_to(live, net, other, what, steps);
-    come_back(live, net, rows, what, steps);
+    let outcome = turn_to(priced, net, other, what, steps);
+    come_back(priced, net, rows, what, steps);
     outcome
 }
 
 /// Brings a timetable, which follows rows without a cycle but for what a change concerns, to follow them, and settles it.
 fn come_back<L: Ledger>(
-    live: &mut LiveTimetable,
+    priced: &mut PricedTimetable,
     net: &Network,
     rows: &Rows,
     what: &Alteration<'_>,
@@ -106,45 +113,49 @@ fn come_back<L: Ledger>(
 )
     requires sized { IsSized net.now rows.now }
     requires reaches { Reaches rows.now (change_in what.now) }
-    requires live { IsLive net.now live.old }
-    requires follows { FollowsBut net.now rows.now (change_in what.now) live.old.given }
+    requires priced { IsPriced net.now priced.old }
+    requires follows { FollowsBut net.now rows.now (change_in what.now) priced.old.live.given }
     requires no_cycle { HasNoCycle net.now rows.now }
-    ensures live { IsLive net.now live.new }
-    ensures at_rest { IsAtRest live.new }
-    ensures follows { FollowsRows net.now rows.now live.new.given }
-    ensures least { IsLeast net.now rows.now live.new.times }
-    ensures cycle_stays { live.new.order.cycle ≡ live.old.order.cycle }
+    requires flags { AreFlagsBut net.now rows.now (change_in what.now) (flags_of priced.old) }
+    ensures priced { IsPriced net.now priced.new }
+    ensures at_rest { IsAtRest priced.new.live }
+    ensures follows { FollowsRows net.now rows.now priced.new.live.given }
+    ensures flags { AreFlagsOf net.now rows.now (flags_of priced.new) }
+    ensures least { IsLeast net.now rows.now priced.new.live.times }
+    ensures cycle_stays { priced.new.live.order.cycle ≡ priced.old.live.order.cycle }
 {
     net.sound();
-    let Ok(()) = turn_to(live, net, rows, what, steps) else {
+    let Ok(()) = turn_to(priced, net, rows, what, steps) else {
         unreachable!();
     };
-    live.settle(net, steps);
+    priced.settle(net, steps);
 }
 
 /// Brings a timetable that follows rows, but for what a change concerns, to follow them altogether. Where the rows have a
 /// cycle, it follows them still but for that, and such a cycle is its last.
 fn turn_to<L: Ledger>(
-    live: &mut LiveTimetable,
+    priced: &mut PricedTimetable,
     net: &Network,
     rows: &Rows,
     what: &Alteration<'_>,
     steps: &mut Steps<L>,
 ) -> Result<(), Cyclic>
-    requires live { IsLive net.now live.old }
+    requires priced { IsPriced net.now priced.old }
     requires sized { IsSized net.now rows.now }
     requires reaches { Reaches rows.now (change_in what.now) }
-    requires follows { FollowsBut net.now rows.now (change_in what.now) live.old.given }
-    ensures live { IsLive net.now live.new }
-    ensures follows { OnOk result (FollowsRows net.now rows.now live.new.given) }
-    ensures cycle_stays { OnOk result (live.new.order.cycle ≡ live.old.order.cycle) }
-    ensures followed { FollowsBut net.now rows.now (change_in what.now) live.new.given }
-    ensures cycle { OnErr result (IsCycle net.now rows.now live.new.order.cycle) }
-    ensures marks { OnOk result (MarksFor net.now rows.now (change_in what.now) live.old live.new steps.old steps.new) }
+    requires follows { FollowsBut net.now rows.now (change_in what.now) priced.old.live.given }
+    requires flags { AreFlagsBut net.now rows.now (change_in what.now) (flags_of priced.old) }
+    ensures priced { IsPriced net.now priced.new }
+    ensures follows { OnOk result (FollowsRows net.now rows.now priced.new.live.given) }
+    ensures flags { AreFlagsOf net.now rows.now (flags_of priced.new) }
+    ensures cycle_stays { OnOk result (priced.new.live.order.cycle ≡ priced.old.live.order.cycle) }
+    ensures followed { FollowsBut net.now rows.now (change_in what.now) priced.new.live.given }
+    ensures cycle { OnErr result (IsCycle net.now rows.now priced.new.live.order.cycle) }
+    ensures marks { OnOk result (MarksFor net.now rows.now (change_in what.now) priced.old.live priced.new.live steps.old steps.new) }
 {
     let outcome = match what {
-        Alteration::Change(change) => turn(live, net, rows, change, steps),
-        Alteration::Adoption(flips) => turn_adopted(live, net, rows, flips, steps),
+        Alteration::Change(change) => turn(priced, net, rows, change, steps),
+        Alteration::Adoption(flips) => turn_adopted(priced, net, rows, flips, steps),
     };
     match outcome {
         Ok(()) => Ok(()),

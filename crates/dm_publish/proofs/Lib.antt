@@ -2,3 +2,4 @@ pub mod Gathered
 pub mod Notes
 pub mod Turned
 pub mod TrueNotes
+pub mod Repeated

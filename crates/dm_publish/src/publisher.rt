@@ -4,6 +4,7 @@ ghost use Rattle.dm_base.specs.declared.limits.TheConstants.{BOARDS};
 ghost use Rattle.dm_cert.specs.Runs.{AreTrueNotes};
 ghost use Rattle.dm_publish.specs.Value.{PublisherValue};
 ghost use Rattle.dm_publish.specs.Publishing.{has_note, Publishes};
+ghost use Rattle.dm_publish.specs.Since.{KeepsUp};
 ghost use Rattle.dm_publish.specs.Inside.Turns.{TakesTurn};
 
 use crate::refreshing::{refresh, stop_of};
@@ -73,6 +74,9 @@ impl Publisher {
         requires times { length timetable.now ≡ length net.now.events }
         requires boards { vec_len boards.old ≡ self.old.boards }
         ensures published { Publishes place times faults is_sound net.now timetable.now entry boards.old.items boards.new.items self.old.notes self.new.notes result }
+
+        // Boards that were kept up since some first list are so after the call, and show the timetable.
+        ensures keeps_up { KeepsUp place times faults is_sound net.now timetable.now boards.old.items boards.new.items self.old.notes self.new.notes }
 
         // Notes that are true at an earlier entry are so with the new ones.
         ensures true_notes { (entries : ℕ) → entries ≤ entry → AreTrueNotes entries self.old.notes → AreTrueNotes entry self.new.notes }

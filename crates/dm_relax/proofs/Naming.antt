@@ -157,7 +157,7 @@ module _ (net : Net) (network : IsNetwork net) where
       rw (event_found s (small_is_event net network p below), event_found l (large_is_event net network p below))
       (first_is l s p false (pair_found_back p below) (ne_eqb s l (λ e. omega arith)))
 
-  ids_rise : (p : ℕ) → p < length net.pairs → (event_at net (pair_at net p).small).id.0 < (event_at net (pair_at net p).large).id.0
+  pub ids_rise : (p : ℕ) → p < length net.pairs → (event_at net (pair_at net p).small).id.0 < (event_at net (pair_at net p).large).id.0
   ids_rise p below =
       key_rises (λ x. x.id.0) net.events network.formed.events_ascend (pair_at net p).small (pair_at net p).large no_event (rises p below)
       (large_is_event net network p below)

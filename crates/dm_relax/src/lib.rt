@@ -15,3 +15,4 @@ mod unmet;
 
 pub use completing::complete;
 pub use relaxing::{Relaxed, relax};
+pub use undecided::with_decisions;

@@ -14,9 +14,11 @@ use std::test::Fail;
 
 const PENALTY: u64 = 10;
 
-const CHANGE: Choice = Choice::Change(ActId(5));
+pub(crate) const CHANGE: Choice = Choice::Change(ActId(5));
 
-const DROP: Decision = Decision::Drop(ActId(5));
+pub(crate) const DROP: Decision = Decision::Drop(ActId(5));
+
+pub(crate) const TURNED: Decision = Decision::First(EventId(5), EventId(3));
 
 fn small_events(rows: &[EventRow]) -> bool
     ensures { IsTrue result → AreSmallEvents rows.now }
@@ -79,7 +81,7 @@ fn activities(alloc: Global) -> Result<Vec<ActRow>, AllocError> {
 }
 
 /// The connection at one station.
-fn connection(alloc: Global) -> Result<Network, NetFault> {
+pub(crate) fn connection(alloc: Global) -> Result<Network, NetFault> {
     let Ok(events) = events(alloc) else {
         return Err(NetFault::OutOfMemory);
     };
@@ -94,7 +96,7 @@ fn connection(alloc: Global) -> Result<Network, NetFault> {
 }
 
 /// Its rows where the first event is a minute late.
-fn late_rows(alloc: Global, net: &Network) -> Result<Rows, Fail>
+pub(crate) fn late_rows(alloc: Global, net: &Network) -> Result<Rows, Fail>
     ensures { IfOk result (IsSized net.now) }
 {
     let mut rows = start_rows(alloc, net, &[], &[])?;
@@ -170,12 +172,11 @@ fn found_behind(
 fn worked_paths(rt: HostRuntime) -> Result<(), Fail> {
     let net = connection(rt.alloc())?;
     let rows = late_rows(rt.alloc(), &net)?;
-    let turned = Decision::First(EventId(5), EventId(3));
     let (cost, violated, completion) = found(rt.alloc(), &net, &rows, &[])?;
     assert_eq!(rt; (cost, violated), (900_000, Some(CHANGE)));
     assert!(rt; completion.is_empty());
     for (decision, cost, violated, completed) in [
-        (DROP, 940_000, None, [DROP, turned].as_slice()),
+        (DROP, 940_000, None, [DROP, TURNED].as_slice()),
         (
             Decision::First(EventId(3), EventId(5)),
             1_065_000,

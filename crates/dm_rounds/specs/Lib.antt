@@ -1,4 +1,5 @@
 -- What answering feeds in rounds comes to.
 pub mod Rounds
+pub mod Answering
 -- States of rounds: checked, and not to be believed.
 pub mod Inside

@@ -2,7 +2,7 @@
 use Rattle.std.specs.Prelude.{ℕ, ◌≡◌, ◌+◌, List, [], length, count_by, slice_get, Option, Some, None, IfSome}
 use Rattle.dm_feed.specs.declared.feed.FeedStop.TheVariants.{Fault}
 use Rattle.dm_cert.specs.declared.replies.FeedLog.{FeedLog}
-use Rattle.dm_cert.specs.Logs.{IsTrueLog, KeepsRounds, IsLogOf, without_plans, names, all_items}
+use Rattle.dm_cert.specs.Logs.{IsTrueLog, KeepsRounds, IsLogOf, names, all_items}
 use Rattle.dm_cert.specs.RunTexts.{IsSpelledLog}
 use Rattle.dm_desk.specs.Desks.{DeskValue, GoesOn}
 use Rattle.dm_desk.specs.Answered.{times}
@@ -12,7 +12,7 @@ use Rattle.dm_desk.specs.Answered.{times}
 pub record IsLogFrom {S : Type 0} (left : S → Option (List ℕ)) (is_sound : S → Type 0) (source : S) (log : FeedLog) : Type 0 where
   pub bytes : List ℕ
   pub told : IfSome (left source) (λ rest. rest ≡ bytes)
-  pub log_of : IsLogOf without_plans bytes log
+  pub log_of : IsLogOf bytes log
   pub cause : log.stop ≡ Fault → is_sound source → ⊥
 
 -- what could not be opened has an empty log that ends with a fault

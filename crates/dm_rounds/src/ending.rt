@@ -1,6 +1,6 @@
 //! Feeds that have ended.
 
-ghost use Rattle.std.specs.Prelude.{◌≡◌, ℕ, true, Some, slice_get, map, IfOk};
+ghost use Rattle.std.specs.Prelude.{◌≡◌, ◌≤◌, [], ℕ, true, Some, slice_get, length, map, vec_capacity};
 ghost use Rattle.dm_rounds.specs.Inside.Jobs.{HasEnded, stop_in, log_in};
 ghost use Rattle.dm_rounds.specs.declared.jobs.Job.{Job as AJob};
 
@@ -8,7 +8,6 @@ use crate::jobs::{Job, Progress};
 use dm_base::Items;
 use dm_cert::FeedLog;
 use dm_feed::FeedStop;
-use std::alloc::{AllocError, Global};
 
 /// Whether all feeds have ended.
 pub fn have_ended<S>(jobs: &[Job<S>]) -> bool
@@ -22,15 +21,16 @@ pub fn have_ended<S>(jobs: &[Job<S>]) -> bool
     true
 }
 
-/// The logs of the feeds.
-pub fn logs_of<S: Drop>(alloc: Global, jobs: Vec<Job<S>>) -> Result<Vec<FeedLog>, AllocError>
-    ensures { IfOk result (λ logs. logs.items ≡ map log_in jobs.items) }
+/// The logs of the feeds, in room for as many.
+pub fn logs_of<S: Drop>(jobs: Vec<Job<S>>, mut logs: Vec<FeedLog>) -> Vec<FeedLog>
+    requires none { logs.items ≡ [] }
+    requires room { length jobs.items ≤ vec_capacity logs }
+    ensures { result.items ≡ map log_in jobs.items }
 {
-    let mut logs = Vec::new(alloc);
     for job in jobs {
-        logs.push(log_of(job))?;
+        logs.push_reserved(log_of(job));
     }
-    Ok(logs)
+    logs
 }
 
 /// The log of a feed that is read no further.

@@ -2,10 +2,11 @@
 
 ghost use Rattle.std.specs.Prelude.{◌≡◌, OnOk};
 ghost use Rattle.dm_rounds.specs.Inside.Jobs.{CanRead, StepsFrom};
-ghost use Rattle.dm_desk.specs.Answered.{HasSeenLegal};
+ghost use Rattle.dm_desk.specs.Answered.{HasSeenLegal, AreTrueOf};
+ghost use Rattle.dm_desk.specs.Planning.{PlansUnder};
 
 use dm_cert::LogItem;
-use dm_desk::{Desk, Hold, answer_batch};
+use dm_desk::{Desk, Hold, Planner, answer_batch};
 use dm_feed::{FeedStop, LineReader};
 use dm_outside::Source;
 use std::alloc::AllocError;
@@ -28,21 +29,24 @@ pub struct Job<S> {
 }
 
 /// Answers the next lines of a feed that has not ended, so many of them or all that are left.
-pub fn answer_job<S: Source + Drop, D: Desk, H: Hold>(
+pub fn answer_job<S: Source + Drop, D: Desk, P: Planner, H: Hold>(
     job: &mut Job<S>,
     desk: &mut D,
+    planner: &P,
     gate: &H,
     feed: u32,
     batch: u32,
 ) -> Result<(), AllocError>
     requires legal { HasSeenLegal (D.value desk.old) }
+    requires plans { PlansUnder (P.value planner.now) (D.value desk.old).setting }
+    requires are_true { AreTrueOf (D.value desk.old) feed job.old.log.items }
     requires can_read { CanRead job.old.progress }
     ensures { OnOk result (StepsFrom S.left S.is_sound job.old.progress job.old.log.items job.new (D.value desk.old) (D.value desk.new) feed batch) }
 {
     let Progress::Reading(reader) = &mut job.progress else {
         return Ok(());
     };
-    match answer_batch(reader, desk, gate, feed, batch, &mut job.log)? {
+    match answer_batch(reader, desk, planner, gate, feed, batch, &mut job.log)? {
         Some(stop) => job.progress = Progress::Ended(stop),
         None => {}
     }

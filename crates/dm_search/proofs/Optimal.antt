@@ -57,23 +57,23 @@ decided_longer path more c h =
 
 module _ (task : Task) (is : IsTask task) where
   -- an undecided choice behind the base is allowed
-  allowed_there : (path : List Decision) (c : Choice) → IsUndecided task.net task.rows (task.base ++ path) c → Contains task.allowed c
+  pub allowed_there : (path : List Decision) (c : Choice) → IsUndecided task.net task.rows (task.base ++ path) c → Contains task.allowed c
   allowed_there path c h =
       elim (is.covers c h.free) [
         | inl decided ↦ absurd (both_ways (is_decided (task.base ++ path) c) h.undecided (decided_longer task.base path c decided))
         | inr among ↦ among
       ]
 
-  -- the choices of a plan are a choice list within those allowed
-  pub chosen : (plan : Plan) → AreSomeOf task.allowed (map choice_of plan.choices) →
-      IsChoiceList task.net task.rows plan.choices × All (λ d. Contains task.allowed (choice_of d)) plan.choices
-  chosen plan some =
-      let among : (d : Decision) → Contains plan.choices d → Contains task.allowed (choice_of d) =
-      λ d h. some_among task.allowed (map choice_of plan.choices) some (choice_of d) (in_map choice_of plan.choices d h) in (
-        choice_list_from task.net task.rows plan.choices
-            (some_apart task.allowed (map choice_of plan.choices) some (apart_from_once task.allowed is.once))
+  -- some of the choices allowed, in order, are a choice list within them
+  pub chosen : (ds : List Decision) → AreSomeOf task.allowed (map choice_of ds) →
+      IsChoiceList task.net task.rows ds × All (λ d. Contains task.allowed (choice_of d)) ds
+  chosen ds some =
+      let among : (d : Decision) → Contains ds d → Contains task.allowed (choice_of d) =
+      λ d h. some_among task.allowed (map choice_of ds) some (choice_of d) (in_map choice_of ds d h) in (
+        choice_list_from task.net task.rows ds
+            (some_apart task.allowed (map choice_of ds) some (apart_from_once task.allowed is.once))
             (λ d h. All-contains (Contains (free_choices_of task.net task.rows)) task.allowed (choice_of d) is.free (among d h)),
-        all_from (λ d. Contains task.allowed (choice_of d)) plan.choices among,
+        all_from (λ d. Contains task.allowed (choice_of d)) ds among,
       )
 
   -- what a true plan says of the nodes of its tree
@@ -93,7 +93,7 @@ module _ (task : Task) (is : IsTask task) where
   fact_of plan p q Hole h = tt
 
   -- rows with choices within those allowed still have the base
-  has_base : (ds : List Decision) → IsChoiceList task.net task.rows ds → All (λ d. Contains task.allowed (choice_of d)) ds →
+  pub has_base : (ds : List Decision) → IsChoiceList task.net task.rows ds → All (λ d. Contains task.allowed (choice_of d)) ds →
       (d : Decision) → Contains task.base d → HasDecision task.net (with_decisions task.net task.rows ds) d
   has_base ds list within d h =
       there_with task.net is.network task.rows is.sized ds task.rows d (differs_in_none task.rows)
@@ -115,7 +115,7 @@ module _ (task : Task) (is : IsTask task) where
   pub optimal_is : (plan : Plan) → IsTruePlan task plan → plan.mark ≡ Optimal → IsOptimal task plan.choices plan.cost × (plan.bound ≡ plan.cost)
   optimal_is plan p marked =
       let none : HasNoOpen p.shape = p.mark.0 marked in
-      let list = chosen plan p.choices in
+      let list = chosen plan.choices p.choices in
       let high : plan.cost ≤ plan.bound =
       elim p.bound.reached [
         | inl s ↦ (p.bounds p.bound.path plan.bound s).no_less

@@ -5,7 +5,10 @@
 //! than the bound of a true plan, and how many nodes are enough; it holds of every task within allowed choices.
 #![tactic(auto)]
 
+mod finishing;
 pub mod laws;
+mod searching;
 mod steps;
 
+pub use finishing::finish;
 pub use steps::{Outcome, step};

@@ -19,8 +19,8 @@ use Rattle.dm_tree.specs.declared.plans.Plan.{Plan}
 use Rattle.dm_tree.specs.Plans.{whole_task, IsTruePlan}
 use Rattle.dm_turn.specs.Passes.{PassValue, numbered}
 use Rattle.dm_server.specs.declared.kept.Base.{Base}
-use Rattle.dm_server.specs.declared.adopting.AdoptRefusal.{AdoptRefusal}
-use Rattle.dm_server.specs.declared.adopting.AdoptRefusal.TheVariants.{Old, Full, OutOfMemory as NoMemory}
+use Rattle.dm_tree.specs.declared.adopting.AdoptRefusal.{AdoptRefusal}
+use Rattle.dm_tree.specs.declared.adopting.AdoptRefusal.TheVariants.{Old, Full, OutOfMemory as NoMemory}
 
 -- what of a table never changes
 abbrev pub base_of : TableValue → Base

@@ -5,13 +5,12 @@ ghost use Rattle.dm_table.specs.Value.{HasRoomFor};
 ghost use Rattle.dm_server.specs.Answers.{base_of, rows_after, AreTimesAfter, ShowsTime, CostsAfter, RefusesAfter, RefusesAdopt, IsTrueOf, adopts};
 ghost use Rattle.dm_server.specs.Inside.Holding.{Gains, Stays};
 
-use crate::adopting::AdoptRefusal;
 use dm_base::limits::ENTRIES;
 use dm_base::{Cost, EventId, Items, Secs, Steps};
 use dm_rows::{Decision, Entry, Message, Refusal};
 use dm_settle::Times;
 use dm_table::Table;
-use dm_tree::Plan;
+use dm_tree::{AdoptRefusal, Plan};
 use std::alloc::{AllocError, Global};
 use std::marker::Brand;
 use std::sync::ledger::{Blank, Ledger};

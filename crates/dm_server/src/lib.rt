@@ -5,11 +5,10 @@
 //! than it had seen before, and an entry that a pass makes is its own. That a call which waits returns is not promised.
 #![tactic(auto)]
 
-mod adopting;
 mod holding;
 mod kept;
 mod server;
 
-pub use adopting::AdoptRefusal;
+pub use dm_tree::AdoptRefusal;
 pub use kept::{Base, Kept};
 pub use server::Server;

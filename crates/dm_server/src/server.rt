@@ -12,7 +12,6 @@ ghost use Rattle.dm_times.specs.Faults.{RefusesTimes};
 ghost use Rattle.dm_turn.specs.Passes.{longer, AreEntriesOf, AreAllAbove};
 ghost use Rattle.dm_server.specs.Answers.{base_of, rows_after, AreTimesAfter, ShowsTime, CostsAfter, RefusesAfter, RefusesAdopt, IsTrueOf, adopts, HasLooked, HasEntered};
 
-use crate::adopting::AdoptRefusal;
 use crate::holding::{adopt, copy_times, cost, enter, time};
 use crate::kept::Kept;
 use dm_base::{Cost, EventId, Secs};
@@ -20,7 +19,7 @@ use dm_network::Network;
 use dm_rows::{At, Entry, Refusal, Rows, Snapshot};
 use dm_settle::{NoTimes, Times};
 use dm_table::Table;
-use dm_tree::Plan;
+use dm_tree::{AdoptRefusal, Plan};
 use dm_turn::{Pass, Turn};
 use std::alloc::{AllocError, Global};
 use std::marker::Model;

@@ -6,7 +6,7 @@ use Rattle.std.specs.Prelude.{Result, OnOk, OnErr, IfErr, IsOk}
 use Rattle.dm_base.specs.declared.limits.TheConstants.{ENTRIES}
 use Rattle.dm_graph.specs.declared.search.Cyclic.{Cyclic}
 use Rattle.dm_network.specs.Net.{Net}
-use Rattle.dm_propagate.specs.Engine.{EngineValue, IsEngineOf}
+use Rattle.dm_propagate.specs.Engine.{EngineValue, IsEngineOf, cycle_of}
 use Rattle.dm_propagate.proofs.Following.{engine_no_cycle}
 use Rattle.dm_rows.specs.declared.messages.Message.{Message}
 use Rattle.dm_rows.specs.declared.messages.Message.TheVariants.{DelayEvent, DelayActivity, Pass, Recall, Keep, Drop, First, Adopt, Now}
@@ -46,7 +46,7 @@ made_where_ok n P outcome (Err r) ok few made = tt
 
 module _ (net : Net) (n : ℕ) (rows : RowsValue) (before now : EngineValue) (outcome : Result (Unit {0}) Cyclic) (engine : IsEngineOf net before)
     (had : HasTried net n rows before now outcome) (m : Message) (is : rows ≡ after net before.rows m) (passes : PassesAtOnce net before.rows m)
-    (cycle : List ℕ) (cycle_is : cycle ≡ now.live.order.cycle) where
+    (cycle : List ℕ) (cycle_is : cycle ≡ cycle_of now) where
   is_cycle : OnErr outcome (IsCycle net rows cycle)
   is_cycle = subst (λ (c : List ℕ). OnErr outcome (IsCycle net rows c)) (sym cycle_is) had.cycle
 

@@ -7,6 +7,7 @@
 //! A path may be 8,191 decisions long, so all is walked by loops. No time and no cost is computed here.
 #![tactic(auto)]
 
+mod adopting;
 mod assembly;
 mod drafts;
 mod forms;
@@ -17,6 +18,7 @@ mod plans;
 mod walks;
 mod whole;
 
+pub use adopting::AdoptRefusal;
 pub use assembly::assemble;
 pub use forms::{AssembleFault, Child, Leaf, Mark, Node};
 pub use partial::Partial;

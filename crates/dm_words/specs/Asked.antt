@@ -1,9 +1,10 @@
 -- What the words of a command are, seen by contracts.
-use Rattle.std.specs.Prelude.{map, filter, string_bytes}
+use Rattle.std.specs.Prelude.{ℕ, List, map, filter, string_bytes}
 use Rattle.std.specs.Option.{option_map}
 use Rattle.dm_words.specs.Options.{is_name}
 use Rattle.dm_words.specs.Words.{Command, FilesAsked, RunAsked, CheckAsked, GenAsked, RunOf, CheckOf, GenOf}
 use Rattle.dm_words.specs.declared.files.FileWords.{FileWords}
+use Rattle.dm_words.specs.declared.options.Names.{Names}
 use Rattle.dm_words.specs.declared.command.RunWords.{RunWords}
 use Rattle.dm_words.specs.declared.command.CheckWords.{CheckWords}
 use Rattle.dm_words.specs.declared.command.GenWords.{GenWords}
@@ -20,11 +21,14 @@ files_of words =
       activity_delays = option_map (λ x. x.now) words.activity_delays;
     }
 
+abbrev pub names_in : Names → List (List ℕ)
+names_in names = filter is_name (map string_bytes names.words.now)
+
 abbrev pub run_of : RunWords → RunAsked
 run_of words =
     record {
       files = files_of words.files;
-      feeds = filter is_name (map string_bytes words.feeds.words.now);
+      feeds = names_in words.feeds;
       batch = words.batch;
       boards = words.boards;
     }

@@ -2,6 +2,7 @@
 ghost use Rattle.std.specs.Prelude.{◌≡◌, ◌≤◌, ◌∷◌, [], ◌||◌, ℕ, Option, List, Some, None, map, filter, length, string_bytes, MatchOption};
 ghost use Rattle.std.specs.Option.{option_map};
 ghost use Rattle.std.specs.List.{list_all};
+ghost use Rattle.dm_words.specs.Asked.{names_in};
 ghost use Rattle.dm_words.specs.Options.{GivesOption, behind, file_options, is_name, is_option, options_of, values_of};
 
 /// How the word of each option begins.
@@ -160,8 +161,7 @@ pub struct Names<'a> {
 impl<'a> Names<'a> {
     /// The first name, and the names behind it.
     pub fn split_first(self) -> Option<(&'a str, Names<'a>)>
-        ensures { MatchOption result (filter is_name (map string_bytes self.entry.words.now) ≡ [])
-            (λ next. filter is_name (map string_bytes self.entry.words.now) ≡ next.0.now ∷ filter is_name (map string_bytes next.1.words.now)) }
+        ensures { MatchOption result (names_in self.entry ≡ []) (λ next. names_in self.entry ≡ next.0.now ∷ names_in next.1) }
     {
         match next_name(self.words) {
             Some((name, words)) => Some((name, Names { words })),

@@ -3,9 +3,8 @@ use Rattle.std.specs.Prelude.{ℕ, ◌≡◌, ◌+◌, false, List, [], length, 
 use mathlib.Core.List.{IsPrefix}
 use Rattle.atomic_table.specs.Seated.{TableId}
 use Rattle.dm_rows.specs.History.{IsLegal}
-use Rattle.dm_desk.specs.Answered.{times, HasSeenLegal}
+use Rattle.dm_desk.specs.Answered.{times, HasSeenLegal, AreTrueOf}
 use Rattle.dm_rounds.specs.declared.jobs.Job.{Job}
-use Rattle.dm_rounds.specs.declared.jobs.Progress.{Progress}
 use Rattle.dm_rounds.specs.Inside.Jobs.{CanRead, StepsFrom}
 use Rattle.dm_server.specs.declared.kept.Base.{Base}
 use Rattle.dm_turn.specs.Passes.{PassValue}
@@ -15,13 +14,14 @@ use Rattle.dm_crew.specs.Passes.{numbers_in, desk_of, IsSamePass}
 abbrev pub split_of : PassValue Base → PassValue Base
 split_of main = record main { holds = false; room = 1; mine = [] }
 
--- the pass is an idle one of the server, and the reader may be asked
-pub record IsReady {S : Type 0} (turn : TableId) (base : Base) (pass : PassValue Base) (progress : Progress S) : Type 0 where
+-- the pass is an idle one of the server, the reader may be asked, and the log is true of what the pass has seen
+pub record IsReady {S : Type 0} (turn : TableId) (base : Base) (feed : ℕ) (pass : PassValue Base) (job : Job S) : Type 0 where
   pub here : pass.turn ≡ turn
   pub idle : pass.holds ≡ false
   pub based : pass.base ≡ Some base
   pub legal : HasSeenLegal (desk_of base pass)
-  pub can_read : CanRead progress
+  pub can_read : CanRead job.progress
+  pub are_true : AreTrueOf (desk_of base pass) feed job.log.items
 
 -- the next lines were answered over the pass, or memory was wanting
 pub record IsWorked {S E : Type 0} (left : S → Option (List ℕ)) (is_sound : S → Type 0) (base : Base) (batch feed : ℕ) (pass : PassValue Base) (job : Job S) (now : PassValue Base) (after : Job S) (answer : Result (Unit {0}) E) : Type 0 where

@@ -1,11 +1,11 @@
 -- Stages of a run.
-use Rattle.std.specs.Prelude.{ℕ, ◌≡◌, ◌+◌, ◌^◌, ◌<◌, ◌≤◌, ◌⊎◌, List, [], length, map, slice_get, ◌++◌, ◌∷◌, Option, Some, None, Result, Ok, Err}
+use Rattle.std.specs.Prelude.{ℕ, ◌≡◌, ◌+◌, ◌^◌, ◌<◌, ◌≤◌, List, [], length, map, slice_get, ◌++◌, ◌∷◌, Option, Some, None, Result, Ok, Err}
 use Rattle.std.specs.List.{range_with_len}
 use Rattle.dm_base.specs.declared.limits.TheConstants.{FEEDS, PENALTY}
 use Rattle.dm_base.specs.declared.rows.DelayRow.{DelayRow}
-use Rattle.dm_input.specs.Input.{Told, IsHeld, Opening, OpeningAnswer}
+use Rattle.dm_input.specs.Input.{Told, IsHeld}
 use Rattle.dm_input.specs.Lines.{refused_line, read_fault_line}
-use Rattle.dm_input.specs.Words.{RunAsked, FilesAsked, Command, RunOf}
+use Rattle.dm_words.specs.Words.{RunAsked, FilesAsked, Command, RunOf, CheckOf, GenOf}
 use Rattle.dm_input.specs.declared.flaws.InputStop.{InputStop}
 use Rattle.dm_input.specs.declared.flaws.InputStop.TheVariants.{Refused, ReadFault, NoMemory}
 use Rattle.dm_network.specs.Net.{Net}
@@ -62,6 +62,8 @@ pub record AreWithin (asked : RunAsked) : Type 0 where
 
 abbrev pub IsWithin : Command → Type 0
 IsWithin (RunOf asked) = AreWithin asked
+IsWithin (CheckOf asked) = Unit {0}
+IsWithin (GenOf asked) = Unit {0}
 
 -- ---- feeds
 

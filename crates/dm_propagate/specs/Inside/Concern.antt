@@ -22,13 +22,16 @@ IsDecided net (Drop a) b = b ≡ a
 IsDecided net (First p small) b =
     ((activity_at net b).tail ≡ (pair_at net p).small) ⊎ ((activity_at net b).tail ≡ (pair_at net p).large)
 
--- one of the first n flips decides about the activity
-pub record IsDecidedBefore (net : Net) (flips : List Flip) (n : ℕ) (b : ℕ) : Type 0 where
+-- one of the first n flips decides about the activity, in this sense
+pub record IsOfOneBefore (decides : Flip → ℕ → Type 0) (flips : List Flip) (n : ℕ) (b : ℕ) : Type 0 where
   pub flip : Flip
   pub place : ℕ
   pub before : place < n
   pub there : slice_get flips place ≡ Some flip
-  pub decided : IsDecided net flip b
+  pub decided : decides flip b
+
+abbrev pub IsDecidedBefore : Net → List Flip → ℕ → ℕ → Type 0
+IsDecidedBefore net flips n b = IsOfOneBefore (IsDecided net) flips n b
 
 -- the change may make the activity active, or take that away
 abbrev pub IsConcerned : Net → Change → ℕ → Type 0

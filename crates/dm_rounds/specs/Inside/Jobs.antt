@@ -5,10 +5,10 @@ use Rattle.dm_feed.specs.declared.feed.FeedStop.TheVariants.{End, Fault}
 use Rattle.dm_feed.specs.Feeds.{ReaderValue}
 use Rattle.dm_cert.specs.declared.replies.LogItem.{LogItem}
 use Rattle.dm_cert.specs.declared.replies.FeedLog.{FeedLog}
-use Rattle.dm_cert.specs.Logs.{kind_of, number_in, AreTrueAnswers, IsInOrder, names}
+use Rattle.dm_cert.specs.Logs.{kind_of, number_in, IsInOrder, names}
 use Rattle.dm_cert.specs.RunTexts.{IsSpelledItem}
 use Rattle.dm_desk.specs.Desks.{DeskValue, GoesOn}
-use Rattle.dm_desk.specs.Answered.{times, IsOpen, IsAnswered, AnswersBatch, HasSeenLegal}
+use Rattle.dm_desk.specs.Answered.{times, IsOpen, AreTrueOf, IsAnswered, AnswersBatch}
 use Rattle.dm_rounds.specs.declared.jobs.Progress.{Progress}
 use Rattle.dm_rounds.specs.declared.jobs.Progress.TheVariants.{Reading, Ended}
 use Rattle.dm_rounds.specs.declared.jobs.Job.{Job}
@@ -29,7 +29,7 @@ pub record IsReading {S : Type 0} (left : S → Option (List ℕ)) (is_sound : S
 -- its log is whole, and true of what the desk has seen
 pub record IsFinished {S : Type 0} (left : S → Option (List ℕ)) (is_sound : S → Type 0) (feed : Option S) (desk : DeskValue) (number : ℕ) (items : List LogItem) (stop : FeedStop) : Type 0 where
   pub log_for : IsLogFor left is_sound feed (record { items = items; stop = stop })
-  pub answers : AreTrueAnswers desk.setting desk.seen number [] items
+  pub answers : AreTrueOf desk number items
   pub in_order : IsInOrder 0 0 items
   pub spelled : All IsSpelledItem items
 
@@ -99,6 +99,10 @@ pub record RoundState {S : Type 0} (left : S → Option (List ℕ)) (is_sound : 
 abbrev pub CanReadAll : {S : Type 0} → List (Job S) → Type 0
 CanReadAll jobs = (k : ℕ) (job : Job _) → slice_get jobs k ≡ Some job → CanRead job.progress
 
+-- every log is true of what the desk has seen
+abbrev pub AllAreTrue : {S : Type 0} → DeskValue → List (Job S) → Type 0
+AllAreTrue desk jobs = (k : ℕ) (job : Job _) → slice_get jobs k ≡ Some job → AreTrueOf desk (k + 1) job.log.items
+
 -- one round more was answered
 abbrev pub AnswersRound : {S : Type 0} → (S → Option (List ℕ)) → (S → Type 0) → ℕ → DeskValue → List (Job S) → DeskValue → List (Job S) → Type 0
 AnswersRound left is_sound batch before jobs now after =
@@ -107,8 +111,9 @@ AnswersRound left is_sound batch before jobs now after =
 
 -- the jobs below a place have been answered
 pub record AnswersBelow {S : Type 0} (left : S → Option (List ℕ)) (is_sound : S → Type 0) (batch : ℕ) (before : DeskValue) (jobs : List (Job S)) (now : DeskValue) (after : List (Job S)) (place : ℕ) : Type 0 where
-  pub legal : HasSeenLegal now
+  pub goes_on : GoesOn before now
   pub as_many : length after ≡ length jobs
+  pub are_true : AllAreTrue now after
   pub can_read : (k : ℕ) (job : Job S) → place ≤ k → slice_get after k ≡ Some job → CanRead job.progress
   pub state : (feeds : List (Option S)) (first : DeskValue) (rounds low : ℕ) → RoundState left is_sound feeds first batch rounds low before jobs 0
       → RoundState left is_sound feeds first batch rounds low now after place

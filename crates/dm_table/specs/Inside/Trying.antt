@@ -4,7 +4,7 @@ use Rattle.dm_base.specs.declared.limits.TheConstants.{ENTRIES}
 use Rattle.dm_graph.specs.declared.search.Cyclic.{Cyclic}
 use Rattle.dm_network.specs.Net.{Net}
 use Rattle.dm_network.specs.Held.{ids_of}
-use Rattle.dm_propagate.specs.Engine.{EngineValue, IsEngineOf, times_of}
+use Rattle.dm_propagate.specs.Engine.{EngineValue, IsEngineOf, times_of, cycle_of}
 use Rattle.dm_rows.specs.declared.messages.Message.{Message}
 use Rattle.dm_rows.specs.declared.messages.Refusal.{Refusal}
 use Rattle.dm_rows.specs.declared.messages.Refusal.TheVariants.{Cycle, OutOfMemory}
@@ -26,7 +26,7 @@ pub record HasTried (net : Net) (n : ℕ) (rows : RowsValue) (before now : Engin
   pub no_cycle : OnOk outcome (HasNoCycle net rows)
   pub tried : ENTRIES ≤ n → IsUnmoved before now
   pub refused : OnErr outcome (IsUnmoved before now)
-  pub cycle : OnErr outcome (IsCycle net rows now.live.order.cycle)
+  pub cycle : OnErr outcome (IsCycle net rows (cycle_of now))
 
 -- what is known of a message when its rows have been tried: nothing refuses it at once, and its rows have no cycle, or this
 pub record IsTried (net : Net) (rows : RowsValue) (m : Message) (cycle : List ℕ) (outcome : Result (Unit {0}) Cyclic) : Type 0 where

@@ -3,7 +3,7 @@ use Rattle.std.proofs.lemmas.Result.{IfOk-weaker}
 use Rattle.dm_cert.specs.declared.replies.FeedLog.{FeedLog}
 use Rattle.dm_rounds.specs.Rounds.{AnswersFeeds}
 use Rattle.dm_rounds.specs.Inside.Jobs.{log_in}
-use Rattle.dm_rounds.proofs.Closing.{first_round, can_read_all, ends_rounds, is_some_none, ended_all}
+use Rattle.dm_rounds.proofs.Closing.{first_round, can_read_all, are_true_all, ends_rounds, is_some_none, ended_all}
 use Rattle.dm_server.specs.declared.kept.Base.{Base}
 use Rattle.dm_turn.specs.Passes.{PassValue}
 use Rattle.dm_crew.specs.Passes.{desk_of}
@@ -36,6 +36,11 @@ pub answer_round-requires-clause-can_read : goal.answer_round-requires-clause-ca
 answer_round-requires-clause-can_read g c =
     λ lifetimes bounds.
     can_read_all g.S.Source.left g.S.Source.is_sound c.args.batch c.requires.some c.args.feeds.items (desk_of g.P.Seat.base c.args.main.now) c.loop.invariant.1.rounds c.loop.invariant.1.low (desk_of g.P.Seat.base c.loop.main) c.loop.jobs.items 0 c.loop.invariant.1.state
+
+pub answer_round-requires-clause-are_true : goal.answer_round-requires-clause-are_true
+answer_round-requires-clause-are_true g c =
+    λ lifetimes bounds.
+        are_true_all g.S.Source.left g.S.Source.is_sound c.args.batch c.requires.some c.args.feeds.items (desk_of g.P.Seat.base c.args.main.now) c.loop.invariant.1.rounds c.loop.invariant.1.low (desk_of g.P.Seat.base c.loop.main) c.loop.jobs.items 0 c.loop.invariant.1.state
 
 pub answer_round-requires-clause-few : goal.answer_round-requires-clause-few
 answer_round-requires-clause-few g c = omega (arith, c.loop.jobs.ok.0, c.loop.invariant.1.state.as_many, c.requires.few)

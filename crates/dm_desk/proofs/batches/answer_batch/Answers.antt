@@ -2,11 +2,12 @@ use Rattle.std.proofs.Common.{Option, ◌+◌, ◌≤◌, subst, arith}
 use Rattle.dm_feed.specs.declared.feed.FeedStop.{FeedStop}
 use Rattle.dm_desk.specs.Answered.{AnswersBatch}
 use Rattle.dm_desk.proofs.Answering.{none_yet, batch_then, stop_within}
+use Rattle.dm_desk.proofs.Asking.{still_plans}
 use Rattle.dm_desk.proofs.batches.answer_batch.Goals as goal
 
 pub loop-init : goal.loop-init
 loop-init g c = (
-  none_yet g.S.Source.left g.S.Source.is_sound c.args.reader.now (g.D.Desk.value c.args.desk.now) c.args.feed c.args.log.now.items c.requires.legal c.requires.open_still,
+  none_yet g.S.Source.left g.S.Source.is_sound c.args.reader.now (g.D.Desk.value c.args.desk.now) c.args.feed c.args.log.now.items c.requires.legal c.requires.are_true c.requires.open_still,
   λ s. s,
 )
 
@@ -31,3 +32,6 @@ loop-preserved g c =
           c.loop.invariant.0 next,
       λ sound. c.in_ok-stop.ensures.stays_sound (c.loop.invariant.1 sound),
     )
+
+pub answer_next-requires-clause-plans : goal.answer_next-requires-clause-plans
+answer_next-requires-clause-plans g c = still_plans (g.P.Planner.value c.args.planner.now) (g.D.Desk.value c.args.desk.now) (g.D.Desk.value c.loop.desk) c.loop.invariant.0.answers.goes_on c.requires.plans

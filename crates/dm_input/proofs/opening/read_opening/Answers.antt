@@ -1,5 +1,5 @@
 use Rattle.std.proofs.Common.{rules}
-use Rattle.dm_input.specs.Asked.{files_of}
+use Rattle.dm_words.specs.Asked.{files_of}
 use Rattle.dm_input.specs.Stops.{StopsOpening}
 use Rattle.dm_input.specs.Inside.Stages.{rows_in}
 use Rattle.dm_input.proofs.Staging.{stops_network, stops_start, opening_answer}

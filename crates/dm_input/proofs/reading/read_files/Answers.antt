@@ -2,7 +2,7 @@ use Rattle.std.proofs.Common.{Ok, rules}
 use Rattle.dm_lintim.specs.Files.{ReadsActivities, ReadsDelays}
 use Rattle.dm_input.specs.declared.flaws.File.TheVariants.{Events, Activities, EventDelays, ActivityDelays}
 use Rattle.dm_input.specs.Input.{file_name}
-use Rattle.dm_input.specs.Asked.{files_of}
+use Rattle.dm_words.specs.Asked.{files_of}
 use Rattle.dm_input.specs.Stops.{StopsOpening}
 use Rattle.dm_input.proofs.Fits.{events_fit, activities_fit, delays_are_within}
 use Rattle.dm_input.proofs.Staging.{kept_then, answers_back, stops_back, stops_event_delays, stops_activity_delays, files_answer}

@@ -1,4 +1,4 @@
-use Rattle.std.proofs.Common.{map, length, arith}
+use Rattle.std.proofs.Common.{map, arith}
 use Rattle.dm_program.proofs.Opened.{kept_then, one_opened, all_opened, name_at, as_many_names}
 use Rattle.dm_program.proofs.feeds.open_feeds.Goals as goal
 

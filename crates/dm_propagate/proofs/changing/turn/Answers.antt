@@ -1,14 +1,17 @@
-use Rattle.std.proofs.Common.{subst, sym}
+use Rattle.std.proofs.Common.{◌<◌, [], ◌∷◌, length, subst, sym, ap, arith}
 use Rattle.std.specs.Result.{OnOk}
 use Rattle.std.proofs.lemmas.Result.{on_err_weaker}
 use Rattle.dm_rows.specs.declared.messages.Change.{Change}
 use Rattle.dm_propagate.specs.Inside.Changing.{MarksFor}
-use Rattle.dm_propagate.proofs.Concerning.{followed_by_one}
+use Rattle.dm_propagate.specs.Inside.Flags.{flags_of, AreFlagsOf, MovesPass, MovesCharge, IsNamed}
+use Rattle.dm_propagate.proofs.Concerning.{followed_by_one, by_one}
+use Rattle.dm_propagate.proofs.Flagging.{none_concerned, set_at, set_by}
+use Rattle.dm_propagate.proofs.Reaching.{event_is_reached, recall_is_reached}
 use Rattle.dm_propagate.proofs.changing.turn.Goals as goal
 
 pub returns-in-Passed-clause-marks : goal.returns-in-Passed-clause-marks
 returns-in-Passed-clause-marks g c =
-    subst (λ (change : Change). OnOk c.turn_event.result (MarksFor c.args.net.now c.args.rows.now change c.args.live.now c.turn_event.new.live
+    subst (λ (change : Change). OnOk c.turn_event.result (MarksFor c.args.net.now c.args.rows.now change c.args.priced.now.live c.turn_event.new.priced.live
     c.args.steps.now c.turn_event.new.steps))
     (sym c.in-Passed.is) c.turn_event.ensures.passed
 
@@ -16,5 +19,55 @@ pub returns-in-Flipped-clause-followed : goal.returns-in-Flipped-clause-followed
 returns-in-Flipped-clause-followed g c =
     on_err_weaker c.turn_by_flips.result
     (λ refused. followed_by_one c.args.net.now c.args.rows.now c.args.change.now c.in-Flipped.flip c.in-Flipped.is
-    c.args.live.now c.turn_by_flips.new.live refused c.turn_by_flips.ensures.floors c.requires.follows)
+    c.args.priced.now.live c.turn_by_flips.new.priced.live refused c.turn_by_flips.ensures.floors c.requires.follows)
     c.turn_by_flips.ensures.refused
+
+pub returns-in-EventDelay-clause-flags : goal.returns-in-EventDelay-clause-flags
+returns-in-EventDelay-clause-flags g c =
+    subst (AreFlagsOf c.args.net.now c.args.rows.now) (sym (ap flags_of c.set_floor.ensures.others))
+    (none_concerned c.args.net.now c.args.rows.now c.args.change.now (flags_of c.args.priced.now)
+    (λ i moves. subst (λ (change : Change). MovesPass change i) c.in-EventDelay.is moves)
+    (λ a moves. subst (λ (change : Change). MovesCharge c.args.net.now change a) c.in-EventDelay.is moves) c.requires.flags)
+
+pub returns-in-ActDelay-clause-flags : goal.returns-in-ActDelay-clause-flags
+returns-in-ActDelay-clause-flags g c =
+    subst (AreFlagsOf c.args.net.now c.args.rows.now) (sym (ap flags_of c.set_span.ensures.span))
+    (none_concerned c.args.net.now c.args.rows.now c.args.change.now (flags_of c.args.priced.now)
+    (λ i moves. subst (λ (change : Change). MovesPass change i) c.in-ActDelay.is moves)
+    (λ a moves. subst (λ (change : Change). MovesCharge c.args.net.now change a) c.in-ActDelay.is moves) c.requires.flags)
+
+pub returns-in-Clock-clause-flags : goal.returns-in-Clock-clause-flags
+returns-in-Clock-clause-flags g c =
+    subst (AreFlagsOf c.args.net.now c.args.rows.now) (sym (c.set_floors.ensures.flags))
+    (none_concerned c.args.net.now c.args.rows.now c.args.change.now (flags_of c.args.priced.now)
+    (λ i moves. subst (λ (change : Change). MovesPass change i) c.in-Clock.is moves)
+    (λ a moves. subst (λ (change : Change). MovesCharge c.args.net.now change a) c.in-Clock.is moves) c.requires.flags)
+
+pub returns-in-Passed-clause-flags : goal.returns-in-Passed-clause-flags
+returns-in-Passed-clause-flags g c =
+    let many = c.requires.priced.as_many_passed in
+    let size = c.requires.sized.passed in
+    let is_event = event_is_reached c.args.rows.now c.args.change.now c.requires.reaches c.in-Passed.event _ c.in-Passed.is in
+    let below : c.in-Passed.event < length c.args.priced.now.passed = omega arith in
+    set_at c.args.net.now c.args.rows.now c.args.change.now c.in-Passed.event
+    (λ i moves. subst (λ (change : Change). MovesPass change i) c.in-Passed.is moves)
+    (λ a moves. subst (λ (change : Change). MovesCharge c.args.net.now change a) c.in-Passed.is moves)
+    (flags_of c.args.priced.now) (flags_of c.turn_event.new.priced) below c.requires.flags c.turn_event.ensures.flags
+
+pub returns-in-Recalled-clause-flags : goal.returns-in-Recalled-clause-flags
+returns-in-Recalled-clause-flags g c =
+    let many = c.requires.priced.as_many_passed in
+    let size = c.requires.sized.passed in
+    let is_event = recall_is_reached c.args.rows.now c.args.change.now c.requires.reaches c.in-Recalled.event c.in-Recalled.is in
+    let below : c.in-Recalled.event < length c.args.priced.now.passed = omega arith in
+    set_at c.args.net.now c.args.rows.now c.args.change.now c.in-Recalled.event
+    (λ i moves. subst (λ (change : Change). MovesPass change i) c.in-Recalled.is moves)
+    (λ a moves. subst (λ (change : Change). MovesCharge c.args.net.now change a) c.in-Recalled.is moves)
+    (flags_of c.args.priced.now) (flags_of c.turn_event-in-Recalled.new.priced) below c.requires.flags c.turn_event-in-Recalled.ensures.flags
+
+pub returns-in-Flipped-clause-flags : goal.returns-in-Flipped-clause-flags
+returns-in-Flipped-clause-flags g c =
+    set_by c.args.net.now c.args.rows.now c.args.change.now (c.in-Flipped.flip ∷ [])
+    (λ i moves. subst (λ (change : Change). MovesPass change i) c.in-Flipped.is moves)
+    (λ a moves. by_one IsNamed c.in-Flipped.flip a (subst (λ (change : Change). MovesCharge c.args.net.now change a) c.in-Flipped.is moves))
+    (flags_of c.args.priced.now) (flags_of c.turn_by_flips.new.priced) c.requires.flags c.turn_by_flips.ensures.flags

@@ -1,6 +1,8 @@
-use Rattle.dm_live.specs.Live.{IsLive}
+use Rattle.std.specs.Prelude.{◌≡◌}
+use Rattle.dm_priced.specs.Priced.{IsPriced}
+use Rattle.dm_propagate.specs.Inside.Flags.{flags_of}
 use Rattle.dm_propagate.specs.Inside.Turning.{IsAmong, TakesUp}
 use Rattle.dm_propagate.proofs.held.take_up.Given as goal
 
 abbrev pub invariant-loop-a : goal.invariant-loop-a
-invariant-loop-a l = IsLive l.net l.live × TakesUp l.net l.rows (IsAmong l.acts l.a-index) l.initial.live l.live
+invariant-loop-a l = IsPriced l.net l.priced × (flags_of l.priced ≡ flags_of l.initial.priced) × TakesUp l.net l.rows (IsAmong l.acts l.a-index) l.initial.priced.live l.priced.live

@@ -1,5 +1,5 @@
-use Rattle.std.proofs.Common.{◌≡◌, sym, ap, subst}
-use Rattle.dm_live.specs.Live.{LiveValue}
+use Rattle.std.proofs.Common.{sym, ap, subst}
+use Rattle.dm_priced.specs.Priced.{PricedValue}
 use Rattle.dm_settle.specs.Constraints.{ConstraintsValue}
 use Rattle.dm_rows.specs.Active.{HasNoCycle}
 use Rattle.dm_rows.specs.Rows.{RowsValue}
@@ -8,6 +8,8 @@ use Rattle.dm_propagate.specs.Inside.Altering.{change_in}
 use Rattle.dm_propagate.specs.Inside.Concern.{FollowsBut}
 use Rattle.dm_propagate.proofs.Concerning.{follows_but_after, follows_but_before}
 use Rattle.dm_propagate.proofs.FewRows.{few_read_for}
+use Rattle.dm_propagate.specs.Inside.Flags.{flags_of, AreFlagsOf, AreFlagsBut}
+use Rattle.dm_propagate.proofs.Flagging.{but_where_right, flags_but_after, flags_but_before}
 use Rattle.dm_propagate.proofs.Following.{follows_least, follows_no_cycle, one_least}
 use Rattle.dm_propagate.proofs.Passing.{harmless}
 use Rattle.dm_propagate.proofs.Reaching.{reaches_alike, event_is_reached}
@@ -19,36 +21,36 @@ turn_to-requires-clause-reaches g c =
 
 pub turn_to-requires-clause-follows : goal.turn_to-requires-clause-follows
 turn_to-requires-clause-follows g c =
-    subst (λ (rows : RowsValue). FollowsBut c.args.net.now rows (change_in c.args.what.now) c.args.live.now.given) (sym c.requires.other)
-    (follows_but_after c.args.net.now c.sound.ensures.network.formed.is_paired c.args.rows.now (change_in c.args.what.now) c.args.live.now.given c.requires.follows)
+    subst (λ (rows : RowsValue). FollowsBut c.args.net.now rows (change_in c.args.what.now) c.args.priced.now.live.given) (sym c.requires.other)
+    (follows_but_after c.args.net.now c.sound.ensures.network.formed.is_paired c.args.rows.now (change_in c.args.what.now) c.args.priced.now.live.given c.requires.follows)
 
 pub come_back-requires-clause-follows : goal.come_back-requires-clause-follows
 come_back-requires-clause-follows g c =
-    follows_but_before c.args.net.now c.sound.ensures.network.formed.is_paired c.args.rows.now (change_in c.args.what.now) c.turn_to.new.live.given
-    (subst (λ (rows : RowsValue). FollowsBut c.args.net.now rows (change_in c.args.what.now) c.turn_to.new.live.given) c.requires.other c.in-Err.ensures.followed)
+    follows_but_before c.args.net.now c.sound.ensures.network.formed.is_paired c.args.rows.now (change_in c.args.what.now) c.turn_to.new.priced.live.given
+    (subst (λ (rows : RowsValue). FollowsBut c.args.net.now rows (change_in c.args.what.now) c.turn_to.new.priced.live.given) c.requires.other c.in-Err.ensures.followed)
 
 pub come_back-requires-clause-no_cycle : goal.come_back-requires-clause-no_cycle
 come_back-requires-clause-no_cycle g c =
-    follows_no_cycle c.args.net.now c.args.rows.now c.args.live.now c.requires.live c.requires.follows
+    follows_no_cycle c.args.net.now c.args.rows.now c.args.priced.now.live c.requires.priced.live c.requires.follows
 
 pub returns-in-Err-clause-times : goal.returns-in-Err-clause-times
 returns-in-Err-clause-times g c =
-    one_least c.args.net.now c.args.rows.now c.come_back.new.live.times c.args.live.now.times c.come_back.ensures.least
-    (follows_least c.args.net.now c.args.rows.now c.args.live.now c.sound.ensures.network.formed.ends_are_known c.requires.live c.requires.at_rest c.requires.follows)
+    one_least c.args.net.now c.args.rows.now c.come_back.new.priced.live.times c.args.priced.now.live.times c.come_back.ensures.least
+    (follows_least c.args.net.now c.args.rows.now c.args.priced.now.live c.sound.ensures.network.formed.ends_are_known c.requires.priced.live c.requires.at_rest c.requires.follows)
 
 pub returns-in-Ok-clause-few_reads : goal.returns-in-Ok-clause-few_reads
 returns-in-Ok-clause-few_reads g c = λ kind on.
     let net = c.args.net.now in
     let known = c.sound.ensures.network.formed.ends_are_known in
-    let settled : FollowsRows net c.args.other.now c.settle.new.self.given =
-    subst (λ (given : ConstraintsValue). FollowsRows net c.args.other.now given) (sym (ap (λ (v : LiveValue). v.given) c.settle.ensures.unchanged)) c.in-Ok.ensures.follows in
-    few_read_for net c.args.rows.now c.args.live.now c.turn_to.new.live c.settle.new.self c.args.steps.now c.turn_to.new.steps c.settle.new.steps
+    let settled : FollowsRows net c.args.other.now c.settle.new.self.live.given =
+    subst (λ (given : ConstraintsValue). FollowsRows net c.args.other.now given) (sym (ap (λ (p : PricedValue). p.live.given) c.settle.ensures.unchanged)) c.in-Ok.ensures.follows in
+    few_read_for net c.args.rows.now c.args.priced.now.live c.turn_to.new.priced.live c.settle.new.self.live c.args.steps.now c.turn_to.new.steps c.settle.new.steps
     c.requires.at_rest c.requires.follows
-    (follows_least net c.args.rows.now c.args.live.now known c.requires.live c.requires.at_rest c.requires.follows)
+    (follows_least net c.args.rows.now c.args.priced.now.live known c.requires.priced.live c.requires.at_rest c.requires.follows)
     (change_in c.args.what.now) c.args.other.now c.requires.other c.requires.sized.passed
     (event_is_reached c.args.rows.now (change_in c.args.what.now) c.requires.reaches)
-    c.requires.live.marked.as_many_times c.in-Ok.ensures.follows c.settle.ensures.few_reads
-    (follows_least net c.args.other.now c.settle.new.self known c.settle.ensures.live c.settle.ensures.at_rest settled)
+    c.requires.priced.live.marked.as_many_times c.in-Ok.ensures.follows c.settle.ensures.few_reads
+    (follows_least net c.args.other.now c.settle.new.self.live known c.settle.ensures.priced.live c.settle.ensures.at_rest settled)
     c.in-Ok.ensures.marks kind on
 
 pub returns-in-Err-clause-few_reads : goal.returns-in-Err-clause-few_reads
@@ -56,5 +58,20 @@ returns-in-Err-clause-few_reads g c = λ kind on.
     let none : HasNoCycle c.args.net.now c.args.other.now =
     subst (HasNoCycle c.args.net.now) (sym c.requires.other)
     (harmless c.args.net.now c.args.rows.now (change_in c.args.what.now) kind (event_is_reached c.args.rows.now (change_in c.args.what.now) c.requires.reaches)
-    (follows_no_cycle c.args.net.now c.args.rows.now c.args.live.now c.requires.live c.requires.follows)) in
-    absurd (none c.turn_to.new.live.order.cycle c.in-Err.ensures.cycle)
+    (follows_no_cycle c.args.net.now c.args.rows.now c.args.priced.now.live c.requires.priced.live c.requires.follows)) in
+    absurd (none c.turn_to.new.priced.live.order.cycle c.in-Err.ensures.cycle)
+
+pub turn_to-requires-clause-flags : goal.turn_to-requires-clause-flags
+turn_to-requires-clause-flags g c =
+    subst (λ (rows : RowsValue). AreFlagsBut c.args.net.now rows (change_in c.args.what.now) (flags_of c.args.priced.now)) (sym c.requires.other)
+    (flags_but_after c.args.net.now c.args.rows.now (change_in c.args.what.now) (flags_of c.args.priced.now) c.requires.flags)
+
+pub come_back-requires-clause-flags : goal.come_back-requires-clause-flags
+come_back-requires-clause-flags g c =
+    flags_but_before c.args.net.now c.args.rows.now (change_in c.args.what.now) (flags_of c.turn_to.new.priced)
+    (subst (λ (rows : RowsValue). AreFlagsBut c.args.net.now rows (change_in c.args.what.now) (flags_of c.turn_to.new.priced)) c.requires.other
+    (but_where_right c.args.net.now c.args.other.now (change_in c.args.what.now) (flags_of c.turn_to.new.priced) c.turn_to.ensures.flags))
+
+pub returns-in-Ok-clause-flags : goal.returns-in-Ok-clause-flags
+returns-in-Ok-clause-flags g c =
+    subst (AreFlagsOf c.args.net.now c.args.other.now) (sym (ap flags_of c.settle.ensures.unchanged)) c.turn_to.ensures.flags

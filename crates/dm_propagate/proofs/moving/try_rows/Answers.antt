@@ -4,6 +4,8 @@ use Rattle.dm_rows.specs.Rows.{RowsValue}
 use Rattle.dm_propagate.specs.Inside.Altering.{change_in}
 use Rattle.dm_propagate.specs.Inside.Concern.{FollowsBut}
 use Rattle.dm_propagate.proofs.Concerning.{follows_but_after, follows_but_before}
+use Rattle.dm_propagate.specs.Inside.Flags.{flags_of, AreFlagsBut}
+use Rattle.dm_propagate.proofs.Flagging.{but_where_right, flags_but_after, flags_but_before}
 use Rattle.dm_propagate.proofs.Following.{follows_least, follows_no_cycle, one_least}
 use Rattle.dm_propagate.proofs.Reaching.{reaches_alike}
 use Rattle.dm_propagate.proofs.moving.try_rows.Goals as goal
@@ -14,26 +16,37 @@ turn_to-outcome-requires-clause-reaches g c =
 
 pub turn_to-outcome-requires-clause-follows : goal.turn_to-outcome-requires-clause-follows
 turn_to-outcome-requires-clause-follows g c =
-    subst (λ (rows : RowsValue). FollowsBut c.args.net.now rows (change_in c.args.what.now) c.args.live.now.given) (sym c.requires.other)
-    (follows_but_after c.args.net.now c.sound.ensures.network.formed.is_paired c.args.rows.now (change_in c.args.what.now) c.args.live.now.given c.requires.follows)
+    subst (λ (rows : RowsValue). FollowsBut c.args.net.now rows (change_in c.args.what.now) c.args.priced.now.live.given) (sym c.requires.other)
+    (follows_but_after c.args.net.now c.sound.ensures.network.formed.is_paired c.args.rows.now (change_in c.args.what.now) c.args.priced.now.live.given c.requires.follows)
 
 pub come_back-requires-clause-follows : goal.come_back-requires-clause-follows
 come_back-requires-clause-follows g c =
-    follows_but_before c.args.net.now c.sound.ensures.network.formed.is_paired c.args.rows.now (change_in c.args.what.now) c.turn_to-outcome.new.live.given
-    (subst (λ (rows : RowsValue). FollowsBut c.args.net.now rows (change_in c.args.what.now) c.turn_to-outcome.new.live.given) c.requires.other
+    follows_but_before c.args.net.now c.sound.ensures.network.formed.is_paired c.args.rows.now (change_in c.args.what.now) c.turn_to-outcome.new.priced.live.given
+    (subst (λ (rows : RowsValue). FollowsBut c.args.net.now rows (change_in c.args.what.now) c.turn_to-outcome.new.priced.live.given) c.requires.other
     c.turn_to-outcome.ensures.followed)
 
 pub come_back-requires-clause-no_cycle : goal.come_back-requires-clause-no_cycle
 come_back-requires-clause-no_cycle g c =
-    follows_no_cycle c.args.net.now c.args.rows.now c.args.live.now c.requires.live c.requires.follows
+    follows_no_cycle c.args.net.now c.args.rows.now c.args.priced.now.live c.requires.priced.live c.requires.follows
 
 pub returns-clause-times : goal.returns-clause-times
 returns-clause-times g c =
-    one_least c.args.net.now c.args.rows.now c.come_back.new.live.times c.args.live.now.times c.come_back.ensures.least
-    (follows_least c.args.net.now c.args.rows.now c.args.live.now c.sound.ensures.network.formed.ends_are_known c.requires.live c.requires.at_rest c.requires.follows)
+    one_least c.args.net.now c.args.rows.now c.come_back.new.priced.live.times c.args.priced.now.live.times c.come_back.ensures.least
+    (follows_least c.args.net.now c.args.rows.now c.args.priced.now.live c.sound.ensures.network.formed.ends_are_known c.requires.priced.live c.requires.at_rest c.requires.follows)
 
 pub returns-clause-no_cycle : goal.returns-clause-no_cycle
 returns-clause-no_cycle g c =
     on_ok_weaker c.turn_to-outcome.result
-    (λ follows. follows_no_cycle c.args.net.now c.args.other.now c.turn_to-outcome.new.live c.turn_to-outcome.ensures.live follows)
+    (λ follows. follows_no_cycle c.args.net.now c.args.other.now c.turn_to-outcome.new.priced.live c.turn_to-outcome.ensures.priced.live follows)
     c.turn_to-outcome.ensures.follows
+
+pub turn_to-outcome-requires-clause-flags : goal.turn_to-outcome-requires-clause-flags
+turn_to-outcome-requires-clause-flags g c =
+    subst (λ (rows : RowsValue). AreFlagsBut c.args.net.now rows (change_in c.args.what.now) (flags_of c.args.priced.now)) (sym c.requires.other)
+    (flags_but_after c.args.net.now c.args.rows.now (change_in c.args.what.now) (flags_of c.args.priced.now) c.requires.flags)
+
+pub come_back-requires-clause-flags : goal.come_back-requires-clause-flags
+come_back-requires-clause-flags g c =
+    flags_but_before c.args.net.now c.args.rows.now (change_in c.args.what.now) (flags_of c.turn_to-outcome.new.priced)
+    (subst (λ (rows : RowsValue). AreFlagsBut c.args.net.now rows (change_in c.args.what.now) (flags_of c.turn_to-outcome.new.priced)) c.requires.other
+    (but_where_right c.args.net.now c.args.other.now (change_in c.args.what.now) (flags_of c.turn_to-outcome.new.priced) c.turn_to-outcome.ensures.flags))

@@ -1,5 +1,6 @@
+use Rattle.dm_priced.specs.Priced.{IsPriced}
 use Rattle.dm_propagate.specs.Inside.Sweeping.{SpansTo}
 use Rattle.dm_propagate.proofs.sweeping.set_spans.Given as goal
 
 abbrev pub invariant-loop-a : goal.invariant-loop-a
-invariant-loop-a l = SpansTo l.net l.rows l.a l.initial.live l.live
+invariant-loop-a l = IsPriced l.net l.priced × SpansTo l.net l.rows l.a l.initial.priced.live l.priced.live

@@ -10,4 +10,4 @@ let_go-requires-2-clause-are_activities c = out_row_below c.args.net.now c.args.
 pub returns-clause-gone : goal.returns-clause-gone
 returns-clause-gone c =
     let_go_around c.args.net.now c.args.rows.now c.args.event c.args.into.now c.args.out.now c.requires.into c.requires.out
-    c.args.live.now c.let_go.new.live c.let_go-2.new.live c.let_go.ensures.gone c.let_go-2.ensures.gone
+    c.args.priced.now.live c.let_go.new.priced.live c.let_go-2.new.priced.live c.let_go.ensures.gone c.let_go-2.ensures.gone

@@ -21,4 +21,4 @@ returns-clause-gone g c =
     let_go_at_pair c.args.net.now c.args.rows.now c.args.pair true c.out_row.result.now c.out_row-2.result.now
     (c.out_row.ensures.places ∙ ap (λ (p : Pair). places_out_of c.args.net.now p.small) c.pair.ensures)
     (c.out_row-2.ensures.places ∙ ap (λ (p : Pair). places_out_of c.args.net.now p.large) c.pair.ensures)
-    c.args.live.now c.let_go.new.live c.let_go-2.new.live c.let_go.ensures.gone c.let_go-2.ensures.gone
+    c.args.priced.now.live c.let_go.new.priced.live c.let_go-2.new.priced.live c.let_go.ensures.gone c.let_go-2.ensures.gone

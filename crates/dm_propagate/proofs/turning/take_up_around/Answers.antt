@@ -11,8 +11,8 @@ take_up-requires-2-clause-are_activities c = out_row_below c.args.net.now c.args
 pub returns-in-Ok-take_up-clause-taken : goal.returns-in-Ok-take_up-clause-taken
 returns-in-Ok-take_up-clause-taken c =
     taken_up_around c.args.net.now c.args.rows.now c.args.event c.args.into.now c.args.out.now c.requires.into c.requires.out
-    c.args.live.now c.take_up.new.live c.take_up-2.new.live c.in-Ok.ensures.taken c.in-Ok-take_up.ensures.taken
+    c.args.priced.now.live c.take_up.new.priced.live c.take_up-2.new.priced.live c.in-Ok.ensures.taken c.in-Ok-take_up.ensures.taken
 
 pub returns-in-Err-take_up-clause-refused : goal.returns-in-Err-take_up-clause-refused
 returns-in-Err-take_up-clause-refused c =
-    refused_after c.args.net.now c.args.rows.now c.args.live.now c.take_up.new.live c.take_up-2.new.live c.in-Ok.ensures.taken.held c.in-Err-take_up.ensures.refused
+    refused_after c.args.net.now c.args.rows.now c.args.priced.now.live c.take_up.new.priced.live c.take_up-2.new.priced.live c.in-Ok.ensures.taken.held c.in-Err-take_up.ensures.refused

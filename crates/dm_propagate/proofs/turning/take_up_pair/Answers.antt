@@ -22,8 +22,8 @@ returns-in-Ok-take_up-clause-taken g c =
     taken_up_at_pair c.args.net.now c.args.rows.now c.args.pair true c.out_row.result.now c.out_row-2.result.now
     (c.out_row.ensures.places ∙ ap (λ (p : Pair). places_out_of c.args.net.now p.small) c.pair.ensures)
     (c.out_row-2.ensures.places ∙ ap (λ (p : Pair). places_out_of c.args.net.now p.large) c.pair.ensures)
-    c.args.live.now c.take_up.new.live c.take_up-2.new.live c.in-Ok.ensures.taken c.in-Ok-take_up.ensures.taken
+    c.args.priced.now.live c.take_up.new.priced.live c.take_up-2.new.priced.live c.in-Ok.ensures.taken c.in-Ok-take_up.ensures.taken
 
 pub returns-in-Err-take_up-clause-refused : goal.returns-in-Err-take_up-clause-refused
 returns-in-Err-take_up-clause-refused g c =
-    refused_after c.args.net.now c.args.rows.now c.args.live.now c.take_up.new.live c.take_up-2.new.live c.in-Ok.ensures.taken.held c.in-Err-take_up.ensures.refused
+    refused_after c.args.net.now c.args.rows.now c.args.priced.now.live c.take_up.new.priced.live c.take_up-2.new.priced.live c.in-Ok.ensures.taken.held c.in-Err-take_up.ensures.refused

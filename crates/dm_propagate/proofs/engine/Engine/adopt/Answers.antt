@@ -9,18 +9,18 @@ pub returns-in-Ok-clause-least : goal.returns-in-Ok-clause-least
 returns-in-Ok-clause-least g c =
     let same : c.set_flips.new.rows ≡ c.set_flips-in-Ok.new.rows =
     c.set_flips.ensures.set ∙ ap (λ (r : RowsValue). fold after_flip r c.args.flips.now) c.self.invariant ∙ sym c.set_flips-in-Ok.ensures.set in
-    follows_least c.args.net.now c.set_flips-in-Ok.new.rows c.move_to.new.live c.sound.ensures.network.formed.ends_are_known
-    c.in-Ok.ensures.live c.in-Ok.ensures.at_rest
-    (subst (λ (r : RowsValue). FollowsRows c.args.net.now r c.move_to.new.live.given) same c.in-Ok.ensures.follows)
+    follows_least c.args.net.now c.set_flips-in-Ok.new.rows c.move_to.new.priced.live c.sound.ensures.network.formed.ends_are_known
+    c.in-Ok.ensures.priced.live c.in-Ok.ensures.at_rest
+    (subst (λ (r : RowsValue). FollowsRows c.args.net.now r c.move_to.new.priced.live.given) same c.in-Ok.ensures.follows)
 
 pub returns-in-Ok-clause-no_cycle : goal.returns-in-Ok-clause-no_cycle
 returns-in-Ok-clause-no_cycle g c =
     let same : c.set_flips.new.rows ≡ c.set_flips-in-Ok.new.rows =
     c.set_flips.ensures.set ∙ ap (λ (r : RowsValue). fold after_flip r c.args.flips.now) c.self.invariant ∙ sym c.set_flips-in-Ok.ensures.set in
-    follows_no_cycle c.args.net.now c.set_flips-in-Ok.new.rows c.move_to.new.live c.in-Ok.ensures.live
-    (subst (λ (r : RowsValue). FollowsRows c.args.net.now r c.move_to.new.live.given) same c.in-Ok.ensures.follows)
+    follows_no_cycle c.args.net.now c.set_flips-in-Ok.new.rows c.move_to.new.priced.live c.in-Ok.ensures.priced.live
+    (subst (λ (r : RowsValue). FollowsRows c.args.net.now r c.move_to.new.priced.live.given) same c.in-Ok.ensures.follows)
 
 pub returns-in-Err-clause-least : goal.returns-in-Err-clause-least
 returns-in-Err-clause-least g c =
-    follows_least c.args.net.now c.self.inside.rows c.move_to.new.live c.sound.ensures.network.formed.ends_are_known
-    c.in-Err.ensures.live c.in-Err.ensures.at_rest c.in-Err.ensures.followed
+    follows_least c.args.net.now c.self.inside.rows c.move_to.new.priced.live c.sound.ensures.network.formed.ends_are_known
+    c.in-Err.ensures.priced.live c.in-Err.ensures.at_rest c.in-Err.ensures.followed

@@ -1,12 +1,14 @@
-use Rattle.std.proofs.Common.{ℕ, List, sym, subst}
-use Rattle.dm_rows.specs.Timetable.{IsLeast}
-use Rattle.dm_propagate.specs.Engine.{IsEngineOf}
-use Rattle.dm_propagate.proofs.Following.{engine_least}
+use Rattle.std.proofs.Common.{◌≡◌, sym, subst, ◌∙◌}
+use Rattle.dm_rows.specs.Cost.{cost_of, is_dropped_change}
+use Rattle.dm_priced.proofs.Pricing.{costs_as_charged}
+use Rattle.dm_propagate.specs.Engine.{EngineValue, IsEngineOf, times_of}
 use Rattle.dm_propagate.proofs.engine.Engine.cost.Goals as goal
 
-pub cost-requires-clause-least : goal.cost-requires-clause-least
-cost-requires-clause-least c =
+pub returns-clause-cost : goal.returns-clause-cost
+returns-clause-cost c =
     let net = c.args.net.now in
     let is = subst (IsEngineOf net) (sym c.self.view_is) c.requires.engine in
-    subst (λ (x : List ℕ). IsLeast net c.self.inside.rows x) (sym c.times.ensures)
-    (engine_least net (record { rows = c.self.inside.rows; live = c.self.inside.live }) c.sound.ensures.network.formed.ends_are_known is)
+    subst (λ (engine : EngineValue). c.cost.result ≡ cost_of net engine.rows (times_of engine) c.args.penalty) c.self.view_is
+    (c.cost.ensures.cost net is.priced
+    ∙ costs_as_charged net c.self.inside.rows (is_dropped_change net c.self.inside.rows) c.self.inside.priced c.sound.ensures.network.formed.ends_are_known is.price
+    c.args.penalty)

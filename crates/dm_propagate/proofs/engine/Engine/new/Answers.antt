@@ -3,9 +3,9 @@ use Rattle.dm_propagate.proofs.engine.Engine.new.Goals as goal
 
 pub returns-clause-least : goal.returns-clause-least
 returns-clause-least c =
-    follows_least c.args.net.now c.args.rows c.in-Ok.live c.sound.ensures.network.formed.ends_are_known c.in-Ok.ensures.live.live
-    c.in-Ok.ensures.live.at_rest c.in-Ok.ensures.live.follows
+    follows_least c.args.net.now c.args.rows c.in-Ok.priced.live c.sound.ensures.network.formed.ends_are_known c.in-Ok.ensures.priced.priced.live
+    c.in-Ok.ensures.priced.at_rest c.in-Ok.ensures.priced.follows
 
 pub returns-clause-no_cycle : goal.returns-clause-no_cycle
 returns-clause-no_cycle c =
-    follows_no_cycle c.args.net.now c.args.rows c.in-Ok.live c.in-Ok.ensures.live.live c.in-Ok.ensures.live.follows
+    follows_no_cycle c.args.net.now c.args.rows c.in-Ok.priced.live c.in-Ok.ensures.priced.priced.live c.in-Ok.ensures.priced.follows

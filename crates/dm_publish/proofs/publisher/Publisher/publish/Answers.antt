@@ -2,6 +2,7 @@ use Rattle.std.proofs.Common.{◌≤◌, ◌≡◌, ◌<◌, length, ap, ◌∙�
 use Rattle.std.proofs.lemmas.Option.{slice_get_read}
 use Rattle.dm_base.specs.declared.limits.TheConstants.{BOARDS}
 use Rattle.dm_publish.proofs.Notes.{few_notes}
+use Rattle.dm_publish.proofs.Repeated.{published, all_shown}
 use Rattle.dm_publish.proofs.TrueNotes.{notes_stay_true}
 use Rattle.dm_publish.proofs.Turned.{published_none, published_next, published_all, as_long}
 use Rattle.dm_publish.proofs.publisher.Publisher.publish.Goals as goal
@@ -28,6 +29,17 @@ returns-clause-published g c =
     let is : length c.self-2.inside.notes.items ≡ length c.loop-index.self.notes = ap (λ (v : _). length v.notes) c.self-2.view_is in
     published_all _ _ _ _ c.args.net.now c.args.timetable.now c.args.entry c.args.boards.now.items c.args.self.now.notes c.loop-index.index c.loop-index.boards.items
     c.loop-index.self.notes _ c.loop-index.invariant.0 over (omega arith)
+
+pub returns-clause-keeps_up : goal.returns-clause-keeps_up
+returns-clause-keeps_up g c =
+    let same = as_long _ _ _ _ c.args.net.now c.args.timetable.now c.args.entry c.args.boards.now.items c.args.self.now.notes _ _ _ c.loop-index.invariant.0 in
+    let over : c.loop-index.index ≡ length c.args.boards.now.items = omega arith in
+    let is = published_all _ _ _ _ c.args.net.now c.args.timetable.now c.args.entry c.args.boards.now.items c.args.self.now.notes c.loop-index.index c.loop-index.boards.items
+    c.loop-index.self.notes _ c.loop-index.invariant.0 over refl in
+    λ first kept. (
+      published _ _ _ _ c.args.net.now c.args.timetable.now c.args.entry first c.args.boards.now.items c.loop-index.boards.items c.args.self.now.notes c.loop-index.self.notes _ kept is,
+      all_shown _ _ _ _ c.args.net.now c.args.timetable.now c.args.entry first c.args.boards.now.items c.loop-index.boards.items c.args.self.now.notes c.loop-index.self.notes _ kept is,
+    )
 
 pub returns-clause-true_notes : goal.returns-clause-true_notes
 returns-clause-true_notes g c =

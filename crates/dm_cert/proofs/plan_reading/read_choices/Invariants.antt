@@ -1,0 +1,12 @@
+use Rattle.std.proofs.Common.{◌-◌, vec_len}
+use Rattle.dm_text.specs.Judging.{Line}
+use Rattle.dm_text.proofs.Counted.{HasRun}
+use Rattle.dm_cert.specs.declared.faults.CertFault.{CertFault}
+use Rattle.dm_cert.specs.PlansRead.{IsChoiceLine, cut_line, misshapen_line}
+use Rattle.dm_cert.proofs.plan_reading.read_choices.Given as goal
+
+abbrev pub invariant-loop-lines : goal.invariant-loop-lines
+invariant-loop-lines l = HasRun {F = CertFault} (λ before. Line cut_line misshapen_line IsChoiceLine) l.count l.initial.lines l.choices.items l.lines
+
+abbrev pub decreases-loop-lines : goal.decreases-loop-lines
+decreases-loop-lines l = l.count - vec_len l.choices

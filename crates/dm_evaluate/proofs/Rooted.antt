@@ -1,0 +1,51 @@
+-- The timetable of the path without a decision.
+use Rattle.std.proofs.Common.{◌≡◌, ℕ, Bool, true, false, not, ◌&&◌, List, [], length, refl, sym, ap, ◌∙◌}
+use Rattle.std.specs.Prelude.{replicate}
+use Rattle.std.proofs.lemmas.List.{get_or-replicate}
+use Rattle.dm_network.specs.Net.{Net, activity_at, is_change}
+use Rattle.dm_network.specs.Held.{is_held}
+use Rattle.dm_live.specs.Live.{RefusesLive}
+use Rattle.dm_order.specs.declared.faults.OrderFault.{OrderFault}
+use Rattle.dm_order.specs.declared.faults.OrderFault.TheVariants.{Cyclic, OutOfMemory}
+use Rattle.dm_priced.specs.Priced.{PricedValue, IsPriced, is_flagged}
+use Rattle.dm_rows.specs.Active.{has_passed}
+use Rattle.dm_rows.specs.Relax.{is_relaxed_active, is_relaxed_dropped}
+use Rattle.dm_rows.specs.Rows.{RowsValue, kept_at}
+use Rattle.dm_settle.specs.Constraints.{ConstraintsValue}
+use Rattle.dm_times.specs.Inside.Filling.{AreConstraintsHolding}
+use Rattle.dm_evaluate.specs.Evaluating.{Evaluates}
+use Rattle.dm_evaluate.specs.Inside.Starting.{RefusesRoot, HasPassedTo}
+use Rattle.dm_evaluate.proofs.Directions.{cycle_within}
+
+-- nothing is charged for
+charges_none : (change kept passed : Bool) → ((change && not kept && not passed) && not (change && not passed && not false)) ≡ false
+charges_none true true true = refl
+charges_none true true false = refl
+charges_none true false true = refl
+charges_none true false false = refl
+charges_none false kept passed = refl
+
+pub root_charges_none : (net : Net) (rows : RowsValue) (a : ℕ) → is_relaxed_dropped net rows [] a ≡ false
+root_charges_none net rows a = charges_none (is_change (activity_at net a).kind) (kept_at rows a) (has_passed rows (activity_at net a).head)
+
+pub root_evaluates : (net : Net) (rows : RowsValue) (priced : PricedValue) → IsPriced net priced →
+    AreConstraintsHolding net rows (is_relaxed_active net rows []) priced.live.given → HasPassedTo rows (length net.events) priced.passed →
+    priced.charged ≡ replicate (length net.activities) false → Evaluates net rows [] priced
+root_evaluates net rows priced is holds passed charged = record {
+  is_priced = is;
+  held = holds.held;
+  floors = holds.floors;
+  price = record {
+    passed = passed;
+    charged = λ a lt. ap (λ (f : List Bool). is_flagged f a) charged ∙ get_or-replicate (length net.activities) a false false lt ∙ sym (root_charges_none net rows a);
+    spans = holds.spans;
+  };
+}
+
+module _ (net : Net) (rows : RowsValue) (given : ConstraintsValue) (holds : AreConstraintsHolding net rows (is_relaxed_active net rows []) given) where
+  pub refuses_root : (fault : OrderFault) → RefusesLive net given fault → RefusesRoot net rows fault
+  refuses_root Cyclic h = record {
+    cycle = h.cycle;
+    is_cycle = cycle_within net (is_held given.held) (is_relaxed_active net rows []) (λ a lt on. sym (holds.held a lt) ∙ on) h.cycle h.is_cycle;
+  }
+  refuses_root OutOfMemory h = tt

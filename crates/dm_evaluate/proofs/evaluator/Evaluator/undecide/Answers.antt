@@ -1,0 +1,48 @@
+use Rattle.std.proofs.Common.{◌≡◌, List, Some, sym, ap, subst, ◌∙◌}
+use Rattle.std.specs.Prelude.{slice_get}
+use Rattle.std.proofs.lemmas.Option.{slice_get-get_or}
+use Rattle.dm_rows.specs.declared.messages.Decision.{Decision}
+use Rattle.dm_evaluate.specs.Evaluator.{EvaluatorValue, IsEvaluatorOf, path_without}
+use Rattle.dm_evaluate.specs.Inside.Places.{DecidesAt}
+use Rattle.dm_evaluate.proofs.Decided.{evaluator_least, undecide_free, undecide_is, undecide_path}
+use Rattle.dm_evaluate.proofs.evaluator.Evaluator.undecide.Goals as goal
+
+pub flip_of-flip-requires : goal.flip_of-flip-requires
+flip_of-flip-requires g c =
+    let net = c.args.net.now in
+    let old : EvaluatorValue = record { rows = c.self.inside.rows; path = c.self.inside.path.items; changes = c.self.inside.undecided.changes.items; pairs = c.self.inside.undecided.pairs.items; priced = c.self.inside.priced } in
+    let was = subst (IsEvaluatorOf net) (sym c.self.view_is) c.requires.evaluator in
+    let at = subst (λ (p : List Decision). DecidesAt p c.args.choice c.place_of-place.result) c.deref.ensures.value c.place_of-place.ensures in
+    let got : slice_get c.self.inside.path.items c.place_of-place.result ≡ Some c.index.result.now =
+    slice_get-get_or c.self.inside.path.items c.place_of-place.result c.index.result.now at.within ∙ ap (λ (x : Decision). Some x) (sym c.index.ensures) in
+    undecide_free net c.sound.ensures.network old was c.args.choice c.index.result.now c.place_of-place.result got at.within (at.decides c.index.result.now got)
+
+pub returns-clause-evaluator : goal.returns-clause-evaluator
+returns-clause-evaluator g c =
+    let net = c.args.net.now in
+    let old : EvaluatorValue = record { rows = c.self.inside.rows; path = c.self.inside.path.items; changes = c.self.inside.undecided.changes.items; pairs = c.self.inside.undecided.pairs.items; priced = c.self.inside.priced } in
+    let was = subst (IsEvaluatorOf net) (sym c.self.view_is) c.requires.evaluator in
+    let at = subst (λ (p : List Decision). DecidesAt p c.args.choice c.place_of-place.result) c.deref.ensures.value c.place_of-place.ensures in
+    let got : slice_get c.self.inside.path.items c.place_of-place.result ≡ Some c.index.result.now =
+    slice_get-get_or c.self.inside.path.items c.place_of-place.result c.index.result.now at.within ∙ ap (λ (x : Decision). Some x) (sym c.index.ensures) in
+    undecide_is net c.sound.ensures.network old was c.args.choice c.index.result.now c.place_of-place.result got at.within (at.decides c.index.result.now got)
+    c.flip_of-flip.result c.flip_of-flip.ensures.flip
+    c.remove-decision.new.self.items c.set.new.self.changes.items c.set.new.self.pairs.items c.turn_off.new.priced
+    c.remove-decision.ensures.items c.set.ensures.changes c.set.ensures.pairs c.turn_off.ensures.priced c.turn_off.ensures.at_rest c.turn_off.ensures.turns
+
+pub returns-clause-path : goal.returns-clause-path
+returns-clause-path g c =
+    let net = c.args.net.now in
+    let old : EvaluatorValue = record { rows = c.self.inside.rows; path = c.self.inside.path.items; changes = c.self.inside.undecided.changes.items; pairs = c.self.inside.undecided.pairs.items; priced = c.self.inside.priced } in
+    let was = subst (IsEvaluatorOf net) (sym c.self.view_is) c.requires.evaluator in
+    let at = subst (λ (p : List Decision). DecidesAt p c.args.choice c.place_of-place.result) c.deref.ensures.value c.place_of-place.ensures in
+    let got : slice_get c.self.inside.path.items c.place_of-place.result ≡ Some c.index.result.now =
+    slice_get-get_or c.self.inside.path.items c.place_of-place.result c.index.result.now at.within ∙ ap (λ (x : Decision). Some x) (sym c.index.ensures) in
+    undecide_path net c.sound.ensures.network old was c.args.choice c.index.result.now c.place_of-place.result got at.within (at.decides c.index.result.now got)
+    c.remove-decision.new.self.items c.remove-decision.ensures.items
+    ∙ ap (λ (e : EvaluatorValue). path_without c.args.choice e.path) c.self.view_is
+
+pub returns-clause-least : goal.returns-clause-least
+returns-clause-least g c =
+    let now : EvaluatorValue = record { rows = c.self.inside.rows; path = c.remove-decision.new.self.items; changes = c.set.new.self.changes.items; pairs = c.set.new.self.pairs.items; priced = c.turn_off.new.priced } in
+    evaluator_least c.args.net.now now c.sound.ensures.network.formed.ends_are_known (returns-clause-evaluator g c)

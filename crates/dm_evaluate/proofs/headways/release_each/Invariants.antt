@@ -1,0 +1,9 @@
+use Rattle.std.specs.Prelude.{◌≡◌, false}
+use Rattle.dm_priced.specs.Priced.{IsPriced}
+use Rattle.dm_evaluate.specs.Inside.Moves.{IsAmong, TurnsAmong}
+use Rattle.dm_evaluate.proofs.headways.release_each.Given as goal
+
+abbrev pub invariant-loop-a : goal.invariant-loop-a
+invariant-loop-a l =
+    IsPriced l.net l.priced × TurnsAmong l.net l.pair (IsAmong l.row l.a-index) false l.initial.priced l.priced
+    × (l.priced.live.order.cycle ≡ l.initial.priced.live.order.cycle)

@@ -1,0 +1,20 @@
+use Rattle.std.proofs.Common.{◌≡◌, [], sym, ap, subst, ◌∙◌}
+use Rattle.dm_live.specs.Live.{LiveValue}
+use Rattle.dm_rows.specs.Relax.{is_relaxed_active}
+use Rattle.dm_settle.specs.Constraints.{ConstraintsValue}
+use Rattle.dm_times.specs.Inside.Filling.{AreConstraintsHolding}
+use Rattle.dm_evaluate.proofs.Rooted.{root_evaluates}
+use Rattle.dm_evaluate.proofs.starting.root_timetable.Goals as goal
+
+pub returns-in_ok-priced-in-Ok-clause-root : goal.returns-in_ok-priced-in-Ok-clause-root
+returns-in_ok-priced-in-Ok-clause-root c =
+    let net = c.args.net.now in
+    let rows = c.args.rows.now in
+    let made = c.in_ok-priced-in-Ok.ensures in
+    let given : c.settle.new.priced.live.given ≡ c.in-Ok.live.given = c.settle.ensures.given ∙ ap (λ (l : LiveValue). l.given) made.live in
+    record {
+      evaluates = root_evaluates net rows c.settle.new.priced c.settle.ensures.priced
+          (subst (λ (g : ConstraintsValue). AreConstraintsHolding net rows (is_relaxed_active net rows []) g) (sym given) c.in-Ok.ensures.live.held)
+          c.settle.ensures.passed (c.settle.ensures.charged ∙ made.charged);
+      at_rest = c.settle.ensures.at_rest;
+    }

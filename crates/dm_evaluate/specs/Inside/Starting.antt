@@ -1,0 +1,36 @@
+-- A timetable that is made for the relaxed problem in which nothing is decided.
+use Rattle.std.specs.Prelude.{ℕ, ◌≡◌, ◌<◌, Bool, List, []}
+use Rattle.dm_network.specs.Net.{Net}
+use Rattle.dm_network.specs.Held.{IsCycleOf}
+use Rattle.dm_live.specs.Live.{LiveValue, IsLive, IsAtRest}
+use Rattle.dm_order.specs.declared.faults.OrderFault.{OrderFault}
+use Rattle.dm_order.specs.declared.faults.OrderFault.TheVariants.{Cyclic, OutOfMemory}
+use Rattle.dm_priced.specs.Priced.{PricedValue, is_flagged}
+use Rattle.dm_rows.specs.Active.{has_passed}
+use Rattle.dm_rows.specs.Relax.{is_relaxed_active}
+use Rattle.dm_rows.specs.Rows.{RowsValue}
+use Rattle.dm_times.specs.Inside.Filling.{AreConstraintsHolding}
+use Rattle.dm_evaluate.specs.Evaluating.{Evaluates}
+
+-- a live timetable is held to what binds
+pub record IsHeldToRoot (net : Net) (rows : RowsValue) (made : LiveValue) : Type 0 where
+  pub live : IsLive net made
+  pub held : AreConstraintsHolding net rows (is_relaxed_active net rows []) made.given
+
+-- what binds has a cycle
+pub record HasRootCycle (net : Net) (rows : RowsValue) : Type 0 where
+  pub cycle : List ℕ
+  pub is_cycle : IsCycleOf net (is_relaxed_active net rows []) cycle
+
+abbrev pub RefusesRoot : Net → RowsValue → OrderFault → Type 0
+RefusesRoot net rows Cyclic = HasRootCycle net rows
+RefusesRoot net rows OutOfMemory = Unit {0}
+
+-- the first n events are flagged where they have passed
+abbrev pub HasPassedTo : RowsValue → ℕ → List Bool → Type 0
+HasPassedTo rows n passed = (i : ℕ) → i < n → is_flagged passed i ≡ has_passed rows i
+
+-- a timetable evaluates the path without a decision, and is at rest
+pub record IsRoot (net : Net) (rows : RowsValue) (priced : PricedValue) : Type 0 where
+  pub evaluates : Evaluates net rows [] priced
+  pub at_rest : IsAtRest priced.live

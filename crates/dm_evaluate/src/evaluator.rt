@@ -1,0 +1,182 @@
+//! The evaluator, its moves and its readers.
+ghost use Rattle.std.specs.Prelude.{ℕ, ◌≡◌, ◌++◌, ◌^◌, ◌<◌, ◌≤◌, [], ◌∷◌, true, IfOk, IfErr, OnOk, OnErr};
+ghost use Rattle.dm_base.specs.declared.limits.TheConstants.{PENALTY};
+ghost use Rattle.dm_rows.specs.Rows.{IsSized};
+ghost use Rattle.dm_rows.specs.Decide.{IsChoiceList};
+ghost use Rattle.dm_rows.specs.Relax.{is_decided, is_relaxed_active};
+ghost use Rattle.dm_times.specs.Faults.{RefusesHolding};
+ghost use Rattle.dm_tree.specs.Relaxed.{IsRelaxedLeast, relaxed_cost_of, IsRelaxedCycle, HasNoRelaxedCycle};
+ghost use Rattle.dm_relax.specs.Relaxed.{first_violated};
+ghost use Rattle.dm_evaluate.specs.Evaluator.{IsEvaluatorOf, times_of, cycle_of, path_without};
+
+use crate::free::all_undecided;
+use crate::naming::flip_of;
+use crate::places::place_of;
+use crate::starting::root_timetable;
+use crate::turning::{turn_off, turn_on};
+use crate::undecided::Undecided;
+use crate::violations::{first_violated_change, first_violated_pair};
+use dm_base::{Cost, Steps};
+use dm_graph::search::Cyclic;
+use dm_network::Network;
+use dm_priced::PricedTimetable;
+use dm_rows::{Choice, Decision, Rows};
+use dm_settle::{NoTimes, Times};
+use std::alloc::Global;
+use std::marker::Model;
+use std::sync::ledger::Ledger;
+
+/// The relaxed problem of a path of decisions over the rows of one network, with its least times and their cost.
+///
+/// Its calls take the network with which it was made, of which contracts say that it is an evaluator of it.
+#[derive(Drop)]
+pub struct Evaluator {
+    rows: Rows,
+
+    /// The decisions, with room for one of each choice.
+    path: Vec<Decision>,
+    undecided: Undecided,
+    priced: PricedTimetable,
+}
+
+impl Model for Evaluator {
+    ghost use Rattle.std.specs.Prelude.{◌+◌, ◌≤◌, length, vec_capacity};
+    ghost use Rattle.dm_evaluate.specs.Evaluator.{EvaluatorValue};
+
+    ghost Value = { EvaluatorValue };
+
+    ghost view = { λ e. record { rows = e.rows; path = e.path.items; changes = e.undecided.changes.items; pairs = e.undecided.pairs.items; priced = e.priced } };
+
+    ghost invariant = { λ e. length e.undecided.changes.items + length e.undecided.pairs.items ≤ vec_capacity e.path };
+}
+
+impl Evaluator {
+    /// The evaluator of the path without a decision, with the room of all its moves. [`NoTimes::Cycle`] comes exactly where what
+    /// then binds has a cycle, and shows one, unless memory is short first: then [`NoTimes::OutOfMemory`]. Its time is linear
+    /// in events and activities where the trains go in the order of their scheduled times.
+    pub fn new(alloc: Global, net: &Network, rows: Rows) -> Result<Evaluator, NoTimes>
+        requires { IsSized net.now rows }
+        ensures evaluator { IfOk result (IsEvaluatorOf net.now) }
+        ensures rows { IfOk result (λ evaluator. evaluator.rows ≡ rows) }
+        ensures path { IfOk result (λ evaluator. evaluator.path ≡ []) }
+        ensures least { IfOk result (λ evaluator. IsRelaxedLeast net.now rows [] (times_of evaluator)) }
+        ensures no_cycle { OnOk result (HasNoRelaxedCycle net.now rows []) }
+        ensures refused { IfErr result (RefusesHolding net.now (is_relaxed_active net.now rows [])) }
+    {
+        net.sound();
+        let undecided = all_undecided(alloc, net, &rows)?;
+        let path = Vec::with_capacity(alloc, undecided.changes.len() + undecided.pairs.len())?;
+        match root_timetable(alloc, net, &rows) {
+            Ok(priced) => Ok(Evaluator {
+                rows,
+                path,
+                undecided,
+                priced,
+            }),
+            Err(no_times) => Err(no_times),
+        }
+    }
+
+    /// Decides a choice that is free and that the path leaves undecided, and computes the times that this moves. [`Cyclic`]
+    /// comes exactly where what then binds has a cycle: then the path and the times are as before, and
+    /// [`Evaluator::last_cycle`] is such a cycle. It takes no memory.
+    pub fn decide<L: Ledger>(
+        &mut self,
+        net: &Network,
+        decision: Decision,
+        steps: &mut Steps<L>,
+    ) -> Result<(), Cyclic>
+        requires evaluator { IsEvaluatorOf net.now self.old }
+        requires list { IsChoiceList net.now self.old.rows (self.old.path ++ decision ∷ []) }
+        ensures evaluator { IsEvaluatorOf net.now self.new }
+        ensures rows { self.new.rows ≡ self.old.rows }
+        ensures path { OnOk result (self.new.path ≡ self.old.path ++ decision ∷ []) }
+        ensures least { IsRelaxedLeast net.now self.new.rows self.new.path (times_of self.new) }
+        ensures no_cycle { OnOk result (HasNoRelaxedCycle net.now self.old.rows (self.old.path ++ decision ∷ [])) }
+        ensures unchanged { OnErr result ((self.new.path ≡ self.old.path) × (times_of self.new ≡ times_of self.old)) }
+        ensures cycle { OnErr result (IsRelaxedCycle net.now self.old.rows (self.old.path ++ decision ∷ []) (cycle_of self.new)) }
+    {
+        net.sound();
+        let flip = flip_of(net, &self.rows, decision);
+        match turn_on(&mut self.priced, net, flip, steps) {
+            Ok(()) => {
+                self.undecided.set(flip, false);
+                self.path.push_reserved(decision);
+                Ok(())
+            }
+            Err(Cyclic) => Err(Cyclic),
+        }
+    }
+
+    /// Takes back the decision of a choice that the path decides, whichever came after it, and computes the times that this
+    /// moves. It takes no memory.
+    pub fn undecide<L: Ledger>(&mut self, net: &Network, choice: Choice, steps: &mut Steps<L>)
+        requires evaluator { IsEvaluatorOf net.now self.old }
+        requires decided { is_decided self.old.path choice ≡ true }
+        ensures evaluator { IsEvaluatorOf net.now self.new }
+        ensures rows { self.new.rows ≡ self.old.rows }
+        ensures path { self.new.path ≡ path_without choice self.old.path }
+        ensures least { IsRelaxedLeast net.now self.new.rows self.new.path (times_of self.new) }
+    {
+        net.sound();
+        let place = place_of(&self.path, choice);
+        let flip = flip_of(net, &self.rows, self.path[place]);
+        turn_off(&mut self.priced, net, flip, steps);
+        self.undecided.set(flip, true);
+        let _decision = self.path.remove(place);
+    }
+
+    /// The rows over which the paths are evaluated.
+    pub fn rows(&self) -> &Rows
+        ensures { result.now ≡ self.now.rows }
+    {
+        &self.rows
+    }
+
+    /// The decisions, in the order in which they were made.
+    pub fn path(&self) -> &[Decision]
+        ensures { result.now ≡ self.now.path }
+    {
+        &self.path
+    }
+
+    /// The least times of the relaxed problem.
+    pub fn times(&self) -> &Times
+        ensures { result.now ≡ times_of self.now }
+    {
+        self.priced.live().times()
+    }
+
+    /// The relaxed cost, in thousandths of passenger seconds, at a penalty in seconds for each passenger, at most 1,000,000.
+    /// It is a sum of three numbers that are kept.
+    pub fn cost(&self, net: &Network, penalty: u64) -> Cost
+        requires evaluator { IsEvaluatorOf net.now self.now }
+        requires penalty { penalty ≤ PENALTY }
+        ensures cost { result ≡ relaxed_cost_of net.now self.now.rows self.now.path (times_of self.now) penalty }
+        ensures limit { result < 2 ^ 100 }
+    {
+        net.sound();
+        self.priced.cost(penalty)
+    }
+
+    /// The first choice that is undecided and that the times violate, the changes in ascending id and then the pairs, or None
+    /// where they violate nothing. Its time is linear in the changes and the headways of undecided pairs.
+    pub fn violated<L: Ledger>(&self, net: &Network, steps: &mut Steps<L>) -> Option<Choice>
+        requires { IsEvaluatorOf net.now self.now }
+        ensures { result ≡ first_violated net.now self.now.rows self.now.path (times_of self.now) }
+    {
+        let times = self.priced.live().times();
+        let change = first_violated_change(net, &self.rows, &self.undecided.changes, times);
+        if change.is_some() {
+            return change;
+        }
+        first_violated_pair(net, &self.rows, &self.undecided.pairs, times, steps)
+    }
+
+    /// The activities of the cycle for which a decision was refused last, each head the next tail.
+    pub fn last_cycle(&self) -> &[usize]
+        ensures { result.now ≡ cycle_of self.now }
+    {
+        self.priced.live().last_cycle()
+    }
+}

@@ -1,0 +1,58 @@
+//! Where a path decides a choice.
+ghost use Rattle.std.specs.Prelude.{◌≡◌, ◌<◌, true, length};
+ghost use Rattle.dm_rows.specs.Decide.{choice_of};
+ghost use Rattle.dm_rows.specs.Relax.{is_same_choice, is_decided};
+ghost use Rattle.dm_evaluate.specs.Inside.Places.{DecidesAt};
+
+use dm_base::{ActId, EventId};
+use dm_rows::{Choice, Decision};
+
+/// The place of the last decision of a path that decides a choice. It is looked for from the end, where the decisions stand
+/// that were made last.
+pub fn place_of(path: &[Decision], choice: Choice) -> usize
+    requires { is_decided path.now choice ≡ true }
+    ensures { DecidesAt path.now choice result }
+{
+    for place in (0..path.len()).rev() {
+        if decides(path[place], choice) {
+            return place;
+        }
+    }
+    unreachable!()
+}
+
+/// Whether a decision decides a choice.
+fn decides(decision: Decision, choice: Choice) -> bool
+    ensures { result ≡ is_same_choice (choice_of decision) choice }
+{
+    match decision {
+        Decision::Keep(a) | Decision::Drop(a) => is_change(choice, a),
+        Decision::First(i, j) => {
+            if i.0 < j.0 {
+                is_pair(choice, i, j)
+            } else {
+                is_pair(choice, j, i)
+            }
+        }
+    }
+}
+
+/// Whether a choice is that of a change.
+fn is_change(choice: Choice, a: ActId) -> bool
+    ensures { result ≡ is_same_choice (Choice.Change a) choice }
+{
+    match choice {
+        Choice::Change(b) => a.0 == b.0,
+        Choice::Pair(_, _) => false,
+    }
+}
+
+/// Whether a choice is that of a pair.
+fn is_pair(choice: Choice, i: EventId, j: EventId) -> bool
+    ensures { result ≡ is_same_choice (Choice.Pair i j) choice }
+{
+    match choice {
+        Choice::Change(_) => false,
+        Choice::Pair(k, l) => i.0 == k.0 && j.0 == l.0,
+    }
+}

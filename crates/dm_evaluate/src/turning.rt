@@ -1,0 +1,111 @@
+//! A decision that is made or taken back on a priced timetable.
+ghost use Rattle.std.specs.Prelude.{ℕ, ◌≡◌, ◌<◌, None, true, false, length, OnOk, OnErr};
+ghost use Rattle.dm_live.specs.Live.{IsAtRest};
+ghost use Rattle.dm_network.specs.Held.{is_held, IsCycleOf};
+ghost use Rattle.dm_network.specs.Start.{first_event};
+ghost use Rattle.dm_priced.specs.Priced.{IsPriced};
+ghost use Rattle.dm_evaluate.specs.Inside.Moves.{is_bound_by, set_where, Turns, Stays, IsOff, ReachesNet};
+
+use crate::headways::{hold_direction, release_direction};
+use dm_base::Steps;
+use dm_graph::search::Cyclic;
+use dm_network::Network;
+use dm_priced::PricedTimetable;
+use dm_rows::Flip;
+use std::sync::ledger::Ledger;
+
+/// Holds and charges for what a decision does, of which nothing is held, and settles the timetable. Where that makes a cycle,
+/// it is held to what it was held to before.
+pub fn turn_on<L: Ledger>(
+    priced: &mut PricedTimetable,
+    net: &Network,
+    flip: Flip,
+    steps: &mut Steps<L>,
+) -> Result<(), Cyclic>
+    requires priced { IsPriced net.now priced.old }
+    requires at_rest { IsAtRest priced.old.live }
+    requires reaches { ReachesNet net.now flip }
+    requires off { IsOff net.now flip priced.old }
+    ensures priced { IsPriced net.now priced.new }
+    ensures at_rest { IsAtRest priced.new.live }
+    ensures turns { OnOk result (Turns net.now flip true priced.old priced.new) }
+    ensures stays { OnErr result (Stays net.now priced.old priced.new) }
+    ensures cycle { OnErr result (IsCycleOf net.now (set_where (is_bound_by net.now flip) true (is_held priced.old.live.given.held)) priced.new.live.order.cycle) }
+{
+    net.sound();
+    match flip {
+        Flip::Keep { act } => keep(priced, net, act, steps),
+        Flip::Drop { act } => {
+            priced.charge(net, act, true);
+            Ok(())
+        }
+        Flip::First { pair, small } => {
+            let first = first_event(net, pair, small);
+            hold_direction(priced, net, pair, first, steps)
+        }
+    }
+}
+
+/// Lets go what a decision holds, charges for nothing that it charges for, and settles the timetable.
+pub fn turn_off<L: Ledger>(
+    priced: &mut PricedTimetable,
+    net: &Network,
+    flip: Flip,
+    steps: &mut Steps<L>,
+)
+    requires priced { IsPriced net.now priced.old }
+    requires at_rest { IsAtRest priced.old.live }
+    requires reaches { ReachesNet net.now flip }
+    ensures priced { IsPriced net.now priced.new }
+    ensures at_rest { IsAtRest priced.new.live }
+    ensures turns { Turns net.now flip false priced.old priced.new }
+{
+    net.sound();
+    match flip {
+        Flip::Keep { act } => {
+            priced.release(net, act);
+            priced.settle(net, steps);
+        }
+        Flip::Drop { act } => priced.charge(net, act, false),
+        Flip::First { pair, small } => {
+            let first = first_event(net, pair, small);
+            release_direction(priced, net, pair, first, steps);
+        }
+    }
+}
+
+/// Holds a change, and settles the timetable, unless it makes a cycle.
+fn keep<L: Ledger>(
+    priced: &mut PricedTimetable,
+    net: &Network,
+    act: usize,
+    steps: &mut Steps<L>,
+) -> Result<(), Cyclic>
+    requires priced { IsPriced net.now priced.old }
+    requires at_rest { IsAtRest priced.old.live }
+    requires is_activity { act < length net.now.activities }
+    ensures priced { IsPriced net.now priced.new }
+    ensures at_rest { IsAtRest priced.new.live }
+    ensures turns { OnOk result (Turns net.now (Flip.Keep act) true priced.old priced.new) }
+    ensures stays { OnErr result (Stays net.now priced.old priced.new) }
+    ensures cycle { OnErr result (IsCycleOf net.now (set_where (is_bound_by net.now (Flip.Keep act)) true (is_held priced.old.live.given.held)) priced.new.live.order.cycle) }
+{
+    match priced.hold(net, act) {
+        Ok(()) => {
+            priced.settle(net, steps);
+            Ok(())
+        }
+        Err(Cyclic) => Err(Cyclic),
+    }
+}
+
+/// The event that goes first in a pair.
+fn first_event(net: &Network, pair: usize, small: bool) -> usize
+    requires { pair < length net.now.pairs }
+    ensures first { result ≡ first_event net.now pair small }
+    ensures is_event { result < length net.now.events }
+{
+    net.sound();
+    let pair = net.pair(pair);
+    if small { pair.small } else { pair.large }
+}

@@ -1,5 +1,0 @@
-use Rattle.dm_input.proofs.OneCommand.{one_command}
-use Rattle.dm_input.proofs.laws.words_ask_for_one_thing.Goals as goal
-
-pub returns : goal.returns
-returns c = one_command

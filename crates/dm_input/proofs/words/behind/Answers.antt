@@ -1,5 +1,0 @@
-use Rattle.dm_input.proofs.WordLists.{behind_is}
-use Rattle.dm_input.proofs.words.behind.Goals as goal
-
-pub returns : goal.returns
-returns c = behind_is _ _ _ c.strip_prefix.ensures.cases

@@ -1,7 +1,0 @@
-use Rattle.std.proofs.Common.{◌≡◌, map, drop, string_bytes}
-use Rattle.dm_input.specs.Words.{values_of}
-use Rattle.dm_input.proofs.words.next_value.Given as goal
-
--- no word before the place is the option
-abbrev pub invariant-loop-place : goal.invariant-loop-place
-invariant-loop-place l = values_of l.option (map string_bytes l.words) ≡ values_of l.option (map string_bytes (drop l.place l.words))

@@ -1,0 +1,51 @@
+//! The ends of a call that prints one line: why nothing else is printed.
+ghost use Rattle.std.specs.Prelude.{◌≡◌, ◌≤◌};
+ghost use Rattle.dm_input.specs.Lines.{usage_line, refused_line, read_fault_line};
+ghost use Rattle.dm_words.specs.Asked.{files_of};
+ghost use Rattle.dm_program.specs.Ends.{EndsAs};
+ghost use Rattle.dm_program.specs.Inside.Stages.{EndsStopped};
+
+use crate::status::Status;
+use dm_input::{File, InputFlaw, InputStop, put_read_fault, put_refused, put_usage};
+use dm_outside::{Sink, WriteFault};
+use dm_words::FileWords;
+
+/// Says why the files of a folder make no network with start rows.
+pub fn end_stopped<K: Sink>(files: &FileWords<'_>, stop: &InputStop, out: &mut K) -> Status
+    ensures ends { EndsStopped K.taken K.faults (files_of files.now) stop.now out.old out.new result }
+    ensures later { K.faults out.old ≤ K.faults out.new }
+{
+    match stop {
+        InputStop::Refused(flaw) => end_refused(files, flaw, out),
+        InputStop::ReadFault(file) => end_unread(files, *file, out),
+        InputStop::NoMemory => Status::NoMemory,
+    }
+}
+
+/// Says which words are in form.
+pub fn end_usage<K: Sink>(out: &mut K) -> Status
+    ensures { EndsAs K.taken K.faults out.old out.new usage_line Status.Usage result }
+{
+    match put_usage(out) {
+        Ok(()) => Status::Usage,
+        Err(WriteFault) => Status::WriteFault,
+    }
+}
+
+fn end_refused<K: Sink>(files: &FileWords<'_>, flaw: &InputFlaw, out: &mut K) -> Status
+    ensures { EndsAs K.taken K.faults out.old out.new (refused_line (files_of files.now) flaw.now) Status.Refused result }
+{
+    match put_refused(out, files, flaw) {
+        Ok(()) => Status::Refused,
+        Err(WriteFault) => Status::WriteFault,
+    }
+}
+
+fn end_unread<K: Sink>(files: &FileWords<'_>, file: File, out: &mut K) -> Status
+    ensures { EndsAs K.taken K.faults out.old out.new (read_fault_line (files_of files.now) file) Status.ReadFault result }
+{
+    match put_read_fault(out, files, file) {
+        Ok(()) => Status::ReadFault,
+        Err(WriteFault) => Status::WriteFault,
+    }
+}

@@ -1,0 +1,45 @@
+//! The planner of a run that searches in one thread.
+
+ghost use Rattle.std.specs.Prelude.{◌≡◌, ◌≤◌, IfOk};
+ghost use Rattle.dm_base.specs.declared.limits.TheConstants.{PENALTY};
+
+use dm_desk::Planner;
+use dm_network::Network;
+use dm_rows::Snapshot;
+use dm_search::finish;
+use dm_tree::{Plan, assemble};
+use std::alloc::{AllocError, Global};
+
+/// Searches in the thread that asks for a plan.
+#[derive(Drop)]
+pub struct OwnThread<'n> {
+    pub alloc: Global,
+    pub net: &'n Network,
+
+    /// In seconds for each passenger.
+    pub penalty: u64,
+
+    ghost within: { penalty ≤ PENALTY },
+}
+
+impl Planner for OwnThread<'_> {
+    ghost value = { λ p. record { net = p.net.now; penalty = p.penalty } };
+
+    fn plan(&self, snapshot: &Snapshot, budget: u64) -> Result<Plan, AllocError> {
+        self.net.sound();
+        // No leaves are those of a tree, so that only memory may be missing.
+        let Ok(unsearched) = assemble(self.alloc, Vec::new(self.alloc)) else {
+            return Err(AllocError);
+        };
+        let choices = Vec::new(self.alloc);
+        finish(
+            self.alloc,
+            self.net,
+            self.penalty,
+            snapshot,
+            unsearched,
+            choices,
+            budget,
+        )
+    }
+}

@@ -1,0 +1,217 @@
+-- Flags that are set to what rows say, and flags that a change leaves.
+use Rattle.std.proofs.Common.{◌≡◌, ◌≢◌, ℕ, ◌+◌, ◌<◌, Bool, true, false, List, [], ◌∷◌, length, Option, Some, None, refl, sym, ap, subst, ◌∙◌, ◌⊎◌, inl, inr, arith, fold, slice_index, get_or-set_other}
+use Rattle.std.specs.Prelude.{slice_set, slice_get, is_some}
+use Rattle.std.proofs.lemmas.Bool.{cases_eq}
+use Rattle.dm_network.specs.Net.{Net, activity_at, places_into}
+use Rattle.dm_rows.specs.Active.{has_passed}
+use Rattle.dm_rows.specs.Cost.{is_dropped_change}
+use Rattle.dm_rows.specs.Resolve.{after_change, after_flip}
+use Rattle.dm_rows.specs.Rows.{RowsValue, kept_at}
+use Rattle.dm_rows.specs.declared.messages.Flip.{Flip}
+use Rattle.dm_rows.specs.declared.messages.Flip.TheVariants.{Keep, Drop, First}
+use Rattle.dm_rows.specs.declared.messages.Change.{Change}
+use Rattle.dm_rows.specs.declared.messages.Change.TheVariants.{EventDelay, ActDelay, Passed, Recalled, Flipped, Adopted, Clock}
+use Rattle.dm_priced.specs.Priced.{is_flagged}
+use Rattle.dm_propagate.specs.Inside.Concern.{IsOfOneBefore}
+use Rattle.dm_propagate.specs.Inside.Turning.{IsAmong, IsOnly}
+use Rattle.dm_propagate.specs.Inside.Flags.{FlagsValue, AreFlagsOf, MovesPass, IsNamed, LeadsInto, MovesCharge, AreFlagsBut, Charges, SetsFlagsAt, SetsFlagsBy, HasFlagsTo}
+use Rattle.dm_propagate.proofs.HeldLemmas.{among_next, set_on, set_off}
+use Rattle.dm_propagate.proofs.Around.{by_flips, into_is_listed}
+use Rattle.dm_propagate.proofs.Concerning.{decided_later}
+
+module _ (net : Net) (rows : RowsValue) where
+  -- where only these are among those, and right flags stay
+  pub charges_fewer : (P Q : ℕ → Type 0) (one two : List Bool) → ((a : ℕ) → a < length net.activities → Q a → P a) → Charges net rows P one two →
+      Charges net rows Q one two
+  charges_fewer P Q one two fewer c = λ a lt either. c a lt (elim either [ inl is ↦ inl is | inr q ↦ inr (fewer a lt q) ])
+
+  pub charges_then : (P Q R : ℕ → Type 0) (one two three : List Bool) → ((a : ℕ) → R a → P a ⊎ Q a) → Charges net rows P one two →
+      Charges net rows Q two three → Charges net rows R one three
+  charges_then P Q R one two three split f s = λ a lt either. s a lt (elim either [
+    | inl is ↦ inl (f a lt (inl is))
+    | inr r ↦ elim (split a r) [ inl p ↦ inl (f a lt (inr p)) | inr q ↦ inr q ]
+  ])
+
+  pub none_charged : (acts : List ℕ) (flags : List Bool) → Charges net rows (IsAmong acts 0) flags flags
+  none_charged acts flags = λ a lt either. elim either [ inl is ↦ is | inr (k, below, is) ↦ absurd (omega arith) ]
+
+  pub next_charged : (acts : List ℕ) (n a : ℕ) (one two three : List Bool) → a ≡ slice_index acts n → Charges net rows (IsAmong acts n) one two →
+      Charges net rows (IsOnly a) two three → Charges net rows (IsAmong acts (n + 1)) one three
+  next_charged acts n a one two three is f s =
+      charges_then (IsAmong acts n) (IsOnly a) (IsAmong acts (n + 1)) one two three
+      (λ b r. elim (among_next acts n b r) [ inl p ↦ inl p | inr q ↦ inr (q ∙ sym is) ]) f s
+
+  pub one_charged : (a : ℕ) (flag : Bool) (before after : List Bool) → a < length before → after ≡ slice_set before a flag →
+      flag ≡ is_dropped_change net rows a → Charges net rows (IsOnly a) before after
+  one_charged a flag before after below is right = λ b lt either. ap (λ (fs : List Bool). is_flagged fs b) is ∙ elim (cases_eq b a) [
+    | inl same ↦ set_on before a b flag same below ∙ right ∙ ap (is_dropped_change net rows) (sym same)
+    | inr other ↦ set_off before a b flag other ∙ elim either [ inl was ↦ was | inr same ↦ absurd (other same) ]
+  ]
+
+  -- the activities into an event are those of its row
+  pub charges_into : (e : ℕ) (row : List ℕ) (one two : List Bool) → row ≡ places_into net e → Charges net rows (IsAmong row (length row)) one two →
+      Charges net rows (LeadsInto net e) one two
+  charges_into e row one two is c = charges_fewer (IsAmong row (length row)) (LeadsInto net e) one two (λ a lt leads. into_is_listed net e row is a lt leads) c
+
+  -- one flip, and flips one after another
+  pub charged_by : (flip : Flip) (a : ℕ) → (flip ≡ Keep a) ⊎ (flip ≡ Drop a) → (one two : List Bool) → Charges net rows (IsOnly a) one two →
+      Charges net rows (IsNamed flip) one two
+  charged_by flip a either one two c = charges_fewer (IsOnly a) (IsNamed flip) one two
+      (λ b lt named. elim either [
+        | inl keep ↦ subst (λ (f : Flip). IsNamed f b) keep named
+        | inr drop ↦ subst (λ (f : Flip). IsNamed f b) drop named
+      ]) c
+
+  pub charged_as_before : (flip : Flip) (p : ℕ) (small : Bool) → flip ≡ First p small → (flags : List Bool) → Charges net rows (IsNamed flip) flags flags
+  charged_as_before flip p small is flags = λ a lt either. elim either [
+    | inl right ↦ right
+    | inr named ↦ absurd (subst (λ (f : Flip). IsNamed f a) is named)
+  ]
+
+  pub no_flip_charged : (flips : List Flip) (flags : List Bool) → Charges net rows (IsOfOneBefore IsNamed flips 0) flags flags
+  no_flip_charged flips flags = λ a lt either. elim either [ inl is ↦ is | inr d ↦ let before = d.before in absurd (omega arith) ]
+
+  pub next_flip_charged : (flips : List Flip) (n : ℕ) (flip : Flip) → slice_get flips n ≡ Some flip → (one two three : List Bool) →
+      Charges net rows (IsOfOneBefore IsNamed flips n) one two → Charges net rows (IsNamed flip) two three →
+      Charges net rows (IsOfOneBefore IsNamed flips (n + 1)) one three
+  next_flip_charged flips n flip there one two three f s =
+      charges_then (IsOfOneBefore IsNamed flips n) (IsNamed flip) (IsOfOneBefore IsNamed flips (n + 1)) one two three (by_flips IsNamed flips n flip there) f s
+
+  -- event after event
+  pub no_flags : (flags : FlagsValue) → HasFlagsTo net rows 0 flags
+  no_flags flags = record { passed = λ i lt. absurd (omega arith); charged = λ a lt head. absurd (omega arith) }
+
+  pub next_flags : (n : ℕ) (before after : FlagsValue) → n < length before.passed → HasFlagsTo net rows n before →
+      SetsFlagsAt net rows n before after → HasFlagsTo net rows (n + 1) after
+  next_flags n before after below has sets = record {
+    passed = λ i lt. ap (λ (fs : List Bool). is_flagged fs i) sets.passed ∙ elim (cases_eq i n) [
+      | inl same ↦ set_on before.passed n i (has_passed rows n) same below ∙ ap (has_passed rows) (sym same)
+      | inr other ↦ set_off before.passed n i (has_passed rows n) other ∙ has.passed i (omega arith)
+    ];
+    charged = λ a lt head. sets.charged a lt (elim (cases_eq (activity_at net a).head n) [
+      | inl same ↦ inr same
+      | inr other ↦ inl (has.charged a lt (omega arith))
+    ]);
+  }
+
+  pub all_flags : ((a : ℕ) → a < length net.activities → (activity_at net a).head < length net.events) → (flags : FlagsValue) →
+      HasFlagsTo net rows (length net.events) flags → AreFlagsOf net rows flags
+  all_flags known flags has = record { passed = has.passed; charged = λ a lt. has.charged a lt (known a lt) }
+
+  -- flags that are right but for what a change concerns, and that are set there
+  pub none_concerned : (change : Change) (flags : FlagsValue) → ((i : ℕ) → MovesPass change i → ⊥) → ((a : ℕ) → MovesCharge net change a → ⊥) →
+      AreFlagsBut net rows change flags → AreFlagsOf net rows flags
+  none_concerned change flags no_pass no_charge but = record {
+    passed = λ i lt. elim (but.passed i lt) [ inl is ↦ is | inr moves ↦ absurd (no_pass i moves) ];
+    charged = λ a lt. elim (but.charged a lt) [ inl is ↦ is | inr moves ↦ absurd (no_charge a moves) ];
+  }
+
+  pub set_at : (change : Change) (e : ℕ) → ((i : ℕ) → MovesPass change i → i ≡ e) → ((a : ℕ) → MovesCharge net change a → LeadsInto net e a) →
+      (before after : FlagsValue) → e < length before.passed → AreFlagsBut net rows change before → SetsFlagsAt net rows e before after →
+      AreFlagsOf net rows after
+  set_at change e only into before after below but sets = record {
+    passed = λ i lt. ap (λ (fs : List Bool). is_flagged fs i) sets.passed ∙ elim (cases_eq i e) [
+      | inl same ↦ set_on before.passed e i (has_passed rows e) same below ∙ ap (has_passed rows) (sym same)
+      | inr other ↦ set_off before.passed e i (has_passed rows e) other ∙ elim (but.passed i lt) [ inl is ↦ is | inr moves ↦ absurd (other (only i moves)) ]
+    ];
+    charged = λ a lt. sets.charged a lt (elim (but.charged a lt) [ inl is ↦ inl is | inr moves ↦ inr (into a moves) ]);
+  }
+
+  pub set_by : (change : Change) (flips : List Flip) → ((i : ℕ) → MovesPass change i → ⊥) →
+      ((a : ℕ) → MovesCharge net change a → IsOfOneBefore IsNamed flips (length flips) a) → (before after : FlagsValue) →
+      AreFlagsBut net rows change before → SetsFlagsBy net rows flips before after → AreFlagsOf net rows after
+  set_by change flips no_pass by before after but sets = record {
+    passed = λ i lt. ap (λ (fs : List Bool). is_flagged fs i) sets.passed ∙ elim (but.passed i lt) [ inl is ↦ is | inr moves ↦ absurd (no_pass i moves) ];
+    charged = λ a lt. sets.charged a lt (elim (but.charged a lt) [ inl is ↦ inl is | inr moves ↦ inr (by a moves) ]);
+  }
+
+  pub but_where_right : (change : Change) (flags : FlagsValue) → AreFlagsOf net rows flags → AreFlagsBut net rows change flags
+  but_where_right change flags f = record { passed = λ i lt. inl (f.passed i lt); charged = λ a lt. inl (f.charged a lt) }
+
+-- what a change leaves
+flip_keeps_passed : (rows : RowsValue) (flip : Flip) (i : ℕ) → has_passed (after_flip rows flip) i ≡ has_passed rows i
+flip_keeps_passed rows (Keep a) i = refl
+flip_keeps_passed rows (Drop a) i = refl
+flip_keeps_passed rows (First p small) i = refl
+
+flips_keep_passed : (rows : RowsValue) (flips : List Flip) (i : ℕ) → has_passed (fold after_flip rows flips) i ≡ has_passed rows i
+flips_keep_passed rows [] i = refl
+flips_keep_passed rows (flip ∷ flips) i = flips_keep_passed (after_flip rows flip) flips i ∙ flip_keeps_passed rows flip i
+
+passed_but_at : (rows : RowsValue) (e : ℕ) (o : Option ℕ) (i : ℕ) → i ≢ e →
+    has_passed (record rows { passed = slice_set rows.passed e o }) i ≡ has_passed rows i
+passed_but_at rows e o i ne = ap is_some (get_or-set_other rows.passed e i o None ne)
+
+pass_leaves : (rows : RowsValue) (change : Change) (i : ℕ) → (has_passed (after_change rows change) i ≡ has_passed rows i) ⊎ MovesPass change i
+pass_leaves rows (EventDelay e d) i = inl refl
+pass_leaves rows (ActDelay a d) i = inl refl
+pass_leaves rows (Passed e t) i = elim (cases_eq i e) [ inl is ↦ inr is | inr ne ↦ inl (passed_but_at rows e (Some t) i ne) ]
+pass_leaves rows (Recalled e) i = elim (cases_eq i e) [ inl is ↦ inr is | inr ne ↦ inl (passed_but_at rows e None i ne) ]
+pass_leaves rows (Flipped flip) i = inl (flip_keeps_passed rows flip i)
+pass_leaves rows (Adopted flips) i = inl (flips_keep_passed rows flips i)
+pass_leaves rows (Clock t) i = inl refl
+
+module _ (net : Net) where
+  dropped_alike : (rows after : RowsValue) (a : ℕ) → kept_at after a ≡ kept_at rows a →
+      has_passed after (activity_at net a).head ≡ has_passed rows (activity_at net a).head → is_dropped_change net after a ≡ is_dropped_change net rows a
+  dropped_alike rows after a kept passed = rw (kept, passed) refl
+
+  flip_charges : (rows : RowsValue) (flip : Flip) (a : ℕ) → (is_dropped_change net (after_flip rows flip) a ≡ is_dropped_change net rows a) ⊎ IsNamed flip a
+  flip_charges rows (Keep b) a = elim (cases_eq a b) [
+    | inl is ↦ inr is
+    | inr ne ↦ inl (dropped_alike rows (after_flip rows (Keep b)) a (get_or-set_other rows.kept b a true true ne) refl)
+  ]
+  flip_charges rows (Drop b) a = elim (cases_eq a b) [
+    | inl is ↦ inr is
+    | inr ne ↦ inl (dropped_alike rows (after_flip rows (Drop b)) a (get_or-set_other rows.kept b a false true ne) refl)
+  ]
+  flip_charges rows (First p small) a = inl refl
+
+  flips_charge : (rows : RowsValue) (flips : List Flip) (a : ℕ) →
+      (is_dropped_change net (fold after_flip rows flips) a ≡ is_dropped_change net rows a) ⊎ IsOfOneBefore IsNamed flips (length flips) a
+  flips_charge rows [] a = inl refl
+  flips_charge rows (flip ∷ flips) a = elim (flip_charges rows flip a) [
+    | inl same ↦ elim (flips_charge (after_flip rows flip) flips a) [
+      | inl later ↦ inl (later ∙ same)
+      | inr named ↦ inr (decided_later IsNamed flip flips (length flips) a named)
+    ]
+    | inr named ↦ inr (record { flip = flip; place = 0; before = omega arith; there = refl; decided = named })
+  ]
+
+  pass_charges : (rows : RowsValue) (e : ℕ) (o : Option ℕ) (a : ℕ) →
+      (is_dropped_change net (record rows { passed = slice_set rows.passed e o }) a ≡ is_dropped_change net rows a) ⊎ LeadsInto net e a
+  pass_charges rows e o a = elim (cases_eq (activity_at net a).head e) [
+    | inl is ↦ inr is
+    | inr ne ↦ inl (dropped_alike rows (record rows { passed = slice_set rows.passed e o }) a refl (passed_but_at rows e o (activity_at net a).head ne))
+  ]
+
+  charge_leaves : (rows : RowsValue) (change : Change) (a : ℕ) →
+      (is_dropped_change net (after_change rows change) a ≡ is_dropped_change net rows a) ⊎ MovesCharge net change a
+  charge_leaves rows (EventDelay e d) a = inl refl
+  charge_leaves rows (ActDelay b d) a = inl refl
+  charge_leaves rows (Passed e t) a = pass_charges rows e (Some t) a
+  charge_leaves rows (Recalled e) a = pass_charges rows e None a
+  charge_leaves rows (Flipped flip) a = flip_charges rows flip a
+  charge_leaves rows (Adopted flips) a = flips_charge rows flips a
+  charge_leaves rows (Clock t) a = inl refl
+
+  -- flags of rows are those after a change but for what it concerns, and the other way round
+  pub flags_but_after : (rows : RowsValue) (change : Change) (flags : FlagsValue) → AreFlagsOf net rows flags →
+      AreFlagsBut net (after_change rows change) change flags
+  flags_but_after rows change flags f = record {
+    passed = λ i lt. elim (pass_leaves rows change i) [ inl same ↦ inl (f.passed i lt ∙ sym same) | inr moves ↦ inr moves ];
+    charged = λ a lt. elim (charge_leaves rows change a) [ inl same ↦ inl (f.charged a lt ∙ sym same) | inr moves ↦ inr moves ];
+  }
+
+  pub flags_but_before : (rows : RowsValue) (change : Change) (flags : FlagsValue) → AreFlagsBut net (after_change rows change) change flags →
+      AreFlagsBut net rows change flags
+  flags_but_before rows change flags f = record {
+    passed = λ i lt. elim (f.passed i lt) [
+      | inl is ↦ elim (pass_leaves rows change i) [ inl same ↦ inl (is ∙ same) | inr moves ↦ inr moves ]
+      | inr moves ↦ inr moves
+    ];
+    charged = λ a lt. elim (f.charged a lt) [
+      | inl is ↦ elim (charge_leaves rows change a) [ inl same ↦ inl (is ∙ same) | inr moves ↦ inr moves ]
+      | inr moves ↦ inr moves
+    ];
+  }

@@ -1,0 +1,10 @@
+use Rattle.std.specs.Prelude.{◌≡◌}
+use Rattle.dm_priced.specs.Priced.{IsPriced}
+use Rattle.dm_propagate.specs.Inside.Turning.{IsAmong}
+use Rattle.dm_propagate.specs.Inside.Flags.{Charges}
+use Rattle.dm_propagate.proofs.charging.charge_each.Given as goal
+
+abbrev pub invariant-loop-a : goal.invariant-loop-a
+invariant-loop-a l =
+    IsPriced l.net l.priced × (l.priced.live ≡ l.initial.priced.live) × (l.priced.passed ≡ l.initial.priced.passed)
+    × Charges l.net l.rows (IsAmong l.acts l.a-index) l.initial.priced.charged l.priced.charged

@@ -1,0 +1,81 @@
+-- The flags of a priced timetable: which of them a change concerns, and what is left of them while it is made.
+use Rattle.std.specs.Prelude.{ℕ, ◌≡◌, ◌<◌, ◌⊎◌, Bool, List, length, slice_set}
+use Rattle.dm_network.specs.Net.{Net, activity_at}
+use Rattle.dm_rows.specs.Active.{has_passed}
+use Rattle.dm_rows.specs.Cost.{is_dropped_change}
+use Rattle.dm_rows.specs.Rows.{RowsValue}
+use Rattle.dm_rows.specs.declared.messages.Flip.{Flip}
+use Rattle.dm_rows.specs.declared.messages.Flip.TheVariants.{Keep, Drop, First}
+use Rattle.dm_rows.specs.declared.messages.Change.{Change}
+use Rattle.dm_rows.specs.declared.messages.Change.TheVariants.{EventDelay, ActDelay, Passed, Recalled, Flipped, Adopted, Clock}
+use Rattle.dm_priced.specs.Priced.{PricedValue, is_flagged}
+use Rattle.dm_propagate.specs.Inside.Concern.{IsOfOneBefore}
+
+-- the events that have passed, and the activities that are charged for
+pub record FlagsValue : Type 0 where
+  pub passed : List Bool
+  pub charged : List Bool
+
+abbrev pub flags_of : PricedValue → FlagsValue
+flags_of priced = record { passed = priced.passed; charged = priced.charged }
+
+-- they are those of rows
+pub record AreFlagsOf (net : Net) (rows : RowsValue) (flags : FlagsValue) : Type 0 where
+  pub passed : (i : ℕ) → i < length net.events → is_flagged flags.passed i ≡ has_passed rows i
+  pub charged : (a : ℕ) → a < length net.activities → is_flagged flags.charged a ≡ is_dropped_change net rows a
+
+-- the change passes or recalls the event
+abbrev pub MovesPass : Change → ℕ → Type 0
+MovesPass (EventDelay e d) i = ⊥
+MovesPass (ActDelay a d) i = ⊥
+MovesPass (Passed e t) i = i ≡ e
+MovesPass (Recalled e) i = i ≡ e
+MovesPass (Flipped flip) i = ⊥
+MovesPass (Adopted flips) i = ⊥
+MovesPass (Clock t) i = ⊥
+
+-- the flip keeps or drops the activity
+abbrev pub IsNamed : Flip → ℕ → Type 0
+IsNamed (Keep a) b = b ≡ a
+IsNamed (Drop a) b = b ≡ a
+IsNamed (First p small) b = ⊥
+
+-- the activity leads into the event
+abbrev pub LeadsInto : Net → ℕ → ℕ → Type 0
+LeadsInto net i b = (activity_at net b).head ≡ i
+
+-- the change may make the activity one that is charged for, or take that away
+abbrev pub MovesCharge : Net → Change → ℕ → Type 0
+MovesCharge net (EventDelay i d) b = ⊥
+MovesCharge net (ActDelay a d) b = ⊥
+MovesCharge net (Passed i t) b = LeadsInto net i b
+MovesCharge net (Recalled i) b = LeadsInto net i b
+MovesCharge net (Flipped flip) b = IsNamed flip b
+MovesCharge net (Adopted flips) b = IsOfOneBefore IsNamed flips (length flips) b
+MovesCharge net (Clock t) b = ⊥
+
+-- they are those of rows, but for what the change concerns
+pub record AreFlagsBut (net : Net) (rows : RowsValue) (change : Change) (flags : FlagsValue) : Type 0 where
+  pub passed : (i : ℕ) → i < length net.events → (is_flagged flags.passed i ≡ has_passed rows i) ⊎ MovesPass change i
+  pub charged : (a : ℕ) → a < length net.activities → (is_flagged flags.charged a ≡ is_dropped_change net rows a) ⊎ MovesCharge net change a
+
+-- Where each activity was charged for as the rows have it or is one of these, each is as the rows have it.
+abbrev pub Charges : Net → RowsValue → (ℕ → Type 0) → List Bool → List Bool → Type 0
+Charges net rows some before after =
+    (a : ℕ) → a < length net.activities → (is_flagged before a ≡ is_dropped_change net rows a) ⊎ some a →
+    is_flagged after a ≡ is_dropped_change net rows a
+
+-- the event and the activities into it have the flags of the rows
+pub record SetsFlagsAt (net : Net) (rows : RowsValue) (i : ℕ) (before after : FlagsValue) : Type 0 where
+  pub passed : after.passed ≡ slice_set before.passed i (has_passed rows i)
+  pub charged : Charges net rows (LeadsInto net i) before.charged after.charged
+
+-- the activities that flips name have the flags of the rows
+pub record SetsFlagsBy (net : Net) (rows : RowsValue) (flips : List Flip) (before after : FlagsValue) : Type 0 where
+  pub passed : after.passed ≡ before.passed
+  pub charged : Charges net rows (IsOfOneBefore IsNamed flips (length flips)) before.charged after.charged
+
+-- the first n events and the activities into them have the flags of the rows
+pub record HasFlagsTo (net : Net) (rows : RowsValue) (n : ℕ) (flags : FlagsValue) : Type 0 where
+  pub passed : (i : ℕ) → i < n → is_flagged flags.passed i ≡ has_passed rows i
+  pub charged : (a : ℕ) → a < length net.activities → (activity_at net a).head < n → is_flagged flags.charged a ≡ is_dropped_change net rows a

@@ -1,0 +1,5 @@
+-- What the readers compute.
+pub mod Fields
+pub mod Kinds
+pub mod Answers
+pub mod Items

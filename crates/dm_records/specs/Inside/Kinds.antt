@@ -1,0 +1,147 @@
+-- The kinds of lines that feeds say, and of answers: their words and their numbers.
+use Rattle.std.specs.Prelude.{ℕ, List, codes}
+use Rattle.dm_base.specs.declared.ids.EventId.{EventId}
+use Rattle.dm_base.specs.declared.ids.ActId.{ActId}
+use Rattle.dm_rows.specs.declared.messages.Message.TheVariants as message
+use Rattle.dm_rows.specs.declared.messages.Refusal.{Refusal}
+use Rattle.dm_rows.specs.declared.messages.Refusal.TheVariants as refusal
+use Rattle.dm_base.specs.declared.limits.TheConstants.{ENTRIES}
+use Rattle.dm_feed.specs.declared.grammar.Line.{Line}
+use Rattle.dm_feed.specs.declared.grammar.Line.TheVariants as line
+use Rattle.dm_feed.specs.Parts.{largest_id, largest_value}
+use Rattle.dm_cert.specs.PlanTexts.{largest_cost}
+use Rattle.dm_cert.specs.declared.replies.Reply.{Reply}
+use Rattle.dm_cert.specs.declared.replies.Reply.TheVariants as reply
+use Rattle.dm_records.specs.declared.fields.Shape.{Shape}
+use Rattle.dm_records.specs.declared.fields.Shape.TheVariants.{Bare, Single, Double}
+use Rattle.dm_records.specs.declared.kinds.SaidKind.{SaidKind}
+use Rattle.dm_records.specs.declared.kinds.SaidKind.TheVariants as said
+use Rattle.dm_records.specs.declared.kinds.ToldKind.{ToldKind}
+use Rattle.dm_records.specs.declared.kinds.ToldKind.TheVariants as told
+use Rattle.dm_records.specs.declared.kinds.FreeKind.{FreeKind}
+use Rattle.dm_records.specs.declared.kinds.FreeKind.TheVariants as free
+
+abbrev pub event : ℕ → EventId
+event n = record { 0 = n }
+
+abbrev pub act : ℕ → ActId
+act n = record { 0 = n }
+
+-- ---- what feeds say
+
+abbrev pub said_text : SaidKind → List ℕ
+said_text said.DelayEvent = codes "delay event "
+said_text said.DelayActivity = codes "delay activity "
+said_text said.Pass = codes "pass "
+said_text said.Recall = codes "recall "
+said_text said.Keep = codes "keep "
+said_text said.Drop = codes "drop "
+said_text said.First = codes "first "
+said_text said.Now = codes "now "
+said_text said.Time = codes "time "
+said_text said.Cost = codes "cost"
+said_text said.Read = codes "read"
+said_text said.Plan = codes "plan "
+said_text said.Adopt = codes "adopt"
+
+abbrev pub said_shape : SaidKind → Shape
+said_shape said.DelayEvent = Double largest_id largest_value
+said_shape said.DelayActivity = Double largest_id largest_value
+said_shape said.Pass = Double largest_id largest_value
+said_shape said.Recall = Single largest_id
+said_shape said.Keep = Single largest_id
+said_shape said.Drop = Single largest_id
+said_shape said.First = Double largest_id largest_id
+said_shape said.Now = Single largest_value
+said_shape said.Time = Single largest_id
+said_shape said.Cost = Bare
+said_shape said.Read = Bare
+said_shape said.Plan = Single largest_value
+said_shape said.Adopt = Bare
+
+-- the line of this kind with these numbers
+abbrev pub said_line : SaidKind → ℕ → ℕ → Line
+said_line said.DelayEvent a b = line.Say (message.DelayEvent (event a) b)
+said_line said.DelayActivity a b = line.Say (message.DelayActivity (act a) b)
+said_line said.Pass a b = line.Say (message.Pass (event a) b)
+said_line said.Recall a b = line.Say (message.Recall (event a))
+said_line said.Keep a b = line.Say (message.Keep (act a))
+said_line said.Drop a b = line.Say (message.Drop (act a))
+said_line said.First a b = line.Say (message.First (event a) (event b))
+said_line said.Now a b = line.Say (message.Now a)
+said_line said.Time a b = line.Time (event a)
+said_line said.Cost a b = line.CostNow
+said_line said.Read a b = line.Read
+said_line said.Plan a b = line.Plan a
+said_line said.Adopt a b = line.Adopt
+
+-- ---- answers at an entry, behind its number
+
+abbrev pub told_text : ToldKind → List ℕ
+told_text told.Ok = codes " ok"
+told_text told.Read = codes " read"
+told_text told.Old = codes " old"
+told_text told.Time = codes " time "
+told_text told.Cost = codes " cost "
+told_text told.Range = codes " refused range "
+told_text told.UnknownEvent = codes " refused unknown-event "
+told_text told.UnknownActivity = codes " refused unknown-activity "
+told_text told.UnknownChange = codes " refused unknown-change "
+told_text told.UnknownPair = codes " refused unknown-pair "
+told_text told.Passed = codes " refused passed "
+told_text told.NotPassed = codes " refused not-passed "
+told_text told.Back = codes " refused back "
+told_text told.Full = codes " refused full"
+
+abbrev pub told_shape : ToldKind → Shape
+told_shape told.Ok = Bare
+told_shape told.Read = Bare
+told_shape told.Old = Bare
+told_shape told.Time = Single largest_cost
+told_shape told.Cost = Single largest_cost
+told_shape told.Range = Single largest_cost
+told_shape told.UnknownEvent = Single largest_id
+told_shape told.UnknownActivity = Single largest_id
+told_shape told.UnknownChange = Single largest_id
+told_shape told.UnknownPair = Double largest_id largest_id
+told_shape told.Passed = Double largest_id largest_cost
+told_shape told.NotPassed = Single largest_id
+told_shape told.Back = Single largest_cost
+told_shape told.Full = Bare
+
+abbrev pub refused_at : ℕ → Refusal → Reply
+refused_at n why = reply.Refused (record { entry = n; why = why })
+
+-- the answer of this kind at so many entries with these numbers
+abbrev pub told_reply : ℕ → ToldKind → ℕ → ℕ → Reply
+told_reply n told.Ok a b = reply.Ok n
+told_reply n told.Read a b = reply.Read n
+told_reply n told.Old a b = reply.Old n
+told_reply n told.Time a b = reply.Time n a
+told_reply n told.Cost a b = reply.Cost n a
+told_reply n told.Range a b = refused_at n (refusal.Range a)
+told_reply n told.UnknownEvent a b = refused_at n (refusal.UnknownEvent (event a))
+told_reply n told.UnknownActivity a b = refused_at n (refusal.UnknownActivity (act a))
+told_reply n told.UnknownChange a b = refused_at n (refusal.UnknownChange (act a))
+told_reply n told.UnknownPair a b = refused_at n (refusal.UnknownPair (event a) (event b))
+told_reply n told.Passed a b = refused_at n (refusal.Passed (event a) b)
+told_reply n told.NotPassed a b = refused_at n (refusal.NotPassed (event a))
+told_reply n told.Back a b = refused_at n (refusal.Back a)
+told_reply n told.Full a b = refused_at n (refusal.Full ENTRIES)
+
+-- ---- answers at no entry
+
+abbrev pub free_text : FreeKind → List ℕ
+free_text free.NoPlan = codes "noplan"
+free_text free.Plans = codes "plans"
+free_text free.Range = codes "range "
+
+abbrev pub free_shape : FreeKind → Shape
+free_shape free.NoPlan = Bare
+free_shape free.Plans = Bare
+free_shape free.Range = Single largest_cost
+
+abbrev pub free_reply : FreeKind → ℕ → ℕ → Reply
+free_reply free.NoPlan a b = reply.NoPlan
+free_reply free.Plans a b = reply.Plans
+free_reply free.Range a b = reply.Range a

@@ -1,0 +1,124 @@
+//! The first lines of a log's items.
+ghost use Rattle.std.specs.Prelude.{◌≡◌, IfOk};
+ghost use Rattle.std.specs.Option.{option_map};
+ghost use Rattle.dm_records.specs.RunLines.{IsItemLine};
+ghost use Rattle.dm_records.specs.Inside.Fields.{NumbersFit};
+ghost use Rattle.dm_records.specs.Inside.Kinds.{said_shape, said_line};
+ghost use Rattle.dm_records.specs.Inside.Answers.{saying};
+ghost use Rattle.dm_records.specs.Inside.Items.{item_with, ReadsSaid};
+ghost use Rattle.dm_records.specs.Readings.{IsRead, item_of};
+
+use crate::answers::{Answer, AnswerLine, answer_line};
+use crate::fields::{LARGEST_ID, number_behind};
+use crate::kinds::{SaidKind, said_row};
+use crate::lines::is_word_line;
+use dm_base::{ActId, Cost, EventId};
+use dm_feed::Line;
+use dm_rows::Message;
+use dm_text::behind;
+use dm_tree::Mark;
+use std::alloc::{AllocError, Global};
+
+/// The first line of an item that answers with a plan: how many lines of choices follow, and how many of the tree.
+#[derive(Debug, Drop)]
+pub struct PlanLine {
+    pub line: u32,
+    pub said: Line,
+    pub entry: u32,
+    pub mark: Mark,
+    pub cost: Cost,
+    pub bound: Cost,
+    pub choices: u128,
+    pub size: u128,
+}
+
+/// The first line of an item: a whole item of one line, or the first line of a plan.
+#[derive(Debug, Drop)]
+pub enum LogLine {
+    Malformed(u32),
+    Answered {
+        line: u32,
+        said: Line,
+        answer: Answer,
+    },
+    Planned(PlanLine),
+}
+
+/// The line of this kind with these numbers.
+fn said_line(kind: SaidKind, one: u128, two: u128) -> Line
+    requires { NumbersFit (said_shape kind) one two }
+    ensures { result ≡ said_line kind one two }
+{
+    match kind {
+        SaidKind::DelayEvent => Line::Say(Message::DelayEvent(EventId(one as u32), two as u64)),
+        SaidKind::DelayActivity => Line::Say(Message::DelayActivity(ActId(one as u32), two as u64)),
+        SaidKind::Pass => Line::Say(Message::Pass(EventId(one as u32), two as u64)),
+        SaidKind::Recall => Line::Say(Message::Recall(EventId(one as u32))),
+        SaidKind::Keep => Line::Say(Message::Keep(ActId(one as u32))),
+        SaidKind::Drop => Line::Say(Message::Drop(ActId(one as u32))),
+        SaidKind::First => Line::Say(Message::First(EventId(one as u32), EventId(two as u32))),
+        SaidKind::Now => Line::Say(Message::Now(one as u64)),
+        SaidKind::Time => Line::Time(EventId(one as u32)),
+        SaidKind::Cost => Line::CostNow,
+        SaidKind::Read => Line::Read,
+        SaidKind::Plan => Line::Plan(one as u64),
+        SaidKind::Adopt => Line::Adopt,
+    }
+}
+
+/// The item of this line that says and answers so.
+fn log_line(line: u32, said: Line, answer: AnswerLine) -> LogLine
+    ensures { item_of result ≡ item_with line said (saying answer) }
+{
+    match answer {
+        AnswerLine::Answer(answer) => LogLine::Answered { line, said, answer },
+        AnswerLine::Plan(entry, heading) => LogLine::Planned(PlanLine {
+            line,
+            said,
+            entry,
+            mark: heading.mark,
+            cost: heading.cost,
+            bound: heading.bound,
+            choices: heading.choices,
+            size: heading.size,
+        }),
+    }
+}
+
+/// What is said and answered behind an item's number.
+fn said_and_answered(
+    alloc: Global,
+    version: u32,
+    number: u32,
+    line: &[u8],
+) -> Result<Option<LogLine>, AllocError>
+    ensures { IfOk result (λ read. ReadsSaid version number line.now (option_map item_of read)) }
+{
+    let Some(((kind, one, two), rest)) = said_row(line) else {
+        return Ok(None);
+    };
+    let Some(rest) = behind(rest, " -> ") else {
+        return Ok(None);
+    };
+    match answer_line(alloc, version, rest) {
+        Ok(Some(answer)) => Ok(Some(log_line(number, said_line(kind, one, two), answer))),
+        Ok(None) => Ok(None),
+        Err(AllocError) => Err(AllocError),
+    }
+}
+
+/// The first line of an item, in a version.
+pub fn item_line(alloc: Global, version: u32, line: &[u8]) -> Result<Option<LogLine>, AllocError>
+    ensures { IfOk result (IsRead (IsItemLine version) item_of line.now) }
+{
+    let Some((number, rest)) = number_behind(line, "", LARGEST_ID) else {
+        return Ok(None);
+    };
+    if let Some(()) = is_word_line(rest, " malformed") {
+        return Ok(Some(LogLine::Malformed(number as u32)));
+    }
+    let Some(rest) = behind(rest, " ") else {
+        return Ok(None);
+    };
+    said_and_answered(alloc, version, number as u32, rest)
+}

@@ -1,0 +1,96 @@
+//! Plans where two trains meet and the first is a minute late.
+ghost use Rattle.std.specs.Prelude.{◌≤◌};
+ghost use Rattle.dm_base.specs.declared.limits.TheConstants.{PENALTY, BUDGET};
+ghost use Rattle.dm_rows.specs.Rows.{IsSized};
+
+use crate::relaxed::{CHANGE, DROP, TURNED, connection, late_rows};
+use dm_network::Network;
+use dm_rows::{Decision, Snapshot};
+use dm_search::finish;
+use dm_search::laws::a_hole_is_a_start;
+use dm_times::least;
+use dm_tree::{Mark, Node, Plan, assemble};
+use std::alloc::Global;
+use std::test::Fail;
+
+/// A plan that is searched for from nothing.
+fn planned(
+    alloc: Global,
+    net: &Network,
+    snapshot: &Snapshot,
+    penalty: u64,
+    budget: u64,
+) -> Result<Plan, Fail>
+    requires sized { IsSized net.now snapshot.now.rows }
+    requires penalty { penalty ≤ PENALTY }
+    requires budget { (1 ≤ budget) × (budget ≤ BUDGET) }
+{
+    net.sound();
+    a_hole_is_a_start();
+    let _times = least(alloc, net, &snapshot.rows)?;
+    let partial = assemble(alloc, Vec::new(alloc))?;
+    let plan = finish(
+        alloc,
+        net,
+        penalty,
+        snapshot,
+        partial,
+        Vec::new(alloc),
+        budget,
+    )?;
+    Ok(plan)
+}
+
+/// What a plan says beside its choices and its tree.
+fn summary(plan: &Plan) -> (u32, u128, u128, bool) {
+    let optimal = plan.mark == Mark::Optimal;
+    (plan.entry, plan.cost, plan.bound, optimal)
+}
+
+#[test]
+fn worked_plans(rt: HostRuntime) -> Result<(), Fail> {
+    let net = connection(rt.alloc())?;
+    let rows = late_rows(rt.alloc(), &net)?;
+    let snapshot = Snapshot { entry: 1, rows };
+    let kept = Node::Bound(1_075_000);
+    let better = [DROP, TURNED];
+    let shown = [Node::Inner(CHANGE), kept, Node::Bound(940_000)];
+    let dear = [Node::Inner(CHANGE), kept, Node::Bound(4_900_000)];
+    let none: [Decision; 0] = [];
+    for (penalty, budget, said, choices, nodes) in [
+        (
+            10,
+            100,
+            (1, 940_000, 940_000, true),
+            better.as_slice(),
+            shown.as_slice(),
+        ),
+        (
+            10,
+            7,
+            (1, 940_000, 940_000, true),
+            better.as_slice(),
+            shown.as_slice(),
+        ),
+        (
+            10,
+            1,
+            (1, 1_075_000, 900_000, false),
+            none.as_slice(),
+            [Node::Open(900_000)].as_slice(),
+        ),
+        (
+            1000,
+            100,
+            (1, 1_075_000, 1_075_000, true),
+            none.as_slice(),
+            dear.as_slice(),
+        ),
+    ] {
+        let plan = planned(rt.alloc(), &net, &snapshot, penalty, budget)?;
+        assert_eq!(rt; summary(&plan), said);
+        assert_eq!(rt; plan.choices.as_slice(), choices);
+        assert_eq!(rt; plan.tree.as_slice(), nodes);
+    }
+    Ok(())
+}

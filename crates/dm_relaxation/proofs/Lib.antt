@@ -1,0 +1,4 @@
+pub mod Rising
+pub mod Rounding
+pub mod Totals
+pub mod OfRows

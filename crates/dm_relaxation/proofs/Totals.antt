@@ -1,0 +1,31 @@
+-- A sum over places, place by place.
+use Rattle.std.proofs.Common.{◌≡◌, ℕ, suc, ◌+◌, ◌-◌, ◌*◌, ◌<◌, ◌≤◌, ap, ◌∙◌, arith}
+use Rattle.std.specs.Prelude.{sum_by}
+use Rattle.std.specs.List.{range_with_len}
+use Rattle.std.proofs.lemmas.List.Sums.{sum_by-cons}
+
+-- the total over the first i of n places, where each adds at most so much
+pub record IsTotalTo (f : ℕ → ℕ) (n most i total : ℕ) : Type 0 where
+  pub sum : total + sum_by f (range_with_len i (n - i)) ≡ sum_by f (range_with_len 0 n)
+  pub bound : total ≤ i * most
+
+pub total_none : (f : ℕ → ℕ) (n most : ℕ) → IsTotalTo f n most 0 0
+total_none f n most =
+    let e : n - 0 ≡ n = omega arith in
+    let same : sum_by f (range_with_len 0 (n - 0)) ≡ sum_by f (range_with_len 0 n) = ap (λ (k : ℕ). sum_by f (range_with_len 0 k)) e in
+    record { sum = omega (arith, same); bound = omega arith }
+
+pub total_next : (f : ℕ → ℕ) (n most i total new : ℕ) → i < n → new ≤ most → new ≡ f i → IsTotalTo f n most i total → IsTotalTo f n most (i + 1) (total + new)
+total_next f n most i total new lt le is t =
+    let e : n - i ≡ suc (n - (i + 1)) = omega arith in
+    let split : sum_by f (range_with_len i (n - i)) ≡ f i + sum_by f (range_with_len (i + 1) (n - (i + 1))) = ap (λ (k : ℕ). sum_by f (range_with_len i k)) e ∙ sum_by-cons f i (range_with_len (i + 1) (n - (i + 1))) in
+    let old = t.sum in
+    let bound = t.bound in
+    record { sum = omega (arith, split, is, old); bound = omega arith }
+
+pub total_all : (f : ℕ → ℕ) (n most i total : ℕ) → n ≤ i → IsTotalTo f n most i total → total ≡ sum_by f (range_with_len 0 n)
+total_all f n most i total le t =
+    let e : n - i ≡ 0 = omega arith in
+    let none : sum_by f (range_with_len i (n - i)) ≡ 0 = ap (λ (k : ℕ). sum_by f (range_with_len i k)) e in
+    let old = t.sum in
+    omega (arith, none, old)

@@ -1,0 +1,12 @@
+use Rattle.std.proofs.Common.{arith, ◌<◌, length}
+use Rattle.dm_base.specs.declared.limits.TheConstants.{WEIGHT}
+use Rattle.dm_network.specs.Held.{is_held}
+use Rattle.dm_rows.specs.Cost.{charged_weight}
+use Rattle.dm_relaxation.proofs.Totals.{total_next}
+use Rattle.dm_relaxation.proofs.costing.charged_weights.Goals as goal
+
+pub loop-a-preserved : goal.loop-a-preserved
+loop-a-preserved c =
+    let below : c.loop-a.a < length c.args.net.now.activities = omega (arith, c.loop-a-test.true, c.activities-a-end.ensures.count) in
+    total_next (charged_weight c.args.net.now (is_held c.args.charged.now)) (length c.args.net.now.activities) (WEIGHT) c.loop-a.a c.loop-a.total c.charged_weight.result below
+    c.charged_weight.ensures.limit c.charged_weight.ensures.weight c.loop-a.invariant

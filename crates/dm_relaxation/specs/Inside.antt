@@ -1,0 +1,2 @@
+-- States of rounds.
+pub mod Rising

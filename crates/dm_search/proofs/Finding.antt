@@ -1,0 +1,111 @@
+-- What one step finds is what is known of a leaf.
+use Rattle.std.proofs.Common.{◌≡◌, ℕ, ◌<◌, ◌≤◌, true, List, refl, sym, subst, ◌∙◌, inl, inr, arith, None, slice_get, lt-ltb}
+use Rattle.std.specs.Prelude.{Contains}
+use Rattle.std.proofs.lemmas.List.Elements.{Contains-append_cases}
+use Rattle.std.proofs.lemmas.Option.{slice_get-get_or}
+use Rattle.dm_network.specs.Net.{Net}
+use Rattle.dm_network.specs.Start.{IsNetwork}
+use Rattle.dm_rows.specs.declared.messages.Choice.{Choice}
+use Rattle.dm_rows.specs.declared.messages.Decision.{Decision}
+use Rattle.dm_rows.specs.Rows.{RowsValue, IsSized}
+use Rattle.dm_rows.specs.Decide.{free_choices_of, free_changes_of, free_pairs_of, change_choice, pair_choice, is_free_change, is_free_pair, IsChoiceList}
+use Rattle.dm_rows.specs.Relax.{violated_choices_of}
+use Rattle.dm_tree.specs.declared.forms.Node.TheVariants.{Cycle, Bound, Open}
+use Rattle.dm_tree.specs.Plans.{Task, whole_task, IsViolatedThere}
+use Rattle.dm_tree.specs.Inside.Filling.{is_ordered}
+use Rattle.dm_relax.proofs.Apart.{got_is_in}
+use Rattle.dm_relax.proofs.Differing.{differences_complete}
+use Rattle.dm_relax.proofs.Naming.{from_place, ids_rise}
+use Rattle.dm_search.specs.Steps.{HasRelaxedCycle, IsPruned, IsSolved, IsBranch}
+use Rattle.dm_search.specs.Inside.Searching.{AreBest, IsSettled, IsBetter, IsSplit}
+use Rattle.dm_search.proofs.Leaves.{violated_is_undecided}
+
+-- a free choice is written in order
+pub free_is_ordered : (net : Net) → IsNetwork net → (rows : RowsValue) (c : Choice) → Contains (free_choices_of net rows) c → is_ordered c ≡ true
+free_is_ordered net network rows c h =
+    elim (Contains-append_cases (free_changes_of net rows) (free_pairs_of net rows) c h) [
+      | inl l ↦
+          let f = from_place (change_choice net) (is_free_change net rows) _ c l in
+          subst (λ d. is_ordered d ≡ true) f.is refl
+      | inr r ↦
+          let f = from_place (pair_choice net) (is_free_pair net rows) _ c r in
+          subst (λ d. is_ordered d ≡ true) f.is (lt-ltb _ _ (ids_rise net network f.place f.below))
+    ]
+
+-- a list without a first element has none
+first_of_none : {X : Type 0} (xs : List X) (x : X) → slice_get xs 0 ≡ None → Contains xs x → ⊥
+first_of_none xs x none h =
+    let lt = h.1 in
+    let at = slice_get-get_or xs 0 x (omega arith) in
+    cc
+
+module _ (net : Net) (network : IsNetwork net) (rows : RowsValue) (sized : IsSized net rows) (penalty budget : ℕ) (path : List Decision)
+    (list : IsChoiceList net rows path) (best ceiling : ℕ) where
+  abbrev task : Task
+  task = whole_task net rows penalty budget
+
+  pub found_cycle : HasRelaxedCycle net rows path → IsSettled task path best ceiling Cycle
+  found_cycle h = record { is_leaf = refl; known = record { cycle = h.cycle; is_cycle = h.is_cycle }; used = λ c e. cc }
+
+  pub found_bound : (c : ℕ) → IsPruned net rows path penalty best c → IsSettled task path best ceiling (Bound c)
+  found_bound c h =
+      record {
+        is_leaf = refl;
+        known = record { cost = record { times = h.times; least = h.least; cost = h.cost }; no_less = h.no_less };
+        used = λ k e. cc;
+      }
+
+  pub found_better : (c : ℕ) (choices old : List Decision) → IsSolved net rows path penalty best c choices → AreBest task old best →
+      IsBetter task path best (record { choices = choices; cost = c })
+  found_better c choices old h are =
+      let done = differences_complete net rows path h.times network sized list
+      (record { least = h.least; none = λ ch v. first_of_none (violated_choices_of net rows path h.times) ch h.nothing v }) in
+      rw h.completes (record {
+        relaxed = record { times = h.times; least = h.least; cost = h.cost };
+        are_best = record {
+          choices = done.in_order;
+          differ = done.differ;
+          costs = record {
+            no_cycle = done.no_cycle;
+            cost = record { times = h.times; least = done.least; cost = h.cost ∙ sym (done.cost penalty) };
+          };
+          own_cost = are.own_cost;
+          of_rows = are.of_rows;
+          no_dearer = let a = h.less in let b = are.no_dearer in omega arith;
+        };
+        less = let a = h.less in omega arith;
+      })
+
+  violated_there : (c : ℕ) (choice : Choice) → IsBranch net rows path penalty best c choice → IsViolatedThere task path choice c
+  violated_there c choice h =
+      record {
+        times = h.times;
+        least = h.least;
+        cost = h.cost;
+        violated = got_is_in (violated_choices_of net rows path h.times) 0 choice h.first;
+      }
+
+  pub found_open : (c : ℕ) (choice : Choice) → IsBranch net rows path penalty best c choice → ceiling ≤ c →
+      IsSettled task path best ceiling (Open c)
+  found_open c choice h dear =
+      record { is_leaf = refl; known = (choice, violated_there c choice h); used = λ k e. let same : c ≡ k = cc in omega arith }
+
+  pub found_split : (c : ℕ) (choice : Choice) (old : List Decision) → IsBranch net rows path penalty best c choice → AreBest task old best →
+      c < ceiling → IsSplit task path ceiling choice
+  unfolding violated_there
+  found_split c choice old h are less =
+      let v = violated_there c choice h in
+      let undecided = violated_is_undecided net rows path h.times choice v.violated in
+      record {
+        inner = record {
+          no_cycle = h.no_cycle;
+          allowed = undecided.free;
+          cost = c;
+          violated = v;
+          own_cost = are.own_cost;
+          of_rows = are.of_rows;
+          cheaper = let a = h.less in let b = are.no_dearer in omega arith;
+        };
+        ordered = free_is_ordered net network rows choice undecided.free;
+        below = omega arith;
+      }

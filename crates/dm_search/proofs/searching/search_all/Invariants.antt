@@ -1,0 +1,16 @@
+use Rattle.std.proofs.Common.{◌-◌, ◌≤◌, length, reverse}
+use Rattle.dm_tree.specs.Plans.{whole_task}
+use Rattle.dm_search.specs.Inside.Searching.{AreBest, IsSearched}
+use Rattle.dm_search.proofs.searching.search_all.Given as goal
+
+abbrev pub invariant-loop-node : goal.invariant-loop-node
+invariant-loop-node l =
+    record {
+      best : AreBest (whole_task l.net l.snapshot.rows l.penalty l.budget) l.now.choices l.now.cost;
+      search : IsSearched (whole_task l.net l.snapshot.rows l.penalty l.budget) l.limit l.now.cost l.search.nodes.items
+          (reverse l.search.due.items) l.search.path.items;
+      no_dearer : l.now.cost ≤ l.fn.best.cost;
+    }
+
+abbrev pub decreases-loop-node : goal.decreases-loop-node
+decreases-loop-node l = l.budget - length l.search.nodes.items

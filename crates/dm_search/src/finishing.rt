@@ -1,0 +1,224 @@
+//! A search that ends with a true plan.
+ghost use Rattle.std.specs.Prelude.{◌≡◌, ◌≤◌, List, IfOk, map, fold};
+ghost use Rattle.std.specs.List.{list_any};
+ghost use Rattle.dm_base.specs.declared.limits.TheConstants.{PENALTY, BUDGET};
+ghost use Rattle.dm_rows.specs.Rows.{IsSized};
+ghost use Rattle.dm_rows.specs.Cost.{Costs};
+ghost use Rattle.dm_rows.specs.Decide.{IsChoiceList, with_decisions};
+ghost use Rattle.dm_tree.specs.Plans.{whole_task, IsTruePlan};
+ghost use Rattle.dm_search.specs.Finish.{IsStart};
+ghost use Rattle.dm_search.specs.Inside.Searching.{Stands};
+ghost use Rattle.dm_search.specs.Inside.Ending.{closed, carried, least_with, bound_of, is_open, mark_of, IsPlanOf};
+
+use crate::searching::{Best, Standing, pass};
+use dm_base::{Cost, Items};
+use dm_network::Network;
+use dm_relax::with_decisions;
+use dm_rows::{Decision, Rows, Snapshot};
+use dm_times::{cost, least};
+use dm_tree::{Mark, Node, Partial, Plan, Tree};
+use std::alloc::{AllocError, Global};
+
+/// How often a tree is gone through before the limit is lifted.
+const PASSES: usize = 256;
+
+/// A true plan for the rows of a snapshot, with the snapshot's entry and a tree of at most `budget` nodes, of which there are
+/// 1 to 16,384. It searches each hole of the tree that it is given, and each open leaf while there is room for two nodes more:
+/// first those that cost least. The choices that it begins with cost no more than the rows by themselves; a tree of one hole and no choices
+/// will do where the rows have no cycle. The penalty is in seconds for each passenger, at most 1,000,000.
+pub fn finish(
+    alloc: Global,
+    net: &Network,
+    penalty: u64,
+    snapshot: &Snapshot,
+    partial: Partial,
+    best: Vec<Decision>,
+    budget: u64,
+) -> Result<Plan, AllocError>
+    requires sized { IsSized net.now snapshot.now.rows }
+    requires penalty { penalty ≤ PENALTY }
+    requires budget { (1 ≤ budget) × (budget ≤ BUDGET) }
+    requires start { IsStart (whole_task net.now snapshot.now.rows penalty budget) partial best.items }
+    ensures plan { IfOk result (IsTruePlan (whole_task net.now snapshot.now.rows penalty budget)) }
+    ensures entry { IfOk result (λ plan. plan.entry ≡ snapshot.now.entry) }
+{
+    net.sound();
+    let cost = cost_with(alloc, net, penalty, &snapshot.rows, &best)?;
+    let choices = Items::from_vec(best);
+    let standing = Standing {
+        nodes: Vec::from_slice(alloc, partial.as_slice())?,
+        best: Best { choices, cost },
+    };
+    let standing = passes(alloc, net, penalty, snapshot, standing, budget)?;
+    let limit = standing.best.cost;
+    let standing = pass(alloc, net, penalty, snapshot, standing, budget, limit)?;
+    plan_of(alloc, snapshot.entry, standing)
+}
+
+/// Goes through the tree with a limit that rises from the least cost of an open leaf, so that the budget is spent where least
+/// is known.
+fn passes(
+    alloc: Global,
+    net: &Network,
+    penalty: u64,
+    snapshot: &Snapshot,
+    standing: Standing,
+    budget: u64,
+) -> Result<Standing, AllocError>
+    requires sized { IsSized net.now snapshot.now.rows }
+    requires penalty { penalty ≤ PENALTY }
+    requires budget { budget ≤ BUDGET }
+    requires stands { Stands (whole_task net.now snapshot.now.rows penalty budget) standing.nodes.items standing.best.choices standing.best.cost }
+    ensures { IfOk result (λ s. Stands (whole_task net.now snapshot.now.rows penalty budget) s.nodes.items s.best.choices s.best.cost) }
+{
+    let mut standing = standing;
+    for _ in 0..PASSES {
+        let Some(limit) = next_limit(&standing.nodes, standing.best.cost, budget) else {
+            return Ok(standing);
+        };
+        standing = pass(alloc, net, penalty, snapshot, standing, budget, limit)?;
+    }
+    Ok(standing)
+}
+
+/// The limit of the next pass: a sixteenth of the way from the least cost of an open leaf up to the best cost; 0 where there
+/// are holes, of which the costs are not known yet; and None where no open leaf costs less or two nodes more have no room.
+fn next_limit(nodes: &[Node], best: Cost, budget: u64) -> Option<Cost> {
+    if nodes.iter().any(|node| matches!(node, Node::Hole)) {
+        return Some(0);
+    }
+    let low = least_open(nodes, best);
+    let room = nodes.len() as u128 + 2 <= budget as u128;
+    if low < best && room {
+        Some(low + (best - low) / 16 + 1)
+    } else {
+        None
+    }
+}
+
+/// The least cost of an open leaf, or that of the best choices where none costs less.
+fn least_open(nodes: &[Node], best: Cost) -> Cost
+    ensures { result ≤ best }
+{
+    let mut low = best;
+    for node in nodes {
+        low = lower(low, *node);
+    }
+    low
+}
+
+fn lower(low: Cost, node: Node) -> Cost
+    ensures { result ≤ low }
+{
+    match node {
+        Node::Open(cost) => low.min(cost),
+        Node::Inner(_) | Node::Cycle | Node::Bound(_) | Node::Hole => low,
+    }
+}
+
+/// What the rows cost with choices with which they have no cycle.
+fn cost_with(
+    alloc: Global,
+    net: &Network,
+    penalty: u64,
+    rows: &Rows,
+    choices: &[Decision],
+) -> Result<Cost, AllocError>
+    requires sized { IsSized net.now rows.now }
+    requires penalty { penalty ≤ PENALTY }
+    requires list { IsChoiceList net.now rows.now choices.now }
+    ensures { IfOk result (Costs net.now (with_decisions net.now rows.now choices.now) penalty) }
+{
+    let set = with_decisions(alloc, net, rows, choices)?;
+    // Rows without a cycle have no times for want of memory alone.
+    let Ok(times) = least(alloc, net, &set) else {
+        return Err(AllocError);
+    };
+    Ok(cost(net, &set, &times, penalty))
+}
+
+/// The plan with these choices and nodes.
+fn plan_of(alloc: Global, entry: u32, standing: Standing) -> Result<Plan, AllocError>
+    ensures { IfOk result (IsPlanOf entry standing.nodes.items standing.best.choices standing.best.cost) }
+{
+    let Standing { nodes, best } = standing;
+    let closed = closed_nodes(alloc, &nodes, best.cost)?;
+    let bound = bound_of(&closed, best.cost);
+    let mark = mark_of(&closed);
+    // Settled nodes are a whole tree, so that only memory may be missing.
+    let Ok(tree) = Tree::from_nodes(alloc, closed) else {
+        return Err(AllocError);
+    };
+    Ok(Plan {
+        entry,
+        choices: best.choices,
+        cost: best.cost,
+        bound,
+        mark,
+        tree,
+    })
+}
+
+/// The nodes, with a bound for each open leaf that costs no less than the best choices.
+fn closed_nodes(alloc: Global, nodes: &[Node], best: Cost) -> Result<Vec<Node>, AllocError>
+    ensures { IfOk result (λ ns. ns.items ≡ map (closed best) nodes.now) }
+{
+    let mut all = Vec::new(alloc);
+    for node in nodes {
+        all.push(closed(*node, best))?;
+    }
+    Ok(all)
+}
+
+fn closed(node: Node, best: Cost) -> Node
+    ensures { result ≡ closed best node }
+{
+    match node {
+        Node::Open(cost) if best <= cost => Node::Bound(cost),
+        Node::Inner(_) | Node::Cycle | Node::Bound(_) | Node::Open(_) | Node::Hole => node,
+    }
+}
+
+/// The least cost that a leaf carries, or that of the best choices where no leaf carries less.
+fn bound_of(nodes: &[Node], best: Cost) -> Cost
+    ensures { result ≡ bound_of best nodes.now }
+{
+    let mut bound = best;
+    for node in nodes {
+        bound = least_with(bound, *node);
+    }
+    bound
+}
+
+/// The lesser of a bound and what a leaf carries.
+fn least_with(bound: Cost, node: Node) -> Cost
+    ensures { result ≡ least_with bound (carried node) }
+{
+    match node {
+        Node::Bound(cost) | Node::Open(cost) => bound.min(cost),
+        Node::Inner(_) | Node::Cycle | Node::Hole => bound,
+    }
+}
+
+/// Open where some leaf is left open.
+fn mark_of(nodes: &[Node]) -> Mark
+    ensures { result ≡ mark_of nodes.now }
+{
+    if some_open(nodes) {
+        Mark::Open
+    } else {
+        Mark::Optimal
+    }
+}
+
+fn some_open(nodes: &[Node]) -> bool
+    ensures { result ≡ list_any is_open nodes.now }
+{
+    nodes.iter().any(|node| is_open(*node))
+}
+
+fn is_open(node: Node) -> bool
+    ensures { result ≡ is_open node }
+{
+    matches!(node, Node::Open(_))
+}
