@@ -91,14 +91,7 @@ fn answer_over<
     ensures { IfOk result (λ day. AnswersDay S.left S.is_sound P.base.network P.base.start P.base.penalty feeds.items batch day.table day.logs.items) }
 {
     let logs = answer_feeds::<P, R, S, L, H>(
-        rt,
-        alloc,
-        &server,
-        &mut main,
-        feeds,
-        planner,
-        gate,
-        batch,
+        rt, alloc, &server, &mut main, feeds, planner, gate, batch,
     )?;
     let table = server.close(main);
     Ok(AnsweredDay { table, logs })

@@ -48,14 +48,7 @@ impl<'n, S: Source + Drop> Work<'n, S> {
             answer: _,
         } = self;
         let (pass, answer) = answer_seated::<Brand, R, S, L, H>(
-            rt,
-            server,
-            pass,
-            &mut job,
-            planner,
-            gate,
-            feed,
-            batch,
+            rt, server, pass, &mut job, planner, gate, feed, batch,
         );
         Work {
             pass,

@@ -30,7 +30,7 @@ returns g c =
 pub answer_over-requires-clause-plans : goal.answer_over-requires-clause-plans
 answer_over-requires-clause-plans g c =
     λ lifetimes bounds.
-        let base : Base = record { network = c.args.net.now; start = c.args.rows; penalty = c.args.penalty } in
-        let main = c.in_ok-server.main in
-        let there : base_in main.base ≡ base = base_is main.base base (ap (λ (p : PassValue Base). p.base) c.in_ok-server.ensures.pass) in
-        subst (λ (b : Base). PlansUnder (g.L.Planner.value c.args.planner.now) (setting_of b)) (sym there) c.requires.plans
+    let base : Base = record { network = c.args.net.now; start = c.args.rows; penalty = c.args.penalty } in
+    let main = c.in_ok-server.main in
+    let there : base_in main.base ≡ base = base_is main.base base (ap (λ (p : PassValue Base). p.base) c.in_ok-server.ensures.pass) in
+    subst (λ (b : Base). PlansUnder (g.L.Planner.value c.args.planner.now) (setting_of b)) (sym there) c.requires.plans

@@ -3,7 +3,7 @@ use Rattle.dm_crew.proofs.Desks.{adopts_plan, same_posted, true_of}
 use Rattle.dm_crew.proofs.desk.adopt.Goals as goal
 
 pub adopt-requires-clause-plan : goal.adopt-requires-clause-plan
-adopt-requires-clause-plan g c = λ lifetimes bounds. true_of c.args.pass.now c.args.plan.now c.requires.plan
+adopt-requires-clause-plan g c = true_of c.args.pass.now c.args.plan.now c.requires.plan
 
 pub returns-clause-same : goal.returns-clause-same
 returns-clause-same g c = same_posted c.args.pass.now c.adopt.new.pass (adopts c.args.plan.now c.args.feed c.args.line) c.adopt.result c.adopt.ensures.entered c.adopt.ensures.looked

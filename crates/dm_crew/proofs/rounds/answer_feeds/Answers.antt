@@ -40,7 +40,7 @@ answer_round-requires-clause-can_read g c =
 pub answer_round-requires-clause-are_true : goal.answer_round-requires-clause-are_true
 answer_round-requires-clause-are_true g c =
     λ lifetimes bounds.
-        are_true_all g.S.Source.left g.S.Source.is_sound c.args.batch c.requires.some c.args.feeds.items (desk_of g.P.Seat.base c.args.main.now) c.loop.invariant.1.rounds c.loop.invariant.1.low (desk_of g.P.Seat.base c.loop.main) c.loop.jobs.items 0 c.loop.invariant.1.state
+    are_true_all g.S.Source.left g.S.Source.is_sound c.args.batch c.requires.some c.args.feeds.items (desk_of g.P.Seat.base c.args.main.now) c.loop.invariant.1.rounds c.loop.invariant.1.low (desk_of g.P.Seat.base c.loop.main) c.loop.jobs.items 0 c.loop.invariant.1.state
 
 pub answer_round-requires-clause-few : goal.answer_round-requires-clause-few
 answer_round-requires-clause-few g c = omega (arith, c.loop.jobs.ok.0, c.loop.invariant.1.state.as_many, c.requires.few)
