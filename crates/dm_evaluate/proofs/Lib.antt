@@ -9,3 +9,4 @@ pub mod Lists
 pub mod Decided
 pub mod Rooted
 pub mod Violating
+pub mod Placed
