@@ -10,3 +10,4 @@ pub mod Decided
 pub mod Rooted
 pub mod Violating
 pub mod Placed
+pub mod Open

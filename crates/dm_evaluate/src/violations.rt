@@ -5,10 +5,12 @@ ghost use Rattle.dm_rows.specs.declared.messages.Decision.{Decision};
 ghost use Rattle.dm_rows.specs.Decide.{pair_choice};
 ghost use Rattle.dm_rows.specs.Relax.{is_undecided_change, is_undecided_pair, has_unmet_from};
 ghost use Rattle.dm_rows.specs.Rows.{IsSized};
+ghost use Rattle.dm_relax.specs.Relaxed.{first_violated};
 ghost use Rattle.dm_evaluate.specs.Evaluator.{AreFlags};
 ghost use Rattle.dm_evaluate.specs.Inside.Violations.{first_violated_change, first_violated_pair};
 
 use crate::headways::is_headway_of;
+use crate::undecided::Undecided;
 use dm_base::Steps;
 use dm_network::Network;
 use dm_rows::{Choice, Rows};
@@ -16,8 +18,30 @@ use dm_settle::Times;
 use dm_times::comes_too_early;
 use std::sync::ledger::Ledger;
 
+/// The first undecided choice that is violated, the changes in ascending id and then the pairs, or None where nothing is. The
+/// flags are of the undecided changes and pairs.
+pub fn first_violated<L: Ledger>(
+    net: &Network,
+    rows: &Rows,
+    undecided: &Undecided,
+    times: &Times,
+    steps: &mut Steps<L>,
+) -> Option<Choice>
+    requires sized { IsSized net.now rows.now }
+    requires changes { length undecided.now.changes.items ≡ length net.now.activities }
+    requires pairs { length undecided.now.pairs.items ≡ length net.now.pairs }
+    requires size { length times.now ≡ length net.now.events }
+    ensures { (path : List Decision) → AreFlags (is_undecided_change net.now rows.now path) (length net.now.activities) undecided.now.changes.items → AreFlags (is_undecided_pair net.now rows.now path) (length net.now.pairs) undecided.now.pairs.items → result ≡ first_violated net.now rows.now path times.now }
+{
+    let change = first_violated_change(net, rows, &undecided.changes, times);
+    if change.is_some() {
+        return change;
+    }
+    first_violated_pair(net, rows, &undecided.pairs, times, steps)
+}
+
 /// The first undecided change, in ascending id, whose head comes too early. The flags are of the undecided changes.
-pub fn first_violated_change(
+fn first_violated_change(
     net: &Network,
     rows: &Rows,
     changes: &[bool],
@@ -38,7 +62,7 @@ pub fn first_violated_change(
 
 /// The first undecided pair, in ascending order of its ids, of which neither direction has all its headways met. The flags
 /// are of the undecided pairs. Only rows of events of undecided pairs are read.
-pub fn first_violated_pair<L: Ledger>(
+fn first_violated_pair<L: Ledger>(
     net: &Network,
     rows: &Rows,
     pairs: &[bool],

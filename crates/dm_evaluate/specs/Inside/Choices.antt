@@ -1,5 +1,5 @@
 -- Choices by place.
-use Rattle.std.specs.Prelude.{ℕ, ◌≡◌, ◌≢◌, ◌<◌, length}
+use Rattle.std.specs.Prelude.{ℕ, Bool, ◌≡◌, ◌≢◌, ◌<◌, length}
 use Rattle.dm_network.specs.Net.{Net}
 use Rattle.dm_rows.specs.declared.messages.Choice.{Choice}
 use Rattle.dm_rows.specs.Decide.{change_choice, pair_choice}
@@ -15,3 +15,8 @@ IsPlaceOf net choice (Pair p) = (p < length net.pairs) × (pair_choice net p ≡
 pub record HasNoPlace (net : Net) (choice : Choice) : Type 0 where
   pub changes : (a : ℕ) → a < length net.activities → change_choice net a ≢ choice
   pub pairs : (p : ℕ) → p < length net.pairs → pair_choice net p ≢ choice
+
+-- the test of the changes, of the pairs at a place
+abbrev pub at_place : (ℕ → Bool) → (ℕ → Bool) → Place → Bool
+at_place changes pairs (Change a) = changes a
+at_place changes pairs (Pair p) = pairs p
