@@ -21,10 +21,13 @@ use Rattle.dm_relax.specs.Relaxed.{first_violated}
 use Rattle.dm_evaluate.specs.declared.choices.Place.{Place}
 use Rattle.dm_evaluate.specs.declared.choices.Place.TheVariants.{Change, Pair}
 use Rattle.dm_evaluate.specs.Evaluator.{AreFlags, IsOpen}
-use Rattle.dm_evaluate.specs.Inside.Choices.{IsPlaceOf, HasNoPlace, at_place}
+use Rattle.dm_evaluate.specs.Inside.Choices.{IsPlaceOf, HasNoPlace, IsWithin, at_place}
 use Rattle.dm_evaluate.specs.Inside.Undecided.{HasFlagFor}
 use Rattle.dm_evaluate.proofs.Lists.{mapped, apart_from_once}
+use Rattle.dm_evaluate.specs.Inside.Violations.{is_unmet_pair}
 use Rattle.dm_evaluate.proofs.Paths.{one_passes}
+use Rattle.dm_evaluate.proofs.Violating.{violated_change_by, violated_pair_by}
+use Rattle.dm_tree.specs.Relaxed.{IsViolated}
 
 module _ (net : Net) (changes pairs : ℕ → Bool) where
   pub place_is_listed : (choice : Choice) (place : Place) → IsPlaceOf net choice place → at_place changes pairs place ≡ true →
@@ -151,3 +154,30 @@ pub flag_is : (net : Net) (rows : RowsValue) (path : List Decision) (choice : Ch
     at_place (is_flagged changes) (is_flagged pairs) place ≡ at_place (is_undecided_change net rows path) (is_undecided_pair net rows path) place
 flag_is net rows path choice (Change a) is changes pairs are_changes are_pairs = are_changes.each a is.0
 flag_is net rows path choice (Pair p) is changes pairs are_changes are_pairs = are_pairs.each p is.0
+
+-- the place of a choice is within the network
+pub is_within : (net : Net) (choice : Choice) (place : Place) → IsPlaceOf net choice place → IsWithin net place
+is_within net choice (Change a) is = is.0
+is_within net choice (Pair p) is = is.0
+
+-- a choice is violated where its flag is set and the times do not keep it
+module _ (net : Net) (network : IsNetwork net) (rows : RowsValue) (path : List Decision) (x : List ℕ) (choice : Choice) (place : Place) (is : IsPlaceOf net choice place)
+    (changes pairs : List Bool) (are_changes : AreFlags (is_undecided_change net rows path) (length net.activities) changes)
+    (are_pairs : AreFlags (is_undecided_pair net rows path) (length net.pairs) pairs) where
+  violated_at : (at : Place) → IsPlaceOf net choice at →
+      at_place (is_violated_change net rows path x) (is_violated_pair net rows path x) at
+      ≡ (at_place (is_flagged changes) (is_flagged pairs) at && at_place (comes_too_early net rows x) (is_unmet_pair net rows x) at)
+  violated_at (Change a) there = violated_change_by net rows path x changes are_changes a there.0
+  violated_at (Pair p) there = violated_pair_by net rows path x pairs are_pairs p there.0
+
+  pub violated_where : (at_place (is_flagged changes) (is_flagged pairs) place && at_place (comes_too_early net rows x) (is_unmet_pair net rows x) place) ≡ true →
+      IsViolated net rows path x choice
+  violated_where h = place_is_listed net (is_violated_change net rows path x) (is_violated_pair net rows path x) choice place is (violated_at place is ∙ h)
+
+  pub where_violated : IsViolated net rows path x choice →
+      (at_place (is_flagged changes) (is_flagged pairs) place && at_place (comes_too_early net rows x) (is_unmet_pair net rows x) place) ≡ true
+  where_violated h =
+      sym (violated_at place is) ∙ listed_at_place net (is_violated_change net rows path x) (is_violated_pair net rows path x) network choice place is h
+
+pub not_violated : (net : Net) (rows : RowsValue) (path : List Decision) (x : List ℕ) (choice : Choice) → HasNoPlace net choice → IsViolated net rows path x choice → ⊥
+not_violated net rows path x choice none h = none_is_listed net (is_violated_change net rows path x) (is_violated_pair net rows path x) choice none h

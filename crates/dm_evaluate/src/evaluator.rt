@@ -5,7 +5,7 @@ ghost use Rattle.dm_rows.specs.Rows.{IsSized};
 ghost use Rattle.dm_rows.specs.Decide.{choice_of};
 ghost use Rattle.dm_rows.specs.Relax.{is_decided, is_relaxed_active};
 ghost use Rattle.dm_times.specs.Faults.{RefusesHolding};
-ghost use Rattle.dm_tree.specs.Relaxed.{IsRelaxedLeast, relaxed_cost_of, IsRelaxedCycle, HasNoRelaxedCycle};
+ghost use Rattle.dm_tree.specs.Relaxed.{IsRelaxedLeast, relaxed_cost_of, IsRelaxedCycle, HasNoRelaxedCycle, IsViolated};
 ghost use Rattle.dm_relax.specs.Relaxed.{first_violated};
 ghost use Rattle.dm_evaluate.specs.Evaluator.{IsEvaluatorOf, IsOpen, times_of, cycle_of, path_without};
 
@@ -16,7 +16,7 @@ use crate::places::{is_decided, place_of};
 use crate::starting::root_timetable;
 use crate::turning::{turn_off, turn_on};
 use crate::undecided::Undecided;
-use crate::violations::first_violated;
+use crate::violations::{first_violated, is_violated};
 use dm_base::{Cost, Steps};
 use dm_graph::search::Cyclic;
 use dm_network::Network;
@@ -189,6 +189,19 @@ impl Evaluator {
     {
         net.sound();
         first_violated(net, &self.rows, &self.undecided, self.times(), steps)
+    }
+
+    /// Whether a choice is open and the times do not keep it.
+    pub fn is_violated<L: Ledger>(
+        &self,
+        net: &Network,
+        choice: Choice,
+        steps: &mut Steps<L>,
+    ) -> bool
+        requires { IsEvaluatorOf net.now self.now }
+        ensures { IsTrue result ↔ IsViolated net.now self.now.rows self.now.path (times_of self.now) choice }
+    {
+        is_violated(net, &self.rows, &self.undecided, self.times(), choice, steps)
     }
 
     /// The activities of the cycle for which a decision was refused last, each head the next tail.

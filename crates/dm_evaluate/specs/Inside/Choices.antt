@@ -20,3 +20,8 @@ pub record HasNoPlace (net : Net) (choice : Choice) : Type 0 where
 abbrev pub at_place : (ℕ → Bool) → (ℕ → Bool) → Place → Bool
 at_place changes pairs (Change a) = changes a
 at_place changes pairs (Pair p) = pairs p
+
+-- the place is one of the network's
+abbrev pub IsWithin : Net → Place → Type 0
+IsWithin net (Change a) = a < length net.activities
+IsWithin net (Pair p) = p < length net.pairs
