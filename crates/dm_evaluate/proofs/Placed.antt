@@ -1,5 +1,5 @@
 -- Choices found by their ids.
-use Rattle.std.proofs.Common.{◌≡◌, ℕ, ◌<◌, Bool, true, false, length, Some, None, Option, refl, sym, ap, subst, ◌∙◌, ◌⊎◌, inl, inr, arith}
+use Rattle.std.proofs.Common.{◌≡◌, ℕ, ◌<◌, length, Some, None, sym, ap, ◌∙◌, inl, inr}
 use Rattle.std.specs.Prelude.{◌==◌}
 use Rattle.std.proofs.lemmas.Bool.{eqb-true}
 use Rattle.std.proofs.lemmas.List.Quantifiers.{position-Some}
@@ -9,7 +9,6 @@ use Rattle.dm_network.specs.Net.{Net, event_at, activity_at, pair_at, event_plac
 use Rattle.dm_network.specs.Pairs.{joins, pair_place}
 use Rattle.dm_network.specs.Start.{IsNetwork}
 use Rattle.dm_network.proofs.PairKeys.{joins-true}
-use Rattle.dm_rows.specs.declared.messages.Choice.{Choice}
 use Rattle.dm_rows.specs.declared.messages.Choice.TheVariants.{Change, Pair}
 use Rattle.dm_rows.specs.Decide.{change_choice, pair_choice}
 use Rattle.dm_rows.proofs.PairEnds.{small_is_event, large_is_event}

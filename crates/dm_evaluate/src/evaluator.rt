@@ -9,8 +9,8 @@ ghost use Rattle.dm_tree.specs.Relaxed.{IsRelaxedLeast, relaxed_cost_of, IsRelax
 ghost use Rattle.dm_relax.specs.Relaxed.{first_violated};
 ghost use Rattle.dm_evaluate.specs.Evaluator.{IsEvaluatorOf, IsOpen, times_of, cycle_of, path_without};
 
-use crate::free::all_undecided;
 use crate::choices::place_of_choice;
+use crate::free::all_undecided;
 use crate::naming::flip_of;
 use crate::places::{is_decided, place_of};
 use crate::starting::root_timetable;
@@ -201,7 +201,14 @@ impl Evaluator {
         requires { IsEvaluatorOf net.now self.now }
         ensures { IsTrue result ↔ IsViolated net.now self.now.rows self.now.path (times_of self.now) choice }
     {
-        is_violated(net, &self.rows, &self.undecided, self.times(), choice, steps)
+        is_violated(
+            net,
+            &self.rows,
+            &self.undecided,
+            self.times(),
+            choice,
+            steps,
+        )
     }
 
     /// The activities of the cycle for which a decision was refused last, each head the next tail.

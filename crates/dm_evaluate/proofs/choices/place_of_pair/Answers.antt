@@ -1,8 +1,6 @@
-use Rattle.std.proofs.Common.{◌≡◌, ℕ, Some, sym, ap, subst, ◌∙◌, arith, ◌≢◌}
-use Rattle.dm_network.specs.Net.{pair_at}
+use Rattle.std.proofs.Common.{◌≡◌, sym, ap, ◌∙◌, arith}
 use Rattle.dm_network.specs.declared.parts.Pair.{Pair as PairAt}
 use Rattle.dm_evaluate.proofs.Placed.{pair_named, no_first_named, no_second_named, no_pair_named, turned_pair_named}
-use Rattle.dm_evaluate.proofs.Open.{open_list}
 use Rattle.dm_evaluate.proofs.choices.place_of_pair.Goals as goal
 
 pub returns-in_default-clause-none : goal.returns-in_default-clause-none
