@@ -1,8 +1,6 @@
-//! The tests of relaxed problems, of evaluators and of searches: worked paths and plans, and walks. It stands on every crate that its tests call, and promises nothing.
+//! The tests of relaxed problems and of searches: worked paths and plans. It stands on every crate that its tests call, and promises nothing.
 #![tactic(auto)]
 
-#[cfg(test)]
-mod evaluated;
 #[cfg(test)]
 mod plans;
 #[cfg(test)]

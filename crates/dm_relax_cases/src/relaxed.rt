@@ -44,14 +44,7 @@ fn event(id: u32, kind: EventKind, time: u64, weight: u64, stop: u32) -> EventRo
     }
 }
 
-pub(crate) fn activity(
-    id: u32,
-    kind: ActKind,
-    tail: u32,
-    head: u32,
-    lower: u64,
-    weight: u64,
-) -> ActRow {
+fn activity(id: u32, kind: ActKind, tail: u32, head: u32, lower: u64, weight: u64) -> ActRow {
     ActRow {
         id: ActId(id),
         kind,
@@ -62,7 +55,7 @@ pub(crate) fn activity(
     }
 }
 
-pub(crate) fn events(alloc: Global) -> Result<Vec<EventRow>, AllocError> {
+fn events(alloc: Global) -> Result<Vec<EventRow>, AllocError> {
     let rows = vec![in alloc;
         event(1, EventKind::Departure, 100, 10_000, 1),
         event(2, EventKind::Arrival, 200, 10_000, 2),
@@ -74,7 +67,7 @@ pub(crate) fn events(alloc: Global) -> Result<Vec<EventRow>, AllocError> {
     Ok(rows)
 }
 
-pub(crate) fn activities(alloc: Global) -> Result<Vec<ActRow>, AllocError> {
+fn activities(alloc: Global) -> Result<Vec<ActRow>, AllocError> {
     let rows = vec![in alloc;
         activity(1, ActKind::Drive, 1, 2, 90, 10_000),
         activity(2, ActKind::Wait, 2, 3, 10, 10_000),
@@ -95,15 +88,6 @@ pub(crate) fn connection(alloc: Global) -> Result<Network, NetFault> {
     let Ok(activities) = activities(alloc) else {
         return Err(NetFault::OutOfMemory);
     };
-    network_of(alloc, events, activities)
-}
-
-/// The network of these records, if their numbers are small.
-pub(crate) fn network_of(
-    alloc: Global,
-    events: Vec<EventRow>,
-    activities: Vec<ActRow>,
-) -> Result<Network, NetFault> {
     if small_events(&events) && small_activities(&activities) {
         Network::build(alloc, events, activities)
     } else {
