@@ -1,0 +1,2 @@
+-- States of loops.
+pub mod Walking
