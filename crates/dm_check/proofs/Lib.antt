@@ -1,1 +1,4 @@
 pub mod Spelled
+pub mod Timed
+pub mod Entered
+pub mod Timetabled

@@ -27,7 +27,8 @@ use Rattle.dm_cert.specs.PlansRead.{size_words, IsChoiceLine, IsLeafLine, IsNode
 use Rattle.dm_cert.specs.RunTexts.{Run, run_text, header_text, entry_text, entries_text, item_text, reply_text, feed_text, stop_text, log_text, logs_text, note_text, time_text, timetable_text, boards_text, heading_text, ending_text}
 use Rattle.dm_cert.proofs.ToldTexts.{line_told}
 use Rattle.dm_records.specs.RunLines.{Opening, PlanOpening, ItemLine, lone, planned, Timed, IsNumberLine, IsVersionLine, IsEntryLine, IsOpeningLine, IsItemLine, IsStopLine, IsNoteLine, IsTimeLine, IsWordLine, opening_text}
-use Rattle.dm_check.specs.FalseRecords.{Fault, bad, Reads, Rules, TellsEntry, TellsItem, TellsBehind, TellsLog, TellsBoards, TellsNote, TellsTime, TellsCost, TellsEnd, TellsNumber, TellsRest, TellsBody, IsNextPlan, IsGood, plan_opened}
+use Rattle.dm_check.specs.declared.faults.Fault.{Fault}
+use Rattle.dm_check.specs.FalseRecords.{bad, Reads, Rules, TellsEntry, TellsItem, TellsBehind, TellsLog, TellsBoards, TellsNote, TellsTime, TellsCost, TellsEnd, TellsNumber, TellsRest, TellsBody, IsNextPlan, IsGood, plan_opened}
 use Rattle.dm_check.specs.Laws.{IsSpelledIn}
 use Rattle.dm_check.specs.declared.verdicts.BadKind.{BadKind}
 

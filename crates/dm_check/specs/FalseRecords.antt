@@ -27,16 +27,13 @@ use Rattle.dm_cert.specs.PlansRead.{IsChoiceLine, IsLeafLine, IsNodeLine, ShowsL
 use Rattle.dm_cert.specs.RunTexts.{Run}
 use Rattle.dm_cert.specs.Runs.{IsTrueNote}
 use Rattle.dm_records.specs.RunLines.{Numbered, PlanOpening, ItemLine, lone, planned, Timed, IsNumberLine, IsVersionLine, IsEntryLine, IsOpeningLine, IsItemLine, IsStopLine, IsNoteLine, IsTimeLine, IsWordLine}
+use Rattle.dm_check.specs.declared.faults.Fault.{Fault}
 use Rattle.dm_check.specs.declared.verdicts.BadKind.{BadKind}
 use Rattle.dm_check.specs.declared.verdicts.BadKind.TheVariants as kind
 use Rattle.dm_check.specs.declared.verdicts.Verdict.{Verdict}
 use Rattle.dm_check.specs.declared.verdicts.Verdict.TheVariants.{Good, Bad}
 
 -- ---- faults, each told by its line and its kind
-
-pub record Fault : Type 0 where
-  pub line : ℕ
-  pub kind : BadKind
 
 abbrev pub bad : BadKind → ℕ → Fault
 bad k line = record { line = line; kind = k }

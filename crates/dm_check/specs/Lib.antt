@@ -1,3 +1,4 @@
 -- How the lines of a run's text are written, and which is the first record that breaks its rule.
 pub mod FalseRecords
+pub mod Judged
 pub mod Laws

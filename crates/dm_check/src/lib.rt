@@ -5,7 +5,12 @@
 //! must say after those before it, and of which kind and at which line its fault is.
 #![tactic(auto)]
 
+mod faults;
 pub mod laws;
+mod told_entries;
+mod told_lines;
+mod told_records;
 mod verdicts;
 
+pub use faults::{Fault, Stop};
 pub use verdicts::{BadKind, Verdict};

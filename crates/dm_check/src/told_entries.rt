@@ -1,0 +1,115 @@
+//! Entries of a text, each accepted by the rows after those before it.
+ghost use Rattle.std.specs.Prelude.{ℕ, ◌≡◌, ◌+◌, ◌<◌, ◌≤◌, List, length, OnOk};
+ghost use Rattle.dm_base.specs.declared.limits.TheConstants.{ENTRIES, FEEDS};
+ghost use Rattle.dm_rows.specs.declared.messages.Entry.{Entry as EntryValue};
+ghost use Rattle.dm_rows.specs.Rows.{IsSized};
+ghost use Rattle.dm_cert.specs.Answers.{Setting};
+ghost use Rattle.dm_claims.specs.Claims.{IsRoomFor, Tells};
+ghost use Rattle.dm_records.specs.Readings.{numbered};
+ghost use Rattle.dm_check.specs.Judged.{IsAfter, IsInTurn, TellsNextEntry, TellsEntries};
+
+use crate::faults::{Fault, Stop};
+use crate::told_lines::entry_told;
+use crate::verdicts::BadKind;
+use dm_claims::{Evaluator, accept};
+use dm_network::Network;
+use dm_records::EntryLine;
+use dm_rows::{Entry, Rows};
+use dm_text::Lines;
+use std::alloc::{AllocError, Global};
+
+/// The next entry, behind so many. The rows are then those after it.
+pub(crate) fn next_entry(
+    alloc: Global,
+    lines: &mut Lines,
+    net: &Network,
+    evaluator: &mut Evaluator,
+    rows: &mut Rows,
+    feeds: usize,
+    entries: usize,
+) -> Result<Entry, Stop>
+    requires sized { IsSized net.now rows.old }
+    requires room { IsRoomFor net.now evaluator.old }
+    requires few { entries < ENTRIES }
+    requires few_feeds { feeds ≤ FEEDS }
+    ensures tells { (s : Setting) (before : List EntryValue) → IsAfter s net.now before entries rows.old → TellsNextEntry s feeds before entries lines.old lines.new rows.new result }
+    ensures sized { OnOk result (IsSized net.now rows.new) }
+    ensures room { IsRoomFor net.now evaluator.new }
+{
+    let line = lines.line();
+    let said = match entry_told(alloc, lines) {
+        Ok(said) => said,
+        Err(stop) => return Err(stop),
+    };
+    if !is_in_turn(&said, feeds, entries) {
+        return Err(Stop::Fault(Fault {
+            line,
+            kind: BadKind::Entry,
+        }));
+    }
+    match accept(alloc, net, evaluator, rows, entries, &said.message) {
+        Ok(true) => Ok(entry_of(said)),
+        Ok(false) => Err(Stop::Fault(Fault {
+            line,
+            kind: BadKind::Entry,
+        })),
+        Err(AllocError) => Err(Stop::OutOfMemory),
+    }
+}
+
+/// Whether the number is the next, the feed is one of so many, and the line is one.
+fn is_in_turn(said: &EntryLine, feeds: usize, entries: usize) -> bool
+    requires { entries < ENTRIES }
+    ensures { Tells (IsInTurn feeds entries (numbered said.now)) result }
+{
+    said.number as usize == entries + 1 && said.feed <= feeds as u128 && 1 <= said.line
+}
+
+/// The entry of a line whose feed is one of the run's.
+fn entry_of(said: EntryLine) -> Entry
+    requires { said.feed ≤ FEEDS }
+    ensures { result ≡ (numbered said).entry }
+{
+    let EntryLine {
+        feed,
+        line,
+        message,
+        ..
+    } = said;
+    Entry {
+        feed: feed as u32,
+        line,
+        message,
+    }
+}
+
+/// As many entries as the header says. The list grows as lines are found. The rows are then those after all of them.
+pub(crate) fn all_entries(
+    alloc: Global,
+    lines: &mut Lines,
+    net: &Network,
+    evaluator: &mut Evaluator,
+    rows: &mut Rows,
+    feeds: usize,
+    count: u32,
+) -> Result<Vec<Entry>, Stop>
+    requires sized { IsSized net.now rows.old }
+    requires room { IsRoomFor net.now evaluator.old }
+    requires few { count ≤ ENTRIES }
+    requires few_feeds { feeds ≤ FEEDS }
+    ensures tells { (s : Setting) → s.net ≡ net.now → rows.old ≡ s.start → TellsEntries (λ v. v.items) s feeds count lines.old lines.new rows.new result }
+    ensures room { IsRoomFor net.now evaluator.new }
+{
+    let mut entries = Vec::new(alloc);
+    while entries.len() < count as usize {
+        let place = entries.len();
+        let entry = match next_entry(alloc, lines, net, evaluator, rows, feeds, place) {
+            Ok(entry) => entry,
+            Err(stop) => return Err(stop),
+        };
+        let Ok(()) = entries.push(entry) else {
+            return Err(Stop::OutOfMemory);
+        };
+    }
+    Ok(entries)
+}

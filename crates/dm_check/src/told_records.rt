@@ -1,0 +1,191 @@
+//! Records of a text that are one line, with the rule of each.
+ghost use Rattle.std.specs.Prelude.{ℕ, ◌≡◌, ◌<◌, ◌≤◌, List, length, codes};
+ghost use Rattle.dm_base.specs.declared.limits.TheConstants.{FEEDS, ENTRIES, PENALTY};
+ghost use Rattle.dm_rows.specs.Rows.{IsSized};
+ghost use Rattle.dm_rows.specs.Timetable.{IsLeast};
+ghost use Rattle.dm_relaxation.specs.Binding.{AreBelowLimit};
+ghost use Rattle.dm_cert.specs.RunTexts.{Run};
+ghost use Rattle.dm_claims.specs.Claims.{IsRoomFor};
+ghost use Rattle.dm_check.specs.FalseRecords.{TellsNumber, TellsTime, TellsCost, TellsEnd};
+ghost use Rattle.dm_check.specs.Judged.{Judges, TellsTimetable};
+
+use crate::faults::Fault;
+use crate::told_lines::{number_told, time_told, word_told};
+use crate::verdicts::BadKind;
+use dm_base::Cost;
+use dm_base::limits::{ENTRIES, FEEDS};
+use dm_claims::Evaluator;
+use dm_network::Network;
+use dm_rows::Rows;
+use dm_text::Lines;
+
+/// The penalty, which is the command's.
+pub(crate) fn penalty_told(lines: &mut Lines, penalty: u64) -> Result<u128, Fault>
+    ensures { Judges (TellsNumber (codes "penalty ") (λ n. n ≡ penalty)) (λ n. n) lines.old lines.new result }
+{
+    let line = lines.line();
+    let number = match number_told(lines, "penalty ") {
+        Ok(number) => number,
+        Err(fault) => return Err(fault),
+    };
+    if number == penalty as u128 {
+        Ok(number)
+    } else {
+        Err(Fault {
+            line,
+            kind: BadKind::Form,
+        })
+    }
+}
+
+/// How many feeds there are.
+pub(crate) fn feeds_told(lines: &mut Lines) -> Result<usize, Fault>
+    ensures { Judges (TellsNumber (codes "feeds ") (λ n. (1 ≤ n) × (n ≤ FEEDS))) (λ n. n) lines.old lines.new result }
+{
+    let line = lines.line();
+    let number = match number_told(lines, "feeds ") {
+        Ok(number) => number,
+        Err(fault) => return Err(fault),
+    };
+    if 1 <= number && number <= FEEDS as u128 {
+        Ok(number as usize)
+    } else {
+        Err(Fault {
+            line,
+            kind: BadKind::Form,
+        })
+    }
+}
+
+/// How many entries there are.
+pub(crate) fn entries_told(lines: &mut Lines) -> Result<u32, Fault>
+    ensures { Judges (TellsNumber (codes "entries ") (λ n. n ≤ ENTRIES)) (λ n. n) lines.old lines.new result }
+{
+    let line = lines.line();
+    let number = match number_told(lines, "entries ") {
+        Ok(number) => number,
+        Err(fault) => return Err(fault),
+    };
+    if number <= ENTRIES as u128 {
+        Ok(number as u32)
+    } else {
+        Err(Fault {
+            line,
+            kind: BadKind::Form,
+        })
+    }
+}
+
+/// The heading of the times, after all entries.
+pub(crate) fn heading_told(lines: &mut Lines, entries: u32) -> Result<u128, Fault>
+    ensures { Judges (TellsNumber (codes "times ") (λ n. n ≡ entries)) (λ n. n) lines.old lines.new result }
+{
+    let line = lines.line();
+    let number = match number_told(lines, "times ") {
+        Ok(number) => number,
+        Err(fault) => return Err(fault),
+    };
+    if number == entries as u128 {
+        Ok(number)
+    } else {
+        Err(Fault {
+            line,
+            kind: BadKind::Form,
+        })
+    }
+}
+
+/// The time of the event at this place, where the evaluator's times are the least of the rows.
+pub(crate) fn event_told(
+    lines: &mut Lines,
+    net: &Network,
+    rows: &Rows,
+    evaluator: &Evaluator,
+    i: usize,
+) -> Result<u128, Fault>
+    requires room { IsRoomFor net.now evaluator.now }
+    requires least { IsLeast net.now rows.now evaluator.now.times }
+    requires is_event { i < length net.now.events }
+    ensures { (before : List ℕ) → length before ≡ i → Judges (TellsTime net.now rows.now before) (λ t. t) lines.old lines.new result }
+{
+    let line = lines.line();
+    let said = match time_told(lines) {
+        Ok(said) => said,
+        Err(fault) => return Err(fault),
+    };
+    if said.event == net.event(i).id.0 && evaluator.is_time(i, said.time) {
+        Ok(said.time)
+    } else {
+        Err(Fault {
+            line,
+            kind: BadKind::Time,
+        })
+    }
+}
+
+/// The final cost, where the evaluator's times are the least of the rows.
+pub(crate) fn cost_told(
+    lines: &mut Lines,
+    net: &Network,
+    rows: &Rows,
+    evaluator: &mut Evaluator,
+    penalty: u64,
+) -> Result<Cost, Fault>
+    requires sized { IsSized net.now rows.now }
+    requires room { IsRoomFor net.now evaluator.old }
+    requires least { IsLeast net.now rows.now evaluator.old.times }
+    requires early { AreBelowLimit evaluator.old.times }
+    requires penalty { penalty ≤ PENALTY }
+    ensures { Judges (TellsCost net.now rows.now penalty) (λ c. c) lines.old lines.new result }
+{
+    let line = lines.line();
+    let number = match number_told(lines, "cost ") {
+        Ok(number) => number,
+        Err(fault) => return Err(fault),
+    };
+    if evaluator.is_cost(net, rows, penalty, number) {
+        Ok(number)
+    } else {
+        Err(Fault {
+            line,
+            kind: BadKind::Cost,
+        })
+    }
+}
+
+/// The last line, with nothing behind it.
+pub(crate) fn end_told(lines: &mut Lines) -> Result<(), Fault>
+    ensures { (run : Run) → Judges (TellsEnd run) (λ said. run) lines.old lines.new result }
+{
+    match word_told(lines, "done") {
+        Ok(()) => (),
+        Err(fault) => return Err(fault),
+    }
+    match lines.left() {
+        [] => Ok(()),
+        [_, ..] => Err(Fault {
+            line: lines.line(),
+            kind: BadKind::Form,
+        }),
+    }
+}
+
+/// The times of all events, where the evaluator's times are the least of the rows.
+pub(crate) fn timetable_told(
+    lines: &mut Lines,
+    net: &Network,
+    rows: &Rows,
+    evaluator: &Evaluator,
+) -> Result<(), Fault>
+    requires room { IsRoomFor net.now evaluator.now }
+    requires least { IsLeast net.now rows.now evaluator.now.times }
+    ensures { TellsTimetable net.now rows.now lines.old lines.new result }
+{
+    for i in 0..net.events() {
+        match event_told(lines, net, rows, evaluator, i) {
+            Ok(_time) => (),
+            Err(fault) => return Err(fault),
+        }
+    }
+    Ok(())
+}
