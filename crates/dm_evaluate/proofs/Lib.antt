@@ -9,3 +9,5 @@ pub mod Lists
 pub mod Decided
 pub mod Rooted
 pub mod Violating
+pub mod Placed
+pub mod Open

@@ -48,7 +48,7 @@ member_is cs c h =
     let one = passes_one (is_same_choice c) cs h in
     subst (Contains cs) (sym (same_choice c one.0 one.2)) one.1
 
-mapped : {X Y : Type 0} (f : X → Y) (xs : List X) (y : Y) → Contains (map f xs) y → (x : X) × Contains xs x × (f x ≡ y)
+pub mapped : {X Y : Type 0} (f : X → Y) (xs : List X) (y : Y) → Contains (map f xs) y → (x : X) × Contains xs x × (f x ≡ y)
 mapped f [] y h = absurd (omega (arith, h.1))
 mapped f (x ∷ xs) y h =
     elim (in_front (f x) y (map f xs) h) [
@@ -200,7 +200,7 @@ filter_is_in p (y ∷ xs) x h =
       | inr f ↦ deeper (subst (λ ys. Contains ys x) (cond-false (p y) (y ∷ filter p xs) (filter p xs) f) h)
     ]
 
-apart_from_once : (ds : List Decision) → ((m n : ℕ) (d e : Decision) → slice_get ds m ≡ Some d → slice_get ds n ≡ Some e → choice_of d ≡ choice_of e → m ≡ n) →
+pub apart_from_once : (ds : List Decision) → ((m n : ℕ) (d e : Decision) → slice_get ds m ≡ Some d → slice_get ds n ≡ Some e → choice_of d ≡ choice_of e → m ≡ n) →
     Apart (map choice_of ds)
 apart_from_once [] once = tt
 apart_from_once (x ∷ xs) once = (

@@ -1,6 +1,6 @@
 -- Which choices a timetable violates, by flags of what is undecided and by rows.
 use Rattle.std.proofs.Common.{◌≡◌, ℕ, ◌+◌, ◌<◌, Bool, true, false, ◌&&◌, List, length, map, Option, Some, None, refl, sym, ap, subst, ◌∙◌, inl, inr, arith, slice_index}
-use Rattle.std.specs.Prelude.{filter, slice_get, ◌==◌, Contains}
+use Rattle.std.specs.Prelude.{filter, slice_get, is_some, ◌==◌, Contains}
 use Rattle.std.specs.List.{range_with_len}
 use Rattle.std.proofs.lemmas.Bool.{cases_lt, and_parts, and_from, eq-eqb, eqb-true, both_ways, false_from_ne_true}
 use Rattle.std.proofs.lemmas.List.FromFn.{length-range_with_len, get_or-range_with_len}
@@ -96,14 +96,21 @@ module _ (net : Net) (rows : RowsValue) (path : List Decision) (x : List ℕ) (f
       ∙ ap (λ u. u && (has_unmet_from net rows x k (pair_at net k).small && has_unmet_from net rows x k (pair_at net k).large)) (sym (are.each k lt))
 
 -- the first violated change, or else the first violated pair
-pub change_comes_first : (net : Net) (rows : RowsValue) (path : List Decision) (x : List ℕ) (c : Choice) → Some c ≡ first_violated_change net rows path x →
-    Some c ≡ first_violated net rows path x
-change_comes_first net rows path x c is =
-    sym (first_of_both (map (change_choice net) (filter (is_violated_change net rows path x) (range_with_len 0 (length net.activities))))
-    (map (pair_choice net) (filter (is_violated_pair net rows path x) (range_with_len 0 (length net.pairs)))) c (sym is))
+module _ (net : Net) (rows : RowsValue) (path : List Decision) (x : List ℕ) (change : Option Choice) (is : change ≡ first_violated_change net rows path x) where
+  pub change_comes_first : is_some change ≡ true → change ≡ first_violated net rows path x
+  change_comes_first some = by_cases change some is
+    where
+      by_cases : (o : Option Choice) → is_some o ≡ true → o ≡ first_violated_change net rows path x → o ≡ first_violated net rows path x
+      by_cases None h e = absurd cc
+      by_cases (Some c) h e =
+          sym (first_of_both (map (change_choice net) (filter (is_violated_change net rows path x) (range_with_len 0 (length net.activities))))
+          (map (pair_choice net) (filter (is_violated_pair net rows path x) (range_with_len 0 (length net.pairs)))) c (sym e))
 
-pub pair_comes_then : (net : Net) (rows : RowsValue) (path : List Decision) (x : List ℕ) (o : Option Choice) → None ≡ first_violated_change net rows path x →
-    o ≡ first_violated_pair net rows path x → o ≡ first_violated net rows path x
-pair_comes_then net rows path x o none is =
-    is ∙ sym (first_of_second (map (change_choice net) (filter (is_violated_change net rows path x) (range_with_len 0 (length net.activities))))
-    (map (pair_choice net) (filter (is_violated_pair net rows path x) (range_with_len 0 (length net.pairs)))) (sym none))
+  pub pair_comes_then : (pair : Option Choice) → is_some change ≡ false → pair ≡ first_violated_pair net rows path x → pair ≡ first_violated net rows path x
+  pair_comes_then pair none pair_is =
+      pair_is ∙ sym (first_of_second (map (change_choice net) (filter (is_violated_change net rows path x) (range_with_len 0 (length net.activities))))
+      (map (pair_choice net) (filter (is_violated_pair net rows path x) (range_with_len 0 (length net.pairs)))) (sym is ∙ is_none change none))
+    where
+      is_none : (o : Option Choice) → is_some o ≡ false → o ≡ None
+      is_none None h = refl
+      is_none (Some c) h = absurd cc

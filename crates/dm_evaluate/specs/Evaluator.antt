@@ -1,11 +1,11 @@
 -- What contracts see of an evaluator, and what holds of it between its moves.
-use Rattle.std.specs.Prelude.{ℕ, ◌≡◌, ◌<◌, Bool, not, List, length, filter}
+use Rattle.std.specs.Prelude.{ℕ, ◌≡◌, ◌<◌, Bool, false, not, List, length, filter, Contains}
 use Rattle.dm_live.specs.Live.{IsAtRest}
 use Rattle.dm_network.specs.Net.{Net}
 use Rattle.dm_rows.specs.declared.messages.Choice.{Choice}
 use Rattle.dm_rows.specs.declared.messages.Decision.{Decision}
-use Rattle.dm_rows.specs.Decide.{IsChoiceList, choice_of}
-use Rattle.dm_rows.specs.Relax.{is_same_choice, is_undecided_change, is_undecided_pair}
+use Rattle.dm_rows.specs.Decide.{IsChoiceList, choice_of, free_choices_of}
+use Rattle.dm_rows.specs.Relax.{is_same_choice, is_decided, is_undecided_change, is_undecided_pair}
 use Rattle.dm_rows.specs.Rows.{RowsValue, IsSized}
 use Rattle.dm_priced.specs.Priced.{PricedValue, is_flagged}
 use Rattle.dm_evaluate.specs.Evaluating.{Evaluates}
@@ -39,6 +39,11 @@ pub record IsEvaluatorOf (net : Net) (evaluator : EvaluatorValue) : Type 0 where
   pub pairs : AreFlags (is_undecided_pair net evaluator.rows evaluator.path) (length net.pairs) evaluator.pairs
   pub evaluates : Evaluates net evaluator.rows evaluator.path evaluator.priced
   pub at_rest : IsAtRest evaluator.priced.live
+
+-- the choice is free, and the path leaves it undecided
+pub record IsOpen (net : Net) (rows : RowsValue) (path : List Decision) (choice : Choice) : Type 0 where
+  pub free : Contains (free_choices_of net rows) choice
+  pub undecided : is_decided path choice ≡ false
 
 -- the path without the decisions of a choice
 abbrev pub path_without : Choice → List Decision → List Decision

@@ -6,3 +6,4 @@ pub mod Undecided
 pub mod Places
 pub mod Starting
 pub mod Violations
+pub mod Choices

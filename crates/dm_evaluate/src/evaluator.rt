@@ -1,21 +1,22 @@
 //! The evaluator, its moves and its readers.
-ghost use Rattle.std.specs.Prelude.{ℕ, ◌≡◌, ◌++◌, ◌^◌, ◌<◌, ◌≤◌, [], ◌∷◌, true, IfOk, IfErr, OnOk, OnErr};
+ghost use Rattle.std.specs.Prelude.{ℕ, ◌≡◌, ◌++◌, ◌^◌, ◌<◌, ◌≤◌, [], ◌∷◌, true, IsTrue, ◌↔◌, IfSome, IfOk, IfErr, OnOk, OnErr};
 ghost use Rattle.dm_base.specs.declared.limits.TheConstants.{PENALTY};
 ghost use Rattle.dm_rows.specs.Rows.{IsSized};
-ghost use Rattle.dm_rows.specs.Decide.{IsChoiceList};
+ghost use Rattle.dm_rows.specs.Decide.{choice_of};
 ghost use Rattle.dm_rows.specs.Relax.{is_decided, is_relaxed_active};
 ghost use Rattle.dm_times.specs.Faults.{RefusesHolding};
-ghost use Rattle.dm_tree.specs.Relaxed.{IsRelaxedLeast, relaxed_cost_of, IsRelaxedCycle, HasNoRelaxedCycle};
+ghost use Rattle.dm_tree.specs.Relaxed.{IsRelaxedLeast, relaxed_cost_of, IsRelaxedCycle, HasNoRelaxedCycle, IsViolated};
 ghost use Rattle.dm_relax.specs.Relaxed.{first_violated};
-ghost use Rattle.dm_evaluate.specs.Evaluator.{IsEvaluatorOf, times_of, cycle_of, path_without};
+ghost use Rattle.dm_evaluate.specs.Evaluator.{IsEvaluatorOf, IsOpen, times_of, cycle_of, path_without};
 
+use crate::choices::place_of_choice;
 use crate::free::all_undecided;
 use crate::naming::flip_of;
-use crate::places::place_of;
+use crate::places::{is_decided, place_of};
 use crate::starting::root_timetable;
 use crate::turning::{turn_off, turn_on};
 use crate::undecided::Undecided;
-use crate::violations::{first_violated_change, first_violated_pair};
+use crate::violations::{first_violated, is_violated};
 use dm_base::{Cost, Steps};
 use dm_graph::search::Cyclic;
 use dm_network::Network;
@@ -77,7 +78,7 @@ impl Evaluator {
         }
     }
 
-    /// Decides a choice that is free and that the path leaves undecided, and computes the times that this moves. [`Cyclic`]
+    /// Decides a choice that is open, which [`Evaluator::is_open`] tells, and computes the times that this moves. [`Cyclic`]
     /// comes exactly where what then binds has a cycle: then the path and the times are as before, and
     /// [`Evaluator::last_cycle`] is such a cycle. It takes no memory.
     pub fn decide<L: Ledger>(
@@ -87,7 +88,7 @@ impl Evaluator {
         steps: &mut Steps<L>,
     ) -> Result<(), Cyclic>
         requires evaluator { IsEvaluatorOf net.now self.old }
-        requires list { IsChoiceList net.now self.old.rows (self.old.path ++ decision ∷ []) }
+        requires open { IsOpen net.now self.old.rows self.old.path (choice_of decision) }
         ensures evaluator { IsEvaluatorOf net.now self.new }
         ensures rows { self.new.rows ≡ self.old.rows }
         ensures path { OnOk result (self.new.path ≡ self.old.path ++ decision ∷ []) }
@@ -108,7 +109,8 @@ impl Evaluator {
         }
     }
 
-    /// Takes back the decision of a choice that the path decides, whichever came after it, and computes the times that this
+    /// Takes back the decision of a choice that the path decides, whichever came after it, which [`Evaluator::has_decided`]
+    /// tells, and computes the times that this
     /// moves. It takes no memory.
     pub fn undecide<L: Ledger>(&mut self, net: &Network, choice: Choice, steps: &mut Steps<L>)
         requires evaluator { IsEvaluatorOf net.now self.old }
@@ -159,18 +161,54 @@ impl Evaluator {
         self.priced.cost(penalty)
     }
 
+    /// Whether a choice is free, and the path leaves it undecided.
+    pub fn is_open(&self, net: &Network, choice: Choice) -> bool
+        requires { IsEvaluatorOf net.now self.now }
+        ensures { IsTrue result ↔ IsOpen net.now self.now.rows self.now.path choice }
+    {
+        net.sound();
+        match place_of_choice(net, choice) {
+            Some(place) => self.undecided.is(place),
+            None => false,
+        }
+    }
+
+    /// Whether the path decides a choice. It is looked for from the first decision on.
+    pub fn has_decided(&self, choice: Choice) -> bool
+        ensures { result ≡ is_decided self.now.path choice }
+    {
+        is_decided(&self.path, choice)
+    }
+
     /// The first choice that is undecided and that the times violate, the changes in ascending id and then the pairs, or None
     /// where they violate nothing. Its time is linear in the changes and the headways of undecided pairs.
     pub fn violated<L: Ledger>(&self, net: &Network, steps: &mut Steps<L>) -> Option<Choice>
         requires { IsEvaluatorOf net.now self.now }
-        ensures { result ≡ first_violated net.now self.now.rows self.now.path (times_of self.now) }
+        ensures first { result ≡ first_violated net.now self.now.rows self.now.path (times_of self.now) }
+        ensures open { IfSome result (IsOpen net.now self.now.rows self.now.path) }
     {
-        let times = self.priced.live().times();
-        let change = first_violated_change(net, &self.rows, &self.undecided.changes, times);
-        if change.is_some() {
-            return change;
-        }
-        first_violated_pair(net, &self.rows, &self.undecided.pairs, times, steps)
+        net.sound();
+        first_violated(net, &self.rows, &self.undecided, self.times(), steps)
+    }
+
+    /// Whether a choice is open and the times do not keep it.
+    pub fn is_violated<L: Ledger>(
+        &self,
+        net: &Network,
+        choice: Choice,
+        steps: &mut Steps<L>,
+    ) -> bool
+        requires { IsEvaluatorOf net.now self.now }
+        ensures { IsTrue result ↔ IsViolated net.now self.now.rows self.now.path (times_of self.now) choice }
+    {
+        is_violated(
+            net,
+            &self.rows,
+            &self.undecided,
+            self.times(),
+            choice,
+            steps,
+        )
     }
 
     /// The activities of the cycle for which a decision was refused last, each head the next tail.

@@ -7,6 +7,7 @@
 //! and the first violated choice are theirs.
 #![tactic(auto)]
 
+mod choices;
 mod evaluator;
 mod filling;
 mod free;

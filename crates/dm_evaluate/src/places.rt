@@ -21,6 +21,13 @@ pub fn place_of(path: &[Decision], choice: Choice) -> usize
     unreachable!()
 }
 
+/// Whether some decision of a path decides a choice.
+pub fn is_decided(path: &[Decision], choice: Choice) -> bool
+    ensures { result ≡ is_decided path.now choice }
+{
+    path.iter().any(|decision| decides(*decision, choice))
+}
+
 /// Whether a decision decides a choice.
 fn decides(decision: Decision, choice: Choice) -> bool
     ensures { result ≡ is_same_choice (choice_of decision) choice }

@@ -1,7 +1,10 @@
 //! Which changes and which pairs a path leaves undecided.
 ghost use Rattle.std.specs.Prelude.{◌≡◌, ◌<◌, length};
-ghost use Rattle.dm_evaluate.specs.Inside.Undecided.{with_change, with_pair, HasRoomFor};
+ghost use Rattle.dm_evaluate.specs.Inside.Undecided.{with_change, with_pair, HasRoomFor, HasFlagFor};
+ghost use Rattle.dm_evaluate.specs.Inside.Choices.{at_place};
+ghost use Rattle.dm_priced.specs.Priced.{is_flagged};
 
+use crate::choices::Place;
 use dm_rows::Flip;
 
 /// A flag for each activity, whether it is a change that is undecided, and one for each pair, whether it is.
@@ -12,6 +15,17 @@ pub struct Undecided {
 }
 
 impl Undecided {
+    /// Whether the choice at a place is undecided.
+    pub fn is(&self, place: Place) -> bool
+        requires { HasFlagFor place self.now.changes.items self.now.pairs.items }
+        ensures { result ≡ at_place (is_flagged self.now.changes.items) (is_flagged self.now.pairs.items) place }
+    {
+        match place {
+            Place::Change(a) => self.changes[a],
+            Place::Pair(p) => self.pairs[p],
+        }
+    }
+
     /// The change or the pair of a flip is undecided, or decided.
     pub fn set(&mut self, flip: Flip, undecided: bool)
         requires { HasRoomFor flip self.old.changes.items self.old.pairs.items }

@@ -1,14 +1,19 @@
 //! Undecided choices that a timetable violates.
-ghost use Rattle.std.specs.Prelude.{ℕ, ◌≡◌, ◌&&◌, ◌<◌, List, length};
-ghost use Rattle.dm_network.specs.Net.{pair_at};
+ghost use Rattle.std.specs.Prelude.{ℕ, ◌≡◌, ◌<◌, IsTrue, ◌↔◌, List, length};
 ghost use Rattle.dm_rows.specs.declared.messages.Decision.{Decision};
 ghost use Rattle.dm_rows.specs.Decide.{pair_choice};
 ghost use Rattle.dm_rows.specs.Relax.{is_undecided_change, is_undecided_pair, has_unmet_from};
 ghost use Rattle.dm_rows.specs.Rows.{IsSized};
+ghost use Rattle.dm_relax.specs.Relaxed.{first_violated};
 ghost use Rattle.dm_evaluate.specs.Evaluator.{AreFlags};
-ghost use Rattle.dm_evaluate.specs.Inside.Violations.{first_violated_change, first_violated_pair};
+ghost use Rattle.dm_evaluate.specs.Inside.Violations.{first_violated_change, first_violated_pair, is_unmet_pair};
+ghost use Rattle.dm_evaluate.specs.Inside.Choices.{at_place, IsWithin};
+ghost use Rattle.dm_rows.specs.Cost.{comes_too_early};
+ghost use Rattle.dm_tree.specs.Relaxed.{IsViolated};
 
+use crate::choices::{Place, place_of_choice};
 use crate::headways::is_headway_of;
+use crate::undecided::Undecided;
 use dm_base::Steps;
 use dm_network::Network;
 use dm_rows::{Choice, Rows};
@@ -16,8 +21,72 @@ use dm_settle::Times;
 use dm_times::comes_too_early;
 use std::sync::ledger::Ledger;
 
+/// The first undecided choice that is violated, the changes in ascending id and then the pairs, or None where nothing is. The
+/// flags are of the undecided changes and pairs.
+pub fn first_violated<L: Ledger>(
+    net: &Network,
+    rows: &Rows,
+    undecided: &Undecided,
+    times: &Times,
+    steps: &mut Steps<L>,
+) -> Option<Choice>
+    requires sized { IsSized net.now rows.now }
+    requires changes { length undecided.now.changes.items ≡ length net.now.activities }
+    requires pairs { length undecided.now.pairs.items ≡ length net.now.pairs }
+    requires size { length times.now ≡ length net.now.events }
+    ensures { (path : List Decision) → AreFlags (is_undecided_change net.now rows.now path) (length net.now.activities) undecided.now.changes.items → AreFlags (is_undecided_pair net.now rows.now path) (length net.now.pairs) undecided.now.pairs.items → result ≡ first_violated net.now rows.now path times.now }
+{
+    let change = first_violated_change(net, rows, &undecided.changes, times);
+    if change.is_some() {
+        return change;
+    }
+    first_violated_pair(net, rows, &undecided.pairs, times, steps)
+}
+
+/// Whether a choice is undecided and violated. The flags are of the undecided changes and pairs.
+pub fn is_violated<L: Ledger>(
+    net: &Network,
+    rows: &Rows,
+    undecided: &Undecided,
+    times: &Times,
+    choice: Choice,
+    steps: &mut Steps<L>,
+) -> bool
+    requires sized { IsSized net.now rows.now }
+    requires changes { length undecided.now.changes.items ≡ length net.now.activities }
+    requires pairs { length undecided.now.pairs.items ≡ length net.now.pairs }
+    requires size { length times.now ≡ length net.now.events }
+    ensures { (path : List Decision) → AreFlags (is_undecided_change net.now rows.now path) (length net.now.activities) undecided.now.changes.items → AreFlags (is_undecided_pair net.now rows.now path) (length net.now.pairs) undecided.now.pairs.items → IsTrue result ↔ IsViolated net.now rows.now path times.now choice }
+{
+    net.sound();
+    let Some(place) = place_of_choice(net, choice) else {
+        return false;
+    };
+    undecided.is(place) && is_unkept(net, rows, times, place, steps)
+}
+
+/// Whether the times do not keep the choice at a place: the head of the change comes too early, or neither direction of the
+/// pair has all its headways met.
+fn is_unkept<L: Ledger>(
+    net: &Network,
+    rows: &Rows,
+    times: &Times,
+    place: Place,
+    steps: &mut Steps<L>,
+) -> bool
+    requires sized { IsSized net.now rows.now }
+    requires size { length times.now ≡ length net.now.events }
+    requires is_place { IsWithin net.now place }
+    ensures { result ≡ at_place (comes_too_early net.now rows.now times.now) (is_unmet_pair net.now rows.now times.now) place }
+{
+    match place {
+        Place::Change(a) => comes_too_early(net, rows, times, a),
+        Place::Pair(p) => is_unmet(net, rows, times, p, steps),
+    }
+}
+
 /// The first undecided change, in ascending id, whose head comes too early. The flags are of the undecided changes.
-pub fn first_violated_change(
+fn first_violated_change(
     net: &Network,
     rows: &Rows,
     changes: &[bool],
@@ -38,7 +107,7 @@ pub fn first_violated_change(
 
 /// The first undecided pair, in ascending order of its ids, of which neither direction has all its headways met. The flags
 /// are of the undecided pairs. Only rows of events of undecided pairs are read.
-pub fn first_violated_pair<L: Ledger>(
+fn first_violated_pair<L: Ledger>(
     net: &Network,
     rows: &Rows,
     pairs: &[bool],
@@ -59,7 +128,7 @@ pub fn first_violated_pair<L: Ledger>(
 }
 
 /// Whether neither direction of a pair has all its headways met.
-pub fn is_unmet<L: Ledger>(
+fn is_unmet<L: Ledger>(
     net: &Network,
     rows: &Rows,
     times: &Times,
@@ -69,7 +138,7 @@ pub fn is_unmet<L: Ledger>(
     requires sized { IsSized net.now rows.now }
     requires size { length times.now ≡ length net.now.events }
     requires is_pair { p < length net.now.pairs }
-    ensures { result ≡ (has_unmet_from net.now rows.now times.now p (pair_at net.now p).small && has_unmet_from net.now rows.now times.now p (pair_at net.now p).large) }
+    ensures { result ≡ is_unmet_pair net.now rows.now times.now p }
 {
     net.sound();
     let pair = net.pair(p);

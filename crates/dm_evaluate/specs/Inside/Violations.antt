@@ -1,12 +1,12 @@
 -- The first violated change and the first violated pair by themselves, and what a row has shown so far.
 use Rattle.std.specs.Prelude.{ℕ, ◌≡◌, ◌&&◌, ◌<◌, Bool, false, List, length, map, filter, Option, slice_get, slice_index}
 use Rattle.std.specs.List.{range_with_len}
-use Rattle.dm_network.specs.Net.{Net, activity_at}
+use Rattle.dm_network.specs.Net.{Net, activity_at, pair_at}
 use Rattle.dm_rows.specs.declared.messages.Decision.{Decision}
 use Rattle.dm_rows.specs.declared.messages.Choice.{Choice}
 use Rattle.dm_rows.specs.Cost.{comes_too_early}
 use Rattle.dm_rows.specs.Decide.{change_choice, pair_choice}
-use Rattle.dm_rows.specs.Relax.{is_of_pair, is_violated_change, is_violated_pair}
+use Rattle.dm_rows.specs.Relax.{is_of_pair, has_unmet_from, is_violated_change, is_violated_pair}
 use Rattle.dm_rows.specs.Rows.{RowsValue}
 use Rattle.dm_priced.specs.Priced.{is_flagged}
 
@@ -26,3 +26,7 @@ NoneUnmet net rows x p row n =
 -- none of the first n places is flagged and passes the test
 abbrev pub NoneFlagged : List Bool → (ℕ → Bool) → ℕ → Type 0
 NoneFlagged flags test n = (k : ℕ) → k < n → (is_flagged flags k && test k) ≡ false
+
+-- neither direction of the pair has all its headways met
+abbrev pub is_unmet_pair : Net → RowsValue → List ℕ → ℕ → Bool
+is_unmet_pair net rows x p = has_unmet_from net rows x p (pair_at net p).small && has_unmet_from net rows x p (pair_at net p).large

@@ -1,23 +1,23 @@
 use Rattle.std.proofs.Common.{◌∷◌, [], ◌++◌, sym, ap, subst, ◌∙◌, arith}
-use Rattle.dm_rows.specs.Decide.{IsChoiceList}
+use Rattle.dm_rows.specs.Decide.{choice_of}
 use Rattle.dm_tree.specs.Relaxed.{HasNoRelaxedCycle, IsRelaxedCycle}
-use Rattle.dm_evaluate.specs.Evaluator.{EvaluatorValue, IsEvaluatorOf, times_of}
-use Rattle.dm_evaluate.proofs.Lists.{decides_free}
+use Rattle.dm_evaluate.specs.Evaluator.{EvaluatorValue, IsEvaluatorOf, IsOpen, times_of}
+use Rattle.dm_evaluate.proofs.Open.{open_list}
 use Rattle.dm_evaluate.proofs.Decided.{evaluator_least, evaluator_no_cycle, decide_off, decide_room, decide_cycle, decide_is, refused_is, refused_times}
 use Rattle.dm_evaluate.proofs.evaluator.Evaluator.decide.Goals as goal
 
 pub flip_of-flip-requires : goal.flip_of-flip-requires
 flip_of-flip-requires g c =
     let net = c.args.net.now in
-    let list = subst (λ (e : EvaluatorValue). IsChoiceList net e.rows (e.path ++ c.args.decision ∷ [])) (sym c.self.view_is) c.requires.list in
-    decides_free net c.self.inside.rows c.self.inside.path.items c.args.decision list
+    (subst (λ (e : EvaluatorValue). IsOpen net e.rows e.path (choice_of c.args.decision)) (sym c.self.view_is) c.requires.open).free
 
 pub turn_on-requires-clause-off : goal.turn_on-requires-clause-off
 turn_on-requires-clause-off g c =
     let net = c.args.net.now in
     let old : EvaluatorValue = record { rows = c.self.inside.rows; path = c.self.inside.path.items; changes = c.self.inside.undecided.changes.items; pairs = c.self.inside.undecided.pairs.items; priced = c.self.inside.priced } in
     let was = subst (IsEvaluatorOf net) (sym c.self.view_is) c.requires.evaluator in
-    let list = subst (λ (e : EvaluatorValue). IsChoiceList net e.rows (e.path ++ c.args.decision ∷ [])) (sym c.self.view_is) c.requires.list in
+    let opened = subst (λ (e : EvaluatorValue). IsOpen net e.rows e.path (choice_of c.args.decision)) (sym c.self.view_is) c.requires.open in
+    let list = open_list net c.self.inside.rows c.self.inside.path.items c.args.decision was.is_path opened in
     decide_off net c.sound.ensures.network old was c.args.decision list c.flip_of-flip.result c.flip_of-flip.ensures.flip
 
 pub push_reserved-requires : goal.push_reserved-requires
@@ -25,7 +25,8 @@ push_reserved-requires g c =
     let net = c.args.net.now in
     let old : EvaluatorValue = record { rows = c.self.inside.rows; path = c.self.inside.path.items; changes = c.self.inside.undecided.changes.items; pairs = c.self.inside.undecided.pairs.items; priced = c.self.inside.priced } in
     let was = subst (IsEvaluatorOf net) (sym c.self.view_is) c.requires.evaluator in
-    let list = subst (λ (e : EvaluatorValue). IsChoiceList net e.rows (e.path ++ c.args.decision ∷ [])) (sym c.self.view_is) c.requires.list in
+    let opened = subst (λ (e : EvaluatorValue). IsOpen net e.rows e.path (choice_of c.args.decision)) (sym c.self.view_is) c.requires.open in
+    let list = open_list net c.self.inside.rows c.self.inside.path.items c.args.decision was.is_path opened in
     let room = decide_room net c.sound.ensures.network old was c.args.decision list c.flip_of-flip.result c.flip_of-flip.ensures.flip in
     let wide = c.self.invariant in
     omega (arith, room, wide)
@@ -35,7 +36,8 @@ returns-in-Ok-clause-evaluator g c =
     let net = c.args.net.now in
     let old : EvaluatorValue = record { rows = c.self.inside.rows; path = c.self.inside.path.items; changes = c.self.inside.undecided.changes.items; pairs = c.self.inside.undecided.pairs.items; priced = c.self.inside.priced } in
     let was = subst (IsEvaluatorOf net) (sym c.self.view_is) c.requires.evaluator in
-    let list = subst (λ (e : EvaluatorValue). IsChoiceList net e.rows (e.path ++ c.args.decision ∷ [])) (sym c.self.view_is) c.requires.list in
+    let opened = subst (λ (e : EvaluatorValue). IsOpen net e.rows e.path (choice_of c.args.decision)) (sym c.self.view_is) c.requires.open in
+    let list = open_list net c.self.inside.rows c.self.inside.path.items c.args.decision was.is_path opened in
     decide_is net c.sound.ensures.network old was c.args.decision list c.flip_of-flip.result c.flip_of-flip.ensures.flip
     c.push_reserved.new.self.items c.set.new.self.changes.items c.set.new.self.pairs.items c.turn_on.new.priced
     c.push_reserved.ensures.items c.set.ensures.changes c.set.ensures.pairs c.in-Ok.ensures.priced c.in-Ok.ensures.at_rest c.in-Ok.ensures.turns
@@ -78,7 +80,8 @@ returns-in-Err-clause-cycle g c =
     let net = c.args.net.now in
     let old : EvaluatorValue = record { rows = c.self.inside.rows; path = c.self.inside.path.items; changes = c.self.inside.undecided.changes.items; pairs = c.self.inside.undecided.pairs.items; priced = c.self.inside.priced } in
     let was = subst (IsEvaluatorOf net) (sym c.self.view_is) c.requires.evaluator in
-    let list = subst (λ (e : EvaluatorValue). IsChoiceList net e.rows (e.path ++ c.args.decision ∷ [])) (sym c.self.view_is) c.requires.list in
+    let opened = subst (λ (e : EvaluatorValue). IsOpen net e.rows e.path (choice_of c.args.decision)) (sym c.self.view_is) c.requires.open in
+    let list = open_list net c.self.inside.rows c.self.inside.path.items c.args.decision was.is_path opened in
     subst (λ (e : EvaluatorValue). IsRelaxedCycle net e.rows (e.path ++ c.args.decision ∷ []) c.turn_on.new.priced.live.order.cycle) c.self.view_is
     (decide_cycle net c.sound.ensures.network old was c.args.decision list c.flip_of-flip.result c.flip_of-flip.ensures.flip
     c.turn_on.new.priced.live.order.cycle c.in-Err.ensures.cycle)
