@@ -122,6 +122,10 @@ module _ {S : Type 0} (left : S → Option (List ℕ)) (is_sound : S → Type 0)
     state = λ feeds first rounds low s. s;
   }
 
+  pub stays_legal : (p : Progress S) (items : List LogItem) (after : Job S) (desk now : DeskValue) (feed : ℕ) → HasSeenLegal desk → StepsFrom left is_sound p items after desk now feed batch → HasSeenLegal now
+  stays_legal (Reading reader) items after desk now feed legal x = x.answers.answers.goes_on.legal
+  stays_legal (Ended stop) items after desk now feed legal x = subst HasSeenLegal (sym x.desk) legal
+
   steps_on : (p : Progress S) (items : List LogItem) (after : Job S) (desk now : DeskValue) (feed : ℕ) → HasSeenLegal desk → StepsFrom left is_sound p items after desk now feed batch → GoesOn desk now
   steps_on (Reading reader) items after desk now feed legal x = x.answers.answers.goes_on
   steps_on (Ended stop) items after desk now feed legal x = subst (GoesOn desk) (sym x.desk) (goes_nowhere desk legal)

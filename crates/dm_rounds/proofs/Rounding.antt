@@ -18,7 +18,7 @@ use Rattle.dm_cert.specs.Logs.{Kind, free, told, entered, kind_of, number_in, Ar
 use Rattle.dm_cert.proofs.Numbers.{IsWithin}
 use Rattle.dm_cert.proofs.TrueLogs.{answer_within}
 use Rattle.dm_desk.specs.Desks.{DeskValue, GoesOn}
-use Rattle.dm_desk.specs.Answered.{times, IsBetween, IsAnswered, IsEnded, HasSize, AnswersBatch}
+use Rattle.dm_desk.specs.Answered.{times, IsBetween, IsAnswered, IsEnded, HasSize, AnswersBatch, HasSeenLegal}
 use Rattle.dm_desk.proofs.Answering.{goes_nowhere, on_and_on, still_true, no_shorter}
 use Rattle.dm_rounds.specs.declared.jobs.Progress.{Progress}
 use Rattle.dm_rounds.specs.declared.jobs.Progress.TheVariants.{Reading, Ended}
@@ -40,7 +40,7 @@ still_answered left start reader before now feed items on a = record {
   spelled = a.spelled;
 }
 
-job_grows : {S : Type 0} (left : S → Option (List ℕ)) (is_sound : S → Type 0) (feed : Option S) (before now : DeskValue) (number : ℕ) (progress : Progress S) (items : List LogItem) → GoesOn before now → IsJob left is_sound feed before number progress items → IsJob left is_sound feed now number progress items
+pub job_grows : {S : Type 0} (left : S → Option (List ℕ)) (is_sound : S → Type 0) (feed : Option S) (before now : DeskValue) (number : ℕ) (progress : Progress S) (items : List LogItem) → GoesOn before now → IsJob left is_sound feed before number progress items → IsJob left is_sound feed now number progress items
 job_grows left is_sound (Some source) before now number (Reading reader) items on j = record {
   answered = still_answered left (new_reader source) reader before now number items on j.answered;
   is_open = j.is_open;
@@ -52,7 +52,7 @@ job_grows left is_sound None before now number (Ended stop) items on j = record 
 
 -- ---- numbers
 
-number_between : (first last n : ℕ) (k : Kind) → IsBetween first last k → number_in k ≡ Some n → (first ≤ n) × (n ≤ last)
+pub number_between : (first last n : ℕ) (k : Kind) → IsBetween first last k → number_in k ≡ Some n → (first ≤ n) × (n ≤ last)
 number_between first last n free between e = absurd cc
 number_between first last n (told m) between e = let same : m ≡ n = cc in (omega (arith, between.0), omega (arith, between.1))
 number_between first last n (entered m) between e = let same : m ≡ n = cc in (omega (arith, between.0), omega (arith, between.1))
@@ -71,7 +71,7 @@ low_round a batch rounds some low = (div-lt_iff_lt-mul some).0 low
 pub in_round : (a batch rounds : ℕ) → 0 < batch → a < rounds * batch → a / batch < rounds
 in_round a batch rounds some low = (div-lt_iff_lt-mul some).1 low
 
-more_rounds : (batch rounds : ℕ) → (rounds + 1) * batch ≡ rounds * batch + batch
+pub more_rounds : (batch rounds : ℕ) → (rounds + 1) * batch ≡ rounds * batch + batch
 more_rounds batch rounds = omega arith
 
 pub advanced : {S : Type 0} (left : S → Option (List ℕ)) (is_sound : S → Type 0) (progress : Progress S) (reader then : ReaderValue S) (items : List LogItem) (after : Job S) (before now : DeskValue) (feed batch : ℕ) (answered stop : Option FeedStop) → progress ≡ Reading reader → answered ≡ stop
@@ -95,11 +95,11 @@ module _ {S : Type 0} (left : S → Option (List ℕ)) (is_sound : S → Type 0)
     pub size : length more ≤ batch
 
   -- an item that was there, or one that is new in this round
-  record IsNew (rounds : ℕ) (desk now : DeskValue) (a n : ℕ) : Type 0 where
-    high : rounds * batch ≤ a
-    low : a < (rounds + 1) * batch
-    later : length desk.seen ≤ n
-    last : n ≤ length now.seen
+  pub record IsNew (rounds : ℕ) (desk now : DeskValue) (a n : ℕ) : Type 0 where
+    pub high : rounds * batch ≤ a
+    pub low : a < (rounds + 1) * batch
+    pub later : length desk.seen ≤ n
+    pub last : n ≤ length now.seen
 
   new_or_old : (rounds : ℕ) (desk now : DeskValue) (jobs : List (Job S)) (place : ℕ) (job after : Job S) → slice_get jobs place ≡ Some job → Grown rounds desk now place job after → (k a n : ℕ) → NumberIn (set jobs place after) k a n → NumberIn jobs k a n ⊎ IsNew rounds desk now a n
   new_or_old rounds desk now jobs place job after stands g k a n x =
@@ -122,7 +122,7 @@ module _ {S : Type 0} (left : S → Option (List ℕ)) (is_sound : S → Type 0)
         | inr other ↦ inl (record { job = x.job; stands = other.1; answered = x.answered; is_item = x.is_item; number = x.number })
       ]
 
-  few_items : (rounds : ℕ) (progress : Progress S) (items : List LogItem) → IsPaced batch rounds progress items → length items ≤ rounds * batch
+  pub few_items : (rounds : ℕ) (progress : Progress S) (items : List LogItem) → IsPaced batch rounds progress items → length items ≤ rounds * batch
   few_items rounds (Reading reader) items p = omega (arith, p)
   few_items rounds (Ended stop) items p = p
 
@@ -137,14 +137,14 @@ module _ {S : Type 0} (left : S → Option (List ℕ)) (is_sound : S → Type 0)
   below_other : (k place : ℕ) → k < place + 1 → k ≢ place → k < place
   below_other k place low other = elim (cases_lt k place) [ inl lt ↦ lt | inr le ↦ absurd (other (omega arith)) ]
 
-  not_later : (a b rounds : ℕ) → rounds * batch ≤ a → b < (rounds + 1) * batch → a / batch < b / batch → ⊥
+  pub not_later : (a b rounds : ℕ) → rounds * batch ≤ a → b < (rounds + 1) * batch → a / batch < b / batch → ⊥
   not_later a b rounds high low lt =
       let later = in_round b batch (rounds + 1) some low in
       let early : a / batch < rounds = omega arith in
       let below = low_round a batch rounds some early in
       omega arith
 
-  earlier_round : (a b rounds : ℕ) → b < (rounds + 1) * batch → a / batch < b / batch → a < rounds * batch
+  pub earlier_round : (a b rounds : ℕ) → b < (rounds + 1) * batch → a / batch < b / batch → a < rounds * batch
   earlier_round a b rounds low lt =
       let later = in_round b batch (rounds + 1) some low in
       low_round a batch rounds some (omega arith)
@@ -245,11 +245,12 @@ module _ {S : Type 0} (left : S → Option (List ℕ)) (is_sound : S → Type 0)
   feed_then (Some source) reader then stop before now number items after answers sound j = job_then source reader then stop before now number items after answers sound j
   feed_then None reader then stop before now number items after answers sound j = absurd j
 
-  grown_at : (rounds low : ℕ) (desk now : DeskValue) (jobs : List (Job S)) (place : ℕ) (job after : Job S) → slice_get jobs place ≡ Some job → RoundState left is_sound feeds first batch rounds low desk jobs place → (p : Progress S) → job.progress ≡ p
+  pub grown_at : (rounds : ℕ) (desk now : DeskValue) (place : ℕ) (job after : Job S) → HasSeenLegal desk → IsPaced batch rounds job.progress job.log.items
+      → ((feed : Option S) → slice_get feeds place ≡ Some feed → IsJob left is_sound feed desk (place + 1) job.progress job.log.items) → (p : Progress S) → job.progress ≡ p
       → StepsFrom left is_sound p job.log.items after desk now (place + 1) batch → Grown rounds desk now place job after
-  grown_at rounds low desk now jobs place job after stands s (Reading reader) is x =
+  grown_at rounds desk now place job after legal was each (Reading reader) is x =
       let P : Progress S → Type 0 = λ p. IsPaced batch rounds p job.log.items in
-      let here : length job.log.items ≡ rounds * batch = subst P is (s.ahead place job (omega arith) stands) in
+      let here : length job.log.items ≡ rounds * batch = subst P is was in
       let Q : Progress S → Type 0 = λ p. IsPaced batch (rounds + 1) p after.log.items in
       record {
         goes_on = x.answers.answers.goes_on;
@@ -258,20 +259,20 @@ module _ {S : Type 0} (left : S → Option (List ℕ)) (is_sound : S → Type 0)
         is_job = λ feed f.
             let J : Progress S → Type 0 = λ p. IsJob left is_sound feed desk (place + 1) p job.log.items in
             let K : Progress S → Type 0 = λ p. IsJob left is_sound feed now (place + 1) p after.log.items in
-            subst K (sym x.progress) (feed_then feed reader x.then x.stop desk now (place + 1) job.log.items after.log.items x.answers x.sound (subst J is (s.each place feed job f stands)));
+            subst K (sym x.progress) (feed_then feed reader x.then x.stop desk now (place + 1) job.log.items after.log.items x.answers x.sound (subst J is (each feed f)));
         named = x.answers.answers.named;
         between = x.answers.answers.between;
         paced = subst Q (sym x.progress) (paced_then rounds x.then x.stop job.log.items x.answers.more after.log.items here x.answers.size x.answers.behind);
         starts = λ _. here;
         size = shorter_stop (length x.answers.more) x.stop x.answers.size;
       }
-  grown_at rounds low desk now jobs place job after stands s (Ended stop) is x =
+  grown_at rounds desk now place job after legal was each (Ended stop) is x =
       let P : Progress S → Type 0 = λ p. IsPaced batch rounds p job.log.items in
-      let here : length job.log.items ≤ rounds * batch = subst P is (s.ahead place job (omega arith) stands) in
+      let here : length job.log.items ≤ rounds * batch = subst P is was in
       let Q : Progress S → Type 0 = λ p. IsPaced batch (rounds + 1) p after.log.items in
       let D : DeskValue → Type 0 = GoesOn desk in
       record {
-        goes_on = subst D (sym x.desk) (goes_nowhere desk s.goes_on.legal);
+        goes_on = subst D (sym x.desk) (goes_nowhere desk legal);
         more = [];
         behind = x.log ∙ sym (append-nil job.log.items);
         is_job = λ feed f.
@@ -279,7 +280,7 @@ module _ {S : Type 0} (left : S → Option (List ℕ)) (is_sound : S → Type 0)
             let K : Progress S → Type 0 = λ p. IsJob left is_sound feed now (place + 1) p after.log.items in
             let L : List LogItem → Type 0 = λ l. IsJob left is_sound feed now (place + 1) (Ended stop) l in
             let M : DeskValue → Type 0 = λ d. IsJob left is_sound feed d (place + 1) (Ended stop) job.log.items in
-            subst K (sym x.progress) (subst L (sym x.log) (subst M (sym x.desk) (subst J is (s.each place feed job f stands))));
+            subst K (sym x.progress) (subst L (sym x.log) (subst M (sym x.desk) (subst J is (each feed f))));
         named = λ n. zero-add (times n desk.mine) ∙ ap (λ (d : DeskValue). times n d.mine) (sym x.desk);
         between = All-nil (λ answered. IsBetween (length desk.seen) (length now.seen) (kind_of answered));
         paced = subst Q (sym x.progress) (omega (arith, here, ap length x.log, more_rounds batch rounds));
@@ -290,7 +291,7 @@ module _ {S : Type 0} (left : S → Option (List ℕ)) (is_sound : S → Type 0)
   pub round_step : (rounds low : ℕ) (desk now : DeskValue) (jobs : List (Job S)) (place : ℕ) (job after : Job S) → slice_get jobs place ≡ Some job → StepsFrom left is_sound job.progress job.log.items after desk now (place + 1) batch
       → RoundState left is_sound feeds first batch rounds low desk jobs place → RoundState left is_sound feeds first batch rounds low now (set jobs place after) (place + 1)
   round_step rounds low desk now jobs place job after stands x s =
-      round_with rounds low desk now jobs place job after stands s (grown_at rounds low desk now jobs place job after stands s job.progress refl x)
+      round_with rounds low desk now jobs place job after stands s (grown_at rounds desk now place job after s.goes_on.legal (s.ahead place job (omega arith) stands) (λ feed f. s.each place feed job f stands) job.progress refl x)
 
   -- ---- the next round
 

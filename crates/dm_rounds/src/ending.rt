@@ -33,7 +33,8 @@ pub fn logs_of<S: Drop>(jobs: Vec<Job<S>>, mut logs: Vec<FeedLog>) -> Vec<FeedLo
     logs
 }
 
-fn log_of<S: Drop>(job: Job<S>) -> FeedLog
+/// The log of a feed that is read no further.
+pub fn log_of<S: Drop>(job: Job<S>) -> FeedLog
     ensures { result ≡ log_in job }
 {
     let stop = stop_of(&job.progress);

@@ -12,4 +12,7 @@ mod ending;
 mod jobs;
 mod rounds;
 
+pub use beginning::begin;
+pub use ending::{have_ended, log_of};
+pub use jobs::{Job, Progress, answer_job};
 pub use rounds::{Rounds, answer_feeds};

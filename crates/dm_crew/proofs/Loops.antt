@@ -1,0 +1,48 @@
+-- Loops over lists that are taken apart and put together.
+use Rattle.std.proofs.Common.{◌≡◌, ℕ, ◌+◌, ◌-◌, ◌<◌, inl, inr, List, [], ◌∷◌, ◌++◌, length, map, Some, Result, Ok, refl, sym, ap, subst, ◌∙◌, arith, append_assoc, append-nil, length-append, slice_get, All}
+use Rattle.std.specs.Prelude.{IsOk}
+use Rattle.std.proofs.lemmas.List.{map-append, nil_from_length}
+use Rattle.std.proofs.lemmas.List.Elements.{All-push}
+use Rattle.std.proofs.Math.Seq.{get_or-append_seam}
+use Rattle.dm_rounds.proofs.Places.{behind_push}
+use Rattle.dm_server.specs.declared.kept.Base.{Base}
+use Rattle.dm_turn.specs.Passes.{PassValue}
+
+pub one_yielded : {X : Type 0} (yielded rest next whole : List X) (x : X) → rest ≡ x ∷ next → yielded ++ rest ≡ whole → (yielded ++ x ∷ []) ++ next ≡ whole
+one_yielded yielded rest next whole x is all = append_assoc yielded (x ∷ []) next ∙ (ap (λ (l : List _). yielded ++ l) (sym is) ∙ all)
+
+pub all_yielded : {X : Type 0} (yielded rest whole : List X) → length rest ≡ 0 → yielded ++ rest ≡ whole → yielded ≡ whole
+all_yielded yielded rest whole none all = sym (append-nil yielded) ∙ (ap (λ (l : List _). yielded ++ l) (sym (nil_from_length rest none)) ∙ all)
+
+pub some_left : {X : Type 0} (yielded rest next whole : List X) (x : X) → rest ≡ x ∷ next → yielded ++ rest ≡ whole → length yielded < length whole
+some_left yielded rest next whole x is all = omega (arith, ap length all, length-append yielded rest, ap length is)
+
+pub mapped_more : {X Y : Type 0} (f : X → Y) (xs now : List X) (x : X) (ys : List Y) → now ≡ xs ++ x ∷ [] → map f xs ≡ ys → map f now ≡ ys ++ f x ∷ []
+mapped_more f xs now x ys is m = ap (map f) is ∙ (map-append f xs (x ∷ []) ∙ ap (λ (l : List _). l ++ f x ∷ []) m)
+
+pub all_more : {X : Type 0} (P : X → Type 0) (xs now : List X) (x : X) → now ≡ xs ++ x ∷ [] → All P xs → P x → All P now
+all_more P xs now x is all p = subst (All P) (sym is) (All-push P xs x all p)
+
+pub numbered_more : {X : Type 0} (f : X → ℕ) (xs now : List X) (x : X) → now ≡ xs ++ x ∷ [] → f x ≡ length xs + 1 → ((k : ℕ) (y : X) → slice_get xs k ≡ Some y → f y ≡ k + 1) → (k : ℕ) (y : X) → slice_get now k ≡ Some y → f y ≡ k + 1
+numbered_more f xs now x is last each k y e =
+    elim (behind_push xs x k y (ap (λ (l : List _). slice_get l k) (sym is) ∙ e)) [
+      | inl old ↦ each k y old
+      | inr new ↦ ap f new.1 ∙ (last ∙ ap (λ (n : ℕ). n + 1) (sym new.0))
+    ]
+
+pub one_split : (start main next : PassValue Base) (n m : ℕ) → main ≡ record start { room = start.room - n } → next ≡ record main { room = main.room - 1 } → m ≡ n + 1 → next ≡ record start { room = start.room - m }
+one_split start main next n m is split more =
+    let room : start.room - n - 1 ≡ start.room - m = omega (arith, more) in
+    split ∙ (ap (λ (p : PassValue Base). record p { room = p.room - 1 }) is ∙ ap (λ (r : ℕ). record start { room = r }) room)
+
+pub mapped_push : {X Y : Type 0} (f : X → Y) (yielded : List X) (x : X) (ys now : List Y) → now ≡ ys ++ f x ∷ [] → ys ≡ map f yielded → now ≡ map f (yielded ++ x ∷ [])
+mapped_push f yielded x ys now is m = is ∙ (ap (λ (l : List _). l ++ f x ∷ []) m ∙ sym (map-append f yielded (x ∷ [])))
+
+pub all_here : {X : Type 0} (P : X → Type 0) (yielded rest next whole : List X) (x : X) → rest ≡ x ∷ next → yielded ++ rest ≡ whole → All P whole → P x
+all_here P yielded rest next whole x is all h =
+    let there : whole ≡ yielded ++ x ∷ next = sym all ∙ ap (λ (l : List _). yielded ++ l) is in
+    let whole_there : All P (yielded ++ x ∷ next) = subst (All P) there h in
+    subst P (get_or-append_seam yielded x next x) (whole_there (length yielded) x (omega (arith, length-append yielded (x ∷ next))))
+
+pub is_ok_of : {T E : Type 0} (answer : Result T E) (x : T) → answer ≡ Ok x → IsOk answer
+is_ok_of answer x is = subst (λ (a : Result _ _). IsOk a) (sym is) refl

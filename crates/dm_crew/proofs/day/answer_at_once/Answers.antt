@@ -1,0 +1,36 @@
+use Rattle.std.proofs.Common.{◌≡◌, ℕ, ◌+◌, sym, ap, subst, ◌∙◌}
+use Rattle.std.specs.Prelude.{IfOk}
+use Rattle.dm_server.specs.declared.kept.Base.{Base}
+use Rattle.dm_turn.specs.Passes.{PassValue}
+use Rattle.dm_desk.specs.Planning.{PlansUnder}
+use Rattle.dm_crew.specs.Passes.{setting_of}
+use Rattle.dm_crew.specs.AtOnce.{AnswersDay}
+use Rattle.dm_crew.specs.Inside.Seats.{base_in}
+use Rattle.dm_crew.specs.Inside.Works.{first_pass}
+use Rattle.dm_crew.proofs.Days.{base_is}
+use Rattle.dm_crew.proofs.day.answer_at_once.Goals as goal
+
+pub answer_over-requires-clause-pass : goal.answer_over-requires-clause-pass
+answer_over-requires-clause-pass g c =
+    λ lifetimes bounds.
+    let base : Base = record { network = c.args.net.now; start = c.args.rows; penalty = c.args.penalty } in
+    let main = c.in_ok-server.main in
+    let id = c.in_ok-server.server.id in
+    let is : main ≡ first_pass id base (c.len.result + 1) = c.in_ok-server.ensures.pass in
+    let there : base_in main.base ≡ base = base_is main.base base (ap (λ (p : PassValue Base). p.base) is) in
+    is ∙ (ap (λ (b : Base). first_pass id b (c.len.result + 1)) (sym there) ∙ ap (λ (n : ℕ). first_pass id (base_in main.base) n) (sym c.in_ok-server.ensures.server))
+
+pub returns : goal.returns
+returns g c =
+    let base : Base = record { network = c.args.net.now; start = c.args.rows; penalty = c.args.penalty } in
+    let main = c.in_ok-server.main in
+    let there : base_in main.base ≡ base = base_is main.base base (ap (λ (p : PassValue Base). p.base) c.in_ok-server.ensures.pass) in
+    subst (λ (b : Base). IfOk c.answer_over.result (λ day. AnswersDay g.S.Source.left g.S.Source.is_sound b.network b.start b.penalty c.args.feeds.items c.args.batch day.table day.logs.items)) there c.answer_over.ensures
+
+pub answer_over-requires-clause-plans : goal.answer_over-requires-clause-plans
+answer_over-requires-clause-plans g c =
+    λ lifetimes bounds.
+    let base : Base = record { network = c.args.net.now; start = c.args.rows; penalty = c.args.penalty } in
+    let main = c.in_ok-server.main in
+    let there : base_in main.base ≡ base = base_is main.base base (ap (λ (p : PassValue Base). p.base) c.in_ok-server.ensures.pass) in
+    subst (λ (b : Base). PlansUnder (g.L.Planner.value c.args.planner.now) (setting_of b)) (sym there) c.requires.plans

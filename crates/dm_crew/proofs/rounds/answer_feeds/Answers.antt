@@ -1,0 +1,73 @@
+use Rattle.std.proofs.Common.{◌≡◌, ◌+◌, List, length, map, refl, sym, ap, subst, ◌∙◌, arith}
+use Rattle.std.proofs.lemmas.Result.{IfOk-weaker}
+use Rattle.dm_cert.specs.declared.replies.FeedLog.{FeedLog}
+use Rattle.dm_rounds.specs.Rounds.{AnswersFeeds}
+use Rattle.dm_rounds.specs.Inside.Jobs.{log_in}
+use Rattle.dm_rounds.proofs.Closing.{first_round, can_read_all, are_true_all, ends_rounds, is_some_none, ended_all}
+use Rattle.dm_server.specs.declared.kept.Base.{Base}
+use Rattle.dm_turn.specs.Passes.{PassValue}
+use Rattle.dm_crew.specs.Passes.{desk_of}
+use Rattle.dm_crew.proofs.rounds.answer_feeds.Goals as goal
+use Rattle.dm_crew.proofs.rounds.answer_feeds.Goals.{in-None, in-Some+then-have_ended}
+
+pub loop-init : goal.loop-init
+loop-init g c = (
+  refl,
+  record {
+    rounds = 0;
+    low = 0;
+    state = first_round g.S.Source.left g.S.Source.is_sound c.args.batch c.requires.some c.args.feeds.items (desk_of g.P.Seat.base c.args.main.now) c.in_ok-jobs.jobs.items c.requires.legal c.in_ok-jobs.ensures;
+  },
+)
+
+pub answer_round-requires-clause-here : goal.answer_round-requires-clause-here
+answer_round-requires-clause-here g c = λ lifetimes bounds. ap (λ (p : PassValue Base). p.turn) c.loop.invariant.0 ∙ c.requires.here
+
+pub answer_round-requires-clause-idle : goal.answer_round-requires-clause-idle
+answer_round-requires-clause-idle g c = λ lifetimes bounds. ap (λ (p : PassValue Base). p.holds) c.loop.invariant.0 ∙ c.requires.idle
+
+pub answer_round-requires-clause-base : goal.answer_round-requires-clause-base
+answer_round-requires-clause-base g c = λ lifetimes bounds. ap (λ (p : PassValue Base). p.base) c.loop.invariant.0 ∙ c.requires.base
+
+pub answer_round-requires-clause-legal : goal.answer_round-requires-clause-legal
+answer_round-requires-clause-legal g c = λ lifetimes bounds. c.loop.invariant.1.state.goes_on.legal
+
+pub answer_round-requires-clause-can_read : goal.answer_round-requires-clause-can_read
+answer_round-requires-clause-can_read g c =
+    λ lifetimes bounds.
+    can_read_all g.S.Source.left g.S.Source.is_sound c.args.batch c.requires.some c.args.feeds.items (desk_of g.P.Seat.base c.args.main.now) c.loop.invariant.1.rounds c.loop.invariant.1.low (desk_of g.P.Seat.base c.loop.main) c.loop.jobs.items 0 c.loop.invariant.1.state
+
+pub answer_round-requires-clause-are_true : goal.answer_round-requires-clause-are_true
+answer_round-requires-clause-are_true g c =
+    λ lifetimes bounds.
+    are_true_all g.S.Source.left g.S.Source.is_sound c.args.batch c.requires.some c.args.feeds.items (desk_of g.P.Seat.base c.args.main.now) c.loop.invariant.1.rounds c.loop.invariant.1.low (desk_of g.P.Seat.base c.loop.main) c.loop.jobs.items 0 c.loop.invariant.1.state
+
+pub answer_round-requires-clause-few : goal.answer_round-requires-clause-few
+answer_round-requires-clause-few g c = omega (arith, c.loop.jobs.ok.0, c.loop.invariant.1.state.as_many, c.requires.few)
+
+pub answer_round-requires-clause-rooms : goal.answer_round-requires-clause-rooms
+answer_round-requires-clause-rooms g c =
+    let room = ap (λ (p : PassValue Base). p.room) c.loop.invariant.0 in
+    omega (arith, room, c.loop.jobs.ok.0, c.loop.invariant.1.state.as_many, c.requires.rooms)
+
+pub loop-preserved : goal.loop-preserved
+loop-preserved g c = (
+  c.in_ok-jobs-2.ensures.same ∙ ap (λ (p : PassValue Base). record p { seen = c.answer_round.new.main.seen; mine = c.answer_round.new.main.mine }) c.loop.invariant.0,
+  record {
+    rounds = c.loop.invariant.1.rounds + 1;
+    low = length c.answer_round.new.main.seen;
+    state = c.in_ok-jobs-2.ensures.round c.args.feeds.items (desk_of g.P.Seat.base c.args.main.now) c.loop.invariant.1.rounds c.loop.invariant.1.low c.loop.invariant.1.state;
+  },
+)
+
+pub returns-clause-answers : goal.returns-clause-answers
+returns-clause-answers g c =
+    let P : List FeedLog → Type 0 = λ logs. AnswersFeeds g.S.Source.left g.S.Source.is_sound c.args.feeds.items c.args.batch (desk_of g.P.Seat.base c.args.main.now) (desk_of g.P.Seat.base c.loop.main) logs in
+    let ends : P (map log_in c.loop.jobs.items) =
+    elim c.match-next.branch [
+      | in-None w ↦ absurd (is_some_none c.next.result c.next.ensures.steps w.in-None.is)
+      | in-Some+then-have_ended w ↦
+          ends_rounds g.S.Source.left g.S.Source.is_sound c.args.batch c.requires.some c.args.feeds.items (desk_of g.P.Seat.base c.args.main.now) c.loop.invariant.1.rounds c.loop.invariant.1.low (desk_of g.P.Seat.base c.loop.main) c.loop.jobs.items (map log_in c.loop.jobs.items)
+          c.loop.invariant.1.state (ended_all w.deref.result.now c.loop.jobs.items w.deref.ensures.value (w.have_ended.ensures w.if-have_ended.true)) refl
+    ] in
+    IfOk-weaker c.logs_of.result (λ logs. logs.items ≡ map log_in c.loop.jobs.items) (λ logs. P logs.items) (λ logs is. subst P (sym is) ends) c.logs_of.ensures

@@ -1,0 +1,6 @@
+-- A pass of a server as a desk.
+pub mod Passes
+-- What answering feeds at once comes to.
+pub mod AtOnce
+-- Which pass a desk has, and states of a round: checked, and not to be believed.
+pub mod Inside

@@ -1,0 +1,120 @@
+//! A day's feeds, answered at once.
+
+ghost use Rattle.std.specs.Prelude.{◌≡◌, ◌+◌, ◌<◌, ◌≤◌, [], Some, length, IfOk};
+ghost use Rattle.dm_base.specs.declared.limits.TheConstants.{FEEDS, PENALTY};
+ghost use Rattle.dm_rows.specs.Active.{HasNoCycle};
+ghost use Rattle.dm_rows.specs.Rows.{IsSized};
+ghost use Rattle.dm_desk.specs.Planning.{PlansUnder};
+ghost use Rattle.dm_crew.specs.AtOnce.{AnswersDay, day_desk};
+ghost use Rattle.dm_crew.specs.Passes.{setting_of};
+ghost use Rattle.dm_crew.specs.Inside.Works.{first_pass};
+
+use crate::desk::Seat;
+use crate::rounds::answer_feeds;
+use dm_cert::FeedLog;
+use dm_desk::{Hold, Planner};
+use dm_network::Network;
+use dm_outside::Source;
+use dm_rows::Rows;
+use dm_server::{Kept, Server};
+use dm_settle::NoTimes;
+use dm_table::Table;
+use dm_turn::Pass;
+use std::alloc::{AllocError, Global};
+use std::marker::Brand;
+use std::sync::Wait;
+use std::thread::Threads;
+
+/// The table of a day, and the logs of its feeds.
+#[derive(Drop)]
+pub struct AnsweredDay<'n> {
+    pub table: Table<'n>,
+    pub logs: Vec<FeedLog>,
+}
+
+/// Answers feeds over a server of these rows, at a penalty in seconds for each passenger, until each has ended, in rounds of so
+/// many lines a feed. In a round each feed that has not ended is answered in a thread of its own, or, where none can be made,
+/// by the caller's. A feed that could not be opened is `None`. Want of memory may come at any point up to the end of the last round.
+pub fn answer_at_once<
+    'n,
+    R: Threads + Wait + Sync,
+    S: Source + Send + Drop,
+    L: Planner + Sync,
+    H: Hold + Sync,
+>(
+    rt: &R,
+    alloc: Global,
+    net: &'n Network,
+    rows: Rows,
+    penalty: u64,
+    feeds: Vec<Option<S>>,
+    planner: &L,
+    gate: &H,
+    batch: u32,
+) -> Result<AnsweredDay<'n>, AllocError>
+    requires sized { IsSized net.now rows }
+    requires no_cycle { HasNoCycle net.now rows }
+    requires penalty { penalty ≤ PENALTY }
+    requires plans { PlansUnder (L.value planner.now) (day_desk net.now rows penalty).setting }
+    requires few { length feeds.items ≤ FEEDS }
+    requires some { 0 < batch }
+    ensures { IfOk result (λ day. AnswersDay S.left S.is_sound net.now rows penalty feeds.items batch day.table day.logs.items) }
+{
+    let seats = feeds.len() as u32 + 1;
+    let (server, main) = new_server(alloc, net, rows, penalty, seats)?;
+    answer_over::<Brand, R, S, L, H>(rt, alloc, server, main, feeds, planner, gate, batch)
+}
+
+// Answers feeds over a server with no entries, and closes it.
+fn answer_over<
+    'n,
+    P: Seat + Send + Sync,
+    R: Threads + Wait + Sync,
+    S: Source + Send + Drop,
+    L: Planner + Sync,
+    H: Hold + Sync,
+>(
+    rt: &R,
+    alloc: Global,
+    server: Server<'n>,
+    mut main: Pass<Kept<'n>>,
+    feeds: Vec<Option<S>>,
+    planner: &L,
+    gate: &H,
+    batch: u32,
+) -> Result<AnsweredDay<'n>, AllocError>
+    requires pass { main ≡ first_pass server.id P.base server.seats }
+    requires plans { PlansUnder (L.value planner.now) (setting_of P.base) }
+    requires few { length feeds.items ≤ FEEDS }
+    requires rooms { length feeds.items < server.seats }
+    requires some { 0 < batch }
+    ensures { IfOk result (λ day. AnswersDay S.left S.is_sound P.base.network P.base.start P.base.penalty feeds.items batch day.table day.logs.items) }
+{
+    let logs = answer_feeds::<P, R, S, L, H>(
+        rt, alloc, &server, &mut main, feeds, planner, gate, batch,
+    )?;
+    let table = server.close(main);
+    Ok(AnsweredDay { table, logs })
+}
+
+// A server of rows that have no cycle, and its first pass.
+fn new_server<'n>(
+    alloc: Global,
+    net: &'n Network,
+    rows: Rows,
+    penalty: u64,
+    seats: u32,
+) -> Result<(Server<'n>, Pass<Kept<'n>>), AllocError>
+    requires sized { IsSized net.now rows }
+    requires no_cycle { HasNoCycle net.now rows }
+    requires within { penalty ≤ PENALTY }
+    requires seats { 1 ≤ seats }
+    ensures server { IfOk result (λ r. r.0.seats ≡ seats) }
+    ensures pass { IfOk result (λ r. r.1 ≡ first_pass r.0.id (record { network = net.now; start = rows; penalty = penalty }) seats) }
+{
+    match Server::new(alloc, net, rows, penalty, seats) {
+        Ok(opened) => Ok(opened),
+        Err(NoTimes::OutOfMemory) => Err(AllocError),
+        Err(NoTimes::Cycle(_)) => unreachable!(),
+    }
+}

@@ -1,0 +1,114 @@
+//! One feed's part of a round.
+
+ghost use Rattle.std.specs.Prelude.{◌≡◌, ℕ, false, Some, All, slice_get, vec_len, IfOk};
+ghost use Rattle.dm_desk.specs.Planning.{PlansUnder};
+ghost use Rattle.dm_crew.specs.Passes.{setting_of, desk_of};
+ghost use Rattle.dm_crew.specs.Inside.Works.{IsReady, IsWorked};
+
+use crate::desk::{Seat, ServerDesk};
+use dm_desk::{Hold, Planner};
+use dm_outside::Source;
+use dm_rounds::{Job, answer_job};
+use dm_server::{Kept, Server};
+use dm_turn::Pass;
+use std::alloc::AllocError;
+use std::marker::{Brand, PhantomData};
+use std::sync::Wait;
+use std::thread;
+use std::thread::Threads;
+
+/// A feed with its number and a pass of its own, and whether memory was wanting when its lines were answered.
+#[derive(Drop)]
+pub struct Work<'n, S> {
+    pub pass: Pass<Kept<'n>>,
+    pub job: Job<S>,
+    pub feed: u32,
+    pub answer: Result<(), AllocError>,
+}
+
+impl<'n, S: Source + Drop> Work<'n, S> {
+    /// Answers the feed's next lines over its pass.
+    pub fn worked<P: Seat, R: Wait, L: Planner, H: Hold>(
+        self,
+        rt: &R,
+        server: &Server<'n>,
+        planner: &L,
+        gate: &H,
+        batch: u32,
+    ) -> Work<'n, S>
+        requires ready { IsReady server.now.id P.base self.feed self.pass self.job }
+        requires plans { PlansUnder (L.value planner.now) (setting_of P.base) }
+        ensures feed { result.feed ≡ self.entry.feed }
+        ensures worked { IsWorked S.left S.is_sound P.base batch self.entry.feed self.entry.pass self.entry.job result.pass result.job result.answer }
+    {
+        let Work {
+            pass,
+            mut job,
+            feed,
+            answer: _,
+        } = self;
+        let (pass, answer) = answer_seated::<Brand, R, S, L, H>(
+            rt, server, pass, &mut job, planner, gate, feed, batch,
+        );
+        Work {
+            pass,
+            job,
+            feed,
+            answer,
+        }
+    }
+}
+
+// Answers the next lines of a feed over the pass that is picked.
+fn answer_seated<'n, P: Seat, R: Wait, S: Source + Drop, L: Planner, H: Hold>(
+    rt: &R,
+    server: &Server<'n>,
+    pass: Pass<Kept<'n>>,
+    job: &mut Job<S>,
+    planner: &L,
+    gate: &H,
+    feed: u32,
+    batch: u32,
+) -> (Pass<Kept<'n>>, Result<(), AllocError>)
+    requires pass { pass ≡ P.pass }
+    requires ready { IsReady server.now.id P.base feed pass job.old }
+    requires plans { PlansUnder (L.value planner.now) (setting_of P.base) }
+    ensures { IsWorked S.left S.is_sound P.base batch feed pass.entry job.old result.0 job.new result.1 }
+{
+    let mut desk: ServerDesk<'_, '_, 'n, R, P> = ServerDesk {
+        rt,
+        server,
+        pass,
+        of: PhantomData,
+    };
+    let answer = answer_job(job, &mut desk, planner, gate, feed, batch);
+    (desk.pass, answer)
+}
+
+/// Answers the next lines of feeds, each in a thread of its own where one can be made.
+pub fn work_all<
+    'n,
+    P: Seat + Send + Sync,
+    R: Threads + Wait + Sync,
+    S: Source + Send + Drop,
+    L: Planner + Sync,
+    H: Hold + Sync,
+>(
+    rt: &R,
+    server: &Server<'n>,
+    works: Vec<Work<'n, S>>,
+    planner: &L,
+    gate: &H,
+    batch: u32,
+) -> Result<Vec<Work<'n, S>>, AllocError>
+    requires ready { All (λ w. IsReady server.now.id P.base w.feed w.pass w.job) works.items }
+    requires plans { PlansUnder (L.value planner.now) (setting_of P.base) }
+    ensures len { IfOk result (λ after. vec_len after ≡ vec_len works.entry) }
+    ensures each { IfOk result (λ after. (k : ℕ) (w v : _) → slice_get works.entry.items k ≡ Some w → slice_get after.items k ≡ Some v → (v.feed ≡ w.feed) × IsWorked S.left S.is_sound P.base batch w.feed w.pass w.job v.pass v.job v.answer) }
+{
+    thread::map_vec(
+        rt,
+        works,
+        &|work: Work<'_, S>| work.worked::<P, R, L, H>(rt, server, planner, gate, batch),
+    )
+}
