@@ -138,9 +138,13 @@ const DELAYED: &[&str] = &[
 const UNOPENED: &[u8] =
     b"dm-run 2\npenalty 10\nfeeds 1\nentries 0\nfeed 1 0\nfault\nboards 0\ntimes 0\n1; 100\n2; 200\n3; 220\n4; 300\n5; 230\n6; 330\ncost 0\ndone\n";
 
-// The whole text of a late first train, told by one feed, beside a feed whose third line cannot be read.
-const HALF_READ: &[u8] =
-    b"dm-run 2\npenalty 10\nfeeds 2\nentries 1\nentry 1 feed 1 line 1 delay event 1 60\nfeed 1 1\n1 delay event 1 60 -> 1 ok\nend\nfeed 2 2\n1 read -> 1 read\n2 read -> 1 read\nfault\nboards 0\ntimes 1\n1; 160\n2; 250\n3; 260\n4; 340\n5; 270\n6; 365\ncost 1075000\ndone\n";
+// The whole texts of a late first train, told by one feed, beside a feed whose third line cannot be read: which of the first
+// two find the entry depends on the threads.
+const HALF_READ: [&[u8]; 3] = [
+    b"dm-run 2\npenalty 10\nfeeds 2\nentries 1\nentry 1 feed 1 line 1 delay event 1 60\nfeed 1 1\n1 delay event 1 60 -> 1 ok\nend\nfeed 2 2\n1 read -> 1 read\n2 read -> 1 read\nfault\nboards 0\ntimes 1\n1; 160\n2; 250\n3; 260\n4; 340\n5; 270\n6; 365\ncost 1075000\ndone\n",
+    b"dm-run 2\npenalty 10\nfeeds 2\nentries 1\nentry 1 feed 1 line 1 delay event 1 60\nfeed 1 1\n1 delay event 1 60 -> 1 ok\nend\nfeed 2 2\n1 read -> 0 read\n2 read -> 1 read\nfault\nboards 0\ntimes 1\n1; 160\n2; 250\n3; 260\n4; 340\n5; 270\n6; 365\ncost 1075000\ndone\n",
+    b"dm-run 2\npenalty 10\nfeeds 2\nentries 1\nentry 1 feed 1 line 1 delay event 1 60\nfeed 1 1\n1 delay event 1 60 -> 1 ok\nend\nfeed 2 2\n1 read -> 0 read\n2 read -> 0 read\nfault\nboards 0\ntimes 1\n1; 160\n2; 250\n3; 260\n4; 340\n5; 270\n6; 365\ncost 1075000\ndone\n",
+];
 
 fn ends<R: Threads + Wait + Sync + AllocGlobal>(
     rt: &R,
@@ -258,7 +262,9 @@ fn feed_that_fails_at_its_third_read(rt: HostRuntime) -> Result<(), Fail> {
         ..GOOD
     };
     let words = &["run", "net", "--penalty=10", "f", "g"];
-    assert!(rt; ends(&rt, words, &case, Status::ReadFault, HALF_READ)?);
+    let (ended, taken) = run_case(&rt, words, &case)?;
+    assert!(rt; ended == Status::ReadFault);
+    assert!(rt; HALF_READ.iter().any(|text| taken.as_slice() == *text));
     Ok(())
 }
 

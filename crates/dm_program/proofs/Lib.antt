@@ -1,7 +1,5 @@
-pub mod Adopting
 pub mod Asked
 pub mod Closing
 pub mod Converse
 pub mod Opened
 pub mod Printed
-pub mod Tables

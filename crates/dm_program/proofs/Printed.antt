@@ -1,7 +1,8 @@
 -- A run that is answered has a spelling, and is true.
-use Rattle.std.proofs.Common.{◌≡◌, ◌≢◌, ℕ, suc, zero, ◌+◌, ◌<◌, ◌≤◌, inl, inr, Bool, cond, true, false, List, [], ◌∷◌, ◌++◌, length, Option, Some, None, Ok, refl, sym, ap, subst, ◌∙◌, arith, get_or}
+use Rattle.std.proofs.Common.{◌≡◌, ◌≢◌, ℕ, suc, zero, ◌+◌, ◌<◌, ◌≤◌, inl, inr, Bool, cond, true, false, List, [], ◌∷◌, ◌++◌, length, Option, Some, None, Ok, refl, sym, ap, subst, ◌∙◌, arith, zero-add, get_or}
 use Rattle.std.specs.Prelude.{◌==◌, IfSome}
 use Rattle.std.proofs.lemmas.List.Elements.{All-nil}
+use Rattle.std.proofs.lemmas.List.FromFn.{map-range_with_len_more}
 use Rattle.std.proofs.lemmas.List.Sums.{sum_by-append, sum_by-cons}
 use Rattle.std.proofs.lemmas.Option.{slice_get_within, slice_get-get_or}
 use Rattle.std.proofs.lemmas.Bool.{cases_eq, eq-eqb, ne_eqb, cases_lt}
@@ -22,10 +23,13 @@ use Rattle.dm_program.specs.declared.status.Status.{Status}
 use Rattle.dm_program.specs.Served.{AsksServed}
 use Rattle.dm_program.specs.Feeds.{IsLogOfHeld, IsLogOfName, AreLogsOf, status_of}
 use Rattle.dm_program.specs.Headline.{IsRunOf}
-use Rattle.dm_program.specs.Inside.Stages.{desk_of, numbers_to, IsOpenedAs, IsOpened, AreOpened, AreWithin, RunsOver, run_in}
-use Rattle.dm_program.proofs.Tables.{one_more_number}
+use Rattle.dm_crew.specs.AtOnce.{numbers_to, table_desk, AnswersDay}
+use Rattle.dm_program.specs.Inside.Stages.{IsOpenedAs, IsOpened, AreOpened, AreWithin, run_in}
 
 -- ---- numbers
+
+one_more_number : (n : ℕ) → numbers_to (n + 1) ≡ numbers_to n ++ (n + 1) ∷ []
+one_more_number n = map-range_with_len_more (λ k. k + 1) 0 n n (zero-add n)
 
 abbrev one_where : Bool → ℕ
 one_where b = cond b 1 0
@@ -66,30 +70,18 @@ each_once (suc len) n some low =
 
 -- ---- one run
 
-module _ {S : Type 0} (left : S → Option (List ℕ)) (source_sound : S → Type 0) (net : Net) (rows : RowsValue) (price : ℕ) (feeds : List (Option S)) (batch : ℕ) (table : TableValue) (logs : List FeedLog) (r : RunsOver left source_sound net rows price feeds batch table logs) where
+module _ {S : Type 0} (left : S → Option (List ℕ)) (source_sound : S → Type 0) (net : Net) (rows : RowsValue) (price : ℕ) (feeds : List (Option S)) (batch : ℕ) (table : TableValue) (logs : List FeedLog) (r : AnswersDay left source_sound net rows price feeds batch table logs) where
   pub run_is_spelled : IsSpelledRun (run_in table logs)
   run_is_spelled = record {
     logs = λ k d low. r.answers.spelled k (get_or logs k d) (slice_get-get_or logs k d low);
     times = r.is_table.least.meets.size;
   }
 
-  same_setting : (desk_of table).setting ≡ (desk_of r.before).setting
-  same_setting = r.answers.goes_on.setting
-
-  same_net : table.network ≡ net
-  same_net = ap (λ s. s.net) same_setting ∙ r.begins.network
-
-  same_start : table.start ≡ rows
-  same_start = ap (λ s. s.start) same_setting ∙ r.begins.start
-
-  same_penalty : table.penalty ≡ price
-  same_penalty = ap (λ s. s.penalty) same_setting ∙ r.begins.penalty
-
-  logs_are_true : AreTrueLogs (desk_of table).setting table.history logs
+  logs_are_true : AreTrueLogs (table_desk table).setting table.history logs
   logs_are_true = record {
     each = r.answers.are_true;
     once = λ n some low.
-        let before : times n (numbers_to (length r.before.history)) ≡ 0 = ap (λ l. times n (numbers_to (length l))) r.begins.history in
+        let before : times n [] ≡ 0 = refl in
         omega (arith, r.answers.named n, before, each_once (length table.history) n some low);
   }
 
@@ -145,15 +137,15 @@ module _ {S : Type 0} (left : S → Option (List ℕ)) (source_sound : S → Typ
       → batch ≡ asked.batch → AreOpened left source_sound told is_sound asked.feeds feeds → FitsRun (run_in table logs) → (status : Status) → status ≡ status_of logs → IsRunOf told is_sound words status (run_text 2 (run_in table logs))
   is_run_of told is_sound words asked opening asks within opens is_net is_rows is_price is_batch opened fits status is_status =
       let of = logs_of_names told is_sound asked.feeds opened in
-      let start : table.start ≡ opening.rows = same_start ∙ sym is_rows in
+      let start : table.start ≡ opening.rows = r.start ∙ sym is_rows in
       record {
         asked = asked;
         is_asked = asks;
         opening = opening;
         opens = opens;
         run = run_in table logs;
-        net = same_net ∙ sym is_net;
-        penalty = same_penalty ∙ is_price;
+        net = r.network ∙ sym is_net;
+        penalty = r.penalty ∙ is_price;
         notes = refl;
         logs = of;
         rounds = subst (KeepsRounds logs) is_batch r.answers.rounds;

@@ -1,11 +1,10 @@
 //! The top call: what the words of a command line ask for, from files and feeds to the text that is written.
 //!
-//! It stands on dm_words for words, on dm_input for files, on dm_table for the table of a day, on dm_search for plans, on
-//! dm_rounds for feeds that are answered in rounds, and on dm_report for the text. [`dispatch`] promises in `specs/Headline`
+//! It stands on dm_words for words, on dm_input for files, on dm_crew for feeds that are answered at once in rounds, on dm_search
+//! for plans, and on dm_report for the text. [`dispatch`] promises in `specs/Headline`
 //! what a run prints, and in `specs/Ends` why it ends otherwise.
 #![tactic(auto)]
 
-mod desk;
 mod ends;
 mod feeds;
 mod planner;

@@ -6,15 +6,15 @@ ghost use Rattle.dm_program.specs.Ends.{EndsAs};
 ghost use Rattle.dm_program.specs.Feeds.{status_of, is_fault, is_long};
 ghost use Rattle.dm_program.specs.Inside.Stages.{run_in};
 
-use crate::run::Answered;
 use crate::status::Status;
 use dm_cert::FeedLog;
+use dm_crew::AnsweredDay;
 use dm_feed::FeedStop;
 use dm_outside::{Sink, WriteFault};
 use dm_report::{Run, print_run};
 
 /// Prints a run that is answered.
-pub fn end_run<K: Sink>(answered: &Answered<'_>, out: &mut K) -> Status
+pub fn end_run<K: Sink>(answered: &AnsweredDay<'_>, out: &mut K) -> Status
     requires { IsSpelledRun (run_in answered.now.table answered.now.logs.items) }
     ensures ends { EndsAs K.taken K.faults out.old out.new (run_text 2 (run_in answered.now.table answered.now.logs.items)) (status_of answered.now.logs.items) result }
     ensures fits { FitsRun (run_in answered.now.table answered.now.logs.items) }

@@ -2,37 +2,33 @@
 
 ghost use Rattle.std.specs.Prelude.{◌≡◌, ◌<◌, ◌≤◌, ℕ, List, length, IfOk};
 ghost use Rattle.dm_base.specs.declared.limits.TheConstants.{FEEDS, PENALTY};
-ghost use Rattle.dm_rows.specs.Active.{HasNoCycle};
 ghost use Rattle.dm_rows.specs.Rows.{IsSized};
-ghost use Rattle.dm_rounds.specs.Rounds.{AnswersFeeds};
+ghost use Rattle.dm_crew.specs.AtOnce.{AnswersDay};
 ghost use Rattle.dm_input.specs.Stops.{IsKept};
 ghost use Rattle.dm_words.specs.Asked.{run_of};
 ghost use Rattle.dm_words.specs.Words.{RunOf};
 ghost use Rattle.dm_program.specs.Ends.{Ends};
 ghost use Rattle.dm_program.specs.Served.{AsksServed};
-ghost use Rattle.dm_program.specs.Inside.Stages.{AreWithin, IsAtStart, Begins, desk_of, RunsOver};
+ghost use Rattle.dm_program.specs.Inside.Stages.{AreWithin, IsAtStart};
 
-use crate::desk::TableDesk;
 use crate::ends::end_stopped;
 use crate::feeds::{names_of, open_feeds};
 use crate::planner::OwnThread;
 use crate::print::end_run;
 use crate::status::Status;
-use dm_cert::FeedLog;
+use dm_crew::{AnsweredDay, answer_at_once};
 use dm_desk::Hold;
 use dm_input::{Opened, read_opening};
 use dm_network::Network;
 use dm_outside::{Shelf, Sink, Source};
-use dm_rounds::answer_feeds;
 use dm_rows::Rows;
-use dm_settle::NoTimes;
-use dm_table::Table;
 use dm_words::RunWords;
 use std::alloc::{AllocError, Global};
 use std::sync::Wait;
+use std::thread::Threads;
 
 /// Reads the files of a run, opens and answers its feeds, and prints it.
-pub fn run_feeds<R: Wait, H: Shelf, K: Sink, G: Hold>(
+pub fn run_feeds<R: Threads + Wait + Sync, H: Shelf, K: Sink, G: Hold + Sync>(
     rt: &R,
     alloc: Global,
     run: &RunWords<'_>,
@@ -72,15 +68,8 @@ pub fn run_feeds<R: Wait, H: Shelf, K: Sink, G: Hold>(
     }
 }
 
-/// The table of a day, and the logs of its feeds.
-#[derive(Drop)]
-pub struct Answered<'n> {
-    pub table: Table<'n>,
-    pub logs: Vec<FeedLog>,
-}
-
-/// Answers feeds over a network in rounds, from the rows before any message.
-pub fn answer_run<'n, R: Wait, S: Source + Drop, H: Hold>(
+/// Answers feeds over a network in rounds, from the rows before any message, each feed of a round in a thread of its own.
+pub fn answer_run<'n, R: Threads + Wait + Sync, S: Source + Send + Drop, H: Hold + Sync>(
     rt: &R,
     alloc: Global,
     net: &'n Network,
@@ -89,44 +78,19 @@ pub fn answer_run<'n, R: Wait, S: Source + Drop, H: Hold>(
     feeds: Vec<Option<S>>,
     gate: &H,
     batch: u32,
-) -> Result<Answered<'n>, AllocError>
+) -> Result<AnsweredDay<'n>, AllocError>
     requires sized { IsSized net.now rows }
     requires start { IsAtStart net.now rows }
     requires penalty { penalty ≤ PENALTY }
     requires few { length feeds.items ≤ FEEDS }
     requires some { 0 < batch }
-    ensures { IfOk result (λ answered. RunsOver S.left S.is_sound net.now rows penalty feeds.items batch answered.table answered.logs.items) }
+    ensures { IfOk result (λ day. AnswersDay S.left S.is_sound net.now rows penalty feeds.items batch day.table day.logs.items) }
 {
     net.sound();
-    let table = new_table(alloc, net, rows, penalty)?;
-    table.sound();
-    let mut desk = TableDesk { alloc, table };
     let planner = OwnThread {
         alloc,
         net,
         penalty,
     };
-    let logs = answer_feeds(rt, alloc, feeds, &mut desk, &planner, gate, batch)?;
-    let table = desk.table;
-    table.sound();
-    Ok(Answered { table, logs })
-}
-
-// A table of start rows, which have no cycle.
-fn new_table<'n>(
-    alloc: Global,
-    net: &'n Network,
-    rows: Rows,
-    penalty: u64,
-) -> Result<Table<'n>, AllocError>
-    requires sized { IsSized net.now rows }
-    requires no_cycle { HasNoCycle net.now rows }
-    requires penalty { penalty ≤ PENALTY }
-    ensures { IfOk result (Begins net.now rows penalty) }
-{
-    match Table::new(alloc, net, rows, penalty) {
-        Ok(table) => Ok(table),
-        Err(NoTimes::OutOfMemory) => Err(AllocError),
-        Err(NoTimes::Cycle(_)) => unreachable!(),
-    }
+    answer_at_once(rt, alloc, net, rows, penalty, feeds, &planner, gate, batch)
 }

@@ -63,8 +63,8 @@ pub fn dispatch<R: Threads + Wait + Sync, H: Shelf, K: Sink, G: Gate>(
     run(rt, alloc, words, shelf, gate, out)
 }
 
-/// Does what the words ask, in the calling thread.
-fn run<R: Wait, H: Shelf, K: Sink, G: Hold>(
+/// Does what the words ask.
+fn run<R: Threads + Wait + Sync, H: Shelf, K: Sink, G: Hold + Sync>(
     rt: &R,
     alloc: Global,
     words: &[String],
@@ -83,7 +83,7 @@ fn run<R: Wait, H: Shelf, K: Sink, G: Hold>(
 }
 
 /// Does what a command asks, or says which words are in form where it is not done yet.
-fn do_command<R: Wait, H: Shelf, K: Sink, G: Hold>(
+fn do_command<R: Threads + Wait + Sync, H: Shelf, K: Sink, G: Hold + Sync>(
     rt: &R,
     alloc: Global,
     command: &CommandWords<'_>,
@@ -104,7 +104,7 @@ fn do_command<R: Wait, H: Shelf, K: Sink, G: Hold>(
 }
 
 /// Does a run that has no boards.
-fn do_run<R: Wait, H: Shelf, K: Sink, G: Hold>(
+fn do_run<R: Threads + Wait + Sync, H: Shelf, K: Sink, G: Hold + Sync>(
     rt: &R,
     alloc: Global,
     run: &RunWords<'_>,

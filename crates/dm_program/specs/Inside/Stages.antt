@@ -1,6 +1,5 @@
 -- Stages of a run.
 use Rattle.std.specs.Prelude.{ℕ, ◌≡◌, ◌+◌, ◌^◌, ◌<◌, ◌≤◌, List, [], length, map, slice_get, ◌++◌, ◌∷◌, Option, Some, None, Result, Ok, Err}
-use Rattle.std.specs.List.{range_with_len}
 use Rattle.dm_base.specs.declared.limits.TheConstants.{FEEDS, PENALTY}
 use Rattle.dm_base.specs.declared.rows.DelayRow.{DelayRow}
 use Rattle.dm_input.specs.Input.{Told, IsHeld}
@@ -10,15 +9,10 @@ use Rattle.dm_input.specs.declared.flaws.InputStop.{InputStop}
 use Rattle.dm_input.specs.declared.flaws.InputStop.TheVariants.{Refused, ReadFault, NoMemory}
 use Rattle.dm_network.specs.Net.{Net}
 use Rattle.dm_rows.specs.Rows.{RowsValue, start_rows_of}
-use Rattle.dm_rows.specs.declared.messages.Entry.{Entry}
 use Rattle.dm_rows.specs.Cost.{cost_of}
 use Rattle.dm_cert.specs.declared.replies.FeedLog.{FeedLog}
 use Rattle.dm_cert.specs.RunTexts.{Run}
-use Rattle.dm_desk.specs.Desks.{DeskValue}
-use Rattle.dm_rounds.specs.Rounds.{AnswersFeeds}
-use Rattle.dm_table.specs.Value.{TableValue, IsTable}
-use Rattle.dm_table.specs.Answers.{RefusesPost}
-use Rattle.dm_rows.specs.declared.messages.Refusal.{Refusal}
+use Rattle.dm_table.specs.Value.{TableValue}
 use Rattle.dm_program.specs.declared.status.Status.{Status}
 use Rattle.dm_program.specs.declared.status.Status.TheVariants.{Refused as IsRefused, ReadFault as IsReadFault, NoMemory as WantsMore}
 use Rattle.dm_program.specs.Ends.{EndsAs}
@@ -28,27 +22,6 @@ pub record IsAtStart (net : Net) (rows : RowsValue) : Type 0 where
   pub event_delays : List DelayRow
   pub activity_delays : List DelayRow
   pub are : rows ≡ start_rows_of net event_delays activity_delays
-
--- the numbers from 1 up to one
-abbrev pub numbers_to : ℕ → List ℕ
-numbers_to n = map (λ k. k + 1) (range_with_len 0 n)
-
--- a table as a desk, which has made all its entries
-abbrev pub desk_of : TableValue → DeskValue
-desk_of table =
-    record {
-      setting = record { net = table.network; start = table.start; penalty = table.penalty; version = 2 };
-      seen = table.history;
-      mine = numbers_to (length table.history);
-    }
-
--- a table with no entries, of these rows
-pub record Begins (net : Net) (rows : RowsValue) (price : ℕ) (table : TableValue) : Type 0 where
-  pub network : table.network ≡ net
-  pub start : table.start ≡ rows
-  pub penalty : table.penalty ≡ price
-  pub history : table.history ≡ []
-  pub is_table : IsTable table
 
 -- ---- words
 
@@ -87,27 +60,6 @@ pub record AreOpened {S : Type 0} (left : S → Option (List ℕ)) (source_sound
   pub each : (k : ℕ) (name : List ℕ) (feed : Option S) → slice_get names k ≡ Some name → slice_get feeds k ≡ Some feed → IsOpened left source_sound told is_sound name feed
 
 -- ---- runs
-
--- the entry is the last of the history now, and nothing else but rows and times has changed
-pub record EntersTo (before now : TableValue) (entry : Entry) (n : ℕ) : Type 0 where
-  pub network : now.network ≡ before.network
-  pub start : now.start ≡ before.start
-  pub penalty : now.penalty ≡ before.penalty
-  pub history : now.history ≡ before.history ++ entry ∷ []
-  pub number : n ≡ length now.history
-  pub is_table : IsTable now
-
--- the entry was entered, or was refused and the table is as before
-abbrev pub PostsTo : TableValue → TableValue → Entry → Result ℕ Refusal → Type 0
-PostsTo before now entry (Ok n) = EntersTo before now entry n
-PostsTo before now entry (Err why) = (now ≡ before) × RefusesPost before.network before.rows (length before.history) entry.message why
-
--- The feeds were answered over a table of these rows.
-pub record RunsOver {S : Type 0} (left : S → Option (List ℕ)) (is_sound : S → Type 0) (net : Net) (rows : RowsValue) (penalty : ℕ) (feeds : List (Option S)) (batch : ℕ) (table : TableValue) (logs : List FeedLog) : Type 0 where
-  pub before : TableValue
-  pub begins : Begins net rows penalty before
-  pub is_table : IsTable table
-  pub answers : AnswersFeeds left is_sound feeds batch (desk_of before) (desk_of table) logs
 
 -- what is printed of a run
 abbrev pub run_in : TableValue → List FeedLog → Run
