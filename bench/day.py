@@ -141,8 +141,7 @@ def write_feed(folder, name, lines, count=None):
             file.write(line)
 
 
-def main():
-    number, trains, folder = int(sys.argv[1]), int(sys.argv[2]), sys.argv[3]
+def write_day(number, trains, folder):
     net = os.path.join(folder, 'net')
     os.makedirs(net, exist_ok=True)
     with open(os.path.join(net, 'Events-expanded.giv'), 'w') as file:
@@ -157,4 +156,9 @@ def main():
     write_feed(folder, 'questions', questions(Draws(number), trains))
 
 
-main()
+def main():
+    write_day(int(sys.argv[1]), int(sys.argv[2]), sys.argv[3])
+
+
+if __name__ == '__main__':
+    main()

@@ -4,3 +4,5 @@ pub mod Trains
 pub mod Activities
 pub mod Feed
 pub mod Laws
+-- That nothing refuses a generated day.
+pub mod Sound

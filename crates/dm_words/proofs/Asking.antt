@@ -1,7 +1,9 @@
 -- Words that ask for something, and words that ask for nothing.
-use Rattle.std.proofs.Common.{◌≡◌, ℕ, List, ◌∷◌, Option, codes, refl, ap, ◌∙◌}
+use Rattle.std.proofs.Common.{◌≡◌, ◌≤◌, ℕ, List, [], ◌∷◌, length, Option, None, Some, codes, refl, ap, ◌∙◌, arith}
 use Rattle.std.specs.Option.{MatchOption}
 use Rattle.std.specs.Prelude.{Result, Ok, Err, IfOk}
+use Rattle.dm_base.specs.declared.limits.TheConstants.{BOARDS}
+use Rattle.dm_words.specs.Stops.{AreBoards}
 use Rattle.dm_words.specs.Words.{Command, CheckAsked, GenAsked, RunOf, CheckOf, GenOf, Asks, AsksCheck, AsksGen, AsksNothing, AreStopsOf, boards_of_command}
 use Rattle.dm_words.specs.Asked.{command_of}
 use Rattle.dm_words.specs.declared.command.CommandWords.{CommandWords}
@@ -29,6 +31,17 @@ stops_asked words command stops asks is =
       asked = λ other asks_other. is ∙ ap boards_of_command (one_command words command other asks asks_other);
       nothing = λ none. absurd (none command asks);
     }
+
+few_given : (value : Option (List ℕ)) (stops : List ℕ) → AreBoards value stops → length stops ≤ BOARDS
+few_given None stops none = omega (arith, ap length none)
+few_given (Some text) stops are = are.few
+
+-- words ask for few boards
+pub few_boards : (words : List (List ℕ)) (command : Command) → Asks words command → length (boards_of_command command) ≤ BOARDS
+few_boards [] (RunOf asked) asks = absurd asks
+few_boards (word ∷ words) (RunOf asked) asks = few_given asks.1.boards.value asked.boards asks.1.boards.are
+few_boards words (CheckOf asked) asks = omega arith
+few_boards words (GenOf asked) asks = omega arith
 
 pub if_ok_then : {T E : Type 0} (P Q : T → Type 0) (r : Result T E) → IfOk r P → ((v : T) → P v → Q v) → IfOk r Q
 if_ok_then P Q (Ok v) h f = f v h

@@ -1,0 +1,53 @@
+-- The summary of a day from what its table tells.
+use Rattle.std.proofs.Common.{ℕ, ◌≡◌, ◌≤◌, List, [], length, sym, ap, ◌∙◌, subst, arith}
+use Rattle.std.specs.List.{All}
+use Rattle.dm_gen.specs.Trains.{events_of}
+use Rattle.dm_gen.specs.Activities.{activities_of}
+use Rattle.dm_gen.specs.Feed.{feed_of}
+use Rattle.dm_gen.specs.Sound.{DelaysEventOf}
+use Rattle.dm_gen.proofs.Sizing.{feed_count}
+use Rattle.dm_gen.proofs.Refusing.{delays_events}
+use Rattle.dm_feed.specs.declared.grammar.Line.{Line}
+use Rattle.dm_network.specs.Build.{IsBuiltFrom}
+use Rattle.dm_network.specs.Net.{Net}
+use Rattle.dm_report.specs.declared.summaries.Summary.{Summary}
+use Rattle.dm_rows.specs.Cost.{cost_of}
+use Rattle.dm_rows.specs.Rows.{RowsValue, start_rows_of}
+use Rattle.dm_rows.specs.History.{rows_at, IsLegal}
+use Rattle.dm_table.specs.Value.{TableValue, IsTable}
+use Rattle.dm_summary.specs.Summed.{IsSummaryOf}
+use Rattle.dm_summary.specs.Inside.Lines.{IsOpened, HasEntered, IsSummaryIn}
+
+pub summary_is : (number trains penalty : ℕ) (net : Net) (opened table : TableValue) (summary : Summary) → IsBuiltFrom (events_of trains) (activities_of trains) net
+    → IsOpened net penalty opened → HasEntered opened (feed_of number trains) table → IsTable table → IsSummaryIn table summary → IsSummaryOf number trains penalty summary
+summary_is number trains penalty net opened table summary built o h is s =
+    let network : table.network ≡ net = h.network ∙ o.network in
+    let start : table.start ≡ start_rows_of table.network [] [] = h.start ∙ o.start ∙ ap (λ n. start_rows_of n [] []) (sym network) in
+    record {
+      net = table.network;
+      built = subst (IsBuiltFrom (events_of trains) (activities_of trains)) (sym network) built;
+      history = table.history;
+      rows = table.rows;
+      after_feed = record {
+        lines = h.lines;
+        legal = subst (λ (r : RowsValue). IsLegal table.network r table.history) start is.legal;
+        are = is.replayed ∙ ap (λ (r : RowsValue). rows_at table.network r table.history (length table.history)) start;
+      };
+      times = table.times;
+      least = is.least;
+      events = s.events;
+      activities = s.activities;
+      choices = s.choices;
+      entries = s.entries;
+      cost = s.cost ∙ ap (cost_of table.network table.rows table.times) (h.penalty ∙ o.penalty);
+      sum = s.sum;
+    }
+
+pub few_lines : (number trains : ℕ) (lines : List Line) → lines ≡ feed_of number trains → length lines ≤ 500
+few_lines number trains lines are = omega (arith, ap length are, feed_count number trains)
+
+pub lines_delay : (number trains penalty : ℕ) (net : Net) (opened : TableValue) (lines : List Line) → 1 ≤ trains → IsBuiltFrom (events_of trains) (activities_of trains) net
+    → IsOpened net penalty opened → lines ≡ feed_of number trains → All (DelaysEventOf opened.network) lines
+lines_delay number trains penalty net opened lines some built o are =
+    subst (λ (n : Net). All (DelaysEventOf n) lines) (sym o.network)
+    (subst (All (DelaysEventOf net)) (sym are) (delays_events number trains net some built.made))

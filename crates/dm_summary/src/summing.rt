@@ -1,0 +1,68 @@
+//! The summary of a generated day.
+ghost use Rattle.std.specs.Prelude.{◌≡◌, ◌≤◌, IfOk, sum};
+ghost use Rattle.dm_base.specs.declared.limits.TheConstants.{PENALTY};
+ghost use Rattle.dm_summary.specs.Summed.{IsSummaryOf};
+ghost use Rattle.dm_summary.specs.Inside.Lines.{IsSummaryIn};
+
+use crate::entering::enter_lines;
+use crate::opening::{network_of, rows_of, table_of};
+use dm_gen::make;
+use dm_report::Summary;
+use dm_rows::free_choices;
+use dm_settle::Times;
+use dm_table::Table;
+use std::alloc::{AllocError, Global};
+
+/// The summary of the day of 1 to 2,000 trains that is generated from a number, after its feed, at a penalty in seconds for
+/// each passenger, at most 1,000,000.
+///
+/// # Errors
+///
+/// There is not enough memory.
+pub fn summarize(
+    alloc: Global,
+    number: u64,
+    trains: u32,
+    penalty: u64,
+) -> Result<Summary, AllocError>
+    requires least { 1 ≤ trains }
+    requires most { trains ≤ 2000 }
+    requires penalty { penalty ≤ PENALTY }
+    ensures { IfOk result (IsSummaryOf number trains penalty) }
+{
+    let (events, activities, lines) = make(alloc, number, trains)?;
+    let net = network_of(alloc, trains, events, activities)?;
+    let rows = rows_of(alloc, &net)?;
+    let mut table = table_of(alloc, &net, rows, penalty)?;
+    enter_lines(&mut table, &lines)?;
+    table.sound();
+    summary_of(alloc, &table)
+}
+
+/// What a table tells of its day.
+fn summary_of(alloc: Global, table: &Table<'_>) -> Result<Summary, AllocError>
+    ensures { IfOk result (IsSummaryIn table.now) }
+{
+    table.sound();
+    let net = table.network();
+    let choices = free_choices(alloc, net, table.rows())?;
+    Ok(Summary {
+        events: net.events() as u64,
+        activities: net.activities() as u64,
+        choices: choices.len() as u64,
+        entries: u64::from(table.len()),
+        cost: table.cost_now(),
+        sum: sum_of(table.times()),
+    })
+}
+
+/// The sum of all times, in seconds.
+fn sum_of(times: &Times) -> u128
+    ensures { result ≡ sum times.now }
+{
+    let mut total = 0u128;
+    for i in 0..times.events() {
+        total += u128::from(times.time(i));
+    }
+    total
+}
