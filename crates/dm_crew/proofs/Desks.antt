@@ -37,12 +37,12 @@ Holds F pass = IsSomeAnd pass.base (λ base. F base pass.seen)
 abbrev pub IsLegalAfter : Base → List Entry → Type 0
 IsLegalAfter base seen = IsLegal base.network base.start seen
 
-holds_at : (F : Base → List Entry → Type 0) (base : Base) (before now : PassValue Base) → before.base ≡ Some base → now.base ≡ before.base → Holds F now → F base now.seen
+pub holds_at : (F : Base → List Entry → Type 0) (base : Base) (before now : PassValue Base) → before.base ≡ Some base → now.base ≡ before.base → Holds F now → F base now.seen
 holds_at F base before now is same h = subst (λ (o : Option Base). IsSomeAnd o (λ b. F b now.seen)) (same ∙ is) h
 
 -- ---- a pass that looks
 
-base_looked : (before now : PassValue Base) → HasLooked before now → now.base ≡ before.base
+pub base_looked : (before now : PassValue Base) → HasLooked before now → now.base ≡ before.base
 base_looked before now h = ap (λ (p : PassValue Base). p.base) h.same
 
 looks : (base : Base) (before now : PassValue Base) → before.base ≡ Some base → HasLooked before now → Holds IsLegalAfter now → Looks (desk_of base before) (desk_of base now)

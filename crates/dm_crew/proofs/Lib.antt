@@ -4,3 +4,4 @@ pub mod Gathering
 pub mod Sharing
 pub mod Days
 pub mod Loops
+pub mod Displays

@@ -1,20 +1,24 @@
 //! A day's feeds, answered at once.
 
-ghost use Rattle.std.specs.Prelude.{◌≡◌, ◌+◌, ◌<◌, ◌≤◌, [], Some, length, IfOk};
-ghost use Rattle.dm_base.specs.declared.limits.TheConstants.{FEEDS, PENALTY};
+ghost use Rattle.std.specs.Prelude.{◌≡◌, ◌+◌, ◌<◌, ◌≤◌, [], Some, length, map, vec_len, IfOk};
+ghost use Rattle.dm_base.specs.declared.limits.TheConstants.{BOARDS, FEEDS, PENALTY};
 ghost use Rattle.dm_rows.specs.Active.{HasNoCycle};
 ghost use Rattle.dm_rows.specs.Rows.{IsSized};
 ghost use Rattle.dm_desk.specs.Planning.{PlansUnder};
 ghost use Rattle.dm_crew.specs.AtOnce.{AnswersDay, day_desk};
+ghost use Rattle.dm_crew.specs.Boards.{AreShown};
+ghost use Rattle.dm_crew.specs.Inside.Displays.{IsFor};
 ghost use Rattle.dm_crew.specs.Passes.{setting_of};
 ghost use Rattle.dm_crew.specs.Inside.Works.{first_pass};
 
 use crate::desk::Seat;
+use crate::display::Display;
 use crate::rounds::answer_feeds;
 use dm_cert::FeedLog;
 use dm_desk::{Hold, Planner};
 use dm_network::Network;
-use dm_outside::Source;
+use dm_outside::{Board, Source};
+use dm_publish::Publisher;
 use dm_rows::Rows;
 use dm_server::{Kept, Server};
 use dm_settle::NoTimes;
@@ -25,16 +29,18 @@ use std::marker::Brand;
 use std::sync::Wait;
 use std::thread::Threads;
 
-/// The table of a day, and the logs of its feeds.
+/// The table of a day, the logs of its feeds, and the publisher with the notes of boards whose show has failed.
 #[derive(Drop)]
 pub struct AnsweredDay<'n> {
     pub table: Table<'n>,
     pub logs: Vec<FeedLog>,
+    pub publisher: Publisher,
 }
 
 /// Answers feeds over a server of these rows, at a penalty in seconds for each passenger, until each has ended, in rounds of so
 /// many lines a feed. In a round each feed that has not ended is answered in a thread of its own, or, where none can be made,
-/// by the caller's. A feed that could not be opened is `None`. Want of memory may come at any point up to the end of the last round.
+/// by the caller's. A feed that could not be opened is `None`. Boards are shown the times before the first round and after each.
+/// Want of memory may come at any point up to the end of the last round.
 pub fn answer_at_once<
     'n,
     R: Threads + Wait + Sync,
@@ -51,6 +57,7 @@ pub fn answer_at_once<
     planner: &L,
     gate: &H,
     batch: u32,
+    boards: &mut Vec<Box<dyn Board>>,
 ) -> Result<AnsweredDay<'n>, AllocError>
     requires sized { IsSized net.now rows }
     requires no_cycle { HasNoCycle net.now rows }
@@ -58,11 +65,19 @@ pub fn answer_at_once<
     requires plans { PlansUnder (L.value planner.now) (day_desk net.now rows penalty).setting }
     requires few { length feeds.items ≤ FEEDS }
     requires some { 0 < batch }
-    ensures { IfOk result (λ day. AnswersDay S.left S.is_sound net.now rows penalty feeds.items batch day.table day.logs.items) }
+    requires few_boards { vec_len boards.old ≤ BOARDS }
+    ensures answers { IfOk result (λ day. AnswersDay S.left S.is_sound net.now rows penalty feeds.items batch day.table day.logs.items) }
+
+    // Each board that no note names shows the times of the table, and each note has its cause.
+    ensures shown { IfOk result (λ day. AreShown place times (λ b. (Board-box b).faults b.value) (λ b. (Board-box b).is_sound b.value) net.now day.table.times (length day.table.history) day.publisher.notes boards.old.items boards.new.items) }
+    ensures stops { map place boards.new.items ≡ map place boards.old.items }
 {
     let seats = feeds.len() as u32 + 1;
+    let display = Display::new(alloc, net, boards.len())?;
     let (server, main) = new_server(alloc, net, rows, penalty, seats)?;
-    answer_over::<Brand, R, S, L, H>(rt, alloc, server, main, feeds, planner, gate, batch)
+    answer_over::<Brand, R, S, L, H>(
+        rt, alloc, server, main, feeds, planner, gate, batch, display, boards,
+    )
 }
 
 // Answers feeds over a server with no entries, and closes it.
@@ -82,19 +97,38 @@ fn answer_over<
     planner: &L,
     gate: &H,
     batch: u32,
+    mut display: Display<'n>,
+    boards: &mut Vec<Box<dyn Board>>,
 ) -> Result<AnsweredDay<'n>, AllocError>
     requires pass { main ≡ first_pass server.id P.base server.seats }
     requires plans { PlansUnder (L.value planner.now) (setting_of P.base) }
     requires few { length feeds.items ≤ FEEDS }
     requires rooms { length feeds.items < server.seats }
     requires some { 0 < batch }
-    ensures { IfOk result (λ day. AnswersDay S.left S.is_sound P.base.network P.base.start P.base.penalty feeds.items batch day.table day.logs.items) }
+    requires fits { IsFor P.base.network (vec_len boards.old) display }
+    requires none { display.publisher.notes ≡ [] }
+    ensures answers { IfOk result (λ day. AnswersDay S.left S.is_sound P.base.network P.base.start P.base.penalty feeds.items batch day.table day.logs.items) }
+    ensures shown { IfOk result (λ day. AreShown place times (λ b. (Board-box b).faults b.value) (λ b. (Board-box b).is_sound b.value) P.base.network day.table.times (length day.table.history) day.publisher.notes boards.old.items boards.new.items) }
+    ensures stops { map place boards.new.items ≡ map place boards.old.items }
 {
     let logs = answer_feeds::<P, R, S, L, H>(
-        rt, alloc, &server, &mut main, feeds, planner, gate, batch,
+        rt,
+        alloc,
+        &server,
+        &mut main,
+        feeds,
+        planner,
+        gate,
+        batch,
+        &mut display,
+        boards,
     )?;
     let table = server.close(main);
-    Ok(AnsweredDay { table, logs })
+    Ok(AnsweredDay {
+        table,
+        logs,
+        publisher: display.publisher,
+    })
 }
 
 // A server of rows that have no cycle, and its first pass.

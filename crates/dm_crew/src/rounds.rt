@@ -1,6 +1,7 @@
 //! Rounds whose feeds are answered at once.
 
 ghost use Rattle.std.specs.Prelude.{◌≡◌, ℕ, ◌+◌, ◌-◌, ◌<◌, ◌≤◌, false, [], length, map, Some, All, slice_get, vec_len, IfOk, OnOk, IsOk};
+ghost use mathlib.Core.List.{IsPrefix};
 ghost use Rattle.dm_base.specs.declared.limits.TheConstants.{FEEDS};
 ghost use Rattle.dm_rows.specs.History.{IsLegal};
 ghost use Rattle.dm_desk.specs.Answered.{HasSeenLegal};
@@ -9,12 +10,14 @@ ghost use Rattle.dm_rounds.specs.Rounds.{AnswersFeeds};
 ghost use Rattle.dm_rounds.specs.Inside.Jobs.{AnswersRound, CanReadAll, AllAreTrue, log_in};
 ghost use Rattle.dm_crew.specs.Passes.{setting_of, desk_of, IsSamePass};
 ghost use Rattle.dm_crew.specs.Inside.Works.{split_of, IsGathered};
+ghost use Rattle.dm_crew.specs.Inside.Displays.{IsFor, AreUp};
 
 use crate::desk::Seat;
+use crate::display::Display;
 use crate::work::{Work, work_all};
 use dm_cert::FeedLog;
 use dm_desk::{Hold, Planner};
-use dm_outside::Source;
+use dm_outside::{Board, Source};
 use dm_rounds::{Job, begin, have_ended, log_of};
 use dm_server::{Kept, Server};
 use dm_turn::Pass;
@@ -22,8 +25,9 @@ use std::alloc::{AllocError, Global};
 use std::sync::Wait;
 use std::thread::Threads;
 
-/// Answers feeds over a server until each has ended, in rounds of so many lines a feed, each round's feeds at once. It may
-/// answer want of memory at any point up to the end of the last round, and then says nothing of the passes.
+/// Answers feeds over a server until each has ended, in rounds of so many lines a feed, each round's feeds at once. Boards are
+/// shown the times before the first round and after each. It may answer want of memory at any point up to the end of the last
+/// round, and then says nothing of the passes.
 pub fn answer_feeds<
     'n,
     P: Seat + Send + Sync,
@@ -40,6 +44,8 @@ pub fn answer_feeds<
     planner: &L,
     gate: &H,
     batch: u32,
+    display: &mut Display<'n>,
+    boards: &mut Vec<Box<dyn Board>>,
 ) -> Result<Vec<FeedLog>, AllocError>
     requires here { main.old.turn ≡ server.now.id }
     requires idle { main.old.holds ≡ false }
@@ -49,16 +55,22 @@ pub fn answer_feeds<
     requires few { length feeds.items ≤ FEEDS }
     requires rooms { length feeds.items < main.old.room }
     requires some { 0 < batch }
+    requires fits { IsFor P.base.network (vec_len boards.old) display.old }
+    requires none { display.old.publisher.notes ≡ [] }
     ensures same { OnOk result (IsSamePass main.old main.new) }
     ensures answers { IfOk result (λ logs. AnswersFeeds S.left S.is_sound feeds.items batch (desk_of P.base main.old) (desk_of P.base main.new) logs.items) }
+    ensures up { OnOk result (AreUp place times (λ b. (Board-box b).faults b.value) (λ b. (Board-box b).is_sound b.value) P.base main.new.seen display.new boards.old.items boards.new.items) }
+    ensures stops { map place boards.new.items ≡ map place boards.old.items }
 {
     let logs = Vec::with_capacity(alloc, feeds.len())?;
     let mut jobs = begin(alloc, feeds)?;
+    display.show::<P, R>(rt, server, main, boards);
     for _ in rt.forever() {
         if have_ended(&jobs) {
             break;
         }
         jobs = answer_round::<P, R, S, L, H>(rt, alloc, server, main, jobs, planner, gate, batch)?;
+        display.show::<P, R>(rt, server, main, boards);
     }
     logs_of(logs, jobs)
 }
@@ -104,6 +116,7 @@ fn answer_round<
     requires rooms { vec_len jobs < main.old.room }
     requires some { 0 < batch }
     ensures same { OnOk result (IsSamePass main.old main.new) }
+    ensures later { OnOk result (IsPrefix main.old.seen main.new.seen) }
     ensures round { IfOk result (λ after. AnswersRound S.left S.is_sound batch (desk_of P.base main.old) jobs.items (desk_of P.base main.new) after.items) }
 {
     let works = share_out(alloc, server, main, jobs)?;

@@ -1,23 +1,27 @@
-use Rattle.std.proofs.Common.{◌≡◌, ◌+◌, List, length, map, refl, sym, ap, subst, ◌∙◌, arith}
+use Rattle.std.proofs.Common.{◌≡◌, ◌+◌, ◌≤◌, List, length, map, refl, sym, ap, subst, ◌∙◌, arith}
 use Rattle.std.proofs.lemmas.Result.{IfOk-weaker}
 use Rattle.dm_cert.specs.declared.replies.FeedLog.{FeedLog}
+use Rattle.dm_desk.proofs.Answering.{no_shorter}
 use Rattle.dm_rounds.specs.Rounds.{AnswersFeeds}
 use Rattle.dm_rounds.specs.Inside.Jobs.{log_in}
 use Rattle.dm_rounds.proofs.Closing.{first_round, can_read_all, are_true_all, ends_rounds, is_some_none, ended_all}
 use Rattle.dm_server.specs.declared.kept.Base.{Base}
 use Rattle.dm_turn.specs.Passes.{PassValue}
-use Rattle.dm_crew.specs.Passes.{desk_of}
+use Rattle.dm_crew.specs.Passes.{desk_of, IsSamePass}
+use Rattle.dm_crew.proofs.Displays.{on_ok, looked_same, rounds_look, shown_first, shown_next}
 use Rattle.dm_crew.proofs.rounds.answer_feeds.Goals as goal
 use Rattle.dm_crew.proofs.rounds.answer_feeds.Goals.{in-None, in-Some+then-have_ended}
 
 pub loop-init : goal.loop-init
 loop-init g c = (
-  refl,
-  record {
-    rounds = 0;
-    low = 0;
-    state = first_round g.S.Source.left g.S.Source.is_sound c.args.batch c.requires.some c.args.feeds.items (desk_of g.P.Seat.base c.args.main.now) c.in_ok-jobs.jobs.items c.requires.legal c.in_ok-jobs.ensures;
-  },
+  looked_same c.args.main.now c.args.main.now c.show.new.main refl c.show.ensures.looked,
+  rounds_look g.S.Source.left g.S.Source.is_sound c.args.feeds.items (desk_of g.P.Seat.base c.args.main.now) c.args.batch g.P.Seat.base c.args.main.now c.show.new.main c.in_ok-jobs.jobs.items c.show.ensures.looked c.show.ensures.legal
+      (record {
+        rounds = 0;
+        low = 0;
+        state = first_round g.S.Source.left g.S.Source.is_sound c.args.batch c.requires.some c.args.feeds.items (desk_of g.P.Seat.base c.args.main.now) c.in_ok-jobs.jobs.items c.requires.legal c.in_ok-jobs.ensures;
+      }),
+  shown_first _ _ _ _ g.P.Seat.base c.show.new.main.seen c.args.display.now c.show.new.self c.args.boards.now.items c.show.new.boards.items c.requires.none c.show.ensures.up,
 )
 
 pub answer_round-requires-clause-here : goal.answer_round-requires-clause-here
@@ -51,14 +55,19 @@ answer_round-requires-clause-rooms g c =
     omega (arith, room, c.loop.jobs.ok.0, c.loop.invariant.1.state.as_many, c.requires.rooms)
 
 pub loop-preserved : goal.loop-preserved
-loop-preserved g c = (
-  c.in_ok-jobs-2.ensures.same ∙ ap (λ (p : PassValue Base). record p { seen = c.answer_round.new.main.seen; mine = c.answer_round.new.main.mine }) c.loop.invariant.0,
-  record {
-    rounds = c.loop.invariant.1.rounds + 1;
-    low = length c.answer_round.new.main.seen;
-    state = c.in_ok-jobs-2.ensures.round c.args.feeds.items (desk_of g.P.Seat.base c.args.main.now) c.loop.invariant.1.rounds c.loop.invariant.1.low c.loop.invariant.1.state;
-  },
-)
+loop-preserved g c =
+    let rounds = c.loop.invariant.1 in
+    let round = c.in_ok-jobs-2.ensures.round c.args.feeds.items (desk_of g.P.Seat.base c.args.main.now) rounds.rounds rounds.low rounds.state in
+    let before = c.answer_round.new.main in
+    let now = c.show-in-loop.new.main in
+    let looked = c.show-in-loop.ensures.looked in
+    let legal = c.show-in-loop.ensures.legal in
+    let low : length c.loop.main.seen ≤ length now.seen = omega (arith, no_shorter c.loop.main.seen before.seen c.in_ok-jobs-2.ensures.later, no_shorter before.seen now.seen looked.later) in
+    let same : IsSamePass c.args.main.now before = c.in_ok-jobs-2.ensures.same ∙ ap (λ (p : PassValue Base). record p { seen = before.seen; mine = before.mine }) c.loop.invariant.0 in (
+      looked_same c.args.main.now before now same looked,
+      rounds_look g.S.Source.left g.S.Source.is_sound c.args.feeds.items (desk_of g.P.Seat.base c.args.main.now) c.args.batch g.P.Seat.base before now c.in_ok-jobs-2.jobs.items looked legal (record { rounds = rounds.rounds + 1; low = length before.seen; state = round }),
+      shown_next _ _ _ _ g.P.Seat.base c.loop.main.seen now.seen c.loop.display c.show-in-loop.new.self c.args.boards.now.items c.loop.boards.items c.show-in-loop.new.boards.items low c.loop.invariant.2 c.show-in-loop.ensures.up,
+    )
 
 pub returns-clause-answers : goal.returns-clause-answers
 returns-clause-answers g c =
@@ -71,3 +80,9 @@ returns-clause-answers g c =
           c.loop.invariant.1.state (ended_all w.deref.result.now c.loop.jobs.items w.deref.ensures.value (w.have_ended.ensures w.if-have_ended.true)) refl
     ] in
     IfOk-weaker c.logs_of.result (λ logs. logs.items ≡ map log_in c.loop.jobs.items) (λ logs. P logs.items) (λ logs is. subst P (sym is) ends) c.logs_of.ensures
+
+pub returns-clause-same : goal.returns-clause-same
+returns-clause-same g c = on_ok _ c.logs_of.result c.loop.invariant.0
+
+pub returns-clause-up : goal.returns-clause-up
+returns-clause-up g c = on_ok _ c.logs_of.result c.loop.invariant.2

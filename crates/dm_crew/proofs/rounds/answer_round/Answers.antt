@@ -1,6 +1,7 @@
 use Rattle.std.proofs.Common.{◌≡◌, ℕ, ◌-◌, ◌<◌, length, sym, subst, ◌∙◌, arith}
 use Rattle.dm_crew.specs.declared.work.Work.{Work}
 use Rattle.dm_crew.proofs.Sharing.{IsShared, AreWorked, all_ready, all_idle, all_legal, told_same, told_round}
+use Rattle.dm_crew.proofs.Displays.{gathered_later}
 use Rattle.dm_crew.proofs.rounds.answer_round.Goals as goal
 
 pub work_all-requires-clause-ready : goal.work_all-requires-clause-ready
@@ -97,3 +98,7 @@ returns-clause-round g c =
     let apart = subst (λ (n : ℕ). c.share_out.new.main ≡ record c.args.main.now { room = c.args.main.now.room - n }) c.args.jobs.ok.0 c.in_ok-works.ensures.main in
     let enough : length c.args.jobs.items < c.args.main.now.room = omega (arith, c.args.jobs.ok.0, c.requires.rooms) in
     told_round g.S.Source.left g.S.Source.is_sound g.P.Seat.base c.args.batch c.requires.some c.args.server.now.id c.in_ok-works.works.items c.in_ok-works-2.works.items c.args.jobs.items c.args.main.now (λ (w : Work _). w.job) (λ (w : Work _). w.pass) (λ (w : Work _). w.feed) (λ (w : Work _). w.answer) c.share_out.new.main c.gather.new.main shared worked apart enough (λ after. after.items) c.gather.result c.gather.ensures.jobs c.gather.ensures.all_ok c.gather.ensures.gathered
+
+pub returns-clause-later : goal.returns-clause-later
+returns-clause-later g c =
+    gathered_later g.P.Seat.base c.args.main.now c.share_out.new.main c.gather.new.main _ _ c.in_ok-works.ensures.main c.gather.result c.gather.ensures.gathered

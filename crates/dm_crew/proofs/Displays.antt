@@ -1,0 +1,155 @@
+-- Boards that are kept up over a server.
+use Rattle.std.proofs.Common.{◌≡◌, ℕ, ◌+◌, ◌-◌, ◌<◌, ◌≤◌, List, [], length, map, Option, Some, None, Result, Ok, Err, refl, sym, ap, subst, ◌∙◌, arith}
+use Rattle.std.specs.Prelude.{OnOk}
+use mathlib.Core.List.{IsPrefix}
+use Rattle.std.proofs.lemmas.List.{length-map}
+use Rattle.std.proofs.lemmas.List.Elements.{All-nil}
+use Rattle.std.proofs.lemmas.Option.{slice_get_within}
+use Rattle.dm_network.specs.Net.{Net}
+use Rattle.dm_rows.specs.declared.messages.Entry.{Entry}
+use Rattle.dm_rows.specs.History.{IsLegal}
+use Rattle.dm_rows.specs.Rows.{RowsValue}
+use Rattle.dm_rows.specs.Timetable.{IsLeast, time_at}
+use Rattle.dm_cert.specs.declared.notes.Note.{Note}
+use Rattle.dm_cert.specs.Runs.{AreTrueNotes, IsTrueNote}
+use Rattle.dm_desk.specs.Answered.{times}
+use Rattle.dm_desk.specs.Desks.{DeskValue, GoesOn}
+use Rattle.dm_desk.proofs.Answering.{no_shorter, on_and_on}
+use Rattle.dm_publish.specs.Shown.{ShowsTimes}
+use Rattle.dm_publish.specs.Since.{KeepsUp, AreKeptSince}
+use Rattle.dm_publish.proofs.Repeated.{kept_at_first}
+use Rattle.dm_rounds.specs.declared.jobs.Job.{Job}
+use Rattle.dm_rounds.specs.Inside.Jobs.{InRounds}
+use Rattle.dm_rounds.proofs.Rounding.{job_grows}
+use Rattle.dm_server.specs.declared.kept.Base.{Base}
+use Rattle.dm_server.specs.Answers.{base_of, rows_after, AreTimesAfter, HasLooked}
+use Rattle.dm_table.specs.Value.{TableValue, IsTable}
+use Rattle.dm_turn.specs.declared.view.Numbered.{Numbered}
+use Rattle.dm_turn.specs.Passes.{PassValue}
+use Rattle.dm_crew.specs.declared.display.Display.{Display}
+use Rattle.dm_crew.specs.Boards.{AreShown}
+use Rattle.dm_crew.specs.Passes.{numbers_in, desk_of, IsSamePass}
+use Rattle.dm_crew.specs.Inside.Works.{IsGathered}
+use Rattle.dm_crew.specs.Inside.Displays.{IsFor, AreUp, Shows}
+
+none_yet : AreTrueNotes 0 []
+none_yet = record {
+  few = omega arith;
+  each = All-nil (IsTrueNote 0);
+  once = λ i j one other x y same. absurd (omega (arith, slice_get_within [] i one x));
+  in_order = λ i j one other x y low. absurd (omega (arith, slice_get_within [] i one x));
+}
+
+-- ---- passes that have looked
+
+pub looked_on : (base : Base) (before now : PassValue Base) → HasLooked before now → IsLegal base.network base.start now.seen → GoesOn (desk_of base before) (desk_of base now)
+looked_on base before now looked legal = record { setting = refl; later = looked.later; legal = legal }
+
+pub looked_same : (first before now : PassValue Base) → IsSamePass first before → HasLooked before now → IsSamePass first now
+looked_same first before now same looked =
+    let mine : now.mine ≡ before.mine = ap (λ (p : PassValue Base). p.mine) looked.same in
+    looked.same
+    ∙ (ap (λ (p : PassValue Base). record p { seen = now.seen }) same
+    ∙ ap (λ (m : List Numbered). record first { seen = now.seen; mine = m }) (sym mine))
+
+-- rounds that were answered to a history are so over a longer one, of which nothing is one's own
+pub rounds_look : {S : Type 0} (left : S → Option (List ℕ)) (is_sound : S → Type 0) (feeds : List (Option S)) (first : DeskValue) (batch : ℕ) (base : Base) (before now : PassValue Base) (jobs : List (Job S)) → HasLooked before now → IsLegal base.network base.start now.seen
+    → InRounds left is_sound feeds first batch (desk_of base before) jobs → InRounds left is_sound feeds first batch (desk_of base now) jobs
+rounds_look left is_sound feeds first batch base before now jobs looked legal r =
+    let on = looked_on base before now looked legal in
+    let s = r.state in
+    let mine : numbers_in now.mine ≡ numbers_in before.mine = ap (λ (p : PassValue Base). numbers_in p.mine) looked.same in
+    let longer = no_shorter before.seen now.seen looked.later in
+    record {
+      rounds = r.rounds;
+      low = r.low;
+      state = record {
+        goes_on = on_and_on first (desk_of base before) (desk_of base now) s.goes_on on;
+        as_many = s.as_many;
+        each = λ k feed job f j. job_grows left is_sound feed (desk_of base before) (desk_of base now) (k + 1) job.progress job.log.items on (s.each k feed job f j);
+        named = λ n. s.named n ∙ ap (times n) (sym mine);
+        done = s.done;
+        ahead = s.ahead;
+        earlier = s.earlier;
+        below = omega (arith, s.below, longer);
+        kept = s.kept;
+      };
+    }
+
+-- after a round all that was seen before it is seen
+pub gathered_later : {T F : Type 0} (base : Base) (start rest now : PassValue Base) (passes : List (PassValue Base)) (n : ℕ) → rest ≡ record start { room = start.room - n } → (result : Result T F) → OnOk result (IsGathered base rest now passes) → OnOk result (IsPrefix start.seen now.seen)
+gathered_later base start rest now passes n is (Ok t) g = subst (λ (s : List Entry). IsPrefix s now.seen) (ap (λ (p : PassValue Base). p.seen) is) g.later
+gathered_later base start rest now passes n is (Err e) g = tt
+
+-- ---- least timetables
+
+-- two least timetables are the same at each event
+same_times : (net : Net) (rows : RowsValue) (x y : List ℕ) → IsLeast net rows x → IsLeast net rows y → (i : ℕ) → i < length net.events → time_at x i ≡ time_at y i
+same_times net rows x y one other i low =
+    let a = one.earliest y other.meets i low in
+    let b = other.earliest x one.meets i low in
+    omega (arith, a, b)
+
+shows_same : (net : Net) (x y : List ℕ) (stop : ℕ) (shown : Option (ℕ → Option ℕ)) → ((i : ℕ) → i < length net.events → time_at x i ≡ time_at y i) → ShowsTimes net x stop shown → ShowsTimes net y stop shown
+shows_same net x y stop None same s = tt
+shows_same net x y stop (Some f) same s = λ i at. s i at ∙ ap Some (same i at.is_event)
+
+pub on_ok : {T E : Type 0} (P : Type 0) (result : Result T E) → P → OnOk result P
+on_ok P (Ok t) p = p
+on_ok P (Err e) p = tt
+
+pub some_base : {a b : Base} → Some a ≡ Some b → a ≡ b
+some_base e = cc
+
+-- ---- boards
+
+module _ {B : Type 0} (place : B → ℕ) (times_on : B → Option (ℕ → Option ℕ)) (faults : B → ℕ) (is_sound : B → ℕ → Type 0) where
+  as_many : (old new : List B) → map place new ≡ map place old → length new ≡ length old
+  as_many old new stops = sym (length-map new place) ∙ (ap length stops ∙ length-map old place)
+
+  pub shows_history : (base : Base) (seen : List Entry) (display now : Display) (net : Net) (entry : ℕ) (old new : List B) → IsFor base.network (length old) display → net ≡ base.network → now.net.now ≡ base.network → entry ≡ length seen → AreTimesAfter base seen now.times
+      → map place new ≡ map place old → KeepsUp place times_on faults is_sound net now.times old new display.publisher.notes now.publisher.notes
+      → ((entries : ℕ) → entries ≤ entry → AreTrueNotes entries display.publisher.notes → AreTrueNotes entry now.publisher.notes)
+      → now.publisher.boards ≡ display.publisher.boards → now.publisher.events ≡ display.publisher.events → Shows place times_on faults is_sound base seen display now old new
+  shows_history base seen display now net entry old new fits is network here least stops keeps noted boards events = λ first entries low k.
+      let keeps_up : KeepsUp place times_on faults is_sound base.network now.times old new display.publisher.notes now.publisher.notes =
+      subst (λ (n : Net). KeepsUp place times_on faults is_sound n now.times old new display.publisher.notes now.publisher.notes) is keeps in
+      let up = keeps_up first k.kept in
+      record {
+        is_for = record {
+          network = network;
+          boards = boards ∙ (fits.boards ∙ sym (as_many old new stops));
+          events = events ∙ fits.events;
+          size = least.meets.size;
+        };
+        least = least;
+        shown = record { kept = up.0; shown = up.1; noted = subst (λ (n : ℕ). AreTrueNotes n now.publisher.notes) here (noted entries (omega (arith, low, here)) k.noted) };
+      }
+
+  pub shown_first : (base : Base) (seen : List Entry) (display now : Display) (boards new : List B) → display.publisher.notes ≡ [] → Shows place times_on faults is_sound base seen display now boards new
+      → AreUp place times_on faults is_sound base seen now boards new
+  shown_first base seen display now boards new none shows =
+      shows boards 0 (omega arith)
+      (record {
+        kept = subst (λ (n : List Note). AreKeptSince place times_on faults is_sound base.network boards boards n) (sym none) (kept_at_first place times_on faults is_sound base.network boards);
+        noted = subst (λ (n : List Note). AreTrueNotes 0 n) (sym none) none_yet;
+      })
+
+  pub shown_next : (base : Base) (seen later : List Entry) (display now : Display) (first old new : List B) → length seen ≤ length later → AreUp place times_on faults is_sound base seen display first old → Shows place times_on faults is_sound base later display now old new
+      → AreUp place times_on faults is_sound base later now first new
+  shown_next base seen later display now first old new low up shows = shows first (length seen) low (record { kept = up.shown.kept; noted = up.shown.noted })
+
+  -- what is shown after a server's history is what its table has in the end
+  pub shown_at_end : (base : Base) (seen : List Entry) (display : Display) (first now : List B) (table : TableValue) → base_of table ≡ base → table.history ≡ seen → IsTable table → AreUp place times_on faults is_sound base seen display first now
+      → AreShown place times_on faults is_sound base.network table.times (length table.history) display.publisher.notes first now
+  shown_at_end base seen display first now table is history is_table up =
+      let least : IsLeast base.network (rows_after base seen) table.times =
+      subst (λ (b : Base). IsLeast b.network (rows_after b seen) table.times) is
+      (subst (λ (h : List Entry). IsLeast table.network (rows_after (base_of table) h) table.times) history
+      (subst (λ (r : RowsValue). IsLeast table.network r table.times) is_table.replayed is_table.least)) in
+      let same = same_times base.network (rows_after base seen) display.times table.times up.least least in
+      record {
+        kept = up.shown.kept;
+        shown = λ at before after b n none some. shows_same base.network display.times table.times (place after) (times_on after) same (up.shown.shown at before after b n none some);
+        noted = subst (λ (h : List Entry). AreTrueNotes (length h) display.publisher.notes) (sym history) up.shown.noted;
+      }
