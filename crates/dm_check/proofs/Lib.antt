@@ -1,4 +1,12 @@
+pub mod ToldOnce
 pub mod Spelled
 pub mod Timed
 pub mod Entered
 pub mod Timetabled
+pub mod Blocks
+pub mod Chained
+pub mod Items
+pub mod Logs
+pub mod Wholes
+pub mod Flags
+pub mod Notes

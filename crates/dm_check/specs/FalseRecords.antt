@@ -22,10 +22,11 @@ use Rattle.dm_cert.specs.declared.replies.LogItem.TheVariants.{Answered}
 use Rattle.dm_cert.specs.declared.replies.Reply.TheVariants.{Planned}
 use Rattle.dm_cert.specs.declared.replies.FeedLog.{FeedLog}
 use Rattle.dm_cert.specs.Answers.{Setting, rows_after, is_plan, IsTrueAnswer}
-use Rattle.dm_cert.specs.Logs.{kind_of, line_of, number_after, Follows, names, all_items}
+use Rattle.dm_cert.specs.Logs.{kind_of, line_of, Follows, names, all_items}
 use Rattle.dm_cert.specs.PlansRead.{IsChoiceLine, IsLeafLine, IsNodeLine, ShowsLeaves, ShowsNodes}
 use Rattle.dm_cert.specs.RunTexts.{Run}
 use Rattle.dm_cert.specs.Runs.{IsTrueNote}
+use Rattle.dm_answers.specs.Judging.{line_before, number_before}
 use Rattle.dm_records.specs.RunLines.{Numbered, PlanOpening, ItemLine, lone, planned, Timed, IsNumberLine, IsVersionLine, IsEntryLine, IsOpeningLine, IsItemLine, IsStopLine, IsNoteLine, IsTimeLine, IsWordLine}
 use Rattle.dm_check.specs.declared.faults.Fault.{Fault}
 use Rattle.dm_check.specs.declared.verdicts.BadKind.{BadKind}
@@ -60,13 +61,6 @@ abbrev pub TellsEntry : Setting → ℕ → List Entry → Place → Result (Ent
 TellsEntry s feeds before = Rules IsEntryLine (IsNextEntry s feeds before) kind.Entry (λ said. said.entry)
 
 -- ---- logs
-
--- the line and the entry number that were last among the items, or 0
-abbrev pub line_before : List LogItem → ℕ
-line_before before = fold (λ last answered. line_of answered) 0 before
-
-abbrev pub number_before : List LogItem → ℕ
-number_before before = fold (λ last answered. number_after last (kind_of answered)) 0 before
 
 -- the next item of the log of the feed of this number: its line and its entry number are in order, and it is true
 pub record IsNextItem (s : Setting) (history : List Entry) (feed : ℕ) (before : List LogItem) (answered : LogItem) : Type 0 where

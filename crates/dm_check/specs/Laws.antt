@@ -9,12 +9,19 @@ use Rattle.dm_cert.specs.PlanTexts.{IsVersion}
 use Rattle.dm_cert.specs.PlansRead.{TellsPlan}
 use Rattle.dm_cert.specs.RunTexts.{run_text}
 use Rattle.dm_check.specs.declared.verdicts.BadKind.TheVariants.{Truncated}
+use Rattle.dm_check.specs.declared.verdicts.Verdict.{Verdict}
 use Rattle.dm_check.specs.declared.verdicts.Verdict.TheVariants.{Bad}
 use Rattle.dm_check.specs.FalseRecords.{IsVerdict, IsGood}
 
 -- the first line of the empty text is missing
 abbrev pub EmptyTextIsCut : Type 0
 EmptyTextIsCut = (net : Net) (start : RowsValue) (penalty : ℕ) → IsVerdict net start penalty [] (Bad 1 Truncated)
+
+-- of a text one verdict alone holds: it is good, or one record of it is the first that breaks its rule
+abbrev pub VerdictsAreOne : Type 0
+VerdictsAreOne =
+    (net : Net) (start : RowsValue) (penalty : ℕ) (text : List ℕ) (one other : Verdict) → IsVerdict net start penalty text one →
+    IsVerdict net start penalty text other → one ≡ other
 
 -- a good text is the spelling of the run that is told of it, in a version
 pub record IsSpelledIn (net : Net) (start : RowsValue) (penalty : ℕ) (text : List ℕ) (entries plans : ℕ) (good : IsGood net start penalty text entries plans) : Type 0 where

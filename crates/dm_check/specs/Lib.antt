@@ -2,3 +2,5 @@
 pub mod FalseRecords
 pub mod Judged
 pub mod Laws
+-- What the judges compute: checked, and not to be believed.
+pub mod Inside

@@ -1,9 +1,15 @@
 //! What holds of all texts. A law has no code: it is proved as the contract of an empty function.
-ghost use Rattle.dm_check.specs.Laws.{EmptyTextIsCut, GoodTextsAreSpelled, PlansAreToldOnce};
+ghost use Rattle.dm_check.specs.Laws.{EmptyTextIsCut, VerdictsAreOne, GoodTextsAreSpelled, PlansAreToldOnce};
 
 /// Of the empty text it is told that its first line is truncated, and nothing else.
 pub fn empty_text_is_cut()
     ensures { EmptyTextIsCut }
+{}
+
+/// Of a text one verdict alone holds: that it is good, with its numbers of entries and plans, or the line and the kind of the
+/// first record that breaks its rule.
+pub fn verdicts_are_one()
+    ensures { VerdictsAreOne }
 {}
 
 /// A good text is the spelling, in one of the versions, of the run that is told of it.

@@ -5,12 +5,21 @@
 //! must say after those before it, and of which kind and at which line its fault is.
 #![tactic(auto)]
 
+mod checking;
 mod faults;
 pub mod laws;
+mod named;
+mod planning;
 mod told_entries;
+mod told_items;
 mod told_lines;
+mod told_logs;
+mod told_notes;
+mod told_plans;
 mod told_records;
+mod told_rest;
 mod verdicts;
 
+pub use checking::check;
 pub use faults::{Fault, Stop};
 pub use verdicts::{BadKind, Verdict};

@@ -57,7 +57,7 @@ told_apart told.NotPassed rest = refl
 told_apart told.Back rest = refl
 told_apart told.Full rest = refl
 
-told_small : (k : ToldKind) → IsSmall (told_shape k)
+pub told_small : (k : ToldKind) → IsSmall (told_shape k)
 told_small told.Ok = tt
 told_small told.Read = tt
 told_small told.Old = tt
@@ -79,14 +79,14 @@ free_apart free.NoPlan rest = refl
 free_apart free.Plans rest = refl
 free_apart free.Range rest = refl
 
-free_small : (k : FreeKind) → IsSmall (free_shape k)
+pub free_small : (k : FreeKind) → IsSmall (free_shape k)
 free_small free.NoPlan = tt
 free_small free.Plans = tt
 free_small free.Range = omega arith
 
 -- ---- how kinds are spelled
 
-told_spelled : (version n : ℕ) (k : ToldKind) (a b : ℕ) → reply_text version (told_reply n k a b) ≡ (decimal n ++ (told_text k ++ numbers_text (told_shape k) a b)) ++ line_end
+pub told_spelled : (version n : ℕ) (k : ToldKind) (a b : ℕ) → reply_text version (told_reply n k a b) ≡ (decimal n ++ (told_text k ++ numbers_text (told_shape k) a b)) ++ line_end
 unfolding reply_text
 told_spelled version n told.Ok a b = sym (simp (append_assoc, append-nil))
 told_spelled version n told.Read a b = sym (simp (append_assoc, append-nil))
@@ -103,11 +103,11 @@ told_spelled version n told.NotPassed a b = sym (simp (append_assoc, append-nil)
 told_spelled version n told.Back a b = sym (simp (append_assoc, append-nil))
 told_spelled version n told.Full a b = sym (simp (append_assoc, append-nil))
 
-cycle_spelled : (version n : ℕ) (ids : List ActId) → reply_text version (refused_at n (refusal.Cycle ids)) ≡ (decimal n ++ (codes " refused cycle" ++ flat_map spaced_id ids)) ++ line_end
+pub cycle_spelled : (version n : ℕ) (ids : List ActId) → reply_text version (refused_at n (refusal.Cycle ids)) ≡ (decimal n ++ (codes " refused cycle" ++ flat_map spaced_id ids)) ++ line_end
 unfolding reply_text
 cycle_spelled version n ids = sym (simp (append_assoc, append-nil))
 
-free_spelled : (version : ℕ) (k : FreeKind) (a b : ℕ) → reply_text version (free_reply k a b) ≡ (free_text k ++ numbers_text (free_shape k) a b) ++ line_end
+pub free_spelled : (version : ℕ) (k : FreeKind) (a b : ℕ) → reply_text version (free_reply k a b) ≡ (free_text k ++ numbers_text (free_shape k) a b) ++ line_end
 unfolding reply_text
 free_spelled version free.NoPlan a b = refl
 free_spelled version free.Plans a b = refl
@@ -196,7 +196,7 @@ by_reply version reply.Plans line spelled fits = inl (as_free version free.Plans
 by_reply version (reply.Range b) line spelled fits = inl (as_free version free.Range b 0 line spelled (fits, refl))
 
 -- every answer is free or at an entry
-by_saying : (version : ℕ) (s : Saying) (line : List ℕ) → IsAnswerLine version s line → AsFree s line ⊎ AtEntry version s line
+pub by_saying : (version : ℕ) (s : Saying) (line : List ℕ) → IsAnswerLine version s line → AsFree s line ⊎ AtEntry version s line
 by_saying version (answered r) line is = by_reply version r line is.0 is.1
 by_saying version (opened n h) line is = inr (record {
   number = n;
@@ -374,7 +374,7 @@ told_none version n line kinds plans cycles (of_plan h) is = plans h is
 
 -- ---- whole answers
 
-kind_ends : (k : ToldKind) (rest : List ℕ) → EndsNumber (told_text k ++ rest)
+pub kind_ends : (k : ToldKind) (rest : List ℕ) → EndsNumber (told_text k ++ rest)
 kind_ends told.Ok rest = refl
 kind_ends told.Read rest = refl
 kind_ends told.Old rest = refl
@@ -401,7 +401,7 @@ free_is version line r e =
     subst (λ (x : Reply). IsAnswerLine version (answered x) line) found.is
     (free_spelled version found.kind found.one found.two ∙ ap (λ xs. xs ++ line_end) found.line_is, free_formed found.kind found.one found.two found.fits)
 
-entry_number : (version : ℕ) (s : Saying) (line : List ℕ) → (at : AtEntry version s line) → number_behind largest_id [] line ≡ Some (at.number, at.tail)
+pub entry_number : (version : ℕ) (s : Saying) (line : List ℕ) → (at : AtEntry version s line) → number_behind largest_id [] line ≡ Some (at.number, at.tail)
 entry_number version s line at =
     ap (number_behind largest_id []) (sym at.line_is)
     ∙ number_behind_back largest_id at.number [] at.tail at.fits (omega arith) (told_ends version at.told at.tail at.tells)

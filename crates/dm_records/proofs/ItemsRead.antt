@@ -137,12 +137,12 @@ kind_of_line line.Adopt f = record { kind = said.Adopt; a = 0; b = 0; is = refl;
 kind_of_line line.Read f = record { kind = said.Read; a = 0; b = 0; is = refl; fits = (refl, refl) }
 
 -- the row that is read where something is said and answered
-record ReadsRow (l : Line) (tail line : List ℕ) : Type 0 where
-  row : SaidKind × ℕ × ℕ
-  is : said_line row.0 row.1 row.2 ≡ l
-  read : row_in said_text said_shape SAID line ≡ Some (row, codes " -> " ++ tail)
+pub record ReadsRow (l : Line) (tail line : List ℕ) : Type 0 where
+  pub row : SaidKind × ℕ × ℕ
+  pub is : said_line row.0 row.1 row.2 ≡ l
+  pub read : row_in said_text said_shape SAID line ≡ Some (row, codes " -> " ++ tail)
 
-row_there : (l : Line) (tail line : List ℕ) → IsFormedSaid l → spelling_of_line l ++ (codes " -> " ++ tail) ≡ line → ReadsRow l tail line
+pub row_there : (l : Line) (tail line : List ℕ) → IsFormedSaid l → spelling_of_line l ++ (codes " -> " ++ tail) ≡ line → ReadsRow l tail line
 row_there l tail line formed same =
     let k = kind_of_line l formed in
     let spelled : spelling_of_line l ≡ said_text k.kind ++ numbers_text (said_shape k.kind) k.a k.b = ap spelling_of_line (sym k.is) ∙ said_spelled k.kind k.a k.b in
@@ -205,7 +205,7 @@ unfolding item_text
 answered_text version n l r tail e =
     ap (λ xs. decimal n ++ (codes " " ++ (spelling_of_line l ++ (codes " -> " ++ xs)))) (append-nil (reply_text version r) ∙ e) ∙ sym (simp append_assoc)
 
-malformed_text : (version n : ℕ) → item_text version (Malformed n) ≡ (decimal n ++ codes " malformed") ++ line_end
+pub malformed_text : (version n : ℕ) → item_text version (Malformed n) ≡ (decimal n ++ codes " malformed") ++ line_end
 unfolding item_text
 malformed_text version n = sym (append_assoc (decimal n) (codes " malformed") line_end)
 
@@ -231,7 +231,7 @@ pub record ItemThere (version : ℕ) (i : ItemLine) (line : List ℕ) : Type 0 w
   pub fits : number ≤ largest_id
   pub stands : StandsItem version item rest
 
-item_there : (version : ℕ) (i : ItemLine) (line : List ℕ) → IsItemLine version i line → ItemThere version i line
+pub item_there : (version : ℕ) (i : ItemLine) (line : List ℕ) → IsItemLine version i line → ItemThere version i line
 item_there version (lone (Malformed n)) line is = record {
   number = n;
   item = broken;
@@ -309,7 +309,7 @@ item_ends : (version : ℕ) (i : Item) (rest : List ℕ) → StandsItem version 
 item_ends version broken rest is = subst EndsNumber is refl
 item_ends version (sound l s) rest is = subst EndsNumber is.1 refl
 
-item_number : (version : ℕ) (i : ItemLine) (line : List ℕ) (at : ItemThere version i line) → number_behind largest_id [] line ≡ Some (at.number, at.rest)
+pub item_number : (version : ℕ) (i : ItemLine) (line : List ℕ) (at : ItemThere version i line) → number_behind largest_id [] line ≡ Some (at.number, at.rest)
 item_number version i line at =
     ap (number_behind largest_id []) (sym at.line_is) ∙ number_behind_back largest_id at.number [] at.rest at.fits (omega arith) (item_ends version at.item at.rest at.stands)
 

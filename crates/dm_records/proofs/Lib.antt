@@ -4,3 +4,8 @@ pub mod LinesRead
 pub mod IdsRead
 pub mod AnswersRead
 pub mod ItemsRead
+pub mod Splitting
+pub mod RepliesSplit
+pub mod RunsSplit
+pub mod HeldRuns
+pub mod LinesOnce

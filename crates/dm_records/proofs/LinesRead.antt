@@ -70,10 +70,10 @@ version_none line none n is = no_line (one (codes "dm-run ") 2) line (n ∷ []) 
 
 -- ---- notes, openings, times
 
-abbrev note_fields : List (List ℕ × ℕ)
+abbrev pub note_fields : List (List ℕ × ℕ)
 note_fields = (codes "board ", largest_cost) ∷ (codes " stop ", largest_cost) ∷ (codes " dropped ", largest_id) ∷ []
 
-note_spelled : (n : Note) → note_text n ≡ field_text note_fields (n.board ∷ n.stop ∷ n.entry ∷ []) [] ++ line_end
+pub note_spelled : (n : Note) → note_text n ≡ field_text note_fields (n.board ∷ n.stop ∷ n.entry ∷ []) [] ++ line_end
 unfolding note_text
 note_spelled n = sym (simp (append_assoc, append-nil))
 
@@ -93,7 +93,7 @@ note_none line none n is =
     (is.board, omega arith, refl, (is.stop, omega arith, refl, (is.entry, omega arith, refl, tt)))
     (append_cancel_right (field_text note_fields (n.board ∷ n.stop ∷ n.entry ∷ []) []) line line_end (sym (note_spelled n) ∙ is.spelled))
 
-abbrev opening_fields : List (List ℕ × ℕ)
+abbrev pub opening_fields : List (List ℕ × ℕ)
 opening_fields = (codes "feed ", largest_cost) ∷ (codes " ", largest_cost) ∷ []
 
 pub opening_is : (line : List ℕ) (f i : ℕ) → Some (f ∷ i ∷ []) ≡ whole (fields opening_fields line) → IsOpeningLine (record { feed = f; items = i }) line
@@ -104,7 +104,7 @@ opening_is line f i e =
 pub opening_none : (line : List ℕ) → None ≡ whole (fields opening_fields line) → (o : Opening) → IsOpeningLine o line → ⊥
 opening_none line none o is = no_line opening_fields line (o.feed ∷ o.items ∷ []) none (is.feed, omega arith, refl, (is.items, omega arith, refl, tt)) is.spelled
 
-abbrev time_fields : List (List ℕ × ℕ)
+abbrev pub time_fields : List (List ℕ × ℕ)
 time_fields = ([], largest_id) ∷ (codes "; ", largest_cost) ∷ []
 
 pub time_is : (line : List ℕ) (e t : ℕ) → Some (e ∷ t ∷ []) ≡ whole (fields time_fields line) → IsTimeLine (record { event = e; time = t }) line
@@ -117,7 +117,7 @@ time_none line none t is = no_line time_fields line (t.event ∷ t.time ∷ []) 
 
 -- ---- entries
 
-abbrev entry_fields : List (List ℕ × ℕ)
+abbrev pub entry_fields : List (List ℕ × ℕ)
 entry_fields = (codes "entry ", largest_id) ∷ (codes " feed ", largest_cost) ∷ (codes " line ", largest_id) ∷ []
 
 abbrev entry_line_text : ℕ → Entry → List ℕ
@@ -131,7 +131,7 @@ entry_same : (said : Numbered) (line : List ℕ) → IsEntryLine said line → e
 entry_same said line is =
     append_cancel_right (entry_line_text said.number said.entry) line line_end (sym (entry_spelled said.number said.entry) ∙ is.spelled)
 
-entry_read : (said : Numbered) (line : List ℕ) → IsEntryLine said line →
+pub entry_read : (said : Numbered) (line : List ℕ) → IsEntryLine said line →
     fields entry_fields line ≡ Some (said.number ∷ said.entry.feed ∷ said.entry.line ∷ [], codes " " ++ spelling_of_message said.entry.message)
 entry_read said line is =
     ap (fields entry_fields) (sym (entry_same said line is))

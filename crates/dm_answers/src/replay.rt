@@ -1,0 +1,85 @@
+//! The rows at the entries of a journal.
+ghost use Rattle.std.specs.Prelude.{◌≡◌, ◌+◌, ◌<◌, ◌≤◌, length, IfOk, OnOk};
+ghost use Rattle.dm_claims.specs.Claims.{IsRoomFor};
+ghost use Rattle.dm_answers.specs.Judging.{IsJournal, IsReplay, history_of};
+
+use crate::journal::Journal;
+use dm_claims::Evaluator;
+use dm_rows::{Rows, admit};
+use std::alloc::{AllocError, Global};
+
+/// The rows after so many entries, and room for their times.
+#[derive(Drop)]
+pub struct Replay {
+    pub rows: Rows,
+    pub entry: usize,
+    pub evaluator: Evaluator,
+}
+
+impl Replay {
+    /// The rows before the first entry.
+    pub fn new(journal: &Journal<'_>, evaluator: Evaluator) -> Result<Replay, AllocError>
+        requires journal { IsJournal journal.now }
+        requires room { IsRoomFor journal.now.net.now evaluator }
+        ensures { IfOk result (IsReplay journal.now) }
+    {
+        let Ok(rows) = journal.start.copy() else {
+            return Err(AllocError);
+        };
+        Ok(Replay {
+            rows,
+            entry: 0,
+            evaluator,
+        })
+    }
+
+    /// Goes to the rows after so many entries. They are gone over from where it stands, and from the first one where that
+    /// is behind. Only an `Adopt` takes memory.
+    pub fn go_to(
+        &mut self,
+        alloc: Global,
+        journal: &Journal<'_>,
+        entry: usize,
+    ) -> Result<(), AllocError>
+        requires journal { IsJournal journal.now }
+        requires stands { IsReplay journal.now self.old }
+        requires within { entry ≤ length (history_of journal.now) }
+        ensures stands { IsReplay journal.now self.new }
+        ensures there { OnOk result (self.new.entry ≡ entry) }
+    {
+        if entry < self.entry {
+            self.rows.copy_from(journal.start);
+            self.entry = 0;
+        }
+        while self.entry < entry {
+            match self.step(alloc, journal) {
+                Ok(()) => (),
+                Err(AllocError) => return Err(AllocError),
+            }
+        }
+        Ok(())
+    }
+
+    /// Goes over one entry. An accepted message is refused for want of memory alone.
+    fn step(&mut self, alloc: Global, journal: &Journal<'_>) -> Result<(), AllocError>
+        requires journal { IsJournal journal.now }
+        requires stands { IsReplay journal.now self.old }
+        requires more { self.old.entry < length (history_of journal.now) }
+        ensures stands { IsReplay journal.now self.new }
+        ensures on { OnOk result (self.new.entry ≡ self.old.entry + 1) }
+    {
+        match admit(
+            alloc,
+            journal.net,
+            &self.rows,
+            &journal.entries[self.entry].message,
+        ) {
+            Ok(change) => {
+                self.rows.apply(&change);
+                self.entry += 1;
+                Ok(())
+            }
+            Err(_) => Err(AllocError),
+        }
+    }
+}

@@ -1,0 +1,2 @@
+-- What the judges compute. Who believes what is told need not read it.
+pub mod Blocks

@@ -1,0 +1,68 @@
+//! A plan in a log: its first line is an item's, and its block stands behind it.
+ghost use Rattle.std.specs.Prelude.{◌≡◌, ◌≤◌, List, length, IfOk};
+ghost use Rattle.dm_cert.specs.PlanTexts.{IsVersion};
+ghost use Rattle.dm_cert.specs.declared.replies.LogItem.{LogItem};
+ghost use Rattle.dm_cert.specs.declared.replies.LogItem.TheVariants.{Answered};
+ghost use Rattle.dm_cert.specs.declared.replies.Reply.TheVariants.{Planned};
+ghost use Rattle.dm_records.specs.Readings.{opening_of};
+ghost use Rattle.dm_check.specs.Judged.{TellsBlock};
+ghost use Rattle.dm_check.specs.Inside.Blocks.{without_plan};
+
+use crate::faults::{Fault, Stop};
+use crate::verdicts::BadKind;
+use dm_base::Items;
+use dm_cert::{CertFault, CertKind, read_choices, read_tree};
+use dm_records::PlanLine;
+use dm_text::Lines;
+use dm_tree::Plan;
+use std::alloc::Global;
+
+/// The plan of an item's first line, from the lines behind it, or None where they show no tree.
+#[tactic(auto, using(crate::proofs::Blocks::choices_stopped))]
+pub(crate) fn block_told(
+    alloc: Global,
+    lines: &mut Lines,
+    version: u32,
+    opening: &PlanLine,
+) -> Result<Option<Plan>, Stop>
+    requires version { IsVersion version }
+    requires behind { 1 ≤ lines.old.line }
+    ensures { TellsBlock version (opening_of opening.now) lines.old lines.new result }
+{
+    let (choices, size) = (opening.choices, opening.size);
+    let choices = match read_choices(alloc, lines, choices) {
+        Ok(choices) => choices,
+        Err(fault) => return without_plan(fault),
+    };
+    let tree = match read_tree(alloc, version, lines, size) {
+        Ok(tree) => tree,
+        Err(fault) => return without_plan(fault),
+    };
+    Ok(Some(Plan {
+        entry: opening.entry,
+        choices: Items::from_vec(choices),
+        cost: opening.cost,
+        bound: opening.bound,
+        mark: opening.mark,
+        tree,
+    }))
+}
+
+/// What a fault in a plan's lines comes to: they show no plan, or one of them is cut or misshapen.
+fn without_plan(fault: CertFault) -> Result<Option<Plan>, Stop>
+    ensures { result ≡ without_plan fault }
+{
+    let line = fault.line;
+    match fault.kind {
+        CertKind::Form => Err(Stop::Fault(Fault {
+            line,
+            kind: BadKind::Form,
+        })),
+        CertKind::Truncated => Err(Stop::Fault(Fault {
+            line,
+            kind: BadKind::Truncated,
+        })),
+        CertKind::NotATree => Ok(None),
+        CertKind::OutOfMemory => Err(Stop::OutOfMemory),
+    }
+}

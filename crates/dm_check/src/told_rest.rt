@@ -1,0 +1,121 @@
+//! What stands behind the logs: the notes of boards, the times and the cost.
+ghost use Rattle.std.specs.Prelude.{ℕ, ◌≡◌, ◌<◌, List, length};
+ghost use Rattle.dm_rows.specs.Rows.{IsSized};
+ghost use Rattle.dm_rows.specs.Active.{HasNoCycle};
+ghost use Rattle.dm_rows.specs.Timetable.{IsLeast};
+ghost use Rattle.dm_relaxation.specs.Binding.{AreBelowLimit};
+ghost use Rattle.dm_cert.specs.Answers.{rows_after};
+ghost use Rattle.dm_cert.specs.declared.notes.Note.{Note};
+ghost use Rattle.dm_cert.specs.declared.replies.FeedLog.{FeedLog};
+ghost use Rattle.dm_cert.specs.Logs.{all_items};
+ghost use Rattle.dm_claims.specs.Claims.{IsRoomFor};
+ghost use Rattle.dm_answers.specs.Judging.{IsJournal, setting_of, history_of};
+ghost use Rattle.dm_check.specs.Judged.{AreFlagged, EndingOn, RestOn};
+
+use crate::faults::{Fault, Stop};
+use crate::named::boards_told;
+use crate::told_lines::time_told;
+use crate::told_notes::all_notes;
+use crate::told_records::{cost_told, end_told, heading_told, timetable_told};
+use crate::verdicts::BadKind;
+use dm_answers::Journal;
+use dm_claims::Evaluator;
+use dm_relaxation::Cyclic;
+use dm_rows::Rows;
+use dm_text::Lines;
+use std::alloc::Global;
+
+/// The times, the cost and the last line, where the evaluator's times are the least of the rows.
+fn priced_told(
+    lines: &mut Lines,
+    journal: &Journal<'_>,
+    rows: &Rows,
+    evaluator: &mut Evaluator,
+) -> Result<(), Stop>
+    requires journal { IsJournal journal.now }
+    requires sized { IsSized journal.now.net.now rows.now }
+    requires room { IsRoomFor journal.now.net.now evaluator.old }
+    requires least { IsLeast journal.now.net.now rows.now evaluator.old.times }
+    requires early { AreBelowLimit evaluator.old.times }
+    ensures { (logs : List FeedLog) (notes : List Note) → EndingOn (setting_of journal.now) (history_of journal.now) logs notes rows.now lines.old lines.new result }
+{
+    match timetable_told(lines, journal.net, rows, evaluator) {
+        Ok(()) => (),
+        Err(fault) => return Err(Stop::Fault(fault)),
+    }
+    match cost_told(lines, journal.net, rows, evaluator, journal.penalty) {
+        Ok(_cost) => (),
+        Err(fault) => return Err(Stop::Fault(fault)),
+    }
+    match end_told(lines) {
+        Ok(()) => Ok(()),
+        Err(fault) => Err(Stop::Fault(fault)),
+    }
+}
+
+/// The first time, which is not true where the rows have a cycle.
+fn untimed_told(lines: &mut Lines, journal: &Journal<'_>, rows: &Rows) -> Result<(), Stop>
+    requires cyclic { HasNoCycle journal.now.net.now rows.now → ⊥ }
+    ensures { (logs : List FeedLog) (notes : List Note) → EndingOn (setting_of journal.now) (history_of journal.now) logs notes rows.now lines.old lines.new result }
+{
+    journal.net.sound();
+    let line = lines.line();
+    match time_told(lines) {
+        Ok(_said) => Err(Stop::Fault(Fault {
+            line,
+            kind: BadKind::Time,
+        })),
+        Err(fault) => Err(Stop::Fault(fault)),
+    }
+}
+
+/// The times of the rows, their cost and the last line.
+fn ending_told(
+    lines: &mut Lines,
+    journal: &Journal<'_>,
+    rows: &Rows,
+    evaluator: &mut Evaluator,
+) -> Result<(), Stop>
+    requires journal { IsJournal journal.now }
+    requires sized { IsSized journal.now.net.now rows.now }
+    requires room { IsRoomFor journal.now.net.now evaluator.old }
+    ensures { (logs : List FeedLog) (notes : List Note) → EndingOn (setting_of journal.now) (history_of journal.now) logs notes rows.now lines.old lines.new result }
+{
+    match evaluator.least(journal.net, rows) {
+        Ok(()) => priced_told(lines, journal, rows, evaluator),
+        Err(Cyclic) => untimed_told(lines, journal, rows),
+    }
+}
+
+/// What stands behind the logs, where these are the rows after all entries.
+pub(crate) fn rest_told(
+    alloc: Global,
+    lines: &mut Lines,
+    journal: &Journal<'_>,
+    rows: &Rows,
+    evaluator: &mut Evaluator,
+    named: &[bool],
+    entries: u32,
+) -> Result<(), Stop>
+    requires journal { IsJournal journal.now }
+    requires sized { IsSized journal.now.net.now rows.now }
+    requires rows_are { rows.now ≡ rows_after (setting_of journal.now) (history_of journal.now) (length (history_of journal.now)) }
+    requires room { IsRoomFor journal.now.net.now evaluator.old }
+    requires each { length named.now ≡ length (history_of journal.now) }
+    requires counted { length (history_of journal.now) ≡ entries }
+    ensures { (logs : List FeedLog) → AreFlagged (all_items logs) named.now → RestOn (setting_of journal.now) (history_of journal.now) logs lines.old lines.new result }
+{
+    let notes = match boards_told(lines, named) {
+        Ok(notes) => notes,
+        Err(fault) => return Err(Stop::Fault(fault)),
+    };
+    match all_notes(alloc, lines, entries as usize, notes) {
+        Ok(()) => (),
+        Err(stop) => return Err(stop),
+    }
+    match heading_told(lines, entries) {
+        Ok(_entries) => (),
+        Err(fault) => return Err(Stop::Fault(fault)),
+    }
+    ending_told(lines, journal, rows, evaluator)
+}

@@ -1,0 +1,83 @@
+-- Which choices a timetable violates, by flags of what is undecided and by rows.
+use Rattle.std.proofs.Common.{◌≡◌, ℕ, ◌+◌, ◌<◌, Bool, true, false, ◌&&◌, List, length, refl, sym, ap, subst, ◌∙◌, inl, inr, arith, slice_index}
+use Rattle.std.specs.Prelude.{◌==◌, Contains}
+use Rattle.std.specs.List.{range_with_len}
+use Rattle.std.proofs.lemmas.Bool.{cases_lt, and_parts, and_from, eq-eqb, eqb-true, both_ways, false_from_ne_true}
+use Rattle.std.proofs.lemmas.List.FromFn.{length-range_with_len, get_or-range_with_len}
+use Rattle.dm_network.specs.Net.{Net, activity_at, pair_at, places_out_of}
+use Rattle.dm_rows.specs.declared.messages.Decision.{Decision}
+use Rattle.dm_rows.specs.Cost.{comes_too_early}
+use Rattle.dm_rows.specs.Relax.{is_of_pair, is_unmet_from, has_unmet_from, is_undecided_change, is_undecided_pair, is_violated_change, is_violated_pair}
+use Rattle.dm_rows.specs.Rows.{RowsValue}
+use Rattle.dm_verify.proofs.Agreeing.{passes_one}
+use Rattle.dm_verify.proofs.RowsOut.{leads_out, stands_out}
+use Rattle.dm_verify.specs.Inside.Flags.{is_flagged}
+use Rattle.dm_verify.specs.Inside.Flags.{AreFlags}
+use Rattle.dm_verify.specs.Inside.Violations.{NoneUnmet, NoneFlagged}
+use Rattle.dm_verify.proofs.Paths.{one_passes}
+
+pub in_range : (n k : ℕ) → k < n → Contains (range_with_len 0 n) k
+in_range n k lt =
+    let many = length-range_with_len 0 n in
+    let e = get_or-range_with_len 0 n k k lt in
+    (k, omega arith, omega (arith, e))
+
+pub range_below : (n k : ℕ) → Contains (range_with_len 0 n) k → k < n
+range_below n k h =
+    let many = length-range_with_len 0 n in
+    let below = h.1 in
+    let place : ℕ = h.0 in
+    let lt : place < n = omega (arith, below, many) in
+    let e = get_or-range_with_len 0 n place k lt in
+    let is = h.2 in
+    omega (arith, e, is, lt)
+
+module _ (net : Net) (rows : RowsValue) (x : List ℕ) (p tail : ℕ) (row : List ℕ) (row_is : row ≡ places_out_of net tail) where
+  pub unmet_in_row : (a k : ℕ) → k < length row → a ≡ slice_index row k → is_of_pair p (activity_at net a).pair ≡ true → comes_too_early net rows x a ≡ true →
+      has_unmet_from net rows x p tail ≡ true
+  unmet_in_row a k lt is its early =
+      let leads = leads_out net tail k row row_is lt in
+      let below : a < length net.activities = let b = leads.is_activity in omega (arith, is, b) in
+      let t : (activity_at net a).tail ≡ tail = ap (λ c. (activity_at net c).tail) is ∙ leads.tail in
+      one_passes (is_unmet_from net rows x p tail) (range_with_len 0 (length net.activities)) a (in_range (length net.activities) a below)
+      (and_from (is_of_pair p (activity_at net a).pair && (activity_at net a).tail == tail) (comes_too_early net rows x a)
+      (and_from (is_of_pair p (activity_at net a).pair) ((activity_at net a).tail == tail) its (eq-eqb (activity_at net a).tail tail t)) early)
+
+  pub none_in_row : NoneUnmet net rows x p row (length row) → has_unmet_from net rows x p tail ≡ false
+  none_in_row none =
+      false_from_ne_true (has_unmet_from net rows x p tail)
+      (λ h.
+      let one = passes_one (is_unmet_from net rows x p tail) (range_with_len 0 (length net.activities)) h in
+      let a : ℕ = one.0 in
+      let below : a < length net.activities = range_below (length net.activities) a one.1 in
+      let both = and_parts (is_of_pair p (activity_at net a).pair && (activity_at net a).tail == tail) (comes_too_early net rows x a) one.2 in
+      let two = and_parts (is_of_pair p (activity_at net a).pair) ((activity_at net a).tail == tail) both.0 in
+      let stands = stands_out net tail a row row_is (record { is_activity = below; tail = eqb-true (activity_at net a).tail tail two.1 }) in
+      let seen : (is_of_pair p (activity_at net a).pair && comes_too_early net rows x a) ≡ false =
+      subst (λ (b : ℕ). (is_of_pair p (activity_at net b).pair && comes_too_early net rows x b) ≡ false) stands.is (none stands.place stands.within) in
+      both_ways (is_of_pair p (activity_at net a).pair && comes_too_early net rows x a) seen
+      (and_from (is_of_pair p (activity_at net a).pair) (comes_too_early net rows x a) two.0 both.1))
+
+-- one more place that is not flagged, or does not pass
+pub next_flagged : (flags : List Bool) (test : ℕ → Bool) (n : ℕ) → NoneFlagged flags test n → (is_flagged flags n && test n) ≡ false → NoneFlagged flags test (n + 1)
+next_flagged flags test n none here k lt =
+    elim (cases_lt k n) [
+      | inl early ↦ none k early
+      | inr past ↦ let is : k ≡ n = omega arith in subst (λ (j : ℕ). (is_flagged flags j && test j) ≡ false) (sym is) here
+    ]
+
+and_assoc : (a b c : Bool) → ((a && b) && c) ≡ (a && (b && c))
+and_assoc true b c = refl
+and_assoc false b c = refl
+
+module _ (net : Net) (rows : RowsValue) (path : List Decision) (x : List ℕ) (flags : List Bool) where
+  pub violated_change_by : AreFlags (is_undecided_change net rows path) (length net.activities) flags → (k : ℕ) → k < length net.activities →
+      is_violated_change net rows path x k ≡ (is_flagged flags k && comes_too_early net rows x k)
+  violated_change_by are k lt = ap (λ u. u && comes_too_early net rows x k) (sym (are.each k lt))
+
+  pub violated_pair_by : AreFlags (is_undecided_pair net rows path) (length net.pairs) flags → (k : ℕ) → k < length net.pairs →
+      is_violated_pair net rows path x k
+      ≡ (is_flagged flags k && (has_unmet_from net rows x k (pair_at net k).small && has_unmet_from net rows x k (pair_at net k).large))
+  violated_pair_by are k lt =
+      and_assoc (is_undecided_pair net rows path k) (has_unmet_from net rows x k (pair_at net k).small) (has_unmet_from net rows x k (pair_at net k).large)
+      ∙ ap (λ u. u && (has_unmet_from net rows x k (pair_at net k).small && has_unmet_from net rows x k (pair_at net k).large)) (sym (are.each k lt))

@@ -1,0 +1,18 @@
+use Rattle.std.proofs.Common.{List, ℕ, ◌≡◌, length, sym, subst, ◌∙◌}
+use Rattle.std.specs.Vec.{with_items}
+use Rattle.std.proofs.lemmas.List.{with_items_is}
+use Rattle.dm_relaxation.specs.Binding.{AreSpansOf}
+use Rattle.dm_verify.proofs.timetable.Timetable.new.Goals as goal
+
+pub returns : goal.returns
+returns c =
+    let net = c.args.net.now in
+    let room : c.in_ok-spans.spans.len ≡ length net.activities = c.in_ok-spans.ensures.len ∙ c.activities.ensures.count in
+    let spans : (with_items c.in_ok-spans.spans c.fill_spans.new.spans).items ≡ c.fill_spans.new.spans =
+    with_items_is c.in_ok-spans.spans c.fill_spans.new.spans (c.fill_spans.ensures.as_many ∙ sym room) in
+    record {
+      spans = subst (λ (x : List ℕ). AreSpansOf net c.args.rows.now x) (sym spans) c.fill_spans.ensures;
+      last = c.in_ok-new.ensures _;
+      first = c.in_ok-new-2.ensures _;
+      due = sym c.in_ok-vec.field-0.ok.0 ∙ c.in_ok-vec.ensures.len ∙ c.events.ensures.count;
+    }

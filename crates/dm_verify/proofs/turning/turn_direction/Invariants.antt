@@ -1,0 +1,5 @@
+use Rattle.dm_verify.specs.Inside.Moves.{HasTurned}
+use Rattle.dm_verify.proofs.turning.turn_direction.Given as goal
+
+abbrev pub invariant-loop-a : goal.invariant-loop-a
+invariant-loop-a l = HasTurned l.net l.pair l.row l.a-index l.value l.initial.held l.held

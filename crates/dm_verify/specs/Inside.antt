@@ -1,0 +1,9 @@
+pub mod Flags
+pub mod Paths
+pub mod Places
+pub mod Moves
+pub mod Violations
+pub mod Timetables
+pub mod Relaxations
+pub mod Visiting
+pub mod Leaves

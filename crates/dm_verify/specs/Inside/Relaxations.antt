@@ -1,0 +1,44 @@
+-- The relaxed problem of a path, kept by flags.
+use Rattle.std.specs.Prelude.{ℕ, Bool, List, length}
+use Rattle.dm_network.specs.Net.{Net}
+use Rattle.dm_rows.specs.declared.messages.Decision.{Decision}
+use Rattle.dm_rows.specs.Decide.{IsChoiceList}
+use Rattle.dm_rows.specs.Relax.{is_undecided_change, is_undecided_pair, is_relaxed_active, is_relaxed_dropped}
+use Rattle.dm_rows.specs.Rows.{RowsValue}
+use Rattle.dm_tree.specs.Relaxed.{IsRelaxedLeast, IsRelaxedCycle, HasNoRelaxedCycle}
+use Rattle.dm_relaxation.specs.Binding.{AreBelowLimit}
+use Rattle.dm_verify.specs.Inside.Flags.{AreFlags}
+use Rattle.dm_verify.specs.Inside.Timetables.{TimetableValue, IsTimetableOf}
+
+-- a path, which changes and which pairs it leaves undecided, what its relaxed problem holds and charges for, and its
+-- timetable
+pub record RelaxationValue : Type 0 where
+  pub path : List Decision
+  pub changes : List Bool
+  pub pairs : List Bool
+  pub held : List Bool
+  pub charged : List Bool
+  pub timetable : TimetableValue
+
+abbrev pub times_of : RelaxationValue → List ℕ
+times_of relaxation = relaxation.timetable.last.times
+
+-- the path decides free choices, none twice, and the flags are those of its relaxed problem
+pub record IsRelaxationOf (net : Net) (rows : RowsValue) (relaxation : RelaxationValue) : Type 0 where
+  pub is_path : IsChoiceList net rows relaxation.path
+  pub changes : AreFlags (is_undecided_change net rows relaxation.path) (length net.activities) relaxation.changes
+  pub pairs : AreFlags (is_undecided_pair net rows relaxation.path) (length net.pairs) relaxation.pairs
+  pub held : AreFlags (is_relaxed_active net rows relaxation.path) (length net.activities) relaxation.held
+  pub charged : AreFlags (is_relaxed_dropped net rows relaxation.path) (length net.activities) relaxation.charged
+  pub timetable : IsTimetableOf net rows relaxation.timetable
+
+-- the times are the least of the relaxed problem, which has no cycle
+pub record IsSolved (net : Net) (rows : RowsValue) (relaxation : RelaxationValue) : Type 0 where
+  pub least : IsRelaxedLeast net rows relaxation.path (times_of relaxation)
+  pub no_cycle : HasNoRelaxedCycle net rows relaxation.path
+  pub below : AreBelowLimit (times_of relaxation)
+
+-- the relaxed problem has a cycle
+pub record HasRelaxedCycle (net : Net) (rows : RowsValue) (path : List Decision) : Type 0 where
+  pub cycle : List ℕ
+  pub is_cycle : IsRelaxedCycle net rows path cycle

@@ -1,0 +1,153 @@
+//! The choices of a plan: which choices they are, and what they make of the rows.
+ghost use Rattle.std.specs.Prelude.{ℕ, ◌≡◌, ◌≤◌, ◌+◌, Some, All, Contains, map, IfOk, MatchBool};
+ghost use Rattle.dm_base.specs.declared.limits.TheConstants.{PENALTY};
+ghost use Rattle.dm_rows.specs.Rows.{IsSized};
+ghost use Rattle.dm_rows.specs.Reach.{ReachesFlip};
+ghost use Rattle.dm_rows.specs.Decide.{choice_of, free_choices_of, with_decisions};
+ghost use Rattle.dm_rows.specs.Relax.{is_same_choice};
+ghost use Rattle.dm_tree.specs.Plans.{whole_task, is_set, AreSomeOf, DiffersFrom, CostsWith};
+ghost use Rattle.dm_claims.specs.Claims.{IsRoomFor, Tells};
+ghost use Rattle.dm_verify.specs.Inside.Paths.{AreFree, differs_from, is_next};
+
+use crate::flips::flip_of;
+use dm_base::Cost;
+use dm_claims::Evaluator;
+use dm_network::Network;
+use dm_relaxation::Cyclic;
+use dm_rows::{Change, Choice, Decision, Flip, Rows};
+use std::alloc::AllocError;
+
+/// Whether decisions decide some of the choices allowed, in their order and each at most once.
+pub fn are_some_of(allowed: &[Choice], decisions: &[Decision]) -> bool
+    ensures { Tells (AreSomeOf allowed.now (map choice_of decisions.now)) result }
+{
+    let mut next = 0usize;
+    for choice in allowed {
+        next = next_after(decisions, next, *choice);
+    }
+    next == decisions.len()
+}
+
+/// The place behind the decision at a place where it decides this choice, and else the place itself.
+fn next_after(decisions: &[Decision], next: usize, choice: Choice) -> usize
+    ensures { MatchBool (is_next decisions.now next choice) (result ≡ next + 1) (result ≡ next) }
+{
+    if next < decisions.len() && is_same(decided(decisions[next]), choice) {
+        next + 1
+    } else {
+        next
+    }
+}
+
+/// The choice that a decision decides. Of a pair the smaller id stands first.
+fn decided(decision: Decision) -> Choice
+    ensures { result ≡ choice_of decision }
+{
+    match decision {
+        Decision::Keep(act) | Decision::Drop(act) => Choice::Change(act),
+        Decision::First(first, second) => {
+            if first.0 < second.0 {
+                Choice::Pair(first, second)
+            } else {
+                Choice::Pair(second, first)
+            }
+        }
+    }
+}
+
+/// Whether two choices are one.
+fn is_same(one: Choice, other: Choice) -> bool
+    ensures { result ≡ is_same_choice one other }
+{
+    match (one, other) {
+        (Choice::Change(a), Choice::Change(b)) => a.0 == b.0,
+        (Choice::Pair(i, j), Choice::Pair(k, l)) => i.0 == k.0 && j.0 == l.0,
+        _ => false,
+    }
+}
+
+/// Whether no decision is what the rows have already.
+pub fn are_all_different(net: &Network, rows: &Rows, decisions: &[Decision]) -> bool
+    requires sized { IsSized net.now rows.now }
+    requires free { AreFree net.now rows.now decisions.now }
+    ensures { (penalty budget : ℕ) → Tells (All (DiffersFrom (whole_task net.now rows.now penalty budget)) decisions.now) result }
+{
+    for decision in decisions {
+        if !is_different(net, rows, *decision) {
+            return false;
+        }
+    }
+    true
+}
+
+/// Whether a decision of a free choice is not what the rows have.
+fn is_different(net: &Network, rows: &Rows, decision: Decision) -> bool
+    requires sized { IsSized net.now rows.now }
+    requires free { Contains (free_choices_of net.now rows.now) (choice_of decision) }
+    ensures { result ≡ differs_from net.now rows.now decision }
+{
+    let flip = flip_of(net, rows, decision);
+    !is_set(rows, flip)
+}
+
+/// Whether the rows have the decision already.
+fn is_set(rows: &Rows, flip: Flip) -> bool
+    requires { ReachesFlip rows.now flip }
+    ensures { result ≡ is_set rows.now (Some flip) }
+{
+    match flip {
+        Flip::Keep { act } => rows.kept(act),
+        Flip::Drop { act } => !rows.kept(act),
+        Flip::First { pair, small } => {
+            if small {
+                rows.small_first(pair)
+            } else {
+                !rows.small_first(pair)
+            }
+        }
+    }
+}
+
+/// Whether the rows have no cycle with these decisions of free choices, and cost this.
+pub fn cost_with(
+    net: &Network,
+    penalty: u64,
+    evaluator: &mut Evaluator,
+    rows: &Rows,
+    decisions: &[Decision],
+    cost: Cost,
+) -> Result<bool, AllocError>
+    requires sized { IsSized net.now rows.now }
+    requires room { IsRoomFor net.now evaluator.old }
+    requires free { AreFree net.now rows.now decisions.now }
+    requires penalty { penalty ≤ PENALTY }
+    ensures tells { IfOk result (λ b. (budget : ℕ) → Tells (CostsWith (whole_task net.now rows.now penalty budget) decisions.now cost) b) }
+    ensures room { IsRoomFor net.now evaluator.new }
+{
+    let set = match with_decisions(net, rows, decisions) {
+        Ok(set) => set,
+        Err(full) => return Err(full),
+    };
+    match evaluator.least(net, &set) {
+        Ok(()) => Ok(evaluator.is_cost(net, &set, penalty, cost)),
+        Err(Cyclic) => Ok(false),
+    }
+}
+
+/// The rows with decisions of free choices set.
+fn with_decisions(net: &Network, rows: &Rows, decisions: &[Decision]) -> Result<Rows, AllocError>
+    requires sized { IsSized net.now rows.now }
+    requires free { AreFree net.now rows.now decisions.now }
+    ensures set { IfOk result (λ set. set ≡ with_decisions net.now rows.now decisions.now) }
+    ensures sized { IfOk result (IsSized net.now) }
+{
+    let mut set = match rows.copy() {
+        Ok(set) => set,
+        Err(full) => return Err(full),
+    };
+    for decision in decisions {
+        let flip = flip_of(net, rows, *decision);
+        set.apply(&Change::Flipped(flip));
+    }
+    Ok(set)
+}

@@ -1,0 +1,149 @@
+//! The relaxed problem of a path, as decisions are made and taken back.
+ghost use Rattle.std.specs.Prelude.{ℕ, ◌≡◌, ◌≤◌, ◌++◌, [], ◌∷◌, List, IsTrue, ◌↔◌, length, IfOk, IfSome, IfNone, OnOk, OnErr};
+ghost use Rattle.dm_base.specs.declared.limits.TheConstants.{PENALTY};
+ghost use Rattle.dm_rows.specs.Rows.{IsSized};
+ghost use Rattle.dm_rows.specs.Decide.{choice_of};
+ghost use Rattle.dm_tree.specs.Relaxed.{relaxed_cost_of, IsViolated};
+ghost use Rattle.dm_claims.specs.Claims.{Tells};
+ghost use Rattle.dm_verify.specs.Inside.Paths.{IsOpen};
+ghost use Rattle.dm_verify.specs.Inside.Relaxations.{IsRelaxationOf, IsSolved, HasRelaxedCycle, times_of};
+ghost use Rattle.dm_verify.specs.Inside.Violations.{IsSomeViolated};
+
+use crate::flips::flip_of;
+use crate::free::{all_undecided, bound_flags};
+use crate::timetable::Timetable;
+use crate::turning::turn;
+use crate::undecided::Undecided;
+use crate::violations::{is_any_violated, is_violated};
+use dm_base::Cost;
+use dm_network::Network;
+use dm_relaxation::{Cyclic, cost_charging};
+use dm_rows::{Choice, Decision, Rows};
+use std::alloc::{AllocError, Global};
+use std::marker::Model;
+
+/// A path of decisions over rows, with what its relaxed problem holds and charges for. Its calls take the network and the rows
+/// for which it was made.
+#[derive(Drop)]
+pub struct Relaxation {
+    path: Vec<Decision>,
+    undecided: Undecided,
+    held: Vec<bool>,
+    charged: Vec<bool>,
+    timetable: Timetable,
+}
+
+impl Model for Relaxation {
+    ghost use Rattle.dm_verify.specs.Inside.Relaxations.{RelaxationValue};
+
+    ghost Value = { RelaxationValue };
+
+    ghost view = { λ r. record { path = r.path.items; changes = r.undecided.changes.items; pairs = r.undecided.pairs.items; held = r.held.items; charged = r.charged.items; timetable = r.timetable } };
+
+    ghost invariant = { λ r. Unit {0} };
+}
+
+impl Relaxation {
+    /// The path without a decision.
+    pub fn new(alloc: Global, net: &Network, rows: &Rows) -> Result<Relaxation, AllocError>
+        requires { IsSized net.now rows.now }
+        ensures relaxation { IfOk result (IsRelaxationOf net.now rows.now) }
+        ensures path { IfOk result (λ relaxation. relaxation.path ≡ []) }
+    {
+        Ok(Relaxation {
+            path: Vec::new(alloc),
+            undecided: all_undecided(alloc, net, rows)?,
+            held: bound_flags(alloc, net, rows)?,
+            charged: vec![in alloc; false; net.activities()]?,
+            timetable: Timetable::new(alloc, net, rows)?,
+        })
+    }
+
+    /// Computes the least times of the relaxed problem. `Err` comes exactly where it has a cycle. It takes no memory.
+    pub fn solve(&mut self, net: &Network, rows: &Rows) -> Result<(), Cyclic>
+        requires sized { IsSized net.now rows.now }
+        requires relaxation { IsRelaxationOf net.now rows.now self.old }
+        ensures relaxation { IsRelaxationOf net.now rows.now self.new }
+        ensures path { self.new.path ≡ self.old.path }
+        ensures solved { OnOk result (IsSolved net.now rows.now self.new) }
+        ensures cyclic { OnErr result (HasRelaxedCycle net.now rows.now self.old.path) }
+    {
+        self.timetable.settle(net, rows, &self.held)
+    }
+
+    /// Decides a choice that is free and that the path leaves undecided. The times are then those of before.
+    pub fn decide(
+        &mut self,
+        net: &Network,
+        rows: &Rows,
+        decision: Decision,
+    ) -> Result<(), AllocError>
+        requires sized { IsSized net.now rows.now }
+        requires relaxation { IsRelaxationOf net.now rows.now self.old }
+        requires open { IsOpen net.now rows.now self.old.path (choice_of decision) }
+        ensures relaxation { OnOk result (IsRelaxationOf net.now rows.now self.new) }
+        ensures path { OnOk result (self.new.path ≡ self.old.path ++ decision ∷ []) }
+    {
+        net.sound();
+        let flip = flip_of(net, rows, decision);
+        turn(net, flip, true, &mut self.held, &mut self.charged);
+        self.undecided.set(flip, false);
+        let Ok(()) = self.path.push(decision) else {
+            return Err(AllocError);
+        };
+        Ok(())
+    }
+
+    /// Takes the last decision back, where there is one. The times are then those of before.
+    pub fn take_back(&mut self, net: &Network, rows: &Rows) -> Option<Decision>
+        requires sized { IsSized net.now rows.now }
+        requires relaxation { IsRelaxationOf net.now rows.now self.old }
+        ensures relaxation { IsRelaxationOf net.now rows.now self.new }
+        ensures path { IfSome result (λ d. self.old.path ≡ self.new.path ++ d ∷ []) }
+        ensures open { IfSome result (λ d. IsOpen net.now rows.now self.new.path (choice_of d)) }
+        ensures none { IfNone result (self.old.path ≡ []) }
+        ensures same { IfNone result (self.new ≡ self.old) }
+    {
+        net.sound();
+        match self.path.pop() {
+            Some(decision) => {
+                let flip = flip_of(net, rows, decision);
+                turn(net, flip, false, &mut self.held, &mut self.charged);
+                self.undecided.set(flip, true);
+                Some(decision)
+            }
+            None => None,
+        }
+    }
+
+    /// The relaxed cost, where the times are the least ones.
+    pub fn cost(&self, net: &Network, rows: &Rows, penalty: u64) -> Cost
+        requires sized { IsSized net.now rows.now }
+        requires relaxation { IsRelaxationOf net.now rows.now self.now }
+        requires solved { IsSolved net.now rows.now self.now }
+        requires penalty { penalty ≤ PENALTY }
+        ensures { result ≡ relaxed_cost_of net.now rows.now self.now.path (times_of self.now) penalty }
+    {
+        cost_charging(net, rows, &self.charged, self.timetable.times(), penalty)
+    }
+
+    /// Whether a choice is undecided and violated, where the times are the least ones.
+    pub fn is_violated(&self, net: &Network, rows: &Rows, choice: Choice) -> bool
+        requires sized { IsSized net.now rows.now }
+        requires relaxation { IsRelaxationOf net.now rows.now self.now }
+        requires solved { IsSolved net.now rows.now self.now }
+        ensures { IsTrue result ↔ IsViolated net.now rows.now self.now.path (times_of self.now) choice }
+    {
+        is_violated(net, rows, &self.undecided, self.timetable.times(), choice)
+    }
+
+    /// Whether some undecided choice is violated, where the times are the least ones.
+    pub fn is_any_violated(&self, net: &Network, rows: &Rows) -> bool
+        requires sized { IsSized net.now rows.now }
+        requires relaxation { IsRelaxationOf net.now rows.now self.now }
+        requires solved { IsSolved net.now rows.now self.now }
+        ensures { Tells (IsSomeViolated net.now rows.now self.now.path (times_of self.now)) result }
+    {
+        is_any_violated(net, rows, &self.undecided, self.timetable.times())
+    }
+}
