@@ -18,6 +18,7 @@ use Rattle.dm_rows.specs.Relax.{is_same_choice, is_undecided_change, is_undecide
 use Rattle.dm_priced.specs.Priced.{PricedValue, IsPriced, is_flagged}
 use Rattle.dm_tree.specs.Relaxed.{IsRelaxedLeast, IsRelaxedCycle, HasNoRelaxedCycle}
 use Rattle.dm_evaluate.specs.Evaluator.{EvaluatorValue, IsEvaluatorOf, AreFlags, times_of, path_without}
+use Rattle.dm_evaluate.specs.Marks.{MarksValue, MarksUnkept}
 use Rattle.dm_evaluate.specs.Inside.Paths.{AddsDecision, IsFlipOf}
 use Rattle.dm_evaluate.specs.Inside.Moves.{is_bound_by, set_where, Turns, Stays, IsOff}
 use Rattle.dm_evaluate.specs.Inside.Undecided.{with_change, with_pair, HasRoomFor}
@@ -134,10 +135,11 @@ module _ (net : Net) (network : IsNetwork net) (old : EvaluatorValue) (was : IsE
 
     pub decide_is : (path : List Decision) (changes pairs : List Bool) (priced : PricedValue) → path ≡ old.path ++ d ∷ [] → changes ≡ with_change flip false old.changes →
         pairs ≡ with_pair flip false old.pairs → IsPriced net priced → IsAtRest priced.live → Turns net flip true old.priced priced →
-        IsEvaluatorOf net (record { rows = old.rows; path = path; changes = changes; pairs = pairs; priced = priced })
-    decide_is path changes pairs priced path_is changes_are pairs_are is rest turns =
+        (marks : MarksValue) → MarksUnkept net priced.live.given.spans priced.live.times marks →
+        IsEvaluatorOf net (record { rows = old.rows; path = path; changes = changes; pairs = pairs; priced = priced; marks = marks })
+    decide_is path changes pairs priced path_is changes_are pairs_are is rest turns marks marked =
         let other : List Decision = old.path ++ d ∷ [] in
-        let now : IsEvaluatorOf net (record { rows = old.rows; path = other; changes = with_change flip false old.changes; pairs = with_pair flip false old.pairs; priced = priced }) =
+        let now : IsEvaluatorOf net (record { rows = old.rows; path = other; changes = with_change flip false old.changes; pairs = with_pair flip false old.pairs; priced = priced; marks = marks }) =
         record {
           sized = was.sized;
           is_path = list;
@@ -145,20 +147,23 @@ module _ (net : Net) (network : IsNetwork net) (old : EvaluatorValue) (was : IsE
           pairs = pairs_decided net network old.rows was.sized old.path other was.is_path list d adds flip named old.pairs was.pairs;
           evaluates = decided_evaluates net network old.rows was.sized old.path other was.is_path list d adds flip named old.priced priced was.evaluates is turns;
           at_rest = rest;
+          marked = marked;
         } in
-        subst (λ (p : List Decision). IsEvaluatorOf net (record { rows = old.rows; path = p; changes = changes; pairs = pairs; priced = priced })) (sym path_is)
-        (subst (λ (f : List Bool). IsEvaluatorOf net (record { rows = old.rows; path = other; changes = f; pairs = pairs; priced = priced })) (sym changes_are)
-        (subst (λ (f : List Bool). IsEvaluatorOf net (record { rows = old.rows; path = other; changes = with_change flip false old.changes; pairs = f; priced = priced })) (sym pairs_are) now))
+        subst (λ (p : List Decision). IsEvaluatorOf net (record { rows = old.rows; path = p; changes = changes; pairs = pairs; priced = priced; marks = marks })) (sym path_is)
+        (subst (λ (f : List Bool). IsEvaluatorOf net (record { rows = old.rows; path = other; changes = f; pairs = pairs; priced = priced; marks = marks })) (sym changes_are)
+        (subst (λ (f : List Bool). IsEvaluatorOf net (record { rows = old.rows; path = other; changes = with_change flip false old.changes; pairs = f; priced = priced; marks = marks })) (sym pairs_are) now))
 
   -- a decision that is refused
-  pub refused_is : (priced : PricedValue) → IsPriced net priced → IsAtRest priced.live → Stays net old.priced priced → IsEvaluatorOf net (record old { priced = priced })
-  refused_is priced is rest stays = record {
+  pub refused_is : (priced : PricedValue) → IsPriced net priced → IsAtRest priced.live → Stays net old.priced priced →
+      (marks : MarksValue) → MarksUnkept net priced.live.given.spans priced.live.times marks → IsEvaluatorOf net (record old { priced = priced; marks = marks })
+  refused_is priced is rest stays marks marked = record {
     sized = was.sized;
     is_path = was.is_path;
     changes = was.changes;
     pairs = was.pairs;
     evaluates = stays_evaluates net old.rows old.path old.priced priced was.evaluates is stays;
     at_rest = rest;
+    marked = marked;
   }
 
   pub refused_times : (priced : PricedValue) → IsPriced net priced → IsAtRest priced.live → Stays net old.priced priced → priced.live.times ≡ old.priced.live.times
@@ -181,12 +186,13 @@ module _ (net : Net) (network : IsNetwork net) (old : EvaluatorValue) (was : IsE
     pub undecide_is : (flip : Flip) → IsFlipOf net old.rows d flip → (path : List Decision) (changes pairs : List Bool) (priced : PricedValue) →
         path ≡ take k old.path ++ drop (suc k) old.path → changes ≡ with_change flip true old.changes →
         pairs ≡ with_pair flip true old.pairs → IsPriced net priced → IsAtRest priced.live → Turns net flip false old.priced priced →
-        IsEvaluatorOf net (record { rows = old.rows; path = path; changes = changes; pairs = pairs; priced = priced })
-    undecide_is flip named path changes pairs priced path_is changes_are pairs_are is rest turns =
+        (marks : MarksValue) → MarksUnkept net priced.live.given.spans priced.live.times marks →
+        IsEvaluatorOf net (record { rows = old.rows; path = path; changes = changes; pairs = pairs; priced = priced; marks = marks })
+    undecide_is flip named path changes pairs priced path_is changes_are pairs_are is rest turns marks marked =
         let less : List Decision = path_without c old.path in
         let list = without_list net old.rows old.path was.is_path d among c decides in
         let adds : AddsDecision (path_without c old.path) old.path d = without_adds net old.rows old.path was.is_path d among c decides in
-        let now : IsEvaluatorOf net (record { rows = old.rows; path = less; changes = with_change flip true old.changes; pairs = with_pair flip true old.pairs; priced = priced }) =
+        let now : IsEvaluatorOf net (record { rows = old.rows; path = less; changes = with_change flip true old.changes; pairs = with_pair flip true old.pairs; priced = priced; marks = marks }) =
         record {
           sized = was.sized;
           is_path = list;
@@ -194,11 +200,12 @@ module _ (net : Net) (network : IsNetwork net) (old : EvaluatorValue) (was : IsE
           pairs = pairs_undecided net network old.rows was.sized less old.path list was.is_path d adds flip named old.pairs was.pairs;
           evaluates = undecided_evaluates net network old.rows was.sized less old.path list was.is_path d adds flip named old.priced priced was.evaluates is turns;
           at_rest = rest;
+          marked = marked;
         } in
-        subst (λ (p : List Decision). IsEvaluatorOf net (record { rows = old.rows; path = p; changes = changes; pairs = pairs; priced = priced }))
+        subst (λ (p : List Decision). IsEvaluatorOf net (record { rows = old.rows; path = p; changes = changes; pairs = pairs; priced = priced; marks = marks }))
         (sym (path_is ∙ without_at net old.rows old.path was.is_path d among c decides k lt here))
-        (subst (λ (f : List Bool). IsEvaluatorOf net (record { rows = old.rows; path = less; changes = f; pairs = pairs; priced = priced })) (sym changes_are)
-        (subst (λ (f : List Bool). IsEvaluatorOf net (record { rows = old.rows; path = less; changes = with_change flip true old.changes; pairs = f; priced = priced })) (sym pairs_are) now))
+        (subst (λ (f : List Bool). IsEvaluatorOf net (record { rows = old.rows; path = less; changes = f; pairs = pairs; priced = priced; marks = marks })) (sym changes_are)
+        (subst (λ (f : List Bool). IsEvaluatorOf net (record { rows = old.rows; path = less; changes = with_change flip true old.changes; pairs = f; priced = priced; marks = marks })) (sym pairs_are) now))
 
     pub undecide_path : (path : List Decision) → path ≡ take k old.path ++ drop (suc k) old.path → path ≡ path_without c old.path
     undecide_path path path_is = path_is ∙ without_at net old.rows old.path was.is_path d among c decides k lt here

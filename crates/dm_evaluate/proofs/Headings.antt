@@ -18,7 +18,7 @@ set_off : (flags : List Bool) (a b : ℕ) (flag : Bool) → b ≢ a → is_held 
 set_off flags a b flag ne = get_or-set_other flags a b flag false ne
 
 -- an activity among the first n and one more
-among_next : (row : List ℕ) (n b : ℕ) → IsAmong row (n + 1) b → IsAmong row n b ⊎ (b ≡ slice_index row n)
+pub among_next : (row : List ℕ) (n b : ℕ) → IsAmong row (n + 1) b → IsAmong row n b ⊎ (b ≡ slice_index row n)
 among_next row n b (k, lt, is) =
     elim (cases_lt k n) [
       | inl earlier ↦ inl (k, earlier, is)
@@ -38,7 +38,7 @@ no_pair p (Some q) h e = let same : q ≡ p = cc in both_ways (q == p) h (eq-eqb
 
 module _ (net : Net) (p : ℕ) where
   keeps_all : (among : ℕ → Type 0) (priced : PricedValue) → KeepsBut net p among priced priced
-  keeps_all among priced = record { same = λ b. inl refl; floors = refl; spans = refl; passed = refl; charged = refl }
+  keeps_all among priced = record { same = λ b. inl refl; floors = refl; spans = refl; times = refl; passed = refl; charged = refl }
 
   keeps_then : (P Q R : ℕ → Type 0) (one two three : PricedValue) → ((b : ℕ) → P b → R b) → ((b : ℕ) → Q b → R b) →
       KeepsBut net p P one two → KeepsBut net p Q two three → KeepsBut net p R one three
@@ -49,6 +49,7 @@ module _ (net : Net) (p : ℕ) where
     ];
     floors = k.floors ∙ h.floors;
     spans = k.spans ∙ h.spans;
+    times = k.times ∙ h.times;
     passed = k.passed ∙ h.passed;
     charged = k.charged ∙ h.charged;
   }
@@ -100,8 +101,9 @@ module _ (net : Net) (p : ℕ) where
 
   -- an activity whose flag is set
   pub turned_one : (a : ℕ) (value : Bool) (now next : PricedValue) → a < length now.live.given.held → is_of_pair p (activity_at net a).pair ≡ true →
-      next.live.given ≡ with_held now.live.given a value → next ≡ record now { live = next.live } → TurnsAmong net p (IsOnly a) value now next
-  turned_one a value now next below its given others =
+      next.live.given ≡ with_held now.live.given a value → next.live.times ≡ now.live.times → next ≡ record now { live = next.live } →
+      TurnsAmong net p (IsOnly a) value now next
+  turned_one a value now next below its given times others =
       let held : (b : ℕ) → is_held next.live.given.held b ≡ is_held (slice_set now.live.given.held a value) b = λ b. ap (λ (g : ConstraintsValue). is_held g.held b) given in
       record {
         keeps = record {
@@ -111,6 +113,7 @@ module _ (net : Net) (p : ℕ) where
           ];
           floors = ap (λ (g : ConstraintsValue). g.floors) given;
           spans = ap (λ (g : ConstraintsValue). g.spans) given;
+          times = times;
           passed = ap (λ (v : PricedValue). v.passed) others;
           charged = ap (λ (v : PricedValue). v.charged) others;
         };
@@ -126,6 +129,7 @@ module _ (net : Net) (p : ℕ) where
       same = λ b. inl (ap (λ (v : LiveValue). is_held v.given.held b) live);
       floors = ap (λ (v : LiveValue). v.given.floors) live;
       spans = ap (λ (v : LiveValue). v.given.spans) live;
+      times = ap (λ (v : LiveValue). v.times) live;
       passed = ap (λ (v : PricedValue). v.passed) others;
       charged = ap (λ (v : PricedValue). v.charged) others;
     };

@@ -6,8 +6,11 @@ pub mod Flipping
 pub mod FlipNames
 pub mod Moving
 pub mod Lists
+pub mod Behind
+pub mod Marked
 pub mod Decided
 pub mod Rooted
 pub mod Violating
+pub mod Unkept
 pub mod Placed
 pub mod Open

@@ -1,19 +1,22 @@
 -- The timetable of the path without a decision.
-use Rattle.std.proofs.Common.{◌≡◌, ℕ, Bool, true, false, not, ◌&&◌, List, [], length, refl, sym, ap, ◌∙◌}
+use Rattle.std.proofs.Common.{◌≡◌, ℕ, Bool, true, false, not, ◌&&◌, List, [], length, refl, sym, ap, subst, ◌∙◌, arith}
 use Rattle.std.specs.Prelude.{replicate}
 use Rattle.std.proofs.lemmas.List.{get_or-replicate}
 use Rattle.dm_network.specs.Net.{Net, activity_at, is_change}
 use Rattle.dm_network.specs.Held.{is_held}
-use Rattle.dm_live.specs.Live.{RefusesLive}
+use Rattle.dm_live.specs.Live.{RefusesLive, IsAtRest}
 use Rattle.dm_order.specs.declared.faults.OrderFault.{OrderFault}
 use Rattle.dm_order.specs.declared.faults.OrderFault.TheVariants.{Cyclic, OutOfMemory}
 use Rattle.dm_priced.specs.Priced.{PricedValue, IsPriced, is_flagged}
 use Rattle.dm_rows.specs.Active.{has_passed}
-use Rattle.dm_rows.specs.Relax.{is_relaxed_active, is_relaxed_dropped}
-use Rattle.dm_rows.specs.Rows.{RowsValue, kept_at}
+use Rattle.dm_rows.specs.declared.messages.Decision.{Decision}
+use Rattle.dm_rows.specs.Relax.{is_relaxed_active, is_relaxed_dropped, is_undecided_change, is_undecided_pair}
+use Rattle.dm_rows.specs.Rows.{RowsValue, IsSized, kept_at}
 use Rattle.dm_settle.specs.Constraints.{ConstraintsValue}
 use Rattle.dm_times.specs.Inside.Filling.{AreConstraintsHolding}
 use Rattle.dm_evaluate.specs.Evaluating.{Evaluates}
+use Rattle.dm_evaluate.specs.Evaluator.{IsEvaluatorOf, AreFlags}
+use Rattle.dm_evaluate.specs.Marks.{MarksValue, MarksUnkept}
 use Rattle.dm_evaluate.specs.Inside.Starting.{RefusesRoot, HasPassedTo}
 use Rattle.dm_evaluate.proofs.Directions.{cycle_within}
 
@@ -49,3 +52,20 @@ module _ (net : Net) (rows : RowsValue) (given : ConstraintsValue) (holds : AreC
     is_cycle = cycle_within net (is_held given.held) (is_relaxed_active net rows []) (λ a lt on. sym (holds.held a lt) ∙ on) h.cycle h.is_cycle;
   }
   refuses_root OutOfMemory h = tt
+
+-- what evaluates the path without a decision
+pub root_evaluator : (net : Net) (rows : RowsValue) (path : List Decision) (changes pairs : List Bool) (priced : PricedValue) (marks : MarksValue) → IsSized net rows → path ≡ [] →
+    AreFlags (is_undecided_change net rows []) (length net.activities) changes → AreFlags (is_undecided_pair net rows []) (length net.pairs) pairs →
+    Evaluates net rows [] priced → IsAtRest priced.live → ((spans x : List ℕ) → MarksUnkept net spans x marks) →
+    IsEvaluatorOf net (record { rows = rows; path = path; changes = changes; pairs = pairs; priced = priced; marks = marks })
+root_evaluator net rows path changes pairs priced marks sized none are_changes are_pairs evaluates rest marked =
+    subst (λ (p : List Decision). IsEvaluatorOf net (record { rows = rows; path = p; changes = changes; pairs = pairs; priced = priced; marks = marks })) (sym none)
+    (record {
+      sized = sized;
+      is_path = record { free = λ k d lt. absurd (omega (arith, lt)); once = λ m n d e h. absurd cc };
+      changes = are_changes;
+      pairs = are_pairs;
+      evaluates = evaluates;
+      at_rest = rest;
+      marked = marked priced.live.given.spans priced.live.times;
+    })

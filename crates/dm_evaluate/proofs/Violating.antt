@@ -1,8 +1,9 @@
 -- Which choices a timetable violates, by flags of what is undecided and by rows.
-use Rattle.std.proofs.Common.{◌≡◌, ℕ, ◌+◌, ◌<◌, Bool, true, false, ◌&&◌, List, length, map, Option, Some, None, refl, sym, ap, subst, ◌∙◌, inl, inr, arith, slice_index}
-use Rattle.std.specs.Prelude.{filter, slice_get, is_some, ◌==◌, Contains}
+use Rattle.std.proofs.Common.{◌≡◌, ℕ, ◌-◌, ◌<◌, ◌≤◌, Bool, true, false, ◌&&◌, List, [], ◌++◌, length, map, Some, None, refl, sym, ap, subst, ◌∙◌, arith, slice_index}
+use Rattle.std.specs.Prelude.{filter, slice_get, ◌==◌, Contains}
 use Rattle.std.specs.List.{range_with_len}
-use Rattle.std.proofs.lemmas.Bool.{cases_lt, and_parts, and_from, eq-eqb, eqb-true, both_ways, false_from_ne_true}
+use Rattle.std.proofs.lemmas.Bool.{and_parts, and_from, eq-eqb, eqb-true, both_ways, false_from_ne_true}
+use Rattle.std.proofs.lemmas.List.{append-nil}
 use Rattle.std.proofs.lemmas.List.FromFn.{length-range_with_len, get_or-range_with_len}
 use Rattle.dm_network.specs.Net.{Net, activity_at, pair_at, places_out_of}
 use Rattle.dm_rows.specs.declared.messages.Choice.{Choice}
@@ -12,12 +13,13 @@ use Rattle.dm_rows.specs.Decide.{change_choice, pair_choice}
 use Rattle.dm_rows.specs.Relax.{is_of_pair, is_unmet_from, has_unmet_from, is_undecided_change, is_undecided_pair, is_violated_change, is_violated_pair}
 use Rattle.dm_rows.specs.Rows.{RowsValue}
 use Rattle.dm_relax.proofs.Agreeing.{passes_one}
-use Rattle.dm_relax.proofs.Flagging.{first_listed, none_listed, first_of_both, first_of_second}
 use Rattle.dm_relax.specs.Relaxed.{first_violated}
 use Rattle.dm_settle.proofs.Marking.{leads_out, stands_out}
 use Rattle.dm_priced.specs.Priced.{is_flagged}
 use Rattle.dm_evaluate.specs.Evaluator.{AreFlags}
-use Rattle.dm_evaluate.specs.Inside.Violations.{first_violated_change, first_violated_pair, NoneUnmet, NoneFlagged}
+use Rattle.dm_evaluate.specs.Inside.Marking.{IsFirst}
+use Rattle.dm_evaluate.specs.Inside.Violations.{NoneUnmet, is_unmet_pair, violated_from, violated_pair_from}
+use Rattle.dm_evaluate.proofs.Behind.{first_passing, none_passing}
 use Rattle.dm_evaluate.proofs.Paths.{one_passes}
 
 pub in_range : (n k : ℕ) → k < n → Contains (range_with_len 0 n) k
@@ -62,23 +64,6 @@ module _ (net : Net) (rows : RowsValue) (x : List ℕ) (p tail : ℕ) (row : Lis
       both_ways (is_of_pair p (activity_at net a).pair && comes_too_early net rows x a) seen
       (and_from (is_of_pair p (activity_at net a).pair) (comes_too_early net rows x a) two.0 both.1))
 
--- one more place that is not flagged, or does not pass
-pub next_flagged : (flags : List Bool) (test : ℕ → Bool) (n : ℕ) → NoneFlagged flags test n → (is_flagged flags n && test n) ≡ false → NoneFlagged flags test (n + 1)
-next_flagged flags test n none here k lt =
-    elim (cases_lt k n) [
-      | inl early ↦ none k early
-      | inr past ↦ let is : k ≡ n = omega arith in subst (λ (j : ℕ). (is_flagged flags j && test j) ≡ false) (sym is) here
-    ]
-
-module _ {X : Type 0} (f : ℕ → X) (v test : ℕ → Bool) (n : ℕ) (flags : List Bool) (same : (k : ℕ) → k < n → v k ≡ (is_flagged flags k && test k)) where
-  pub flagged_first : (i : ℕ) → i < n → NoneFlagged flags test i → is_flagged flags i ≡ true → test i ≡ true →
-      slice_get (map f (filter v (range_with_len 0 n))) 0 ≡ Some (f i)
-  flagged_first i lt none on passes =
-      first_listed f v n i lt (λ k below. same k (omega arith) ∙ none k below) (same i lt ∙ and_from (is_flagged flags i) (test i) on passes)
-
-  pub flagged_none : (i : ℕ) → i ≡ n → NoneFlagged flags test i → slice_get (map f (filter v (range_with_len 0 n))) 0 ≡ None
-  flagged_none i is none = none_listed f v n i (omega arith) (λ k below. same k (omega arith) ∙ none k below)
-
 and_assoc : (a b c : Bool) → ((a && b) && c) ≡ (a && (b && c))
 and_assoc true b c = refl
 and_assoc false b c = refl
@@ -95,22 +80,65 @@ module _ (net : Net) (rows : RowsValue) (path : List Decision) (x : List ℕ) (f
       and_assoc (is_undecided_pair net rows path k) (has_unmet_from net rows x k (pair_at net k).small) (has_unmet_from net rows x k (pair_at net k).large)
       ∙ ap (λ u. u && (has_unmet_from net rows x k (pair_at net k).small && has_unmet_from net rows x k (pair_at net k).large)) (sym (are.each k lt))
 
--- the first violated change, or else the first violated pair
-module _ (net : Net) (rows : RowsValue) (path : List Decision) (x : List ℕ) (change : Option Choice) (is : change ≡ first_violated_change net rows path x) where
-  pub change_comes_first : is_some change ≡ true → change ≡ first_violated net rows path x
-  change_comes_first some = by_cases change some is
-    where
-      by_cases : (o : Option Choice) → is_some o ≡ true → o ≡ first_violated_change net rows path x → o ≡ first_violated net rows path x
-      by_cases None h e = absurd cc
-      by_cases (Some c) h e =
-          sym (first_of_both (map (change_choice net) (filter (is_violated_change net rows path x) (range_with_len 0 (length net.activities))))
-          (map (pair_choice net) (filter (is_violated_pair net rows path x) (range_with_len 0 (length net.pairs)))) c (sym e))
+-- the first violated choice from a place on, by flags
+module _ (net : Net) (rows : RowsValue) (path : List Decision) (x : List ℕ) (changes pairs : List Bool)
+    (change_flags : AreFlags (is_undecided_change net rows path) (length net.activities) changes)
+    (pair_flags : AreFlags (is_undecided_pair net rows path) (length net.pairs) pairs) where
+  abbrev pub violated_pairs : List Choice
+  violated_pairs = map (pair_choice net) (filter (is_violated_pair net rows path x) (range_with_len 0 (length net.pairs)))
 
-  pub pair_comes_then : (pair : Option Choice) → is_some change ≡ false → pair ≡ first_violated_pair net rows path x → pair ≡ first_violated net rows path x
-  pair_comes_then pair none pair_is =
-      pair_is ∙ sym (first_of_second (map (change_choice net) (filter (is_violated_change net rows path x) (range_with_len 0 (length net.activities))))
-      (map (pair_choice net) (filter (is_violated_pair net rows path x) (range_with_len 0 (length net.pairs)))) (sym is ∙ is_none change none))
-    where
-      is_none : (o : Option Choice) → is_some o ≡ false → o ≡ None
-      is_none None h = refl
-      is_none (Some c) h = absurd cc
+  pub change_is_first : (first a : ℕ) → IsFirst changes (comes_too_early net rows x) first (length net.activities) a →
+      Some (change_choice net a) ≡ violated_from net rows path x first
+  change_is_first first a f =
+      let by = violated_change_by net rows path x changes change_flags in
+      let start = f.not_before in
+      let within = f.within in
+      sym (first_passing (change_choice net) (is_violated_change net rows path x) violated_pairs first (length net.activities - first) a f.not_before (omega arith)
+      (λ k ge lt. by k (omega arith) ∙ f.none k ge lt)
+      (by a within ∙ and_from (is_flagged changes a) (comes_too_early net rows x a) f.flagged f.passes))
+
+  pub no_change_from : (first : ℕ) → ((k : ℕ) → first ≤ k → (is_flagged changes k && comes_too_early net rows x k) ≡ false) →
+      slice_get violated_pairs 0 ≡ violated_from net rows path x first
+  no_change_from first none =
+      ap (λ (l : List Choice). slice_get l 0)
+      (sym (none_passing (change_choice net) (is_violated_change net rows path x) violated_pairs first (length net.activities - first)
+      (λ k ge lt. violated_change_by net rows path x changes change_flags k (omega arith) ∙ none k ge)))
+
+  -- of so many pairs from a place on
+  abbrev pub pairs_from : ℕ → ℕ → List Choice
+  pairs_from first n = map (pair_choice net) (filter (is_violated_pair net rows path x) (range_with_len first n))
+
+  without_end : (first n : ℕ) → slice_get (pairs_from first n ++ []) 0 ≡ slice_get (pairs_from first n) 0
+  without_end first n = ap (λ (l : List Choice). slice_get l 0) (append-nil (pairs_from first n))
+
+  pub pair_is_first : (first p : ℕ) → IsFirst pairs (is_unmet_pair net rows x) first (length net.pairs) p →
+      Some (pair_choice net p) ≡ violated_pair_from net rows path x first
+  pair_is_first first p f =
+      let by = violated_pair_by net rows path x pairs pair_flags in
+      let start = f.not_before in
+      let within = f.within in
+      sym (sym (without_end first (length net.pairs - first))
+      ∙ first_passing (pair_choice net) (is_violated_pair net rows path x) [] first (length net.pairs - first) p f.not_before (omega arith)
+      (λ k ge lt. by k (omega arith) ∙ f.none k ge lt)
+      (by p within ∙ and_from (is_flagged pairs p) (is_unmet_pair net rows x p) f.flagged f.passes))
+
+  pub no_pair_from : (first : ℕ) → ((k : ℕ) → first ≤ k → (is_flagged pairs k && is_unmet_pair net rows x k) ≡ false) →
+      None ≡ violated_pair_from net rows path x first
+  no_pair_from first none =
+      sym (sym (without_end first (length net.pairs - first))
+      ∙ ap (λ (l : List Choice). slice_get l 0)
+      (none_passing (pair_choice net) (is_violated_pair net rows path x) [] first (length net.pairs - first)
+      (λ k ge lt. violated_pair_by net rows path x pairs pair_flags k (omega arith) ∙ none k ge)))
+
+-- from the first place on, all violated choices are looked at
+pub pairs_from_start : (net : Net) (rows : RowsValue) (path : List Decision) (x : List ℕ) →
+    violated_pair_from net rows path x 0 ≡ slice_get (map (pair_choice net) (filter (is_violated_pair net rows path x) (range_with_len 0 (length net.pairs)))) 0
+pairs_from_start net rows path x =
+    let same : length net.pairs - 0 ≡ length net.pairs = omega arith in
+    ap (λ (n : ℕ). slice_get (map (pair_choice net) (filter (is_violated_pair net rows path x) (range_with_len 0 n))) 0) same
+
+pub from_start : (net : Net) (rows : RowsValue) (path : List Decision) (x : List ℕ) → violated_from net rows path x 0 ≡ first_violated net rows path x
+from_start net rows path x =
+    let same : length net.activities - 0 ≡ length net.activities = omega arith in
+    ap (λ (n : ℕ). slice_get (map (change_choice net) (filter (is_violated_change net rows path x) (range_with_len 0 n))
+    ++ map (pair_choice net) (filter (is_violated_pair net rows path x) (range_with_len 0 (length net.pairs)))) 0) same

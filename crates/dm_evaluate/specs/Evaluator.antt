@@ -1,22 +1,24 @@
 -- What contracts see of an evaluator, and what holds of it between its moves.
-use Rattle.std.specs.Prelude.{ℕ, ◌≡◌, ◌<◌, Bool, false, not, List, length, filter, Contains}
+use Rattle.std.specs.Prelude.{ℕ, ◌≡◌, ◌+◌, ◌<◌, Bool, false, not, List, length, filter, Contains, Option, Some, slice_get}
 use Rattle.dm_live.specs.Live.{IsAtRest}
 use Rattle.dm_network.specs.Net.{Net}
 use Rattle.dm_rows.specs.declared.messages.Choice.{Choice}
 use Rattle.dm_rows.specs.declared.messages.Decision.{Decision}
 use Rattle.dm_rows.specs.Decide.{IsChoiceList, choice_of, free_choices_of}
-use Rattle.dm_rows.specs.Relax.{is_same_choice, is_decided, is_undecided_change, is_undecided_pair}
+use Rattle.dm_rows.specs.Relax.{is_same_choice, is_decided, is_undecided_change, is_undecided_pair, violated_choices_of}
 use Rattle.dm_rows.specs.Rows.{RowsValue, IsSized}
 use Rattle.dm_priced.specs.Priced.{PricedValue, is_flagged}
 use Rattle.dm_evaluate.specs.Evaluating.{Evaluates}
+use Rattle.dm_evaluate.specs.Marks.{MarksValue, MarksUnkept}
 
--- rows, a path of decisions, which changes and which pairs it leaves undecided, and the timetable of its relaxed problem
+-- rows, a path of decisions, which changes and which pairs it leaves undecided, the timetable of its relaxed problem, and marks
 pub record EvaluatorValue : Type 0 where
   pub rows : RowsValue
   pub path : List Decision
   pub changes : List Bool
   pub pairs : List Bool
   pub priced : PricedValue
+  pub marks : MarksValue
 
 abbrev pub times_of : EvaluatorValue → List ℕ
 times_of evaluator = evaluator.priced.live.times
@@ -31,7 +33,7 @@ pub record AreFlags (test : ℕ → Bool) (n : ℕ) (flags : List Bool) : Type 0
   pub each : (k : ℕ) → k < n → is_flagged flags k ≡ test k
 
 -- The rows are of the network, the path decides free choices, none twice, the flags are those of what it leaves undecided,
--- and the timetable evaluates it, with no time left to be computed.
+-- the timetable evaluates it, with no time left to be computed, and what the times do not keep is marked.
 pub record IsEvaluatorOf (net : Net) (evaluator : EvaluatorValue) : Type 0 where
   pub sized : IsSized net evaluator.rows
   pub is_path : IsChoiceList net evaluator.rows evaluator.path
@@ -39,6 +41,7 @@ pub record IsEvaluatorOf (net : Net) (evaluator : EvaluatorValue) : Type 0 where
   pub pairs : AreFlags (is_undecided_pair net evaluator.rows evaluator.path) (length net.pairs) evaluator.pairs
   pub evaluates : Evaluates net evaluator.rows evaluator.path evaluator.priced
   pub at_rest : IsAtRest evaluator.priced.live
+  pub marked : MarksUnkept net evaluator.priced.live.given.spans (times_of evaluator) evaluator.marks
 
 -- the choice is free, and the path leaves it undecided
 pub record IsOpen (net : Net) (rows : RowsValue) (path : List Decision) (choice : Choice) : Type 0 where
@@ -48,3 +51,8 @@ pub record IsOpen (net : Net) (rows : RowsValue) (path : List Decision) (choice 
 -- the path without the decisions of a choice
 abbrev pub path_without : Choice → List Decision → List Decision
 path_without choice path = filter (λ d. not (is_same_choice (choice_of d) choice)) path
+
+-- Where a violated choice stands in the order of the free choices, this is the violated one behind it, or None.
+abbrev pub IsNextViolated : Net → RowsValue → List Decision → List ℕ → Choice → Option Choice → Type 0
+IsNextViolated net rows path x choice next =
+    (k : ℕ) → slice_get (violated_choices_of net rows path x) k ≡ Some choice → next ≡ slice_get (violated_choices_of net rows path x) (k + 1)

@@ -7,3 +7,4 @@ pub mod Places
 pub mod Starting
 pub mod Violations
 pub mod Choices
+pub mod Marking

@@ -7,16 +7,17 @@ ghost use Rattle.dm_rows.specs.Relax.{is_decided, is_relaxed_active};
 ghost use Rattle.dm_times.specs.Faults.{RefusesHolding};
 ghost use Rattle.dm_tree.specs.Relaxed.{IsRelaxedLeast, relaxed_cost_of, IsRelaxedCycle, HasNoRelaxedCycle, IsViolated};
 ghost use Rattle.dm_relax.specs.Relaxed.{first_violated};
-ghost use Rattle.dm_evaluate.specs.Evaluator.{IsEvaluatorOf, IsOpen, times_of, cycle_of, path_without};
+ghost use Rattle.dm_evaluate.specs.Evaluator.{IsEvaluatorOf, IsOpen, IsNextViolated, times_of, cycle_of, path_without};
 
 use crate::choices::place_of_choice;
 use crate::free::all_undecided;
+use crate::marks::ViolationMarks;
 use crate::naming::flip_of;
 use crate::places::{is_decided, place_of};
 use crate::starting::root_timetable;
 use crate::turning::{turn_off, turn_on};
 use crate::undecided::Undecided;
-use crate::violations::{first_violated, is_violated};
+use crate::violations::{is_violated, violated_behind, violated_from};
 use dm_base::{Cost, Steps};
 use dm_graph::search::Cyclic;
 use dm_network::Network;
@@ -38,6 +39,7 @@ pub struct Evaluator {
     path: Vec<Decision>,
     undecided: Undecided,
     priced: PricedTimetable,
+    marks: ViolationMarks,
 }
 
 impl Model for Evaluator {
@@ -46,7 +48,7 @@ impl Model for Evaluator {
 
     ghost Value = { EvaluatorValue };
 
-    ghost view = { λ e. record { rows = e.rows; path = e.path.items; changes = e.undecided.changes.items; pairs = e.undecided.pairs.items; priced = e.priced } };
+    ghost view = { λ e. record { rows = e.rows; path = e.path.items; changes = e.undecided.changes.items; pairs = e.undecided.pairs.items; priced = e.priced; marks = record { changes = e.marks.changes; pairs = e.marks.pairs } } };
 
     ghost invariant = { λ e. length e.undecided.changes.items + length e.undecided.pairs.items ≤ vec_capacity e.path };
 }
@@ -67,12 +69,14 @@ impl Evaluator {
         net.sound();
         let undecided = all_undecided(alloc, net, &rows)?;
         let path = Vec::with_capacity(alloc, undecided.changes.len() + undecided.pairs.len())?;
+        let marks = ViolationMarks::all(alloc, net)?;
         match root_timetable(alloc, net, &rows) {
             Ok(priced) => Ok(Evaluator {
                 rows,
                 path,
                 undecided,
                 priced,
+                marks,
             }),
             Err(no_times) => Err(no_times),
         }
@@ -99,7 +103,7 @@ impl Evaluator {
     {
         net.sound();
         let flip = flip_of(net, &self.rows, decision);
-        match turn_on(&mut self.priced, net, flip, steps) {
+        match turn_on(&mut self.priced, &mut self.marks, net, flip, steps) {
             Ok(()) => {
                 self.undecided.set(flip, false);
                 self.path.push_reserved(decision);
@@ -123,7 +127,7 @@ impl Evaluator {
         net.sound();
         let place = place_of(&self.path, choice);
         let flip = flip_of(net, &self.rows, self.path[place]);
-        turn_off(&mut self.priced, net, flip, steps);
+        turn_off(&mut self.priced, &mut self.marks, net, flip, steps);
         self.undecided.set(flip, true);
         let _decision = self.path.remove(place);
     }
@@ -173,7 +177,7 @@ impl Evaluator {
         }
     }
 
-    /// Whether the path decides a choice. It is looked for from the first decision on.
+    /// Whether the path decides a choice. It is looked for from the last decision on.
     pub fn has_decided(&self, choice: Choice) -> bool
         ensures { result ≡ is_decided self.now.path choice }
     {
@@ -181,14 +185,42 @@ impl Evaluator {
     }
 
     /// The first choice that is undecided and that the times violate, the changes in ascending id and then the pairs, or None
-    /// where they violate nothing. Its time is linear in the changes and the headways of undecided pairs.
-    pub fn violated<L: Ledger>(&self, net: &Network, steps: &mut Steps<L>) -> Option<Choice>
-        requires { IsEvaluatorOf net.now self.now }
-        ensures first { result ≡ first_violated net.now self.now.rows self.now.path (times_of self.now) }
-        ensures open { IfSome result (IsOpen net.now self.now.rows self.now.path) }
+    /// where they violate nothing. It is found from the first mark on, and a mark of what the times keep is taken away when it
+    /// is met, so that it costs what is marked before the choice.
+    pub fn violated<L: Ledger>(&mut self, net: &Network, steps: &mut Steps<L>) -> Option<Choice>
+        requires { IsEvaluatorOf net.now self.old }
+        ensures evaluator { IsEvaluatorOf net.now self.new }
+        ensures others { self.new ≡ record self.old { marks = self.new.marks } }
+        ensures first { result ≡ first_violated net.now self.old.rows self.old.path (times_of self.old) }
+        ensures open { IfSome result (IsOpen net.now self.old.rows self.old.path) }
     {
         net.sound();
-        first_violated(net, &self.rows, &self.undecided, self.times(), steps)
+        let times = self.priced.live().times();
+        let marks = &mut self.marks;
+        violated_from(net, &self.rows, &self.undecided, times, marks, 0, steps)
+    }
+
+    /// The next violated choice behind a violated one in the same order, or None where it is the last. So all of them are found
+    /// one after the other, at the cost of what is marked.
+    pub fn next_violated<L: Ledger>(
+        &mut self,
+        net: &Network,
+        choice: Choice,
+        steps: &mut Steps<L>,
+    ) -> Option<Choice>
+        requires { IsEvaluatorOf net.now self.old }
+        ensures evaluator { IsEvaluatorOf net.now self.new }
+        ensures others { self.new ≡ record self.old { marks = self.new.marks } }
+        ensures next { IsNextViolated net.now self.old.rows self.old.path (times_of self.old) choice result }
+        ensures open { IfSome result (IsOpen net.now self.old.rows self.old.path) }
+    {
+        net.sound();
+        let Some(place) = place_of_choice(net, choice) else {
+            return None;
+        };
+        let times = self.priced.live().times();
+        let marks = &mut self.marks;
+        violated_behind(net, &self.rows, &self.undecided, times, marks, place, steps)
     }
 
     /// Whether a choice is open and the times do not keep it.

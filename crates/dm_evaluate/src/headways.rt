@@ -5,8 +5,10 @@ ghost use Rattle.dm_network.specs.Held.{is_held, IsCycleOf};
 ghost use Rattle.dm_network.specs.Net.{activity_at};
 ghost use Rattle.dm_rows.specs.Relax.{is_of_pair};
 ghost use Rattle.dm_priced.specs.Priced.{IsPriced};
+ghost use Rattle.dm_evaluate.specs.Marks.{MarksUnkept};
 ghost use Rattle.dm_evaluate.specs.Inside.Moves.{is_directed, set_where, IsAmong, IsOnly, TurnsTo, Stays, TurnsAmong, IsRefused};
 
+use crate::marks::ViolationMarks;
 use dm_base::Steps;
 use dm_graph::search::Cyclic;
 use dm_network::Network;
@@ -17,6 +19,7 @@ use std::sync::ledger::Ledger;
 /// a cycle, it is held to what it was held to before.
 pub fn hold_direction<L: Ledger>(
     priced: &mut PricedTimetable,
+    marks: &mut ViolationMarks,
     net: &Network,
     pair: usize,
     tail: usize,
@@ -24,9 +27,11 @@ pub fn hold_direction<L: Ledger>(
 ) -> Result<(), Cyclic>
     requires priced { IsPriced net.now priced.old }
     requires is_event { tail < length net.now.events }
+    requires marks { MarksUnkept net.now priced.old.live.given.spans priced.old.live.times (record { changes = marks.old.changes; pairs = marks.old.pairs }) }
     requires off { (b : ℕ) → b < length net.now.activities → is_directed net.now pair tail b ≡ true → is_held priced.old.live.given.held b ≡ false }
     ensures priced { IsPriced net.now priced.new }
     ensures at_rest { IsAtRest priced.new.live }
+    ensures marks { MarksUnkept net.now priced.new.live.given.spans priced.new.live.times (record { changes = marks.new.changes; pairs = marks.new.pairs }) }
     ensures turns { OnOk result (TurnsTo net.now (is_directed net.now pair tail) (λ b. false) true priced.old priced.new) }
     ensures stays { OnErr result (Stays net.now priced.old priced.new) }
     ensures cycle { OnErr result (IsCycleOf net.now (set_where (is_directed net.now pair tail) true (is_held priced.old.live.given.held)) priced.new.live.order.cycle) }
@@ -34,12 +39,12 @@ pub fn hold_direction<L: Ledger>(
     let row = net.out_row(tail, steps);
     match hold_each(priced, net, pair, row) {
         Ok(()) => {
-            priced.settle(net, steps);
+            priced.settle_watched(net, marks, steps);
             Ok(())
         }
         Err(Cyclic) => {
             release_each(priced, net, pair, row);
-            priced.settle(net, steps);
+            priced.settle_watched(net, marks, steps);
             Err(Cyclic)
         }
     }
@@ -48,6 +53,7 @@ pub fn hold_direction<L: Ledger>(
 /// Lets the headways of a pair out of one of its events go, and settles the timetable.
 pub fn release_direction<L: Ledger>(
     priced: &mut PricedTimetable,
+    marks: &mut ViolationMarks,
     net: &Network,
     pair: usize,
     tail: usize,
@@ -55,13 +61,15 @@ pub fn release_direction<L: Ledger>(
 )
     requires priced { IsPriced net.now priced.old }
     requires is_event { tail < length net.now.events }
+    requires marks { MarksUnkept net.now priced.old.live.given.spans priced.old.live.times (record { changes = marks.old.changes; pairs = marks.old.pairs }) }
     ensures priced { IsPriced net.now priced.new }
     ensures at_rest { IsAtRest priced.new.live }
+    ensures marks { MarksUnkept net.now priced.new.live.given.spans priced.new.live.times (record { changes = marks.new.changes; pairs = marks.new.pairs }) }
     ensures turns { TurnsTo net.now (is_directed net.now pair tail) (λ b. false) false priced.old priced.new }
 {
     let row = net.out_row(tail, steps);
     release_each(priced, net, pair, row);
-    priced.settle(net, steps);
+    priced.settle_watched(net, marks, steps);
 }
 
 /// Holds those of these activities that are headways of a pair. One that would make a cycle is refused, and then no more are

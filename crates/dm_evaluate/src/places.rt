@@ -21,11 +21,16 @@ pub fn place_of(path: &[Decision], choice: Choice) -> usize
     unreachable!()
 }
 
-/// Whether some decision of a path decides a choice.
+/// Whether some decision of a path decides a choice. It is looked for from the end too.
 pub fn is_decided(path: &[Decision], choice: Choice) -> bool
     ensures { result ≡ is_decided path.now choice }
 {
-    path.iter().any(|decision| decides(*decision, choice))
+    for place in (0..path.len()).rev() {
+        if decides(path[place], choice) {
+            return true;
+        }
+    }
+    false
 }
 
 /// Whether a decision decides a choice.

@@ -4,9 +4,11 @@ ghost use Rattle.dm_live.specs.Live.{IsAtRest};
 ghost use Rattle.dm_network.specs.Held.{is_held, IsCycleOf};
 ghost use Rattle.dm_network.specs.Start.{first_event};
 ghost use Rattle.dm_priced.specs.Priced.{IsPriced};
+ghost use Rattle.dm_evaluate.specs.Marks.{MarksUnkept};
 ghost use Rattle.dm_evaluate.specs.Inside.Moves.{is_bound_by, set_where, Turns, Stays, IsOff, ReachesNet};
 
 use crate::headways::{hold_direction, release_direction};
+use crate::marks::ViolationMarks;
 use dm_base::Steps;
 use dm_graph::search::Cyclic;
 use dm_network::Network;
@@ -18,30 +20,33 @@ use std::sync::ledger::Ledger;
 /// it is held to what it was held to before.
 pub fn turn_on<L: Ledger>(
     priced: &mut PricedTimetable,
+    marks: &mut ViolationMarks,
     net: &Network,
     flip: Flip,
     steps: &mut Steps<L>,
 ) -> Result<(), Cyclic>
     requires priced { IsPriced net.now priced.old }
     requires at_rest { IsAtRest priced.old.live }
+    requires marks { MarksUnkept net.now priced.old.live.given.spans priced.old.live.times (record { changes = marks.old.changes; pairs = marks.old.pairs }) }
     requires reaches { ReachesNet net.now flip }
     requires off { IsOff net.now flip priced.old }
     ensures priced { IsPriced net.now priced.new }
     ensures at_rest { IsAtRest priced.new.live }
+    ensures marks { MarksUnkept net.now priced.new.live.given.spans priced.new.live.times (record { changes = marks.new.changes; pairs = marks.new.pairs }) }
     ensures turns { OnOk result (Turns net.now flip true priced.old priced.new) }
     ensures stays { OnErr result (Stays net.now priced.old priced.new) }
     ensures cycle { OnErr result (IsCycleOf net.now (set_where (is_bound_by net.now flip) true (is_held priced.old.live.given.held)) priced.new.live.order.cycle) }
 {
     net.sound();
     match flip {
-        Flip::Keep { act } => keep(priced, net, act, steps),
+        Flip::Keep { act } => keep(priced, marks, net, act, steps),
         Flip::Drop { act } => {
             priced.charge(net, act, true);
             Ok(())
         }
         Flip::First { pair, small } => {
             let first = first_event(net, pair, small);
-            hold_direction(priced, net, pair, first, steps)
+            hold_direction(priced, marks, net, pair, first, steps)
         }
     }
 }
@@ -49,27 +54,30 @@ pub fn turn_on<L: Ledger>(
 /// Lets go what a decision holds, charges for nothing that it charges for, and settles the timetable.
 pub fn turn_off<L: Ledger>(
     priced: &mut PricedTimetable,
+    marks: &mut ViolationMarks,
     net: &Network,
     flip: Flip,
     steps: &mut Steps<L>,
 )
     requires priced { IsPriced net.now priced.old }
     requires at_rest { IsAtRest priced.old.live }
+    requires marks { MarksUnkept net.now priced.old.live.given.spans priced.old.live.times (record { changes = marks.old.changes; pairs = marks.old.pairs }) }
     requires reaches { ReachesNet net.now flip }
     ensures priced { IsPriced net.now priced.new }
     ensures at_rest { IsAtRest priced.new.live }
+    ensures marks { MarksUnkept net.now priced.new.live.given.spans priced.new.live.times (record { changes = marks.new.changes; pairs = marks.new.pairs }) }
     ensures turns { Turns net.now flip false priced.old priced.new }
 {
     net.sound();
     match flip {
         Flip::Keep { act } => {
             priced.release(net, act);
-            priced.settle(net, steps);
+            priced.settle_watched(net, marks, steps);
         }
         Flip::Drop { act } => priced.charge(net, act, false),
         Flip::First { pair, small } => {
             let first = first_event(net, pair, small);
-            release_direction(priced, net, pair, first, steps);
+            release_direction(priced, marks, net, pair, first, steps);
         }
     }
 }
@@ -77,22 +85,25 @@ pub fn turn_off<L: Ledger>(
 /// Holds a change, and settles the timetable, unless it makes a cycle.
 fn keep<L: Ledger>(
     priced: &mut PricedTimetable,
+    marks: &mut ViolationMarks,
     net: &Network,
     act: usize,
     steps: &mut Steps<L>,
 ) -> Result<(), Cyclic>
     requires priced { IsPriced net.now priced.old }
     requires at_rest { IsAtRest priced.old.live }
+    requires marks { MarksUnkept net.now priced.old.live.given.spans priced.old.live.times (record { changes = marks.old.changes; pairs = marks.old.pairs }) }
     requires is_activity { act < length net.now.activities }
     ensures priced { IsPriced net.now priced.new }
     ensures at_rest { IsAtRest priced.new.live }
+    ensures marks { MarksUnkept net.now priced.new.live.given.spans priced.new.live.times (record { changes = marks.new.changes; pairs = marks.new.pairs }) }
     ensures turns { OnOk result (Turns net.now (Flip.Keep act) true priced.old priced.new) }
     ensures stays { OnErr result (Stays net.now priced.old priced.new) }
     ensures cycle { OnErr result (IsCycleOf net.now (set_where (is_bound_by net.now (Flip.Keep act)) true (is_held priced.old.live.given.held)) priced.new.live.order.cycle) }
 {
     match priced.hold(net, act) {
         Ok(()) => {
-            priced.settle(net, steps);
+            priced.settle_watched(net, marks, steps);
             Ok(())
         }
         Err(Cyclic) => Err(Cyclic),

@@ -1,46 +1,111 @@
 //! Undecided choices that a timetable violates.
-ghost use Rattle.std.specs.Prelude.{ℕ, ◌≡◌, ◌<◌, IsTrue, ◌↔◌, List, length};
+ghost use Rattle.std.specs.Prelude.{ℕ, ◌≡◌, ◌<◌, IsTrue, ◌↔◌, false, List, length, slice_set, if◌then◌else◌, IfSome};
 ghost use Rattle.dm_rows.specs.declared.messages.Decision.{Decision};
 ghost use Rattle.dm_rows.specs.Decide.{pair_choice};
 ghost use Rattle.dm_rows.specs.Relax.{is_undecided_change, is_undecided_pair, has_unmet_from};
 ghost use Rattle.dm_rows.specs.Rows.{IsSized};
-ghost use Rattle.dm_relax.specs.Relaxed.{first_violated};
 ghost use Rattle.dm_evaluate.specs.Evaluator.{AreFlags};
-ghost use Rattle.dm_evaluate.specs.Inside.Violations.{first_violated_change, first_violated_pair, is_unmet_pair};
+ghost use Rattle.dm_evaluate.specs.Inside.Marking.{AreMarksOf, Clears, IsFirstOrNone};
+ghost use Rattle.dm_evaluate.specs.Inside.Violations.{is_unmet_pair, violated_from, violated_pair_from, violated_behind, IsFlagged};
 ghost use Rattle.dm_evaluate.specs.Inside.Choices.{at_place, IsWithin};
 ghost use Rattle.dm_rows.specs.Cost.{comes_too_early};
 ghost use Rattle.dm_tree.specs.Relaxed.{IsViolated};
 
 use crate::choices::{Place, place_of_choice};
 use crate::headways::is_headway_of;
+use crate::marks::ViolationMarks;
 use crate::undecided::Undecided;
 use dm_base::Steps;
 use dm_network::Network;
 use dm_rows::{Choice, Rows};
-use dm_settle::Times;
+use dm_settle::{Marks, Times};
 use dm_times::comes_too_early;
 use std::sync::ledger::Ledger;
 
-/// The first undecided choice that is violated, the changes in ascending id and then the pairs, or None where nothing is. The
-/// flags are of the undecided changes and pairs.
-pub fn first_violated<L: Ledger>(
+/// The first violated choice behind the one at a place. The flags are of the undecided changes and pairs, and what of them is
+/// violated is marked. Marks of what is kept are taken away.
+pub fn violated_behind<L: Ledger>(
     net: &Network,
     rows: &Rows,
     undecided: &Undecided,
     times: &Times,
+    marks: &mut ViolationMarks,
+    place: Place,
+    steps: &mut Steps<L>,
+) -> Option<Choice>
+    requires sized { IsSized net.now rows.now }
+    requires changes { length undecided.now.changes.items ≡ length net.now.activities }
+    requires pairs { length undecided.now.pairs.items ≡ length net.now.pairs }
+    requires is_place { IsWithin net.now place }
+    requires size { length times.now ≡ length net.now.events }
+    requires change_marks { AreMarksOf undecided.now.changes.items (comes_too_early net.now rows.now times.now) (length net.now.activities) marks.old.changes }
+    requires pair_marks { AreMarksOf undecided.now.pairs.items (is_unmet_pair net.now rows.now times.now) (length net.now.pairs) marks.old.pairs }
+    ensures first { (path : List Decision) → AreFlags (is_undecided_change net.now rows.now path) (length net.now.activities) undecided.now.changes.items → AreFlags (is_undecided_pair net.now rows.now path) (length net.now.pairs) undecided.now.pairs.items → result ≡ violated_behind net.now rows.now path times.now place }
+    ensures flagged { IfSome result (IsFlagged net.now undecided.now.changes.items undecided.now.pairs.items) }
+    ensures changes_cleared { Clears (comes_too_early net.now rows.now times.now) marks.old.changes marks.new.changes }
+    ensures pairs_cleared { Clears (is_unmet_pair net.now rows.now times.now) marks.old.pairs marks.new.pairs }
+{
+    let _counts = (net.activities(), net.pairs());
+    match place {
+        Place::Change(a) => violated_from(net, rows, undecided, times, marks, a + 1, steps),
+        Place::Pair(p) => violated_pair_from(net, rows, undecided, times, marks, p + 1, steps),
+    }
+}
+
+/// The first undecided choice that is violated, the changes from a place on and then the pairs, or None where nothing is.
+pub fn violated_from<L: Ledger>(
+    net: &Network,
+    rows: &Rows,
+    undecided: &Undecided,
+    times: &Times,
+    marks: &mut ViolationMarks,
+    first: usize,
     steps: &mut Steps<L>,
 ) -> Option<Choice>
     requires sized { IsSized net.now rows.now }
     requires changes { length undecided.now.changes.items ≡ length net.now.activities }
     requires pairs { length undecided.now.pairs.items ≡ length net.now.pairs }
     requires size { length times.now ≡ length net.now.events }
-    ensures { (path : List Decision) → AreFlags (is_undecided_change net.now rows.now path) (length net.now.activities) undecided.now.changes.items → AreFlags (is_undecided_pair net.now rows.now path) (length net.now.pairs) undecided.now.pairs.items → result ≡ first_violated net.now rows.now path times.now }
+    requires change_marks { AreMarksOf undecided.now.changes.items (comes_too_early net.now rows.now times.now) (length net.now.activities) marks.old.changes }
+    requires pair_marks { AreMarksOf undecided.now.pairs.items (is_unmet_pair net.now rows.now times.now) (length net.now.pairs) marks.old.pairs }
+    ensures first { (path : List Decision) → AreFlags (is_undecided_change net.now rows.now path) (length net.now.activities) undecided.now.changes.items → AreFlags (is_undecided_pair net.now rows.now path) (length net.now.pairs) undecided.now.pairs.items → result ≡ violated_from net.now rows.now path times.now first }
+    ensures flagged { IfSome result (IsFlagged net.now undecided.now.changes.items undecided.now.pairs.items) }
+    ensures changes_cleared { Clears (comes_too_early net.now rows.now times.now) marks.old.changes marks.new.changes }
+    ensures pairs_cleared { Clears (is_unmet_pair net.now rows.now times.now) marks.old.pairs marks.new.pairs }
 {
-    let change = first_violated_change(net, rows, &undecided.changes, times);
-    if change.is_some() {
-        return change;
+    let changes = &mut marks.changes;
+    if let Some(a) = next_change(net, rows, &undecided.changes, times, changes, first) {
+        return Some(Choice::Change(net.activity(a).id));
     }
-    first_violated_pair(net, rows, &undecided.pairs, times, steps)
+    violated_pair_from(net, rows, undecided, times, marks, 0, steps)
+}
+
+/// The first undecided pair that is violated, from a place on, or None where none is.
+fn violated_pair_from<L: Ledger>(
+    net: &Network,
+    rows: &Rows,
+    undecided: &Undecided,
+    times: &Times,
+    marks: &mut ViolationMarks,
+    first: usize,
+    steps: &mut Steps<L>,
+) -> Option<Choice>
+    requires sized { IsSized net.now rows.now }
+    requires changes { length undecided.now.changes.items ≡ length net.now.activities }
+    requires pairs { length undecided.now.pairs.items ≡ length net.now.pairs }
+    requires size { length times.now ≡ length net.now.events }
+    requires change_marks { AreMarksOf undecided.now.changes.items (comes_too_early net.now rows.now times.now) (length net.now.activities) marks.old.changes }
+    requires pair_marks { AreMarksOf undecided.now.pairs.items (is_unmet_pair net.now rows.now times.now) (length net.now.pairs) marks.old.pairs }
+    ensures first { (path : List Decision) → AreFlags (is_undecided_change net.now rows.now path) (length net.now.activities) undecided.now.changes.items → AreFlags (is_undecided_pair net.now rows.now path) (length net.now.pairs) undecided.now.pairs.items → result ≡ violated_pair_from net.now rows.now path times.now first }
+    ensures flagged { IfSome result (IsFlagged net.now undecided.now.changes.items undecided.now.pairs.items) }
+    ensures changes_cleared { Clears (comes_too_early net.now rows.now times.now) marks.old.changes marks.new.changes }
+    ensures pairs_cleared { Clears (is_unmet_pair net.now rows.now times.now) marks.old.pairs marks.new.pairs }
+{
+    let pairs = &mut marks.pairs;
+    match next_pair(net, rows, &undecided.pairs, times, pairs, first, steps) {
+        Some(p) => Some(choice_of_pair(net, p)),
+        None => None,
+    }
 }
 
 /// Whether a choice is undecided and violated. The flags are of the undecided changes and pairs.
@@ -85,46 +150,74 @@ fn is_unkept<L: Ledger>(
     }
 }
 
-/// The first undecided change, in ascending id, whose head comes too early. The flags are of the undecided changes.
-fn first_violated_change(
+/// The first undecided change from a place on whose head comes too early. The flags are of the undecided changes, of which
+/// those are marked. Marks of what is kept are taken away.
+fn next_change(
     net: &Network,
     rows: &Rows,
     changes: &[bool],
     times: &Times,
-) -> Option<Choice>
+    marks: &mut Marks,
+    first: usize,
+) -> Option<usize>
     requires sized { IsSized net.now rows.now }
     requires flags { length changes.now ≡ length net.now.activities }
     requires size { length times.now ≡ length net.now.events }
-    ensures { (path : List Decision) → AreFlags (is_undecided_change net.now rows.now path) (length net.now.activities) changes.now → result ≡ first_violated_change net.now rows.now path times.now }
+    requires marks { AreMarksOf changes.now (comes_too_early net.now rows.now times.now) (length net.now.activities) marks.old }
+    ensures first { IsFirstOrNone changes.now (comes_too_early net.now rows.now times.now) first (length net.now.activities) result }
+    ensures cleared { Clears (comes_too_early net.now rows.now times.now) marks.old marks.new }
 {
-    for a in 0..net.activities() {
-        if changes[a] && comes_too_early(net, rows, times, a) {
-            return Some(Choice::Change(net.activity(a).id));
+    let mut from = first;
+    while let Some(a) = marks.first_from(from) {
+        let early = comes_too_early(net, rows, times, a);
+        if early && changes[a] {
+            return Some(a);
         }
+        clear_unless(marks, a, early);
+        from = a + 1;
     }
     None
 }
 
-/// The first undecided pair, in ascending order of its ids, of which neither direction has all its headways met. The flags
-/// are of the undecided pairs. Only rows of events of undecided pairs are read.
-fn first_violated_pair<L: Ledger>(
+/// The first undecided pair from a place on of which neither direction has all its headways met. The flags are of the
+/// undecided pairs, of which those are marked. Marks of what is kept are taken away. Only rows of events of marked pairs are
+/// read.
+fn next_pair<L: Ledger>(
     net: &Network,
     rows: &Rows,
     pairs: &[bool],
     times: &Times,
+    marks: &mut Marks,
+    first: usize,
     steps: &mut Steps<L>,
-) -> Option<Choice>
+) -> Option<usize>
     requires sized { IsSized net.now rows.now }
     requires flags { length pairs.now ≡ length net.now.pairs }
     requires size { length times.now ≡ length net.now.events }
-    ensures { (path : List Decision) → AreFlags (is_undecided_pair net.now rows.now path) (length net.now.pairs) pairs.now → result ≡ first_violated_pair net.now rows.now path times.now }
+    requires marks { AreMarksOf pairs.now (is_unmet_pair net.now rows.now times.now) (length net.now.pairs) marks.old }
+    ensures first { IsFirstOrNone pairs.now (is_unmet_pair net.now rows.now times.now) first (length net.now.pairs) result }
+    ensures cleared { Clears (is_unmet_pair net.now rows.now times.now) marks.old marks.new }
 {
-    for p in 0..net.pairs() {
-        if pairs[p] && is_unmet(net, rows, times, p, steps) {
-            return Some(choice_of_pair(net, p));
+    let mut from = first;
+    while let Some(p) = marks.first_from(from) {
+        let unmet = is_unmet(net, rows, times, p, steps);
+        if unmet && pairs[p] {
+            return Some(p);
         }
+        clear_unless(marks, p, unmet);
+        from = p + 1;
     }
     None
+}
+
+/// Takes a mark away unless it is to stay.
+fn clear_unless(marks: &mut Marks, place: usize, stays: bool)
+    requires { place < length marks.old }
+    ensures { marks.new ≡ (if stays then marks.old else slice_set marks.old place false) }
+{
+    if !stays {
+        marks.clear(place);
+    }
 }
 
 /// Whether neither direction of a pair has all its headways met.

@@ -93,18 +93,20 @@ impl LiveTimetable {
         ensures unchanged { self.new ≡ record self.old { times = self.new.times; marks = self.new.marks } }
         ensures few_reads { ReadsFew (arcs_given net.now self.old.given) self.old self.new steps.old steps.new }
     {
-        self.settle_watched(net, &mut Unwatched, steps);
+        self.settle_watched(net, &mut Unwatched, &mut Unwatched, steps);
     }
 
-    /// The same, with a watcher that is told of each time that changes.
-    pub fn settle_watched<L: Ledger, W: Watcher>(
+    /// The same, with two watchers that are told of each time that changes.
+    pub fn settle_watched<L: Ledger, W: Watcher, V: Watcher>(
         &mut self,
         net: &Network,
         watcher: &mut W,
+        other: &mut V,
         steps: &mut Steps<L>,
     )
         requires live { IsLive net.now self.old }
         requires knows { W.knows watcher.old net.now self.old.given self.old.times }
+        requires other_knows { V.knows other.old net.now self.old.given self.old.times }
         ensures least { AreLeast (graph_given net.now self.new.given) self.new.times }
         ensures early { AreEarly self.new.times }
         ensures live { IsLive net.now self.new }
@@ -113,6 +115,7 @@ impl LiveTimetable {
         ensures few_reads { ReadsFew (arcs_given net.now self.old.given) self.old self.new steps.old steps.new }
         ensures knows { W.knows watcher.new net.now self.new.given self.new.times }
         ensures flags { W.flags watcher.new ≡ W.flags watcher.old }
+        ensures other_knows { V.knows other.new net.now self.new.given self.new.times }
     {
         net.sound();
         place_marks(
@@ -128,6 +131,7 @@ impl LiveTimetable {
             self.order.ranks(),
             &mut self.times,
             watcher,
+            other,
             steps,
         );
     }

@@ -66,17 +66,6 @@ pub fn weight_if(charged: bool, weight: Milli) -> Cost
     if charged { weight as Cost } else { 0 }
 }
 
-/// The time of an event, where one of them has another.
-fn time_where(times: &Times, event: usize, time: Secs, i: usize) -> Secs
-    requires is_event { event < length times.now }
-    requires is_looked_up { i < length times.now }
-    requires early { time < 2 ^ 38 }
-    ensures value { result ≡ slice_index (slice_set times.now event time) i }
-    ensures limit { result < 2 ^ 38 }
-{
-    if i == event { time } else { times.time(i) }
-}
-
 /// The weight of an activity that is missed, where one event has another time.
 fn missed_where(
     net: &Network,
@@ -98,8 +87,8 @@ fn missed_where(
 {
     net.sound();
     let activity = net.activity(a);
-    let tail = time_where(times, event, time, activity.tail);
-    let head = time_where(times, event, time, activity.head);
+    let tail = times.time_where(event, time, activity.tail);
+    let head = times.time_where(event, time, activity.head);
     missed_at(net, passed, a, tail, head, constraints.span(a))
 }
 

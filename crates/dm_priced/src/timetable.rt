@@ -15,7 +15,7 @@ use dm_base::{Cost, Secs, Steps};
 use dm_graph::search::Cyclic;
 use dm_live::LiveTimetable;
 use dm_network::Network;
-use dm_settle::Watcher;
+use dm_settle::{Unwatched, Watcher};
 use std::alloc::{AllocError, Global};
 use std::marker::Model;
 use std::sync::ledger::Ledger;
@@ -86,13 +86,32 @@ impl PricedTimetable {
         ensures unchanged { self.new ≡ record self.old { live = record self.old.live { times = self.new.live.times; marks = self.new.live.marks }; sums = self.new.sums } }
         ensures few_reads { ReadsFew (arcs_given net.now self.old.live.given) self.old.live self.new.live steps.old steps.new }
     {
+        self.settle_watched(net, &mut Unwatched, steps);
+    }
+
+    /// The same, with a watcher that is told of each time that changes.
+    pub fn settle_watched<L: Ledger, W: Watcher>(
+        &mut self,
+        net: &Network,
+        watcher: &mut W,
+        steps: &mut Steps<L>,
+    )
+        requires priced { IsPriced net.now self.old }
+        requires knows { W.knows watcher.old net.now self.old.live.given self.old.live.times }
+        ensures priced { IsPriced net.now self.new }
+        ensures least { AreLeast (graph_given net.now self.new.live.given) self.new.live.times }
+        ensures at_rest { IsAtRest self.new.live }
+        ensures unchanged { self.new ≡ record self.old { live = record self.old.live { times = self.new.live.times; marks = self.new.live.marks }; sums = self.new.sums } }
+        ensures few_reads { ReadsFew (arcs_given net.now self.old.live.given) self.old.live self.new.live steps.old steps.new }
+        ensures knows { W.knows watcher.new net.now self.new.live.given self.new.live.times }
+    {
         net.sound();
         let mut watch = Watch {
             passed: &self.passed,
             lateness: self.lateness,
             missed: self.missed_weight,
         };
-        self.live.settle_watched(net, &mut watch, steps);
+        self.live.settle_watched(net, &mut watch, watcher, steps);
         self.live.times().is_early();
         self.lateness = watch.lateness;
         self.missed_weight = watch.missed;

@@ -5,7 +5,7 @@
 //! together a graph. A pass computes the marked events anew, in the order, and goes on along the held activities out of
 //! every event whose time has changed, so that raises and falls are served alike. What it leaves is the least timetable of
 //! the graph, and it reads the rows of few events ([`Marks::settle`]). With every event marked it is the computation from
-//! scratch ([`least_times`]), which shows a cycle exactly where the held activities have one. A [`Watcher`] is told of each
+//! scratch ([`least_times`]), which shows a cycle exactly where the held activities have one. [`Watcher`]s are told of each
 //! time that a pass writes. Every time is below 2^38 seconds.
 #![tactic(auto)]
 

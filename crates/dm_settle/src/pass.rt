@@ -41,11 +41,20 @@ impl Marks {
         ensures none_left { NoneFrom self.new 0 }
         ensures few_reads { ReadsFew (arcs_given net.now constraints.now) ranks.now (record { marks = self.old; times = times.old; steps = steps.old }) (record { marks = self.new; times = times.new; steps = steps.new }) }
     {
-        self.settle_watched(net, constraints, order, ranks, times, &mut Unwatched, steps);
+        self.settle_watched(
+            net,
+            constraints,
+            order,
+            ranks,
+            times,
+            &mut Unwatched,
+            &mut Unwatched,
+            steps,
+        );
     }
 
-    /// The same, with a watcher that is told of each time that changes.
-    pub fn settle_watched<L: Ledger, W: Watcher>(
+    /// The same, with two watchers that are told of each time that changes.
+    pub fn settle_watched<L: Ledger, W: Watcher, V: Watcher>(
         &mut self,
         net: &Network,
         constraints: &Constraints,
@@ -53,6 +62,7 @@ impl Marks {
         ranks: &[usize],
         times: &mut Times,
         watcher: &mut W,
+        other: &mut V,
         steps: &mut Steps<L>,
     )
         requires sized { IsSizedFor net.now constraints.now }
@@ -60,6 +70,7 @@ impl Marks {
         requires forward { GoesForward (arcs_given net.now constraints.now) ranks.now self.old }
         requires marks { MarksUnsettled (graph_given net.now constraints.now) ranks.now self.old times.old }
         requires knows { W.knows watcher.old net.now constraints.now times.old }
+        requires other_knows { V.knows other.old net.now constraints.now times.old }
         ensures least { AreLeast (graph_given net.now constraints.now) times.new }
         ensures early { AreEarly times.new }
         ensures room { length self.new ≡ length self.old }
@@ -67,20 +78,30 @@ impl Marks {
         ensures few_reads { ReadsFew (arcs_given net.now constraints.now) ranks.now (record { marks = self.old; times = times.old; steps = steps.old }) (record { marks = self.new; times = times.new; steps = steps.new }) }
         ensures knows { W.knows watcher.new net.now constraints.now times.new }
         ensures flags { W.flags watcher.new ≡ W.flags watcher.old }
+        ensures other_knows { V.knows other.new net.now constraints.now times.new }
     {
         net.sound();
         constraints.within_limits();
         let mut place = 0;
         while let Some(next) = self.first_from(place) {
-            self.renew(net, constraints, ranks, order[next], times, watcher, steps);
+            self.renew(
+                net,
+                constraints,
+                ranks,
+                order[next],
+                times,
+                watcher,
+                other,
+                steps,
+            );
             place = next + 1;
         }
         times.is_early();
     }
 
-    /// Computes a marked event anew and takes its mark away. If its time changes, the watcher is told, and the heads of the
+    /// Computes a marked event anew and takes its mark away. If its time changes, the watchers are told, and the heads of the
     /// held activities out of it are marked. Answers whether it does.
-    fn renew<L: Ledger, W: Watcher>(
+    fn renew<L: Ledger, W: Watcher, V: Watcher>(
         &mut self,
         net: &Network,
         constraints: &Constraints,
@@ -88,6 +109,7 @@ impl Marks {
         event: usize,
         times: &mut Times,
         watcher: &mut W,
+        other: &mut V,
         steps: &mut Steps<L>,
     ) -> bool
         requires sized { IsSizedFor net.now constraints.now }
@@ -97,9 +119,11 @@ impl Marks {
         requires ranks { (e : ℕ) → e < length net.now.events → slice_index ranks.now e < length self.old }
         requires early { TailsAreEarly (graph_given net.now constraints.now) times.old event }
         requires knows { W.knows watcher.old net.now constraints.now times.old }
+        requires other_knows { V.knows other.old net.now constraints.now times.old }
         ensures renews { Renews result (graph_given net.now constraints.now) ranks.now event (record { marks = self.old; times = times.old; steps = steps.old }) (record { marks = self.new; times = times.new; steps = steps.new }) }
         ensures knows { W.knows watcher.new net.now constraints.now times.new }
         ensures flags { W.flags watcher.new ≡ W.flags watcher.old }
+        ensures other_knows { V.knows other.new net.now constraints.now times.new }
     {
         self.clear(ranks[event]);
         let into = net.in_row(event, steps);
@@ -109,6 +133,7 @@ impl Marks {
         }
         let out_of = net.out_row(event, steps);
         watcher.moves(net, constraints, times, event, time, into, out_of);
+        other.moves(net, constraints, times, event, time, into, out_of);
         times.set(event, time);
         self.mark_heads(net, constraints, ranks, event, out_of);
         true

@@ -56,6 +56,17 @@ impl Times {
         self.seconds[i]
     }
 
+    /// The time of the event at this place where one of the events has another time, in seconds.
+    pub fn time_where(&self, event: usize, time: Secs, i: usize) -> Secs
+        requires is_event { event < length self.now }
+        requires is_looked_up { i < length self.now }
+        requires early { time < 2 ^ 38 }
+        ensures value { result ≡ slice_index (slice_set self.now event time) i }
+        ensures limit { result < 2 ^ 38 }
+    {
+        if i == event { time } else { self.seconds[i] }
+    }
+
     /// Sets the time of the event at this place, in seconds.
     pub fn set(&mut self, i: usize, time: Secs)
         requires is_event { i < length self.old }

@@ -13,17 +13,17 @@ release_each-requires-clause-are_activities g c = row_below c.args.net.now c.arg
 pub returns-in-Ok-clause-turns : goal.returns-in-Ok-clause-turns
 returns-in-Ok-clause-turns g c =
     direction_turned c.args.net.now c.args.pair c.args.tail c.out_row-row.result.now c.out_row-row.ensures.places true c.args.priced.now c.hold_each.new.priced
-    c.settle.new.self c.in-Ok.ensures.turns (settled_from c.hold_each.new.priced c.settle.new.self c.settle.ensures.unchanged)
+    c.settle_watched.new.self c.in-Ok.ensures.turns (settled_from c.hold_each.new.priced c.settle_watched.new.self c.settle_watched.ensures.unchanged)
 
 pub returns-in-Err-clause-stays : goal.returns-in-Err-clause-stays
 returns-in-Err-clause-stays g c =
     direction_stays c.args.net.now c.args.pair c.args.tail c.out_row-row.result.now c.out_row-row.ensures.places c.args.priced.now c.hold_each.new.priced
-    c.in-Err.ensures.refused c.requires.off c.release_each.new.priced c.settle-in-Err.new.self c.release_each.ensures.turns
-    (settled_from c.release_each.new.priced c.settle-in-Err.new.self c.settle-in-Err.ensures.unchanged)
+    c.in-Err.ensures.refused c.requires.off c.release_each.new.priced c.settle_watched-in-Err.new.self c.release_each.ensures.turns
+    (settled_from c.release_each.new.priced c.settle_watched-in-Err.new.self c.settle_watched-in-Err.ensures.unchanged)
 
 pub returns-in-Err-clause-cycle : goal.returns-in-Err-clause-cycle
 returns-in-Err-clause-cycle g c =
-    let same = (settled_from c.release_each.new.priced c.settle-in-Err.new.self c.settle-in-Err.ensures.unchanged).cycle ∙ c.release_each.ensures.cycle_stays in
+    let same = (settled_from c.release_each.new.priced c.settle_watched-in-Err.new.self c.settle_watched-in-Err.ensures.unchanged).cycle ∙ c.release_each.ensures.cycle_stays in
     subst (λ (cycle : List ℕ). IsCycleOf c.args.net.now (set_where (is_directed c.args.net.now c.args.pair c.args.tail) true (is_held c.args.priced.now.live.given.held)) cycle) (sym same)
     (direction_cycle c.args.net.now c.args.pair c.args.tail c.out_row-row.result.now c.out_row-row.ensures.places c.args.priced.now c.hold_each.new.priced
     c.in-Err.ensures.refused c.requires.off)

@@ -8,4 +8,4 @@ release_each-requires-clause-are_activities g c = row_below c.args.net.now c.arg
 pub returns-clause-turns : goal.returns-clause-turns
 returns-clause-turns g c =
     direction_turned c.args.net.now c.args.pair c.args.tail c.out_row-row.result.now c.out_row-row.ensures.places false c.args.priced.now c.release_each.new.priced
-    c.settle.new.self c.release_each.ensures.turns (settled_from c.release_each.new.priced c.settle.new.self c.settle.ensures.unchanged)
+    c.settle_watched.new.self c.release_each.ensures.turns (settled_from c.release_each.new.priced c.settle_watched.new.self c.settle_watched.ensures.unchanged)

@@ -14,7 +14,7 @@ flip_of-flip-requires g c =
 pub turn_on-requires-clause-off : goal.turn_on-requires-clause-off
 turn_on-requires-clause-off g c =
     let net = c.args.net.now in
-    let old : EvaluatorValue = record { rows = c.self.inside.rows; path = c.self.inside.path.items; changes = c.self.inside.undecided.changes.items; pairs = c.self.inside.undecided.pairs.items; priced = c.self.inside.priced } in
+    let old : EvaluatorValue = record { rows = c.self.inside.rows; path = c.self.inside.path.items; changes = c.self.inside.undecided.changes.items; pairs = c.self.inside.undecided.pairs.items; priced = c.self.inside.priced; marks = record { changes = c.self.inside.marks.changes; pairs = c.self.inside.marks.pairs } } in
     let was = subst (IsEvaluatorOf net) (sym c.self.view_is) c.requires.evaluator in
     let opened = subst (λ (e : EvaluatorValue). IsOpen net e.rows e.path (choice_of c.args.decision)) (sym c.self.view_is) c.requires.open in
     let list = open_list net c.self.inside.rows c.self.inside.path.items c.args.decision was.is_path opened in
@@ -23,7 +23,7 @@ turn_on-requires-clause-off g c =
 pub push_reserved-requires : goal.push_reserved-requires
 push_reserved-requires g c =
     let net = c.args.net.now in
-    let old : EvaluatorValue = record { rows = c.self.inside.rows; path = c.self.inside.path.items; changes = c.self.inside.undecided.changes.items; pairs = c.self.inside.undecided.pairs.items; priced = c.self.inside.priced } in
+    let old : EvaluatorValue = record { rows = c.self.inside.rows; path = c.self.inside.path.items; changes = c.self.inside.undecided.changes.items; pairs = c.self.inside.undecided.pairs.items; priced = c.self.inside.priced; marks = record { changes = c.self.inside.marks.changes; pairs = c.self.inside.marks.pairs } } in
     let was = subst (IsEvaluatorOf net) (sym c.self.view_is) c.requires.evaluator in
     let opened = subst (λ (e : EvaluatorValue). IsOpen net e.rows e.path (choice_of c.args.decision)) (sym c.self.view_is) c.requires.open in
     let list = open_list net c.self.inside.rows c.self.inside.path.items c.args.decision was.is_path opened in
@@ -34,41 +34,43 @@ push_reserved-requires g c =
 pub returns-in-Ok-clause-evaluator : goal.returns-in-Ok-clause-evaluator
 returns-in-Ok-clause-evaluator g c =
     let net = c.args.net.now in
-    let old : EvaluatorValue = record { rows = c.self.inside.rows; path = c.self.inside.path.items; changes = c.self.inside.undecided.changes.items; pairs = c.self.inside.undecided.pairs.items; priced = c.self.inside.priced } in
+    let old : EvaluatorValue = record { rows = c.self.inside.rows; path = c.self.inside.path.items; changes = c.self.inside.undecided.changes.items; pairs = c.self.inside.undecided.pairs.items; priced = c.self.inside.priced; marks = record { changes = c.self.inside.marks.changes; pairs = c.self.inside.marks.pairs } } in
     let was = subst (IsEvaluatorOf net) (sym c.self.view_is) c.requires.evaluator in
     let opened = subst (λ (e : EvaluatorValue). IsOpen net e.rows e.path (choice_of c.args.decision)) (sym c.self.view_is) c.requires.open in
     let list = open_list net c.self.inside.rows c.self.inside.path.items c.args.decision was.is_path opened in
     decide_is net c.sound.ensures.network old was c.args.decision list c.flip_of-flip.result c.flip_of-flip.ensures.flip
     c.push_reserved.new.self.items c.set.new.self.changes.items c.set.new.self.pairs.items c.turn_on.new.priced
     c.push_reserved.ensures.items c.set.ensures.changes c.set.ensures.pairs c.in-Ok.ensures.priced c.in-Ok.ensures.at_rest c.in-Ok.ensures.turns
+    (record { changes = c.turn_on.new.marks.changes; pairs = c.turn_on.new.marks.pairs }) c.in-Ok.ensures.marks
 
 pub returns-in-Ok-clause-least : goal.returns-in-Ok-clause-least
 returns-in-Ok-clause-least g c =
-    let now : EvaluatorValue = record { rows = c.self.inside.rows; path = c.push_reserved.new.self.items; changes = c.set.new.self.changes.items; pairs = c.set.new.self.pairs.items; priced = c.turn_on.new.priced } in
+    let now : EvaluatorValue = record { rows = c.self.inside.rows; path = c.push_reserved.new.self.items; changes = c.set.new.self.changes.items; pairs = c.set.new.self.pairs.items; priced = c.turn_on.new.priced; marks = record { changes = c.turn_on.new.marks.changes; pairs = c.turn_on.new.marks.pairs } } in
     evaluator_least c.args.net.now now c.sound.ensures.network.formed.ends_are_known (returns-in-Ok-clause-evaluator g c)
 
 pub returns-in-Ok-clause-no_cycle : goal.returns-in-Ok-clause-no_cycle
 returns-in-Ok-clause-no_cycle g c =
-    let now : EvaluatorValue = record { rows = c.self.inside.rows; path = c.push_reserved.new.self.items; changes = c.set.new.self.changes.items; pairs = c.set.new.self.pairs.items; priced = c.turn_on.new.priced } in
+    let now : EvaluatorValue = record { rows = c.self.inside.rows; path = c.push_reserved.new.self.items; changes = c.set.new.self.changes.items; pairs = c.set.new.self.pairs.items; priced = c.turn_on.new.priced; marks = record { changes = c.turn_on.new.marks.changes; pairs = c.turn_on.new.marks.pairs } } in
     subst (λ (e : EvaluatorValue). HasNoRelaxedCycle c.args.net.now e.rows (e.path ++ c.args.decision ∷ [])) c.self.view_is
     (rw (← c.push_reserved.ensures.items) (evaluator_no_cycle c.args.net.now now (returns-in-Ok-clause-evaluator g c)))
 
 pub returns-in-Err-clause-evaluator : goal.returns-in-Err-clause-evaluator
 returns-in-Err-clause-evaluator g c =
     let net = c.args.net.now in
-    let old : EvaluatorValue = record { rows = c.self.inside.rows; path = c.self.inside.path.items; changes = c.self.inside.undecided.changes.items; pairs = c.self.inside.undecided.pairs.items; priced = c.self.inside.priced } in
+    let old : EvaluatorValue = record { rows = c.self.inside.rows; path = c.self.inside.path.items; changes = c.self.inside.undecided.changes.items; pairs = c.self.inside.undecided.pairs.items; priced = c.self.inside.priced; marks = record { changes = c.self.inside.marks.changes; pairs = c.self.inside.marks.pairs } } in
     let was = subst (IsEvaluatorOf net) (sym c.self.view_is) c.requires.evaluator in
     refused_is net c.sound.ensures.network old was c.turn_on.new.priced c.in-Err.ensures.priced c.in-Err.ensures.at_rest c.in-Err.ensures.stays
+    (record { changes = c.turn_on.new.marks.changes; pairs = c.turn_on.new.marks.pairs }) c.in-Err.ensures.marks
 
 pub returns-in-Err-clause-least : goal.returns-in-Err-clause-least
 returns-in-Err-clause-least g c =
-    let now : EvaluatorValue = record { rows = c.self.inside.rows; path = c.self.inside.path.items; changes = c.self.inside.undecided.changes.items; pairs = c.self.inside.undecided.pairs.items; priced = c.turn_on.new.priced } in
+    let now : EvaluatorValue = record { rows = c.self.inside.rows; path = c.self.inside.path.items; changes = c.self.inside.undecided.changes.items; pairs = c.self.inside.undecided.pairs.items; priced = c.turn_on.new.priced; marks = record { changes = c.turn_on.new.marks.changes; pairs = c.turn_on.new.marks.pairs } } in
     evaluator_least c.args.net.now now c.sound.ensures.network.formed.ends_are_known (returns-in-Err-clause-evaluator g c)
 
 pub returns-in-Err-clause-unchanged : goal.returns-in-Err-clause-unchanged
 returns-in-Err-clause-unchanged g c =
     let net = c.args.net.now in
-    let old : EvaluatorValue = record { rows = c.self.inside.rows; path = c.self.inside.path.items; changes = c.self.inside.undecided.changes.items; pairs = c.self.inside.undecided.pairs.items; priced = c.self.inside.priced } in
+    let old : EvaluatorValue = record { rows = c.self.inside.rows; path = c.self.inside.path.items; changes = c.self.inside.undecided.changes.items; pairs = c.self.inside.undecided.pairs.items; priced = c.self.inside.priced; marks = record { changes = c.self.inside.marks.changes; pairs = c.self.inside.marks.pairs } } in
     let was = subst (IsEvaluatorOf net) (sym c.self.view_is) c.requires.evaluator in (
       ap (λ (e : EvaluatorValue). e.path) c.self.view_is,
       refused_times net c.sound.ensures.network old was c.turn_on.new.priced c.in-Err.ensures.priced c.in-Err.ensures.at_rest c.in-Err.ensures.stays
@@ -78,7 +80,7 @@ returns-in-Err-clause-unchanged g c =
 pub returns-in-Err-clause-cycle : goal.returns-in-Err-clause-cycle
 returns-in-Err-clause-cycle g c =
     let net = c.args.net.now in
-    let old : EvaluatorValue = record { rows = c.self.inside.rows; path = c.self.inside.path.items; changes = c.self.inside.undecided.changes.items; pairs = c.self.inside.undecided.pairs.items; priced = c.self.inside.priced } in
+    let old : EvaluatorValue = record { rows = c.self.inside.rows; path = c.self.inside.path.items; changes = c.self.inside.undecided.changes.items; pairs = c.self.inside.undecided.pairs.items; priced = c.self.inside.priced; marks = record { changes = c.self.inside.marks.changes; pairs = c.self.inside.marks.pairs } } in
     let was = subst (IsEvaluatorOf net) (sym c.self.view_is) c.requires.evaluator in
     let opened = subst (λ (e : EvaluatorValue). IsOpen net e.rows e.path (choice_of c.args.decision)) (sym c.self.view_is) c.requires.open in
     let list = open_list net c.self.inside.rows c.self.inside.path.items c.args.decision was.is_path opened in

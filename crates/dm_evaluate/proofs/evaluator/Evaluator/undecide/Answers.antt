@@ -10,7 +10,7 @@ use Rattle.dm_evaluate.proofs.evaluator.Evaluator.undecide.Goals as goal
 pub flip_of-flip-requires : goal.flip_of-flip-requires
 flip_of-flip-requires g c =
     let net = c.args.net.now in
-    let old : EvaluatorValue = record { rows = c.self.inside.rows; path = c.self.inside.path.items; changes = c.self.inside.undecided.changes.items; pairs = c.self.inside.undecided.pairs.items; priced = c.self.inside.priced } in
+    let old : EvaluatorValue = record { rows = c.self.inside.rows; path = c.self.inside.path.items; changes = c.self.inside.undecided.changes.items; pairs = c.self.inside.undecided.pairs.items; priced = c.self.inside.priced; marks = record { changes = c.self.inside.marks.changes; pairs = c.self.inside.marks.pairs } } in
     let was = subst (IsEvaluatorOf net) (sym c.self.view_is) c.requires.evaluator in
     let at = subst (λ (p : List Decision). DecidesAt p c.args.choice c.place_of-place.result) c.deref.ensures.value c.place_of-place.ensures in
     let got : slice_get c.self.inside.path.items c.place_of-place.result ≡ Some c.index.result.now =
@@ -20,7 +20,7 @@ flip_of-flip-requires g c =
 pub returns-clause-evaluator : goal.returns-clause-evaluator
 returns-clause-evaluator g c =
     let net = c.args.net.now in
-    let old : EvaluatorValue = record { rows = c.self.inside.rows; path = c.self.inside.path.items; changes = c.self.inside.undecided.changes.items; pairs = c.self.inside.undecided.pairs.items; priced = c.self.inside.priced } in
+    let old : EvaluatorValue = record { rows = c.self.inside.rows; path = c.self.inside.path.items; changes = c.self.inside.undecided.changes.items; pairs = c.self.inside.undecided.pairs.items; priced = c.self.inside.priced; marks = record { changes = c.self.inside.marks.changes; pairs = c.self.inside.marks.pairs } } in
     let was = subst (IsEvaluatorOf net) (sym c.self.view_is) c.requires.evaluator in
     let at = subst (λ (p : List Decision). DecidesAt p c.args.choice c.place_of-place.result) c.deref.ensures.value c.place_of-place.ensures in
     let got : slice_get c.self.inside.path.items c.place_of-place.result ≡ Some c.index.result.now =
@@ -29,11 +29,12 @@ returns-clause-evaluator g c =
     c.flip_of-flip.result c.flip_of-flip.ensures.flip
     c.remove-decision.new.self.items c.set.new.self.changes.items c.set.new.self.pairs.items c.turn_off.new.priced
     c.remove-decision.ensures.items c.set.ensures.changes c.set.ensures.pairs c.turn_off.ensures.priced c.turn_off.ensures.at_rest c.turn_off.ensures.turns
+    (record { changes = c.turn_off.new.marks.changes; pairs = c.turn_off.new.marks.pairs }) c.turn_off.ensures.marks
 
 pub returns-clause-path : goal.returns-clause-path
 returns-clause-path g c =
     let net = c.args.net.now in
-    let old : EvaluatorValue = record { rows = c.self.inside.rows; path = c.self.inside.path.items; changes = c.self.inside.undecided.changes.items; pairs = c.self.inside.undecided.pairs.items; priced = c.self.inside.priced } in
+    let old : EvaluatorValue = record { rows = c.self.inside.rows; path = c.self.inside.path.items; changes = c.self.inside.undecided.changes.items; pairs = c.self.inside.undecided.pairs.items; priced = c.self.inside.priced; marks = record { changes = c.self.inside.marks.changes; pairs = c.self.inside.marks.pairs } } in
     let was = subst (IsEvaluatorOf net) (sym c.self.view_is) c.requires.evaluator in
     let at = subst (λ (p : List Decision). DecidesAt p c.args.choice c.place_of-place.result) c.deref.ensures.value c.place_of-place.ensures in
     let got : slice_get c.self.inside.path.items c.place_of-place.result ≡ Some c.index.result.now =
@@ -44,5 +45,5 @@ returns-clause-path g c =
 
 pub returns-clause-least : goal.returns-clause-least
 returns-clause-least g c =
-    let now : EvaluatorValue = record { rows = c.self.inside.rows; path = c.remove-decision.new.self.items; changes = c.set.new.self.changes.items; pairs = c.set.new.self.pairs.items; priced = c.turn_off.new.priced } in
+    let now : EvaluatorValue = record { rows = c.self.inside.rows; path = c.remove-decision.new.self.items; changes = c.set.new.self.changes.items; pairs = c.set.new.self.pairs.items; priced = c.turn_off.new.priced; marks = record { changes = c.turn_off.new.marks.changes; pairs = c.turn_off.new.marks.pairs } } in
     evaluator_least c.args.net.now now c.sound.ensures.network.formed.ends_are_known (returns-clause-evaluator g c)

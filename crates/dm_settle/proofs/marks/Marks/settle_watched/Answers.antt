@@ -12,6 +12,7 @@ loop-next-init g c = record {
   passing = record { unsettled = c.requires.marks; later = λ k _. omega arith; may_move = λ e _ marked. inl marked };
   read = none_read (arcs_given c.args.net.now c.args.constraints.now) c.args.ranks.now (record { marks = c.args.self.now; times = c.args.times.now; steps = c.args.steps.now });
   knows = c.requires.knows;
+  other_knows = c.requires.other_knows;
   flags = refl;
 }
 
@@ -39,6 +40,7 @@ loop-next-preserved g c =
           c.loop-next.steps (record { marks = c.renew.new.self; times = c.renew.new.times; steps = c.renew.new.steps })
           (record { marks = c.args.self.now; times = c.args.times.now; steps = c.args.steps.now }) c.loop-next.invariant.read c.renew.result renews;
       knows = c.renew.ensures.knows;
+      other_knows = c.renew.ensures.other_knows;
       flags = c.renew.ensures.flags ∙ c.loop-next.invariant.flags;
     }
 

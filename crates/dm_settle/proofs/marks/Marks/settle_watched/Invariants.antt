@@ -8,6 +8,7 @@ invariant-loop-next g l = record {
   passing : IsPassing (graph_given l.net l.constraints) l.ranks l.initial.self l.self l.times l.place;
   read : HasRead (arcs_given l.net l.constraints) l.ranks (record { marks = l.initial.self; times = l.initial.times; steps = l.initial.steps }) (record { marks = l.self; times = l.times; steps = l.steps }) l.place;
   knows : g.W.Watcher.knows l.watcher l.net l.constraints l.times;
+  other_knows : g.V.Watcher.knows l.other l.net l.constraints l.times;
   flags : g.W.Watcher.flags l.watcher ≡ g.W.Watcher.flags l.initial.watcher;
 }
 

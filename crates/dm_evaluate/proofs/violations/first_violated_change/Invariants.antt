@@ -1,6 +1,0 @@
-use Rattle.dm_rows.specs.Cost.{comes_too_early}
-use Rattle.dm_evaluate.specs.Inside.Violations.{NoneFlagged}
-use Rattle.dm_evaluate.proofs.violations.first_violated_change.Given as goal
-
-abbrev pub invariant-loop-a : goal.invariant-loop-a
-invariant-loop-a l = NoneFlagged l.changes (comes_too_early l.net l.rows l.times) l.a
