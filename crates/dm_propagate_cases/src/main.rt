@@ -1,0 +1,38 @@
+//! The engine beside timetables and costs from scratch.
+//!
+//! It goes over every list of up to four messages from a small set, on a connection at one station and on its turnaround, and
+//! over thousands of drawn messages on generated days, and compares times and cost with those that dm_times computes from the
+//! rows alone, and each refusal for a cycle with the rows after the message. For each case it prints `NAME ok`, or after how
+//! many messages the two differ. It stands on dm_samples for the networks and messages, and promises nothing.
+#![tactic(auto)]
+
+mod days;
+mod lists;
+mod nothing;
+mod trial;
+
+use days::day_agrees;
+use dm_samples::{Sample, report};
+use lists::every_list_agrees;
+use nothing::no_delay_reads_two_rows;
+use std::io;
+
+/// The name of a generated day, its trains, and how many walks are made on it.
+const DAYS: [(&str, u32, u32); 4] = [
+    ("day-of-9-trains", 9, 40),
+    ("day-of-13-trains", 13, 30),
+    ("day-of-20-trains", 20, 25),
+    ("day-of-40-trains", 40, 15),
+];
+
+fn main(rt: HostRuntime) -> io::Result<()> {
+    let alloc = rt.alloc();
+    let connection = every_list_agrees(alloc, Sample::Connection);
+    report(&rt, "lists-connection", connection)?;
+    let turnaround = every_list_agrees(alloc, Sample::Turnaround);
+    report(&rt, "lists-turnaround", turnaround)?;
+    for (name, trains, walks) in DAYS {
+        report(&rt, name, day_agrees(alloc, trains, walks))?;
+    }
+    report(&rt, "no-delay-on-two-legs", no_delay_reads_two_rows(alloc))
+}

@@ -1,0 +1,120 @@
+//! An engine that hears messages.
+ghost use Rattle.std.specs.Prelude.{◌≡◌, ◌<◌};
+ghost use Rattle.dm_propagate.specs.Engine.{IsEngineOf};
+ghost use Rattle.dm_rows.specs.Reach.{Reaches};
+
+use dm_base::Steps;
+use dm_graph::search::Cyclic;
+use dm_network::Network;
+use dm_propagate::Engine;
+use dm_rows::{Change, Message, Refusal, admit};
+use dm_samples::{Failure, rows_on_time};
+use dm_settle::NoTimes;
+use dm_times::{cost, least};
+use std::alloc::Global;
+use std::marker::{Brand, Model};
+use std::sync::ledger::{Blank, Ledger};
+
+/// Seconds for each passenger.
+const PENALTY: u64 = 10;
+
+/// What came of a message.
+#[derive(Clone, Copy, PartialEq, Eq, Debug)]
+pub enum Heard {
+    Made,
+
+    /// The changed rows have a cycle.
+    Cyclic,
+
+    /// It was refused at once, for another cause.
+    Refused,
+}
+
+/// An engine with its network.
+#[derive(Drop)]
+pub struct Trial<'n> {
+    net: &'n Network,
+    engine: Engine,
+}
+
+impl<'n> Model for Trial<'n> {
+    ghost use Rattle.dm_propagate.specs.Engine.{EngineValue, IsEngineOf};
+
+    ghost Value = { EngineValue };
+
+    ghost view = { λ trial. trial.engine };
+
+    ghost invariant = { λ trial. IsEngineOf trial.net.now trial.engine };
+}
+
+impl<'n> Trial<'n> {
+    /// The engine of the rows at the start.
+    pub fn new(alloc: Global, net: &'n Network) -> Result<Trial<'n>, Failure> {
+        let rows = rows_on_time(alloc, net)?;
+        match Engine::new(alloc, net, rows) {
+            Ok(engine) => Ok(Trial { net, engine }),
+            Err(_) => Err(Failure::NoDay),
+        }
+    }
+
+    /// Makes the change of a message that nothing refuses at once.
+    pub fn hear(&mut self, alloc: Global, message: &Message) -> Result<Heard, Failure> {
+        let change = match admit(alloc, self.net, self.engine.rows(), message) {
+            Ok(change) => change,
+            Err(Refusal::OutOfMemory) => return Err(Failure::OutOfMemory),
+            Err(_) => return Ok(Heard::Refused),
+        };
+        match update::<Brand>(&mut self.engine, self.net, &change, Blank::new(1)) {
+            Ok(()) => Ok(Heard::Made),
+            Err(Cyclic) => Ok(Heard::Cyclic),
+        }
+    }
+
+    /// Whether times and cost are those of the rows, computed from scratch.
+    pub fn agrees(&self, alloc: Global) -> Result<bool, Failure> {
+        let rows = self.engine.rows();
+        match least(alloc, self.net, rows) {
+            Ok(times) => {
+                let due = cost(self.net, rows, &times, PENALTY);
+                let kept = self.engine.cost(self.net, PENALTY);
+                Ok(times.as_slice() == self.engine.times().as_slice() && due == kept)
+            }
+            Err(NoTimes::Cycle(_)) => Ok(false),
+            Err(NoTimes::OutOfMemory) => Err(Failure::OutOfMemory),
+        }
+    }
+
+    /// Whether the rows have a cycle after a message that nothing refuses at once, computed from scratch.
+    pub fn has_cycle_after(&self, alloc: Global, message: &Message) -> Result<bool, Failure> {
+        let change = match admit(alloc, self.net, self.engine.rows(), message) {
+            Ok(change) => change,
+            Err(Refusal::OutOfMemory) => return Err(Failure::OutOfMemory),
+            Err(_) => return Ok(false),
+        };
+        let mut rows = self.engine.rows().copy()?;
+        rows.apply(&change);
+        match least(alloc, self.net, &rows) {
+            Ok(_) => Ok(false),
+            Err(NoTimes::Cycle(_)) => Ok(true),
+            Err(NoTimes::OutOfMemory) => Err(Failure::OutOfMemory),
+        }
+    }
+}
+
+/// Makes a change, for a ledger that nothing reads.
+fn update<L: Ledger>(
+    engine: &mut Engine,
+    net: &Network,
+    change: &Change,
+    blank: Blank,
+) -> Result<(), Cyclic>
+    requires engine { IsEngineOf net.now engine.old }
+    requires reaches { Reaches engine.old.rows change.now }
+    requires name { blank.name ≡ L.name }
+    requires parts { blank.parts ≡ L.parts }
+    requires has_a_part { 0 < blank.parts }
+    ensures { IsEngineOf net.now engine.new }
+{
+    let mut steps = Steps::<L>::new(blank);
+    engine.update(net, change, &mut steps)
+}

@@ -1,0 +1,19 @@
+//! Sample networks, days and messages, for programs that come to an answer in two ways and compare.
+//!
+//! [`Sample`] names the small networks, [`generated_day`] and [`turning_day`] make days of many trains,
+//! of which the second can have cycles, and [`Draws`] draws messages and
+//! decisions over them from a seed. [`report`] prints how a case came out. It stands on dm_network for networks, on dm_gen for
+//! days and on dm_rows for messages, and promises nothing.
+#![tactic(auto)]
+
+mod days;
+mod draws;
+mod failure;
+mod networks;
+mod small;
+
+pub use days::{generated_day, turning_day};
+pub use draws::Draws;
+pub use failure::{Failure, report};
+pub use networks::{network_of, rows_on_time};
+pub use small::Sample;

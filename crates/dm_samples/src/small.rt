@@ -1,0 +1,108 @@
+//! Networks of a few events.
+
+use crate::failure::Failure;
+use crate::networks::network_of;
+use dm_base::{ActId, ActKind, ActRow, EventId, EventKind, EventRow, Secs, StopId};
+use dm_network::Network;
+use std::alloc::{AllocError, Global};
+
+// An event: its kind, time, weight and stop.
+type EventCase = (EventKind, Secs, u64, u32);
+
+// An activity: its kind, tail, head, lower bound and weight.
+type ActivityCase = (ActKind, u32, u32, Secs, u64);
+
+const CONNECTION: [EventCase; 6] = [
+    (EventKind::Departure, 100, 10_000, 1),
+    (EventKind::Arrival, 200, 10_000, 2),
+    (EventKind::Departure, 220, 10_000, 2),
+    (EventKind::Arrival, 300, 10_000, 3),
+    (EventKind::Departure, 230, 5_000, 2),
+    (EventKind::Arrival, 330, 5_000, 4),
+];
+
+// The second train starts later.
+const TURNAROUND: [EventCase; 6] = [
+    (EventKind::Departure, 100, 10_000, 1),
+    (EventKind::Arrival, 200, 10_000, 2),
+    (EventKind::Departure, 220, 10_000, 2),
+    (EventKind::Arrival, 300, 10_000, 3),
+    (EventKind::Departure, 340, 5_000, 2),
+    (EventKind::Arrival, 440, 5_000, 4),
+];
+
+const ACTIVITIES: [ActivityCase; 8] = [
+    (ActKind::Drive, 1, 2, 90, 10_000),
+    (ActKind::Wait, 2, 3, 10, 10_000),
+    (ActKind::Drive, 3, 4, 80, 10_000),
+    (ActKind::Drive, 5, 6, 95, 5_000),
+    (ActKind::Change, 2, 5, 20, 4_000),
+    (ActKind::Headway, 3, 5, 8, 0),
+    (ActKind::Headway, 5, 3, 8, 0),
+    (ActKind::Turnaround, 4, 5, 30, 0),
+];
+
+/// A small network. Events and activities are numbered from 1.
+#[derive(Clone, Copy, PartialEq, Eq, Debug)]
+pub enum Sample {
+    /// One train over two legs: four events.
+    TwoLegs,
+
+    /// Two trains that meet at one station, with a change, activity 5, and a pair of departures, events 3 and 5.
+    Connection,
+
+    /// The same two trains, of which the second is the first one turned around, after activity 8, and starts later.
+    Turnaround,
+}
+
+impl Sample {
+    /// The network.
+    pub fn network(self, alloc: Global) -> Result<Network, Failure> {
+        let events = match self {
+            Sample::TwoLegs => event_rows(alloc, &CONNECTION, 4)?,
+            Sample::Connection => event_rows(alloc, &CONNECTION, 6)?,
+            Sample::Turnaround => event_rows(alloc, &TURNAROUND, 6)?,
+        };
+        let activities = match self {
+            Sample::TwoLegs => activity_rows(alloc, 3)?,
+            Sample::Connection => activity_rows(alloc, 7)?,
+            Sample::Turnaround => activity_rows(alloc, 8)?,
+        };
+        network_of(alloc, events, activities)
+    }
+}
+
+/// The first so many of these events.
+fn event_rows(
+    alloc: Global,
+    cases: &[EventCase],
+    count: usize,
+) -> Result<Vec<EventRow>, AllocError> {
+    let mut rows = Vec::new(alloc);
+    for ((kind, time, weight, stop), id) in cases.iter().take(count).zip(1u32..) {
+        rows.push(EventRow {
+            id: EventId(id),
+            kind: *kind,
+            time: *time,
+            weight: *weight,
+            stop: StopId(*stop),
+        })?;
+    }
+    Ok(rows)
+}
+
+/// The first so many activities.
+fn activity_rows(alloc: Global, count: usize) -> Result<Vec<ActRow>, AllocError> {
+    let mut rows = Vec::new(alloc);
+    for ((kind, tail, head, lower, weight), id) in ACTIVITIES.iter().take(count).zip(1u32..) {
+        rows.push(ActRow {
+            id: ActId(id),
+            kind: *kind,
+            tail: EventId(*tail),
+            head: EventId(*head),
+            lower: *lower,
+            weight: *weight,
+        })?;
+    }
+    Ok(rows)
+}
