@@ -1,11 +1,15 @@
 //! Whole runs over files in memory whose files are too long, or whose openings, reads or writes fail. Runs over good and
 //! refused files are cases of dm_runs.
-ghost use Rattle.std.specs.Prelude.{◌<◌};
+ghost use Rattle.std.specs.Prelude.{◌<◌, ◌≤◌, vec_len};
+ghost use Rattle.dm_base.specs.declared.limits.TheConstants.{BOARDS};
 
 use dm_base::limits::FILE;
-use dm_outside::{MemFile, MemShelf, MemSink, OpenGate};
+use dm_boards::FileBoard;
+use dm_outside::{Board, MemFile, MemShelf, MemSink, OpenGate};
 use dm_program::{Status, dispatch};
 use std::alloc::{AllocError, Global};
+use std::fs::{self, File};
+use std::rt::Files;
 use std::sync::Wait;
 use std::test::Fail;
 use std::thread::Threads;
@@ -68,6 +72,17 @@ fn run_case<R: Threads + Wait + Sync + AllocGlobal>(
     words: &[&str],
     case: &Case<'_>,
 ) -> Result<(Status, Vec<u8>), Fail> {
+    run_on_boards(rt, words, case, &mut Vec::new(rt.alloc()))
+}
+
+fn run_on_boards<R: Threads + Wait + Sync + AllocGlobal>(
+    rt: &R,
+    words: &[&str],
+    case: &Case<'_>,
+    boards: &mut Vec<Box<dyn Board>>,
+) -> Result<(Status, Vec<u8>), Fail>
+    requires { vec_len boards.old ≤ BOARDS }
+{
     let files = [
         MemFile {
             name: "net/Events-expanded.giv",
@@ -108,7 +123,6 @@ fn run_case<R: Threads + Wait + Sync + AllocGlobal>(
     ];
     let words = texts(rt.alloc(), words)?;
     let mut shelf = MemShelf::new(&files, case.opens);
-    let mut boards = Vec::new(rt.alloc());
     let writes = Vec::from_slice(rt.alloc(), case.writes)?;
     let mut sink = MemSink::new(rt.alloc(), 1_000_000, case.piece.max(1), writes)?;
     let status = dispatch(
@@ -116,7 +130,7 @@ fn run_case<R: Threads + Wait + Sync + AllocGlobal>(
         rt.alloc(),
         words.as_slice(),
         &mut shelf,
-        &mut boards,
+        boards,
         &OpenGate,
         &mut sink,
     );
@@ -282,5 +296,55 @@ fn sink_that_fails(rt: HostRuntime) -> Result<(), Fail> {
         ..case
     };
     assert!(rt; ends(&rt, RUN, &refused, Status::WriteFault, b"refus")?);
+    Ok(())
+}
+
+// A board in a file, for the events of a stop.
+fn board_in_file<R: AllocGlobal + Files<File = File> + Drop>(
+    rt: R,
+    name: &str,
+    stop: u32,
+) -> Result<Box<FileBoard<R>>, Fail> {
+    let alloc = rt.alloc();
+    let name = String::from_str(alloc, name)?;
+    Ok(Box::new(alloc, FileBoard::new(alloc, rt, name, stop))?)
+}
+
+#[test]
+fn board_files_of_two_runs(rt: HostRuntime) -> Result<(), Fail> {
+    let late = Case {
+        feed: b"delay event 1 60\n",
+        ..GOOD
+    };
+    let mut boards: Vec<Box<dyn Board>> = Vec::new(rt.alloc());
+    boards.push(board_in_file(rt, "late-2.txt", 2)?)?;
+    boards.push(board_in_file(rt, "late-4.txt", 4)?)?;
+    let (ended, _) = run_on_boards(&rt, RUN, &late, &mut boards)?;
+    assert!(rt; ended == Status::Ok);
+    let shown = fs::read(&rt, "late-2.txt")?;
+    assert_eq!(rt;
+        shown.as_slice(),
+        b"2; 200\n3; 220\n5; 230\n2; 250\n3; 260\n5; 270\n".as_slice()
+    );
+    let mut again: Vec<Box<dyn Board>> = Vec::new(rt.alloc());
+    again.push(board_in_file(rt, "late-4.txt", 4)?)?;
+    let (ended, _) = run_on_boards(&rt, RUN, &GOOD, &mut again)?;
+    assert!(rt; ended == Status::Ok);
+    let shown = fs::read(&rt, "late-4.txt")?;
+    assert_eq!(rt; shown.as_slice(), b"6; 330\n6; 365\n6; 330\n".as_slice());
+    Ok(())
+}
+
+#[test]
+fn no_board_is_called_where_a_file_cannot_be_read(rt: HostRuntime) -> Result<(), Fail> {
+    let unread = Case {
+        activity_reads: &[1],
+        ..GOOD
+    };
+    let mut boards: Vec<Box<dyn Board>> = Vec::new(rt.alloc());
+    boards.push(board_in_file(rt, "board-unread.txt", 2)?)?;
+    let (ended, _) = run_on_boards(&rt, RUN, &unread, &mut boards)?;
+    assert!(rt; ended == Status::ReadFault);
+    assert!(rt; fs::read(&rt, "board-unread.txt").is_err());
     Ok(())
 }

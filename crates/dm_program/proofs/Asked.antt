@@ -2,7 +2,7 @@
 use Rattle.std.proofs.Common.{◌≡◌, ℕ, ◌≤◌, List, [], ◌∷◌, Option, Some, None, Ok, sym, subst, arith}
 use Rattle.dm_base.specs.declared.limits.TheConstants.{PENALTY}
 use Rattle.dm_input.specs.Input.{Told, Opening, OpeningAnswer, IsAnswer}
-use Rattle.dm_words.specs.Words.{RunAsked, FilesAsked, Command, RunOf, CheckOf, GenOf, Asks, IsNumberOr}
+use Rattle.dm_words.specs.Words.{RunAsked, GenAsked, FilesAsked, Command, RunOf, CheckOf, GenOf, Asks, IsNumberOr}
 use Rattle.dm_words.specs.declared.command.TheConstants.{BATCH, STANDARD_BATCH}
 use Rattle.dm_words.specs.declared.files.TheConstants.{STANDARD_PENALTY}
 use Rattle.dm_network.specs.Net.{Net}
@@ -11,6 +11,7 @@ use Rattle.dm_rows.specs.Active.{HasNoCycle}
 use Rattle.dm_rows.specs.Rows.{RowsValue}
 use Rattle.dm_times.proofs.Meeting.{start_has_no_cycle}
 use Rattle.dm_program.specs.Inside.Stages.{IsAtStart, AreWithin, IsWithin}
+use Rattle.dm_program.specs.Inside.Generating.{IsDayWithin}
 
 no_more : (given : Option (List ℕ)) (least most standard n : ℕ) → standard ≤ most → IsNumberOr given least most standard n → n ≤ most
 no_more None least most standard n low is = omega (arith, is)
@@ -33,10 +34,20 @@ asked_within (word ∷ words) asked asks =
       few_lines = let few = no_more batch.value 1 BATCH STANDARD_BATCH asked.batch (omega arith) batch.is in omega (arith, few);
     }
 
+pub day_within : (words : List (List ℕ)) (asked : GenAsked) → Asks words (GenOf asked) → IsDayWithin asked
+day_within [] asked asks = absurd asks
+day_within (word ∷ words) asked asks =
+    let penalty = asks.1.penalty in
+    record {
+      some_train = asks.1.are_trains.from;
+      few_trains = asks.1.are_trains.to;
+      penalty = no_more penalty.value 0 PENALTY STANDARD_PENALTY asked.penalty (omega arith) penalty.is;
+    }
+
 pub command_within : (words : List (List ℕ)) (command : Command) → Asks words command → IsWithin command
 command_within words (RunOf asked) asks = asked_within words asked asks
 command_within words (CheckOf asked) asks = tt
-command_within words (GenOf asked) asks = tt
+command_within words (GenOf asked) asks = day_within words asked asks
 
 ok_is : (x y : Opening) → IsAnswer x (Ok y) → y ≡ x
 ok_is x y e = cc

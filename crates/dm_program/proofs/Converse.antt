@@ -9,7 +9,7 @@ use Rattle.dm_outside.specs.Faults.{HasRisen}
 use Rattle.dm_input.specs.Input.{Told, IsHeld, Opening, OpeningAnswer, IsUnread}
 use Rattle.dm_input.specs.Order.{SameFlaw}
 use Rattle.dm_input.specs.Lines.{refused_line, read_fault_line}
-use Rattle.dm_words.specs.Words.{RunAsked, RunOf}
+use Rattle.dm_words.specs.Words.{RunAsked, RunOf, GenAsked, GenOf}
 use Rattle.dm_input.specs.declared.flaws.InputFlaw.{InputFlaw}
 use Rattle.dm_words.proofs.OneCommand.{one_command}
 use Rattle.dm_input.proofs.OneOpening.{opening_is_one, not_after}
@@ -17,6 +17,7 @@ use Rattle.dm_feed.specs.declared.feed.FeedStop.{FeedStop}
 use Rattle.dm_feed.specs.declared.feed.FeedStop.TheVariants.{End, Fault, Long}
 use Rattle.dm_feed.specs.DueItems.{DueItem, EndsWith}
 use Rattle.dm_cert.specs.declared.replies.FeedLog.{FeedLog}
+use Rattle.dm_cert.specs.RunTexts.{Run}
 use Rattle.dm_rounds.proofs.Places.{behind_one}
 use Rattle.dm_program.specs.declared.status.Status.{Status}
 use Rattle.dm_program.specs.declared.status.Status.TheVariants.{Ok as Well, Usage, Refused, ReadFault, WriteFault, NoMemory}
@@ -34,6 +35,9 @@ held_is (Some files) name x y known h k = some_is x y (sym h ∙ k)
 
 run_is : (x y : RunAsked) → RunOf x ≡ RunOf y → x ≡ y
 run_is x y e = cc
+
+no_day : (run : RunAsked) (day : GenAsked) → RunOf run ≡ GenOf day → ⊥
+no_day run day e = cc
 
 -- ---- feeds that end well
 
@@ -65,12 +69,12 @@ name_ends told is_sound name bytes log known held short sound (inl l) =
     end_of log.stop l.bytes l.log_of.due (λ fault. l.cause fault sound) (omega (arith, ap length (held_is told name l.bytes bytes known l.held held))) l.log_of.ends
 name_ends told is_sound name bytes log known held short sound (inr l) = absurd (l.cause sound)
 
-module _ {K : Type 0} (taken : K → Option (List ℕ)) (faults : K → ℕ) (told : Told) (is_sound : List ℕ → Type 0) (words : List (List ℕ)) (before now : K) where
+module _ {K : Type 0} (taken : K → Option (List ℕ)) (faults : K → ℕ) (told : Told) (is_sound : List ℕ → Type 0) (end_boards : Option Run → Type 0) (words : List (List ℕ)) (before now : K) where
   -- how a run ends whose words ask for nothing
-  pub ends_outside : AsksNothingServed words → (result : Status) → Ends taken faults told is_sound words before now result → (result ≡ Usage) ⊎ (result ≡ WriteFault)
+  pub ends_outside : AsksNothingServed words → (result : Status) → Ends taken faults told is_sound end_boards words before now result → (result ≡ Usage) ⊎ (result ≡ WriteFault)
   ends_outside nothing Usage h = inl refl
   ends_outside nothing WriteFault h = inr refl
-  ends_outside nothing Well h = absurd (nothing (RunOf h.holds.asked) h.holds.is_asked)
+  ends_outside nothing Well h = elim (h.holds) [ inl r ↦ absurd (nothing (RunOf r.asked) r.is_asked) | inr d ↦ absurd (nothing (GenOf d.asked) d.is_asked) ]
   ends_outside nothing Refused h = elim (h.holds) [ inl r ↦ absurd (nothing (RunOf r.asked) r.is_asked) | inr r ↦ absurd (nothing (RunOf r.asked) r.is_asked) ]
   ends_outside nothing ReadFault h = elim (h.holds) [ inl r ↦ absurd (nothing (RunOf r.asked) r.is_asked) | inr r ↦ absurd (nothing (RunOf r.asked) r.is_asked) ]
   ends_outside nothing NoMemory h = absurd (nothing h.asked h.is_asked)
@@ -79,12 +83,16 @@ module _ {K : Type 0} (taken : K → Option (List ℕ)) (faults : K → ℕ) (to
     same_asked : (other : RunAsked) → AsksServed words (RunOf other) → other ≡ asked
     same_asked other also = run_is other asked (one_command words (RunOf other) (RunOf asked) also.0 asks.0)
 
-    opens_here : (status : Status) (text : List ℕ) (r : IsRunOf told is_sound words status text) → OpeningAnswer told asked.files (Ok r.opening)
+    opens_here : (status : Status) (text : List ℕ) (r : IsRunOf told is_sound end_boards words status text) → OpeningAnswer told asked.files (Ok r.opening)
     opens_here status text r = subst (λ (a : RunAsked). OpeningAnswer told a.files (Ok r.opening)) (same_asked r.asked r.is_asked) r.opens
 
     -- how a run ends of which this is the first refusal
-    pub ends_at : (flaw : InputFlaw) → OpeningAnswer told asked.files (Err flaw) → (result : Status) → Ends taken faults told is_sound words before now result → EndsAt asked flaw (taken before) (taken now) result
-    ends_at flaw first Well h = absurd (opening_is_one told asked.files known (Ok h.holds.opening) (Err flaw) (opens_here Well h.text h.holds) first)
+    pub ends_at : (flaw : InputFlaw) → OpeningAnswer told asked.files (Err flaw) → (result : Status) → Ends taken faults told is_sound end_boards words before now result → EndsAt asked flaw (taken before) (taken now) result
+    ends_at flaw first Well h =
+        elim (h.holds) as (λ _. EndsAt asked flaw (taken before) (taken now) Well) [
+          | inl r ↦ absurd (opening_is_one told asked.files known (Ok r.opening) (Err flaw) (opens_here Well h.text r) first)
+          | inr d ↦ absurd (no_day asked d.asked (one_command words (RunOf asked) (GenOf d.asked) asks.0 d.is_asked.0))
+        ]
     ends_at flaw first Usage h = absurd (h.holds.outside (RunOf asked) asks)
     ends_at flaw first Refused h =
         elim (h.holds) as (λ _. EndsAt asked flaw (taken before) (taken now) Refused) [
@@ -106,7 +114,7 @@ module _ {K : Type 0} (taken : K → Option (List ℕ)) (faults : K → ℕ) (to
     ends_at flaw first NoMemory h = tt
 
     -- the feeds of a run all end well where each is short and sound
-    run_ends_well : AreShort told asked → AreSound is_sound asked → (status : Status) (text : List ℕ) → IsRunOf told is_sound words status text → status ≡ Well
+    run_ends_well : AreShort told asked → AreSound is_sound asked → (status : Status) (text : List ℕ) → IsRunOf told is_sound end_boards words status text → status ≡ Well
     run_ends_well short sound status text r =
         let same = same_asked r.asked r.is_asked in
         let of : AreLogsOf told is_sound asked.feeds r.run.logs = subst (λ (a : RunAsked). AreLogsOf told is_sound a.feeds r.run.logs) same r.logs in
@@ -119,7 +127,7 @@ module _ {K : Type 0} (taken : K → Option (List ℕ)) (faults : K → ℕ) (to
 
     -- how a run ends whose words, files and feeds are good and told sound, over a sink that does not fail
     pub ends_well : (opening : Opening) → OpeningAnswer told asked.files (Ok opening) → AreShort told asked → AreSound is_sound asked → (HasRisen (faults before) (faults now) → ⊥)
-        → (result : Status) → Ends taken faults told is_sound words before now result → (result ≡ Well) ⊎ (result ≡ NoMemory)
+        → (result : Status) → Ends taken faults told is_sound end_boards words before now result → (result ≡ Well) ⊎ (result ≡ NoMemory)
     ends_well opening opens short sound unrisen Well h = inl refl
     ends_well opening opens short sound unrisen NoMemory h = inr refl
     ends_well opening opens short sound unrisen WriteFault h = absurd (unrisen h.front.risen)

@@ -1,7 +1,6 @@
 -- A run that is answered has a spelling, and is true.
 use Rattle.std.proofs.Common.{◌≡◌, ◌≢◌, ℕ, suc, zero, ◌+◌, ◌<◌, ◌≤◌, inl, inr, Bool, cond, true, false, List, [], ◌∷◌, ◌++◌, length, Option, Some, None, Ok, refl, sym, ap, subst, ◌∙◌, arith, zero-add, get_or}
 use Rattle.std.specs.Prelude.{◌==◌, IfSome}
-use Rattle.std.proofs.lemmas.List.Elements.{All-nil}
 use Rattle.std.proofs.lemmas.List.FromFn.{map-range_with_len_more}
 use Rattle.std.proofs.lemmas.List.Sums.{sum_by-append, sum_by-cons}
 use Rattle.std.proofs.lemmas.Option.{slice_get_within, slice_get-get_or}
@@ -14,8 +13,9 @@ use Rattle.dm_input.specs.Input.{Told, IsHeld, Opening, OpeningAnswer}
 use Rattle.dm_words.specs.Words.{RunAsked, RunOf}
 use Rattle.dm_cert.specs.declared.replies.FeedLog.{FeedLog}
 use Rattle.dm_cert.specs.Logs.{names, AreTrueLogs, KeepsRounds}
-use Rattle.dm_cert.specs.RunTexts.{IsSpelledRun, FitsRun, run_text}
-use Rattle.dm_cert.specs.Runs.{IsTrueRun, AreTrueNotes, IsTrueNote}
+use Rattle.dm_cert.specs.declared.notes.Note.{Note}
+use Rattle.dm_cert.specs.RunTexts.{Run, IsSpelledRun, FitsRun, run_text}
+use Rattle.dm_cert.specs.Runs.{IsTrueRun, AreTrueNotes}
 use Rattle.dm_desk.specs.Answered.{times}
 use Rattle.dm_rounds.specs.Rounds.{IsLogFrom, IsLogFor}
 use Rattle.dm_table.specs.Value.{TableValue}
@@ -70,8 +70,8 @@ each_once (suc len) n some low =
 
 -- ---- one run
 
-module _ {S : Type 0} (left : S → Option (List ℕ)) (source_sound : S → Type 0) (net : Net) (rows : RowsValue) (price : ℕ) (feeds : List (Option S)) (batch : ℕ) (table : TableValue) (logs : List FeedLog) (r : AnswersDay left source_sound net rows price feeds batch table logs) where
-  pub run_is_spelled : IsSpelledRun (run_in table logs)
+module _ {S : Type 0} (left : S → Option (List ℕ)) (source_sound : S → Type 0) (net : Net) (rows : RowsValue) (price : ℕ) (feeds : List (Option S)) (batch : ℕ) (table : TableValue) (logs : List FeedLog) (notes : List Note) (r : AnswersDay left source_sound net rows price feeds batch table logs) where
+  pub run_is_spelled : IsSpelledRun (run_in table logs notes)
   run_is_spelled = record {
     logs = λ k d low. r.answers.spelled k (get_or logs k d) (slice_get-get_or logs k d low);
     times = r.is_table.least.meets.size;
@@ -85,21 +85,13 @@ module _ {S : Type 0} (left : S → Option (List ℕ)) (source_sound : S → Typ
         omega (arith, r.answers.named n, before, each_once (length table.history) n some low);
   }
 
-  no_notes : AreTrueNotes (length table.history) []
-  no_notes = record {
-    few = omega arith;
-    each = All-nil (IsTrueNote (length table.history));
-    once = λ i j one other x y same. absurd (omega (arith, slice_get_within [] i one x));
-    in_order = λ i j one other x y low. absurd (omega (arith, slice_get_within [] i one x));
-  }
-
-  run_is_true : 1 ≤ length logs → length logs ≤ 64 → IsTrueRun 2 table.start (run_in table logs)
-  run_is_true some few = record {
+  run_is_true : AreTrueNotes (length table.history) notes → 1 ≤ length logs → length logs ≤ 64 → IsTrueRun 2 table.start (run_in table logs notes)
+  run_is_true noted some few = record {
     some_feed = some;
     few_feeds = few;
     legal = r.is_table.legal;
     logs = logs_are_true;
-    notes = no_notes;
+    notes = noted;
     least = subst (λ (x : RowsValue). IsLeast table.network x table.times) r.is_table.replayed r.is_table.least;
     cost = ap (λ (x : RowsValue). cost_of table.network x table.times table.penalty) r.is_table.replayed;
   }
@@ -133,9 +125,9 @@ module _ {S : Type 0} (left : S → Option (List ℕ)) (source_sound : S → Typ
 
   -- ---- its text
 
-  pub is_run_of : (told : Told) (is_sound : List ℕ → Type 0) (words : List (List ℕ)) (asked : RunAsked) (opening : Opening) → AsksServed words (RunOf asked) → AreWithin asked → OpeningAnswer told asked.files (Ok opening) → opening.net ≡ net → opening.rows ≡ rows → price ≡ asked.files.penalty
-      → batch ≡ asked.batch → AreOpened left source_sound told is_sound asked.feeds feeds → FitsRun (run_in table logs) → (status : Status) → status ≡ status_of logs → IsRunOf told is_sound words status (run_text 2 (run_in table logs))
-  is_run_of told is_sound words asked opening asks within opens is_net is_rows is_price is_batch opened fits status is_status =
+  pub is_run_of : (told : Told) (is_sound : List ℕ → Type 0) (end_boards : Option Run → Type 0) (words : List (List ℕ)) (asked : RunAsked) (opening : Opening) → AsksServed words (RunOf asked) → AreWithin asked → OpeningAnswer told asked.files (Ok opening) → opening.net ≡ net → opening.rows ≡ rows → price ≡ asked.files.penalty
+      → batch ≡ asked.batch → AreOpened left source_sound told is_sound asked.feeds feeds → FitsRun (run_in table logs notes) → AreTrueNotes (length table.history) notes → end_boards (Some (run_in table logs notes)) → (status : Status) → status ≡ status_of logs → IsRunOf told is_sound end_boards words status (run_text 2 (run_in table logs notes))
+  is_run_of told is_sound end_boards words asked opening asks within opens is_net is_rows is_price is_batch opened fits noted boards status is_status =
       let of = logs_of_names told is_sound asked.feeds opened in
       let start : table.start ≡ opening.rows = r.start ∙ sym is_rows in
       record {
@@ -143,16 +135,16 @@ module _ {S : Type 0} (left : S → Option (List ℕ)) (source_sound : S → Typ
         is_asked = asks;
         opening = opening;
         opens = opens;
-        run = run_in table logs;
+        run = run_in table logs notes;
         net = r.network ∙ sym is_net;
         penalty = r.penalty ∙ is_price;
-        notes = refl;
+        boards = boards;
         logs = of;
         rounds = subst (KeepsRounds logs) is_batch r.answers.rounds;
         has_status = is_status;
         is_text = record {
           is_version = inr refl;
-          is_true = subst (λ (x : RowsValue). IsTrueRun 2 x (run_in table logs)) start (run_is_true (omega (arith, of.as_many, within.some_feed)) (omega (arith, of.as_many, within.few_feeds)));
+          is_true = subst (λ (x : RowsValue). IsTrueRun 2 x (run_in table logs notes)) start (run_is_true noted (omega (arith, of.as_many, within.some_feed)) (omega (arith, of.as_many, within.few_feeds)));
           fits = fits;
           is_spelled = run_is_spelled;
           spelled = refl;

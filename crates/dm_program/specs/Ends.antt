@@ -1,11 +1,13 @@
--- How a run ends: what is due to be written for each status, and why.
-use Rattle.std.specs.Prelude.{ℕ, ◌≡◌, ◌≤◌, ◌⊎◌, List, length, slice_get, Option, Some, Err}
+-- How a run ends: what is due to be written for each status, and why. What becomes of the boards is told of a run, or of
+-- none where there is no run.
+use Rattle.std.specs.Prelude.{ℕ, ◌≡◌, ◌≤◌, ◌⊎◌, List, length, slice_get, Option, None, Some, Err}
 use Rattle.std.specs.Io.KnownBytes.{Appends, Keeps}
 use Rattle.dm_base.specs.declared.limits.TheConstants.{FEED}
 use Rattle.dm_input.specs.Input.{Told, IsHeld, OpeningAnswer, IsUnread, file_name}
 use Rattle.dm_input.specs.Lines.{usage_line, refused_line, read_fault_line}
 use Rattle.dm_input.specs.Order.{SameFlaw, IsReadBy}
 use Rattle.dm_words.specs.Words.{Command, RunAsked, RunOf}
+use Rattle.dm_cert.specs.RunTexts.{Run}
 use Rattle.dm_input.specs.declared.flaws.File.{File}
 use Rattle.dm_input.specs.declared.flaws.InputFlaw.{InputFlaw}
 use Rattle.dm_outside.specs.Printing.{TakesAll, TakesFront}
@@ -13,37 +15,41 @@ use Rattle.dm_program.specs.declared.status.Status.{Status}
 use Rattle.dm_program.specs.declared.status.Status.TheVariants.{Ok, Usage, Refused, ReadFault, WriteFault, NoMemory}
 use Rattle.dm_program.specs.Served.{AsksServed, AsksNothingServed}
 use Rattle.dm_program.specs.Headline.{IsRunOf}
+use Rattle.dm_program.specs.Generated.{IsSummaryFor}
 
 -- the words ask for nothing
-pub record IsUsage (words : List (List ℕ)) (text : List ℕ) : Type 0 where
+pub record IsUsage (end_boards : Option Run → Type 0) (words : List (List ℕ)) (text : List ℕ) : Type 0 where
   pub outside : AsksNothingServed words
   pub line : text ≡ usage_line
+  pub boards : end_boards None
 
 -- what is refused first, of bytes that are those that the shelf tells
-pub record IsRefusal (told : Told) (words : List (List ℕ)) (text : List ℕ) : Type 0 where
+pub record IsRefusal (told : Told) (end_boards : Option Run → Type 0) (words : List (List ℕ)) (text : List ℕ) : Type 0 where
   pub asked : RunAsked
   pub is_asked : AsksServed words (RunOf asked)
   pub flaw : InputFlaw
   pub refusal : OpeningAnswer told asked.files (Err flaw)
   pub line : text ≡ refused_line asked.files flaw
+  pub boards : end_boards None
 
 -- a file that the shelf does not tell sound, where nothing is refused before it
-pub record IsReadFault (told : Told) (is_sound : List ℕ → Type 0) (words : List (List ℕ)) (text : List ℕ) : Type 0 where
+pub record IsReadFault (told : Told) (is_sound : List ℕ → Type 0) (end_boards : Option Run → Type 0) (words : List (List ℕ)) (text : List ℕ) : Type 0 where
   pub asked : RunAsked
   pub is_asked : AsksServed words (RunOf asked)
   pub file : File
   pub unread : IsUnread told is_sound asked.files file
   pub line : text ≡ read_fault_line asked.files file
+  pub boards : end_boards None
 
--- The text that is due at a status; a write fault and want of memory have none of their own. A run whose feeds did not all
--- end well has its whole text.
-abbrev pub IsDue : Told → (List ℕ → Type 0) → List (List ℕ) → Status → List ℕ → Type 0
-IsDue told is_sound words Ok text = IsRunOf told is_sound words Ok text
-IsDue told is_sound words Usage text = IsUsage words text
-IsDue told is_sound words Refused text = IsRefusal told words text ⊎ IsRunOf told is_sound words Refused text
-IsDue told is_sound words ReadFault text = IsReadFault told is_sound words text ⊎ IsRunOf told is_sound words ReadFault text
-IsDue told is_sound words WriteFault text = ⊥
-IsDue told is_sound words NoMemory text = ⊥
+-- The text that is due at a status, of a run or of a generated day; a write fault and want of memory have none of their own.
+-- A run whose feeds did not all end well has its whole text.
+abbrev pub IsDue : Told → (List ℕ → Type 0) → (Option Run → Type 0) → List (List ℕ) → Status → List ℕ → Type 0
+IsDue told is_sound end_boards words Ok text = IsRunOf told is_sound end_boards words Ok text ⊎ IsSummaryFor end_boards words text
+IsDue told is_sound end_boards words Usage text = IsUsage end_boards words text
+IsDue told is_sound end_boards words Refused text = IsRefusal told end_boards words text ⊎ IsRunOf told is_sound end_boards words Refused text
+IsDue told is_sound end_boards words ReadFault text = IsReadFault told is_sound end_boards words text ⊎ IsRunOf told is_sound end_boards words ReadFault text
+IsDue told is_sound end_boards words WriteFault text = ⊥
+IsDue told is_sound end_boards words NoMemory text = ⊥
 
 -- a text for which P holds was appended
 pub record Writes (before now : Option (List ℕ)) (P : List ℕ → Type 0) : Type 0 where
@@ -65,10 +71,10 @@ pub record WantsMemory (before now : Option (List ℕ)) (words : List (List ℕ)
   pub kept : Keeps before now
 
 -- how a run ends, by its status
-abbrev pub Ends : {K : Type 0} → (K → Option (List ℕ)) → (K → ℕ) → Told → (List ℕ → Type 0) → List (List ℕ) → K → K → Status → Type 0
-Ends taken faults told is_sound words before now WriteFault = FailsToWrite taken faults before now (IsDue told is_sound words)
-Ends taken faults told is_sound words before now NoMemory = WantsMemory (taken before) (taken now) words
-Ends taken faults told is_sound words before now status = Writes (taken before) (taken now) (IsDue told is_sound words status)
+abbrev pub Ends : {K : Type 0} → (K → Option (List ℕ)) → (K → ℕ) → Told → (List ℕ → Type 0) → (Option Run → Type 0) → List (List ℕ) → K → K → Status → Type 0
+Ends taken faults told is_sound end_boards words before now WriteFault = FailsToWrite taken faults before now (IsDue told is_sound end_boards words)
+Ends taken faults told is_sound end_boards words before now NoMemory = WantsMemory (taken before) (taken now) words
+Ends taken faults told is_sound end_boards words before now status = Writes (taken before) (taken now) (IsDue told is_sound end_boards words status)
 
 -- the text was written whole, and the status is the one of that, or the sink failed
 abbrev pub EndsAs : {K : Type 0} → (K → Option (List ℕ)) → (K → ℕ) → K → K → List ℕ → Status → Status → Type 0

@@ -1,12 +1,13 @@
 //! The top call: what the words of a command line ask for, from files and feeds to the text that is written.
 //!
 //! It stands on dm_words for words, on dm_input for files, on dm_crew for feeds that are answered at once in rounds, on dm_search
-//! for plans, and on dm_report for the text. [`dispatch`] promises in `specs/Headline`
-//! what a run prints, and in `specs/Ends` why it ends otherwise.
+//! for plans, on dm_report for the text, and on dm_summary for generated days. [`dispatch`] promises in `specs/Headline`
+//! what a run prints, in `specs/Generated` what a generated day does, and in `specs/Ends` why it ends otherwise.
 #![tactic(auto)]
 
 mod ends;
 mod feeds;
+mod generate;
 mod planner;
 mod print;
 mod run;

@@ -15,9 +15,9 @@ use dm_report::{Run, print_run};
 
 /// Prints a run that is answered.
 pub fn end_run<K: Sink>(answered: &AnsweredDay<'_>, out: &mut K) -> Status
-    requires { IsSpelledRun (run_in answered.now.table answered.now.logs.items) }
-    ensures ends { EndsAs K.taken K.faults out.old out.new (run_text 2 (run_in answered.now.table answered.now.logs.items)) (status_of answered.now.logs.items) result }
-    ensures fits { FitsRun (run_in answered.now.table answered.now.logs.items) }
+    requires { IsSpelledRun (run_in answered.now.table answered.now.logs.items answered.now.publisher.notes) }
+    ensures ends { EndsAs K.taken K.faults out.old out.new (run_text 2 (run_in answered.now.table answered.now.logs.items answered.now.publisher.notes)) (status_of answered.now.logs.items) result }
+    ensures fits { FitsRun (run_in answered.now.table answered.now.logs.items answered.now.publisher.notes) }
 {
     let table = &answered.table;
     let run = Run {
@@ -25,7 +25,7 @@ pub fn end_run<K: Sink>(answered: &AnsweredDay<'_>, out: &mut K) -> Status
         penalty: table.penalty(),
         history: table.history(),
         logs: answered.logs.as_slice(),
-        notes: &[],
+        notes: answered.publisher.notes(),
         times: table.times(),
         cost: table.cost_now(),
     };

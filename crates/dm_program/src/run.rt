@@ -1,14 +1,15 @@
 //! A run, from its words to the text of its answered feeds.
 
-ghost use Rattle.std.specs.Prelude.{◌≡◌, ◌<◌, ◌≤◌, ℕ, List, length, IfOk};
-ghost use Rattle.dm_base.specs.declared.limits.TheConstants.{FEEDS, PENALTY};
+ghost use Rattle.std.specs.Prelude.{◌≡◌, ◌<◌, ◌≤◌, ℕ, List, length, map, vec_len, IfOk};
+ghost use Rattle.dm_base.specs.declared.limits.TheConstants.{BOARDS, FEEDS, PENALTY};
 ghost use Rattle.dm_rows.specs.Rows.{IsSized};
 ghost use Rattle.dm_crew.specs.AtOnce.{AnswersDay};
+ghost use Rattle.dm_crew.specs.Boards.{AreShown};
 ghost use Rattle.dm_input.specs.Stops.{IsKept};
 ghost use Rattle.dm_words.specs.Asked.{run_of};
-ghost use Rattle.dm_words.specs.Words.{RunOf};
+ghost use Rattle.dm_words.specs.Words.{Asks, RunOf};
+ghost use Rattle.dm_program.specs.Boards.{EndBoards};
 ghost use Rattle.dm_program.specs.Ends.{Ends};
-ghost use Rattle.dm_program.specs.Served.{AsksServed};
 ghost use Rattle.dm_program.specs.Inside.Stages.{AreWithin, IsAtStart};
 
 use crate::ends::end_stopped;
@@ -20,26 +21,29 @@ use dm_crew::{AnsweredDay, answer_at_once};
 use dm_desk::Hold;
 use dm_input::{Opened, read_opening};
 use dm_network::Network;
-use dm_outside::{Shelf, Sink, Source};
+use dm_outside::{Board, Shelf, Sink, Source};
 use dm_rows::Rows;
 use dm_words::RunWords;
 use std::alloc::{AllocError, Global};
 use std::sync::Wait;
 use std::thread::Threads;
 
-/// Reads the files of a run, opens and answers its feeds, and prints it.
+/// Reads the files of a run, opens and answers its feeds, shows boards the times, and prints it.
 pub fn run_feeds<R: Threads + Wait + Sync, H: Shelf, K: Sink, G: Hold + Sync>(
     rt: &R,
     alloc: Global,
     run: &RunWords<'_>,
     shelf: &mut H,
+    boards: &mut Vec<Box<dyn Board>>,
     gate: &G,
     out: &mut K,
 ) -> Status
     requires within { AreWithin (run_of run.now) }
-    ensures ends { (words : List (List ℕ)) → AsksServed words (RunOf (run_of run.now)) → Ends K.taken K.faults (H.files shelf.old) (H.is_sound shelf.old) words out.old out.new result }
+    requires few_boards { vec_len boards.old ≤ BOARDS }
+    ensures ends { (words : List (List ℕ)) → Asks words (RunOf (run_of run.now)) → Ends K.taken K.faults (H.files shelf.old) (H.is_sound shelf.old) (EndBoards place times (λ b. (Board-box b).faults b.value) (λ b. (Board-box b).is_sound b.value) boards.old.items boards.new.items) words out.old out.new result }
     ensures kept { IsKept H.files H.is_sound shelf.old shelf.new }
     ensures later { K.faults out.old ≤ K.faults out.new }
+    ensures stops { map place boards.new.items ≡ map place boards.old.items }
 {
     let opened = match read_opening(alloc, shelf, &run.files) {
         Ok(opened) => opened,
@@ -61,6 +65,7 @@ pub fn run_feeds<R: Threads + Wait + Sync, H: Shelf, K: Sink, G: Hold + Sync>(
         feeds,
         gate,
         run.batch as u32,
+        boards,
     );
     match answered {
         Ok(answered) => end_run(&answered, out),
@@ -69,6 +74,7 @@ pub fn run_feeds<R: Threads + Wait + Sync, H: Shelf, K: Sink, G: Hold + Sync>(
 }
 
 /// Answers feeds over a network in rounds, from the rows before any message, each feed of a round in a thread of its own.
+/// Boards are shown the times before the first round and after each.
 pub fn answer_run<'n, R: Threads + Wait + Sync, S: Source + Send + Drop, H: Hold + Sync>(
     rt: &R,
     alloc: Global,
@@ -78,13 +84,17 @@ pub fn answer_run<'n, R: Threads + Wait + Sync, S: Source + Send + Drop, H: Hold
     feeds: Vec<Option<S>>,
     gate: &H,
     batch: u32,
+    boards: &mut Vec<Box<dyn Board>>,
 ) -> Result<AnsweredDay<'n>, AllocError>
     requires sized { IsSized net.now rows }
     requires start { IsAtStart net.now rows }
     requires penalty { penalty ≤ PENALTY }
     requires few { length feeds.items ≤ FEEDS }
     requires some { 0 < batch }
-    ensures { IfOk result (λ day. AnswersDay S.left S.is_sound net.now rows penalty feeds.items batch day.table day.logs.items) }
+    requires few_boards { vec_len boards.old ≤ BOARDS }
+    ensures answers { IfOk result (λ day. AnswersDay S.left S.is_sound net.now rows penalty feeds.items batch day.table day.logs.items) }
+    ensures shown { IfOk result (λ day. AreShown place times (λ b. (Board-box b).faults b.value) (λ b. (Board-box b).is_sound b.value) net.now day.table.times (length day.table.history) day.publisher.notes boards.old.items boards.new.items) }
+    ensures stops { map place boards.new.items ≡ map place boards.old.items }
 {
     net.sound();
     let planner = OwnThread {
@@ -92,5 +102,7 @@ pub fn answer_run<'n, R: Threads + Wait + Sync, S: Source + Send + Drop, H: Hold
         net,
         penalty,
     };
-    answer_at_once(rt, alloc, net, rows, penalty, feeds, &planner, gate, batch)
+    answer_at_once(
+        rt, alloc, net, rows, penalty, feeds, &planner, gate, batch, boards,
+    )
 }

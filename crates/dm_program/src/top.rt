@@ -1,22 +1,24 @@
 //! The top call.
 ghost use Rattle.std.specs.Prelude.{◌≡◌, ◌⊎◌, ◌≤◌, ℕ, List, Ok, Err, IsSome, map, string_bytes, vec_len};
+ghost use Rattle.dm_base.specs.declared.limits.TheConstants.{BOARDS};
 ghost use Rattle.dm_outside.specs.Faults.{HasRisen};
 ghost use Rattle.dm_input.specs.declared.flaws.InputFlaw.{InputFlaw as AFlaw};
 ghost use Rattle.dm_input.specs.Input.{Opening, OpeningAnswer};
 ghost use Rattle.dm_input.specs.Stops.{IsKept};
-ghost use Rattle.dm_words.specs.Asked.{run_of, command_of};
-ghost use Rattle.dm_words.specs.Words.{Asks, RunAsked, RunOf};
+ghost use Rattle.dm_words.specs.Asked.{command_of};
+ghost use Rattle.dm_words.specs.Words.{Asks, GenAsked, GenOf, RunAsked, RunOf};
 ghost use Rattle.dm_program.specs.Served.{AsksServed, AsksNothingServed};
-ghost use Rattle.dm_program.specs.Headline.{IsRunOf};
+ghost use Rattle.dm_program.specs.Boards.{EndBoards};
 ghost use Rattle.dm_program.specs.Ends.{IsDue, Writes, FailsToWrite, WantsMemory, EndsAt, AreSound, AreShort, Ends};
-ghost use Rattle.dm_program.specs.Inside.Stages.{AreWithin, IsWithin};
+ghost use Rattle.dm_program.specs.Inside.Stages.{IsWithin};
 
 use crate::ends::end_usage;
+use crate::generate::generate;
 use crate::run::run_feeds;
 use crate::status::Status;
 use dm_desk::Hold;
 use dm_outside::{Board, Gate, Shelf, Sink};
-use dm_words::{CommandWords, RunWords, read_words};
+use dm_words::{CommandWords, read_words};
 use std::alloc::Global;
 use std::sync::Wait;
 use std::thread::Threads;
@@ -31,17 +33,22 @@ pub fn dispatch<R: Threads + Wait + Sync, H: Shelf, K: Sink, G: Gate>(
     gate: &G,
     out: &mut K,
 ) -> Status
-    requires { vec_len boards.old ≡ 0 }
+    requires { vec_len boards.old ≤ BOARDS }
 
-    // The text is that of a run whose journal, logs, times and cost are true, and whose feeds all ended well.
-    ensures headline { result ≡ Status.Ok → Writes (K.taken out.old) (K.taken out.new) (IsRunOf (H.files shelf.old) (H.is_sound shelf.old) (map string_bytes words.now) Status.Ok) }
+    // The text is that of a run whose journal, logs, notes, times and cost are true, and whose feeds all ended well, or the
+    // summary of a generated day. Each board that no note names shows the final times of its stop. At every end without a run
+    // the boards are as before.
+    ensures headline { result ≡ Status.Ok → Writes (K.taken out.old) (K.taken out.new) (IsDue (H.files shelf.old) (H.is_sound shelf.old) (EndBoards place times (λ b. (Board-box b).faults b.value) (λ b. (Board-box b).is_sound b.value) boards.old.items boards.new.items) (map string_bytes words.now) Status.Ok) }
 
     // Each other status has its cause. Where a feed alone is the cause, the text is that of a run too.
-    ensures usage { result ≡ Status.Usage → Writes (K.taken out.old) (K.taken out.new) (IsDue (H.files shelf.old) (H.is_sound shelf.old) (map string_bytes words.now) Status.Usage) }
-    ensures refused { result ≡ Status.Refused → Writes (K.taken out.old) (K.taken out.new) (IsDue (H.files shelf.old) (H.is_sound shelf.old) (map string_bytes words.now) Status.Refused) }
-    ensures read_fault { result ≡ Status.ReadFault → Writes (K.taken out.old) (K.taken out.new) (IsDue (H.files shelf.old) (H.is_sound shelf.old) (map string_bytes words.now) Status.ReadFault) }
-    ensures write_fault { result ≡ Status.WriteFault → FailsToWrite K.taken K.faults out.old out.new (IsDue (H.files shelf.old) (H.is_sound shelf.old) (map string_bytes words.now)) }
+    ensures usage { result ≡ Status.Usage → Writes (K.taken out.old) (K.taken out.new) (IsDue (H.files shelf.old) (H.is_sound shelf.old) (EndBoards place times (λ b. (Board-box b).faults b.value) (λ b. (Board-box b).is_sound b.value) boards.old.items boards.new.items) (map string_bytes words.now) Status.Usage) }
+    ensures refused { result ≡ Status.Refused → Writes (K.taken out.old) (K.taken out.new) (IsDue (H.files shelf.old) (H.is_sound shelf.old) (EndBoards place times (λ b. (Board-box b).faults b.value) (λ b. (Board-box b).is_sound b.value) boards.old.items boards.new.items) (map string_bytes words.now) Status.Refused) }
+    ensures read_fault { result ≡ Status.ReadFault → Writes (K.taken out.old) (K.taken out.new) (IsDue (H.files shelf.old) (H.is_sound shelf.old) (EndBoards place times (λ b. (Board-box b).faults b.value) (λ b. (Board-box b).is_sound b.value) boards.old.items boards.new.items) (map string_bytes words.now) Status.ReadFault) }
+    ensures write_fault { result ≡ Status.WriteFault → FailsToWrite K.taken K.faults out.old out.new (IsDue (H.files shelf.old) (H.is_sound shelf.old) (EndBoards place times (λ b. (Board-box b).faults b.value) (λ b. (Board-box b).is_sound b.value) boards.old.items boards.new.items) (map string_bytes words.now)) }
     ensures no_memory { result ≡ Status.NoMemory → WantsMemory (K.taken out.old) (K.taken out.new) (map string_bytes words.now) }
+
+    // Nothing of a generated day is refused: words that ask for one end well, but for a write fault and want of memory.
+    ensures generated { (asked : GenAsked) → AsksServed (map string_bytes words.now) (GenOf asked) → (result ≡ Status.Ok) ⊎ ((result ≡ Status.WriteFault) ⊎ (result ≡ Status.NoMemory)) }
 
     // Words that ask for nothing come to the usage line, but for a write fault.
     ensures outside { AsksNothingServed (map string_bytes words.now) → (result ≡ Status.Usage) ⊎ (result ≡ Status.WriteFault) }
@@ -55,12 +62,13 @@ pub fn dispatch<R: Threads + Wait + Sync, H: Shelf, K: Sink, G: Gate>(
         → OpeningAnswer (H.files shelf.old) asked.files (Ok opening) → AreShort (H.files shelf.old) asked → AreSound (H.is_sound shelf.old) asked
         → (HasRisen (K.faults out.old) (K.faults out.new) → ⊥) → (result ≡ Status.Ok) ⊎ (result ≡ Status.NoMemory) }
 
-    // Whatever the status, the shelf tells what it told, the sink's count has not fallen and the list has its boards.
+    // Whatever the status, the shelf tells what it told, the sink's count has not fallen and the list has its
+    // boards in their order.
     ensures shelf_kept { IsKept H.files H.is_sound shelf.old shelf.new }
     ensures later { K.faults out.old ≤ K.faults out.new }
-    ensures boards_kept { boards.new ≡ boards.old }
+    ensures boards_kept { map place boards.new.items ≡ map place boards.old.items }
 {
-    run(rt, alloc, words, shelf, gate, out)
+    run(rt, alloc, words, shelf, boards, gate, out)
 }
 
 /// Does what the words ask.
@@ -69,15 +77,18 @@ fn run<R: Threads + Wait + Sync, H: Shelf, K: Sink, G: Hold + Sync>(
     alloc: Global,
     words: &[String],
     shelf: &mut H,
+    boards: &mut Vec<Box<dyn Board>>,
     gate: &G,
     out: &mut K,
 ) -> Status
-    ensures ends { Ends K.taken K.faults (H.files shelf.old) (H.is_sound shelf.old) (map string_bytes words.now) out.old out.new result }
+    requires few_boards { vec_len boards.old ≤ BOARDS }
+    ensures ends { Ends K.taken K.faults (H.files shelf.old) (H.is_sound shelf.old) (EndBoards place times (λ b. (Board-box b).faults b.value) (λ b. (Board-box b).is_sound b.value) boards.old.items boards.new.items) (map string_bytes words.now) out.old out.new result }
     ensures kept { IsKept H.files H.is_sound shelf.old shelf.new }
     ensures later { K.faults out.old ≤ K.faults out.new }
+    ensures stops { map place boards.new.items ≡ map place boards.old.items }
 {
     match read_words(words) {
-        Some(command) => do_command(rt, alloc, &command, shelf, gate, out),
+        Some(command) => do_command(rt, alloc, &command, shelf, boards, gate, out),
         None => end_usage(out),
     }
 }
@@ -88,37 +99,20 @@ fn do_command<R: Threads + Wait + Sync, H: Shelf, K: Sink, G: Hold + Sync>(
     alloc: Global,
     command: &CommandWords<'_>,
     shelf: &mut H,
+    boards: &mut Vec<Box<dyn Board>>,
     gate: &G,
     out: &mut K,
 ) -> Status
     requires within { IsWithin (command_of command.now) }
-    ensures ends { (words : List (List ℕ)) → Asks words (command_of command.now) → Ends K.taken K.faults (H.files shelf.old) (H.is_sound shelf.old) words out.old out.new result }
+    requires few_boards { vec_len boards.old ≤ BOARDS }
+    ensures ends { (words : List (List ℕ)) → Asks words (command_of command.now) → Ends K.taken K.faults (H.files shelf.old) (H.is_sound shelf.old) (EndBoards place times (λ b. (Board-box b).faults b.value) (λ b. (Board-box b).is_sound b.value) boards.old.items boards.new.items) words out.old out.new result }
     ensures kept { IsKept H.files H.is_sound shelf.old shelf.new }
     ensures later { K.faults out.old ≤ K.faults out.new }
+    ensures stops { map place boards.new.items ≡ map place boards.old.items }
 {
     match command {
-        CommandWords::Run(run) => do_run(rt, alloc, run, shelf, gate, out),
+        CommandWords::Run(run) => run_feeds(rt, alloc, run, shelf, boards, gate, out),
         CommandWords::Check(_) => end_usage(out),
-        CommandWords::Gen(_) => end_usage(out),
+        CommandWords::Gen(day) => generate(alloc, day, out),
     }
-}
-
-/// Does a run that has no boards.
-fn do_run<R: Threads + Wait + Sync, H: Shelf, K: Sink, G: Hold + Sync>(
-    rt: &R,
-    alloc: Global,
-    run: &RunWords<'_>,
-    shelf: &mut H,
-    gate: &G,
-    out: &mut K,
-) -> Status
-    requires within { AreWithin (run_of run.now) }
-    ensures ends { (words : List (List ℕ)) → Asks words (RunOf (run_of run.now)) → Ends K.taken K.faults (H.files shelf.old) (H.is_sound shelf.old) words out.old out.new result }
-    ensures kept { IsKept H.files H.is_sound shelf.old shelf.new }
-    ensures later { K.faults out.old ≤ K.faults out.new }
-{
-    if run.boards.len() > 0 {
-        return end_usage(out);
-    }
-    run_feeds(rt, alloc, run, shelf, gate, out)
 }

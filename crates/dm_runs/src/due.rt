@@ -23,6 +23,9 @@ pub enum Outcome {
     /// The first line of its text, from 1, that is not that of the first text that is due.
     Line(usize),
 
+    /// The first board, from 1, that does not show what it is to show.
+    Board(usize),
+
     /// No file has a text that is due.
     NothingDue,
 }

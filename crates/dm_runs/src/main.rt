@@ -3,15 +3,21 @@
 //! It reads the file `cases`, a case a line: its name, the folder of its network, the status, and the words of the command
 //! line. A name that `dispatch` opens is looked for in the case's own folder under `runs`, and then in the network's under
 //! `networks`. What is due stands beside the case's own files as `text`; where any one of several texts is right, the
-//! others are `text-2`, `text-3` and so on. For each case it prints `NAME ok`, or what differs.
+//! others are `text-2`, `text-3` and so on. The case's boards stand there as `boards`, a board a line, with what each is to show
+//! in the end. For each case it prints `NAME ok`, or what differs.
 #![tactic(auto)]
 
+ghost use Rattle.std.specs.Prelude.{◌≤◌, vec_len, IfOk};
+ghost use Rattle.dm_base.specs.declared.limits.TheConstants.{BOARDS};
+
+mod boards;
 mod case;
 mod due;
 mod shelf;
 
+use boards::{BoardCase, in_memory, read_boards};
 use case::Case;
-use dm_outside::{MemSink, OpenGate};
+use dm_outside::{Board, MemSink, OpenGate};
 use dm_program::dispatch;
 use due::{Outcome, outcome_of, read_file};
 use shelf::CaseShelf;
@@ -52,28 +58,79 @@ fn report<R: Print + AllocGlobal + Files<File = File> + Threads + Wait + Sync>(
         Ok(Outcome::Right) => println!(rt; "{name} ok"),
         Ok(Outcome::Status(status)) => println!(rt; "{name} ends with status {status}"),
         Ok(Outcome::Line(number)) => println!(rt; "{name} differs at line {number}"),
+        Ok(Outcome::Board(number)) => println!(rt; "{name} has another board {number}"),
         Ok(Outcome::NothingDue) => println!(rt; "{name} has no text that is due"),
         Err(AllocError) => println!(rt; "{name} has no memory"),
     }
 }
 
-/// Calls `dispatch` for a case and compares what it leaves.
+/// Runs a case over boards in memory, and compares what it leaves.
 fn run<R: Print + AllocGlobal + Files<File = File> + Threads + Wait + Sync>(
     rt: &R,
     case: &Case<'_>,
 ) -> Result<Outcome, AllocError> {
     let alloc = rt.alloc();
+    let due = boards_of(rt, case)?;
+    let mut boards: Vec<Box<dyn Board>> = Vec::new(alloc);
+    for board in &due {
+        boards.push(Box::new(alloc, in_memory(alloc, board)?)?)?;
+    }
+    let outcome = run_over(rt, case, &mut boards)?;
+    Ok(with_boards(outcome, &boards, &due))
+}
+
+/// Calls `dispatch` for a case, and compares its status and its text.
+fn run_over<R: Print + AllocGlobal + Files<File = File> + Threads + Wait + Sync>(
+    rt: &R,
+    case: &Case<'_>,
+    boards: &mut Vec<Box<dyn Board>>,
+) -> Result<Outcome, AllocError>
+    requires { vec_len boards.old ≤ BOARDS }
+{
+    let alloc = rt.alloc();
     let mut shelf = CaseShelf::new(rt, alloc, case)?;
-    let mut boards = Vec::new(alloc);
     let mut sink = MemSink::new(alloc, ROOM, ROOM, Vec::new(alloc))?;
     let status = dispatch(
         rt,
         alloc,
         case.words.as_slice(),
         &mut shelf,
-        &mut boards,
+        boards,
         &OpenGate,
         &mut sink,
     );
     outcome_of(rt, case, status as u8, sink.taken())
+}
+
+/// The boards of a case.
+fn boards_of<R: AllocGlobal + Files<File = File>>(
+    rt: &R,
+    case: &Case<'_>,
+) -> Result<Vec<BoardCase>, AllocError>
+    ensures { IfOk result (λ boards. vec_len boards ≤ BOARDS) }
+{
+    let name = case.name;
+    let path = format!(in rt.alloc(); "runs/{name}/boards")?;
+    let Some(listing) = read_file(rt, &path) else {
+        return Ok(Vec::new(rt.alloc()));
+    };
+    match str::from_utf8(&listing) {
+        Ok(listing) => read_boards(rt.alloc(), listing),
+        Err(_) => Ok(Vec::new(rt.alloc())),
+    }
+}
+
+/// How a case came out, with what its boards show.
+fn with_boards(outcome: Outcome, boards: &[Box<dyn Board>], due: &[BoardCase]) -> Outcome {
+    if outcome != Outcome::Right {
+        return outcome;
+    }
+    let mut number = 0usize;
+    for (board, due) in boards.iter().zip(due) {
+        number = number.saturating_add(1);
+        if !due.is_shown_on(board) {
+            return Outcome::Board(number);
+        }
+    }
+    outcome
 }

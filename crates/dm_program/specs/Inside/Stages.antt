@@ -1,5 +1,5 @@
 -- Stages of a run.
-use Rattle.std.specs.Prelude.{ℕ, ◌≡◌, ◌+◌, ◌^◌, ◌<◌, ◌≤◌, List, [], length, map, slice_get, ◌++◌, ◌∷◌, Option, Some, None, Result, Ok, Err}
+use Rattle.std.specs.Prelude.{ℕ, ◌≡◌, ◌^◌, ◌<◌, ◌≤◌, List, length, slice_get, Option, Some, None}
 use Rattle.dm_base.specs.declared.limits.TheConstants.{FEEDS, PENALTY}
 use Rattle.dm_base.specs.declared.rows.DelayRow.{DelayRow}
 use Rattle.dm_input.specs.Input.{Told, IsHeld}
@@ -11,11 +11,13 @@ use Rattle.dm_network.specs.Net.{Net}
 use Rattle.dm_rows.specs.Rows.{RowsValue, start_rows_of}
 use Rattle.dm_rows.specs.Cost.{cost_of}
 use Rattle.dm_cert.specs.declared.replies.FeedLog.{FeedLog}
+use Rattle.dm_cert.specs.declared.notes.Note.{Note}
 use Rattle.dm_cert.specs.RunTexts.{Run}
 use Rattle.dm_table.specs.Value.{TableValue}
 use Rattle.dm_program.specs.declared.status.Status.{Status}
 use Rattle.dm_program.specs.declared.status.Status.TheVariants.{Refused as IsRefused, ReadFault as IsReadFault, NoMemory as WantsMore}
 use Rattle.dm_program.specs.Ends.{EndsAs}
+use Rattle.dm_program.specs.Inside.Generating.{IsDayWithin}
 
 -- the rows are those at the start, of some delays
 pub record IsAtStart (net : Net) (rows : RowsValue) : Type 0 where
@@ -36,7 +38,7 @@ pub record AreWithin (asked : RunAsked) : Type 0 where
 abbrev pub IsWithin : Command → Type 0
 IsWithin (RunOf asked) = AreWithin asked
 IsWithin (CheckOf asked) = Unit {0}
-IsWithin (GenOf asked) = Unit {0}
+IsWithin (GenOf asked) = IsDayWithin asked
 
 -- ---- feeds
 
@@ -62,14 +64,14 @@ pub record AreOpened {S : Type 0} (left : S → Option (List ℕ)) (source_sound
 -- ---- runs
 
 -- what is printed of a run
-abbrev pub run_in : TableValue → List FeedLog → Run
-run_in table logs =
+abbrev pub run_in : TableValue → List FeedLog → List Note → Run
+run_in table logs notes =
     record {
       net = table.network;
       penalty = table.penalty;
       history = table.history;
       logs = logs;
-      notes = [];
+      notes = notes;
       times = table.times;
       cost = cost_of table.network table.rows table.times table.penalty;
     }

@@ -1,6 +1,7 @@
 use Rattle.std.proofs.Common.{Global}
 use Rattle.std.specs.Prelude.{map, string_bytes}
 use Rattle.dm_program.proofs.Converse.{ends_outside, ends_at, ends_well}
+use Rattle.dm_program.proofs.Generated.{generated_ends}
 use Rattle.dm_program.proofs.top.dispatch.Goals as goal
 
 pub returns-clause-headline : goal.returns-clause-headline
@@ -23,12 +24,16 @@ returns-clause-no_memory g c = λ e. rw e at c.run.ensures.ends
 
 pub returns-clause-outside : goal.returns-clause-outside
 returns-clause-outside g c = λ outside.
-    ends_outside g.K.Sink.taken g.K.Sink.faults (g.H.Shelf.files c.args.shelf.now) (g.H.Shelf.is_sound c.args.shelf.now) (map (string_bytes {Z = Global}) c.args.words.now) c.args.out.now c.run.new.out outside c.run.result c.run.ensures.ends
+    ends_outside g.K.Sink.taken g.K.Sink.faults (g.H.Shelf.files c.args.shelf.now) (g.H.Shelf.is_sound c.args.shelf.now) _ (map (string_bytes {Z = Global}) c.args.words.now) c.args.out.now c.run.new.out outside c.run.result c.run.ensures.ends
+
+pub returns-clause-generated : goal.returns-clause-generated
+returns-clause-generated g c = λ asked asks.
+    generated_ends g.K.Sink.taken g.K.Sink.faults (g.H.Shelf.files c.args.shelf.now) (g.H.Shelf.is_sound c.args.shelf.now) _ (map (string_bytes {Z = Global}) c.args.words.now) c.args.out.now c.run.new.out asked asks c.run.result c.run.ensures.ends
 
 pub returns-clause-first_refusal : goal.returns-clause-first_refusal
 returns-clause-first_refusal g c = λ asked flaw asks known first.
-    ends_at g.K.Sink.taken g.K.Sink.faults (g.H.Shelf.files c.args.shelf.now) (g.H.Shelf.is_sound c.args.shelf.now) (map (string_bytes {Z = Global}) c.args.words.now) c.args.out.now c.run.new.out asked asks known flaw first c.run.result c.run.ensures.ends
+    ends_at g.K.Sink.taken g.K.Sink.faults (g.H.Shelf.files c.args.shelf.now) (g.H.Shelf.is_sound c.args.shelf.now) _ (map (string_bytes {Z = Global}) c.args.words.now) c.args.out.now c.run.new.out asked asks known flaw first c.run.result c.run.ensures.ends
 
 pub returns-clause-complete : goal.returns-clause-complete
 returns-clause-complete g c = λ asked opening asks known opens short sound unrisen.
-    ends_well g.K.Sink.taken g.K.Sink.faults (g.H.Shelf.files c.args.shelf.now) (g.H.Shelf.is_sound c.args.shelf.now) (map (string_bytes {Z = Global}) c.args.words.now) c.args.out.now c.run.new.out asked asks known opening opens short sound unrisen c.run.result c.run.ensures.ends
+    ends_well g.K.Sink.taken g.K.Sink.faults (g.H.Shelf.files c.args.shelf.now) (g.H.Shelf.is_sound c.args.shelf.now) _ (map (string_bytes {Z = Global}) c.args.words.now) c.args.out.now c.run.new.out asked asks known opening opens short sound unrisen c.run.result c.run.ensures.ends
