@@ -324,7 +324,7 @@ leaf_of_line line l is =
     let same : words l.node steps ≡ line = append_cancel_right (words l.node steps) line line_end (sym (leaf_spelled l.node l.path is.is_leaf) ∙ is.spelled) in
     ap leaf_in (sym same) ∙ leaf_back l.node steps is.is_leaf is.fits (path_ends l.path)
 
-leaf_one : SpellOne IsLeafLine
+pub leaf_one : SpellOne IsLeafLine
 leaf_one line l m p q =
     let same = some_pair l.node m.node (flat_map spelling_of_decision l.path) (flat_map spelling_of_decision m.path) (sym (leaf_of_line line l p) ∙ leaf_of_line line m q) in
     let path : l.path ≡ m.path = path_one l.path m.path p.path q.path same.1 in
@@ -359,7 +359,7 @@ fills_one (suc k) (path ∷ due) one other leaves short f g =
     let g1 = subst (λ (ls : List Leaf). FillsDue (path ∷ due) other ls) lies.are g in
     same_asked k (fills_one k) path due one other lies.first lies.others short (asks path due one lies.first lies.others f1) (asks path due other lies.first lies.others g1)
 
-leaves_show_one : (leaves : List Leaf) (one other : List Node) → ShowsLeaves leaves one → ShowsLeaves leaves other → one ≡ other
+pub leaves_show_one : (leaves : List Leaf) (one other : List Node) → ShowsLeaves leaves one → ShowsLeaves leaves other → one ≡ other
 leaves_show_one leaves one other p q = fills_one (length one) ([] ∷ []) one other leaves (omega arith) (fills_from one leaves p) (fills_from other leaves q)
 
 nodes_show_one : (read one other : List Node) → ShowsNodes read one → ShowsNodes read other → one ≡ other

@@ -1,0 +1,94 @@
+#!/usr/bin/env python3
+"""Times runs of a generated day: python3 bench/speed.py FOLDER DISPATCHER [BEFORE]
+
+FOLDER is a day that day.py wrote, DISPATCHER a built dispatcher and BEFORE another one, as of the commit before a change. Each
+row runs some feeds so often, and gives the least processor and wall time, and the ratio of the processor time to that of an
+empty feed. Then come the ratios that are bounded, each with its bound:
+
+    delays     a full feed of delays against an empty one          2.0
+    mixed      a full feed of mixed lines against an empty one     2.5
+    few        500 delays against an empty feed                    1.3
+    four       four feeds of as many lines in all against one      1.3
+    rounds     with --batch=1000, against BEFORE                   1.1
+    default    with the default batch, against BEFORE              1.5
+
+A ratio over its bound is marked, and the status is then 1.
+"""
+import os
+import resource
+import subprocess
+import sys
+import time
+
+REPEATS = 5
+
+# Name, feeds, further words.
+RUNS = [
+    ('empty', ['empty'], []),
+    ('few', ['delays'], []),
+    ('delays', ['full'], []),
+    ('mixed', ['mixed'], []),
+    ('questions', ['questions'], []),
+    ('rounds', ['full'], ['--batch=1000']),
+    ('four', ['quarter-1', 'quarter-2', 'quarter-3', 'quarter-4'], []),
+]
+
+
+def quarters(folder):
+    """Splits the full feed into four feeds of as many lines in all."""
+    with open(os.path.join(folder, 'full')) as file:
+        lines = file.readlines()
+    for number in range(4):
+        with open(os.path.join(folder, f'quarter-{number + 1}'), 'w') as file:
+            file.writelines(lines[number::4])
+
+
+def timed(program, folder, feeds, words):
+    """The processor and wall seconds of a run."""
+    command = [program, 'run', 'net', '--penalty=3600'] + words + feeds
+    before = resource.getrusage(resource.RUSAGE_CHILDREN)
+    start = time.monotonic()
+    subprocess.run(command, cwd=folder, stdout=subprocess.DEVNULL, check=True)
+    wall = time.monotonic() - start
+    after = resource.getrusage(resource.RUSAGE_CHILDREN)
+    return after.ru_utime + after.ru_stime - before.ru_utime - before.ru_stime, wall
+
+
+def least(program, folder, feeds, words):
+    runs = [timed(program, folder, feeds, words) for _ in range(REPEATS)]
+    return min(run[0] for run in runs), min(run[1] for run in runs)
+
+
+def table(title, program, folder):
+    """The processor seconds of each run."""
+    print(f'{title}:{"processor":>21}{"wall":>9}{"ratio":>8}')
+    seconds = {}
+    for name, feeds, words in RUNS:
+        used, wall = least(program, folder, feeds, words)
+        seconds[name] = used
+        print(f'  {name:<16}{used:>10.3f} s{wall:>7.3f} s{used / seconds["empty"]:>8.2f}')
+    return seconds
+
+
+def main():
+    folder, program = sys.argv[1], os.path.abspath(sys.argv[2])
+    quarters(folder)
+    now = table('now', program, folder)
+    ratios = [
+        ('delays', now['delays'] / now['empty'], 2.0),
+        ('mixed', now['mixed'] / now['empty'], 2.5),
+        ('few', now['few'] / now['empty'], 1.3),
+        ('four', now['four'] / now['delays'], 1.3),
+    ]
+    if len(sys.argv) > 3:
+        before = table('before', os.path.abspath(sys.argv[3]), folder)
+        ratios.append(('rounds', now['rounds'] / before['rounds'], 1.1))
+        ratios.append(('default', now['delays'] / before['delays'], 1.5))
+    over = [name for name, ratio, bound in ratios if ratio > bound]
+    for name, ratio, bound in ratios:
+        print(f'{name:<10}{ratio:6.2f} of {bound}{"  over" if name in over else ""}')
+    sys.exit(1 if over else 0)
+
+
+if __name__ == '__main__':
+    main()
