@@ -1,4 +1,5 @@
 pub mod Around
+pub mod AtClock
 pub mod Concerning
 pub mod FewRows
 pub mod Flagging

@@ -8,13 +8,12 @@ ghost use Rattle.dm_priced.specs.Priced.{IsPriced};
 ghost use Rattle.dm_propagate.specs.Engine.{FollowsRows};
 ghost use Rattle.dm_propagate.specs.Inside.Concern.{FollowsBut, LeadsAt, IsDecidedBefore};
 ghost use Rattle.dm_propagate.specs.Inside.Flags.{flags_of, AreFlagsOf, AreFlagsBut, SetsFlagsAt, SetsFlagsBy};
-ghost use Rattle.dm_propagate.specs.Inside.Changing.{Turns, IsTurnRefused, HasPassed, MarksFor};
+ghost use Rattle.dm_propagate.specs.Inside.Changing.{FollowsAt, Turns, IsTurnRefused, HasPassed, MarksFor};
 
 use crate::charging::{charge_by_flips, set_flags_at};
-use crate::turning::{
-    let_go_around, let_go_by_flips, set_floors, set_place, take_up_around, take_up_by_flips,
-};
-use dm_base::Steps;
+use crate::clock::move_clock;
+use crate::turning::{let_go_around, let_go_by_flips, set_place, take_up_around, take_up_by_flips};
+use dm_base::{Secs, Steps};
 use dm_graph::search::Cyclic;
 use dm_network::Network;
 use dm_priced::PricedTimetable;
@@ -103,12 +102,13 @@ pub fn turn_adopted<L: Ledger>(
 }
 
 /// Brings a timetable that follows rows, but for what a change concerns, to follow them altogether. Where the rows have a
-/// cycle, it follows them still but for that, and such a cycle is its last.
+/// cycle, it follows them still but for that, and such a cycle is its last. The clock that it follows is the earlier one.
 pub fn turn<L: Ledger>(
     priced: &mut PricedTimetable,
     net: &Network,
     rows: &Rows,
     change: &Change,
+    earlier: Secs,
     steps: &mut Steps<L>,
 ) -> Result<(), Cyclic>
     requires priced { IsPriced net.now priced.old }
@@ -116,12 +116,14 @@ pub fn turn<L: Ledger>(
     requires reaches { Reaches rows.now change.now }
     requires follows { FollowsBut net.now rows.now change.now priced.old.live.given }
     requires flags { AreFlagsBut net.now rows.now change.now (flags_of priced.old) }
+    requires clock { FollowsAt net.now rows.now change.now earlier priced.old.live.given }
     ensures priced { IsPriced net.now priced.new }
     ensures follows { OnOk result (FollowsRows net.now rows.now priced.new.live.given) }
     ensures flags { AreFlagsOf net.now rows.now (flags_of priced.new) }
     ensures cycle_stays { OnOk result (priced.new.live.order.cycle ≡ priced.old.live.order.cycle) }
     ensures followed { OnErr result (FollowsBut net.now rows.now change.now priced.new.live.given) }
     ensures cycle { OnErr result (IsCycle net.now rows.now priced.new.live.order.cycle) }
+    ensures clock { FollowsAt net.now rows.now change.now rows.now.clock priced.new.live.given }
     ensures marks { OnOk result (MarksFor net.now rows.now change.now priced.old.live priced.new.live steps.old steps.new) }
 {
     match change {
@@ -138,7 +140,7 @@ pub fn turn<L: Ledger>(
         Change::Flipped(flip) => turn_by_flips(priced, net, rows, &[*flip], steps),
         Change::Adopted(flips) => turn_adopted(priced, net, rows, flips.as_slice(), steps),
         Change::Clock { .. } => {
-            set_floors(priced, net, rows);
+            move_clock(priced, net, rows, earlier);
             Ok(())
         }
     }

@@ -10,6 +10,7 @@
 
 mod changing;
 mod charging;
+mod clock;
 mod engine;
 mod held;
 pub mod laws;

@@ -13,10 +13,10 @@ ghost use Rattle.dm_propagate.specs.Reading.{KeepsClock, ReadsFew};
 ghost use Rattle.dm_propagate.specs.Inside.Concern.{FollowsBut};
 ghost use Rattle.dm_propagate.specs.Inside.Altering.{change_in};
 ghost use Rattle.dm_propagate.specs.Inside.Flags.{flags_of, AreFlagsOf, AreFlagsBut};
-ghost use Rattle.dm_propagate.specs.Inside.Changing.{MarksFor};
+ghost use Rattle.dm_propagate.specs.Inside.Changing.{FollowsAt, MarksFor};
 
 use crate::changing::{turn, turn_adopted};
-use dm_base::Steps;
+use dm_base::{Secs, Steps};
 use dm_graph::search::Cyclic;
 use dm_network::Network;
 use dm_priced::PricedTimetable;
@@ -59,13 +59,13 @@ pub fn move_to<L: Ledger>(
     ensures few_reads { IsDelayPassOrClock (change_in what.now) → KeepsClock rows.now (change_in what.now) → ReadsFew net.now other.now (change_in what.now) priced.old.live.times priced.new.live.times steps.old steps.new }
 {
     net.sound();
-    match turn_to(priced, net, other, what, steps) {
+    match turn_to(priced, net, other, what, rows.clock(), steps) {
         Ok(()) => {
             priced.settle(net, steps);
             Ok(())
         }
         Err(Cyclic) => {
-            come_back(priced, net, rows, what, steps);
+            come_back(priced, net, rows, what, other.clock(), steps);
             Err(Cyclic)
         }
     }
@@ -98,17 +98,19 @@ pub fn try_rows<L: Ledger>(
     ensures cycle { OnErr result (IsCycle net.now other.now priced.new.live.order.cycle) }
 {
     net.sound();
-    let outcome = turn_to(priced, net, other, what, steps);
-    come_back(priced, net, rows, what, steps);
+    let outcome = turn_to(priced, net, other, what, rows.clock(), steps);
+    come_back(priced, net, rows, what, other.clock(), steps);
     outcome
 }
 
-/// Brings a timetable, which follows rows without a cycle but for what a change concerns, to follow them, and settles it.
+/// Brings a timetable, which follows rows without a cycle but for what a change concerns, to follow them, and settles it. The
+/// clock that it follows is the earlier one.
 fn come_back<L: Ledger>(
     priced: &mut PricedTimetable,
     net: &Network,
     rows: &Rows,
     what: &Alteration<'_>,
+    earlier: Secs,
     steps: &mut Steps<L>,
 )
     requires sized { IsSized net.now rows.now }
@@ -117,6 +119,7 @@ fn come_back<L: Ledger>(
     requires follows { FollowsBut net.now rows.now (change_in what.now) priced.old.live.given }
     requires no_cycle { HasNoCycle net.now rows.now }
     requires flags { AreFlagsBut net.now rows.now (change_in what.now) (flags_of priced.old) }
+    requires clock { FollowsAt net.now rows.now (change_in what.now) earlier priced.old.live.given }
     ensures priced { IsPriced net.now priced.new }
     ensures at_rest { IsAtRest priced.new.live }
     ensures follows { FollowsRows net.now rows.now priced.new.live.given }
@@ -125,19 +128,20 @@ fn come_back<L: Ledger>(
     ensures cycle_stays { priced.new.live.order.cycle ≡ priced.old.live.order.cycle }
 {
     net.sound();
-    let Ok(()) = turn_to(priced, net, rows, what, steps) else {
+    let Ok(()) = turn_to(priced, net, rows, what, earlier, steps) else {
         unreachable!();
     };
     priced.settle(net, steps);
 }
 
 /// Brings a timetable that follows rows, but for what a change concerns, to follow them altogether. Where the rows have a
-/// cycle, it follows them still but for that, and such a cycle is its last.
+/// cycle, it follows them still but for that, and such a cycle is its last. The clock that it follows is the earlier one.
 fn turn_to<L: Ledger>(
     priced: &mut PricedTimetable,
     net: &Network,
     rows: &Rows,
     what: &Alteration<'_>,
+    earlier: Secs,
     steps: &mut Steps<L>,
 ) -> Result<(), Cyclic>
     requires priced { IsPriced net.now priced.old }
@@ -145,16 +149,18 @@ fn turn_to<L: Ledger>(
     requires reaches { Reaches rows.now (change_in what.now) }
     requires follows { FollowsBut net.now rows.now (change_in what.now) priced.old.live.given }
     requires flags { AreFlagsBut net.now rows.now (change_in what.now) (flags_of priced.old) }
+    requires clock { FollowsAt net.now rows.now (change_in what.now) earlier priced.old.live.given }
     ensures priced { IsPriced net.now priced.new }
     ensures follows { OnOk result (FollowsRows net.now rows.now priced.new.live.given) }
     ensures flags { AreFlagsOf net.now rows.now (flags_of priced.new) }
     ensures cycle_stays { OnOk result (priced.new.live.order.cycle ≡ priced.old.live.order.cycle) }
     ensures followed { FollowsBut net.now rows.now (change_in what.now) priced.new.live.given }
     ensures cycle { OnErr result (IsCycle net.now rows.now priced.new.live.order.cycle) }
+    ensures clock { FollowsAt net.now rows.now (change_in what.now) rows.now.clock priced.new.live.given }
     ensures marks { OnOk result (MarksFor net.now rows.now (change_in what.now) priced.old.live priced.new.live steps.old steps.new) }
 {
     let outcome = match what {
-        Alteration::Change(change) => turn(priced, net, rows, change, steps),
+        Alteration::Change(change) => turn(priced, net, rows, change, earlier, steps),
         Alteration::Adoption(flips) => turn_adopted(priced, net, rows, flips, steps),
     };
     match outcome {

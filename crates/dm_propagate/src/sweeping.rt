@@ -6,15 +6,15 @@ ghost use Rattle.dm_priced.specs.Priced.{IsPriced};
 ghost use Rattle.dm_propagate.specs.Engine.{FollowsRows};
 ghost use Rattle.dm_propagate.specs.Inside.Flags.{flags_of};
 ghost use Rattle.dm_propagate.specs.Inside.Sweeping.{SpansTo};
+ghost use Rattle.dm_propagate.specs.Inside.Changing.{HasFloors};
 ghost use Rattle.dm_propagate.specs.Inside.Turning.{IsBelow, LetsGo, TakesUp, IsRefused};
 
 use crate::held::{let_go_one, take_up_one};
-use crate::turning::set_floors;
 use dm_graph::search::Cyclic;
 use dm_network::Network;
 use dm_priced::PricedTimetable;
 use dm_rows::Rows;
-use dm_times::span_of;
+use dm_times::{floor_of, span_of};
 
 /// Holds a timetable to rows. Where these have a cycle, it stays as it should be kept, and such a cycle is its last.
 pub fn follow(priced: &mut PricedTimetable, net: &Network, rows: &Rows) -> Result<(), Cyclic>
@@ -30,6 +30,19 @@ pub fn follow(priced: &mut PricedTimetable, net: &Network, rows: &Rows) -> Resul
     match take_up_all(priced, net, rows) {
         Ok(()) => Ok(()),
         Err(Cyclic) => Err(Cyclic),
+    }
+}
+
+/// Gives each event its floor by the rows.
+pub fn set_floors(priced: &mut PricedTimetable, net: &Network, rows: &Rows)
+    requires priced { IsPriced net.now priced.old }
+    requires sized { IsSized net.now rows.now }
+    ensures priced { IsPriced net.now priced.new }
+    ensures flags { flags_of priced.new ≡ flags_of priced.old }
+    ensures floors { HasFloors net.now rows.now (length net.now.events) priced.old.live priced.new.live }
+{
+    for i in 0..net.events() {
+        priced.set_floor(net, i, floor_of(net, rows, i));
     }
 }
 

@@ -10,7 +10,7 @@ ghost use Rattle.dm_propagate.specs.Inside.Flags.{flags_of};
 ghost use Rattle.dm_propagate.specs.Engine.{FollowsRows};
 ghost use Rattle.dm_propagate.specs.Inside.Concern.{FollowsBut, LeadsAt, IsDecided, IsDecidedBefore};
 ghost use Rattle.dm_propagate.specs.Inside.Turning.{Within, LetsGo, TakesUp, IsRefused};
-ghost use Rattle.dm_propagate.specs.Inside.Changing.{HasFloors, HasPlace};
+ghost use Rattle.dm_propagate.specs.Inside.Changing.{HasPlace};
 
 use crate::held::{let_go, take_up};
 use dm_base::Steps;
@@ -98,19 +98,6 @@ pub fn set_place<L: Ledger>(
     match rows.passed(event) {
         Some(time) => priced.fix(net, event, time, into, out, steps),
         None => priced.set_floor(net, event, floor_of(net, rows, event)),
-    }
-}
-
-/// Gives each event its floor by the rows.
-pub fn set_floors(priced: &mut PricedTimetable, net: &Network, rows: &Rows)
-    requires priced { IsPriced net.now priced.old }
-    requires sized { IsSized net.now rows.now }
-    ensures priced { IsPriced net.now priced.new }
-    ensures flags { flags_of priced.new ≡ flags_of priced.old }
-    ensures floors { HasFloors net.now rows.now (length net.now.events) priced.old.live priced.new.live }
-{
-    for i in 0..net.events() {
-        priced.set_floor(net, i, floor_of(net, rows, i));
     }
 }
 

@@ -1,3 +1,4 @@
+pub mod Between
 pub mod Early
 pub mod Given
 pub mod Going

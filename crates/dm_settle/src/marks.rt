@@ -16,17 +16,21 @@ pub struct Marks {
 
     /// Of each block of places whether it may have a mark.
     blocks: Vec<bool>,
+
+    /// No place before the start is marked, and none from the end on.
+    start: usize,
+    end: usize,
 }
 
 impl Model for Marks {
     ghost use Rattle.std.specs.Prelude.{List, Bool};
-    ghost use Rattle.dm_settle.specs.Inside.Blocks.{AreCovered};
+    ghost use Rattle.dm_settle.specs.Inside.Blocks.{AreCovered, AreBetween};
 
     ghost Value = { List Bool };
 
     ghost view = { λ m. m.flags.items };
 
-    ghost invariant = { λ m. AreCovered m.flags.items m.blocks.items };
+    ghost invariant = { λ m. AreCovered m.flags.items m.blocks.items × AreBetween m.flags.items m.start m.end };
 }
 
 impl Marks {
@@ -36,7 +40,12 @@ impl Marks {
     {
         let flags = vec![in alloc; false; events]?;
         let blocks = vec![in alloc; false; events / BLOCK + 1]?;
-        Ok(Marks { flags, blocks })
+        Ok(Marks {
+            flags,
+            blocks,
+            start: events,
+            end: 0,
+        })
     }
 
     /// The marks of an order of so many events, of which every one is marked.
@@ -45,7 +54,12 @@ impl Marks {
     {
         let flags = vec![in alloc; true; events]?;
         let blocks = vec![in alloc; true; events / BLOCK + 1]?;
-        Ok(Marks { flags, blocks })
+        Ok(Marks {
+            flags,
+            blocks,
+            start: 0,
+            end: events,
+        })
     }
 
     /// How many places there are.
@@ -56,30 +70,53 @@ impl Marks {
     }
 
     /// Marks a place.
+    #[tactic(auto, using(crate::proofs::Between::marked_between))]
     pub fn mark(&mut self, place: usize)
         requires { place < length self.old }
         ensures { self.new ≡ slice_set self.old place true }
     {
         self.blocks[place / BLOCK] = true;
         self.flags[place] = true;
+        self.start = self.start.min(place);
+        self.end = self.end.max(place + 1);
     }
 
     /// Takes the mark at a place away.
+    #[tactic(auto, using(crate::proofs::Between::cleared_between, crate::proofs::Between::cleared_first))]
     pub fn clear(&mut self, place: usize)
         requires { place < length self.old }
         ensures { self.new ≡ slice_set self.old place false }
     {
         self.flags[place] = false;
+        if place == self.start {
+            self.start = place + 1;
+        }
     }
 
-    /// The first place that is marked, from this one on.
+    /// The first place that is marked, from this one on. It costs what lies between the marks.
+    #[tactic(auto, using(crate::proofs::Between::first_earlier, crate::proofs::Between::none_earlier))]
     pub fn first_from(&mut self, from: usize) -> Option<usize>
         ensures same { self.new ≡ self.old }
         ensures first { IfSome result (IsFirstFrom self.old from) }
         ensures none { IfNone result (NoneFrom self.old from) }
     {
+        let (start, end) = (from.max(self.start), self.end);
+        let found = self.find(start, end);
+        self.narrow(from, found);
+        found
+    }
+
+    /// The first place that is marked, from this one on, where none is from the end on.
+    #[tactic(auto, using(crate::proofs::Between::none_from_least))]
+    fn find(&mut self, from: usize, end: usize) -> Option<usize>
+        requires { NoneFrom self.old end }
+        ensures same { self.new ≡ self.old }
+        ensures first { IfSome result (IsFirstFrom self.old from) }
+        ensures none { IfNone result (NoneFrom self.old from) }
+    {
+        let until = end.min(self.flags.len());
         let mut start = from;
-        while start < self.flags.len() {
+        while start < until {
             let found = self.first_in_block(start);
             if found.is_some() {
                 return found;
@@ -87,6 +124,24 @@ impl Marks {
             start = start / BLOCK * BLOCK + BLOCK;
         }
         None
+    }
+
+    /// Takes up where the marks begin and end, by the first place that is marked from one on.
+    #[tactic(auto, using(crate::proofs::Between::first_between, crate::proofs::Between::none_left, crate::proofs::Between::end_earlier))]
+    fn narrow(&mut self, from: usize, found: Option<usize>)
+        requires first { IfSome found (IsFirstFrom self.old from) }
+        requires none { IfNone found (NoneFrom self.old from) }
+        ensures { self.new ≡ self.old }
+    {
+        match found {
+            Some(place) if from <= self.start => self.start = place,
+            Some(_) => {}
+            None if from <= self.start => {
+                self.start = self.flags.len();
+                self.end = 0;
+            }
+            None => self.end = self.end.min(from),
+        }
     }
 
     /// The first marked place from this one on, of its block. A block with no mark is not looked through again.

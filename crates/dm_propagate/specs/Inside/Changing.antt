@@ -8,7 +8,7 @@ use Rattle.dm_rows.specs.Timetable.{floor_of}
 use Rattle.dm_rows.specs.Touch.{IsActiveBetween}
 use Rattle.dm_rows.specs.declared.messages.Change.{Change}
 use Rattle.dm_rows.specs.declared.messages.Change.TheVariants.{EventDelay, ActDelay, Passed, Recalled, Flipped, Adopted, Clock}
-use Rattle.dm_settle.specs.Constraints.{arcs_given}
+use Rattle.dm_settle.specs.Constraints.{ConstraintsValue, arcs_given}
 use Rattle.dm_settle.specs.Marked.{is_marked}
 use Rattle.dm_live.specs.Live.{LiveValue, IsFixed}
 use Rattle.dm_propagate.specs.Inside.Turning.{IsLetGoAt, IsTakenUpAt}
@@ -17,6 +17,26 @@ use Rattle.dm_propagate.specs.Inside.Turning.{IsLetGoAt, IsTakenUpAt}
 abbrev pub IsOffFloor : Net → RowsValue → LiveValue → ℕ → Type 0
 IsOffFloor net rows before i =
     (floor_of net rows i < slice_index before.given.floors i) ⊎ (slice_index before.times i < floor_of net rows i)
+
+-- each event has the floor that the rows give it at a clock
+abbrev pub AreFloorsAt : Net → RowsValue → ℕ → ConstraintsValue → Type 0
+AreFloorsAt net rows clock given =
+    (i : ℕ) → i < length net.events → slice_index given.floors i ≡ floor_of net (record rows { clock = clock }) i
+
+-- each event whose floor is a clock or later has the floor that the rows give it
+abbrev pub HaveFloorsFrom : Net → RowsValue → ℕ → ConstraintsValue → Type 0
+HaveFloorsFrom net rows clock given =
+    (i : ℕ) → i < length net.events → clock ≤ slice_index given.floors i → slice_index given.floors i ≡ floor_of net rows i
+
+-- where a change moves the clock, the floors are those of the rows at a clock
+abbrev pub FollowsAt : Net → RowsValue → Change → ℕ → ConstraintsValue → Type 0
+FollowsAt net rows (EventDelay i d) clock given = Unit {0}
+FollowsAt net rows (ActDelay a d) clock given = Unit {0}
+FollowsAt net rows (Passed i t) clock given = Unit {0}
+FollowsAt net rows (Recalled i) clock given = Unit {0}
+FollowsAt net rows (Flipped flip) clock given = Unit {0}
+FollowsAt net rows (Adopted flips) clock given = Unit {0}
+FollowsAt net rows (Clock t) clock given = AreFloorsAt net rows clock given
 
 -- Of the first n events each has its floor by the rows, and those whose floor is off are marked; all else stays.
 pub record HasFloors (net : Net) (rows : RowsValue) (n : ℕ) (before after : LiveValue) : Type 0 where

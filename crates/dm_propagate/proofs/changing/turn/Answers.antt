@@ -2,7 +2,7 @@ use Rattle.std.proofs.Common.{◌<◌, [], ◌∷◌, length, subst, sym, ap, ar
 use Rattle.std.specs.Result.{OnOk}
 use Rattle.std.proofs.lemmas.Result.{on_err_weaker}
 use Rattle.dm_rows.specs.declared.messages.Change.{Change}
-use Rattle.dm_propagate.specs.Inside.Changing.{MarksFor}
+use Rattle.dm_propagate.specs.Inside.Changing.{FollowsAt, MarksFor}
 use Rattle.dm_propagate.specs.Inside.Flags.{flags_of, AreFlagsOf, MovesPass, MovesCharge, IsNamed}
 use Rattle.dm_propagate.proofs.Concerning.{followed_by_one, by_one}
 use Rattle.dm_propagate.proofs.Flagging.{none_concerned, set_at, set_by}
@@ -38,7 +38,7 @@ returns-in-ActDelay-clause-flags g c =
 
 pub returns-in-Clock-clause-flags : goal.returns-in-Clock-clause-flags
 returns-in-Clock-clause-flags g c =
-    subst (AreFlagsOf c.args.net.now c.args.rows.now) (sym (c.set_floors.ensures.flags))
+    subst (AreFlagsOf c.args.net.now c.args.rows.now) (sym (c.move_clock.ensures.flags))
     (none_concerned c.args.net.now c.args.rows.now c.args.change.now (flags_of c.args.priced.now)
     (λ i moves. subst (λ (change : Change). MovesPass change i) c.in-Clock.is moves)
     (λ a moves. subst (λ (change : Change). MovesCharge c.args.net.now change a) c.in-Clock.is moves) c.requires.flags)
@@ -71,3 +71,12 @@ returns-in-Flipped-clause-flags g c =
     (λ i moves. subst (λ (change : Change). MovesPass change i) c.in-Flipped.is moves)
     (λ a moves. by_one IsNamed c.in-Flipped.flip a (subst (λ (change : Change). MovesCharge c.args.net.now change a) c.in-Flipped.is moves))
     (flags_of c.args.priced.now) (flags_of c.turn_by_flips.new.priced) c.requires.flags c.turn_by_flips.ensures.flags
+
+pub move_clock-requires-clause-floors : goal.move_clock-requires-clause-floors
+move_clock-requires-clause-floors g c =
+    subst (λ (change : Change). FollowsAt c.args.net.now c.args.rows.now change c.args.earlier c.args.priced.now.live.given) c.in-Clock.is c.requires.clock
+
+pub returns-in-Clock-clause-clock : goal.returns-in-Clock-clause-clock
+returns-in-Clock-clause-clock g c =
+    subst (λ (change : Change). FollowsAt c.args.net.now c.args.rows.now change c.args.rows.now.clock c.move_clock.new.priced.live.given) (sym c.in-Clock.is)
+    c.move_clock.ensures.floors.floors

@@ -6,6 +6,8 @@ use Rattle.dm_rows.specs.Rows.{RowsValue}
 use Rattle.dm_propagate.specs.Engine.{FollowsRows}
 use Rattle.dm_propagate.specs.Inside.Altering.{change_in}
 use Rattle.dm_propagate.specs.Inside.Concern.{FollowsBut}
+use Rattle.dm_propagate.specs.Inside.Changing.{FollowsAt}
+use Rattle.dm_propagate.proofs.AtClock.{at_clock_before, at_clock_after}
 use Rattle.dm_propagate.proofs.Concerning.{follows_but_after, follows_but_before}
 use Rattle.dm_propagate.proofs.FewRows.{few_read_for}
 use Rattle.dm_propagate.specs.Inside.Flags.{flags_of, AreFlagsOf, AreFlagsBut}
@@ -75,3 +77,15 @@ come_back-requires-clause-flags g c =
 pub returns-in-Ok-clause-flags : goal.returns-in-Ok-clause-flags
 returns-in-Ok-clause-flags g c =
     subst (AreFlagsOf c.args.net.now c.args.other.now) (sym (ap flags_of c.settle.ensures.unchanged)) c.turn_to.ensures.flags
+
+pub turn_to-requires-clause-clock : goal.turn_to-requires-clause-clock
+turn_to-requires-clause-clock g c =
+    let what = change_in c.args.what.now in
+    rw c.clock.ensures.value (subst (λ (rows : RowsValue). FollowsAt c.args.net.now rows what c.args.rows.now.clock c.args.priced.now.live.given) (sym c.requires.other)
+    (at_clock_before c.args.net.now c.args.rows.now what c.args.priced.now.live.given c.requires.follows))
+
+pub come_back-requires-clause-clock : goal.come_back-requires-clause-clock
+come_back-requires-clause-clock g c =
+    let what = change_in c.args.what.now in
+    rw c.clock-in-Err.ensures.value (at_clock_after c.args.net.now c.args.rows.now what c.args.other.now.clock c.turn_to.new.priced.live.given
+    (subst (λ (rows : RowsValue). FollowsAt c.args.net.now rows what c.args.other.now.clock c.turn_to.new.priced.live.given) c.requires.other c.turn_to.ensures.clock))

@@ -3,6 +3,8 @@ use Rattle.std.proofs.lemmas.Result.{on_ok_weaker}
 use Rattle.dm_rows.specs.Rows.{RowsValue}
 use Rattle.dm_propagate.specs.Inside.Altering.{change_in}
 use Rattle.dm_propagate.specs.Inside.Concern.{FollowsBut}
+use Rattle.dm_propagate.specs.Inside.Changing.{FollowsAt}
+use Rattle.dm_propagate.proofs.AtClock.{at_clock_before, at_clock_after}
 use Rattle.dm_propagate.proofs.Concerning.{follows_but_after, follows_but_before}
 use Rattle.dm_propagate.specs.Inside.Flags.{flags_of, AreFlagsBut}
 use Rattle.dm_propagate.proofs.Flagging.{but_where_right, flags_but_after, flags_but_before}
@@ -50,3 +52,15 @@ come_back-requires-clause-flags g c =
     flags_but_before c.args.net.now c.args.rows.now (change_in c.args.what.now) (flags_of c.turn_to-outcome.new.priced)
     (subst (λ (rows : RowsValue). AreFlagsBut c.args.net.now rows (change_in c.args.what.now) (flags_of c.turn_to-outcome.new.priced)) c.requires.other
     (but_where_right c.args.net.now c.args.other.now (change_in c.args.what.now) (flags_of c.turn_to-outcome.new.priced) c.turn_to-outcome.ensures.flags))
+
+pub turn_to-outcome-requires-clause-clock : goal.turn_to-outcome-requires-clause-clock
+turn_to-outcome-requires-clause-clock g c =
+    let what = change_in c.args.what.now in
+    rw c.clock.ensures.value (subst (λ (rows : RowsValue). FollowsAt c.args.net.now rows what c.args.rows.now.clock c.args.priced.now.live.given) (sym c.requires.other)
+    (at_clock_before c.args.net.now c.args.rows.now what c.args.priced.now.live.given c.requires.follows))
+
+pub come_back-requires-clause-clock : goal.come_back-requires-clause-clock
+come_back-requires-clause-clock g c =
+    let what = change_in c.args.what.now in
+    rw c.clock-2.ensures.value (at_clock_after c.args.net.now c.args.rows.now what c.args.other.now.clock c.turn_to-outcome.new.priced.live.given
+    (subst (λ (rows : RowsValue). FollowsAt c.args.net.now rows what c.args.other.now.clock c.turn_to-outcome.new.priced.live.given) c.requires.other c.turn_to-outcome.ensures.clock))

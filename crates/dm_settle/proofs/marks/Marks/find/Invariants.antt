@@ -1,6 +1,6 @@
-use Rattle.std.proofs.Common.{◌≡◌, ◌≤◌, ◌-◌, length}
+use Rattle.std.proofs.Common.{◌≡◌, ◌≤◌, ◌-◌}
 use Rattle.dm_settle.specs.Inside.Blocks.{NoneBetween}
-use Rattle.dm_settle.proofs.marks.Marks.first_from.Given as goal
+use Rattle.dm_settle.proofs.marks.Marks.find.Given as goal
 
 abbrev pub invariant-loop-start : goal.invariant-loop-start
 invariant-loop-start l = record {
@@ -10,4 +10,4 @@ invariant-loop-start l = record {
 }
 
 abbrev pub decreases-loop-start : goal.decreases-loop-start
-decreases-loop-start l = length l.self - l.start
+decreases-loop-start l = l.until - l.start

@@ -1,0 +1,48 @@
+-- Floors at one clock and at another.
+use Rattle.std.proofs.Common.{◌≡◌, ℕ, ◌+◌, ◌<◌, ◌≤◌, length, Option, Some, None, refl, subst, ◌∙◌, arith, slice_index}
+use Rattle.std.specs.Prelude.{unwrap_or, max}
+use Rattle.dm_network.specs.Net.{Net}
+use Rattle.dm_rows.specs.Resolve.{after_change}
+use Rattle.dm_rows.specs.Rows.{RowsValue, passed_at}
+use Rattle.dm_rows.specs.Timetable.{planned_time, floor_of}
+use Rattle.dm_rows.specs.declared.messages.Change.{Change}
+use Rattle.dm_rows.specs.declared.messages.Change.TheVariants.{EventDelay, ActDelay, Passed, Recalled, Flipped, Adopted, Clock}
+use Rattle.dm_settle.specs.Constraints.{ConstraintsValue}
+use Rattle.dm_propagate.specs.Engine.{FollowsRows}
+use Rattle.dm_propagate.specs.Inside.Changing.{AreFloorsAt, HaveFloorsFrom, FollowsAt}
+
+later_of_either : (planned earlier clock : ℕ) → earlier ≤ clock → clock ≤ max planned earlier → max planned earlier ≡ max planned clock
+later_of_either planned earlier clock up above = omega arith
+
+-- a floor that is the later clock or more is the same at both
+stands : (passed : Option ℕ) (planned earlier clock : ℕ) → earlier ≤ clock → clock ≤ unwrap_or passed (max planned earlier) →
+    unwrap_or passed (max planned earlier) ≡ unwrap_or passed (max planned clock)
+stands None planned earlier clock up above = later_of_either planned earlier clock up above
+stands (Some t) planned earlier clock up above = refl
+
+pub floors_from : (net : Net) (rows : RowsValue) (earlier : ℕ) (given : ConstraintsValue) → earlier ≤ rows.clock → AreFloorsAt net rows earlier given →
+    HaveFloorsFrom net rows rows.clock given
+floors_from net rows earlier given up at i lt above =
+    at i lt ∙ stands (passed_at rows i) (planned_time net rows i) earlier rows.clock up (subst (λ (f : ℕ). rows.clock ≤ f) (at i lt) above)
+
+-- a timetable that follows rows follows those after a change at the clock before it
+pub at_clock_before : (net : Net) (rows : RowsValue) (change : Change) (given : ConstraintsValue) → FollowsRows net rows given →
+    FollowsAt net (after_change rows change) change rows.clock given
+at_clock_before net rows (EventDelay i d) given follows = tt
+at_clock_before net rows (ActDelay a d) given follows = tt
+at_clock_before net rows (Passed i t) given follows = tt
+at_clock_before net rows (Recalled i) given follows = tt
+at_clock_before net rows (Flipped flip) given follows = tt
+at_clock_before net rows (Adopted flips) given follows = tt
+at_clock_before net rows (Clock t) given follows = follows.floors
+
+-- one that follows the rows after a change at a clock follows those before it at the same
+pub at_clock_after : (net : Net) (rows : RowsValue) (change : Change) (clock : ℕ) (given : ConstraintsValue) →
+    FollowsAt net (after_change rows change) change clock given → FollowsAt net rows change clock given
+at_clock_after net rows (EventDelay i d) clock given at = tt
+at_clock_after net rows (ActDelay a d) clock given at = tt
+at_clock_after net rows (Passed i t) clock given at = tt
+at_clock_after net rows (Recalled i) clock given at = tt
+at_clock_after net rows (Flipped flip) clock given at = tt
+at_clock_after net rows (Adopted flips) clock given at = tt
+at_clock_after net rows (Clock t) clock given at = at
