@@ -358,3 +358,14 @@ pub used_in_all : (task : Task) (limit cost : ℕ) (nodes : List Node) (path : L
 used_in_all task limit cost nodes path s c h =
     let none : length nodes + 0 ≡ length nodes = omega arith in
     subst (λ (k : ℕ). IsUsedUp task.budget k limit c) none (s.used c h)
+
+-- with better choices all stands
+pub stands_lower : (task : Task) (given nodes : List Node) (old new : List Decision) (high low : ℕ) → nodes ≡ given → low ≤ high →
+    AreBest task new low → Stands task given old high → Stands task nodes new low
+stands_lower task given nodes old new high low e le are s =
+    rw e (record {
+      known = λ l h. known_lower task high low l.path l.node le (s.known l h);
+      whole = s.whole;
+      few = s.few;
+      are_best = are;
+    })

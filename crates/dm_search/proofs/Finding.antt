@@ -13,10 +13,10 @@ use Rattle.dm_rows.specs.Relax.{violated_choices_of}
 use Rattle.dm_tree.specs.declared.forms.Node.TheVariants.{Cycle, Bound, Open}
 use Rattle.dm_tree.specs.Plans.{Task, whole_task, IsViolatedThere}
 use Rattle.dm_tree.specs.Inside.Filling.{is_ordered}
-use Rattle.dm_relax.proofs.Apart.{got_is_in}
 use Rattle.dm_relax.proofs.Differing.{differences_complete}
 use Rattle.dm_relax.proofs.Naming.{from_place, ids_rise}
-use Rattle.dm_search.specs.Steps.{HasRelaxedCycle, IsPruned, IsSolved, IsBranch}
+use Rattle.dm_search.specs.Steps.{HasRelaxedCycle, IsPruned, IsSolved}
+use Rattle.dm_search.specs.Inside.Walking.{IsBranchThere}
 use Rattle.dm_search.specs.Inside.Searching.{AreBest, IsSettled, IsBetter, IsSplit}
 use Rattle.dm_search.proofs.Leaves.{violated_is_undecided}
 
@@ -76,21 +76,21 @@ module _ (net : Net) (network : IsNetwork net) (rows : RowsValue) (sized : IsSiz
         less = let a = h.less in omega arith;
       })
 
-  violated_there : (c : ℕ) (choice : Choice) → IsBranch net rows path penalty best c choice → IsViolatedThere task path choice c
+  violated_there : (c : ℕ) (choice : Choice) → IsBranchThere net rows path penalty best c choice → IsViolatedThere task path choice c
   violated_there c choice h =
       record {
         times = h.times;
         least = h.least;
         cost = h.cost;
-        violated = got_is_in (violated_choices_of net rows path h.times) 0 choice h.first;
+        violated = h.violated;
       }
 
-  pub found_open : (c : ℕ) (choice : Choice) → IsBranch net rows path penalty best c choice → ceiling ≤ c →
+  pub found_open : (c : ℕ) (choice : Choice) → IsBranchThere net rows path penalty best c choice → ceiling ≤ c →
       IsSettled task path best ceiling (Open c)
   found_open c choice h dear =
       record { is_leaf = refl; known = (choice, violated_there c choice h); used = λ k e. let same : c ≡ k = cc in omega arith }
 
-  pub found_split : (c : ℕ) (choice : Choice) (old : List Decision) → IsBranch net rows path penalty best c choice → AreBest task old best →
+  pub found_split : (c : ℕ) (choice : Choice) (old : List Decision) → IsBranchThere net rows path penalty best c choice → AreBest task old best →
       c < ceiling → IsSplit task path ceiling choice
   unfolding violated_there
   found_split c choice old h are less =

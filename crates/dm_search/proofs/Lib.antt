@@ -6,3 +6,6 @@ pub mod Exits
 pub mod Finding
 pub mod Ended
 pub mod Started
+pub mod Walks
+pub mod Fronts
+pub mod Limits

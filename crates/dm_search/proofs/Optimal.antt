@@ -50,7 +50,7 @@ some_apart (a ∷ allowed) (b ∷ chosen) (inl both) apart = (
 some_apart (a ∷ allowed) (b ∷ chosen) (inr later) apart = some_apart allowed (b ∷ chosen) later apart.1
 
 -- what a path decides, a longer one decides
-decided_longer : (path more : List Decision) (c : Choice) → is_decided path c ≡ true → is_decided (path ++ more) c ≡ true
+pub decided_longer : (path more : List Decision) (c : Choice) → is_decided path c ≡ true → is_decided (path ++ more) c ≡ true
 decided_longer path more c h =
     let test : Decision → Bool = λ x. is_same_choice (choice_of x) c in
     list_any-append test path more ∙ or_left (list_any test path) (list_any test more) h

@@ -1,17 +1,23 @@
 //! A search that ends with a true plan.
-ghost use Rattle.std.specs.Prelude.{◌≡◌, ◌≤◌, List, IfOk, map, fold};
+ghost use Rattle.std.specs.Prelude.{ℕ, ◌≡◌, ◌≤◌, List, length, Contains, IfOk, map, fold};
 ghost use Rattle.std.specs.List.{list_any};
 ghost use Rattle.dm_base.specs.declared.limits.TheConstants.{PENALTY, BUDGET};
 ghost use Rattle.dm_rows.specs.Rows.{IsSized};
 ghost use Rattle.dm_rows.specs.Cost.{Costs};
 ghost use Rattle.dm_rows.specs.Decide.{IsChoiceList, with_decisions};
+ghost use Rattle.dm_tree.specs.declared.forms.Node.TheVariants.{Open as OpenNode};
 ghost use Rattle.dm_tree.specs.Plans.{whole_task, IsTruePlan};
 ghost use Rattle.dm_search.specs.Finish.{IsStart};
-ghost use Rattle.dm_search.specs.Inside.Searching.{Stands};
+ghost use Rattle.dm_search.specs.Inside.Searching.{AreBest, IsUsedUp, Stands};
+ghost use Rattle.dm_search.specs.Inside.Walking.{IsOver};
 ghost use Rattle.dm_search.specs.Inside.Ending.{closed, carried, least_with, bound_of, is_open, mark_of, IsPlanOf};
 
 use crate::searching::{Best, Standing, pass};
+use crate::walking::make;
+use crate::{Outcome, step};
 use dm_base::{Cost, Items};
+use dm_evaluate::Evaluator;
+use dm_guide::{Guide, guide};
 use dm_network::Network;
 use dm_relax::with_decisions;
 use dm_rows::{Decision, Rows, Snapshot};
@@ -45,19 +51,15 @@ pub fn finish(
     net.sound();
     let cost = cost_with(alloc, net, penalty, &snapshot.rows, &best)?;
     let choices = Items::from_vec(best);
-    let standing = Standing {
-        nodes: Vec::from_slice(alloc, partial.as_slice())?,
-        best: Best { choices, cost },
-    };
-    let standing = passes(alloc, net, penalty, snapshot, standing, budget)?;
-    let limit = standing.best.cost;
-    let standing = pass(alloc, net, penalty, snapshot, standing, budget, limit)?;
-    plan_of(alloc, snapshot.entry, standing)
+    let nodes = Vec::from_slice(alloc, partial.as_slice())?;
+    let best = Best { choices, cost };
+    let standing = Standing { nodes, best };
+    let searched = search_whole(alloc, net, penalty, snapshot, standing, budget)?;
+    plan_of(alloc, snapshot.entry, searched)
 }
 
-/// Goes through the tree with a limit that rises from the least cost of an open leaf, so that the budget is spent where least
-/// is known.
-fn passes(
+/// Searches a tree until each open leaf that costs less than the best choices is one for which there is no room.
+fn search_whole(
     alloc: Global,
     net: &Network,
     penalty: u64,
@@ -69,14 +71,252 @@ fn passes(
     requires penalty { penalty ≤ PENALTY }
     requires budget { budget ≤ BUDGET }
     requires stands { Stands (whole_task net.now snapshot.now.rows penalty budget) standing.nodes.items standing.best.choices standing.best.cost }
-    ensures { IfOk result (λ s. Stands (whole_task net.now snapshot.now.rows penalty budget) s.nodes.items s.best.choices s.best.cost) }
+    ensures stands { IfOk result (λ s. Stands (whole_task net.now snapshot.now.rows penalty budget) s.nodes.items s.best.choices s.best.cost) }
+    ensures used { IfOk result (λ s. (c : ℕ) → Contains s.nodes.items (OpenNode c) → IsUsedUp budget (length s.nodes.items) s.best.cost c) }
 {
+    let guide = guide_for(
+        alloc,
+        net,
+        penalty,
+        snapshot,
+        &standing.nodes,
+        standing.best.cost,
+        budget,
+    )?;
+    search_guided(alloc, net, penalty, snapshot, standing, budget, &guide)
+}
+
+fn search_guided(
+    alloc: Global,
+    net: &Network,
+    penalty: u64,
+    snapshot: &Snapshot,
+    standing: Standing,
+    budget: u64,
+    guide: &Guide,
+) -> Result<Standing, AllocError>
+    requires sized { IsSized net.now snapshot.now.rows }
+    requires penalty { penalty ≤ PENALTY }
+    requires budget { budget ≤ BUDGET }
+    requires stands { Stands (whole_task net.now snapshot.now.rows penalty budget) standing.nodes.items standing.best.choices standing.best.cost }
+    ensures stands { IfOk result (λ s. Stands (whole_task net.now snapshot.now.rows penalty budget) s.nodes.items s.best.choices s.best.cost) }
+    ensures used { IfOk result (λ s. (c : ℕ) → Contains s.nodes.items (OpenNode c) → IsUsedUp budget (length s.nodes.items) s.best.cost c) }
+{
+    let mut evaluator = evaluator_of(alloc, net, snapshot)?;
+    search_with(
+        alloc,
+        net,
+        penalty,
+        snapshot,
+        &mut evaluator,
+        standing,
+        budget,
+        guide,
+    )
+}
+
+fn search_with(
+    alloc: Global,
+    net: &Network,
+    penalty: u64,
+    snapshot: &Snapshot,
+    evaluator: &mut Evaluator,
+    standing: Standing,
+    budget: u64,
+    guide: &Guide,
+) -> Result<Standing, AllocError>
+    requires sized { IsSized net.now snapshot.now.rows }
+    requires penalty { penalty ≤ PENALTY }
+    requires evaluator { IsOver net.now snapshot.now.rows evaluator.old }
+    requires budget { budget ≤ BUDGET }
+    requires stands { Stands (whole_task net.now snapshot.now.rows penalty budget) standing.nodes.items standing.best.choices standing.best.cost }
+    ensures stands { IfOk result (λ s. Stands (whole_task net.now snapshot.now.rows penalty budget) s.nodes.items s.best.choices s.best.cost) }
+    ensures used { IfOk result (λ s. (c : ℕ) → Contains s.nodes.items (OpenNode c) → IsUsedUp budget (length s.nodes.items) s.best.cost c) }
+{
+    let path = guide.path.as_slice();
+    let improved = improve(
+        alloc, net, penalty, snapshot, evaluator, standing, budget, path,
+    )?;
+    let guided = pass(
+        alloc, net, penalty, snapshot, evaluator, improved, budget, 0, guide,
+    )?;
+    let spread = passes(alloc, net, penalty, snapshot, evaluator, guided, budget)?;
+    last_pass(alloc, net, penalty, snapshot, evaluator, spread, budget)
+}
+
+/// The tree with the choices to which a guide's path leads, where they cost less.
+fn improve(
+    alloc: Global,
+    net: &Network,
+    penalty: u64,
+    snapshot: &Snapshot,
+    evaluator: &mut Evaluator,
+    standing: Standing,
+    budget: u64,
+    path: &[Decision],
+) -> Result<Standing, AllocError>
+    requires sized { IsSized net.now snapshot.now.rows }
+    requires penalty { penalty ≤ PENALTY }
+    requires evaluator { IsOver net.now snapshot.now.rows evaluator.old }
+    requires budget { budget ≤ BUDGET }
+    requires stands { Stands (whole_task net.now snapshot.now.rows penalty budget) standing.nodes.items standing.best.choices standing.best.cost }
+    ensures stands { IfOk result (λ s. Stands (whole_task net.now snapshot.now.rows penalty budget) s.nodes.items s.best.choices s.best.cost) }
+    ensures evaluator { IsOver net.now snapshot.now.rows evaluator.new }
+{
+    let Standing { nodes, best } = standing;
+    let better = better(alloc, net, penalty, snapshot, evaluator, path, best, budget)?;
+    Ok(Standing {
+        nodes,
+        best: better,
+    })
+}
+
+/// Goes through the tree with no limit but the cost of the best choices.
+fn last_pass(
+    alloc: Global,
+    net: &Network,
+    penalty: u64,
+    snapshot: &Snapshot,
+    evaluator: &mut Evaluator,
+    standing: Standing,
+    budget: u64,
+) -> Result<Standing, AllocError>
+    requires sized { IsSized net.now snapshot.now.rows }
+    requires penalty { penalty ≤ PENALTY }
+    requires evaluator { IsOver net.now snapshot.now.rows evaluator.old }
+    requires budget { budget ≤ BUDGET }
+    requires stands { Stands (whole_task net.now snapshot.now.rows penalty budget) standing.nodes.items standing.best.choices standing.best.cost }
+    ensures stands { IfOk result (λ s. Stands (whole_task net.now snapshot.now.rows penalty budget) s.nodes.items s.best.choices s.best.cost) }
+    ensures used { IfOk result (λ s. (c : ℕ) → Contains s.nodes.items (OpenNode c) → IsUsedUp budget (length s.nodes.items) s.best.cost c) }
+{
+    let limit = standing.best.cost;
+    let guide = no_guide(alloc);
+    let searched = pass(
+        alloc, net, penalty, snapshot, evaluator, standing, budget, limit, &guide,
+    )?;
+    Ok(searched)
+}
+
+/// The evaluator of the snapshot's rows, which have no cycle.
+fn evaluator_of(alloc: Global, net: &Network, snapshot: &Snapshot) -> Result<Evaluator, AllocError>
+    requires { IsSized net.now snapshot.now.rows }
+    ensures { IfOk result (IsOver net.now snapshot.now.rows) }
+{
+    let rows = snapshot.rows.copy()?;
+    // What binds at the root has no cycle where the rows have none, so that only memory may be missing.
+    match Evaluator::new(alloc, net, rows) {
+        Ok(evaluator) => Ok(evaluator),
+        Err(_no_times) => Err(AllocError),
+    }
+}
+
+/// What guides the search, where nothing is known of the tree yet and there is room for a choice.
+fn guide_for(
+    alloc: Global,
+    net: &Network,
+    penalty: u64,
+    snapshot: &Snapshot,
+    nodes: &[Node],
+    best: Cost,
+    budget: u64,
+) -> Result<Guide, AllocError>
+    requires sized { IsSized net.now snapshot.now.rows }
+    requires penalty { penalty ≤ PENALTY }
+{
+    if budget >= 3 && matches!(nodes, [Node::Hole]) {
+        guide(alloc, net, penalty, &snapshot.rows, best, budget)
+    } else {
+        Ok(no_guide(alloc))
+    }
+}
+
+fn no_guide(alloc: Global) -> Guide {
+    Guide {
+        path: Vec::new(alloc),
+        hints: Vec::new(alloc),
+    }
+}
+
+/// The choices to which a guide's path leads, where they cost less.
+fn better(
+    alloc: Global,
+    net: &Network,
+    penalty: u64,
+    snapshot: &Snapshot,
+    evaluator: &mut Evaluator,
+    path: &[Decision],
+    best: Best,
+    budget: u64,
+) -> Result<Best, AllocError>
+    requires sized { IsSized net.now snapshot.now.rows }
+    requires penalty { penalty ≤ PENALTY }
+    requires evaluator { IsOver net.now snapshot.now.rows evaluator.old }
+    requires best { AreBest (whole_task net.now snapshot.now.rows penalty budget) best.choices best.cost }
+    ensures best { IfOk result (λ b. AreBest (whole_task net.now snapshot.now.rows penalty budget) b.choices b.cost) }
+    ensures no_dearer { IfOk result (λ b. b.cost ≤ best.cost) }
+    ensures evaluator { IsOver net.now snapshot.now.rows evaluator.new }
+{
+    for decision in path {
+        if !make(net, evaluator, *decision) {
+            return Ok(best);
+        }
+    }
+    solved_at(alloc, net, penalty, snapshot, evaluator, best, budget)
+}
+
+/// The choices of the completion where the evaluator stands, if nothing is violated there and they cost less than the best.
+fn solved_at(
+    alloc: Global,
+    net: &Network,
+    penalty: u64,
+    snapshot: &Snapshot,
+    evaluator: &Evaluator,
+    best: Best,
+    budget: u64,
+) -> Result<Best, AllocError>
+    requires sized { IsSized net.now snapshot.now.rows }
+    requires penalty { penalty ≤ PENALTY }
+    requires evaluator { IsOver net.now snapshot.now.rows evaluator.now }
+    requires best { AreBest (whole_task net.now snapshot.now.rows penalty budget) best.choices best.cost }
+    ensures best { IfOk result (λ b. AreBest (whole_task net.now snapshot.now.rows penalty budget) b.choices b.cost) }
+    ensures no_dearer { IfOk result (λ b. b.cost ≤ best.cost) }
+{
+    net.sound();
+    let path = evaluator.path();
+    match step(alloc, net, penalty, snapshot, path, best.cost)? {
+        Outcome::Solved(cost, choices) => Ok(Best { choices, cost }),
+        Outcome::Cycle | Outcome::Pruned(_) | Outcome::Branch(_, _) => Ok(best),
+    }
+}
+
+/// Goes through the tree with a limit that rises from the least cost of an open leaf, so that the budget is spent where least
+/// is known.
+fn passes(
+    alloc: Global,
+    net: &Network,
+    penalty: u64,
+    snapshot: &Snapshot,
+    evaluator: &mut Evaluator,
+    standing: Standing,
+    budget: u64,
+) -> Result<Standing, AllocError>
+    requires sized { IsSized net.now snapshot.now.rows }
+    requires penalty { penalty ≤ PENALTY }
+    requires evaluator { IsOver net.now snapshot.now.rows evaluator.old }
+    requires budget { budget ≤ BUDGET }
+    requires stands { Stands (whole_task net.now snapshot.now.rows penalty budget) standing.nodes.items standing.best.choices standing.best.cost }
+    ensures stands { IfOk result (λ s. Stands (whole_task net.now snapshot.now.rows penalty budget) s.nodes.items s.best.choices s.best.cost) }
+    ensures evaluator { IsOver net.now snapshot.now.rows evaluator.new }
+{
+    let guide = no_guide(alloc);
     let mut standing = standing;
     for _ in 0..PASSES {
         let Some(limit) = next_limit(&standing.nodes, standing.best.cost, budget) else {
             return Ok(standing);
         };
-        standing = pass(alloc, net, penalty, snapshot, standing, budget, limit)?;
+        standing = pass(
+            alloc, net, penalty, snapshot, evaluator, standing, budget, limit, &guide,
+        )?;
     }
     Ok(standing)
 }

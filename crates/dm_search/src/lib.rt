@@ -9,6 +9,7 @@ mod finishing;
 pub mod laws;
 mod searching;
 mod steps;
+mod walking;
 
 pub use finishing::finish;
 pub use steps::{Outcome, step};

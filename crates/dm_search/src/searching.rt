@@ -1,5 +1,5 @@
 //! A tree that is searched node by node in preorder.
-ghost use Rattle.std.specs.Prelude.{ℕ, ◌≡◌, ◌∷◌, ◌++◌, ◌+◌, ◌⊎◌, ◌≤◌, [], length, reverse, List, Contains, IfOk, OnOk, MatchBool};
+ghost use Rattle.std.specs.Prelude.{ℕ, ◌≡◌, ◌∷◌, ◌++◌, ◌+◌, ◌⊎◌, ◌≤◌, [], length, reverse, List, Contains, IfOk, OnOk, MatchBool, None};
 ghost use Rattle.dm_base.specs.declared.limits.TheConstants.{PENALTY, BUDGET};
 ghost use Rattle.dm_rows.specs.declared.messages.Decision.{Decision as DecisionValue};
 ghost use Rattle.dm_rows.specs.Rows.{IsSized};
@@ -9,10 +9,14 @@ ghost use Rattle.dm_tree.specs.Trees.{first_decision, choice_in};
 ghost use Rattle.dm_tree.specs.Plans.{whole_task};
 ghost use Rattle.dm_tree.specs.Inside.Filling.{is_first_decision, other_decision, pending};
 ghost use Rattle.dm_search.specs.Finish.{IsKnown};
+ghost use Rattle.dm_search.specs.Inside.Walking.{IsOver};
 ghost use Rattle.dm_search.specs.Inside.Searching.{AreBest, IsUsedUp, IsSearched, Stands, IsCeiling, IsFound, IsAdvanced};
 
-use crate::{Outcome, step};
+use crate::Outcome;
+use crate::walking::step_there;
 use dm_base::{Cost, Items};
+use dm_evaluate::Evaluator;
+use dm_guide::{Guide, Hint};
 use dm_network::Network;
 use dm_rows::{Choice, Decision, Snapshot};
 use dm_tree::Node;
@@ -39,6 +43,13 @@ struct Search {
     nodes: Vec<Node>,
     path: Vec<Decision>,
     due: Vec<Node>,
+}
+
+/// A guide, and its nodes for the last of the nodes that are due.
+#[derive(Drop)]
+struct Hints<'g> {
+    guide: &'g Guide,
+    due: Vec<Option<usize>>,
 }
 
 /// What is found at a leaf.
@@ -107,6 +118,35 @@ impl Search {
     }
 }
 
+impl Hints<'_> {
+    /// What the guide says of the node that stands next.
+    fn next(&mut self) -> Option<Hint> {
+        match self.due.pop() {
+            Some(Some(node)) => self.guide.hint(node),
+            _ => None,
+        }
+    }
+
+    /// Goes on to the guide's children, where the search branches as it does, and else to none.
+    fn branch(&mut self, hint: Option<Hint>, choice: Choice) -> Result<(), AllocError> {
+        let below = match hint {
+            Some(hint) if hint.choice == Some(choice) => hint.below,
+            _ => None,
+        };
+        self.due.push(beside(below))?;
+        self.due.push(below)?;
+        Ok(())
+    }
+}
+
+/// The guide's second child.
+fn beside(below: Option<usize>) -> Option<usize> {
+    match below {
+        Some(node) => node.checked_add(1),
+        None => None,
+    }
+}
+
 /// Goes through a tree in preorder: each hole is searched, and each leaf below the limit while there is room for two nodes
 /// more.
 pub(crate) fn pass(
@@ -114,19 +154,27 @@ pub(crate) fn pass(
     net: &Network,
     penalty: u64,
     snapshot: &Snapshot,
+    evaluator: &mut Evaluator,
     standing: Standing,
     budget: u64,
     limit: Cost,
+    guide: &Guide,
 ) -> Result<Standing, AllocError>
     requires sized { IsSized net.now snapshot.now.rows }
     requires penalty { penalty ≤ PENALTY }
+    requires evaluator { IsOver net.now snapshot.now.rows evaluator.old }
     requires budget { budget ≤ BUDGET }
     requires stands { Stands (whole_task net.now snapshot.now.rows penalty budget) standing.nodes.items standing.best.choices standing.best.cost }
     ensures stands { IfOk result (λ s. Stands (whole_task net.now snapshot.now.rows penalty budget) s.nodes.items s.best.choices s.best.cost) }
     ensures used { IfOk result (λ s. (c : ℕ) → Contains s.nodes.items (OpenNode c) → IsUsedUp budget (length s.nodes.items) limit c) }
     ensures no_dearer { IfOk result (λ s. s.best.cost ≤ standing.best.cost) }
+    ensures evaluator { IsOver net.now snapshot.now.rows evaluator.new }
 {
     net.sound();
+    let mut hints = Hints {
+        guide,
+        due: vec![in alloc; Some(0)]?,
+    };
     let mut search = Search::new(alloc, standing.nodes);
     let best = standing.best;
     let best = search_all(
@@ -134,10 +182,12 @@ pub(crate) fn pass(
         net,
         penalty,
         snapshot,
+        evaluator,
         &mut search,
         best,
         budget,
         limit,
+        &mut hints,
     )?;
     Ok(Standing {
         nodes: search.nodes,
@@ -151,13 +201,16 @@ fn search_all(
     net: &Network,
     penalty: u64,
     snapshot: &Snapshot,
+    evaluator: &mut Evaluator,
     search: &mut Search,
     best: Best,
     budget: u64,
     limit: Cost,
+    hints: &mut Hints<'_>,
 ) -> Result<Best, AllocError>
     requires sized { IsSized net.now snapshot.now.rows }
     requires penalty { penalty ≤ PENALTY }
+    requires evaluator { IsOver net.now snapshot.now.rows evaluator.old }
     requires budget { budget ≤ BUDGET }
     requires best { AreBest (whole_task net.now snapshot.now.rows penalty budget) best.choices best.cost }
     requires search { IsSearched (whole_task net.now snapshot.now.rows penalty budget) limit best.cost
@@ -166,11 +219,12 @@ fn search_all(
     ensures search { IfOk result (λ b. IsSearched (whole_task net.now snapshot.now.rows penalty budget) limit b.cost
         search.new.nodes.items [] search.new.path.items) }
     ensures no_dearer { IfOk result (λ b. b.cost ≤ best.cost) }
+    ensures evaluator { IsOver net.now snapshot.now.rows evaluator.new }
 {
     let mut now = best;
     while let Some(node) = search.due.pop() {
         now = advance(
-            alloc, net, penalty, snapshot, search, node, now, budget, limit,
+            alloc, net, penalty, snapshot, evaluator, search, node, now, budget, limit, hints,
         )?;
     }
     Ok(now)
@@ -182,32 +236,81 @@ fn advance(
     net: &Network,
     penalty: u64,
     snapshot: &Snapshot,
+    evaluator: &mut Evaluator,
     search: &mut Search,
     node: Node,
     best: Best,
     budget: u64,
     limit: Cost,
+    hints: &mut Hints<'_>,
 ) -> Result<Best, AllocError>
     requires sized { IsSized net.now snapshot.now.rows }
     requires penalty { penalty ≤ PENALTY }
+    requires evaluator { IsOver net.now snapshot.now.rows evaluator.old }
     requires budget { budget ≤ BUDGET }
     requires best { AreBest (whole_task net.now snapshot.now.rows penalty budget) best.choices best.cost }
     requires search { IsSearched (whole_task net.now snapshot.now.rows penalty budget) limit best.cost
         search.old.nodes.items (node ∷ reverse search.old.due.items) search.old.path.items }
-    ensures { IfOk result (IsAdvanced (whole_task net.now snapshot.now.rows penalty budget) limit (length search.old.nodes.items) best.cost
+    ensures advanced { IfOk result (IsAdvanced (whole_task net.now snapshot.now.rows penalty budget) limit (length search.old.nodes.items) best.cost
         search.new.nodes.items (reverse search.new.due.items) search.new.path.items) }
+    ensures evaluator { IsOver net.now snapshot.now.rows evaluator.new }
 {
     net.sound();
+    let hint = hints.next();
     if let Some(choice) = node.choice() {
         search.descend(choice)?;
         return Ok(best);
     }
     let total = (search.nodes.len() + 1 + search.due.len()) as u64;
-    let ceiling = ceiling_of(total, budget, limit);
+    let ceiling = ceiling_of(total, budget, limit, wanted_at(hint, limit, best.cost));
     let path = search.path.as_slice();
-    match found_at(
-        alloc, net, penalty, snapshot, path, node, best.cost, budget, ceiling,
-    )? {
+    let found = found_at(
+        alloc,
+        net,
+        penalty,
+        snapshot,
+        evaluator,
+        path,
+        node,
+        best.cost,
+        budget,
+        ceiling,
+        hinted(hint),
+    )?;
+    if let Found::Split(choice) = &found {
+        hints.branch(hint, *choice)?;
+    }
+    place(
+        net, penalty, snapshot, search, node, best, budget, limit, total, ceiling, found,
+    )
+}
+
+/// Settles what was found at the leaf that stands next.
+fn place(
+    net: &Network,
+    penalty: u64,
+    snapshot: &Snapshot,
+    search: &mut Search,
+    leaf: Node,
+    best: Best,
+    budget: u64,
+    limit: Cost,
+    total: u64,
+    ceiling: Cost,
+    found: Found,
+) -> Result<Best, AllocError>
+    requires total { total ≡ length search.old.nodes.items + 1 + length search.old.due.items }
+    requires ceiling { IsCeiling budget total limit ceiling }
+    requires leaf { None ≡ choice_in leaf }
+    requires found { IsFound (whole_task net.now snapshot.now.rows penalty budget) search.old.path.items best.cost ceiling found }
+    requires best { AreBest (whole_task net.now snapshot.now.rows penalty budget) best.choices best.cost }
+    requires search { IsSearched (whole_task net.now snapshot.now.rows penalty budget) limit best.cost
+        search.old.nodes.items (leaf ∷ reverse search.old.due.items) search.old.path.items }
+    ensures advanced { IfOk result (IsAdvanced (whole_task net.now snapshot.now.rows penalty budget) limit (length search.old.nodes.items) best.cost
+        search.new.nodes.items (reverse search.new.due.items) search.new.path.items) }
+{
+    net.sound();
+    match found {
         Found::Settled(leaf) => {
             search.leave(leaf)?;
             Ok(best)
@@ -223,12 +326,31 @@ fn advance(
     }
 }
 
+/// How little a leaf costs that is searched: where the guide has a choice there, each one that costs less than the best.
+fn wanted_at(hint: Option<Hint>, limit: Cost, best: Cost) -> Cost
+    ensures { limit ≤ result }
+{
+    match hint {
+        Some(Hint { below: Some(_), .. }) => limit.max(best),
+        _ => limit,
+    }
+}
+
+/// The choice that the guide branches on, or knows to be violated.
+fn hinted(hint: Option<Hint>) -> Option<Choice> {
+    match hint {
+        Some(hint) => hint.choice,
+        None => None,
+    }
+}
+
 /// How little a leaf costs that is searched in a tree of so many nodes: none is where two nodes more have no room.
-fn ceiling_of(total: u64, budget: u64, limit: Cost) -> Cost
-    requires { total ≤ BUDGET }
+fn ceiling_of(total: u64, budget: u64, limit: Cost, wanted: Cost) -> Cost
+    requires total { total ≤ BUDGET }
+    requires wanted { limit ≤ wanted }
     ensures { IsCeiling budget total limit result }
 {
-    if total + 2 <= budget { limit } else { 0 }
+    if total + 2 <= budget { wanted } else { 0 }
 }
 
 /// What is found at a leaf: at a hole, and at an open leaf below the ceiling, what one step finds.
@@ -237,19 +359,23 @@ fn found_at(
     net: &Network,
     penalty: u64,
     snapshot: &Snapshot,
+    evaluator: &mut Evaluator,
     path: &[Decision],
     leaf: Node,
     best: Cost,
     budget: u64,
     ceiling: Cost,
+    hint: Option<Choice>,
 ) -> Result<Found, AllocError>
     requires sized { IsSized net.now snapshot.now.rows }
     requires penalty { penalty ≤ PENALTY }
+    requires evaluator { IsOver net.now snapshot.now.rows evaluator.old }
     requires list { IsChoiceList net.now snapshot.now.rows path.now }
     requires leaf { choice_in leaf ≡ None }
     requires best { (choices : List DecisionValue) × AreBest (whole_task net.now snapshot.now.rows penalty budget) choices best }
     requires known { IsKnown (whole_task net.now snapshot.now.rows penalty budget) best path.now leaf }
-    ensures { IfOk result (IsFound (whole_task net.now snapshot.now.rows penalty budget) path.now best ceiling) }
+    ensures found { IfOk result (IsFound (whole_task net.now snapshot.now.rows penalty budget) path.now best ceiling) }
+    ensures evaluator { IsOver net.now snapshot.now.rows evaluator.new }
 {
     net.sound();
     match leaf {
@@ -259,7 +385,7 @@ fn found_at(
             return Ok(Found::Settled(leaf));
         }
     }
-    match step(alloc, net, penalty, snapshot, path, best)? {
+    match step_there(alloc, net, penalty, snapshot, evaluator, path, best, hint)? {
         Outcome::Cycle => Ok(Found::Settled(Node::Cycle)),
         Outcome::Pruned(cost) => Ok(Found::Settled(Node::Bound(cost))),
         Outcome::Solved(cost, choices) => Ok(Found::Better(Best { choices, cost })),
@@ -274,7 +400,7 @@ fn found_at(
 }
 
 /// The decision of a choice's first child.
-fn first_of(choice: Choice) -> Decision
+pub(crate) fn first_of(choice: Choice) -> Decision
     ensures { result ≡ first_decision choice }
 {
     match choice {

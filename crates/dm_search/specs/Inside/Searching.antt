@@ -51,10 +51,10 @@ pub record Stands (task : Task) (nodes : List Node) (best : List Decision) (cost
   pub few : length nodes ≤ task.budget
   pub are_best : AreBest task best cost
 
--- a leaf may cost so much less before it is searched: up to the limit where two further nodes keep to the budget, and else not
+-- a leaf is searched where it costs less: at least up to the limit where two further nodes keep to the budget, and else not
 pub record IsCeiling (budget total limit ceiling : ℕ) : Type 0 where
   pub room : 0 < ceiling → total + 2 ≤ budget
-  pub used : (budget < total + 2) ⊎ (ceiling ≡ limit)
+  pub used : (budget < total + 2) ⊎ (limit ≤ ceiling)
 
 -- a leaf that is known at the path, and is open only where it costs at least so much
 pub record IsSettled (task : Task) (path : List Decision) (best ceiling : ℕ) (n : Node) : Type 0 where

@@ -1,6 +1,7 @@
 use Rattle.std.proofs.Common.{◌-◌, ◌≤◌, length, reverse}
 use Rattle.dm_tree.specs.Plans.{whole_task}
 use Rattle.dm_search.specs.Inside.Searching.{AreBest, IsSearched}
+use Rattle.dm_search.specs.Inside.Walking.{IsOver}
 use Rattle.dm_search.proofs.searching.search_all.Given as goal
 
 abbrev pub invariant-loop-node : goal.invariant-loop-node
@@ -9,6 +10,7 @@ invariant-loop-node l =
       best : AreBest (whole_task l.net l.snapshot.rows l.penalty l.budget) l.now.choices l.now.cost;
       search : IsSearched (whole_task l.net l.snapshot.rows l.penalty l.budget) l.limit l.now.cost l.search.nodes.items
           (reverse l.search.due.items) l.search.path.items;
+      evaluator : IsOver l.net l.snapshot.rows l.evaluator;
       no_dearer : l.now.cost ≤ l.fn.best.cost;
     }
 

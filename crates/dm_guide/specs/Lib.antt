@@ -1,0 +1,1 @@
+-- Nothing is promised, and so nothing is defined.

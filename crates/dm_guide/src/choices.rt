@@ -1,0 +1,190 @@
+//! The free choices, by number.
+ghost use Rattle.std.specs.Prelude.{◌<◌, length};
+
+use crate::moving::Mover;
+use dm_base::ActKind;
+use dm_network::Network;
+use dm_rows::{Choice, Decision};
+use std::alloc::{AllocError, Global};
+use std::sync::ledger::Ledger;
+
+/// A side of a choice: a change is kept or dropped, and of a pair the small or the large event is first. First comes the side
+/// of a choice's first child.
+#[derive(Clone, Copy, PartialEq, Eq, Debug)]
+pub enum Side {
+    First,
+    Second,
+}
+
+impl Side {
+    pub fn other(self) -> Side {
+        match self {
+            Side::First => Side::Second,
+            Side::Second => Side::First,
+        }
+    }
+}
+
+/// A free choice, with the places of what binds on either side in the list of activities: from `start` to `middle` on the
+/// first, and from there to `end` on the second.
+#[derive(Clone, Copy)]
+struct Sides {
+    choice: Choice,
+    start: usize,
+    middle: usize,
+    end: usize,
+}
+
+/// The free choices, changes first, each in ascending place, and which activities bind on which side.
+#[derive(Drop)]
+pub struct Choices {
+    sides: Vec<Sides>,
+    acts: Vec<usize>,
+
+    /// The number of the choice to which an activity belongs, by place.
+    numbers: Vec<Option<usize>>,
+}
+
+impl Choices {
+    /// The choices that are open.
+    pub fn of<L: Ledger>(alloc: Global, mover: &mut Mover<'_, L>) -> Result<Choices, AllocError> {
+        let net = mover.net();
+        let mut choices = Choices {
+            sides: Vec::new(alloc),
+            acts: Vec::new(alloc),
+            numbers: vec![in alloc; None; net.activities()]?,
+        };
+        for a in 0..net.activities() {
+            choices.add_change(mover, net, a)?;
+        }
+        for p in 0..net.pairs() {
+            choices.add_pair(mover, net, p)?;
+        }
+        Ok(choices)
+    }
+
+    fn add_change<L: Ledger>(
+        &mut self,
+        mover: &Mover<'_, L>,
+        net: &Network,
+        a: usize,
+    ) -> Result<(), AllocError>
+        requires { a < length net.now.activities }
+    {
+        let activity = net.activity(a);
+        let choice = Choice::Change(activity.id);
+        if !matches!(activity.kind, ActKind::Change) || !mover.is_open(choice) {
+            return Ok(());
+        }
+        let start = self.acts.len();
+        self.add_act(a)?;
+        let end = self.acts.len();
+        self.sides.push(Sides {
+            choice,
+            start,
+            middle: end,
+            end,
+        })?;
+        Ok(())
+    }
+
+    fn add_pair<L: Ledger>(
+        &mut self,
+        mover: &mut Mover<'_, L>,
+        net: &Network,
+        p: usize,
+    ) -> Result<(), AllocError>
+        requires { p < length net.now.pairs }
+    {
+        let choice = choice_of_pair(net, p);
+        if !mover.is_open(choice) {
+            return Ok(());
+        }
+        let pair = net.pair(p);
+        let (small, large) = (pair.small, pair.large);
+        let start = self.acts.len();
+        self.add_headways(net, p, mover.leaving(small))?;
+        let middle = self.acts.len();
+        self.add_headways(net, p, mover.leaving(large))?;
+        let end = self.acts.len();
+        self.sides.push(Sides {
+            choice,
+            start,
+            middle,
+            end,
+        })?;
+        Ok(())
+    }
+
+    fn add_headways(&mut self, net: &Network, p: usize, row: &[usize]) -> Result<(), AllocError> {
+        for a in row {
+            if *a < net.activities() && net.activity(*a).pair == Some(p) {
+                self.add_act(*a)?;
+            }
+        }
+        Ok(())
+    }
+
+    /// An activity of the choice that comes next.
+    fn add_act(&mut self, a: usize) -> Result<(), AllocError> {
+        self.acts.push(a)?;
+        if let Some(number) = self.numbers.get_mut(a) {
+            *number = Some(self.sides.len());
+        }
+        Ok(())
+    }
+
+    pub fn len(&self) -> usize {
+        self.sides.len()
+    }
+
+    /// The choice of a number.
+    pub fn choice(&self, i: usize) -> Option<Choice> {
+        match self.sides.get(i) {
+            Some(sides) => Some(sides.choice),
+            None => None,
+        }
+    }
+
+    /// The number of the choice to which an activity belongs.
+    pub fn number(&self, act: usize) -> Option<usize> {
+        match self.numbers.get(act) {
+            Some(number) => *number,
+            None => None,
+        }
+    }
+
+    /// What binds on a side of a choice.
+    pub fn binding(&self, i: usize, side: Side) -> &[usize] {
+        let Some(sides) = self.sides.get(i) else {
+            return &[];
+        };
+        let bound = match side {
+            Side::First => self.acts.get(sides.start..sides.middle),
+            Side::Second => self.acts.get(sides.middle..sides.end),
+        };
+        match bound {
+            Some(acts) => acts,
+            None => &[],
+        }
+    }
+}
+
+/// The pair at a place as a choice.
+fn choice_of_pair(net: &Network, p: usize) -> Choice
+    requires { p < length net.now.pairs }
+{
+    net.sound();
+    let pair = net.pair(p);
+    Choice::Pair(net.event(pair.small).id, net.event(pair.large).id)
+}
+
+/// The decision for a side of a choice.
+pub fn decision_for(choice: Choice, side: Side) -> Decision {
+    match (choice, side) {
+        (Choice::Change(a), Side::First) => Decision::Keep(a),
+        (Choice::Change(a), Side::Second) => Decision::Drop(a),
+        (Choice::Pair(small, large), Side::First) => Decision::First(small, large),
+        (Choice::Pair(small, large), Side::Second) => Decision::First(large, small),
+    }
+}

@@ -1,0 +1,17 @@
+//! Where a search for plans looks first.
+//!
+//! It stands on dm_evaluate for the relaxed problem of a path. [`guide`] looks for good choices and for a tree that tells much
+//! within a budget. Nothing is promised of what it finds: who is guided by it judges each node anew.
+#![tactic(auto)]
+
+mod choices;
+mod diving;
+mod growing;
+mod guiding;
+mod moving;
+mod scouting;
+mod tree;
+mod windows;
+
+pub use guiding::guide;
+pub use tree::{Guide, Hint};

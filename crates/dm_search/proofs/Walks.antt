@@ -1,0 +1,216 @@
+-- An evaluator that goes back and on along a path.
+use Rattle.std.proofs.Common.{◌≡◌, ℕ, zero, suc, ◌+◌, ◌-◌, ◌<◌, ◌≤◌, Bool, true, false, List, [], ◌∷◌, ◌++◌, length, get_or, take, drop, Option, Some, None, refl, sym, ap, subst, ◌∙◌, arith, append-nil}
+use Rattle.std.specs.Prelude.{Contains, not, ◌&&◌, slice_get, IfSome}
+use Rattle.std.proofs.Math.Seq.{get_or-append_seam, take-append_seam}
+use Rattle.std.proofs.lemmas.List.{take_more, take_all, drop_all, take-append-drop, take-append-le, length-take-le, length-append}
+use Rattle.std.proofs.lemmas.List.Elements.{All-contains, Contains-append_left, Contains-push}
+use Rattle.dm_graph.specs.Arcs.{Binds, BindsIn}
+use Rattle.dm_graph.proofs.Transfers.{cycle_carries}
+use Rattle.dm_network.specs.Net.{Net, activity_at}
+use Rattle.dm_network.specs.Held.{arcs_of}
+use Rattle.dm_network.specs.Start.{IsNetwork}
+use Rattle.dm_rows.specs.declared.messages.Choice.{Choice}
+use Rattle.dm_rows.specs.declared.messages.Decision.{Decision}
+use Rattle.dm_rows.specs.Decide.{IsChoiceList, choice_of, with_decisions, free_choices_of, is_free_change, is_free_pair, change_choice, pair_choice}
+use Rattle.dm_rows.specs.Relax.{is_same_choice, is_decided, is_of_undecided, is_relaxed_active, violated_choices_of}
+use Rattle.dm_rows.specs.Rows.{RowsValue, IsSized}
+use Rattle.dm_rows.specs.Active.{is_active}
+use Rattle.dm_evaluate.specs.Evaluator.{EvaluatorValue, IsEvaluatorOf, times_of, path_without}
+use Rattle.dm_evaluate.proofs.Relaxing.{relaxed_least, no_relaxed_cycle}
+use Rattle.dm_relax.specs.Relaxed.{first_violated}
+use Rattle.dm_tree.specs.Relaxed.{relaxed_cost_of, IsViolated}
+use Rattle.dm_evaluate.proofs.Lists.{without_at}
+use Rattle.dm_evaluate.proofs.Paths.{one_passes}
+use Rattle.dm_relax.proofs.Apart.{got_is_in}
+use Rattle.dm_relax.proofs.BoundLaw.{all_from}
+use Rattle.dm_relax.proofs.Naming.{same_itself}
+use Rattle.dm_relax.proofs.Setting.{has_each, differs_in_none, differs_with}
+use Rattle.dm_relax.proofs.Bounding.{relaxed_is_active, held_in_relaxed}
+use Rattle.dm_search.specs.declared.steps.Outcome.{Outcome}
+use Rattle.dm_search.specs.Steps.{HasRelaxedCycle, IsPruned, IsOutcome}
+use Rattle.dm_search.specs.Inside.Walking.{IsBranchThere, IsFoundThere, IsOver}
+use Rattle.dm_search.proofs.Optimal.{decided_longer}
+
+-- one decision more of a path
+pub next_front : (p path : List Decision) (i : ℕ) (d : Decision) → i < length path → p ≡ take i path → d ≡ get_or path i d → p ++ d ∷ [] ≡ take (i + 1) path
+next_front p path i d lt e is = rw e (ap (λ x. take i path ++ x ∷ []) is ∙ sym (take_more path i d lt))
+
+got_before : (xs ys : List Decision) (k : ℕ) (x : Decision) → slice_get xs k ≡ Some x → slice_get (xs ++ ys) k ≡ Some x
+got_before [] ys k x at = cc
+got_before (y ∷ xs) ys zero x at = at
+got_before (y ∷ xs) ys (suc k) x at = got_before xs ys k x at
+
+front_of : (net : Net) (rows : RowsValue) (front rest : List Decision) → IsChoiceList net rows (front ++ rest) → IsChoiceList net rows front
+front_of net rows front rest list =
+    record {
+      free = all_from (λ d. Contains (free_choices_of net rows) (choice_of d)) front
+          (λ d h. All-contains (λ e. Contains (free_choices_of net rows) (choice_of e)) (front ++ rest) d list.free (Contains-append_left front rest d h));
+      once = λ m n d e a b same. list.once m n d e (got_before front rest m d a) (got_before front rest n e b) same;
+    }
+
+pub front_list : (net : Net) (rows : RowsValue) (path : List Decision) (n : ℕ) → IsChoiceList net rows path → IsChoiceList net rows (take n path)
+front_list net rows path n list =
+    front_of net rows (take n path) (drop n path) (subst (IsChoiceList net rows) (sym (take-append-drop n path)) list)
+
+-- a front of a front
+take_of_take : (m n : ℕ) (xs : List Decision) → m ≤ n → n ≤ length xs → take m (take n xs) ≡ take m xs
+take_of_take m n xs le within =
+    let size = length-take-le n xs within in
+    sym (take-append-le m (take n xs) (drop n xs) (omega (arith, size))) ∙ ap (take m) (take-append-drop n xs)
+
+-- one decision less
+pub one_less : (whole p q : List Decision) → p ≡ take (length p) whole → length p ≤ length whole → 0 < length p → q ≡ take (length p - 1) p →
+    (q ≡ take (length q) whole) × (length q ≡ length p - 1)
+one_less whole p q e within some f =
+    let size : length q ≡ length p - 1 = ap length f ∙ length-take-le (length p - 1) p (omega arith) in
+    let same : q ≡ take (length p - 1) whole =
+    f ∙ (ap (take (length p - 1)) e ∙ take_of_take (length p - 1) (length p) whole (omega arith) within) in (
+      same ∙ ap (λ (k : ℕ). take k whole) (sym size),
+      size,
+    )
+
+-- the last decision is taken back
+without_last : (net : Net) (rows : RowsValue) (q : List Decision) (d : Decision) → IsChoiceList net rows (q ++ d ∷ []) →
+    path_without (choice_of d) (q ++ d ∷ []) ≡ q
+without_last net rows q d list =
+    let size = length-append q (d ∷ []) in
+    let at = without_at net rows (q ++ d ∷ []) list d (Contains-push q d) (choice_of d) (same_itself (choice_of d)) (length q) (omega (arith, size))
+    (get_or-append_seam q d [] d) in
+    let none : drop (suc (length q)) (q ++ d ∷ []) ≡ [] = drop_all (suc (length q)) (q ++ d ∷ []) (omega (arith, size)) in
+    sym at ∙ (ap (λ ys. take (length q) (q ++ d ∷ []) ++ ys) none ∙ (append-nil (take (length q) (q ++ d ∷ [])) ∙ take-append_seam q (d ∷ [])))
+
+pub taken_back : (net : Net) (rows : RowsValue) (path new : List Decision) (d : Decision) → IsChoiceList net rows path →
+    path ≡ take (length path - 1) path ++ d ∷ [] → new ≡ path_without (choice_of d) path → new ≡ take (length path - 1) path
+taken_back net rows path new d list e is =
+    is ∙ (ap (path_without (choice_of d)) e
+    ∙ without_last net rows (take (length path - 1) path) d (subst (IsChoiceList net rows) e list))
+
+pub last_decided : (path : List Decision) (d : Decision) → path ≡ take (length path - 1) path ++ d ∷ [] → is_decided path (choice_of d) ≡ true
+last_decided path d e =
+    one_passes (λ x. is_same_choice (choice_of x) (choice_of d)) path d
+    (subst (λ xs. Contains xs d) (sym e) (Contains-push (take (length path - 1) path) d)) (same_itself (choice_of d))
+
+pub last_is : (path : List Decision) (d : Decision) → 0 < length path → d ≡ get_or path (length path - 1) d → path ≡ take (length path - 1) path ++ d ∷ []
+last_is path d some is =
+    let whole : path ≡ take (length path - 1 + 1) path =
+    sym (take_all (length path - 1 + 1) path (omega arith)) in
+    whole ∙ (take_more path (length path - 1) d (omega arith) ∙ ap (λ x. take (length path - 1) path ++ x ∷ []) (sym is))
+
+pub goes_on_list : (net : Net) (rows : RowsValue) (p path : List Decision) (i : ℕ) (d : Decision) → IsChoiceList net rows path → i < length path →
+    p ≡ take i path → d ≡ get_or path i d → IsChoiceList net rows (p ++ d ∷ [])
+goes_on_list net rows p path i d list lt e is =
+    subst (IsChoiceList net rows) (sym (next_front p path i d lt e is)) (front_list net rows path (i + 1) list)
+
+fewer : (free before after : Bool) → (before ≡ true → after ≡ true) → (free && not before) ≡ false → (free && not after) ≡ false
+fewer false before after h e = refl
+fewer true true after h e = rw (h refl) refl
+fewer true false after h e = cc
+
+module _ (net : Net) (network : IsNetwork net) (rows : RowsValue) (sized : IsSized net rows) (front rest : List Decision)
+    (list : IsChoiceList net rows (front ++ rest)) (front_is : IsChoiceList net rows front) where
+  undecided_fewer : (a : ℕ) (pair : Option ℕ) → is_of_undecided net rows front a pair ≡ false → is_of_undecided net rows (front ++ rest) a pair ≡ false
+  undecided_fewer a None h = fewer (is_free_change net rows a) _ _ (decided_longer front rest (change_choice net a)) h
+  undecided_fewer a (Some p) h = fewer (is_free_pair net rows p) _ _ (decided_longer front rest (pair_choice net p)) h
+
+  still_active : (a : ℕ) → a < length net.activities → is_relaxed_active net rows front a ≡ true → is_relaxed_active net rows (front ++ rest) a ≡ true
+  still_active a below h =
+      let both = held_in_relaxed (is_of_undecided net rows front a (activity_at net a).pair) (is_active net (with_decisions net rows front) a) h in
+      let active : is_active net (with_decisions net rows (front ++ rest)) a ≡ true =
+      relaxed_is_active net network rows front (with_decisions net rows (front ++ rest)) (differs_with net rows rows (front ++ rest) (differs_in_none rows))
+      (has_each net network rows sized front front_is)
+      (λ d c. has_each net network rows sized (front ++ rest) list d (Contains-append_left front rest d c)) a below h in
+      let fewer : is_of_undecided net rows (front ++ rest) a (activity_at net a).pair ≡ false = undecided_fewer a (activity_at net a).pair both.0 in
+      rw fewer active
+
+  there : (a : ℕ) → Binds (arcs_of net (is_relaxed_active net rows front)) a →
+      BindsIn (arcs_of net (is_relaxed_active net rows front)) (arcs_of net (is_relaxed_active net rows (front ++ rest))) a
+  there a b = record {
+    binds = record {
+      is_arc = b.is_arc;
+      is_held = still_active a b.is_arc b.is_held;
+      from_event = b.from_event;
+      to_event = b.to_event;
+    };
+    same_tail = refl;
+    same_head = refl;
+  }
+
+  -- a cycle of a front is one of the whole path
+  pub longer_cycle : HasRelaxedCycle net rows front → HasRelaxedCycle net rows (front ++ rest)
+  longer_cycle h =
+      record {
+        cycle = h.cycle;
+        is_cycle = cycle_carries (arcs_of net (is_relaxed_active net rows front)) (arcs_of net (is_relaxed_active net rows (front ++ rest))) there h.cycle h.is_cycle;
+      }
+
+pub cycle_of_front : (net : Net) → IsNetwork net → (rows : RowsValue) → IsSized net rows → (p path : List Decision) (i : ℕ) (d : Decision) →
+    IsChoiceList net rows path → i < length path → p ≡ take i path → d ≡ get_or path i d → HasRelaxedCycle net rows (p ++ d ∷ []) → HasRelaxedCycle net rows path
+cycle_of_front net network rows sized p path i d list lt e is h =
+    let whole = take-append-drop (i + 1) path in
+    let front : HasRelaxedCycle net rows (take (i + 1) path) = subst (HasRelaxedCycle net rows) (next_front p path i d lt e is) h in
+    subst (HasRelaxedCycle net rows) whole
+    (longer_cycle net network rows sized (take (i + 1) path) (drop (i + 1) path) (subst (IsChoiceList net rows) (sym whole) list)
+    (front_list net rows path (i + 1) list) front)
+
+-- what an evaluator shows at its path
+module _ (net : Net) (network : IsNetwork net) (e : EvaluatorValue) (is : IsEvaluatorOf net e) (rows : RowsValue) (path : List Decision)
+    (same : e.rows ≡ rows) (at : e.path ≡ path) (penalty best c : ℕ) (cost : c ≡ relaxed_cost_of net e.rows e.path (times_of e) penalty) where
+  shown_bound : best ≤ c → IsPruned net e.rows e.path penalty best c
+  shown_bound no_less =
+      record {
+        no_cycle = no_relaxed_cycle net e.rows e.path e.priced is.evaluates;
+        times = times_of e;
+        least = relaxed_least net e.rows e.path e.priced is.evaluates network.formed.ends_are_known is.at_rest;
+        cost = cost;
+        no_less = no_less;
+      }
+
+  pub pruned_there : best ≤ c → IsPruned net rows path penalty best c
+  pruned_there no_less =
+      subst (λ p. IsPruned net rows p penalty best c) at (subst (λ r. IsPruned net r e.path penalty best c) same (shown_bound no_less))
+
+  shown_branch : (choice : Choice) → c < best → IsViolated net e.rows e.path (times_of e) choice → IsBranchThere net e.rows e.path penalty best c choice
+  shown_branch choice less violated =
+      record {
+        no_cycle = no_relaxed_cycle net e.rows e.path e.priced is.evaluates;
+        times = times_of e;
+        least = relaxed_least net e.rows e.path e.priced is.evaluates network.formed.ends_are_known is.at_rest;
+        cost = cost;
+        less = less;
+        violated = violated;
+      }
+
+  pub branch_there : (choice : Choice) → c < best → IsViolated net e.rows e.path (times_of e) choice → IsBranchThere net rows path penalty best c choice
+  branch_there choice less violated =
+      subst (λ p. IsBranchThere net rows p penalty best c choice) at
+      (subst (λ r. IsBranchThere net r e.path penalty best c choice) same (shown_branch choice less violated))
+
+-- the first violated choice is violated
+pub first_is_violated : (net : Net) (rows : RowsValue) (path : List Decision) (x : List ℕ) (choice : Choice) →
+    Some choice ≡ first_violated net rows path x → IsViolated net rows path x choice
+first_is_violated net rows path x choice first = got_is_in (violated_choices_of net rows path x) 0 choice (sym first)
+
+pub all_violated : (net : Net) (rows : RowsValue) (path : List Decision) (x : List ℕ) (o : Option Choice) → o ≡ first_violated net rows path x →
+    IfSome o (IsViolated net rows path x)
+all_violated net rows path x None e = tt
+all_violated net rows path x (Some choice) e = first_is_violated net rows path x choice e
+
+-- what one step finds is found there
+pub step_is_there : (net : Net) (rows : RowsValue) (path : List Decision) (penalty best : ℕ) (o : Outcome) → IsOutcome net rows path penalty best o →
+    IsFoundThere net rows path penalty best o
+step_is_there net rows path penalty best Outcome.Cycle h = h
+step_is_there net rows path penalty best (Outcome.Pruned c) h = h
+step_is_there net rows path penalty best (Outcome.Solved c choices) h = h
+step_is_there net rows path penalty best (Outcome.Branch c choice) h =
+    record {
+      no_cycle = h.no_cycle;
+      times = h.times;
+      least = h.least;
+      cost = h.cost;
+      less = h.less;
+      violated = first_is_violated net rows path h.times choice (sym h.first);
+    }
+
+-- an evaluator's path is one of its rows
+pub path_of : (net : Net) (rows : RowsValue) (e : EvaluatorValue) (path : List Decision) → IsOver net rows e → path ≡ e.path → IsChoiceList net rows path
+path_of net rows e path over is = rw is (subst (λ r. IsChoiceList net r e.path) over.same over.is.is_path)

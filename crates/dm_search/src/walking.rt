@@ -1,0 +1,286 @@
+//! One step of a search by an evaluator that is brought to the path.
+ghost use Rattle.std.specs.Prelude.{◌≡◌, ◌<◌, ◌≤◌, ◌+◌, ◌-◌, ◌++◌, ◌∷◌, [], length, take, IfOk, OnOk, OnErr, MatchBool, IsTrue, ◌↔◌, IfSome};
+ghost use Rattle.dm_rows.specs.Decide.{IsChoiceList, choice_of};
+ghost use Rattle.dm_evaluate.specs.Evaluator.{IsEvaluatorOf, IsOpen, times_of};
+ghost use Rattle.dm_base.specs.declared.limits.TheConstants.{PENALTY};
+ghost use Rattle.dm_relax.specs.Relaxed.{first_violated};
+ghost use Rattle.dm_tree.specs.Relaxed.{IsViolated};
+ghost use Rattle.dm_search.specs.Steps.{HasRelaxedCycle};
+ghost use Rattle.dm_search.specs.Inside.Walking.{AreFronts, IsFoundThere, IsOver};
+
+use crate::{Outcome, step};
+use dm_base::{Cost, Steps};
+use dm_evaluate::Evaluator;
+use dm_graph::search::Cyclic;
+use dm_network::Network;
+use dm_rows::{Choice, Decision, Snapshot};
+use std::alloc::{AllocError, Global};
+use std::marker::Brand;
+use std::sync::ledger::{Blank, Ledger};
+
+/// What [`step`] says of a path over the rows of a snapshot, in the time that the evaluator of these rows takes to go there. It
+/// branches on the choice that it is hinted at, where that one is violated.
+pub(crate) fn step_there(
+    alloc: Global,
+    net: &Network,
+    penalty: u64,
+    snapshot: &Snapshot,
+    evaluator: &mut Evaluator,
+    path: &[Decision],
+    best: Cost,
+    hint: Option<Choice>,
+) -> Result<Outcome, AllocError>
+    requires penalty { penalty ≤ PENALTY }
+    requires evaluator { IsOver net.now snapshot.now.rows evaluator.old }
+    requires list { IsChoiceList net.now snapshot.now.rows path.now }
+    ensures outcome { IfOk result (IsFoundThere net.now snapshot.now.rows path.now penalty best) }
+    ensures evaluator { IsOver net.now snapshot.now.rows evaluator.new }
+{
+    net.sound();
+    let Ok(()) = walk(net, evaluator, path) else {
+        return Ok(Outcome::Cycle);
+    };
+    let cost = evaluator.cost(net, penalty);
+    if best <= cost {
+        return Ok(Outcome::Pruned(cost));
+    }
+    match violated_there(net, evaluator, hint) {
+        Some(choice) => Ok(Outcome::Branch(cost, choice)),
+        // The choices of a completion are made out from the whole relaxed problem, which is seldom.
+        None => step(alloc, net, penalty, snapshot, path, best),
+    }
+}
+
+/// A choice that the evaluator's times violate: the one that it is hinted at, or the first.
+#[tactic(auto, using(crate::proofs::Walks::all_violated))]
+fn violated_there(net: &Network, evaluator: &mut Evaluator, hint: Option<Choice>) -> Option<Choice>
+    requires { IsEvaluatorOf net.now evaluator.old }
+    ensures evaluator { IsEvaluatorOf net.now evaluator.new }
+    ensures rows { evaluator.new.rows ≡ evaluator.old.rows }
+    ensures violated { IfSome result (IsViolated net.now evaluator.old.rows evaluator.old.path (times_of evaluator.old)) }
+{
+    match hint {
+        Some(choice) if is_violated_in(net, evaluator, choice) => Some(choice),
+        _ => violated_in(net, evaluator),
+    }
+}
+
+/// Whether the evaluator's times violate a choice.
+fn is_violated_in(net: &Network, evaluator: &Evaluator, choice: Choice) -> bool
+    requires { IsEvaluatorOf net.now evaluator.now }
+    ensures { IsTrue result ↔ IsViolated net.now evaluator.now.rows evaluator.now.path (times_of evaluator.now) choice }
+{
+    is_violated_with::<Brand>(net, evaluator, choice, Blank::new(1))
+}
+
+fn is_violated_with<L: Ledger>(
+    net: &Network,
+    evaluator: &Evaluator,
+    choice: Choice,
+    blank: Blank,
+) -> bool
+    requires evaluator { IsEvaluatorOf net.now evaluator.now }
+    requires name { blank.name ≡ L.name }
+    requires parts { blank.parts ≡ L.parts }
+    requires has_a_part { 0 < blank.parts }
+    ensures { IsTrue result ↔ IsViolated net.now evaluator.now.rows evaluator.now.path (times_of evaluator.now) choice }
+{
+    let mut steps = Steps::<L>::new(blank);
+    evaluator.is_violated(net, choice, &mut steps)
+}
+
+/// The first choice that the evaluator's times violate.
+fn violated_in(net: &Network, evaluator: &mut Evaluator) -> Option<Choice>
+    requires { IsEvaluatorOf net.now evaluator.old }
+    ensures evaluator { IsEvaluatorOf net.now evaluator.new }
+    ensures rows { evaluator.new.rows ≡ evaluator.old.rows }
+    ensures first { result ≡ first_violated net.now evaluator.old.rows evaluator.old.path (times_of evaluator.old) }
+{
+    violated_with::<Brand>(net, evaluator, Blank::new(1))
+}
+
+fn violated_with<L: Ledger>(
+    net: &Network,
+    evaluator: &mut Evaluator,
+    blank: Blank,
+) -> Option<Choice>
+    requires evaluator { IsEvaluatorOf net.now evaluator.old }
+    requires name { blank.name ≡ L.name }
+    requires parts { blank.parts ≡ L.parts }
+    requires has_a_part { 0 < blank.parts }
+    ensures evaluator { IsEvaluatorOf net.now evaluator.new }
+    ensures rows { evaluator.new.rows ≡ evaluator.old.rows }
+    ensures first { result ≡ first_violated net.now evaluator.old.rows evaluator.old.path (times_of evaluator.old) }
+{
+    let mut steps = Steps::<L>::new(blank);
+    evaluator.violated(net, &mut steps)
+}
+
+/// Brings an evaluator to a path: decisions are taken back from the end of its own path down to what both have in front, and
+/// the others of the path are made. It is refused where the relaxed problem of the path has a cycle.
+pub(crate) fn walk(
+    net: &Network,
+    evaluator: &mut Evaluator,
+    path: &[Decision],
+) -> Result<(), Cyclic>
+    requires evaluator { IsEvaluatorOf net.now evaluator.old }
+    requires list { IsChoiceList net.now evaluator.old.rows path.now }
+    ensures evaluator { IsEvaluatorOf net.now evaluator.new }
+    ensures rows { evaluator.new.rows ≡ evaluator.old.rows }
+    ensures there { OnOk result (evaluator.new.path ≡ path.now) }
+    ensures cycle { OnErr result (HasRelaxedCycle net.now evaluator.old.rows path.now) }
+{
+    let common = common_front(evaluator.path(), path);
+    back_to(net, evaluator, common);
+    go_on(net, evaluator, path)
+}
+
+/// How many decisions the two have in common at the front.
+fn common_front(one: &[Decision], other: &[Decision]) -> usize
+    ensures { AreFronts one.now other.now result }
+{
+    for (i, decision) in one.iter().enumerate() {
+        if i >= other.len() || !is_same(*decision, other[i]) {
+            return i;
+        }
+    }
+    one.len()
+}
+
+fn is_same(one: Decision, other: Decision) -> bool
+    ensures { MatchBool result (one ≡ other) (one ≡ other → ⊥) }
+{
+    one == other
+}
+
+/// Takes decisions back from the end until so many are left.
+pub(crate) fn back_to(net: &Network, evaluator: &mut Evaluator, left: usize)
+    requires evaluator { IsEvaluatorOf net.now evaluator.old }
+    requires within { left ≤ length evaluator.old.path }
+    ensures evaluator { IsEvaluatorOf net.now evaluator.new }
+    ensures rows { evaluator.new.rows ≡ evaluator.old.rows }
+    ensures path { evaluator.new.path ≡ take left evaluator.old.path }
+{
+    while evaluator.path().len() > left {
+        back(net, evaluator);
+    }
+}
+
+/// Takes the last decision back.
+fn back(net: &Network, evaluator: &mut Evaluator)
+    requires evaluator { IsEvaluatorOf net.now evaluator.old }
+    requires some { 0 < length evaluator.old.path }
+    ensures evaluator { IsEvaluatorOf net.now evaluator.new }
+    ensures rows { evaluator.new.rows ≡ evaluator.old.rows }
+    ensures path { evaluator.new.path ≡ take (length evaluator.old.path - 1) evaluator.old.path }
+{
+    let path = evaluator.path();
+    let last = path[path.len() - 1];
+    undecide_with::<Brand>(net, evaluator, last, Blank::new(1));
+}
+
+fn undecide_with<L: Ledger>(net: &Network, evaluator: &mut Evaluator, last: Decision, blank: Blank)
+    requires evaluator { IsEvaluatorOf net.now evaluator.old }
+    requires some { 0 < length evaluator.old.path }
+    requires last { evaluator.old.path ≡ take (length evaluator.old.path - 1) evaluator.old.path ++ last ∷ [] }
+    requires name { blank.name ≡ L.name }
+    requires parts { blank.parts ≡ L.parts }
+    requires has_a_part { 0 < blank.parts }
+    ensures evaluator { IsEvaluatorOf net.now evaluator.new }
+    ensures rows { evaluator.new.rows ≡ evaluator.old.rows }
+    ensures path { evaluator.new.path ≡ take (length evaluator.old.path - 1) evaluator.old.path }
+{
+    let mut steps = Steps::<L>::new(blank);
+    evaluator.undecide(net, decided(last), &mut steps);
+}
+
+/// Makes the decisions of a path of which the evaluator's is a front.
+fn go_on(net: &Network, evaluator: &mut Evaluator, path: &[Decision]) -> Result<(), Cyclic>
+    requires evaluator { IsEvaluatorOf net.now evaluator.old }
+    requires list { IsChoiceList net.now evaluator.old.rows path.now }
+    requires within { length evaluator.old.path ≤ length path.now }
+    requires front { evaluator.old.path ≡ take (length evaluator.old.path) path.now }
+    ensures evaluator { IsEvaluatorOf net.now evaluator.new }
+    ensures rows { evaluator.new.rows ≡ evaluator.old.rows }
+    ensures there { OnOk result (evaluator.new.path ≡ path.now) }
+    ensures cycle { OnErr result (HasRelaxedCycle net.now evaluator.old.rows path.now) }
+{
+    net.sound();
+    for i in evaluator.path().len()..path.len() {
+        match decide_with::<Brand>(net, evaluator, path[i], Blank::new(1)) {
+            Ok(()) => {}
+            Err(Cyclic) => return Err(Cyclic),
+        }
+    }
+    Ok(())
+}
+
+/// Makes a decision more, where its choice is open and it makes no cycle.
+pub(crate) fn make(net: &Network, evaluator: &mut Evaluator, decision: Decision) -> bool
+    requires { IsEvaluatorOf net.now evaluator.old }
+    ensures evaluator { IsEvaluatorOf net.now evaluator.new }
+    ensures rows { evaluator.new.rows ≡ evaluator.old.rows }
+{
+    if !evaluator.is_open(net, decided(decision)) {
+        return false;
+    }
+    make_open::<Brand>(net, evaluator, decision, Blank::new(1))
+}
+
+fn make_open<L: Ledger>(
+    net: &Network,
+    evaluator: &mut Evaluator,
+    decision: Decision,
+    blank: Blank,
+) -> bool
+    requires evaluator { IsEvaluatorOf net.now evaluator.old }
+    requires open { IsOpen net.now evaluator.old.rows evaluator.old.path (choice_of decision) }
+    requires name { blank.name ≡ L.name }
+    requires parts { blank.parts ≡ L.parts }
+    requires has_a_part { 0 < blank.parts }
+    ensures evaluator { IsEvaluatorOf net.now evaluator.new }
+    ensures rows { evaluator.new.rows ≡ evaluator.old.rows }
+{
+    let mut steps = Steps::<L>::new(blank);
+    let made = evaluator.decide(net, decision, &mut steps);
+    made.is_ok()
+}
+
+fn decide_with<L: Ledger>(
+    net: &Network,
+    evaluator: &mut Evaluator,
+    decision: Decision,
+    blank: Blank,
+) -> Result<(), Cyclic>
+    requires evaluator { IsEvaluatorOf net.now evaluator.old }
+    requires list { IsChoiceList net.now evaluator.old.rows (evaluator.old.path ++ decision ∷ []) }
+    requires name { blank.name ≡ L.name }
+    requires parts { blank.parts ≡ L.parts }
+    requires has_a_part { 0 < blank.parts }
+    ensures evaluator { IsEvaluatorOf net.now evaluator.new }
+    ensures rows { evaluator.new.rows ≡ evaluator.old.rows }
+    ensures path { OnOk result (evaluator.new.path ≡ evaluator.old.path ++ decision ∷ []) }
+    ensures cycle { OnErr result (HasRelaxedCycle net.now evaluator.old.rows (evaluator.old.path ++ decision ∷ [])) }
+{
+    let mut steps = Steps::<L>::new(blank);
+    match evaluator.decide(net, decision, &mut steps) {
+        Ok(()) => Ok(()),
+        Err(Cyclic) => Err(Cyclic),
+    }
+}
+
+/// The choice that a decision decides. Of a pair the smaller id stands first.
+fn decided(decision: Decision) -> Choice
+    ensures { result ≡ choice_of decision }
+{
+    match decision {
+        Decision::Keep(a) | Decision::Drop(a) => Choice::Change(a),
+        Decision::First(first, second) => {
+            if first.0 < second.0 {
+                Choice::Pair(first, second)
+            } else {
+                Choice::Pair(second, first)
+            }
+        }
+    }
+}
