@@ -11,7 +11,7 @@ use Rattle.dm_cert.specs.declared.replies.Reply.TheVariants.{Ok, Refused, Old}
 use Rattle.dm_cert.specs.Answers.{Setting, rows_after, is_plan, latest_plan, IsEntry, IsAdopted, IsOld, HasNoRoom}
 use Rattle.dm_cert.specs.Logs.{kind_of, line_of, number_after}
 use Rattle.dm_cert.specs.PlanTexts.{IsVersion}
-use Rattle.dm_claims.specs.Claims.{IsRoomFor, Tells}
+use Rattle.dm_claims.specs.Claims.{IsDispositionOf, Tells}
 use Rattle.dm_answers.specs.declared.journal.Journal.{Journal}
 use Rattle.dm_answers.specs.declared.replay.Replay.{Replay}
 use Rattle.dm_answers.specs.declared.past.Past.{Past}
@@ -30,12 +30,11 @@ pub record IsJournal (j : Journal) : Type 0 where
   pub penalty : j.penalty ≤ PENALTY
   pub version : IsVersion j.version
 
--- these are the rows after so many entries, and there is room for the network
+-- these are the rows after so many entries
 pub record IsReplay (j : Journal) (r : Replay) : Type 0 where
-  pub rows_are : r.rows ≡ rows_after (setting_of j) (history_of j) r.entry
+  pub rows_are : r.disposition.rows ≡ rows_after (setting_of j) (history_of j) r.entry
   pub within : r.entry ≤ length (history_of j)
-  pub sized : IsSized j.net.now r.rows
-  pub room : IsRoomFor j.net.now r.evaluator
+  pub stands : IsDispositionOf j.net.now r.disposition
 
 -- ---- what stands before an item of a log
 

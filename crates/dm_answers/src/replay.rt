@@ -1,35 +1,33 @@
 //! The rows at the entries of a journal.
 ghost use Rattle.std.specs.Prelude.{◌≡◌, ◌+◌, ◌<◌, ◌≤◌, length, IfOk, OnOk};
-ghost use Rattle.dm_claims.specs.Claims.{IsRoomFor};
 ghost use Rattle.dm_answers.specs.Judging.{IsJournal, IsReplay, history_of};
 
 use crate::journal::Journal;
-use dm_claims::Evaluator;
-use dm_rows::{Rows, admit};
+use dm_claims::Disposition;
 use std::alloc::{AllocError, Global};
 
-/// The rows after so many entries, and room for their times.
+/// The rows after so many entries, and their times.
 #[derive(Drop)]
 pub struct Replay {
-    pub rows: Rows,
+    pub disposition: Disposition,
     pub entry: usize,
-    pub evaluator: Evaluator,
 }
 
 impl Replay {
     /// The rows before the first entry.
-    pub fn new(journal: &Journal<'_>, evaluator: Evaluator) -> Result<Replay, AllocError>
-        requires journal { IsJournal journal.now }
-        requires room { IsRoomFor journal.now.net.now evaluator }
+    pub fn new(alloc: Global, journal: &Journal<'_>) -> Result<Replay, AllocError>
+        requires { IsJournal journal.now }
         ensures { IfOk result (IsReplay journal.now) }
     {
         let Ok(rows) = journal.start.copy() else {
             return Err(AllocError);
         };
+        let Ok(disposition) = Disposition::new(alloc, journal.net, rows) else {
+            return Err(AllocError);
+        };
         Ok(Replay {
-            rows,
+            disposition,
             entry: 0,
-            evaluator,
         })
     }
 
@@ -48,7 +46,7 @@ impl Replay {
         ensures there { OnOk result (self.new.entry ≡ entry) }
     {
         if entry < self.entry {
-            self.rows.copy_from(journal.start);
+            self.disposition.go_to(journal.net, journal.start);
             self.entry = 0;
         }
         while self.entry < entry {
@@ -68,14 +66,11 @@ impl Replay {
         ensures stands { IsReplay journal.now self.new }
         ensures on { OnOk result (self.new.entry ≡ self.old.entry + 1) }
     {
-        match admit(
-            alloc,
-            journal.net,
-            &self.rows,
-            &journal.entries[self.entry].message,
-        ) {
-            Ok(change) => {
-                self.rows.apply(&change);
+        match self
+            .disposition
+            .enter(alloc, journal.net, &journal.entries[self.entry].message)
+        {
+            Ok(()) => {
                 self.entry += 1;
                 Ok(())
             }

@@ -43,8 +43,7 @@ fn is_refused_at(
     is_refused(
         alloc,
         journal.net,
-        &mut replay.evaluator,
-        &replay.rows,
+        &replay.disposition,
         number,
         message,
         why,
@@ -99,8 +98,8 @@ fn is_time_at(
         Err(AllocError) => return Err(AllocError),
     }
     journal.net.sound();
-    match replay.evaluator.least(journal.net, &replay.rows) {
-        Ok(()) => Ok(replay.evaluator.is_time(place, time)),
+    match replay.disposition.settle(journal.net) {
+        Ok(()) => Ok(replay.disposition.is_time(place, time)),
         Err(Cyclic) => Ok(false),
     }
 }
@@ -164,11 +163,11 @@ fn is_cost_at(
         Err(AllocError) => return Err(AllocError),
     }
     journal.net.sound();
-    match replay.evaluator.least(journal.net, &replay.rows) {
+    match replay.disposition.settle(journal.net) {
         Ok(()) => Ok(
             replay
-                .evaluator
-                .is_cost(journal.net, &replay.rows, journal.penalty, cost),
+                .disposition
+                .is_cost(journal.net, journal.penalty, cost),
         ),
         Err(Cyclic) => Ok(false),
     }

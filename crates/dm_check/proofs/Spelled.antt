@@ -66,15 +66,15 @@ times_left {V} step text stands (suc n) held all place next told =
       count = omega (arith, rest.count);
     }
 
-same_each : {V : Type 0} (text : V → List ℕ) (n : ℕ) (vs : List V) → texts_from (λ k. text) n vs ≡ flat_map text vs
+pub same_each : {V : Type 0} (text : V → List ℕ) (n : ℕ) (vs : List V) → texts_from (λ k. text) n vs ≡ flat_map text vs
 same_each text n [] = refl
 same_each text n (v ∷ vs) = ap (λ xs. text v ++ xs) (same_each text (n + 1) vs)
 
-entries_same : (n : ℕ) (entries : List Entry) → texts_from (λ k. entry_text (k + 1)) n entries ≡ entries_text (n + 1) entries
+pub entries_same : (n : ℕ) (entries : List Entry) → texts_from (λ k. entry_text (k + 1)) n entries ≡ entries_text (n + 1) entries
 entries_same n [] = refl
 entries_same n (e ∷ es) = ap (λ xs. entry_text (n + 1) e ++ xs) (entries_same (n + 1) es)
 
-logs_same : (version n : ℕ) (logs : List FeedLog) → texts_from (λ k. log_text version (k + 1)) n logs ≡ logs_text version (n + 1) logs
+pub logs_same : (version n : ℕ) (logs : List FeedLog) → texts_from (λ k. log_text version (k + 1)) n logs ≡ logs_text version (n + 1) logs
 logs_same version n [] = refl
 logs_same version n (l ∷ ls) = ap (λ xs. log_text version (n + 1) l ++ xs) (logs_same version (n + 1) ls)
 
@@ -95,10 +95,10 @@ entry_left s feeds before place e next told =
     rules_left IsEntryLine (λ said. entry_text said.number said.entry) (λ said line is. is.spelled) _ _ (λ said. said.entry) place next e told
     ∙ (ap (λ n. entry_text n told.value.entry ++ next.left) told.then.0.number ∙ ap (λ x. entry_text (length before + 1) x ++ next.left) (sym told.then.1))
 
-numbered : (words : List ℕ) (k : ℕ) (line : List ℕ) → IsNumberLine words k line → words ++ (decimal k ++ line_end) ≡ line ++ line_end
+pub numbered : (words : List ℕ) (k : ℕ) (line : List ℕ) → IsNumberLine words k line → words ++ (decimal k ++ line_end) ≡ line ++ line_end
 numbered words k line is = ap (λ xs. words ++ xs) (ap (λ ys. ys ++ line_end) (sym (append-nil (decimal k)))) ∙ (sym (append_assoc words (decimal k ++ []) line_end) ∙ ap (λ xs. xs ++ line_end) is.spelled)
 
-timed_line : (said : Timed) (line : List ℕ) → IsTimeLine said line → joined (decimal said.event ∷ codes "; " ∷ decimal said.time ∷ line_end ∷ []) ≡ line ++ line_end
+pub timed_line : (said : Timed) (line : List ℕ) → IsTimeLine said line → joined (decimal said.event ∷ codes "; " ∷ decimal said.time ∷ line_end ∷ []) ≡ line ++ line_end
 timed_line said line is =
     ap (λ xs. decimal said.event ++ (codes "; " ++ xs)) (ap (λ ys. ys ++ line_end) (sym (append-nil (decimal said.time))))
     ∙ (sym (append_assoc (decimal said.event) (codes "; " ++ (decimal said.time ++ [])) line_end) ∙ ap (λ xs. xs ++ line_end) is.spelled)
@@ -197,11 +197,11 @@ item_left s history feed before place answered next told = item_at s history fee
 
 -- ---- logs
 
-opening_same : (o : Opening) (line : List ℕ) → IsOpeningLine o line → feed_text o.feed o.items ≡ line ++ line_end
+pub opening_same : (o : Opening) (line : List ℕ) → IsOpeningLine o line → feed_text o.feed o.items ≡ line ++ line_end
 unfolding feed_text
 opening_same o line is = ap (λ xs. codes "feed " ++ xs) (sym (simp (append_assoc, append-nil))) ∙ ap (λ xs. xs ++ line_end) is.spelled
 
-log_same : (version n : ℕ) (items : List LogItem) (stop : FeedStop) (rest : List ℕ) →
+pub log_same : (version n : ℕ) (items : List LogItem) (stop : FeedStop) (rest : List ℕ) →
     log_text version n (record { items = items; stop = stop }) ++ rest ≡ feed_text n (length items) ++ (flat_map (item_text version) items ++ (stop_text stop ++ rest))
 unfolding log_text
 log_same version n items stop rest = simp (append_assoc, append-nil)
@@ -331,7 +331,7 @@ rest_told s history logs place run next told =
           ∙ ap (λ xs. (codes "cost " ++ (decimal f.value ++ line_end)) ++ xs) end.left)))));
     }
 
-regroup_all : (v p f e entries logs boards notes heading times c : List ℕ) →
+pub regroup_all : (v p f e entries logs boards notes heading times c : List ℕ) →
     (codes "dm-run " ++ (v ++ line_end)) ++ ((codes "penalty " ++ (p ++ line_end)) ++ ((codes "feeds " ++ (f ++ line_end)) ++ ((codes "entries " ++ (e ++ line_end))
     ++ (entries ++ (logs ++ (boards ++ (notes ++ (heading ++ (times ++ ((codes "cost " ++ (c ++ line_end)) ++ (codes "done" ++ line_end)))))))))))
     ≡ joined (joined (codes "dm-run " ∷ v ∷ line_end ∷ codes "penalty " ∷ p ∷ line_end ∷ codes "feeds " ∷ f ∷ line_end ∷ codes "entries " ∷ e ∷ line_end ∷ [])
@@ -372,24 +372,29 @@ body_told s place run next told =
     ∙ ap (λ xs. logs_text s.version 1 f.value ++ xs) rest.left)))) in
     subst (λ (r : Run). place.left ≡ body_text s.version r) (sym rest.is) all
 
-version_line : (version : ℕ) (line : List ℕ) → IsVersionLine version line → codes "dm-run " ++ (decimal version ++ line_end) ≡ line ++ line_end
+pub version_line : (version : ℕ) (line : List ℕ) → IsVersionLine version line → codes "dm-run " ++ (decimal version ++ line_end) ≡ line ++ line_end
 version_line version line is =
     ap (λ xs. codes "dm-run " ++ xs) (ap (λ ys. ys ++ line_end) (sym (append-nil (decimal version))))
     ∙ (sym (append_assoc (codes "dm-run ") (decimal version ++ []) line_end) ∙ ap (λ xs. xs ++ line_end) is.spelled)
 
-pub good_is_spelled : (net : Net) (start : RowsValue) (penalty : ℕ) (text : List ℕ) (entries plans : ℕ) (good : IsGood net start penalty text entries plans) →
-    IsSpelledIn net start penalty text entries plans good
+-- the version is the one that the first line tells
+pub good_is_spelled_so : (net : Net) (start : RowsValue) (penalty : ℕ) (text : List ℕ) (entries plans : ℕ) (good : IsGood net start penalty text entries plans) →
+    text ≡ run_text good.told.value good.run
 unfolding run_text header_text heading_text ending_text
-good_is_spelled net start penalty text entries plans good =
+good_is_spelled_so net start penalty text entries plans good =
     let version : ℕ = good.told.value in
     let run : Run = good.run in
     let s : Setting = record { net = net; start = start; penalty = penalty; version = version } in
     let first = stands_left IsVersionLine (λ v. codes "dm-run " ++ (decimal v ++ line_end)) version_line (at_start text) version good.told.behind good.told.told in
     let body = body_told s good.told.behind run good.end good.told.then in
-    record {
-      version = version;
-      is_version = good.told.told.spelled.is_version;
-      spelled = first ∙ (ap (λ xs. (codes "dm-run " ++ (decimal version ++ line_end)) ++ xs) body
-          ∙ regroup_all (decimal version) (decimal run.penalty) (decimal (length run.logs)) (decimal (length run.history)) (entries_text 1 run.history) (logs_text version 1 run.logs)
-          (boards_text (length run.notes)) (flat_map note_text run.notes) (codes "times " ++ (decimal (length run.history) ++ line_end)) (timetable_text run.net run.times) (decimal run.cost));
-    }
+    first ∙ (ap (λ xs. (codes "dm-run " ++ (decimal version ++ line_end)) ++ xs) body
+    ∙ regroup_all (decimal version) (decimal run.penalty) (decimal (length run.logs)) (decimal (length run.history)) (entries_text 1 run.history) (logs_text version 1 run.logs)
+    (boards_text (length run.notes)) (flat_map note_text run.notes) (codes "times " ++ (decimal (length run.history) ++ line_end)) (timetable_text run.net run.times) (decimal run.cost))
+
+pub good_is_spelled : (net : Net) (start : RowsValue) (penalty : ℕ) (text : List ℕ) (entries plans : ℕ) (good : IsGood net start penalty text entries plans) →
+    IsSpelledIn net start penalty text entries plans good
+good_is_spelled net start penalty text entries plans good = record {
+  version = good.told.value;
+  is_version = good.told.told.spelled.is_version;
+  spelled = good_is_spelled_so net start penalty text entries plans good;
+}

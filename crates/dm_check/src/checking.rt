@@ -4,7 +4,7 @@ ghost use Rattle.dm_base.specs.declared.limits.TheConstants.{TEXT, PENALTY, ENTR
 ghost use Rattle.dm_rows.specs.Rows.{IsSized};
 ghost use Rattle.dm_cert.specs.Answers.{rows_after};
 ghost use Rattle.dm_cert.specs.PlanTexts.{IsVersion};
-ghost use Rattle.dm_claims.specs.Claims.{IsRoomFor};
+ghost use Rattle.dm_claims.specs.Claims.{IsDispositionOf};
 ghost use Rattle.dm_answers.specs.Judging.{IsJournal, IsReplay, setting_of, history_of};
 ghost use Rattle.dm_check.specs.FalseRecords.{IsVerdict};
 ghost use Rattle.dm_check.specs.Judged.{AreFlagged, BodyOn, LogsAndRestOn, HistoryOn, RunOn};
@@ -17,7 +17,7 @@ use crate::told_records::{entries_told, feeds_told, penalty_told};
 use crate::told_rest::rest_told;
 use crate::verdicts::Verdict;
 use dm_answers::{Journal, Replay};
-use dm_claims::Evaluator;
+use dm_claims::Disposition;
 use dm_network::Network;
 use dm_rows::{Entry, Rows};
 use dm_text::Lines;
@@ -30,21 +30,21 @@ pub(crate) struct Counts {
     pub(crate) plans: u32,
 }
 
-/// The logs and what stands behind them, where these are the rows after all entries, and no entry is flagged as named yet. The
+/// The logs and what stands behind them, where the rows are those after all entries, and no entry is flagged as named yet. The
 /// answer is how many plans there are.
 fn logs_then_rest_told(
     alloc: Global,
     lines: &mut Lines,
     journal: &Journal<'_>,
-    rows: &Rows,
+    disposition: &mut Disposition,
     replay: &mut Replay,
     named: &mut [bool],
     feeds: usize,
     entries: u32,
 ) -> Result<usize, Stop>
     requires journal { IsJournal journal.now }
-    requires sized { IsSized journal.now.net.now rows.now }
-    requires rows_are { rows.now ≡ rows_after (setting_of journal.now) (history_of journal.now) (length (history_of journal.now)) }
+    requires stands_after { IsDispositionOf journal.now.net.now disposition.old }
+    requires rows_are { disposition.old.rows ≡ rows_after (setting_of journal.now) (history_of journal.now) (length (history_of journal.now)) }
     requires stands { IsReplay journal.now replay.old }
     requires few { feeds ≤ FEEDS }
     requires none { AreFlagged [] named.old }
@@ -56,34 +56,24 @@ fn logs_then_rest_told(
         Ok(plans) => plans,
         Err(stop) => return Err(stop),
     };
-    match rest_told(
-        alloc,
-        lines,
-        journal,
-        rows,
-        &mut replay.evaluator,
-        named,
-        entries,
-    ) {
+    match rest_told(alloc, lines, journal, disposition, named, entries) {
         Ok(()) => Ok(plans),
         Err(stop) => Err(stop),
     }
 }
 
-/// The logs and what stands behind them, where these are the rows after all entries.
+/// The logs and what stands behind them, where the rows are those after all entries.
 fn logs_and_rest_told(
     alloc: Global,
     lines: &mut Lines,
     journal: &Journal<'_>,
-    rows: &Rows,
-    evaluator: Evaluator,
+    disposition: Disposition,
     feeds: usize,
     entries: u32,
 ) -> Result<usize, Stop>
     requires journal { IsJournal journal.now }
-    requires sized { IsSized journal.now.net.now rows.now }
-    requires rows_are { rows.now ≡ rows_after (setting_of journal.now) (history_of journal.now) (length (history_of journal.now)) }
-    requires room { IsRoomFor journal.now.net.now evaluator }
+    requires stands { IsDispositionOf journal.now.net.now disposition }
+    requires rows_are { disposition.rows ≡ rows_after (setting_of journal.now) (history_of journal.now) (length (history_of journal.now)) }
     requires few { feeds ≤ FEEDS }
     requires counted { length (history_of journal.now) ≡ entries }
     ensures { LogsAndRestOn (setting_of journal.now) (history_of journal.now) feeds lines.old lines.new result }
@@ -91,7 +81,8 @@ fn logs_and_rest_told(
     let Ok(mut named) = vec![in alloc; false; journal.entries.len()] else {
         return Err(Stop::OutOfMemory);
     };
-    let mut replay = match Replay::new(journal, evaluator) {
+    let mut disposition = disposition;
+    let mut replay = match Replay::new(alloc, journal) {
         Ok(replay) => replay,
         Err(AllocError) => return Err(Stop::OutOfMemory),
     };
@@ -99,7 +90,7 @@ fn logs_and_rest_told(
         alloc,
         lines,
         journal,
-        rows,
+        &mut disposition,
         &mut replay,
         &mut named,
         feeds,
@@ -107,7 +98,7 @@ fn logs_and_rest_told(
     )
 }
 
-/// The logs and what stands behind them, where these are the entries and the rows after them.
+/// The logs and what stands behind them, where these are the entries, and the rows are those after them.
 fn journal_told(
     alloc: Global,
     lines: &mut Lines,
@@ -117,17 +108,15 @@ fn journal_told(
     version: u32,
     feeds: usize,
     entries: u32,
-    evaluator: Evaluator,
-    rows: &Rows,
+    disposition: Disposition,
     history: &[Entry],
 ) -> Result<usize, Stop>
     requires sized { IsSized net.now start.now }
     requires penalty { penalty ≤ PENALTY }
     requires version { IsVersion version }
     requires few { feeds ≤ FEEDS }
-    requires sized_rows { IsSized net.now rows.now }
-    requires rows_are { rows.now ≡ rows_after (record { net = net.now; start = start.now; penalty = penalty; version = version }) history.now (length history.now) }
-    requires room { IsRoomFor net.now evaluator }
+    requires stands { IsDispositionOf net.now disposition }
+    requires rows_are { disposition.rows ≡ rows_after (record { net = net.now; start = start.now; penalty = penalty; version = version }) history.now (length history.now) }
     requires counted { length history.now ≡ entries }
     ensures { LogsAndRestOn (record { net = net.now; start = start.now; penalty = penalty; version = version }) history.now feeds lines.old lines.new result }
 {
@@ -138,7 +127,7 @@ fn journal_told(
         penalty,
         version,
     };
-    logs_and_rest_told(alloc, lines, &journal, rows, evaluator, feeds, entries)
+    logs_and_rest_told(alloc, lines, &journal, disposition, feeds, entries)
 }
 
 /// The entries and what stands behind them, from the rows at the start.
@@ -151,26 +140,33 @@ fn entries_then_logs_told(
     version: u32,
     feeds: usize,
     entries: u32,
-    evaluator: Evaluator,
-    rows: Rows,
+    disposition: Disposition,
 ) -> Result<Counts, Stop>
     requires sized { IsSized net.now start.now }
     requires penalty { penalty ≤ PENALTY }
     requires version { IsVersion version }
     requires few { feeds ≤ FEEDS }
     requires few_entries { entries ≤ ENTRIES }
-    requires room { IsRoomFor net.now evaluator }
-    requires copied { rows ≡ start.now }
+    requires stands { IsDispositionOf net.now disposition }
+    requires copied { disposition.rows ≡ start.now }
     ensures { HistoryOn (record { net = net.now; start = start.now; penalty = penalty; version = version }) feeds entries lines.old lines.new result }
 {
-    let mut evaluator = evaluator;
-    let mut rows = rows;
-    let history = match all_entries(alloc, lines, net, &mut evaluator, &mut rows, feeds, entries) {
+    let mut disposition = disposition;
+    let history = match all_entries(alloc, lines, net, &mut disposition, feeds, entries) {
         Ok(history) => history,
         Err(stop) => return Err(stop),
     };
     match journal_told(
-        alloc, lines, net, start, penalty, version, feeds, entries, evaluator, &rows, &history,
+        alloc,
+        lines,
+        net,
+        start,
+        penalty,
+        version,
+        feeds,
+        entries,
+        disposition,
+        &history,
     ) {
         Ok(plans) => Ok(Counts {
             entries,
@@ -198,14 +194,22 @@ fn history_told(
     requires few_entries { entries ≤ ENTRIES }
     ensures { HistoryOn (record { net = net.now; start = start.now; penalty = penalty; version = version }) feeds entries lines.old lines.new result }
 {
-    let Ok(evaluator) = Evaluator::new(alloc, net) else {
-        return Err(Stop::OutOfMemory);
-    };
     let Ok(rows) = start.copy() else {
         return Err(Stop::OutOfMemory);
     };
+    let Ok(disposition) = Disposition::new(alloc, net, rows) else {
+        return Err(Stop::OutOfMemory);
+    };
     entries_then_logs_told(
-        alloc, lines, net, start, penalty, version, feeds, entries, evaluator, rows,
+        alloc,
+        lines,
+        net,
+        start,
+        penalty,
+        version,
+        feeds,
+        entries,
+        disposition,
     )
 }
 

@@ -49,7 +49,7 @@ pub(crate) fn is_true_plan_answer(
         alloc,
         journal.net,
         journal.penalty,
-        &replay.rows,
+        replay.disposition.rows(),
         *budget,
         plan,
     )

@@ -1,20 +1,19 @@
 //! Entries of a text, each accepted by the rows after those before it.
-ghost use Rattle.std.specs.Prelude.{ℕ, ◌≡◌, ◌+◌, ◌<◌, ◌≤◌, List, length, OnOk};
+ghost use Rattle.std.specs.Prelude.{ℕ, ◌≡◌, ◌+◌, ◌<◌, ◌≤◌, List, length};
 ghost use Rattle.dm_base.specs.declared.limits.TheConstants.{ENTRIES, FEEDS};
 ghost use Rattle.dm_rows.specs.declared.messages.Entry.{Entry as EntryValue};
-ghost use Rattle.dm_rows.specs.Rows.{IsSized};
 ghost use Rattle.dm_cert.specs.Answers.{Setting};
-ghost use Rattle.dm_claims.specs.Claims.{IsRoomFor, Tells};
+ghost use Rattle.dm_claims.specs.Claims.{IsDispositionOf, Tells};
 ghost use Rattle.dm_records.specs.Readings.{numbered};
 ghost use Rattle.dm_check.specs.Judged.{IsAfter, IsInTurn, TellsNextEntry, TellsEntries};
 
 use crate::faults::{Fault, Stop};
 use crate::told_lines::entry_told;
 use crate::verdicts::BadKind;
-use dm_claims::{Evaluator, accept};
+use dm_claims::Disposition;
 use dm_network::Network;
 use dm_records::EntryLine;
-use dm_rows::{Entry, Rows};
+use dm_rows::Entry;
 use dm_text::Lines;
 use std::alloc::{AllocError, Global};
 
@@ -23,18 +22,15 @@ pub(crate) fn next_entry(
     alloc: Global,
     lines: &mut Lines,
     net: &Network,
-    evaluator: &mut Evaluator,
-    rows: &mut Rows,
+    disposition: &mut Disposition,
     feeds: usize,
     entries: usize,
 ) -> Result<Entry, Stop>
-    requires sized { IsSized net.now rows.old }
-    requires room { IsRoomFor net.now evaluator.old }
+    requires stands { IsDispositionOf net.now disposition.old }
     requires few { entries < ENTRIES }
     requires few_feeds { feeds ≤ FEEDS }
-    ensures tells { (s : Setting) (before : List EntryValue) → IsAfter s net.now before entries rows.old → TellsNextEntry s feeds before entries lines.old lines.new rows.new result }
-    ensures sized { OnOk result (IsSized net.now rows.new) }
-    ensures room { IsRoomFor net.now evaluator.new }
+    ensures tells { (s : Setting) (before : List EntryValue) → IsAfter s net.now before entries disposition.old.rows → TellsNextEntry s feeds before entries lines.old lines.new disposition.new.rows result }
+    ensures stands { IsDispositionOf net.now disposition.new }
 {
     let line = lines.line();
     let said = match entry_told(alloc, lines) {
@@ -47,7 +43,7 @@ pub(crate) fn next_entry(
             kind: BadKind::Entry,
         }));
     }
-    match accept(alloc, net, evaluator, rows, entries, &said.message) {
+    match disposition.accept(alloc, net, entries, &said.message) {
         Ok(true) => Ok(entry_of(said)),
         Ok(false) => Err(Stop::Fault(Fault {
             line,
@@ -88,22 +84,20 @@ pub(crate) fn all_entries(
     alloc: Global,
     lines: &mut Lines,
     net: &Network,
-    evaluator: &mut Evaluator,
-    rows: &mut Rows,
+    disposition: &mut Disposition,
     feeds: usize,
     count: u32,
 ) -> Result<Vec<Entry>, Stop>
-    requires sized { IsSized net.now rows.old }
-    requires room { IsRoomFor net.now evaluator.old }
+    requires stands { IsDispositionOf net.now disposition.old }
     requires few { count ≤ ENTRIES }
     requires few_feeds { feeds ≤ FEEDS }
-    ensures tells { (s : Setting) → s.net ≡ net.now → rows.old ≡ s.start → TellsEntries (λ v. v.items) s feeds count lines.old lines.new rows.new result }
-    ensures room { IsRoomFor net.now evaluator.new }
+    ensures tells { (s : Setting) → s.net ≡ net.now → disposition.old.rows ≡ s.start → TellsEntries (λ v. v.items) s feeds count lines.old lines.new disposition.new.rows result }
+    ensures stands { IsDispositionOf net.now disposition.new }
 {
     let mut entries = Vec::new(alloc);
     while entries.len() < count as usize {
         let place = entries.len();
-        let entry = match next_entry(alloc, lines, net, evaluator, rows, feeds, place) {
+        let entry = match next_entry(alloc, lines, net, disposition, feeds, place) {
             Ok(entry) => entry,
             Err(stop) => return Err(stop),
         };

@@ -1,11 +1,10 @@
 //! Records of a text that are one line, with the rule of each.
 ghost use Rattle.std.specs.Prelude.{ℕ, ◌≡◌, ◌<◌, ◌≤◌, List, length, codes};
 ghost use Rattle.dm_base.specs.declared.limits.TheConstants.{FEEDS, ENTRIES, PENALTY};
-ghost use Rattle.dm_rows.specs.Rows.{IsSized};
 ghost use Rattle.dm_rows.specs.Timetable.{IsLeast};
 ghost use Rattle.dm_relaxation.specs.Binding.{AreBelowLimit};
 ghost use Rattle.dm_cert.specs.RunTexts.{Run};
-ghost use Rattle.dm_claims.specs.Claims.{IsRoomFor};
+ghost use Rattle.dm_claims.specs.Claims.{IsDispositionOf, times_of};
 ghost use Rattle.dm_check.specs.FalseRecords.{TellsNumber, TellsTime, TellsCost, TellsEnd};
 ghost use Rattle.dm_check.specs.Judged.{Judges, TellsTimetable};
 
@@ -14,9 +13,8 @@ use crate::told_lines::{number_told, time_told, word_told};
 use crate::verdicts::BadKind;
 use dm_base::Cost;
 use dm_base::limits::{ENTRIES, FEEDS};
-use dm_claims::Evaluator;
+use dm_claims::Disposition;
 use dm_network::Network;
-use dm_rows::Rows;
 use dm_text::Lines;
 
 /// The penalty, which is the command's.
@@ -95,25 +93,24 @@ pub(crate) fn heading_told(lines: &mut Lines, entries: u32) -> Result<u128, Faul
     }
 }
 
-/// The time of the event at this place, where the evaluator's times are the least of the rows.
+/// The time of the event at this place, where the disposition's times are the least.
 pub(crate) fn event_told(
     lines: &mut Lines,
     net: &Network,
-    rows: &Rows,
-    evaluator: &Evaluator,
+    disposition: &Disposition,
     i: usize,
 ) -> Result<u128, Fault>
-    requires room { IsRoomFor net.now evaluator.now }
-    requires least { IsLeast net.now rows.now evaluator.now.times }
+    requires stands { IsDispositionOf net.now disposition.now }
+    requires least { IsLeast net.now disposition.now.rows (times_of disposition.now) }
     requires is_event { i < length net.now.events }
-    ensures { (before : List ℕ) → length before ≡ i → Judges (TellsTime net.now rows.now before) (λ t. t) lines.old lines.new result }
+    ensures { (before : List ℕ) → length before ≡ i → Judges (TellsTime net.now disposition.now.rows before) (λ t. t) lines.old lines.new result }
 {
     let line = lines.line();
     let said = match time_told(lines) {
         Ok(said) => said,
         Err(fault) => return Err(fault),
     };
-    if said.event == net.event(i).id.0 && evaluator.is_time(i, said.time) {
+    if said.event == net.event(i).id.0 && disposition.is_time(i, said.time) {
         Ok(said.time)
     } else {
         Err(Fault {
@@ -123,27 +120,25 @@ pub(crate) fn event_told(
     }
 }
 
-/// The final cost, where the evaluator's times are the least of the rows.
+/// The final cost, where the disposition's times are the least.
 pub(crate) fn cost_told(
     lines: &mut Lines,
     net: &Network,
-    rows: &Rows,
-    evaluator: &mut Evaluator,
+    disposition: &mut Disposition,
     penalty: u64,
 ) -> Result<Cost, Fault>
-    requires sized { IsSized net.now rows.now }
-    requires room { IsRoomFor net.now evaluator.old }
-    requires least { IsLeast net.now rows.now evaluator.old.times }
-    requires early { AreBelowLimit evaluator.old.times }
+    requires stands { IsDispositionOf net.now disposition.old }
+    requires least { IsLeast net.now disposition.old.rows (times_of disposition.old) }
+    requires early { AreBelowLimit (times_of disposition.old) }
     requires penalty { penalty ≤ PENALTY }
-    ensures { Judges (TellsCost net.now rows.now penalty) (λ c. c) lines.old lines.new result }
+    ensures { Judges (TellsCost net.now disposition.old.rows penalty) (λ c. c) lines.old lines.new result }
 {
     let line = lines.line();
     let number = match number_told(lines, "cost ") {
         Ok(number) => number,
         Err(fault) => return Err(fault),
     };
-    if evaluator.is_cost(net, rows, penalty, number) {
+    if disposition.is_cost(net, penalty, number) {
         Ok(number)
     } else {
         Err(Fault {
@@ -170,19 +165,18 @@ pub(crate) fn end_told(lines: &mut Lines) -> Result<(), Fault>
     }
 }
 
-/// The times of all events, where the evaluator's times are the least of the rows.
+/// The times of all events, where the disposition's times are the least.
 pub(crate) fn timetable_told(
     lines: &mut Lines,
     net: &Network,
-    rows: &Rows,
-    evaluator: &Evaluator,
+    disposition: &Disposition,
 ) -> Result<(), Fault>
-    requires room { IsRoomFor net.now evaluator.now }
-    requires least { IsLeast net.now rows.now evaluator.now.times }
-    ensures { TellsTimetable net.now rows.now lines.old lines.new result }
+    requires stands { IsDispositionOf net.now disposition.now }
+    requires least { IsLeast net.now disposition.now.rows (times_of disposition.now) }
+    ensures { TellsTimetable net.now disposition.now.rows lines.old lines.new result }
 {
     for i in 0..net.events() {
-        match event_told(lines, net, rows, evaluator, i) {
+        match event_told(lines, net, disposition, i) {
             Ok(_time) => (),
             Err(fault) => return Err(fault),
         }

@@ -1,6 +1,5 @@
 //! What stands behind the logs: the notes of boards, the times and the cost.
 ghost use Rattle.std.specs.Prelude.{ℕ, ◌≡◌, ◌<◌, List, length};
-ghost use Rattle.dm_rows.specs.Rows.{IsSized};
 ghost use Rattle.dm_rows.specs.Active.{HasNoCycle};
 ghost use Rattle.dm_rows.specs.Timetable.{IsLeast};
 ghost use Rattle.dm_relaxation.specs.Binding.{AreBelowLimit};
@@ -8,7 +7,7 @@ ghost use Rattle.dm_cert.specs.Answers.{rows_after};
 ghost use Rattle.dm_cert.specs.declared.notes.Note.{Note};
 ghost use Rattle.dm_cert.specs.declared.replies.FeedLog.{FeedLog};
 ghost use Rattle.dm_cert.specs.Logs.{all_items};
-ghost use Rattle.dm_claims.specs.Claims.{IsRoomFor};
+ghost use Rattle.dm_claims.specs.Claims.{IsDispositionOf, times_of};
 ghost use Rattle.dm_answers.specs.Judging.{IsJournal, setting_of, history_of};
 ghost use Rattle.dm_check.specs.Judged.{AreFlagged, EndingOn, RestOn};
 
@@ -19,31 +18,29 @@ use crate::told_notes::all_notes;
 use crate::told_records::{cost_told, end_told, heading_told, timetable_told};
 use crate::verdicts::BadKind;
 use dm_answers::Journal;
-use dm_claims::Evaluator;
+use dm_claims::Disposition;
 use dm_relaxation::Cyclic;
 use dm_rows::Rows;
 use dm_text::Lines;
 use std::alloc::Global;
 
-/// The times, the cost and the last line, where the evaluator's times are the least of the rows.
+/// The times, the cost and the last line, where the disposition's times are the least.
 fn priced_told(
     lines: &mut Lines,
     journal: &Journal<'_>,
-    rows: &Rows,
-    evaluator: &mut Evaluator,
+    disposition: &mut Disposition,
 ) -> Result<(), Stop>
     requires journal { IsJournal journal.now }
-    requires sized { IsSized journal.now.net.now rows.now }
-    requires room { IsRoomFor journal.now.net.now evaluator.old }
-    requires least { IsLeast journal.now.net.now rows.now evaluator.old.times }
-    requires early { AreBelowLimit evaluator.old.times }
-    ensures { (logs : List FeedLog) (notes : List Note) → EndingOn (setting_of journal.now) (history_of journal.now) logs notes rows.now lines.old lines.new result }
+    requires stands { IsDispositionOf journal.now.net.now disposition.old }
+    requires least { IsLeast journal.now.net.now disposition.old.rows (times_of disposition.old) }
+    requires early { AreBelowLimit (times_of disposition.old) }
+    ensures { (logs : List FeedLog) (notes : List Note) → EndingOn (setting_of journal.now) (history_of journal.now) logs notes disposition.old.rows lines.old lines.new result }
 {
-    match timetable_told(lines, journal.net, rows, evaluator) {
+    match timetable_told(lines, journal.net, disposition) {
         Ok(()) => (),
         Err(fault) => return Err(Stop::Fault(fault)),
     }
-    match cost_told(lines, journal.net, rows, evaluator, journal.penalty) {
+    match cost_told(lines, journal.net, disposition, journal.penalty) {
         Ok(_cost) => (),
         Err(fault) => return Err(Stop::Fault(fault)),
     }
@@ -73,34 +70,30 @@ fn untimed_told(lines: &mut Lines, journal: &Journal<'_>, rows: &Rows) -> Result
 fn ending_told(
     lines: &mut Lines,
     journal: &Journal<'_>,
-    rows: &Rows,
-    evaluator: &mut Evaluator,
+    disposition: &mut Disposition,
 ) -> Result<(), Stop>
     requires journal { IsJournal journal.now }
-    requires sized { IsSized journal.now.net.now rows.now }
-    requires room { IsRoomFor journal.now.net.now evaluator.old }
-    ensures { (logs : List FeedLog) (notes : List Note) → EndingOn (setting_of journal.now) (history_of journal.now) logs notes rows.now lines.old lines.new result }
+    requires stands { IsDispositionOf journal.now.net.now disposition.old }
+    ensures { (logs : List FeedLog) (notes : List Note) → EndingOn (setting_of journal.now) (history_of journal.now) logs notes disposition.old.rows lines.old lines.new result }
 {
-    match evaluator.least(journal.net, rows) {
-        Ok(()) => priced_told(lines, journal, rows, evaluator),
-        Err(Cyclic) => untimed_told(lines, journal, rows),
+    match disposition.settle(journal.net) {
+        Ok(()) => priced_told(lines, journal, disposition),
+        Err(Cyclic) => untimed_told(lines, journal, disposition.rows()),
     }
 }
 
-/// What stands behind the logs, where these are the rows after all entries.
+/// What stands behind the logs, where the rows are those after all entries.
 pub(crate) fn rest_told(
     alloc: Global,
     lines: &mut Lines,
     journal: &Journal<'_>,
-    rows: &Rows,
-    evaluator: &mut Evaluator,
+    disposition: &mut Disposition,
     named: &[bool],
     entries: u32,
 ) -> Result<(), Stop>
     requires journal { IsJournal journal.now }
-    requires sized { IsSized journal.now.net.now rows.now }
-    requires rows_are { rows.now ≡ rows_after (setting_of journal.now) (history_of journal.now) (length (history_of journal.now)) }
-    requires room { IsRoomFor journal.now.net.now evaluator.old }
+    requires stands { IsDispositionOf journal.now.net.now disposition.old }
+    requires rows_are { disposition.old.rows ≡ rows_after (setting_of journal.now) (history_of journal.now) (length (history_of journal.now)) }
     requires each { length named.now ≡ length (history_of journal.now) }
     requires counted { length (history_of journal.now) ≡ entries }
     ensures { (logs : List FeedLog) → AreFlagged (all_items logs) named.now → RestOn (setting_of journal.now) (history_of journal.now) logs lines.old lines.new result }
@@ -117,5 +110,5 @@ pub(crate) fn rest_told(
         Ok(_entries) => (),
         Err(fault) => return Err(Stop::Fault(fault)),
     }
-    ending_told(lines, journal, rows, evaluator)
+    ending_told(lines, journal, disposition)
 }

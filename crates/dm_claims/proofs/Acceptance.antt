@@ -1,5 +1,5 @@
 -- Whether a message is accepted.
-use Rattle.std.proofs.Common.{◌≡◌, ℕ, Bool, false, Some, refl, sym, ap, subst, ◌∙◌, inl, inr, Result, Ok, Err}
+use Rattle.std.proofs.Common.{◌≡◌, ℕ, Bool, true, false, Some, refl, sym, ap, subst, ◌∙◌, inl, inr, Result, Ok, Err}
 use Rattle.std.specs.Prelude.{IfOk, OnOk}
 use Rattle.dm_network.specs.Net.{Net}
 use Rattle.dm_network.specs.Held.{ids_of}
@@ -7,12 +7,15 @@ use Rattle.dm_rows.specs.declared.messages.Message.{Message}
 use Rattle.dm_rows.specs.declared.messages.Change.{Change}
 use Rattle.dm_rows.specs.declared.messages.Refusal.{Refusal}
 use Rattle.dm_rows.specs.declared.messages.Refusal.TheVariants.{Cycle, OutOfMemory}
-use Rattle.dm_rows.specs.Rows.{RowsValue}
+use Rattle.dm_rows.specs.Rows.{RowsValue, IsSized}
 use Rattle.dm_rows.specs.Active.{HasNoCycle}
 use Rattle.dm_rows.specs.Resolve.{after, after_change, after_named, change_named}
 use Rattle.dm_rows.specs.Refuse.{RefusesAdmission, PassesAtOnce, IsNow}
-use Rattle.dm_claims.specs.Claims.{IsAccepted, TellsAcceptance}
+use Rattle.dm_claims.specs.Claims.{IsAccepted, IsKnownFree, IsKept, IsDispositionOf, TellsAcceptance}
+use Rattle.dm_relaxation.specs.Timetables.{TimetableValue, IsRoomOf, IsSettledFor}
+use Rattle.dm_claims.specs.Inside.Harmless.{IsHarmless}
 use Rattle.dm_claims.proofs.AtOnce.{refuses_at_once}
+use Rattle.dm_claims.proofs.Harmless.{never_make_cycles}
 
 pub after_is : (net : Net) (rows new : RowsValue) (m : Message) (change : Change) → change_named net m ≡ Some change → new ≡ after_change rows change → new ≡ after net rows m
 after_is net rows new m change named is = is ∙ sym (ap (after_named rows) named)
@@ -30,3 +33,28 @@ pub refused_cycle : (net : Net) (rows new : RowsValue) (n : ℕ) (m : Message) �
 refused_cycle net rows new n m is passes other cyclic accepted =
     cyclic (subst (λ (x : RowsValue). HasNoCycle net x) (sym is)
     (λ cycle c. accepted (Cycle (ids_of net cycle)) (passes, other, record { places = cycle; is_cycle = c; named = refl })))
+
+-- what is known of the rows before a message that makes no cycle is known after it
+pub stays_known : (net : Net) (rows : RowsValue) (m : Message) (known : Bool) → IsHarmless m → IsKnownFree net rows known → IsKnownFree net (after net rows m) known
+stays_known net rows m known harmless free is_known = never_make_cycles net rows m harmless (free is_known)
+
+-- the rows after a message, with what is known of them
+pub entered : (net : Net) (m : Message) (change : Change) (was now : RowsValue) (known stays kept still : Bool) (t new : TimetableValue) →
+    IsDispositionOf net (record { rows = was; is_free = known; is_kept = kept; timetable = t }) → change_named net m ≡ Some change → now ≡ after_change was change →
+    ((rows : RowsValue) → IsKnownFree net rows known → IsKnownFree net (after net rows m) stays) → (IsSized net was → IsSized net now) → IsRoomOf net new →
+    ((before : RowsValue) → now ≡ after_change before change → IsKept net before t kept → IsKept net now new still) → IsDispositionOf net (record { rows = now; is_free = stays; is_kept = still; timetable = new })
+entered net m change was now known stays kept still t new stands named is free sized room keeps = record {
+  sized = sized stands.sized;
+  free = subst (λ (rows : RowsValue). IsKnownFree net rows stays) (sym (after_is net was now m change named is)) (free was stands.free);
+  room = room;
+  kept = keeps was is stands.kept;
+}
+
+-- rows whose least timetable is computed
+pub settles : (net : Net) (rows : RowsValue) (t : TimetableValue) → IsSized net rows → IsSettledFor net rows t → IsDispositionOf net (record { rows = rows; is_free = true; is_kept = true; timetable = t })
+settles net rows t sized settled = record {
+  sized = sized;
+  free = λ _. settled.no_cycle;
+  room = settled.timetable.room;
+  kept = λ _. record { timetable = settled.timetable; agrees = settled.agrees };
+}

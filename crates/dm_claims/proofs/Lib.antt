@@ -4,3 +4,4 @@ pub mod Telling
 pub mod Walked
 pub mod OneCause
 pub mod Refused
+pub mod Harmless

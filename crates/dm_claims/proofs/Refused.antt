@@ -1,20 +1,19 @@
 -- Whether a message is refused as it is said to be.
-use Rattle.std.proofs.Common.{◌≡◌, ℕ, Bool, true, false, Some, sym, subst, ◌⊎◌, inl, inr}
+use Rattle.std.proofs.Common.{◌≡◌, ℕ, Bool, true, false, sym, subst, ◌⊎◌, inl, inr, Result, Ok, Err}
+use Rattle.std.specs.Prelude.{IfOk}
 use Rattle.dm_base.specs.declared.limits.TheConstants.{ENTRIES}
 use Rattle.dm_network.specs.Net.{Net}
 use Rattle.dm_rows.specs.declared.messages.Message.{Message}
 use Rattle.dm_rows.specs.declared.messages.Message.TheVariants as message
-use Rattle.dm_rows.specs.declared.messages.Change.{Change}
 use Rattle.dm_rows.specs.declared.messages.Refusal.{Refusal}
 use Rattle.dm_rows.specs.declared.messages.Refusal.TheVariants as refusal
 use Rattle.dm_rows.specs.Rows.{RowsValue}
 use Rattle.dm_rows.specs.Active.{HasNoCycle}
-use Rattle.dm_rows.specs.Resolve.{after, after_change, change_named}
+use Rattle.dm_rows.specs.Resolve.{after}
 use Rattle.dm_rows.specs.Refuse.{Refuses, RefusesAtOnce, RefusesAdmission, PassesAtOnce, IsNow, IsAdopt}
 use Rattle.dm_feed.specs.Lines.{IsSaid}
 use Rattle.dm_claims.specs.Claims.{IsOfOneRow, Tells}
 use Rattle.dm_claims.proofs.AtOnce.{no_cycle_at_once, no_full_at_once, no_memory_at_once, refuses_at_once}
-use Rattle.dm_claims.proofs.Acceptance.{after_is}
 use Rattle.dm_claims.proofs.OneCause.{one_cause}
 
 no_adopt : (m : Message) → IsSaid m → IsAdopt m → ⊥
@@ -65,9 +64,8 @@ no_cycle_then net rows n m other refuses = by refuses.1
     by (inl now) = absurd (other now)
     by (inr none) = none
 
-pub full_told : (net : Net) (rows new : RowsValue) (n : ℕ) (m : Message) (change : Change) (b : Bool) → change_named net m ≡ Some change → new ≡ after_change rows change →
-    n ≡ ENTRIES → PassesAtOnce net rows m → (IsNow m → ⊥) → Tells (HasNoCycle net new) b → Tells (Refuses net rows n m (refusal.Full ENTRIES)) b
-full_told net rows new n m change true named is full passes other none =
-    (passes, inr (subst (λ (x : RowsValue). HasNoCycle net x) (after_is net rows new m change named is) none), full, sym full)
-full_told net rows new n m change false named is full passes other some = λ refuses.
-    some (subst (λ (x : RowsValue). HasNoCycle net x) (sym (after_is net rows new m change named is)) (no_cycle_then net rows n m other refuses))
+pub full_told : {E : Type 0} (net : Net) (rows : RowsValue) (n : ℕ) (m : Message) (result : Result Bool E) → n ≡ ENTRIES → PassesAtOnce net rows m → (IsNow m → ⊥) →
+    IfOk result (Tells (HasNoCycle net (after net rows m))) → IfOk result (Tells (Refuses net rows n m (refusal.Full ENTRIES)))
+full_told net rows n m (Ok true) full passes other none = (passes, inr none, full, sym full)
+full_told net rows n m (Ok false) full passes other some = λ refuses. some (no_cycle_then net rows n m other refuses)
+full_told net rows n m (Err fault) full passes other told = tt

@@ -1,13 +1,15 @@
 -- What may be claimed of a network's rows.
-use Rattle.std.specs.Prelude.{ℕ, ◌≡◌, List, length, Bool, true, false}
+use Rattle.std.specs.Prelude.{ℕ, ◌≡◌, List, length, Bool, true, false, IsTrue}
 use Rattle.dm_network.specs.Net.{Net}
 use Rattle.dm_rows.specs.declared.messages.Message.{Message}
 use Rattle.dm_rows.specs.declared.messages.Refusal.{Refusal}
 use Rattle.dm_rows.specs.declared.messages.Refusal.TheVariants.{Cycle, Full, OutOfMemory}
 use Rattle.dm_rows.specs.Rows.{RowsValue, IsSized}
+use Rattle.dm_rows.specs.Active.{HasNoCycle}
 use Rattle.dm_rows.specs.Refuse.{Refuses}
 use Rattle.dm_rows.specs.Resolve.{after}
 use Rattle.dm_rows.specs.Timetable.{IsLeast, time_at}
+use Rattle.dm_relaxation.specs.Timetables.{TimetableValue, IsRoomOf, IsTimetableOf, AgreesWith}
 
 -- nothing refuses the message at so many entries
 abbrev pub IsAccepted : Net → RowsValue → ℕ → Message → Type 0
@@ -54,6 +56,38 @@ pub record IsRoomFor (net : Net) (room : Room) : Type 0 where
   pub spans : length room.spans ≡ length net.activities
   pub times : length room.times ≡ length net.events
   pub due : length room.due ≡ length net.events
+
+-- ---- rows as messages come
+
+-- rows, whether they are known to have no cycle, whether the timetable is kept with them, and the timetable
+pub record DispositionValue : Type 0 where
+  pub rows : RowsValue
+  pub is_free : Bool
+  pub is_kept : Bool
+  pub timetable : TimetableValue
+
+-- the times that were computed last
+abbrev pub times_of : DispositionValue → List ℕ
+times_of d = d.timetable.times
+
+-- the rows are known to have no cycle
+abbrev pub IsKnownFree : Net → RowsValue → Bool → Type 0
+IsKnownFree net rows known = IsTrue known → HasNoCycle net rows
+
+-- the timetable is kept with the rows
+pub record KeepsTo (net : Net) (rows : RowsValue) (t : TimetableValue) : Type 0 where
+  pub timetable : IsTimetableOf net t
+  pub agrees : AgreesWith net rows t
+
+abbrev pub IsKept : Net → RowsValue → TimetableValue → Bool → Type 0
+IsKept net rows t kept = IsTrue kept → KeepsTo net rows t
+
+-- the rows and the timetable are of the network, what is known of them is so
+pub record IsDispositionOf (net : Net) (d : DispositionValue) : Type 0 where
+  pub sized : IsSized net d.rows
+  pub free : IsKnownFree net d.rows d.is_free
+  pub room : IsRoomOf net d.timetable
+  pub kept : IsKept net d.rows d.timetable d.is_kept
 
 -- ---- refusals
 

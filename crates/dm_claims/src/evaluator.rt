@@ -1,17 +1,16 @@
 //! Room for the least timetable of rows, and for what it costs.
-ghost use Rattle.std.specs.Prelude.{◌≡◌, ◌<◌, ◌≤◌, length, IfOk, OnOk, OnErr};
+ghost use Rattle.std.specs.Prelude.{◌≡◌, ◌≤◌, length, IfOk, OnOk, OnErr};
 ghost use Rattle.dm_base.specs.declared.limits.TheConstants.{PENALTY};
-ghost use Rattle.dm_network.specs.Net.{Net};
-ghost use Rattle.dm_rows.specs.Rows.{RowsValue, IsSized};
+ghost use Rattle.dm_rows.specs.Rows.{IsSized};
 ghost use Rattle.dm_rows.specs.Active.{HasNoCycle};
-ghost use Rattle.dm_rows.specs.Timetable.{IsLeast, time_at};
+ghost use Rattle.dm_rows.specs.Timetable.{IsLeast};
 ghost use Rattle.dm_rows.specs.Cost.{Costs, cost_of};
 ghost use Rattle.dm_relaxation.specs.Binding.{AreBelowLimit};
-ghost use Rattle.dm_claims.specs.Claims.{IsRoomFor, IsTimeOf, Tells};
+ghost use Rattle.dm_claims.specs.Claims.{IsRoomFor, Tells};
 
 use dm_base::{Cost, Secs};
 use dm_network::Network;
-use dm_relaxation::{Cyclic, cost_charging, flag_active, flag_dropped, least_holding};
+use dm_relaxation::{Cyclic, Marks, cost_charging, flag_active, flag_dropped, least_holding};
 use dm_rows::Rows;
 use std::alloc::{AllocError, Global};
 use std::marker::Model;
@@ -23,7 +22,7 @@ pub struct Evaluator {
     charged: Vec<bool>,
     spans: Vec<Secs>,
     times: Vec<Secs>,
-    due: Vec<bool>,
+    due: Marks,
 }
 
 impl Model for Evaluator {
@@ -31,7 +30,7 @@ impl Model for Evaluator {
 
     ghost Value = { Room };
 
-    ghost view = { λ e. record { held = e.held.items; charged = e.charged.items; spans = e.spans.items; times = e.times.items; due = e.due.items } };
+    ghost view = { λ e. record { held = e.held.items; charged = e.charged.items; spans = e.spans.items; times = e.times.items; due = e.due } };
 
     ghost invariant = { λ e. Unit {0} };
 }
@@ -46,7 +45,7 @@ impl Evaluator {
             charged: vec![in alloc; false; net.activities()]?,
             spans: vec![in alloc; 0; net.activities()]?,
             times: vec![in alloc; 0; net.events()]?,
-            due: vec![in alloc; false; net.events()]?,
+            due: Marks::new(alloc, net.events())?,
         })
     }
 
@@ -71,14 +70,6 @@ impl Evaluator {
         )
     }
 
-    /// The time of the event at this place, in seconds.
-    pub fn time(&self, i: usize) -> Secs
-        requires { i < length self.now.times }
-        ensures { result ≡ time_at self.now.times i }
-    {
-        self.times[i]
-    }
-
     /// What the times cost that were computed for these rows. It takes no memory.
     pub fn cost(&mut self, net: &Network, rows: &Rows, penalty: u64) -> Cost
         requires sized { IsSized net.now rows.now }
@@ -91,14 +82,6 @@ impl Evaluator {
     {
         flag_dropped(net, rows, &mut self.charged);
         cost_charging(net, rows, &self.charged, &self.times, penalty)
-    }
-
-    /// Whether this is the time of the event at this place in a least timetable, where the times are one.
-    pub fn is_time(&self, i: usize, time: u128) -> bool
-        requires { i < length self.now.times }
-        ensures { (net : Net) (rows : RowsValue) → IsLeast net rows self.now.times → i < length net.events → Tells (IsTimeOf net rows i time) result }
-    {
-        self.times[i] as u128 == time
     }
 
     /// Whether the rows cost this, where the times are their least timetable. It takes no memory.

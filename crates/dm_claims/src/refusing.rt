@@ -4,14 +4,14 @@ ghost use Rattle.dm_network.specs.Net.{Net};
 ghost use Rattle.dm_rows.specs.Rows.{IsSized};
 ghost use Rattle.dm_rows.specs.Active.{HasNoCycle};
 ghost use Rattle.dm_rows.specs.Reach.{Reaches};
-ghost use Rattle.dm_rows.specs.Resolve.{change_named, after_change};
+ghost use Rattle.dm_rows.specs.Resolve.{change_named, after, after_change};
 ghost use Rattle.dm_rows.specs.Refuse.{Refuses, PassesAtOnce};
 ghost use Rattle.dm_feed.specs.Lines.{IsSaid};
 ghost use Rattle.dm_records.specs.Readings.{reason_of};
-ghost use Rattle.dm_claims.specs.Claims.{IsRoomFor, Tells};
+ghost use Rattle.dm_claims.specs.Claims.{IsDispositionOf, IsKnownFree, Tells};
 
-use crate::accepting::is_now;
 use crate::cycles::shows_cycle;
+use crate::disposition::{Disposition, is_now, stays_free};
 use crate::evaluator::Evaluator;
 use crate::reasons::is_said_by;
 use dm_base::limits::ENTRIES;
@@ -26,41 +26,67 @@ use std::alloc::{AllocError, Global};
 pub fn is_refused(
     alloc: Global,
     net: &Network,
-    evaluator: &mut Evaluator,
+    disposition: &Disposition,
+    entries: u32,
+    message: &Message,
+    why: &Reason,
+) -> Result<bool, AllocError>
+    requires stands { IsDispositionOf net.now disposition.now }
+    requires said { IsSaid message.now }
+    ensures { IfOk result (Tells (Refuses net.now disposition.now.rows entries message.now (reason_of why.now))) }
+{
+    is_refused_by(
+        alloc,
+        net,
+        disposition.rows(),
+        disposition.is_free(),
+        entries,
+        message,
+        why,
+    )
+}
+
+/// Whether these rows, which may be known to have no cycle, refuse a message at so many entries for this reason.
+fn is_refused_by(
+    alloc: Global,
+    net: &Network,
     rows: &Rows,
+    is_free: bool,
     entries: u32,
     message: &Message,
     why: &Reason,
 ) -> Result<bool, AllocError>
     requires sized { IsSized net.now rows.now }
-    requires room { IsRoomFor net.now evaluator.old }
+    requires free { IsKnownFree net.now rows.now is_free }
     requires said { IsSaid message.now }
-    ensures tells { IfOk result (Tells (Refuses net.now rows.now entries message.now (reason_of why.now))) }
-    ensures room { IsRoomFor net.now evaluator.new }
+    ensures { IfOk result (Tells (Refuses net.now rows.now entries message.now (reason_of why.now))) }
 {
     match admit(alloc, net, rows, message) {
-        Ok(change) => is_refused_after(net, evaluator, rows, &change, entries, message, why),
+        Ok(change) => {
+            is_refused_after(alloc, net, rows, is_free, &change, entries, message, why)
+        }
         Err(refusal) => Ok(is_said_by(&refusal, why)),
     }
 }
 
-/// The same of a message that nothing refuses at once, and which comes to this change.
+/// The same of a message that nothing refuses at once, and which comes to this change of rows that may be known to have no
+/// cycle.
 fn is_refused_after(
+    alloc: Global,
     net: &Network,
-    evaluator: &mut Evaluator,
     rows: &Rows,
+    is_free: bool,
     change: &Change,
     entries: u32,
     message: &Message,
     why: &Reason,
 ) -> Result<bool, AllocError>
     requires sized { IsSized net.now rows.now }
-    requires room { IsRoomFor net.now evaluator.old }
+    requires free { IsKnownFree net.now rows.now is_free }
     requires named { change_named net.now message.now ≡ Some change.now }
     requires reaches { Reaches rows.now change.now }
     requires passes { PassesAtOnce net.now rows.now message.now }
-    ensures tells { IfOk result (Tells (Refuses net.now rows.now entries message.now (reason_of why.now))) }
-    ensures room { IsRoomFor net.now evaluator.new }
+    ensures { IfOk result (Tells (Refuses net.now rows.now entries message.now (reason_of why.now))) }
 {
     match why {
         Reason::Cycle(ids) => {
@@ -79,25 +105,47 @@ fn is_refused_after(
             if is_now(message) {
                 return Ok(true);
             }
-            match rows_after(rows, change) {
-                Ok(after) => Ok(has_no_cycle(net, evaluator, &after)),
-                Err(AllocError) => Err(AllocError),
-            }
+            has_no_cycle_after(alloc, net, rows, is_free, change, message)
         }
         _ => Ok(false),
     }
 }
 
-/// Whether the rows have no cycle.
-fn has_no_cycle(net: &Network, evaluator: &mut Evaluator, rows: &Rows) -> bool
+/// Whether the rows have no cycle after a message, which comes to this change.
+fn has_no_cycle_after(
+    alloc: Global,
+    net: &Network,
+    rows: &Rows,
+    is_free: bool,
+    change: &Change,
+    message: &Message,
+) -> Result<bool, AllocError>
     requires sized { IsSized net.now rows.now }
-    requires room { IsRoomFor net.now evaluator.old }
-    ensures tells { Tells (HasNoCycle net.now rows.now) result }
-    ensures room { IsRoomFor net.now evaluator.new }
+    requires free { IsKnownFree net.now rows.now is_free }
+    requires named { change_named net.now message.now ≡ Some change.now }
+    requires reaches { Reaches rows.now change.now }
+    ensures { IfOk result (Tells (HasNoCycle net.now (after net.now rows.now message.now))) }
 {
+    if stays_free(is_free, message) {
+        return Ok(true);
+    }
+    match rows_after(rows, change) {
+        Ok(after) => has_no_cycle(alloc, net, &after),
+        Err(AllocError) => Err(AllocError),
+    }
+}
+
+/// Whether the rows have no cycle.
+fn has_no_cycle(alloc: Global, net: &Network, rows: &Rows) -> Result<bool, AllocError>
+    requires { IsSized net.now rows.now }
+    ensures { IfOk result (Tells (HasNoCycle net.now rows.now)) }
+{
+    let Ok(mut evaluator) = Evaluator::new(alloc, net) else {
+        return Err(AllocError);
+    };
     match evaluator.least(net, rows) {
-        Ok(()) => true,
-        Err(Cyclic) => false,
+        Ok(()) => Ok(true),
+        Err(Cyclic) => Ok(false),
     }
 }
 

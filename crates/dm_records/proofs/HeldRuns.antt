@@ -141,7 +141,7 @@ log_held s history place log few fits is = record {
 
 -- ---- runs
 
-is_in_print : (version : ℕ) (start : RowsValue) (run : Run) (text : List ℕ) → IsNetwork run.net → IsWithinLimits run.net → IsTextOf version start run text → IsInPrint run
+pub is_in_print : (version : ℕ) (start : RowsValue) (run : Run) (text : List ℕ) → IsNetwork run.net → IsWithinLimits run.net → IsTextOf version start run text → IsInPrint run
 is_in_print version start run text network limits is =
     let entries : length run.history ≤ 1000000 = is.is_true.legal.size in
     let feeds : length run.logs ≤ 64 = is.is_true.few_feeds in

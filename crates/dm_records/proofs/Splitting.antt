@@ -121,12 +121,12 @@ spaced_no_feed (p ∷ parts) fits =
     no_feed_append (spaced p) (flat_map spaced parts) (no_feed_append (32 ∷ []) (spelling_of_part p) refl (part_no_feed p (All-head Fits p parts fits)))
     (spaced_no_feed parts (All-tail Fits p parts fits))
 
-parts_no_feed : (parts : List Part) → All Fits parts → NoFeed (spelling_of_parts parts)
+pub parts_no_feed : (parts : List Part) → All Fits parts → NoFeed (spelling_of_parts parts)
 parts_no_feed [] fits = refl
 parts_no_feed (p ∷ parts) fits =
     no_feed_append (spelling_of_part p) (flat_map spaced parts) (part_no_feed p (All-head Fits p parts fits)) (spaced_no_feed parts (All-tail Fits p parts fits))
 
-message_no_feed : (m : Message) → All Fits (parts_of_message m) → NoFeed (spelling_of_message m)
+pub message_no_feed : (m : Message) → All Fits (parts_of_message m) → NoFeed (spelling_of_message m)
 unfolding spelling_of_message
 message_no_feed m fits = parts_no_feed (parts_of_message m) fits
 

@@ -1,4 +1,10 @@
+pub mod Marking
 pub mod Rising
 pub mod Rounding
 pub mod Totals
 pub mod OfRows
+pub mod Spreading
+pub mod Lowering
+pub mod Renewing
+pub mod OfTimetables
+pub mod Agreeing

@@ -9,6 +9,7 @@ use Rattle.dm_graph.proofs.Windows.{kept_at, StandsAt, stands_in}
 use Rattle.dm_network.specs.Net.{Net, activity_at, places_out_of, EndsAreKnown}
 use Rattle.dm_network.specs.Held.{is_held}
 use Rattle.dm_relaxation.specs.Binding.{graph_with, IsEarly, is_due}
+use Rattle.dm_relaxation.specs.Marked.{IsFirstFrom, NoneFrom}
 use Rattle.dm_relaxation.specs.Inside.Rising.{AreWithin, HaveRisen, Raises, HasRelaxed, Relaxes, AreMet, HasSwept}
 
 true_false : {A : Type 0} {b : Bool} → b ≡ true → b ≡ false → A
@@ -117,7 +118,7 @@ leads_out net e k row is below =
     record { is_activity = let b = kept.below in omega arith; tail = eqb-true _ e kept.passes } in
     subst (λ (xs : List ℕ). LeadsOut net e (slice_index xs k)) (sym is) there
 
-stands_out : (net : Net) (e a : ℕ) (row : List ℕ) → row ≡ places_out_of net e → LeadsOut net e a → StandsAt row a
+pub stands_out : (net : Net) (e a : ℕ) (row : List ℕ) → row ≡ places_out_of net e → LeadsOut net e a → StandsAt row a
 stands_out net e a row is leads =
     let b = leads.is_activity in
     subst (λ (xs : List ℕ). StandsAt xs a) (sym is)
@@ -222,27 +223,24 @@ swept_none g times due met = record {
   cause = λ e below yes. absurd (omega arith);
 }
 
-module _ (g : Graph) (n : ℕ) (old mid new : List ℕ) (between after : List Bool) (had : HasSwept g n old mid between) where
-  -- an event that is not due is passed over
-  pub swept_over : is_due between n ≡ false → HasSwept g (n + 1) old mid between
-  swept_over not_due = record {
-    met = had.met;
-    no_fall = had.no_fall;
-    early = had.early;
-    along = λ a binds below. elim (cases_lt (g.shape.tail a) n) [
-      | inl less ↦ had.along a binds less
-      | inr past ↦
-          let is : g.shape.tail a ≡ n = omega arith in
-          let m = had.met a binds (ap (λ i. is_due between i) is ∙ not_due) in
-          let r = had.no_fall (g.shape.tail a) in
-          omega arith
-    ];
-    cause = λ e below yes. elim (cases_lt e n) [
-      | inl less ↦ had.cause e less yes
-      | inr past ↦ let is : e ≡ n = omega arith in true_false yes (ap (λ i. is_due between i) is ∙ not_due)
-    ];
-  }
+-- events that are not due are passed over
+pub swept_over : (g : Graph) (n m : ℕ) (old mid : List ℕ) (between : List Bool) → HasSwept g n old mid between → ((k : ℕ) → n ≤ k → k < m → is_due between k ≡ false) →
+    HasSwept g m old mid between
+swept_over g n m old mid between had none = record {
+  met = had.met;
+  no_fall = had.no_fall;
+  early = had.early;
+  along = λ a binds below. elim (cases_lt (g.shape.tail a) n) [
+    | inl less ↦ had.along a binds less
+    | inr past ↦ let m = had.met a binds (none (g.shape.tail a) past below) in let r = had.no_fall (g.shape.tail a) in omega arith
+  ];
+  cause = λ e below yes. elim (cases_lt e n) [
+    | inl less ↦ had.cause e less yes
+    | inr past ↦ true_false yes (none e past below)
+  ];
+}
 
+module _ (g : Graph) (n : ℕ) (old mid new : List ℕ) (between after : List Bool) (had : HasSwept g n old mid between) where
   -- the heads out of an event have risen, which is no longer due but for that
   pub swept_more : n < length between → Relaxes g n mid new (slice_set between n false) after → HasSwept g (n + 1) old new after
   swept_more is_event relaxed = record {
@@ -287,3 +285,14 @@ module _ (g : Graph) (n : ℕ) (old mid new : List ℕ) (between after : List Bo
           | inr rose ↦ let r = had.no_fall e in omega arith
         ];
   }
+
+-- the next event that is due, and none behind
+pub swept_next : (g : Graph) (start event : ℕ) (old mid new : List ℕ) (between now cleared after : List Bool) → now ≡ between → cleared ≡ slice_set now event false → IsFirstFrom between start event →
+    HasSwept g start old mid between → Relaxes g event mid new cleared after → HasSwept g (event + 1) old new after
+swept_next g start event old mid new between now cleared after same is first had relaxed =
+    swept_more g event old mid new between after (swept_over g start event old mid between had first.none_between) first.within
+    (subst (λ (due : List Bool). Relaxes g event mid new due after) (is ∙ ap (λ (due : List Bool). slice_set due event false) same) relaxed)
+
+pub swept_last : (g : Graph) (start n : ℕ) (old mid : List ℕ) (between now : List Bool) → now ≡ between → NoneFrom between start → HasSwept g start old mid between → HasSwept g n old mid now
+swept_last g start n old mid between now same none had =
+    subst (λ (due : List Bool). HasSwept g n old mid due) (sym same) (swept_over g start n old mid between had (λ k from below. none k from))

@@ -1,4 +1,10 @@
 -- What binds between the events of a network, by plain lists, and from which times rounds may begin.
 pub mod Binding
+-- Times that were least before what binds has changed.
+pub mod Following
+-- The least timetable of rows, as these change.
+pub mod Timetables
+-- Marks at events.
+pub mod Marked
 -- How far a round has come: checked, and not to be believed.
 pub mod Inside

@@ -4,7 +4,7 @@ ghost use Rattle.std.specs.List.{range_with_len};
 ghost use Rattle.dm_base.specs.declared.limits.TheConstants.{EVENTS, ACTIVITIES, WEIGHT, PENALTY};
 ghost use Rattle.dm_network.specs.Held.{is_held};
 ghost use Rattle.dm_rows.specs.Rows.{IsSized};
-ghost use Rattle.dm_rows.specs.Cost.{cost_charging, event_cost, charged_weight, missed_weight, comes_too_early, is_dropped_change};
+ghost use Rattle.dm_rows.specs.Cost.{cost_charging, cost_of, event_cost, charged_weight, dropped_weight, missed_weight, comes_too_early, is_dropped_change};
 ghost use Rattle.dm_relaxation.specs.Binding.{AreFlags, AreBelowLimit};
 
 use crate::rows::span_of;
@@ -34,6 +34,20 @@ pub fn cost_charging(
         + penalty * missed_weights(net, rows, times)
 }
 
+/// What a timetable of the rows costs. It takes no memory.
+pub fn cost_of(net: &Network, rows: &Rows, times: &[Secs], penalty: u64) -> Cost
+    requires sized { IsSized net.now rows.now }
+    requires as_many { length times.now ≡ length net.now.events }
+    requires early { AreBelowLimit times.now }
+    requires penalty { penalty ≤ PENALTY }
+    ensures { result ≡ cost_of net.now rows.now times.now penalty }
+{
+    let penalty = penalty as u128;
+    lateness_cost(net, times)
+        + penalty * dropped_weights(net, rows)
+        + penalty * missed_weights(net, rows, times)
+}
+
 /// What the lateness of the arrivals costs.
 fn lateness_cost(net: &Network, times: &[Secs]) -> Cost
     requires as_many { length times.now ≡ length net.now.events }
@@ -57,6 +71,19 @@ fn charged_weights(net: &Network, charged: &[bool]) -> Cost
     let mut total = 0;
     for a in 0..net.activities() {
         total += charged_weight(net, charged, a) as u128;
+    }
+    total
+}
+
+/// The weight of the dropped changes whose heads have not passed.
+fn dropped_weights(net: &Network, rows: &Rows) -> Cost
+    requires sized { IsSized net.now rows.now }
+    ensures weight { result ≡ sum_by (dropped_weight net.now rows.now) (range_with_len 0 (length net.now.activities)) }
+    ensures limit { result ≤ ACTIVITIES * WEIGHT }
+{
+    let mut total = 0;
+    for a in 0..net.activities() {
+        total += dropped_weight(net, rows, a) as u128;
     }
     total
 }
@@ -104,6 +131,21 @@ fn charged_weight(net: &Network, charged: &[bool], a: usize) -> Milli
 {
     net.sound();
     if charged[a] {
+        net.activity(a).weight
+    } else {
+        0
+    }
+}
+
+/// The weight of a dropped change whose head has not passed.
+fn dropped_weight(net: &Network, rows: &Rows, a: usize) -> Milli
+    requires sized { IsSized net.now rows.now }
+    requires is_activity { a < length net.now.activities }
+    ensures weight { result ≡ dropped_weight net.now rows.now a }
+    ensures limit { result ≤ WEIGHT }
+{
+    net.sound();
+    if is_dropped_change(net, rows, a) {
         net.activity(a).weight
     } else {
         0

@@ -4,14 +4,26 @@
 //! events. A round raises the head of each held activity to its span after the tail, and passes over events whose times have
 //! not risen; rounds are made until nothing changes. That more rounds than there are events have changed something comes
 //! exactly where the held activities have a cycle. Rounds may begin from any times that are not too late ([`raise`]), and
-//! from scratch they give the least timetable of rows ([`least_holding`]). What a timetable costs is added up place by place.
-//! Nothing here takes memory. Every time is below 2^38 seconds, and every cost below 2^100 thousandths of passenger seconds.
+//! from scratch they give the least timetable of rows ([`least_holding`]). Times that were least may also follow what binds as it
+//! changes ([`follow`]): the events that this may concern begin anew from their floors, and rounds from there. A [`Timetable`] is
+//! kept so with rows ([`keep_up`]). What a timetable costs is added up place by place. Memory is taken once, for a timetable and
+//! for [`Marks`]. Every time is below 2^38 seconds, and every cost below 2^100 thousandths of passenger seconds.
 #![tactic(auto)]
 
 mod costing;
+mod following;
+mod keeping;
+mod marks;
 mod rounds;
+mod row;
 mod rows;
+mod timetable;
 
-pub use costing::{comes_too_early, cost_charging, flag_dropped, is_dropped_change};
+pub use costing::{comes_too_early, cost_charging, cost_of, flag_dropped, is_dropped_change};
+pub use following::follow;
+pub use keeping::keep_up;
+pub use marks::Marks;
 pub use rounds::{Cyclic, raise};
-pub use rows::{fill_floors, fill_spans, flag_active, least_holding, span_of};
+pub use row::{row_into, row_out_of};
+pub use rows::{fill_floors, fill_spans, flag_active, floor_of, least_holding, span_of};
+pub use timetable::Timetable;

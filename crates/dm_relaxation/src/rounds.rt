@@ -4,8 +4,9 @@ ghost use Rattle.dm_base.specs.declared.limits.TheConstants.{BOUND, DELAY};
 ghost use Rattle.dm_graph.specs.Arcs.{HasNoCycle};
 ghost use Rattle.dm_graph.specs.Graph.{IsLeast};
 ghost use Rattle.dm_relaxation.specs.Binding.{graph_with, is_due, AreBindings, MayBegin};
-ghost use Rattle.dm_relaxation.specs.Inside.Rising.{latest, AreWithin, AreMet, Raises, Relaxes, HasSwept, SomeDue};
+ghost use Rattle.dm_relaxation.specs.Inside.Rising.{latest, AreWithin, AreMet, Raises, Relaxes, HasSwept};
 
+use crate::marks::Marks;
 use dm_base::{Secs, Steps};
 use dm_network::Network;
 use std::marker::Brand;
@@ -15,8 +16,8 @@ use std::sync::ledger::{Blank, Ledger};
 #[derive(Clone, Copy, PartialEq, Eq, Debug)]
 pub struct Cyclic;
 
-/// Raises times until the head of each held activity is at least its span after the tail. A flag says which events are due:
-/// those whose activities may have a head that comes too soon. It takes no memory.
+/// Raises times until the head of each held activity is at least its span after the tail. Events are due whose activities may
+/// have a head that comes too soon, and none where it answers `Ok`. It takes no memory, and looks at what is due alone.
 ///
 /// Where the times lie above the floors of events and none is later than in any timetable that meets these and the
 /// activities, `Ok` comes exactly where the held activities have no cycle that takes time, and the times are then the least
@@ -26,7 +27,7 @@ pub fn raise(
     held: &[bool],
     spans: &[Secs],
     times: &mut [Secs],
-    due: &mut [bool],
+    due: &mut Marks,
 ) -> Result<(), Cyclic>
     requires bindings { AreBindings net.now held.now spans.now }
     requires as_many_times { length times.old ≡ length net.now.events }
@@ -34,6 +35,7 @@ pub fn raise(
     requires early { AreWithin times.old (2 ^ 38) }
     ensures least { (floor : ℕ → ℕ) → MayBegin (graph_with net.now held.now spans.now floor) times.old due.old → OnOk result (IsLeast (graph_with net.now held.now spans.now floor) (slice_index times.new)) }
     ensures cyclic { (floor : ℕ → ℕ) → MayBegin (graph_with net.now held.now spans.now floor) times.old due.old → OnErr result (HasNoCycle (graph_with net.now held.now spans.now floor).shape → ⊥) }
+    ensures none_due { OnOk result ((e : ℕ) → is_due due.new e ≡ false) }
     ensures as_many { length times.new ≡ length times.old }
     ensures as_many_due { length due.new ≡ length due.old }
 {
@@ -46,7 +48,7 @@ fn raise_with<L: Ledger>(
     held: &[bool],
     spans: &[Secs],
     times: &mut [Secs],
-    due: &mut [bool],
+    due: &mut Marks,
     blank: Blank,
 ) -> Result<(), Cyclic>
     requires bindings { AreBindings net.now held.now spans.now }
@@ -58,13 +60,14 @@ fn raise_with<L: Ledger>(
     requires has_a_part { 0 < blank.parts }
     ensures least { (floor : ℕ → ℕ) → MayBegin (graph_with net.now held.now spans.now floor) times.old due.old → OnOk result (IsLeast (graph_with net.now held.now spans.now floor) (slice_index times.new)) }
     ensures cyclic { (floor : ℕ → ℕ) → MayBegin (graph_with net.now held.now spans.now floor) times.old due.old → OnErr result (HasNoCycle (graph_with net.now held.now spans.now floor).shape → ⊥) }
+    ensures none_due { OnOk result ((e : ℕ) → is_due due.new e ≡ false) }
     ensures as_many { length times.new ≡ length times.old }
     ensures as_many_due { length due.new ≡ length due.old }
 {
     let mut steps = Steps::<L>::new(blank);
     for round in 0..net.events() + 1 {
         sweep(net, held, spans, round, times, due, &mut steps);
-        if !is_any_due(due) {
+        if !due.is_any() {
             return Ok(());
         }
     }
@@ -78,7 +81,7 @@ fn sweep<L: Ledger>(
     spans: &[Secs],
     round: usize,
     times: &mut [Secs],
-    due: &mut [bool],
+    due: &mut Marks,
     steps: &mut Steps<L>,
 )
     requires bindings { AreBindings net.now held.now spans.now }
@@ -92,11 +95,11 @@ fn sweep<L: Ledger>(
     ensures as_many_due { length due.new ≡ length due.old }
 {
     net.sound();
-    for event in 0..net.events() {
-        if due[event] {
-            due[event] = false;
-            relax_from(net, held, spans, event, times, due, steps);
-        }
+    let mut start = 0;
+    while let Some(event) = due.first_from(start) {
+        due.clear(event);
+        relax_from(net, held, spans, event, times, due, steps);
+        start = event + 1;
     }
 }
 
@@ -107,7 +110,7 @@ fn relax_from<L: Ledger>(
     spans: &[Secs],
     event: usize,
     times: &mut [Secs],
-    due: &mut [bool],
+    due: &mut Marks,
     steps: &mut Steps<L>,
 )
     requires bindings { AreBindings net.now held.now spans.now }
@@ -128,26 +131,13 @@ fn relax_from<L: Ledger>(
 }
 
 /// Raises an event to a time, unless it is as late already.
-fn raise_to(event: usize, time: Secs, times: &mut [Secs], due: &mut [bool])
+fn raise_to(event: usize, time: Secs, times: &mut [Secs], due: &mut Marks)
     requires is_event { event < length times.old }
     requires as_many_flags { length due.old ≡ length times.old }
     ensures { Raises event time times.old times.new due.old due.new }
 {
     if times[event] < time {
         times[event] = time;
-        due[event] = true;
+        due.mark(event);
     }
-}
-
-/// Whether some event is due.
-fn is_any_due(due: &[bool]) -> bool
-    ensures some { result ≡ true → SomeDue due.now (length due.now) }
-    ensures none { result ≡ false → (e : ℕ) → is_due due.now e ≡ false }
-{
-    for event in 0..due.len() {
-        if due[event] {
-            return true;
-        }
-    }
-    false
 }

@@ -1,13 +1,14 @@
 //! What rows hold the events of a network to, and their least timetables by rounds.
-ghost use Rattle.std.specs.Prelude.{ℕ, ◌≡◌, ◌+◌, ◌<◌, ◌≤◌, Bool, true, length, slice_index, OnOk, OnErr};
+ghost use Rattle.std.specs.Prelude.{ℕ, ◌≡◌, ◌+◌, ◌<◌, ◌≤◌, Bool, length, slice_index, OnOk, OnErr};
 ghost use Rattle.dm_base.specs.declared.limits.TheConstants.{PASSED_TIME, BOUND, DELAY};
 ghost use Rattle.dm_network.specs.Held.{HasNoCycleOf};
 ghost use Rattle.dm_rows.specs.Rows.{IsSized};
 ghost use Rattle.dm_rows.specs.Active.{is_active};
 ghost use Rattle.dm_rows.specs.Laws.{EntersNoPassed};
 ghost use Rattle.dm_rows.specs.Timetable.{floor_of, span_of, IsLeastHolding};
-ghost use Rattle.dm_relaxation.specs.Binding.{is_due, AreFlags, AreSpansOf, AreFloorsOf, AreBelowLimit};
+ghost use Rattle.dm_relaxation.specs.Binding.{AreFlags, AreSpansOf, AreFloorsOf, AreBelowLimit};
 
+use crate::marks::Marks;
 use crate::rounds::{Cyclic, raise};
 use dm_base::Secs;
 use dm_network::Network;
@@ -21,7 +22,7 @@ pub fn least_holding(
     held: &[bool],
     spans: &mut [Secs],
     times: &mut [Secs],
-    due: &mut [bool],
+    due: &mut Marks,
 ) -> Result<(), Cyclic>
     requires sized { IsSized net.now rows.now }
     requires flags { length held.now ≡ length net.now.activities }
@@ -38,7 +39,7 @@ pub fn least_holding(
 {
     fill_spans(net, rows, spans);
     fill_floors(net, rows, times);
-    fill_due(due);
+    due.mark_all();
     net.sound();
     rows.is_within_limits();
     raise(net, held, spans, times, due)
@@ -78,18 +79,8 @@ pub fn fill_floors(net: &Network, rows: &Rows, times: &mut [Secs])
     }
 }
 
-/// Every event is due.
-fn fill_due(due: &mut [bool])
-    ensures all { (e : ℕ) → e < length due.old → is_due due.new e ≡ true }
-    ensures as_many { length due.new ≡ length due.old }
-{
-    for is_due in due.iter_mut() {
-        *is_due = true;
-    }
-}
-
 /// The least time of an event by itself, in seconds: its passed time, or else the later of its planned time and the clock.
-fn floor_of(net: &Network, rows: &Rows, i: usize) -> Secs
+pub fn floor_of(net: &Network, rows: &Rows, i: usize) -> Secs
     requires sized { IsSized net.now rows.now }
     requires is_event { i < length net.now.events }
     ensures value { result ≡ floor_of net.now rows.now i }

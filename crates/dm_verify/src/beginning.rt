@@ -5,6 +5,7 @@ ghost use Rattle.dm_network.specs.Net.{activity_at};
 ghost use Rattle.dm_relaxation.specs.Binding.{is_due};
 
 use dm_network::Network;
+use dm_relaxation::Marks;
 
 /// Whether each flag of the one list is set in the other.
 pub fn is_within(some: &[bool], all: &[bool]) -> bool
@@ -20,7 +21,7 @@ pub fn is_within(some: &[bool], all: &[bool]) -> bool
 }
 
 /// Makes the tail of each activity due that is held now and was not.
-pub fn mark_added(net: &Network, before: &[bool], now: &[bool], due: &mut [bool])
+pub fn mark_added(net: &Network, before: &[bool], now: &[bool], due: &mut Marks)
     requires before { length before.now ≡ length net.now.activities }
     requires now { length now.now ≡ length net.now.activities }
     requires due { length due.old ≡ length net.now.events }
@@ -33,7 +34,7 @@ pub fn mark_added(net: &Network, before: &[bool], now: &[bool], due: &mut [bool]
 }
 
 /// Makes the tail of an activity due, where it is held now and was not.
-fn mark_one(net: &Network, a: usize, before: &[bool], now: &[bool], due: &mut [bool])
+fn mark_one(net: &Network, a: usize, before: &[bool], now: &[bool], due: &mut Marks)
     requires is_activity { a < length net.now.activities }
     requires before { length before.now ≡ length net.now.activities }
     requires now { length now.now ≡ length net.now.activities }
@@ -49,7 +50,7 @@ fn mark_one(net: &Network, a: usize, before: &[bool], now: &[bool], due: &mut [b
     if !now[a] {
         return;
     }
-    due[net.activity(a).tail] = true;
+    due.mark(net.activity(a).tail);
 }
 
 /// Takes all flags away.

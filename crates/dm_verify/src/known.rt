@@ -9,7 +9,7 @@ ghost use Rattle.dm_verify.specs.Inside.Timetables.{IsKnown, AreWithinFlags};
 use crate::beginning::{clear, is_within, mark_added};
 use dm_base::Secs;
 use dm_network::Network;
-use dm_relaxation::{Cyclic, fill_floors, raise};
+use dm_relaxation::{Cyclic, Marks, fill_floors, raise};
 use dm_rows::Rows;
 use std::alloc::{AllocError, Global};
 use std::marker::Model;
@@ -92,7 +92,7 @@ impl Known {
         rows: &Rows,
         spans: &[Secs],
         held: &[bool],
-        due: &mut [bool],
+        due: &mut Marks,
     ) -> Result<(), Cyclic>
         requires sized { IsSized net.now rows.now }
         requires spans { AreSpansOf net.now rows.now spans.now }
@@ -109,7 +109,7 @@ impl Known {
     {
         net.sound();
         rows.is_within_limits();
-        clear(due);
+        due.clear_all();
         mark_added(net, &self.held, held, due);
         match raise(net, held, spans, &mut self.times, due) {
             Ok(()) => {

@@ -11,7 +11,7 @@ ghost use Rattle.dm_verify.specs.Inside.Timetables.{IsTimetableOf, AreWithinFlag
 use crate::known::Known;
 use dm_base::Secs;
 use dm_network::Network;
-use dm_relaxation::{Cyclic, fill_spans};
+use dm_relaxation::{Cyclic, Marks, fill_spans};
 use dm_rows::Rows;
 use std::alloc::{AllocError, Global};
 use std::marker::Model;
@@ -24,7 +24,7 @@ pub struct Timetable {
     last: Known,
     first: Known,
     has_first: bool,
-    due: Vec<bool>,
+    due: Marks,
 }
 
 impl Model for Timetable {
@@ -32,7 +32,7 @@ impl Model for Timetable {
 
     ghost Value = { TimetableValue };
 
-    ghost view = { λ t. record { spans = t.spans.items; last = t.last; first = t.first; due = t.due.items } };
+    ghost view = { λ t. record { spans = t.spans.items; last = t.last; first = t.first; due = t.due } };
 
     ghost invariant = { λ t. Unit {0} };
 }
@@ -50,7 +50,7 @@ impl Timetable {
             last: Known::new(alloc, net, rows)?,
             first: Known::new(alloc, net, rows)?,
             has_first: false,
-            due: vec![in alloc; false; net.events()]?,
+            due: Marks::new(alloc, net.events())?,
         })
     }
 

@@ -1,15 +1,13 @@
 use Rattle.std.proofs.Common.{◌≡◌, ◌-◌, vec_len}
 use Rattle.dm_cert.specs.Answers.{Setting}
-use Rattle.dm_rows.specs.Rows.{IsSized}
-use Rattle.dm_claims.specs.Claims.{IsRoomFor}
+use Rattle.dm_claims.specs.Claims.{IsDispositionOf}
 use Rattle.dm_check.proofs.Entered.{HasEntered}
 use Rattle.dm_check.proofs.told_entries.all_entries.Given as goal
 
 abbrev pub invariant-loop-alloc : goal.invariant-loop-alloc
 invariant-loop-alloc l = record {
-  entered : (s : Setting) → s.net ≡ l.net → l.initial.rows ≡ s.start → HasEntered s l.net l.feeds l.count l.initial.lines l.lines l.entries.items l.rows;
-  sized : IsSized l.net l.rows;
-  room : IsRoomFor l.net l.evaluator;
+  entered : (s : Setting) → s.net ≡ l.net → l.initial.disposition.rows ≡ s.start → HasEntered s l.net l.feeds l.count l.initial.lines l.lines l.entries.items l.disposition.rows;
+  stands : IsDispositionOf l.net l.disposition;
 }
 
 abbrev pub decreases-loop-alloc : goal.decreases-loop-alloc

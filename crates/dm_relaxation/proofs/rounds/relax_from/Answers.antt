@@ -1,4 +1,4 @@
-use Rattle.std.proofs.Common.{ℕ, List, Bool, ◌+◌, arith, refl, sym, subst, slice_index}
+use Rattle.std.proofs.Common.{ℕ, List, Bool, ◌+◌, arith, refl, sym, ◌∙◌, subst, slice_index}
 use Rattle.dm_relaxation.specs.Binding.{graph_with}
 use Rattle.dm_network.specs.declared.parts.Activity.{Activity}
 use Rattle.dm_relaxation.specs.Inside.Rising.{HasRelaxed, Raises}
@@ -38,3 +38,8 @@ pub returns : goal.returns
 returns g c = λ floor.
     relaxed_all c.args.net.now c.args.held.now c.args.spans.now floor c.args.event _ c.loop-a.a-index c.out_row-row.result.now c.args.times.now c.loop-a.times c.args.due.now c.loop-a.due
     c.out_row-row.ensures.places (omega arith) refl (c.loop-a.invariant floor)
+
+pub raise_to-requires-clause-as_many_flags : goal.raise_to-requires-clause-as_many_flags
+raise_to-requires-clause-as_many_flags g c =
+    let rise = (c.loop-a.invariant (λ _. 0)).rise in
+    rise.flags ∙ (c.requires.as_many_flags ∙ sym (rise.times ∙ c.requires.as_many_times))

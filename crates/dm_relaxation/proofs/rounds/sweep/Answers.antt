@@ -1,9 +1,8 @@
-use Rattle.std.proofs.Common.{ℕ, List, Bool, ◌≡◌, ◌+◌, arith, refl, sym, ◌∙◌, subst, length, false, length-set}
+use Rattle.std.proofs.Common.{ℕ, List, Bool, ◌≡◌, ◌+◌, ◌<◌, arith, refl, sym, ap, ◌∙◌, length, false, length-set}
 use Rattle.dm_relaxation.specs.Binding.{graph_with}
-use Rattle.dm_relaxation.specs.Inside.Rising.{HasSwept, AreMet, AreWithin, latest}
-use Rattle.dm_relaxation.proofs.Rising.{swept_none, swept_over, swept_more}
+use Rattle.dm_relaxation.specs.Inside.Rising.{AreWithin, latest}
+use Rattle.dm_relaxation.proofs.Rising.{swept_none, swept_next, swept_last}
 use Rattle.dm_relaxation.proofs.rounds.sweep.Goals as goal
-use Rattle.dm_relaxation.proofs.rounds.sweep.Goals.{then-due-event, else-due-event}
 
 pub loop-event-init : goal.loop-event-init
 loop-event-init g c = record {
@@ -11,37 +10,38 @@ loop-event-init g c = record {
   within = c.requires.within;
   as_many_times = refl;
   as_many_flags = refl;
+  inside = omega arith;
 }
 
 pub loop-event-preserved : goal.loop-event-preserved
 loop-event-preserved g c =
-    let after : List ℕ → List Bool → Type 0 = λ times due.
-    record {
-      swept : (floor : ℕ → ℕ) → AreMet (graph_with c.args.net.now c.args.held.now c.args.spans.now floor) c.args.times.now c.args.due.now →
-          HasSwept (graph_with c.args.net.now c.args.held.now c.args.spans.now floor) (c.loop-event.event + 1) c.args.times.now times due;
-      within : AreWithin times (latest c.args.round (c.loop-event.event + 1));
-      as_many_times : length times ≡ length c.args.times.now;
-      as_many_flags : length due ≡ length c.args.due.now;
-    } in
     let had = c.loop-event.invariant in
-    elim c.if-due-event.branch [
-      | then-due-event w ↦
-          let rise = w.relax_from.ensures (λ _. 0) in
-          subst (λ times. after times c.if-due-event.due) (sym w.times-is) (subst (λ due. after w.relax_from.new.times due) (sym w.due-is)
-          (record {
-            swept = λ floor met. swept_more (graph_with c.args.net.now c.args.held.now c.args.spans.now floor) c.loop-event.event c.args.times.now c.loop-event.times w.relax_from.new.times c.loop-event.due w.relax_from.new.due
-                (had.swept floor met) (omega arith) (w.relax_from.ensures floor);
-            within = λ i. let w = rise.within (latest c.args.round c.loop-event.event) had.within i in omega arith;
-            as_many_times = rise.rise.times ∙ had.as_many_times;
-            as_many_flags = rise.rise.flags ∙ (length-set c.loop-event.due c.loop-event.event false ∙ had.as_many_flags);
-          }))
-      | else-due-event w ↦
-          subst (λ times. after times c.if-due-event.due) (sym w.times-is) (subst (λ due. after c.loop-event.times due) (sym w.due-is)
-          (record {
-            swept = λ floor met. swept_over (graph_with c.args.net.now c.args.held.now c.args.spans.now floor) c.loop-event.event c.args.times.now c.loop-event.times c.loop-event.times c.loop-event.due c.loop-event.due
-                (had.swept floor met) w.if-due-event.false;
-            within = λ i. let w = had.within i in omega arith;
-            as_many_times = had.as_many_times;
-            as_many_flags = had.as_many_flags;
-          }))
-    ]
+    let first = c.in-Some.ensures.first in
+    let rise = c.relax_from.ensures (λ _. 0) in
+    let before = first.not_before in
+    let inside = first.within in
+    let same : length c.clear.new.self ≡ length c.loop-event.due =
+    ap (λ (m : List Bool). length m) c.clear.ensures ∙ (length-set c.first_from.new.self c.in-Some.event false ∙ ap (λ (m : List Bool). length m) c.in-Some.ensures.same) in
+    let flags = rise.rise.flags in
+    record {
+      swept = λ floor met. swept_next (graph_with c.args.net.now c.args.held.now c.args.spans.now floor) c.loop-event.start c.in-Some.event c.args.times.now c.loop-event.times c.relax_from.new.times
+          c.loop-event.due c.first_from.new.self c.clear.new.self c.relax_from.new.due c.in-Some.ensures.same c.clear.ensures first (had.swept floor met) (c.relax_from.ensures floor);
+      within = λ i. let w = rise.within (latest c.args.round c.loop-event.start) had.within i in omega arith;
+      as_many_times = rise.rise.times ∙ had.as_many_times;
+      as_many_flags = flags ∙ (same ∙ had.as_many_flags);
+      inside = omega arith;
+    }
+
+pub loop-event-smaller : goal.loop-event-smaller
+loop-event-smaller g c =
+    let first = c.in-Some.ensures.first in
+    let before = first.not_before in
+    let inside = first.within in
+    let same : length c.clear.new.self ≡ length c.loop-event.due =
+    ap (λ (m : List Bool). length m) c.clear.ensures ∙ (length-set c.first_from.new.self c.in-Some.event false ∙ ap (λ (m : List Bool). length m) c.in-Some.ensures.same) in
+    let flags = (c.relax_from.ensures (λ _. 0)).rise.flags in
+    omega (arith, before, inside, same, flags)
+
+pub returns-clause-swept : goal.returns-clause-swept
+returns-clause-swept g c = λ floor met.
+    swept_last (graph_with c.args.net.now c.args.held.now c.args.spans.now floor) c.loop-event.start _ c.args.times.now c.loop-event.times c.loop-event.due c.first_from.new.self c.in_default.ensures.same c.in_default.ensures.none (c.loop-event.invariant.swept floor met)

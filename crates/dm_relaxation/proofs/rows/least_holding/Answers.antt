@@ -13,8 +13,8 @@ raise-requires-clause-early c = floors_are_early c.args.net.now c.args.rows.now 
 
 pub returns-clause-least : goal.returns-clause-least
 returns-clause-least c = λ holds flags enters.
-    let begins = may_begin c.args.net.now c.args.rows.now c.args.held.now c.fill_spans.new.spans c.fill_floors.new.times c.fill_due.new.due c.fill_floors.ensures
-    (λ e below. c.fill_due.ensures.all e (omega (arith, below, c.requires.as_many_due))) in
+    let begins = may_begin c.args.net.now c.args.rows.now c.args.held.now c.fill_spans.new.spans c.fill_floors.new.times c.mark_all.new.self c.fill_floors.ensures
+    (λ e below. c.mark_all.ensures.all e (omega (arith, below, c.requires.as_many_due))) in
     on_ok_weaker c.raise.result
     (least_holding_rows c.args.net.now c.args.rows.now holds c.args.held.now c.fill_spans.new.spans flags c.fill_spans.ensures c.raise.new.times c.sound.ensures.network.formed.ends_are_known
     (c.raise.ensures.as_many ∙ c.fill_floors.ensures.as_many) enters)
@@ -22,24 +22,24 @@ returns-clause-least c = λ holds flags enters.
 
 pub returns-clause-none : goal.returns-clause-none
 returns-clause-none c = λ holds flags.
-    let begins = may_begin c.args.net.now c.args.rows.now c.args.held.now c.fill_spans.new.spans c.fill_floors.new.times c.fill_due.new.due c.fill_floors.ensures
-    (λ e below. c.fill_due.ensures.all e (omega (arith, below, c.requires.as_many_due))) in
+    let begins = may_begin c.args.net.now c.args.rows.now c.args.held.now c.fill_spans.new.spans c.fill_floors.new.times c.mark_all.new.self c.fill_floors.ensures
+    (λ e below. c.mark_all.ensures.all e (omega (arith, below, c.requires.as_many_due))) in
     on_ok_weaker c.raise.result
     (no_cycle_of_rows c.args.net.now c.args.rows.now holds c.args.held.now c.fill_spans.new.spans flags c.fill_spans.ensures c.sound.ensures.network (slice_index c.raise.new.times))
     (c.raise.ensures.least (floor_of c.args.net.now c.args.rows.now) begins)
 
 pub returns-clause-cyclic : goal.returns-clause-cyclic
 returns-clause-cyclic c = λ holds flags.
-    let begins = may_begin c.args.net.now c.args.rows.now c.args.held.now c.fill_spans.new.spans c.fill_floors.new.times c.fill_due.new.due c.fill_floors.ensures
-    (λ e below. c.fill_due.ensures.all e (omega (arith, below, c.requires.as_many_due))) in
+    let begins = may_begin c.args.net.now c.args.rows.now c.args.held.now c.fill_spans.new.spans c.fill_floors.new.times c.mark_all.new.self c.fill_floors.ensures
+    (λ e below. c.mark_all.ensures.all e (omega (arith, below, c.requires.as_many_due))) in
     on_err_weaker c.raise.result
     (cycle_of_rows c.args.net.now c.args.rows.now holds c.args.held.now c.fill_spans.new.spans flags c.fill_spans.ensures)
     (c.raise.ensures.cyclic (floor_of c.args.net.now c.args.rows.now) begins)
 
 pub returns-clause-early : goal.returns-clause-early
 returns-clause-early c =
-    let begins = may_begin c.args.net.now c.args.rows.now c.args.held.now c.fill_spans.new.spans c.fill_floors.new.times c.fill_due.new.due c.fill_floors.ensures
-    (λ e below. c.fill_due.ensures.all e (omega (arith, below, c.requires.as_many_due))) in
+    let begins = may_begin c.args.net.now c.args.rows.now c.args.held.now c.fill_spans.new.spans c.fill_floors.new.times c.mark_all.new.self c.fill_floors.ensures
+    (λ e below. c.mark_all.ensures.all e (omega (arith, below, c.requires.as_many_due))) in
     on_ok_weaker c.raise.result
     (times_are_below c.args.net.now c.args.rows.now (is_held c.args.held.now) c.args.held.now c.fill_spans.new.spans (λ a below. refl) c.fill_spans.ensures c.sound.ensures.network c.sound.ensures.within c.is_within_limits.ensures
     c.raise.new.times (c.raise.ensures.as_many ∙ c.fill_floors.ensures.as_many))

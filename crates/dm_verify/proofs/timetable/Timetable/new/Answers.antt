@@ -1,6 +1,6 @@
-use Rattle.std.proofs.Common.{List, ℕ, ◌≡◌, length, sym, subst, ◌∙◌}
+use Rattle.std.proofs.Common.{List, Bool, ℕ, ◌≡◌, false, length, sym, ap, subst, ◌∙◌}
 use Rattle.std.specs.Vec.{with_items}
-use Rattle.std.proofs.lemmas.List.{with_items_is}
+use Rattle.std.proofs.lemmas.List.{with_items_is, length-replicate}
 use Rattle.dm_relaxation.specs.Binding.{AreSpansOf}
 use Rattle.dm_verify.proofs.timetable.Timetable.new.Goals as goal
 
@@ -14,5 +14,5 @@ returns c =
       spans = subst (λ (x : List ℕ). AreSpansOf net c.args.rows.now x) (sym spans) c.fill_spans.ensures;
       last = c.in_ok-new.ensures _;
       first = c.in_ok-new-2.ensures _;
-      due = sym c.in_ok-vec.field-0.ok.0 ∙ c.in_ok-vec.ensures.len ∙ c.events.ensures.count;
+      due = ap (λ (m : List Bool). length m) c.in_ok-new-3.ensures ∙ (length-replicate _ false ∙ c.events.ensures.count);
     }

@@ -1,0 +1,11 @@
+use Rattle.std.proofs.Common.{◌∙◌}
+use Rattle.dm_claims.proofs.Acceptance.{refused_tells, refused_cycle}
+use Rattle.dm_claims.proofs.disposition.Disposition.accept.Goals as goal
+
+pub returns-in-Err-clause-tells : goal.returns-in-Err-clause-tells
+returns-in-Err-clause-tells c =
+    refused_tells c.args.net.now c.args.self.now.rows c.enter.new.self.rows c.args.entries c.args.message.now c.in-Err.refusal c.refused.result c.in-Err.ensures.refused c.refused.ensures.no c.refused.ensures.cause
+
+pub returns-in-Err-settle-clause-tells : goal.returns-in-Err-settle-clause-tells
+returns-in-Err-settle-clause-tells c =
+    refused_cycle c.args.net.now c.args.self.now.rows c.settle.new.self.rows c.args.entries c.args.message.now (c.settle.ensures.rows ∙ c.in-Ok.ensures.after) c.in-Ok.ensures.passes (c.is_now.ensures.is_other c.if-is_now.false) c.in-Err-settle.ensures.cyclic

@@ -1,0 +1,17 @@
+use Rattle.std.proofs.Common.{sym, subst}
+use Rattle.dm_relaxation.proofs.Agreeing.{changes_net}
+use Rattle.dm_claims.specs.Claims.{DispositionValue, IsDispositionOf}
+use Rattle.dm_claims.proofs.Acceptance.{entered}
+use Rattle.dm_claims.proofs.disposition.Disposition.enter.Goals as goal
+
+pub keep_if-self-inside-requires-clause-within : goal.keep_if-self-inside-requires-clause-within
+keep_if-self-inside-requires-clause-within c =
+    let stands = subst (λ (d : DispositionValue). IsDispositionOf c.args.net.now d) (sym c.self.view_is) c.requires.stands in
+    changes_net c.args.net.now c.self.inside.rows c.in-Ok.change stands.sized c.in-Ok.ensures.reaches
+
+pub returns-clause-stands : goal.returns-clause-stands
+returns-clause-stands c =
+    entered c.args.net.now c.args.message.now c.in-Ok.change c.self.inside.rows c.apply.new.self c.self.inside.is_free c.stays_free-self-inside.result c.self.inside.is_kept c.keep_if-self-inside.result
+    c.self.inside.timetable c.keep_if-self-inside.new.timetable
+    (subst (λ (d : DispositionValue). IsDispositionOf c.args.net.now d) (sym c.self.view_is) c.requires.stands) c.in-Ok.ensures.named c.apply.ensures.rows (c.stays_free-self-inside.ensures c.args.net.now) (c.apply.ensures.sizes c.args.net.now)
+    c.keep_if-self-inside.ensures.room c.keep_if-self-inside.ensures.kept

@@ -1,0 +1,256 @@
+//! Rows as messages come, and their least timetable.
+ghost use Rattle.std.specs.Prelude.{◌≡◌, ◌<◌, ◌≤◌, true, false, length, IsTrue, IfOk, IfErr, OnOk, OnErr};
+ghost use Rattle.dm_base.specs.declared.limits.TheConstants.{ENTRIES, PENALTY};
+ghost use Rattle.dm_network.specs.Net.{Net};
+ghost use Rattle.dm_rows.specs.Rows.{RowsValue, IsSized, AreAsLong};
+ghost use Rattle.dm_rows.specs.Active.{HasNoCycle};
+ghost use Rattle.dm_rows.specs.Resolve.{after, after_change};
+ghost use Rattle.dm_rows.specs.Refuse.{PassesAtOnce, RefusesAdmission, IsNow};
+ghost use Rattle.dm_rows.specs.Timetable.{IsLeast, time_at};
+ghost use Rattle.dm_rows.specs.Cost.{Costs};
+ghost use Rattle.dm_rows.specs.declared.messages.Refusal.TheVariants.{OutOfMemory};
+ghost use Rattle.dm_relaxation.specs.Binding.{AreBelowLimit};
+ghost use Rattle.dm_relaxation.specs.Timetables.{IsRoomOf, IsTimetableOf, IsSettledFor, ChangesNet};
+ghost use Rattle.dm_claims.specs.Claims.{IsDispositionOf, IsTimeOf, IsKnownFree, IsKept, Tells, TellsAcceptance, times_of};
+ghost use Rattle.dm_claims.specs.Inside.Harmless.{IsHarmless};
+
+use dm_base::Cost;
+use dm_network::Network;
+use dm_relaxation::{Cyclic, Timetable, cost_of, keep_up};
+use dm_rows::{Change, Message, Refusal, Rows, admit};
+use std::alloc::{AllocError, Global};
+use std::marker::Model;
+
+/// The rows of a network as messages come. Their least timetable is computed where it is asked for, from that of before and what
+/// has changed since then; and no cycle is looked for after a message that makes none.
+#[derive(Drop)]
+pub struct Disposition {
+    rows: Rows,
+
+    /// Whether the rows are known to have no cycle.
+    is_free: bool,
+
+    /// Whether the timetable is kept with the rows.
+    is_kept: bool,
+    timetable: Timetable,
+}
+
+impl Model for Disposition {
+    ghost use Rattle.dm_claims.specs.Claims.{DispositionValue};
+
+    ghost Value = { DispositionValue };
+
+    ghost view = { λ d. record { rows = d.rows; is_free = d.is_free; is_kept = d.is_kept; timetable = d.timetable } };
+
+    ghost invariant = { λ d. Unit {0} };
+}
+
+impl Disposition {
+    /// Rows that no message has changed yet.
+    pub fn new(alloc: Global, net: &Network, rows: Rows) -> Result<Disposition, AllocError>
+        requires { IsSized net.now rows }
+        ensures stands { IfOk result (IsDispositionOf net.now) }
+        ensures rows { IfOk result (λ d. d.rows ≡ rows) }
+    {
+        Ok(Disposition {
+            rows,
+            is_free: false,
+            is_kept: false,
+            timetable: Timetable::new(alloc, net)?,
+        })
+    }
+
+    /// The rows.
+    pub fn rows(&self) -> &Rows
+        ensures { result.now ≡ self.now.rows }
+    {
+        &self.rows
+    }
+
+    /// Whether the rows are known to have no cycle.
+    pub(crate) fn is_free(&self) -> bool
+        ensures { result ≡ self.now.is_free }
+    {
+        self.is_free
+    }
+
+    /// Goes to other rows of the network. It takes no memory.
+    pub fn go_to(&mut self, net: &Network, rows: &Rows)
+        requires stands { IsDispositionOf net.now self.old }
+        requires sized { IsSized net.now rows.now }
+        ensures stands { IsDispositionOf net.now self.new }
+        ensures rows { self.new.rows ≡ rows.now }
+    {
+        self.is_free = false;
+        self.is_kept = false;
+        self.rows.copy_from(rows);
+    }
+
+    /// Whether nothing refuses the message at so many entries, fewer than a history may have. Where it is accepted the rows are
+    /// then those after it; else nothing is said of them. Only an `Adopt` takes memory, and no cycle is looked for where the
+    /// message makes none.
+    pub fn accept(
+        &mut self,
+        alloc: Global,
+        net: &Network,
+        entries: usize,
+        message: &Message,
+    ) -> Result<bool, AllocError>
+        requires stands { IsDispositionOf net.now self.old }
+        requires few { entries < ENTRIES }
+        ensures tells { IfOk result (TellsAcceptance net.now self.old.rows self.new.rows entries message.now) }
+        ensures stands { IsDispositionOf net.now self.new }
+    {
+        match self.enter(alloc, net, message) {
+            Ok(()) => {}
+            Err(refusal) => return refused(&refusal),
+        }
+        if self.is_free || is_now(message) {
+            return Ok(true);
+        }
+        match self.settle(net) {
+            Ok(()) => Ok(true),
+            Err(Cyclic) => Ok(false),
+        }
+    }
+
+    /// Makes the rows those after a message, or tells what refuses it at once; then they are as before. Only an `Adopt` takes
+    /// memory.
+    pub fn enter(&mut self, alloc: Global, net: &Network, message: &Message) -> Result<(), Refusal>
+        requires stands { IsDispositionOf net.now self.old }
+        ensures stands { IsDispositionOf net.now self.new }
+        ensures after { OnOk result (self.new.rows ≡ after net.now self.old.rows message.now) }
+        ensures passes { OnOk result (PassesAtOnce net.now self.old.rows message.now) }
+        ensures refused { IfErr result (RefusesAdmission net.now self.old.rows message.now) }
+        ensures same { OnErr result (self.new ≡ self.old) }
+    {
+        let change = match admit(alloc, net, &self.rows, message) {
+            Ok(change) => change,
+            Err(refusal) => return Err(refusal),
+        };
+        self.is_free = stays_free(self.is_free, message);
+        self.rows.apply(&change);
+        self.is_kept = keep_if(self.is_kept, &mut self.timetable, net, &self.rows, &change);
+        Ok(())
+    }
+
+    /// Computes the least timetable of the rows. `Err` comes exactly where they have a cycle. It takes no memory.
+    pub fn settle(&mut self, net: &Network) -> Result<(), Cyclic>
+        requires stands { IsDispositionOf net.now self.old }
+        ensures stands { IsDispositionOf net.now self.new }
+        ensures rows { self.new.rows ≡ self.old.rows }
+        ensures least { OnOk result (IsLeast net.now self.new.rows (times_of self.new)) }
+        ensures early { OnOk result (AreBelowLimit (times_of self.new)) }
+        ensures no_cycle { OnOk result (HasNoCycle net.now self.new.rows) }
+        ensures cyclic { OnErr result (HasNoCycle net.now self.new.rows → ⊥) }
+    {
+        match least(self.is_kept, &mut self.timetable, net, &self.rows) {
+            Ok(()) => {
+                self.is_free = true;
+                self.is_kept = true;
+                Ok(())
+            }
+            Err(Cyclic) => {
+                self.is_free = false;
+                self.is_kept = false;
+                Err(Cyclic)
+            }
+        }
+    }
+
+    /// Whether this is the time of the event at this place, where the times are the least ones.
+    pub fn is_time(&self, i: usize, time: u128) -> bool
+        requires { i < length (times_of self.now) }
+        ensures { (net : Net) → IsLeast net self.now.rows (times_of self.now) → i < length net.events → Tells (IsTimeOf net self.now.rows i time) result }
+    {
+        self.timetable.time(i) as u128 == time
+    }
+
+    /// Whether the rows cost this, where the times are the least ones. It takes no memory.
+    pub fn is_cost(&self, net: &Network, penalty: u64, cost: Cost) -> bool
+        requires stands { IsDispositionOf net.now self.now }
+        requires least { IsLeast net.now self.now.rows (times_of self.now) }
+        requires early { AreBelowLimit (times_of self.now) }
+        requires penalty { penalty ≤ PENALTY }
+        ensures { Tells (Costs net.now self.now.rows penalty cost) result }
+    {
+        cost_of(net, &self.rows, self.timetable.times(), penalty) == cost
+    }
+}
+
+/// Keeps a timetable with rows that have just changed so, if it is. Answers whether it is kept still.
+fn keep_if(
+    is_kept: bool,
+    timetable: &mut Timetable,
+    net: &Network,
+    rows: &Rows,
+    change: &Change,
+) -> bool
+    requires sized { IsSized net.now rows.now }
+    requires within { ChangesNet net.now change.now }
+    requires room { IsRoomOf net.now timetable.old }
+    requires timetable { IsTrue is_kept → IsTimetableOf net.now timetable.old }
+    ensures room { IsRoomOf net.now timetable.new }
+    ensures kept { (before : RowsValue) → rows.now ≡ after_change before change.now → IsKept net.now before timetable.old is_kept → IsKept net.now rows.now timetable.new result }
+{
+    if !is_kept {
+        return false;
+    }
+    keep_up(timetable, net, rows, change)
+}
+
+/// The least timetable of rows, from that of before where it is kept with them.
+fn least(is_kept: bool, timetable: &mut Timetable, net: &Network, rows: &Rows) -> Result<(), Cyclic>
+    requires sized { IsSized net.now rows.now }
+    requires room { IsRoomOf net.now timetable.old }
+    requires kept { IsKept net.now rows.now timetable.old is_kept }
+    ensures room { IsRoomOf net.now timetable.new }
+    ensures settled { OnOk result (IsSettledFor net.now rows.now timetable.new) }
+    ensures cyclic { OnErr result (HasNoCycle net.now rows.now → ⊥) }
+{
+    if is_kept {
+        timetable.settle(net, rows)
+    } else {
+        timetable.fill(net, rows)
+    }
+}
+
+/// Whether rows that may be known to have no cycle are known to have none after this message, as far as its kind tells.
+pub(crate) fn stays_free(is_free: bool, message: &Message) -> bool
+    ensures { (net : Net) (rows : RowsValue) → IsKnownFree net rows is_free → IsKnownFree net (after net rows message.now) result }
+{
+    if is_harmless(message) { is_free } else { false }
+}
+
+/// Whether the message is of a kind that makes no cycle.
+fn is_harmless(message: &Message) -> bool
+    ensures { result ≡ true → IsHarmless message.now }
+{
+    match message {
+        Message::DelayEvent(_, _)
+        | Message::DelayActivity(_, _)
+        | Message::Pass(_, _)
+        | Message::Drop(_)
+        | Message::Now(_) => true,
+        Message::Recall(_) | Message::Keep(_) | Message::First(_, _) | Message::Adopt(_) => false,
+    }
+}
+
+/// Whether the message is a clock, which makes no cycle.
+pub(crate) fn is_now(message: &Message) -> bool
+    ensures is_now { result ≡ true → IsNow message.now }
+    ensures is_other { result ≡ false → IsNow message.now → ⊥ }
+{
+    matches!(message, Message::Now(_))
+}
+
+/// No, for this reason, unless it is want of memory.
+fn refused(refusal: &Refusal) -> Result<bool, AllocError>
+    ensures no { IfOk result (λ b. b ≡ false) }
+    ensures cause { OnOk result (refusal.now ≡ OutOfMemory → ⊥) }
+{
+    match refusal {
+        Refusal::OutOfMemory => Err(AllocError),
+        _ => Ok(false),
+    }
+}

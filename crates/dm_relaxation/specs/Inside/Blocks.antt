@@ -1,0 +1,13 @@
+-- Blocks of marks, and how far they are looked through.
+use Rattle.std.specs.Prelude.{ℕ, ◌≡◌, ◌*◌, ◌/◌, ◌<◌, ◌≤◌, Bool, true, false, List, length, slice_index_or}
+use Rattle.dm_relaxation.specs.declared.marks.TheConstants.{BLOCK}
+use Rattle.dm_relaxation.specs.Marked.{is_marked}
+
+-- no event is marked from one up to another
+abbrev pub NoneBetween : List Bool → ℕ → ℕ → Type 0
+NoneBetween marks from end = (k : ℕ) → from ≤ k → k < end → is_marked marks k ≡ false
+
+-- every mark stands in a block that may have some
+pub record AreCovered (marks blocks : List Bool) : Type 0 where
+  pub as_many : length marks ≤ BLOCK * length blocks
+  pub covers : (event : ℕ) → is_marked marks event ≡ true → slice_index_or blocks (event / BLOCK) false ≡ true

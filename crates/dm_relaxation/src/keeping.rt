@@ -1,0 +1,134 @@
+//! A timetable kept with rows as they change.
+ghost use Rattle.std.specs.Prelude.{◌≡◌, ◌<◌, Bool, true, length};
+ghost use Rattle.dm_rows.specs.Rows.{RowsValue, IsSized};
+ghost use Rattle.dm_rows.specs.Resolve.{after_change};
+ghost use Rattle.dm_rows.specs.declared.messages.Flip.TheVariants.{First};
+ghost use Rattle.dm_relaxation.specs.Timetables.{IsTimetableOf, AgreesWith, ChangesNet, FlipsNet};
+ghost use Rattle.dm_relaxation.specs.Inside.Agreeing.{Renews, Nowhere, Here, Before, IsInto, IsOutOf, LeadsAt, IsDecided};
+
+use crate::row::{row_into, row_out_of};
+use crate::timetable::Timetable;
+use dm_network::Network;
+use dm_rows::{Change, Flip, Rows};
+
+/// Keeps a timetable with rows that have just changed so, and answers yes; or answers no, for an adopted list, which is not
+/// followed. It takes no memory. It looks at what is around the change, and at every event where the clock has changed.
+pub fn keep_up(timetable: &mut Timetable, net: &Network, rows: &Rows, change: &Change) -> bool
+    requires sized { IsSized net.now rows.now }
+    requires timetable { IsTimetableOf net.now timetable.old }
+    requires within { ChangesNet net.now change.now }
+    ensures timetable { IsTimetableOf net.now timetable.new }
+    ensures agrees { result ≡ true → (before : RowsValue) → rows.now ≡ after_change before change.now → AgreesWith net.now before timetable.old → AgreesWith net.now rows.now timetable.new }
+{
+    net.sound();
+    match change {
+        Change::EventDelay { event, .. } => {
+            timetable.renew_event(net, rows, *event);
+            true
+        }
+        Change::ActDelay { act, .. } => {
+            timetable.renew_activity(net, rows, *act);
+            true
+        }
+        Change::Passed { event, .. } => {
+            renew_around(timetable, net, rows, *event);
+            true
+        }
+        Change::Recalled { event } => {
+            renew_around(timetable, net, rows, *event);
+            true
+        }
+        Change::Flipped(flip) => {
+            renew_flipped(timetable, net, rows, *flip);
+            true
+        }
+        Change::Adopted(_) => false,
+        Change::Clock { .. } => {
+            renew_events(timetable, net, rows);
+            true
+        }
+    }
+}
+
+/// Renews an event, and the activities into it and out of it.
+fn renew_around(timetable: &mut Timetable, net: &Network, rows: &Rows, event: usize)
+    requires sized { IsSized net.now rows.now }
+    requires timetable { IsTimetableOf net.now timetable.old }
+    requires is_event { event < length net.now.events }
+    ensures timetable { IsTimetableOf net.now timetable.new }
+    ensures renews { Renews net.now rows.now (Here event) (LeadsAt net.now event) timetable.old timetable.new }
+{
+    timetable.renew_event(net, rows, event);
+    renew_into(timetable, net, rows, event);
+    renew_out_of(timetable, net, rows, event);
+}
+
+/// Renews what a decision is about.
+fn renew_flipped(timetable: &mut Timetable, net: &Network, rows: &Rows, flip: Flip)
+    requires sized { IsSized net.now rows.now }
+    requires timetable { IsTimetableOf net.now timetable.old }
+    requires within { FlipsNet net.now flip }
+    ensures timetable { IsTimetableOf net.now timetable.new }
+    ensures renews { Renews net.now rows.now Nowhere (IsDecided net.now flip) timetable.old timetable.new }
+{
+    match flip {
+        Flip::Keep { act } => timetable.renew_activity(net, rows, act),
+        Flip::Drop { act } => timetable.renew_activity(net, rows, act),
+        Flip::First { pair, .. } => renew_pair(timetable, net, rows, pair),
+    }
+}
+
+/// Renews the activities out of the two events of a pair.
+fn renew_pair(timetable: &mut Timetable, net: &Network, rows: &Rows, pair: usize)
+    requires sized { IsSized net.now rows.now }
+    requires timetable { IsTimetableOf net.now timetable.old }
+    requires is_pair { pair < length net.now.pairs }
+    ensures timetable { IsTimetableOf net.now timetable.new }
+    ensures renews { (small : Bool) → Renews net.now rows.now Nowhere (IsDecided net.now (First pair small)) timetable.old timetable.new }
+{
+    net.sound();
+    let pair = net.pair(pair);
+    let (small, large) = (pair.small, pair.large);
+    renew_out_of(timetable, net, rows, small);
+    renew_out_of(timetable, net, rows, large);
+}
+
+/// Renews the activities into an event.
+fn renew_into(timetable: &mut Timetable, net: &Network, rows: &Rows, event: usize)
+    requires sized { IsSized net.now rows.now }
+    requires timetable { IsTimetableOf net.now timetable.old }
+    requires is_event { event < length net.now.events }
+    ensures timetable { IsTimetableOf net.now timetable.new }
+    ensures renews { Renews net.now rows.now Nowhere (IsInto net.now event) timetable.old timetable.new }
+{
+    let row = row_into(net, event);
+    for a in row {
+        timetable.renew_activity(net, rows, *a);
+    }
+}
+
+/// Renews the activities out of an event.
+fn renew_out_of(timetable: &mut Timetable, net: &Network, rows: &Rows, event: usize)
+    requires sized { IsSized net.now rows.now }
+    requires timetable { IsTimetableOf net.now timetable.old }
+    requires is_event { event < length net.now.events }
+    ensures timetable { IsTimetableOf net.now timetable.new }
+    ensures renews { Renews net.now rows.now Nowhere (IsOutOf net.now event) timetable.old timetable.new }
+{
+    let row = row_out_of(net, event);
+    for a in row {
+        timetable.renew_activity(net, rows, *a);
+    }
+}
+
+/// Renews every event.
+fn renew_events(timetable: &mut Timetable, net: &Network, rows: &Rows)
+    requires sized { IsSized net.now rows.now }
+    requires timetable { IsTimetableOf net.now timetable.old }
+    ensures timetable { IsTimetableOf net.now timetable.new }
+    ensures renews { Renews net.now rows.now (Before (length net.now.events)) Nowhere timetable.old timetable.new }
+{
+    for event in 0..net.events() {
+        timetable.renew_event(net, rows, event);
+    }
+}
