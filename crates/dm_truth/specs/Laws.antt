@@ -1,0 +1,46 @@
+-- What the verdict on a text says of runs.
+use Rattle.std.specs.Prelude.{ℕ, ◌≤◌, ◌↔◌, List, length, count_by}
+use Rattle.dm_base.specs.declared.limits.TheConstants.{PENALTY}
+use Rattle.dm_network.specs.Net.{Net, event_at, IsWithinLimits}
+use Rattle.dm_network.specs.Start.{IsNetwork}
+use Rattle.dm_rows.specs.Rows.{RowsValue, RowsAreWithinLimits}
+use Rattle.dm_feed.specs.Parts.{largest_id}
+use Rattle.dm_cert.specs.Answers.{is_plan}
+use Rattle.dm_cert.specs.Logs.{all_items}
+use Rattle.dm_cert.specs.RunTexts.{Run}
+use Rattle.dm_cert.specs.Runs.{IsTextOf, IsRunText}
+use Rattle.dm_check.specs.declared.verdicts.Verdict.TheVariants.{Good}
+use Rattle.dm_check.specs.FalseRecords.{IsVerdict}
+
+-- the ids of events are below 2^32, as those of every network in memory are
+abbrev pub EventIdsFit : Net → Type 0
+EventIdsFit net = (i : ℕ) → (event_at net i).id.0 ≤ largest_id
+
+-- The text, in either version, of a true run over a network is good, with as many entries as its history and as many plans as
+-- its logs have.
+abbrev pub TrueTextsAreGood : Type 0
+TrueTextsAreGood =
+    (version : ℕ) (start : RowsValue) (run : Run) (text : List ℕ) → IsNetwork run.net → IsWithinLimits run.net →
+    EventIdsFit run.net → IsTextOf version start run text →
+    IsVerdict run.net start run.penalty text (Good (length run.history) (count_by is_plan (all_items run.logs)))
+
+-- A good text is that of a true run of the network, from these rows at the start and at this penalty.
+abbrev pub GoodTextsAreTrue : Type 0
+GoodTextsAreTrue =
+    (net : Net) (start : RowsValue) (penalty : ℕ) (text : List ℕ) (entries plans : ℕ) → IsNetwork net → IsWithinLimits net →
+    RowsAreWithinLimits start → penalty ≤ PENALTY → IsVerdict net start penalty text (Good entries plans) →
+    IsRunText net start penalty text
+
+-- some verdict says that no record of the text breaks its rule
+pub record HasNoFalseRecord (net : Net) (start : RowsValue) (penalty : ℕ) (text : List ℕ) : Type 0 where
+  pub entries : ℕ
+  pub plans : ℕ
+  pub good : IsVerdict net start penalty text (Good entries plans)
+
+-- The run texts of a network, from rows at the start and at a penalty within the limits, are exactly the texts in which no
+-- record breaks its rule.
+abbrev pub RunTextsAreTheGoodOnes : Type 0
+RunTextsAreTheGoodOnes =
+    (net : Net) (start : RowsValue) (penalty : ℕ) (text : List ℕ) → IsNetwork net → IsWithinLimits net → EventIdsFit net →
+    RowsAreWithinLimits start → penalty ≤ PENALTY →
+    IsRunText net start penalty text ↔ HasNoFalseRecord net start penalty text

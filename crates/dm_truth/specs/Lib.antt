@@ -1,0 +1,2 @@
+-- What the verdicts on texts say of runs.
+pub mod Laws
