@@ -9,6 +9,7 @@ empty feed. Then come the ratios that are bounded, each with its bound:
     mixed      a full feed of mixed lines against an empty one     2.5
     few        500 delays against an empty feed                    1.3
     four       four feeds of as many lines in all against one      1.3
+    boards     boards of 64 of the stops against none              1.5
     rounds     with --batch=1000, against BEFORE                   1.1
     default    with the default batch, against BEFORE              1.5
 
@@ -22,6 +23,9 @@ import time
 
 REPEATS = 5
 
+# As many boards as a run may have.
+BOARDS = range(1, 65)
+
 # Name, feeds, further words.
 RUNS = [
     ('empty', ['empty'], []),
@@ -29,6 +33,7 @@ RUNS = [
     ('delays', ['full'], []),
     ('mixed', ['mixed'], []),
     ('questions', ['questions'], []),
+    ('boards', ['full'], ['--boards=' + ','.join(str(stop) for stop in BOARDS)]),
     ('rounds', ['full'], ['--batch=1000']),
     ('four', ['quarter-1', 'quarter-2', 'quarter-3', 'quarter-4'], []),
 ]
@@ -43,8 +48,17 @@ def quarters(folder):
             file.writelines(lines[number::4])
 
 
+def clear_boards(folder):
+    """Takes away the files of boards, which a run goes on in."""
+    for stop in BOARDS:
+        path = os.path.join(folder, 'net', f'board-{stop}.txt')
+        if os.path.exists(path):
+            os.remove(path)
+
+
 def timed(program, folder, feeds, words):
     """The processor and wall seconds of a run."""
+    clear_boards(folder)
     command = [program, 'run', 'net', '--penalty=3600'] + words + feeds
     before = resource.getrusage(resource.RUSAGE_CHILDREN)
     start = time.monotonic()
@@ -67,6 +81,7 @@ def table(title, program, folder):
         used, wall = least(program, folder, feeds, words)
         seconds[name] = used
         print(f'  {name:<16}{used:>10.3f} s{wall:>7.3f} s{used / seconds["empty"]:>8.2f}')
+    clear_boards(folder)
     return seconds
 
 
@@ -79,6 +94,7 @@ def main():
         ('mixed', now['mixed'] / now['empty'], 2.5),
         ('few', now['few'] / now['empty'], 1.3),
         ('four', now['four'] / now['delays'], 1.3),
+        ('boards', now['boards'] / now['delays'], 1.5),
     ]
     if len(sys.argv) > 3:
         before = table('before', os.path.abspath(sys.argv[3]), folder)

@@ -53,7 +53,7 @@ none_above : (len n : ℕ) → len < n → times n (numbers_to len) ≡ 0
 none_above zero n low = refl
 none_above (suc len) n low = omega (arith, one_more len n, is_none n (len + 1) (λ e. omega arith), none_above len n (omega arith))
 
-each_once : (len n : ℕ) → 0 < n → n ≤ len → times n (numbers_to len) ≡ 1
+pub each_once : (len n : ℕ) → 0 < n → n ≤ len → times n (numbers_to len) ≡ 1
 each_once zero n some low = absurd (omega arith)
 each_once (suc len) n some low =
     elim (cases_eq (len + 1) n) [

@@ -16,8 +16,8 @@ use Rattle.dm_desk.specs.Answered.{times}
 use Rattle.dm_desk.specs.Desks.{DeskValue, GoesOn}
 use Rattle.dm_desk.proofs.Answering.{no_shorter, on_and_on}
 use Rattle.dm_publish.specs.Shown.{ShowsTimes}
-use Rattle.dm_publish.specs.Since.{KeepsUp, AreKeptSince}
-use Rattle.dm_publish.proofs.Repeated.{kept_at_first}
+use Rattle.dm_publish.specs.Since.{KeepsUpLast, AreKeptSince, AllShowLast}
+use Rattle.dm_publish.proofs.Repeated.{kept_at_first, all_show_last, all_show_none}
 use Rattle.dm_rounds.specs.declared.jobs.Job.{Job}
 use Rattle.dm_rounds.specs.Inside.Jobs.{InRounds}
 use Rattle.dm_rounds.proofs.Rounding.{job_grows}
@@ -30,7 +30,7 @@ use Rattle.dm_crew.specs.declared.display.Display.{Display}
 use Rattle.dm_crew.specs.Boards.{AreShown}
 use Rattle.dm_crew.specs.Passes.{numbers_in, desk_of, IsSamePass}
 use Rattle.dm_crew.specs.Inside.Works.{IsGathered}
-use Rattle.dm_crew.specs.Inside.Displays.{IsFor, AreUp, Shows}
+use Rattle.dm_crew.specs.Inside.Displays.{IsFor, HasShownNothing, AreUp, Shows}
 
 none_yet : AreTrueNotes 0 []
 none_yet = record {
@@ -94,10 +94,6 @@ shows_same : (net : Net) (x y : List ℕ) (stop : ℕ) (shown : Option (ℕ → 
 shows_same net x y stop None same s = tt
 shows_same net x y stop (Some f) same s = λ i at. s i at ∙ ap Some (same i at.is_event)
 
-pub on_ok : {T E : Type 0} (P : Type 0) (result : Result T E) → P → OnOk result P
-on_ok P (Ok t) p = p
-on_ok P (Err e) p = tt
-
 pub some_base : {a b : Base} → Some a ≡ Some b → a ≡ b
 some_base e = cc
 
@@ -108,13 +104,12 @@ module _ {B : Type 0} (place : B → ℕ) (times_on : B → Option (ℕ → Opti
   as_many old new stops = sym (length-map new place) ∙ (ap length stops ∙ length-map old place)
 
   pub shows_history : (base : Base) (seen : List Entry) (display now : Display) (net : Net) (entry : ℕ) (old new : List B) → IsFor base.network (length old) display → net ≡ base.network → now.net.now ≡ base.network → entry ≡ length seen → AreTimesAfter base seen now.times
-      → map place new ≡ map place old → KeepsUp place times_on faults is_sound net now.times old new display.publisher.notes now.publisher.notes
+      → map place new ≡ map place old → KeepsUpLast place times_on faults is_sound net display.publisher.last now.times old new display.publisher.notes now.publisher.notes
       → ((entries : ℕ) → entries ≤ entry → AreTrueNotes entries display.publisher.notes → AreTrueNotes entry now.publisher.notes)
-      → now.publisher.boards ≡ display.publisher.boards → now.publisher.events ≡ display.publisher.events → Shows place times_on faults is_sound base seen display now old new
-  shows_history base seen display now net entry old new fits is network here least stops keeps noted boards events = λ first entries low k.
-      let keeps_up : KeepsUp place times_on faults is_sound base.network now.times old new display.publisher.notes now.publisher.notes =
-      subst (λ (n : Net). KeepsUp place times_on faults is_sound n now.times old new display.publisher.notes now.publisher.notes) is keeps in
-      let up = keeps_up first k.kept in
+      → now.publisher.last ≡ now.times → now.publisher.boards ≡ display.publisher.boards → now.publisher.events ≡ display.publisher.events → Shows place times_on faults is_sound base seen display now old new
+  shows_history base seen display now net entry old new fits is network here least stops keeps noted last boards events = λ first entries low k.
+      let keeps_up : KeepsUpLast place times_on faults is_sound base.network display.publisher.last now.times old new display.publisher.notes now.publisher.notes =
+      subst (λ (n : Net). KeepsUpLast place times_on faults is_sound n display.publisher.last now.times old new display.publisher.notes now.publisher.notes) is keeps in
       record {
         is_for = record {
           network = network;
@@ -123,21 +118,27 @@ module _ {B : Type 0} (place : B → ℕ) (times_on : B → Option (ℕ → Opti
           size = least.meets.size;
         };
         least = least;
-        shown = record { kept = up.0; shown = up.1; noted = subst (λ (n : ℕ). AreTrueNotes n now.publisher.notes) here (noted entries (omega (arith, low, here)) k.noted) };
+        last = last;
+        shown = record { up = keeps_up first k.kept k.last; noted = subst (λ (n : ℕ). AreTrueNotes n now.publisher.notes) here (noted entries (omega (arith, low, here)) k.noted) };
       }
 
-  pub shown_first : (base : Base) (seen : List Entry) (display now : Display) (boards new : List B) → display.publisher.notes ≡ [] → Shows place times_on faults is_sound base seen display now boards new
+  pub shown_first : (base : Base) (seen : List Entry) (display now : Display) (boards new : List B) → HasShownNothing display → Shows place times_on faults is_sound base seen display now boards new
       → AreUp place times_on faults is_sound base seen now boards new
   shown_first base seen display now boards new none shows =
       shows boards 0 (omega arith)
       (record {
-        kept = subst (λ (n : List Note). AreKeptSince place times_on faults is_sound base.network boards boards n) (sym none) (kept_at_first place times_on faults is_sound base.network boards);
-        noted = subst (λ (n : List Note). AreTrueNotes 0 n) (sym none) none_yet;
+        kept = subst (λ (n : List Note). AreKeptSince place times_on faults is_sound base.network boards boards n) (sym none.0) (kept_at_first place times_on faults is_sound base.network boards);
+        noted = subst (λ (n : List Note). AreTrueNotes 0 n) (sym none.0) none_yet;
+        last = subst (λ (last : List ℕ). AllShowLast place times_on base.network last display.publisher.notes boards boards) (sym none.1) (all_show_none place times_on faults is_sound base.network display.publisher.notes boards boards);
       })
 
   pub shown_next : (base : Base) (seen later : List Entry) (display now : Display) (first old new : List B) → length seen ≤ length later → AreUp place times_on faults is_sound base seen display first old → Shows place times_on faults is_sound base later display now old new
       → AreUp place times_on faults is_sound base later now first new
-  shown_next base seen later display now first old new low up shows = shows first (length seen) low (record { kept = up.shown.kept; noted = up.shown.noted })
+  shown_next base seen later display now first old new low up shows = shows first (length seen) low (record {
+    kept = up.shown.up.kept;
+    noted = up.shown.noted;
+    last = subst (λ (last : List ℕ). AllShowLast place times_on base.network last display.publisher.notes first old) (sym up.last) (all_show_last place times_on faults is_sound base.network display.times display.publisher.notes first old up.shown.up.shown);
+  })
 
   -- what is shown after a server's history is what its table has in the end
   pub shown_at_end : (base : Base) (seen : List Entry) (display : Display) (first now : List B) (table : TableValue) → base_of table ≡ base → table.history ≡ seen → IsTable table → AreUp place times_on faults is_sound base seen display first now
@@ -149,7 +150,9 @@ module _ {B : Type 0} (place : B → ℕ) (times_on : B → Option (ℕ → Opti
       (subst (λ (r : RowsValue). IsLeast table.network r table.times) is_table.replayed is_table.least)) in
       let same = same_times base.network (rows_after base seen) display.times table.times up.least least in
       record {
-        kept = up.shown.kept;
-        shown = λ at before after b n none some. shows_same base.network display.times table.times (place after) (times_on after) same (up.shown.shown at before after b n none some);
+        up = record {
+          kept = up.shown.up.kept;
+          shown = λ at before after b n none some. shows_same base.network display.times table.times (place after) (times_on after) same (up.shown.up.shown at before after b n none some);
+        };
         noted = subst (λ (h : List Entry). AreTrueNotes (length h) display.publisher.notes) (sym history) up.shown.noted;
       }

@@ -6,11 +6,9 @@ use Rattle.std.specs.Prelude.{ℕ, List, Option}
 use Rattle.dm_network.specs.Net.{Net}
 use Rattle.dm_cert.specs.declared.notes.Note.{Note}
 use Rattle.dm_cert.specs.Runs.{AreTrueNotes}
-use Rattle.dm_publish.specs.Since.{AreKeptSince, AllShow}
+use Rattle.dm_publish.specs.Since.{AreUpSince}
 
--- Boards that were these at first have been kept up, and each that no note names shows these times. The notes are true at so
--- many entries.
+-- Boards that were these at first have been kept up, and show these times. The notes are true at so many entries.
 pub record AreShown {B : Type 0} (place : B → ℕ) (times : B → Option (ℕ → Option ℕ)) (faults : B → ℕ) (is_sound : B → ℕ → Type 0) (net : Net) (x : List ℕ) (entries : ℕ) (notes : List Note) (first now : List B) : Type 0 where
-  pub kept : AreKeptSince place times faults is_sound net first now notes
-  pub shown : AllShow place times net x notes first now
+  pub up : AreUpSince place times faults is_sound net x notes first now
   pub noted : AreTrueNotes entries notes

@@ -7,7 +7,7 @@ ghost use Rattle.dm_rows.specs.Rows.{IsSized};
 ghost use Rattle.dm_desk.specs.Planning.{PlansUnder};
 ghost use Rattle.dm_crew.specs.AtOnce.{AnswersDay, day_desk};
 ghost use Rattle.dm_crew.specs.Boards.{AreShown};
-ghost use Rattle.dm_crew.specs.Inside.Displays.{IsFor};
+ghost use Rattle.dm_crew.specs.Inside.Displays.{IsFor, HasShownNothing};
 ghost use Rattle.dm_crew.specs.Passes.{setting_of};
 ghost use Rattle.dm_crew.specs.Inside.Works.{first_pass};
 
@@ -106,7 +106,7 @@ fn answer_over<
     requires rooms { length feeds.items < server.seats }
     requires some { 0 < batch }
     requires fits { IsFor P.base.network (vec_len boards.old) display }
-    requires none { display.publisher.notes ≡ [] }
+    requires none { HasShownNothing display }
     ensures answers { IfOk result (λ day. AnswersDay S.left S.is_sound P.base.network P.base.start P.base.penalty feeds.items batch day.table day.logs.items) }
     ensures shown { IfOk result (λ day. AreShown place times (λ b. (Board-box b).faults b.value) (λ b. (Board-box b).is_sound b.value) P.base.network day.table.times (length day.table.history) day.publisher.notes boards.old.items boards.new.items) }
     ensures stops { map place boards.new.items ≡ map place boards.old.items }

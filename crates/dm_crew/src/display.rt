@@ -1,10 +1,10 @@
 //! Boards that show the times of a server.
 
-ghost use Rattle.std.specs.Prelude.{◌≡◌, ◌≤◌, false, [], Some, map, vec_len, IfOk};
+ghost use Rattle.std.specs.Prelude.{◌≡◌, ◌≤◌, false, Some, map, vec_len, IfOk};
 ghost use Rattle.dm_base.specs.declared.limits.TheConstants.{BOARDS};
 ghost use Rattle.dm_rows.specs.History.{IsLegal};
 ghost use Rattle.dm_server.specs.Answers.{HasLooked};
-ghost use Rattle.dm_crew.specs.Inside.Displays.{IsFor, Shows};
+ghost use Rattle.dm_crew.specs.Inside.Displays.{IsFor, HasShownNothing, Shows};
 
 use crate::desk::Seat;
 use dm_network::Network;
@@ -29,7 +29,7 @@ impl<'n> Display<'n> {
     pub fn new(alloc: Global, net: &'n Network, boards: usize) -> Result<Display<'n>, AllocError>
         requires few { boards ≤ BOARDS }
         ensures fits { IfOk result (IsFor net.now boards) }
-        ensures none { IfOk result (λ display. display.publisher.notes ≡ []) }
+        ensures none { IfOk result HasShownNothing }
     {
         Ok(Display {
             net,
@@ -38,7 +38,8 @@ impl<'n> Display<'n> {
         })
     }
 
-    /// Shows boards the times after the history that a pass then sees. It takes no memory.
+    /// Shows boards the times after the history that a pass then sees. Nobody else shows them anything in between, so they are
+    /// asked only for what has changed. It takes no memory.
     pub fn show<P: Seat, R: Wait>(
         &mut self,
         rt: &R,
@@ -56,6 +57,8 @@ impl<'n> Display<'n> {
         ensures stops { map place boards.new.items ≡ map place boards.old.items }
     {
         let entry = server.copy_times(rt, main, &mut self.times);
-        let _dropped = self.publisher.publish(self.net, &self.times, entry, boards);
+        let _dropped = self
+            .publisher
+            .publish_changes(self.net, &self.times, entry, boards);
     }
 }

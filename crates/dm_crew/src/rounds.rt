@@ -7,10 +7,10 @@ ghost use Rattle.dm_rows.specs.History.{IsLegal};
 ghost use Rattle.dm_desk.specs.Answered.{HasSeenLegal};
 ghost use Rattle.dm_desk.specs.Planning.{PlansUnder};
 ghost use Rattle.dm_rounds.specs.Rounds.{AnswersFeeds};
-ghost use Rattle.dm_rounds.specs.Inside.Jobs.{AnswersRound, CanReadAll, AllAreTrue, log_in};
+ghost use Rattle.dm_rounds.specs.Inside.Jobs.{AnswersRound, CanReadAll, AllAreTrue};
 ghost use Rattle.dm_crew.specs.Passes.{setting_of, desk_of, IsSamePass};
 ghost use Rattle.dm_crew.specs.Inside.Works.{split_of, IsGathered};
-ghost use Rattle.dm_crew.specs.Inside.Displays.{IsFor, AreUp};
+ghost use Rattle.dm_crew.specs.Inside.Displays.{IsFor, HasShownNothing, AreUp};
 
 use crate::desk::Seat;
 use crate::display::Display;
@@ -18,7 +18,7 @@ use crate::work::{Work, work_all};
 use dm_cert::FeedLog;
 use dm_desk::{Hold, Planner};
 use dm_outside::{Board, Source};
-use dm_rounds::{Job, begin, have_ended, log_of};
+use dm_rounds::{Job, begin, have_ended, logs_of};
 use dm_server::{Kept, Server};
 use dm_turn::Pass;
 use std::alloc::{AllocError, Global};
@@ -56,7 +56,7 @@ pub fn answer_feeds<
     requires rooms { length feeds.items < main.old.room }
     requires some { 0 < batch }
     requires fits { IsFor P.base.network (vec_len boards.old) display.old }
-    requires none { display.old.publisher.notes ≡ [] }
+    requires none { HasShownNothing display.old }
     ensures same { OnOk result (IsSamePass main.old main.new) }
     ensures answers { IfOk result (λ logs. AnswersFeeds S.left S.is_sound feeds.items batch (desk_of P.base main.old) (desk_of P.base main.new) logs.items) }
     ensures up { OnOk result (AreUp place times (λ b. (Board-box b).faults b.value) (λ b. (Board-box b).is_sound b.value) P.base main.new.seen display.new boards.old.items boards.new.items) }
@@ -72,19 +72,7 @@ pub fn answer_feeds<
         jobs = answer_round::<P, R, S, L, H>(rt, alloc, server, main, jobs, planner, gate, batch)?;
         display.show::<P, R>(rt, server, main, boards);
     }
-    logs_of(logs, jobs)
-}
-
-// The logs of the feeds, for which there is room.
-fn logs_of<S: Drop>(logs: Vec<FeedLog>, jobs: Vec<Job<S>>) -> Result<Vec<FeedLog>, AllocError>
-    requires { logs.items ≡ [] }
-    ensures { IfOk result (λ logs. logs.items ≡ map log_in jobs.items) }
-{
-    let mut logs = logs;
-    for job in jobs {
-        logs.push(log_of(job))?;
-    }
-    Ok(logs)
+    Ok(logs_of(jobs, logs))
 }
 
 // Answers the next lines of each feed.

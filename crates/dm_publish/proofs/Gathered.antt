@@ -13,7 +13,7 @@ use Rattle.dm_network.specs.Start.{IsNetwork}
 use Rattle.dm_network.proofs.Keys.{key_is_found}
 use Rattle.dm_rows.specs.Timetable.{time_at}
 use Rattle.dm_outside.specs.Board.{times_after, Sets}
-use Rattle.dm_publish.specs.Shown.{IsAtStop, AllStand, ShowsTimes, KeepsOthers, IsSoundFor}
+use Rattle.dm_publish.specs.Shown.{IsAtStop, AllStand, ShowsTimes, ShowsLast, KeepsOthers, IsSoundFor}
 use Rattle.dm_publish.specs.Inside.Refreshing.{TellsTime, IsDue, Gathers, TakesChanges, Refreshes}
 
 -- ---- the events at a stop
@@ -75,7 +75,7 @@ not_named (c ∷ changes) shown e h =
     not_named changes (λ other. if other == c.0 then Some c.1 else shown other) e (λ k d lt. h (suc k) d (omega arith))
     ∙ given e c.0 c.1 (shown e) (shown e) (λ same. absurd (h zero c (omega arith) same)) refl
 
-module _ (net : Net) (x : List ℕ) (network : IsNetwork net) where
+module _ (net : Net) (last x : List ℕ) (network : IsNetwork net) where
   -- the time of the event with this id
   time_named : ℕ → ℕ
   time_named e = time_at x (unwrap_or (event_place net (record { 0 = e })) 0)
@@ -95,12 +95,12 @@ module _ (net : Net) (x : List ℕ) (network : IsNetwork net) where
         due.time ∙ (sym (time_of due.place due.at_stop.is_event) ∙ ap time_named (sym due.event))
 
     -- nothing is gathered yet
-    pub gathered_none : (told : Option (ℕ → Option ℕ)) (places : List ℕ) (changes : List (ℕ × ℕ)) → changes ≡ [] → Gathers net x stop told places 0 changes
+    pub gathered_none : (told : Option (ℕ → Option ℕ)) (places : List ℕ) (changes : List (ℕ × ℕ)) → changes ≡ [] → Gathers net last x stop told places 0 changes
     gathered_none told places changes empty =
         let l : length changes ≡ 0 = ap length empty in
         record {
           due = λ k d lt. absurd (omega arith);
-          shows = no_shows told;
+          shows = λ showed. no_shows told;
           none = no_none told;
           few = omega arith;
         }
@@ -122,19 +122,19 @@ module _ (net : Net) (x : List ℕ) (network : IsNetwork net) where
       at_row j lt = at_stop net stop j places row_is lt
 
       -- an event that stands with its time
-      pub gathered_standing : (told : Option (ℕ → Option ℕ)) (changes : List (ℕ × ℕ)) → Gathers net x stop told places k changes →
-          TellsTime told (event_at net (slice_index places k)).id.0 (time_at x (slice_index places k)) true → Gathers net x stop told places (k + 1) changes
-      gathered_standing None changes g tells = record { due = g.due; shows = tt; none = tt; few = let f = g.few in omega arith }
+      pub gathered_standing : (told : Option (ℕ → Option ℕ)) (changes : List (ℕ × ℕ)) → Gathers net last x stop told places k changes →
+          TellsTime (ShowsLast net last stop told) told (event_at net (slice_index places k)).id.0 (time_at x (slice_index places k)) true → Gathers net last x stop told places (k + 1) changes
+      gathered_standing None changes g tells = record { due = g.due; shows = λ showed. tt; none = tt; few = let f = g.few in omega arith }
       gathered_standing (Some shown) changes g tells =
           record {
             due = g.due;
-            shows = λ j lt. elim (cases_lt j k) [
-              | inl before ↦ g.shows j before
+            shows = λ showed j lt. elim (cases_lt j k) [
+              | inl before ↦ g.shows showed j before
               | inr past ↦
                   let same : k ≡ j = omega arith in
                   let time : time_named (event_at net (slice_index places k)).id.0 ≡ time_at x (slice_index places k) = time_of (slice_index places k) (at_row k below).is_event in
                   let there : times_after shown changes (event_at net (slice_index places k)).id.0 ≡ Some (time_at x (slice_index places k)) =
-                  stays time_named changes shown (event_at net (slice_index places k)).id.0 (due_times changes g.due) (tells ∙ ap Some (sym time)) ∙ ap Some time in
+                  stays time_named changes shown (event_at net (slice_index places k)).id.0 (due_times changes g.due) (tells showed ∙ ap Some (sym time)) ∙ ap Some time in
                   subst (λ (i : ℕ). times_after shown changes (event_at net (slice_index places i)).id.0 ≡ Some (time_at x (slice_index places i))) same there
             ];
             none = g.none;
@@ -142,14 +142,14 @@ module _ (net : Net) (x : List ℕ) (network : IsNetwork net) where
           }
 
       -- an event that does not
-      pub gathered_change : (told : Option (ℕ → Option ℕ)) (changes : List (ℕ × ℕ)) → Gathers net x stop told places k changes →
-          TellsTime told (event_at net (slice_index places k)).id.0 (time_at x (slice_index places k)) false →
-          Gathers net x stop told places (k + 1) (changes ++ ((event_at net (slice_index places k)).id.0, time_at x (slice_index places k)) ∷ [])
+      pub gathered_change : (told : Option (ℕ → Option ℕ)) (changes : List (ℕ × ℕ)) → Gathers net last x stop told places k changes →
+          TellsTime (ShowsLast net last stop told) told (event_at net (slice_index places k)).id.0 (time_at x (slice_index places k)) false →
+          Gathers net last x stop told places (k + 1) (changes ++ ((event_at net (slice_index places k)).id.0, time_at x (slice_index places k)) ∷ [])
       gathered_change told changes g tells =
           let c : ℕ × ℕ = ((event_at net (slice_index places k)).id.0, time_at x (slice_index places k)) in
           record {
             due = All-push (IsDue net x stop) changes c g.due (record { place = slice_index places k; at_stop = at_row k below; event = refl; time = refl });
-            shows = all_show told g.shows;
+            shows = λ showed. all_show told (g.shows showed);
             none = not_all told tells;
             few = let f = g.few in let l = length-append changes (c ∷ []) in omega arith;
           }
@@ -176,32 +176,32 @@ module _ (net : Net) (x : List ℕ) (network : IsNetwork net) where
                 | inr past ↦ let same : j ≡ k = omega arith in absurd (ne (ap (λ (i : ℕ). (event_at net (slice_index places i)).id.0) same))
               ]
 
-          not_all : (told : Option (ℕ → Option ℕ)) → TellsTime told (event_at net (slice_index places k)).id.0 (time_at x (slice_index places k)) false →
+          not_all : (told : Option (ℕ → Option ℕ)) → TellsTime (ShowsLast net last stop told) told (event_at net (slice_index places k)).id.0 (time_at x (slice_index places k)) false →
               IfSome told (λ shown. AllStand net x stop shown → changes ++ ((event_at net (slice_index places k)).id.0, time_at x (slice_index places k)) ∷ [] ≡ [])
           not_all None t = tt
           not_all (Some shown) t = λ all. absurd (t (all (slice_index places k) (at_row k below)))
 
     -- one event more, with the changes that stand after it
     pub gathered_next : (told : Option (ℕ → Option ℕ)) (places : List ℕ) (row_is : places ≡ places_at net (record { 0 = stop })) (k : ℕ) (below : k < length places)
-        (changes : List (ℕ × ℕ)) (e t : ℕ) → Gathers net x stop told places k changes →
+        (changes : List (ℕ × ℕ)) (e t : ℕ) → Gathers net last x stop told places k changes →
         e ≡ (event_at net (slice_index places k)).id.0 → t ≡ time_at x (slice_index places k) →
-        (answer : Bool) → TellsTime told e t answer → (after : List (ℕ × ℕ)) → after ≡ (if answer then changes else changes ++ (e, t) ∷ []) →
-        Gathers net x stop told places (k + 1) after
+        (answer : Bool) → TellsTime (ShowsLast net last stop told) told e t answer → (after : List (ℕ × ℕ)) → after ≡ (if answer then changes else changes ++ (e, t) ∷ []) →
+        Gathers net last x stop told places (k + 1) after
     gathered_next told places row_is k below changes e t g e-is t-is answer tells after is =
-        rw is (elim answer as (λ (b : Bool). TellsTime told e t b → Gathers net x stop told places (k + 1) (if b then changes else changes ++ (e, t) ∷ [])) [
+        rw is (elim answer as (λ (b : Bool). TellsTime (ShowsLast net last stop told) told e t b → Gathers net last x stop told places (k + 1) (if b then changes else changes ++ (e, t) ∷ [])) [
           | true ↦ λ h. gathered_standing places row_is k below told changes g
-              (subst (λ (u : ℕ). TellsTime told (event_at net (slice_index places k)).id.0 u true) t-is (subst (λ (v : ℕ). TellsTime told v t true) e-is h))
+              (subst (λ (u : ℕ). TellsTime (ShowsLast net last stop told) told (event_at net (slice_index places k)).id.0 u true) t-is (subst (λ (v : ℕ). TellsTime (ShowsLast net last stop told) told v t true) e-is h))
           | false ↦ λ h. rw (e-is, t-is) (gathered_change places row_is k below told changes g
-              (subst (λ (u : ℕ). TellsTime told (event_at net (slice_index places k)).id.0 u false) t-is (subst (λ (v : ℕ). TellsTime told v t false) e-is h)))
+              (subst (λ (u : ℕ). TellsTime (ShowsLast net last stop told) told (event_at net (slice_index places k)).id.0 u false) t-is (subst (λ (v : ℕ). TellsTime (ShowsLast net last stop told) told v t false) e-is h)))
         ] tells)
 
     module _ (changes : List (ℕ × ℕ)) where
       -- with all that was gathered, each event at the stop has its time
-      all_stand : (shown : ℕ → Option ℕ) → Gathers net x stop (Some shown) (places_at net (record { 0 = stop })) (length (places_at net (record { 0 = stop }))) changes →
-          AllStand net x stop (times_after shown changes)
-      all_stand shown g i at =
+      all_stand : (shown : ℕ → Option ℕ) → Gathers net last x stop (Some shown) (places_at net (record { 0 = stop })) (length (places_at net (record { 0 = stop }))) changes →
+          ShowsLast net last stop (Some shown) → AllStand net x stop (times_after shown changes)
+      all_stand shown g showed i at =
           let there = stands_there net stop i at in
-          subst (λ (v : ℕ). times_after shown changes (event_at net v).id.0 ≡ Some (time_at x v)) there.is (g.shows there.place there.within)
+          subst (λ (v : ℕ). times_after shown changes (event_at net v).id.0 ≡ Some (time_at x v)) there.is (g.shows showed there.place there.within)
 
       others_stand : (shown : ℕ → Option ℕ) → All (IsDue net x stop) changes → (event : ℕ) →
           ((i : ℕ) → IsAtStop net stop i → (event_at net i).id.0 ≡ event → ⊥) → times_after shown changes event ≡ shown event
@@ -212,12 +212,12 @@ module _ (net : Net) (x : List ℕ) (network : IsNetwork net) where
       all_sound is_sound due sound k d lt = let h = due k d lt in subst is_sound (sym h.event) (sound h.place h.at_stop)
 
       abbrev AllGathered : Option (ℕ → Option ℕ) → Type 0
-      AllGathered told = Gathers net x stop told (places_at net (record { 0 = stop })) (length (places_at net (record { 0 = stop }))) changes
+      AllGathered told = Gathers net last x stop told (places_at net (record { 0 = stop })) (length (places_at net (record { 0 = stop }))) changes
 
-      shows_by_sets : (told now : Option (ℕ → Option ℕ)) → AllGathered told → Sets told now changes → IsSome told → ShowsTimes net x stop now
-      shows_by_sets None now g sets some = absurd (let e : IsSome {T = ℕ → Option ℕ} None = some in cc)
-      shows_by_sets (Some shown) None g sets some = absurd sets
-      shows_by_sets (Some shown) (Some after) g sets some = λ i at. sets (event_at net i).id.0 ∙ all_stand shown g i at
+      shows_by_sets : (told now : Option (ℕ → Option ℕ)) → AllGathered told → Sets told now changes → IsSome told → ShowsLast net last stop told → ShowsTimes net x stop now
+      shows_by_sets None now g sets some showed = absurd (let e : IsSome {T = ℕ → Option ℕ} None = some in cc)
+      shows_by_sets (Some shown) None g sets some showed = absurd sets
+      shows_by_sets (Some shown) (Some after) g sets some showed = λ i at. sets (event_at net i).id.0 ∙ all_stand shown g showed i at
 
       others_by_sets : (told now : Option (ℕ → Option ℕ)) → AllGathered told → Sets told now changes → KeepsOthers net stop told now
       others_by_sets None now g sets = tt
@@ -235,11 +235,11 @@ module _ (net : Net) (x : List ℕ) (network : IsNetwork net) where
       not_quiet A (Some shown) g some = λ all. absurd (some (g.none all))
 
 -- all events of the row are looked at
-pub gathered_all : (net : Net) (x : List ℕ) (stop : ℕ) (told : Option (ℕ → Option ℕ)) (places : List ℕ) → places ≡ places_at net (record { 0 = stop }) →
-    (k : ℕ) → k ≡ length places → (changes : List (ℕ × ℕ)) → Gathers net x stop told places k changes →
-    Gathers net x stop told (places_at net (record { 0 = stop })) (length (places_at net (record { 0 = stop }))) changes
-gathered_all net x stop told places row k over changes g =
-    subst (λ (row : List ℕ). Gathers net x stop told row (length row) changes) row (subst (λ (n : ℕ). Gathers net x stop told places n changes) over g)
+pub gathered_all : (net : Net) (last x : List ℕ) (stop : ℕ) (told : Option (ℕ → Option ℕ)) (places : List ℕ) → places ≡ places_at net (record { 0 = stop }) →
+    (k : ℕ) → k ≡ length places → (changes : List (ℕ × ℕ)) → Gathers net last x stop told places k changes →
+    Gathers net last x stop told (places_at net (record { 0 = stop })) (length (places_at net (record { 0 = stop }))) changes
+gathered_all net last x stop told places row k over changes g =
+    subst (λ (row : List ℕ). Gathers net last x stop told row (length row) changes) row (subst (λ (n : ℕ). Gathers net last x stop told places n changes) over g)
 
 -- ---- the board
 
@@ -248,13 +248,13 @@ on_ok (Ok t) f h = f h
 on_ok (Err e) f h = h
 
 module _ {B : Type 0} (place : B → ℕ) (times : B → Option (ℕ → Option ℕ)) (faults : B → ℕ) (is_sound : B → ℕ → Type 0)
-    (net : Net) (x : List ℕ) (network : IsNetwork net) (before : B) (changes : List (ℕ × ℕ))
-    (g : Gathers net x (place before) (times before) (places_at net (record { 0 = place before })) (length (places_at net (record { 0 = place before }))) changes) where
+    (net : Net) (last x : List ℕ) (network : IsNetwork net) (before : B) (changes : List (ℕ × ℕ))
+    (g : Gathers net last x (place before) (times before) (places_at net (record { 0 = place before })) (length (places_at net (record { 0 = place before }))) changes) where
   same_quiet : (told : Option (ℕ → Option ℕ)) → IfSome told (λ shown. AllStand net x (place before) shown → before ≡ before)
   same_quiet None = tt
   same_quiet (Some shown) = λ all. refl
 
-  pub refreshed_quietly : {T E : Type 0} → changes ≡ [] → (t : T) → Refreshes {E = E} place times faults is_sound net x before before (Ok t)
+  pub refreshed_quietly : {T E : Type 0} → changes ≡ [] → (t : T) → Refreshes {E = E} place times faults is_sound net last x before before (Ok t)
   refreshed_quietly empty t =
       record {
         same_stop = refl;
@@ -262,22 +262,22 @@ module _ {B : Type 0} (place : B → ℕ) (times : B → Option (ℕ → Option 
         stays_sound = λ h. h;
         succeeds = λ h. refl;
         risen = tt;
-        shows = shows_by_sets net x network (place before) changes (times before) (times before) g (quiet_sets net x network (place before) changes (times before) empty);
-        others = others_by_sets net x network (place before) changes (times before) (times before) g (quiet_sets net x network (place before) changes (times before) empty);
+        shows = shows_by_sets net last x network (place before) changes (times before) (times before) g (quiet_sets net last x network (place before) changes (times before) empty);
+        others = others_by_sets net last x network (place before) changes (times before) (times before) g (quiet_sets net last x network (place before) changes (times before) empty);
         quiet = same_quiet (times before);
       }
 
   pub refreshed_by_show : {T E : Type 0} (now : B) (result : Result T E) → (changes ≡ [] → ⊥) →
-      TakesChanges place times faults is_sound before now changes result → Refreshes place times faults is_sound net x before now result
+      TakesChanges place times faults is_sound before now changes result → Refreshes place times faults is_sound net last x before now result
   refreshed_by_show now result some takes =
       record {
         same_stop = takes.same_stop;
         later = takes.cause.later;
         stays_sound = λ h i at. let here : IsAtStop net (place before) i = subst (λ (s : ℕ). IsAtStop net s i) takes.same_stop at in
-            takes.stays_sound (all_sound net x network (place before) changes (is_sound before) g.due h) (event_at net i).id.0 (h i here);
-        succeeds = λ h. takes.sound (all_sound net x network (place before) changes (is_sound before) g.due h);
+            takes.stays_sound (all_sound net last x network (place before) changes (is_sound before) g.due h) (event_at net i).id.0 (h i here);
+        succeeds = λ h. takes.sound (all_sound net last x network (place before) changes (is_sound before) g.due h);
         risen = takes.cause.failed;
-        shows = on_ok result (shows_by_sets net x network (place before) changes (times before) (times now) g) takes.sets;
-        others = on_ok result (others_by_sets net x network (place before) changes (times before) (times now) g) takes.sets;
-        quiet = not_quiet net x network (place before) changes (now ≡ before) (times before) g some;
+        shows = on_ok result (shows_by_sets net last x network (place before) changes (times before) (times now) g) takes.sets;
+        others = on_ok result (others_by_sets net last x network (place before) changes (times before) (times now) g) takes.sets;
+        quiet = not_quiet net last x network (place before) changes (now ≡ before) (times before) g some;
       }

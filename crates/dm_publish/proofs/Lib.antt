@@ -3,3 +3,4 @@ pub mod Notes
 pub mod Turned
 pub mod TrueNotes
 pub mod Repeated
+pub mod Carried

@@ -6,9 +6,9 @@ use Rattle.std.proofs.lemmas.Option.{slice_get_within, slice_get-get_or, slice_g
 use Rattle.dm_outside.specs.Faults.{HasRisen}
 use Rattle.dm_network.specs.Net.{Net}
 use Rattle.dm_cert.specs.declared.notes.Note.{Note}
-use Rattle.dm_publish.specs.Shown.{KeepsOthers}
+use Rattle.dm_publish.specs.Shown.{KeepsOthers, ShowsLast, ShowsTimes}
 use Rattle.dm_publish.specs.Publishing.{has_note, Publishes, IsDropped}
-use Rattle.dm_publish.specs.Since.{IsNoteSince, AllShow, IsKeptSince, AreKeptSince}
+use Rattle.dm_publish.specs.Since.{IsNoteSince, AllShow, AllShowLast, IsKeptSince, AreKeptSince}
 
 some_same : {X : Type 0} {x y : X} → Some x ≡ Some y → x ≡ y
 some_same e = cc
@@ -31,6 +31,15 @@ told_still : (net : Net) (stop : ℕ) (before now : Option (ℕ → Option ℕ))
 told_still net stop None now k some = absurd cc
 told_still net stop (Some f) None k some = absurd k
 told_still net stop (Some f) (Some g) k some = refl
+
+-- where nothing was published
+shows_none : (net : Net) (stop : ℕ) (told : Option (ℕ → Option ℕ)) → ShowsLast net [] stop told
+shows_none net stop None = tt
+shows_none net stop (Some shown) = λ i at lt. absurd (omega arith)
+
+shows_all : (net : Net) (x : List ℕ) (stop : ℕ) (told : Option (ℕ → Option ℕ)) → ShowsTimes net x stop told → ShowsLast net x stop told
+shows_all net x stop None shows = tt
+shows_all net x stop (Some shown) shows = λ i at lt. shows i at
 
 module _ {B : Type 0} (place : B → ℕ) (times : B → Option (ℕ → Option ℕ)) (faults : B → ℕ) (is_sound : B → ℕ → Type 0) (net : Net) where
   same_length : (old new : List B) → map place new ≡ map place old → length new ≡ length old
@@ -55,7 +64,13 @@ module _ {B : Type 0} (place : B → ℕ) (times : B → Option (ℕ → Option 
     noted = All-nil (IsNoteSince place faults is_sound net boards boards);
   }
 
-  module _ (x : List ℕ) (entry : ℕ) (old middle new : List B) (notes now_notes : List Note) (count : ℕ) (kept : AreKeptSince place times faults is_sound net old middle notes) (p : Publishes place times faults is_sound net x entry middle new notes now_notes count) where
+  pub all_show_last : (x : List ℕ) (notes : List Note) (first now : List B) → AllShow place times net x notes first now → AllShowLast place times net x notes first now
+  all_show_last x notes first now all = λ at before after b n none some. shows_all net x (place after) (times after) (all at before after b n none some)
+
+  pub all_show_none : (notes : List Note) (first now : List B) → AllShowLast place times net [] notes first now
+  all_show_none notes first now = λ at before after b n none some. shows_none net (place after) (times after)
+
+  module _ (last x : List ℕ) (entry : ℕ) (old middle new : List B) (notes now_notes : List Note) (count : ℕ) (kept : AreKeptSince place times faults is_sound net old middle notes) (p : Publishes place times faults is_sound net last x entry middle new notes now_notes count) where
     none_before : (at : ℕ) → has_note now_notes at ≡ false → has_note notes at ≡ false
     none_before at none = no_earlier_note notes p.fresh at (ap (λ l. has_note l at) (sym p.notes) ∙ none)
 
@@ -111,8 +126,8 @@ module _ {B : Type 0} (place : B → ℕ) (times : B → Option (ℕ → Option 
           (All-weaker (IsDropped place faults is_sound net entry middle new notes) P new_note p.fresh p.dropped));
     }
 
-    pub all_shown : AllShow place times net x now_notes old new
-    all_shown = λ at before now b n none some.
+    pub all_shown : AllShowLast place times net last notes old middle → AllShow place times net x now_notes old new
+    all_shown showed = λ at before now b n none some.
         let middle_is = stands_at old middle at before (same_length old middle kept.stops) b in
         let k = kept.each at before (get_or middle at before) b middle_is in
-        (p.each at (get_or middle at before) now middle_is n).shows none (k.told (none_before at none) some)
+        (p.each at (get_or middle at before) now middle_is n).shows none (k.told (none_before at none) some) (showed at before (get_or middle at before) b middle_is (none_before at none) some)

@@ -133,8 +133,8 @@ module _ (entries entry : ℕ) (noted fresh : List Note) (were : AreTrueNotes en
 
 -- what a list of boards is published on keeps its notes true
 module _ {B : Type 0} (place : B → ℕ) (times : B → Option (ℕ → Option ℕ)) (faults : B → ℕ) (is_sound : B → ℕ → Type 0)
-    (net : Net) (x : List ℕ) (entry : ℕ) (old new : List B) (noted noted_now : List Note) (count : ℕ)
-    (p : Publishes place times faults is_sound net x entry old new noted noted_now count) (boards : length old ≤ BOARDS) (few : length noted_now ≤ BOARDS) where
+    (net : Net) (last x : List ℕ) (entry : ℕ) (old new : List B) (noted noted_now : List Note) (count : ℕ)
+    (p : Publishes place times faults is_sound net last x entry old new noted noted_now count) (boards : length old ≤ BOARDS) (few : length noted_now ≤ BOARDS) where
   are_new : All (IsNew entry noted) p.fresh
   are_new k d lt =
       let h = p.dropped k d lt in

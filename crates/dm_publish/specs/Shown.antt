@@ -18,6 +18,12 @@ abbrev pub ShowsTimes : Net → List ℕ → ℕ → Option (ℕ → Option ℕ)
 ShowsTimes net x stop None = ⊤
 ShowsTimes net x stop (Some shown) = AllStand net x stop shown
 
+-- Of a board of this stop, and the times that were published last, by place: each event at the stop that has such a time
+-- stands on it with that time. Where nothing was published, there is no such event.
+abbrev pub ShowsLast : Net → List ℕ → ℕ → Option (ℕ → Option ℕ) → Type 0
+ShowsLast net last stop None = ⊤
+ShowsLast net last stop (Some shown) = (i : ℕ) → IsAtStop net stop i → i < length last → shown (event_at net i).id.0 ≡ Some (time_at last i)
+
 -- all that is no event at the stop stands there as before
 abbrev pub KeepsOthers : Net → ℕ → Option (ℕ → Option ℕ) → Option (ℕ → Option ℕ) → Type 0
 KeepsOthers net stop None now = ⊤

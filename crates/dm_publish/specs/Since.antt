@@ -3,7 +3,7 @@ use Rattle.std.specs.Prelude.{ℕ, ◌≡◌, ◌≤◌, ◌+◌, false, List, O
 use Rattle.dm_network.specs.Net.{Net}
 use Rattle.dm_outside.specs.Faults.{HasRisen}
 use Rattle.dm_cert.specs.declared.notes.Note.{Note}
-use Rattle.dm_publish.specs.Shown.{ShowsTimes, IsSoundFor}
+use Rattle.dm_publish.specs.Shown.{ShowsTimes, ShowsLast, IsSoundFor}
 use Rattle.dm_publish.specs.Publishing.{has_note}
 
 -- A note names a board of the list by its place from 1 and with its stop. The board's count has risen since, and it was not
@@ -24,6 +24,11 @@ abbrev pub AllShow : {B : Type 0} → (B → ℕ) → (B → Option (ℕ → Opt
 AllShow {B} place times net x notes first now =
     (at : ℕ) (before after : B) → slice_get first at ≡ Some before → slice_get now at ≡ Some after → has_note notes at ≡ false → IsSome (times before) → ShowsTimes net x (place after) (times after)
 
+-- each board that no note names shows the times that were published last, where it told at first what it shows
+abbrev pub AllShowLast : {B : Type 0} → (B → ℕ) → (B → Option (ℕ → Option ℕ)) → Net → List ℕ → List Note → List B → List B → Type 0
+AllShowLast {B} place times net last notes first now =
+    (at : ℕ) (before after : B) → slice_get first at ≡ Some before → slice_get now at ≡ Some after → has_note notes at ≡ false → IsSome (times before) → ShowsLast net last (place after) (times after)
+
 -- The board's count has not fallen, and where it was sound for the network it is so still. Where it told what it shows it
 -- does so still, unless a note names it.
 pub record IsKeptSince {B : Type 0} (place : B → ℕ) (times : B → Option (ℕ → Option ℕ)) (faults : B → ℕ) (is_sound : B → ℕ → Type 0) (net : Net) (notes : List Note) (at : ℕ) (before after : B) : Type 0 where
@@ -37,7 +42,17 @@ pub record AreKeptSince {B : Type 0} (place : B → ℕ) (times : B → Option (
   pub each : (at : ℕ) (before after : B) → slice_get first at ≡ Some before → slice_get now at ≡ Some after → IsKeptSince place times faults is_sound net notes at before after
   pub noted : All (IsNoteSince place faults is_sound net first now) notes
 
+-- boards that were these at first have been kept up, and show these times
+pub record AreUpSince {B : Type 0} (place : B → ℕ) (times : B → Option (ℕ → Option ℕ)) (faults : B → ℕ) (is_sound : B → ℕ → Type 0) (net : Net) (x : List ℕ) (notes : List Note) (first now : List B) : Type 0 where
+  pub kept : AreKeptSince place times faults is_sound net first now notes
+  pub shown : AllShow place times net x notes first now
+
 -- boards that were kept up since some first list are so once more, and show these times
 abbrev pub KeepsUp : {B : Type 0} → (B → ℕ) → (B → Option (ℕ → Option ℕ)) → (B → ℕ) → (B → ℕ → Type 0) → Net → List ℕ → List B → List B → List Note → List Note → Type 0
 KeepsUp {B} place times faults is_sound net x old new notes notes_now =
-    (first : List B) → AreKeptSince place times faults is_sound net first old notes → AreKeptSince place times faults is_sound net first new notes_now × AllShow place times net x notes_now first new
+    (first : List B) → AreKeptSince place times faults is_sound net first old notes → AreUpSince place times faults is_sound net x notes_now first new
+
+-- the same of boards that show the times published last
+abbrev pub KeepsUpLast : {B : Type 0} → (B → ℕ) → (B → Option (ℕ → Option ℕ)) → (B → ℕ) → (B → ℕ → Type 0) → Net → List ℕ → List ℕ → List B → List B → List Note → List Note → Type 0
+KeepsUpLast {B} place times faults is_sound net last x old new notes notes_now =
+    (first : List B) → AreKeptSince place times faults is_sound net first old notes → AllShowLast place times net last notes first old → AreUpSince place times faults is_sound net x notes_now first new

@@ -2,8 +2,10 @@
 use Rattle.std.specs.Prelude.{ℕ, List}
 use Rattle.dm_cert.specs.declared.notes.Note.{Note}
 
--- how many boards and how many events it was made for, and its notes in their order
+-- How many boards and how many events it was made for, its notes in their order, and the times that it published last, by
+-- place: none before the first publishing.
 pub record PublisherValue : Type 0 where
   pub boards : ℕ
   pub events : ℕ
   pub notes : List Note
+  pub last : List ℕ

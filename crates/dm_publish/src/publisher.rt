@@ -1,10 +1,10 @@
 //! Boards kept up to date.
-ghost use Rattle.std.specs.Prelude.{ℕ, ◌≡◌, ◌<◌, ◌≤◌, [], length, vec_len, IfOk};
+ghost use Rattle.std.specs.Prelude.{ℕ, ◌≡◌, ◌<◌, ◌≤◌, [], length, vec_len, vec_capacity, IfOk};
 ghost use Rattle.dm_base.specs.declared.limits.TheConstants.{BOARDS};
 ghost use Rattle.dm_cert.specs.Runs.{AreTrueNotes};
 ghost use Rattle.dm_publish.specs.Value.{PublisherValue};
 ghost use Rattle.dm_publish.specs.Publishing.{has_note, Publishes};
-ghost use Rattle.dm_publish.specs.Since.{KeepsUp};
+ghost use Rattle.dm_publish.specs.Since.{KeepsUp, KeepsUpLast};
 ghost use Rattle.dm_publish.specs.Inside.Turns.{TakesTurn};
 
 use crate::refreshing::{refresh, stop_of};
@@ -16,13 +16,16 @@ use dm_times::Times;
 use std::alloc::{AllocError, Global};
 use std::marker::Model;
 
-/// Which boards of a list were dropped, and the room to show the others what has changed.
+/// Which boards of a list were dropped, what was published last, and the room to show the others what has changed.
 #[derive(Drop)]
 pub struct Publisher {
     boards: usize,
     events: usize,
     notes: Vec<Note>,
     changes: Vec<(u32, Secs)>,
+
+    /// The times in seconds that were published last, by place of the event; none before the first publishing.
+    last: Vec<Secs>,
 }
 
 impl Model for Publisher {
@@ -33,23 +36,24 @@ impl Model for Publisher {
 
     ghost Value = { PublisherValue };
 
-    ghost view = { λ p. record { boards = p.boards; events = p.events; notes = p.notes.items } };
+    ghost view = { λ p. record { boards = p.boards; events = p.events; notes = p.notes.items; last = p.last.items } };
 
     ghost invariant = { λ p.
-        (p.boards ≤ BOARDS) × (p.boards ≤ vec_capacity p.notes) × (p.events ≤ vec_capacity p.changes) × AreNotesOf p.boards p.notes.items };
+        (p.boards ≤ BOARDS) × (p.boards ≤ vec_capacity p.notes) × (p.events ≤ vec_capacity p.changes) × (p.events ≤ vec_capacity p.last) × AreNotesOf p.boards p.notes.items };
 }
 
 impl Publisher {
     /// A publisher for so many boards, at most 64, that show times of this network. It makes all the room that it needs.
     pub fn new(alloc: Global, net: &Network, boards: usize) -> Result<Publisher, AllocError>
         requires { boards ≤ BOARDS }
-        ensures { IfOk result (λ p. p ≡ record { boards = boards; events = length net.now.events; notes = [] }) }
+        ensures { IfOk result (λ p. p ≡ record { boards = boards; events = length net.now.events; notes = []; last = [] }) }
     {
         Ok(Publisher {
             boards,
             events: net.events(),
             notes: Vec::with_capacity(alloc, boards)?,
             changes: Vec::with_capacity(alloc, net.events())?,
+            last: Vec::with_capacity(alloc, net.events())?,
         })
     }
 
@@ -61,8 +65,9 @@ impl Publisher {
     }
 
     /// Shows each board that no note names the events of its stop whose times differ, in ascending order of ids, and calls it
-    /// for nothing else. A board whose show fails is dropped: a note names it, and nothing is shown to it any more. It
-    /// answers how many were dropped. Entry numbers are how many entries the history has.
+    /// for nothing else. It asks each board for each event of its stop, whatever was published before. A board whose show fails
+    /// is dropped: a note names it, and nothing is shown to it any more. It answers how many were dropped. Entry numbers are how
+    /// many entries the history has.
     pub fn publish(
         &mut self,
         net: &Network,
@@ -73,13 +78,42 @@ impl Publisher {
         requires events { length net.now.events ≡ self.old.events }
         requires times { length timetable.now ≡ length net.now.events }
         requires boards { vec_len boards.old ≡ self.old.boards }
-        ensures published { Publishes place times faults is_sound net.now timetable.now entry boards.old.items boards.new.items self.old.notes self.new.notes result }
+        ensures published { Publishes place times faults is_sound net.now [] timetable.now entry boards.old.items boards.new.items self.old.notes self.new.notes result }
 
         // Boards that were kept up since some first list are so after the call, and show the timetable.
         ensures keeps_up { KeepsUp place times faults is_sound net.now timetable.now boards.old.items boards.new.items self.old.notes self.new.notes }
 
         // Notes that are true at an earlier entry are so with the new ones.
         ensures true_notes { (entries : ℕ) → entries ≤ entry → AreTrueNotes entries self.old.notes → AreTrueNotes entry self.new.notes }
+        ensures last { self.new.last ≡ timetable.now }
+        ensures same_boards { self.new.boards ≡ self.old.boards }
+        ensures same_events { self.new.events ≡ self.old.events }
+    {
+        self.last.clear();
+        self.publish_changes(net, timetable, entry, boards)
+    }
+
+    /// Publishes on boards that nobody else has shown anything since the last publishing. It asks a board only for the events of
+    /// its stop whose times differ from those published last, and is in all else as [`Publisher::publish`].
+    pub fn publish_changes(
+        &mut self,
+        net: &Network,
+        timetable: &Times,
+        entry: u32,
+        boards: &mut Vec<Box<dyn Board>>,
+    ) -> usize
+        requires events { length net.now.events ≡ self.old.events }
+        requires times { length timetable.now ≡ length net.now.events }
+        requires boards { vec_len boards.old ≡ self.old.boards }
+        ensures published { Publishes place times faults is_sound net.now self.old.last timetable.now entry boards.old.items boards.new.items self.old.notes self.new.notes result }
+
+        // Boards that were kept up since some first list, and show the times published last, are so after the call, and show
+        // the timetable.
+        ensures keeps_up { KeepsUpLast place times faults is_sound net.now self.old.last timetable.now boards.old.items boards.new.items self.old.notes self.new.notes }
+
+        // Notes that are true at an earlier entry are so with the new ones.
+        ensures true_notes { (entries : ℕ) → entries ≤ entry → AreTrueNotes entries self.old.notes → AreTrueNotes entry self.new.notes }
+        ensures last { self.new.last ≡ timetable.now }
         ensures same_boards { self.new.boards ≡ self.old.boards }
         ensures same_events { self.new.events ≡ self.old.events }
     {
@@ -87,6 +121,7 @@ impl Publisher {
         for index in 0..boards.len() {
             self.keep_up(net, timetable, entry, index, &mut boards[index]);
         }
+        keep(&mut self.last, timetable);
         self.notes.len() - before
     }
 
@@ -102,14 +137,15 @@ impl Publisher {
         requires events { length net.now.events ≡ self.old.events }
         requires times { length timetable.now ≡ length net.now.events }
         requires is_board { index < self.old.boards }
-        ensures turn { TakesTurn place times faults is_sound net.now timetable.now entry index self.old.notes self.new.notes board.old board.new }
+        ensures turn { TakesTurn place times faults is_sound net.now self.old.last timetable.now entry index self.old.notes self.new.notes board.old board.new }
+        ensures same_last { self.new.last ≡ self.old.last }
         ensures same_boards { self.new.boards ≡ self.old.boards }
         ensures same_events { self.new.events ≡ self.old.events }
     {
         if has_note(&self.notes, index) {
             return;
         }
-        if let Err(Failed) = refresh(net, timetable, board, &mut self.changes) {
+        if let Err(Failed) = refresh(net, &self.last, timetable, board, &mut self.changes) {
             let note = Note {
                 board: index as u32 + 1,
                 stop: stop_of(board).0,
@@ -120,6 +156,18 @@ impl Publisher {
             };
         }
     }
+}
+
+/// Keeps the times of a timetable in a list that has room for them.
+fn keep(last: &mut Vec<Secs>, timetable: &Times)
+    requires { length timetable.now ≤ vec_capacity last.old }
+    ensures times { last.new.items ≡ timetable.now }
+    ensures room { vec_capacity last.old ≤ vec_capacity last.new }
+{
+    last.clear();
+    let Ok(()) = last.extend_from_slice(timetable.as_slice()) else {
+        unreachable!();
+    };
 }
 
 /// Whether a note names the board at a place.

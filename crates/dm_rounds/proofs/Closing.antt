@@ -1,7 +1,7 @@
 -- How rounds begin, follow each other and end.
-use Rattle.std.proofs.Common.{◌≡◌, ℕ, zero, suc, ◌+◌, ◌<◌, ◌≤◌, inl, inr, cond, List, [], ◌∷◌, ◌++◌, length, map, Option, Some, None, IsSome, refl, sym, ap, subst, ◌∙◌, arith, length-append, get_or, set, slice_get, All}
+use Rattle.std.proofs.Common.{◌≡◌, ℕ, zero, suc, ◌+◌, ◌<◌, ◌≤◌, inl, inr, cond, List, [], ◌∷◌, ◌++◌, length, map, Option, Some, None, IsSome, refl, sym, ap, subst, ◌∙◌, arith, length-append, get_or, slice_get, All}
 use Rattle.std.specs.Prelude.{count_by, sum_by}
-use Rattle.std.proofs.lemmas.List.{length-set, length-map}
+use Rattle.std.proofs.lemmas.List.{length-map}
 use Rattle.std.proofs.lemmas.List.Elements.{All-nil}
 use Rattle.std.proofs.lemmas.List.Sums.{sum_by-append, sum_by-cons}
 use Rattle.std.proofs.lemmas.Option.{slice_get_within, slice_get-get_or}
@@ -10,16 +10,16 @@ use Rattle.dm_cert.specs.declared.replies.LogItem.{LogItem}
 use Rattle.dm_cert.specs.declared.replies.FeedLog.{FeedLog}
 use Rattle.dm_cert.specs.Logs.{line_of, IsInOrder, names, all_items, IsTrueLog, HasNumberAt}
 use Rattle.dm_cert.specs.RunTexts.{IsSpelledItem}
-use Rattle.dm_desk.specs.Desks.{DeskValue, GoesOn}
+use Rattle.dm_desk.specs.Desks.{DeskValue}
 use Rattle.dm_desk.specs.Answered.{HasSeenLegal, AreTrueOf}
-use Rattle.dm_desk.proofs.Answering.{goes_nowhere, on_and_on, still_true}
+use Rattle.dm_desk.proofs.Answering.{goes_nowhere}
 use Rattle.dm_rounds.specs.declared.jobs.Progress.{Progress}
 use Rattle.dm_rounds.specs.declared.jobs.Progress.TheVariants.{Reading, Ended}
 use Rattle.dm_rounds.specs.declared.jobs.Job.{Job}
 use Rattle.dm_rounds.specs.Rounds.{IsLogFor, AnswersFeeds}
-use Rattle.dm_rounds.specs.Inside.Jobs.{new_reader, IsJob, CanRead, StepsFrom, NumberIn, job_names, IsPaced, RoundState, CanReadAll, AllAreTrue, AnswersRound, AnswersBelow, Begins, BeginAll, HasEnded, stop_in, log_in}
-use Rattle.dm_rounds.proofs.Places.{set_cases, behind_one, behind_push}
-use Rattle.dm_rounds.proofs.Rounding.{some_is, number_within, round_step}
+use Rattle.dm_rounds.specs.Inside.Jobs.{new_reader, IsJob, CanRead, StepsFrom, NumberIn, job_names, IsPaced, RoundState, CanReadAll, AllAreTrue, Begins, BeginAll, HasEnded, stop_in, log_in}
+use Rattle.dm_rounds.proofs.Places.{behind_one, behind_push}
+use Rattle.dm_rounds.proofs.Rounding.{some_is, number_within}
 
 -- ---- the next round
 
@@ -111,57 +111,9 @@ module _ {S : Type 0} (left : S → Option (List ℕ)) (is_sound : S → Type 0)
   can_read_all feeds first rounds low desk jobs place s = λ k job e.
       job_can_read left is_sound (get_or feeds k None) desk (k + 1) job.progress job.log.items (s.each k (get_or feeds k None) job (feed_at feeds jobs k job s.as_many e) e)
 
-  -- ---- the loop of a round
-
-  pub none_below : (desk : DeskValue) (jobs : List (Job S)) → HasSeenLegal desk → CanReadAll jobs → AllAreTrue desk jobs → AnswersBelow left is_sound batch desk jobs desk jobs 0
-  none_below desk jobs legal can are = record {
-    goes_on = goes_nowhere desk legal;
-    as_many = refl;
-    are_true = are;
-    can_read = λ k job high e. can k job e;
-    state = λ feeds first rounds low s. s;
-  }
-
   pub stays_legal : (p : Progress S) (items : List LogItem) (after : Job S) (desk now : DeskValue) (feed : ℕ) → HasSeenLegal desk → StepsFrom left is_sound p items after desk now feed batch → HasSeenLegal now
   stays_legal (Reading reader) items after desk now feed legal x = x.answers.answers.goes_on.legal
   stays_legal (Ended stop) items after desk now feed legal x = subst HasSeenLegal (sym x.desk) legal
-
-  steps_on : (p : Progress S) (items : List LogItem) (after : Job S) (desk now : DeskValue) (feed : ℕ) → HasSeenLegal desk → StepsFrom left is_sound p items after desk now feed batch → GoesOn desk now
-  steps_on (Reading reader) items after desk now feed legal x = x.answers.answers.goes_on
-  steps_on (Ended stop) items after desk now feed legal x = subst (GoesOn desk) (sym x.desk) (goes_nowhere desk legal)
-
-  steps_true : (p : Progress S) (items : List LogItem) (after : Job S) (desk now : DeskValue) (feed : ℕ) → AreTrueOf desk feed items → StepsFrom left is_sound p items after desk now feed batch → AreTrueOf now feed after.log.items
-  steps_true (Reading reader) items after desk now feed are x = x.answers.are_true
-  steps_true (Ended stop) items after desk now feed are x =
-      subst (λ (d : DeskValue). AreTrueOf d feed after.log.items) (sym x.desk) (subst (AreTrueOf desk feed) (sym x.log) are)
-
-  pub one_below : (before : DeskValue) (jobs : List (Job S)) (desk : DeskValue) (middle : List (Job S)) (place : ℕ) (job after : Job S) (now : DeskValue) → slice_get middle place ≡ Some job → StepsFrom left is_sound job.progress job.log.items after desk now (place + 1) batch
-      → AnswersBelow left is_sound batch before jobs desk middle place → AnswersBelow left is_sound batch before jobs now (set middle place after) (place + 1)
-  one_below before jobs desk middle place job after now stands x b =
-      let on = steps_on job.progress job.log.items after desk now (place + 1) b.goes_on.legal x in
-      let within = slice_get_within middle place job stands in
-      record {
-        goes_on = on_and_on before desk now b.goes_on on;
-        as_many = length-set middle place after ∙ b.as_many;
-        are_true = λ k j e.
-            elim (set_cases middle place k after j within e) [
-              | inl here ↦
-                  let is = steps_true job.progress job.log.items after desk now (place + 1) (b.are_true place job stands) x in
-                  let P : Job S → Type 0 = λ v. AreTrueOf now (place + 1) v.log.items in
-                  let Q : ℕ → Type 0 = λ i. AreTrueOf now (i + 1) j.log.items in
-                  subst Q (sym here.0) (subst P (sym here.1) is)
-              | inr other ↦ still_true desk now (k + 1) j.log.items on (b.are_true k j other.1)
-            ];
-        can_read = λ k j high e.
-            elim (set_cases middle place k after j within e) [
-              | inl here ↦ absurd (omega (arith, here.0))
-              | inr other ↦ b.can_read k j (omega arith) other.1
-            ];
-        state = λ feeds first rounds low s. round_step left is_sound feeds first batch some rounds low desk now middle place job after stands x (b.state feeds first rounds low s);
-      }
-
-  pub all_below : (before : DeskValue) (jobs : List (Job S)) (desk : DeskValue) (after : List (Job S)) (place : ℕ) → length after ≤ place → AnswersBelow left is_sound batch before jobs desk after place → AnswersRound left is_sound batch before jobs desk after
-  all_below before jobs desk after place all b = λ feeds first rounds low s. next_round feeds first rounds low desk after place all (b.state feeds first rounds low s)
 
   -- ---- the first round
 

@@ -1,4 +1,3 @@
 pub mod Closing
 pub mod Places
 pub mod Rounding
-pub mod Going

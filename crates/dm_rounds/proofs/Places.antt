@@ -1,20 +1,11 @@
 -- Places of a list of which one element is replaced, and of two lists together.
-use Rattle.std.proofs.Common.{◌≡◌, ◌≢◌, ℕ, ◌+◌, ◌-◌, ◌<◌, ◌≤◌, ◌⊎◌, inl, inr, List, ◌++◌, length, Some, refl, sym, ap, ◌∙◌, arith, get_or, set, slice_get, [], ◌∷◌, add-one, length-append}
-use Rattle.std.proofs.lemmas.List.{length-set, get_or-set_same, get_or-set_other, get_or_append_left, get_or-append_right}
+use Rattle.std.proofs.Common.{◌≡◌, ℕ, ◌+◌, ◌-◌, ◌<◌, ◌≤◌, ◌⊎◌, inl, inr, List, ◌++◌, length, Some, refl, sym, ap, ◌∙◌, arith, get_or, slice_get, [], ◌∷◌, add-one, length-append}
+use Rattle.std.proofs.lemmas.List.{get_or_append_left, get_or-append_right}
 use Rattle.std.proofs.lemmas.Option.{slice_get_within, slice_get-get_or, get_or_from_slice_get}
-use Rattle.std.proofs.lemmas.Bool.{cases_eq, cases_lt}
+use Rattle.std.proofs.lemmas.Bool.{cases_lt}
 
 pub get_is : {X : Type 0} (xs : List X) (k : ℕ) (x y : X) → k < length xs → get_or xs k y ≡ x → slice_get xs k ≡ Some x
 get_is xs k x y low e = slice_get-get_or xs k y low ∙ ap Some e
-
-pub set_cases : {X : Type 0} (xs : List X) (p k : ℕ) (y z : X) → p < length xs → slice_get (set xs p y) k ≡ Some z → ((k ≡ p) × (z ≡ y)) ⊎ ((k ≢ p) × (slice_get xs k ≡ Some z))
-set_cases xs p k y z low e =
-    let at : get_or (set xs p y) k z ≡ z = get_or_from_slice_get (set xs p y) k z z e in
-    let within : k < length xs = omega (arith, slice_get_within (set xs p y) k z e, length-set xs p y) in
-    elim (cases_eq k p) [
-      | inl same ↦ inl (same, sym at ∙ (ap (λ (i : ℕ). get_or (set xs p y) i z) same ∙ get_or-set_same xs p y z low))
-      | inr other ↦ inr (other, get_is xs k z z within (sym (get_or-set_other xs p k y z other) ∙ at))
-    ]
 
 -- an element of two lists together stands in the first, or behind it in the second
 pub append_cases : {X : Type 0} (xs ys : List X) (k : ℕ) (z : X) → slice_get (xs ++ ys) k ≡ Some z → (slice_get xs k ≡ Some z) ⊎ ((length xs ≤ k) × (k < length xs + length ys) × (get_or ys (k - length xs) z ≡ z) × (k - length xs < length ys))

@@ -1,12 +1,9 @@
 -- What one more feed's answers do to a round, and one round after another.
-use Rattle.std.proofs.Common.{◌≡◌, ◌≢◌, ℕ, zero, suc, ◌+◌, ◌-◌, ◌*◌, ◌/◌, ◌<◌, ◌≤◌, ◌⊎◌, inl, inr, cond, List, [], ◌∷◌, ◌++◌, length, Option, Some, None, refl, sym, ap, subst, ◌∙◌, arith, append-nil, length-append, zero-add, set, slice_get, All}
+use Rattle.std.proofs.Common.{◌≡◌, ℕ, zero, suc, ◌+◌, ◌*◌, ◌/◌, ◌<◌, ◌≤◌, List, [], ◌∷◌, ◌++◌, length, Option, Some, None, refl, sym, ap, subst, ◌∙◌, arith, append-nil, length-append, zero-add, slice_get, All}
 use Rattle.std.specs.Prelude.{count_by}
 use Rattle.std.proofs.Math.Nat.{div-lt_iff_lt-mul}
-use Rattle.std.proofs.lemmas.List.{length-set}
 use Rattle.std.proofs.lemmas.List.Elements.{All-nil}
-use Rattle.std.proofs.lemmas.List.Sums.{sum_by-append, sum_by-set}
-use Rattle.std.proofs.lemmas.Option.{slice_get_within, slice_get-get_or, get_or_from_slice_get}
-use Rattle.std.proofs.lemmas.Bool.{cases_lt}
+use Rattle.std.proofs.lemmas.Option.{slice_get_within, slice_get-get_or}
 use Rattle.dm_feed.specs.declared.feed.FeedStop.{FeedStop}
 use Rattle.dm_feed.specs.declared.feed.FeedStop.TheVariants.{Fault}
 use Rattle.dm_feed.specs.Feeds.{ReaderValue}
@@ -19,13 +16,12 @@ use Rattle.dm_cert.proofs.Numbers.{IsWithin}
 use Rattle.dm_cert.proofs.TrueLogs.{answer_within}
 use Rattle.dm_desk.specs.Desks.{DeskValue, GoesOn}
 use Rattle.dm_desk.specs.Answered.{times, IsBetween, IsAnswered, IsEnded, HasSize, AnswersBatch, HasSeenLegal}
-use Rattle.dm_desk.proofs.Answering.{goes_nowhere, on_and_on, still_true, no_shorter}
+use Rattle.dm_desk.proofs.Answering.{goes_nowhere, still_true}
 use Rattle.dm_rounds.specs.declared.jobs.Progress.{Progress}
 use Rattle.dm_rounds.specs.declared.jobs.Progress.TheVariants.{Reading, Ended}
 use Rattle.dm_rounds.specs.declared.jobs.Job.{Job}
-use Rattle.dm_rounds.specs.Inside.Jobs.{new_reader, IsReading, IsJob, progress_after, StepsFrom, NumberIn, job_names, IsPaced, RoundState}
+use Rattle.dm_rounds.specs.Inside.Jobs.{new_reader, IsReading, IsJob, progress_after, StepsFrom, IsPaced}
 use Rattle.dm_rounds.specs.Rounds.{IsLogFrom}
-use Rattle.dm_rounds.proofs.Places.{set_cases, append_cases}
 
 -- ---- a job while others are answered
 
@@ -101,41 +97,9 @@ module _ {S : Type 0} (left : S → Option (List ℕ)) (is_sound : S → Type 0)
     pub later : length desk.seen ≤ n
     pub last : n ≤ length now.seen
 
-  new_or_old : (rounds : ℕ) (desk now : DeskValue) (jobs : List (Job S)) (place : ℕ) (job after : Job S) → slice_get jobs place ≡ Some job → Grown rounds desk now place job after → (k a n : ℕ) → NumberIn (set jobs place after) k a n → NumberIn jobs k a n ⊎ IsNew rounds desk now a n
-  new_or_old rounds desk now jobs place job after stands g k a n x =
-      elim (set_cases jobs place k after x.job (slice_get_within jobs place job stands) x.stands) [
-        | inl here ↦
-            let item : slice_get (job.log.items ++ g.more) a ≡ Some x.answered = ap (λ (l : List LogItem). slice_get l a) (sym (ap (λ (j : Job S). j.log.items) here.1 ∙ g.behind)) ∙ x.is_item in
-            elim (append_cases job.log.items g.more a x.answered item) [
-              | inl old ↦ inl (record { job = job; stands = ap (slice_get jobs) here.0 ∙ stands; answered = x.answered; is_item = old; number = x.number })
-              | inr new ↦
-                  let starts = g.starts (omega (arith, new.3)) in
-                  let here_between = subst (λ (y : LogItem). IsBetween (length desk.seen) (length now.seen) (kind_of y)) new.2 (g.between (a - length job.log.items) x.answered new.3) in
-                  let bounds = number_between (length desk.seen) (length now.seen) n (kind_of x.answered) here_between x.number in
-                  inr (record {
-                    high = omega (arith, starts, new.0);
-                    low = omega (arith, starts, new.1, g.size, more_rounds batch rounds);
-                    later = bounds.0;
-                    last = bounds.1;
-                  })
-            ]
-        | inr other ↦ inl (record { job = x.job; stands = other.1; answered = x.answered; is_item = x.is_item; number = x.number })
-      ]
-
   pub few_items : (rounds : ℕ) (progress : Progress S) (items : List LogItem) → IsPaced batch rounds progress items → length items ≤ rounds * batch
   few_items rounds (Reading reader) items p = omega (arith, p)
   few_items rounds (Ended stop) items p = p
-
-  old_round : (rounds low : ℕ) (desk : DeskValue) (jobs : List (Job S)) (place : ℕ) → RoundState left is_sound feeds first batch rounds low desk jobs place → (k a n : ℕ) → NumberIn jobs k a n → a < (rounds + 1) * batch
-  old_round rounds low desk jobs place s k a n x =
-      let within = slice_get_within x.job.log.items a x.answered x.is_item in
-      elim (cases_lt k place) [
-        | inl before ↦ omega (arith, within, few_items (rounds + 1) x.job.progress x.job.log.items (s.done k x.job before x.stands))
-        | inr behind ↦ omega (arith, within, few_items rounds x.job.progress x.job.log.items (s.ahead k x.job behind x.stands), more_rounds batch rounds)
-      ]
-
-  below_other : (k place : ℕ) → k < place + 1 → k ≢ place → k < place
-  below_other k place low other = elim (cases_lt k place) [ inl lt ↦ lt | inr le ↦ absurd (other (omega arith)) ]
 
   pub not_later : (a b rounds : ℕ) → rounds * batch ≤ a → b < (rounds + 1) * batch → a / batch < b / batch → ⊥
   not_later a b rounds high low lt =
@@ -148,61 +112,6 @@ module _ {S : Type 0} (left : S → Option (List ℕ)) (is_sound : S → Type 0)
   earlier_round a b rounds low lt =
       let later = in_round b batch (rounds + 1) some low in
       low_round a batch rounds some (omega arith)
-
-  pub round_with : (rounds low : ℕ) (desk now : DeskValue) (jobs : List (Job S)) (place : ℕ) (job after : Job S) → slice_get jobs place ≡ Some job → RoundState left is_sound feeds first batch rounds low desk jobs place → Grown rounds desk now place job after
-      → RoundState left is_sound feeds first batch rounds low now (set jobs place after) (place + 1)
-  round_with rounds low desk now jobs place job after stands s g =
-      let within = slice_get_within jobs place job stands in
-      let longer = no_shorter desk.seen now.seen g.goes_on.later in
-      record {
-        goes_on = on_and_on first desk now s.goes_on g.goes_on;
-        as_many = length-set jobs place after ∙ s.as_many;
-        each = λ k feed j f e.
-            elim (set_cases jobs place k after j within e) [
-              | inl here ↦
-                  let f' : slice_get feeds place ≡ Some feed = ap (slice_get feeds) (sym here.0) ∙ f in
-                  let is = g.is_job feed f' in
-                  let P : Job S → Type 0 = λ v. IsJob left is_sound feed now (place + 1) v.progress v.log.items in
-                  let Q : ℕ → Type 0 = λ i. IsJob left is_sound feed now (i + 1) j.progress j.log.items in
-                  subst Q (sym here.0) (subst P (sym here.1) is)
-              | inr other ↦ job_grows left is_sound feed desk now (k + 1) j.progress j.log.items g.goes_on (s.each k feed j f other.1)
-            ];
-        named = λ n.
-            let at = get_or_from_slice_get jobs place job job stands in
-            let sums = sum_by-set (job_names n) jobs place after job within in
-            let old = ap (job_names n) at in
-            let new : job_names n after ≡ count_by (names n) job.log.items + count_by (names n) g.more = ap (count_by (names n)) g.behind ∙ sum_by-append (λ x. cond (names n x) 1 0) job.log.items g.more in
-            omega (arith, s.named n, g.named n, sums, old, new);
-        done = λ k j low e.
-            elim (set_cases jobs place k after j within e) [
-              | inl here ↦ let P : Job S → Type 0 = λ v. IsPaced batch (rounds + 1) v.progress v.log.items in subst P (sym here.1) g.paced
-              | inr other ↦ s.done k j (below_other k place low other.0) other.1
-            ];
-        ahead = λ k j high e.
-            elim (set_cases jobs place k after j within e) [
-              | inl here ↦ absurd (omega (arith, here.0))
-              | inr other ↦ s.ahead k j (omega arith) other.1
-            ];
-        earlier = λ k a n early x.
-            elim (new_or_old rounds desk now jobs place job after stands g k a n x) [
-              | inl old ↦ s.earlier k a n early old
-              | inr new ↦ absurd (omega (arith, new.high))
-            ];
-        below = omega (arith, s.below, longer);
-        kept = λ k a l b m n x y lt.
-            elim (new_or_old rounds desk now jobs place job after stands g l b n y) [
-              | inl old_y ↦
-                  elim (new_or_old rounds desk now jobs place job after stands g k a m x) [
-                    | inl old_x ↦ s.kept k a l b m n old_x old_y lt
-                    | inr new_x ↦ absurd (not_later a b rounds new_x.high (old_round rounds low desk jobs place s l b n old_y) lt)
-                  ]
-              | inr new_y ↦
-                  elim (new_or_old rounds desk now jobs place job after stands g k a m x) [
-                    | inl old_x ↦ omega (arith, s.earlier k a m (earlier_round a b rounds new_y.low lt) old_x, s.below, new_y.later)
-                    | inr new_x ↦ absurd (not_later a b rounds new_x.high new_y.low lt)
-                  ]
-            ];
-      }
 
   -- ---- one job's step
 
@@ -287,11 +196,6 @@ module _ {S : Type 0} (left : S → Option (List ℕ)) (is_sound : S → Type 0)
         starts = λ none. absurd (omega arith);
         size = omega arith;
       }
-
-  pub round_step : (rounds low : ℕ) (desk now : DeskValue) (jobs : List (Job S)) (place : ℕ) (job after : Job S) → slice_get jobs place ≡ Some job → StepsFrom left is_sound job.progress job.log.items after desk now (place + 1) batch
-      → RoundState left is_sound feeds first batch rounds low desk jobs place → RoundState left is_sound feeds first batch rounds low now (set jobs place after) (place + 1)
-  round_step rounds low desk now jobs place job after stands x s =
-      round_with rounds low desk now jobs place job after stands s (grown_at rounds desk now place job after s.goes_on.legal (s.ahead place job (omega arith) stands) (λ feed f. s.each place feed job f stands) job.progress refl x)
 
   -- ---- the next round
 

@@ -1,5 +1,4 @@
 -- What answering feeds in rounds comes to.
 pub mod Rounds
-pub mod Answering
 -- States of rounds: checked, and not to be believed.
 pub mod Inside

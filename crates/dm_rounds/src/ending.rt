@@ -21,7 +21,7 @@ pub fn have_ended<S>(jobs: &[Job<S>]) -> bool
     true
 }
 
-/// The logs of the feeds, in room for as many.
+/// The logs of feeds that are read no further, in room for as many. It takes no memory.
 pub fn logs_of<S: Drop>(jobs: Vec<Job<S>>, mut logs: Vec<FeedLog>) -> Vec<FeedLog>
     requires none { logs.items ≡ [] }
     requires room { length jobs.items ≤ vec_capacity logs }
@@ -34,7 +34,7 @@ pub fn logs_of<S: Drop>(jobs: Vec<Job<S>>, mut logs: Vec<FeedLog>) -> Vec<FeedLo
 }
 
 /// The log of a feed that is read no further.
-pub fn log_of<S: Drop>(job: Job<S>) -> FeedLog
+fn log_of<S: Drop>(job: Job<S>) -> FeedLog
     ensures { result ≡ log_in job }
 {
     let stop = stop_of(&job.progress);

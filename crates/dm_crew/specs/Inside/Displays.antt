@@ -1,9 +1,9 @@
 -- Boards that are kept up over a server.
-use Rattle.std.specs.Prelude.{ℕ, ◌≡◌, ◌≤◌, List, length, Option}
+use Rattle.std.specs.Prelude.{ℕ, ◌≡◌, ◌≤◌, List, [], length, Option}
 use Rattle.dm_network.specs.Net.{Net}
 use Rattle.dm_rows.specs.declared.messages.Entry.{Entry}
 use Rattle.dm_cert.specs.Runs.{AreTrueNotes}
-use Rattle.dm_publish.specs.Since.{AreKeptSince}
+use Rattle.dm_publish.specs.Since.{AreKeptSince, AllShowLast}
 use Rattle.dm_server.specs.declared.kept.Base.{Base}
 use Rattle.dm_server.specs.Answers.{AreTimesAfter}
 use Rattle.dm_crew.specs.declared.display.Display.{Display}
@@ -16,15 +16,21 @@ pub record IsFor (net : Net) (many : ℕ) (display : Display) : Type 0 where
   pub events : display.publisher.events ≡ length net.events
   pub size : length display.times ≡ length net.events
 
--- the boards were kept up since these first ones, at at most so many entries
+-- nothing was published yet
+abbrev pub HasShownNothing : Display → Type 0
+HasShownNothing display = (display.publisher.notes ≡ []) × (display.publisher.last ≡ [])
+
+-- the boards were kept up since these first ones, at at most so many entries, and show what was published last
 pub record AreKept {B : Type 0} (place : B → ℕ) (times : B → Option (ℕ → Option ℕ)) (faults : B → ℕ) (is_sound : B → ℕ → Type 0) (net : Net) (entries : ℕ) (display : Display) (first now : List B) : Type 0 where
   pub kept : AreKeptSince place times faults is_sound net first now display.publisher.notes
   pub noted : AreTrueNotes entries display.publisher.notes
+  pub last : AllShowLast place times net display.publisher.last display.publisher.notes first now
 
 -- and they show the times after this history
 pub record AreUp {B : Type 0} (place : B → ℕ) (times : B → Option (ℕ → Option ℕ)) (faults : B → ℕ) (is_sound : B → ℕ → Type 0) (base : Base) (seen : List Entry) (display : Display) (first now : List B) : Type 0 where
   pub is_for : IsFor base.network (length now) display
   pub least : AreTimesAfter base seen display.times
+  pub last : display.publisher.last ≡ display.times
   pub shown : AreShown place times faults is_sound base.network display.times (length seen) display.publisher.notes first now
 
 -- boards that were kept up to an earlier entry are shown the times after this history

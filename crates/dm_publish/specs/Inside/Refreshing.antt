@@ -4,13 +4,13 @@ use Rattle.dm_network.specs.Net.{Net, event_at}
 use Rattle.dm_rows.specs.Timetable.{time_at}
 use Rattle.dm_outside.specs.Faults.{Counts, HasRisen}
 use Rattle.dm_outside.specs.Board.{times_after, Sets}
-use Rattle.dm_publish.specs.Shown.{IsAtStop, AllStand, ShowsTimes, KeepsOthers, IsSoundFor}
+use Rattle.dm_publish.specs.Shown.{IsAtStop, AllStand, ShowsTimes, ShowsLast, KeepsOthers, IsSoundFor}
 
--- whether this time stands there for the event, where the board tells that
-abbrev pub TellsTime : Option (ℕ → Option ℕ) → ℕ → ℕ → Bool → Type 0
-TellsTime None event time answer = ⊤
-TellsTime (Some shown) event time true = shown event ≡ Some time
-TellsTime (Some shown) event time false = shown event ≡ Some time → ⊥
+-- whether this time stands there for the event, where the board tells that: known where it showed the last times
+abbrev pub TellsTime : Type 0 → Option (ℕ → Option ℕ) → ℕ → ℕ → Bool → Type 0
+TellsTime Showed None event time answer = ⊤
+TellsTime Showed (Some shown) event time true = Showed → shown event ≡ Some time
+TellsTime Showed (Some shown) event time false = shown event ≡ Some time → ⊥
 
 -- an event at the stop with its time
 pub record IsDue (net : Net) (x : List ℕ) (stop : ℕ) (change : ℕ × ℕ) : Type 0 where
@@ -19,10 +19,10 @@ pub record IsDue (net : Net) (x : List ℕ) (stop : ℕ) (change : ℕ × ℕ) :
   pub event : change.0 ≡ (event_at net place).id.0
   pub time : change.1 ≡ time_at x place
 
--- The changes that a board needs for the first k of these events: with them each has its time.
-pub record Gathers (net : Net) (x : List ℕ) (stop : ℕ) (told : Option (ℕ → Option ℕ)) (places : List ℕ) (k : ℕ) (changes : List (ℕ × ℕ)) : Type 0 where
+-- The changes that a board needs for the first k of these events: with them each has its time, where it showed the last times.
+pub record Gathers (net : Net) (last x : List ℕ) (stop : ℕ) (told : Option (ℕ → Option ℕ)) (places : List ℕ) (k : ℕ) (changes : List (ℕ × ℕ)) : Type 0 where
   pub due : All (IsDue net x stop) changes
-  pub shows : IfSome told (λ shown. (j : ℕ) → j < k →
+  pub shows : ShowsLast net last stop told → IfSome told (λ shown. (j : ℕ) → j < k →
       times_after shown changes (event_at net (slice_index places j)).id.0 ≡ Some (time_at x (slice_index places j)))
   pub none : IfSome told (λ shown. AllStand net x stop shown → changes ≡ [])
   pub few : length changes ≤ k
@@ -36,14 +36,15 @@ pub record TakesChanges {B T E : Type 0} (place : B → ℕ) (times : B → Opti
   pub sound : All (λ change. is_sound before change.0) changes → IsOk result
   pub stays_sound : All (λ change. is_sound before change.0) changes → (event : ℕ) → is_sound before event → is_sound now event
 
--- The board is of the same stop and as sound as before. It shows the times, or its count has risen.
+-- The board is of the same stop and as sound as before. It shows the times, where it showed the last ones, or its count has
+-- risen.
 pub record Refreshes {B T E : Type 0} (place : B → ℕ) (times : B → Option (ℕ → Option ℕ)) (faults : B → ℕ) (is_sound : B → ℕ → Type 0)
-    (net : Net) (x : List ℕ) (before now : B) (result : Result T E) : Type 0 where
+    (net : Net) (last x : List ℕ) (before now : B) (result : Result T E) : Type 0 where
   pub same_stop : place now ≡ place before
   pub later : faults before ≤ faults now
   pub stays_sound : IsSoundFor net (place before) (is_sound before) → IsSoundFor net (place now) (is_sound now)
   pub succeeds : IsSoundFor net (place before) (is_sound before) → IsOk result
   pub risen : OnErr result (HasRisen (faults before) (faults now))
-  pub shows : OnOk result (IsSome (times before) → ShowsTimes net x (place before) (times now))
+  pub shows : OnOk result (IsSome (times before) → ShowsLast net last (place before) (times before) → ShowsTimes net x (place before) (times now))
   pub others : OnOk result (KeepsOthers net (place before) (times before) (times now))
   pub quiet : IfSome (times before) (λ shown. AllStand net x (place before) shown → now ≡ before)

@@ -109,15 +109,6 @@ AnswersRound left is_sound batch before jobs now after =
     (feeds : List (Option _)) (first : DeskValue) (rounds low : ℕ) → RoundState left is_sound feeds first batch rounds low before jobs 0
     → RoundState left is_sound feeds first batch (rounds + 1) (length now.seen) now after 0
 
--- the jobs below a place have been answered
-pub record AnswersBelow {S : Type 0} (left : S → Option (List ℕ)) (is_sound : S → Type 0) (batch : ℕ) (before : DeskValue) (jobs : List (Job S)) (now : DeskValue) (after : List (Job S)) (place : ℕ) : Type 0 where
-  pub goes_on : GoesOn before now
-  pub as_many : length after ≡ length jobs
-  pub are_true : AllAreTrue now after
-  pub can_read : (k : ℕ) (job : Job S) → place ≤ k → slice_get after k ≡ Some job → CanRead job.progress
-  pub state : (feeds : List (Option S)) (first : DeskValue) (rounds low : ℕ) → RoundState left is_sound feeds first batch rounds low before jobs 0
-      → RoundState left is_sound feeds first batch rounds low now after place
-
 -- a job begins with its feed, or has ended where that could not be opened
 abbrev pub Begins : {S : Type 0} → Option S → Job S → Type 0
 Begins (Some source) job = (job.progress ≡ Reading (new_reader source)) × (job.log.items ≡ [])

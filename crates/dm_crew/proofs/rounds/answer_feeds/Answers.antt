@@ -1,5 +1,4 @@
-use Rattle.std.proofs.Common.{◌≡◌, ◌+◌, ◌≤◌, List, length, map, refl, sym, ap, subst, ◌∙◌, arith}
-use Rattle.std.proofs.lemmas.Result.{IfOk-weaker}
+use Rattle.std.proofs.Common.{◌+◌, ◌≤◌, List, length, map, refl, sym, ap, subst, ◌∙◌, arith}
 use Rattle.dm_cert.specs.declared.replies.FeedLog.{FeedLog}
 use Rattle.dm_desk.proofs.Answering.{no_shorter}
 use Rattle.dm_rounds.specs.Rounds.{AnswersFeeds}
@@ -8,7 +7,7 @@ use Rattle.dm_rounds.proofs.Closing.{first_round, can_read_all, are_true_all, en
 use Rattle.dm_server.specs.declared.kept.Base.{Base}
 use Rattle.dm_turn.specs.Passes.{PassValue}
 use Rattle.dm_crew.specs.Passes.{desk_of, IsSamePass}
-use Rattle.dm_crew.proofs.Displays.{on_ok, looked_same, rounds_look, shown_first, shown_next}
+use Rattle.dm_crew.proofs.Displays.{looked_same, rounds_look, shown_first, shown_next}
 use Rattle.dm_crew.proofs.rounds.answer_feeds.Goals as goal
 use Rattle.dm_crew.proofs.rounds.answer_feeds.Goals.{in-None, in-Some+then-have_ended}
 
@@ -69,6 +68,11 @@ loop-preserved g c =
       shown_next _ _ _ _ g.P.Seat.base c.loop.main.seen now.seen c.loop.display c.show-in-loop.new.self c.args.boards.now.items c.loop.boards.items c.show-in-loop.new.boards.items low c.loop.invariant.2 c.show-in-loop.ensures.up,
     )
 
+pub logs_of-requires-clause-room : goal.logs_of-requires-clause-room
+logs_of-requires-clause-room g c =
+    let capacity = c.in_ok-logs.ensures.capacity in
+    omega (arith, c.loop.invariant.1.state.as_many, capacity)
+
 pub returns-clause-answers : goal.returns-clause-answers
 returns-clause-answers g c =
     let P : List FeedLog → Type 0 = λ logs. AnswersFeeds g.S.Source.left g.S.Source.is_sound c.args.feeds.items c.args.batch (desk_of g.P.Seat.base c.args.main.now) (desk_of g.P.Seat.base c.loop.main) logs in
@@ -79,10 +83,10 @@ returns-clause-answers g c =
           ends_rounds g.S.Source.left g.S.Source.is_sound c.args.batch c.requires.some c.args.feeds.items (desk_of g.P.Seat.base c.args.main.now) c.loop.invariant.1.rounds c.loop.invariant.1.low (desk_of g.P.Seat.base c.loop.main) c.loop.jobs.items (map log_in c.loop.jobs.items)
           c.loop.invariant.1.state (ended_all w.deref.result.now c.loop.jobs.items w.deref.ensures.value (w.have_ended.ensures w.if-have_ended.true)) refl
     ] in
-    IfOk-weaker c.logs_of.result (λ logs. logs.items ≡ map log_in c.loop.jobs.items) (λ logs. P logs.items) (λ logs is. subst P (sym is) ends) c.logs_of.ensures
+    subst P (sym c.logs_of.ensures) ends
 
 pub returns-clause-same : goal.returns-clause-same
-returns-clause-same g c = on_ok _ c.logs_of.result c.loop.invariant.0
+returns-clause-same g c = c.loop.invariant.0
 
 pub returns-clause-up : goal.returns-clause-up
-returns-clause-up g c = on_ok _ c.logs_of.result c.loop.invariant.2
+returns-clause-up g c = c.loop.invariant.2

@@ -7,7 +7,7 @@ pub returns-then-is_empty-clause-refreshed : goal.returns-then-is_empty-clause-r
 returns-then-is_empty-clause-refreshed g c =
     let none : vec_len c.gather.new.changes ≡ 0 = eqb-true _ 0 (sym c.if-is_empty.ensures) in
     let empty : c.gather.new.changes.items ≡ [] = nil_from_length c.gather.new.changes.items (omega arith) in
-    refreshed_quietly _ _ _ _ c.args.net.now c.args.timetable.now c.sound.ensures.network c.args.board.now c.gather.new.changes.items c.gather.ensures.gathered empty _
+    refreshed_quietly _ _ _ _ c.args.net.now c.args.last.now c.args.timetable.now c.sound.ensures.network c.args.board.now c.gather.new.changes.items c.gather.ensures.gathered empty _
 
 pub returns-clause-refreshed : goal.returns-clause-refreshed
 returns-clause-refreshed g c =
@@ -16,7 +16,7 @@ returns-clause-refreshed g c =
     let zero : vec_len c.gather.new.changes ≡ 0 = omega arith in
     let both : false ≡ true = c.if-is_empty.ensures ∙ eq-eqb (vec_len c.gather.new.changes) 0 zero in
     cc in
-    refreshed_by_show _ _ _ _ c.args.net.now c.args.timetable.now c.sound.ensures.network c.args.board.now c.gather.new.changes.items c.gather.ensures.gathered
+    refreshed_by_show _ _ _ _ c.args.net.now c.args.last.now c.args.timetable.now c.sound.ensures.network c.args.board.now c.gather.new.changes.items c.gather.ensures.gathered
     _ _ some (rw (← c.deref.ensures.value) (record {
       same_stop = c.show_on.ensures.same_stop;
       sets = c.show_on.ensures.sets;

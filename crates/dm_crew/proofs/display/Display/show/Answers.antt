@@ -11,16 +11,16 @@ pub copy_times-entry-requires-clause-size : goal.copy_times-entry-requires-claus
 copy_times-entry-requires-clause-size g c = λ base is.
     subst (λ (b : Base). length c.args.self.now.times ≡ length b.network.events) (some_base (sym c.requires.base ∙ is)) c.requires.fits.size
 
-pub publish-dropped-requires-clause-events : goal.publish-dropped-requires-clause-events
-publish-dropped-requires-clause-events g c = ap (λ (n : Net). length n.events) c.requires.fits.network ∙ sym c.requires.fits.events
+pub publish_changes-dropped-requires-clause-events : goal.publish_changes-dropped-requires-clause-events
+publish_changes-dropped-requires-clause-events g c = ap (λ (n : Net). length n.events) c.requires.fits.network ∙ sym c.requires.fits.events
 
-pub publish-dropped-requires-clause-times : goal.publish-dropped-requires-clause-times
-publish-dropped-requires-clause-times g c =
+pub publish_changes-dropped-requires-clause-times : goal.publish_changes-dropped-requires-clause-times
+publish_changes-dropped-requires-clause-times g c =
     let least = holds_at (λ base seen. AreTimesAfter base seen c.copy_times-entry.new.into) g.P.Seat.base c.args.main.now c.copy_times-entry.new.pass c.requires.base (base_looked c.args.main.now c.copy_times-entry.new.pass c.copy_times-entry.ensures.looked) c.copy_times-entry.ensures.times in
     least.meets.size ∙ sym (ap (λ (n : Net). length n.events) c.requires.fits.network)
 
-pub publish-dropped-requires-clause-boards : goal.publish-dropped-requires-clause-boards
-publish-dropped-requires-clause-boards g c = sym c.requires.fits.boards
+pub publish_changes-dropped-requires-clause-boards : goal.publish_changes-dropped-requires-clause-boards
+publish_changes-dropped-requires-clause-boards g c = sym c.requires.fits.boards
 
 pub returns-clause-legal : goal.returns-clause-legal
 returns-clause-legal g c =
@@ -29,10 +29,10 @@ returns-clause-legal g c =
 pub returns-clause-up : goal.returns-clause-up
 returns-clause-up g c =
     let least = holds_at (λ base seen. AreTimesAfter base seen c.copy_times-entry.new.into) g.P.Seat.base c.args.main.now c.copy_times-entry.new.pass c.requires.base (base_looked c.args.main.now c.copy_times-entry.new.pass c.copy_times-entry.ensures.looked) c.copy_times-entry.ensures.times in
-    let p = c.publish-dropped.ensures in
+    let p = c.publish_changes-dropped.ensures in
     let fits = subst (λ (n : ℕ). IsFor g.P.Seat.base.network n c.args.self.now) c.args.boards.now.ok.0 c.requires.fits in
-    shows_history _ _ _ _ g.P.Seat.base c.copy_times-entry.new.pass.seen c.args.self.now _ c.args.self.now.net.now c.copy_times-entry.result c.args.boards.now.items c.publish-dropped.new.boards.items
-    fits c.requires.fits.network c.requires.fits.network c.copy_times-entry.ensures.number least p.published.stops p.keeps_up p.true_notes p.same_boards p.same_events
+    shows_history _ _ _ _ g.P.Seat.base c.copy_times-entry.new.pass.seen c.args.self.now _ c.args.self.now.net.now c.copy_times-entry.result c.args.boards.now.items c.publish_changes-dropped.new.boards.items
+    fits c.requires.fits.network c.requires.fits.network c.copy_times-entry.ensures.number least p.published.stops p.keeps_up p.true_notes p.last p.same_boards p.same_events
 
 pub returns-clause-stops : goal.returns-clause-stops
-returns-clause-stops g c = c.publish-dropped.ensures.published.stops
+returns-clause-stops g c = c.publish_changes-dropped.ensures.published.stops

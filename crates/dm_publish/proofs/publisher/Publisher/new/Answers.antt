@@ -6,4 +6,5 @@ pub invariant_of-result : goal.invariant_of-result
 invariant_of-result c =
     let notes = c.in_ok-with_capacity.ensures.capacity in
     let changes = c.in_ok-with_capacity-2.ensures.capacity in
-    (c.requires, omega arith, omega arith, no_notes c.args.boards _ c.in_ok-with_capacity.ensures.items)
+    let last = c.in_ok-with_capacity-3.ensures.capacity in
+    (c.requires, omega arith, omega arith, omega arith, no_notes c.args.boards _ c.in_ok-with_capacity.ensures.items)
