@@ -2,7 +2,7 @@
 use Rattle.std.proofs.Common.{◌≡◌, ℕ, ◌≤◌, List, [], ◌∷◌, Option, Some, None, Ok, sym, subst, arith}
 use Rattle.dm_base.specs.declared.limits.TheConstants.{PENALTY}
 use Rattle.dm_input.specs.Input.{Told, Opening, OpeningAnswer, IsAnswer}
-use Rattle.dm_words.specs.Words.{RunAsked, GenAsked, FilesAsked, Command, RunOf, CheckOf, GenOf, Asks, IsNumberOr}
+use Rattle.dm_words.specs.Words.{RunAsked, CheckAsked, GenAsked, FilesAsked, Command, RunOf, CheckOf, GenOf, Asks, IsNumberOr}
 use Rattle.dm_words.specs.declared.command.TheConstants.{BATCH, STANDARD_BATCH}
 use Rattle.dm_words.specs.declared.files.TheConstants.{STANDARD_PENALTY}
 use Rattle.dm_network.specs.Net.{Net}
@@ -34,6 +34,12 @@ asked_within (word ∷ words) asked asks =
       few_lines = let few = no_more batch.value 1 BATCH STANDARD_BATCH asked.batch (omega arith) batch.is in omega (arith, few);
     }
 
+pub check_within : (words : List (List ℕ)) (asked : CheckAsked) → Asks words (CheckOf asked) → asked.files.penalty ≤ PENALTY
+check_within [] asked asks = absurd asks
+check_within (word ∷ words) asked asks =
+    let penalty = asks.1.files.penalty in
+    no_more penalty.value 0 PENALTY STANDARD_PENALTY asked.files.penalty (omega arith) penalty.is
+
 pub day_within : (words : List (List ℕ)) (asked : GenAsked) → Asks words (GenOf asked) → IsDayWithin asked
 day_within [] asked asks = absurd asks
 day_within (word ∷ words) asked asks =
@@ -46,7 +52,7 @@ day_within (word ∷ words) asked asks =
 
 pub command_within : (words : List (List ℕ)) (command : Command) → Asks words command → IsWithin command
 command_within words (RunOf asked) asks = asked_within words asked asks
-command_within words (CheckOf asked) asks = tt
+command_within words (CheckOf asked) asks = check_within words asked asks
 command_within words (GenOf asked) asks = day_within words asked asks
 
 ok_is : (x y : Opening) → IsAnswer x (Ok y) → y ≡ x

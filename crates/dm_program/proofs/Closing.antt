@@ -5,8 +5,7 @@ use Rattle.std.specs.List.{list_any}
 use Rattle.dm_input.specs.Input.{Told, OpeningAnswer, IsUnread}
 use Rattle.dm_input.specs.Lines.{usage_line, refused_line, read_fault_line}
 use Rattle.dm_input.specs.Stops.{StopsOpening}
-use Rattle.dm_words.specs.Words.{Command, RunAsked, RunOf, Asks, AsksNothing}
-use Rattle.dm_words.proofs.OneCommand.{one_command}
+use Rattle.dm_words.specs.Words.{Command, FilesAsked, Asks, AsksNothing}
 use Rattle.dm_input.specs.declared.flaws.File.{File}
 use Rattle.dm_input.specs.declared.flaws.InputFlaw.{InputFlaw}
 use Rattle.dm_input.specs.declared.flaws.InputStop.{InputStop}
@@ -14,19 +13,11 @@ use Rattle.dm_input.specs.declared.flaws.InputStop.TheVariants.{Refused as StopR
 use Rattle.dm_cert.specs.declared.replies.FeedLog.{FeedLog}
 use Rattle.dm_cert.specs.RunTexts.{Run}
 use Rattle.dm_program.specs.declared.status.Status.{Status}
-use Rattle.dm_program.specs.declared.status.Status.TheVariants.{Ok as Well, Usage, Refused, ReadFault, WriteFault, NoMemory}
-use Rattle.dm_program.specs.Served.{IsServed, AsksServed, AsksNothingServed}
+use Rattle.dm_program.specs.declared.status.Status.TheVariants.{Ok as Well, Bad, Usage, Refused, ReadFault, WriteFault, NoMemory}
 use Rattle.dm_program.specs.Feeds.{is_fault, is_long, status_of}
 use Rattle.dm_program.specs.Headline.{IsRunOf}
-use Rattle.dm_program.specs.Ends.{IsDue, Ends, EndsAs, WantsMemory}
+use Rattle.dm_program.specs.Ends.{IsDue, Ends, EndsAs, AsksOver, WantsMemory}
 use Rattle.dm_program.specs.Inside.Stages.{EndsStopped}
-
--- words that ask for nothing, or for what is not done, ask for nothing that is done
-pub serves_nothing : (words : List (List ℕ)) → AsksNothing words → AsksNothingServed words
-serves_nothing words nothing asked asks = nothing asked asks.0
-
-pub serves_no : (words : List (List ℕ)) (command : Command) → Asks words command → (IsServed command → ⊥) → AsksNothingServed words
-serves_no words command asks unserved asked also = unserved (subst IsServed (one_command words asked command also.0 asks) also.1)
 
 -- the status of logs is that of a run
 of_two : (fault long : Bool) (s : Status) → s ≡ cond fault ReadFault (cond long Refused Well) → (s ≡ Well) ⊎ ((s ≡ Refused) ⊎ (s ≡ ReadFault))
@@ -42,14 +33,15 @@ module _ (told : Told) (is_sound : List ℕ → Type 0) (end_boards : Option Run
       elim (of_two (list_any (λ log. is_fault log.stop) logs) (list_any (λ log. is_long log.stop) logs) s e) [
         | inl well ↦ subst D (sym well) (inl (subst R well run))
         | inr other ↦ elim other [
-          | inl refused ↦ subst D (sym refused) (inr (subst R refused run))
-          | inr fault ↦ subst D (sym fault) (inr (subst R fault run))
+          | inl refused ↦ subst D (sym refused) (inr (inr (subst R refused run)))
+          | inr fault ↦ subst D (sym fault) (inr (inr (subst R fault run)))
         ]
       ]
 
 module _ {K : Type 0} (taken : K → Option (List ℕ)) (faults : K → ℕ) (told : Told) (is_sound : List ℕ → Type 0) (end_boards : Option Run → Type 0) (words : List (List ℕ)) (before now : K) where
   written : (status : Status) (text : List ℕ) → IsDue told is_sound end_boards words status text → Appends (taken before) (taken now) text → Ends taken faults told is_sound end_boards words before now status
   written Well text due appended = record { text = text; holds = due; appended = appended }
+  written Bad text due appended = record { text = text; holds = due; appended = appended }
   written Usage text due appended = record { text = text; holds = due; appended = appended }
   written Refused text due appended = record { text = text; holds = due; appended = appended }
   written ReadFault text due appended = record { text = text; holds = due; appended = appended }
@@ -65,14 +57,14 @@ module _ {K : Type 0} (taken : K → Option (List ℕ)) (faults : K → ℕ) (to
         | inr part ↦ subst E (sym part.0) (record { status = status; text = text; is_due = due; front = part.1 })
       ]
 
-  pub ends_usage : (result : Status) → end_boards None → AsksNothingServed words → EndsAs taken faults before now usage_line Usage result → Ends taken faults told is_sound end_boards words before now result
+  pub ends_usage : (result : Status) → end_boards None → AsksNothing words → EndsAs taken faults before now usage_line Usage result → Ends taken faults told is_sound end_boards words before now result
   ends_usage result left outside h = ends_due Usage usage_line result (record { outside = outside; line = refl; boards = left }) h
 
-  pub ends_refused : (asked : RunAsked) (flaw : InputFlaw) (result : Status) → end_boards None → AsksServed words (RunOf asked) → OpeningAnswer told asked.files (Err flaw) → EndsAs taken faults before now (refused_line asked.files flaw) Refused result → Ends taken faults told is_sound end_boards words before now result
-  ends_refused asked flaw result left asks refusal h = ends_due Refused (refused_line asked.files flaw) result (inl (record { asked = asked; is_asked = asks; flaw = flaw; refusal = refusal; line = refl; boards = left })) h
+  pub ends_refused : (files : FilesAsked) (flaw : InputFlaw) (result : Status) → end_boards None → AsksOver words files → OpeningAnswer told files (Err flaw) → EndsAs taken faults before now (refused_line files flaw) Refused result → Ends taken faults told is_sound end_boards words before now result
+  ends_refused files flaw result left over refusal h = ends_due Refused (refused_line files flaw) result (inl (record { files = files; over = over; flaw = flaw; refusal = refusal; line = refl; boards = left })) h
 
-  pub ends_unread : (asked : RunAsked) (file : File) (result : Status) → end_boards None → AsksServed words (RunOf asked) → IsUnread told is_sound asked.files file → EndsAs taken faults before now (read_fault_line asked.files file) ReadFault result → Ends taken faults told is_sound end_boards words before now result
-  ends_unread asked file result left asks unread h = ends_due ReadFault (read_fault_line asked.files file) result (inl (record { asked = asked; is_asked = asks; file = file; unread = unread; line = refl; boards = left })) h
+  pub ends_unread : (files : FilesAsked) (file : File) (result : Status) → end_boards None → AsksOver words files → IsUnread told is_sound files file → EndsAs taken faults before now (read_fault_line files file) ReadFault result → Ends taken faults told is_sound end_boards words before now result
+  ends_unread files file result left over unread h = ends_due ReadFault (read_fault_line files file) result (inl (record { files = files; over = over; file = file; unread = unread; line = refl; boards = left })) h
 
   pub ends_run : (logs : List FeedLog) (text : List ℕ) (result : Status) → IsRunOf told is_sound end_boards words (status_of logs) text → EndsAs taken faults before now text (status_of logs) result → Ends taken faults told is_sound end_boards words before now result
   ends_run logs text result run h = ends_due (status_of logs) text result (due_of_run told is_sound end_boards words logs (status_of logs) text refl run) h
@@ -89,15 +81,19 @@ keeps_same None = tt
 keeps_same (Some xs) = refl
 
 -- want of memory
-pub wants_memory : {K : Type 0} (taken : K → Option (List ℕ)) (now : K) (words : List (List ℕ)) (asked : Command) → AsksServed words asked → WantsMemory (taken now) (taken now) words
+pub wants_memory : {K : Type 0} (taken : K → Option (List ℕ)) (now : K) (words : List (List ℕ)) (asked : Command) → Asks words asked → WantsMemory (taken now) (taken now) words
 wants_memory taken now words asked asks = record { asked = asked; is_asked = asks; kept = keeps_same (taken now) }
 
--- a run that its files stopped
-pub ends_stopped : {K : Type 0} (taken : K → Option (List ℕ)) (faults : K → ℕ) (told : Told) (is_sound : List ℕ → Type 0) (end_boards : Option Run → Type 0) (words : List (List ℕ)) (before now : K) (asked : RunAsked) → end_boards None → AsksServed words (RunOf asked) → (stop : InputStop) (result : Status)
-    → StopsOpening told is_sound asked.files stop → EndsStopped taken faults asked.files stop before now result → Ends taken faults told is_sound end_boards words before now result
-ends_stopped taken faults told is_sound end_boards words before now asked left asks (StopRefused flaw) result stops h = ends_refused taken faults told is_sound end_boards words before now asked flaw result left asks stops h
-ends_stopped taken faults told is_sound end_boards words before now asked left asks (StopUnread file) result stops h = ends_unread taken faults told is_sound end_boards words before now asked file result left asks stops h
-ends_stopped {K} taken faults told is_sound end_boards words before now asked left asks StopMemory result stops h =
+-- want of memory, where nothing was done
+pub ends_wanting : {K : Type 0} (taken : K → Option (List ℕ)) (faults : K → ℕ) (told : Told) (is_sound : List ℕ → Type 0) (end_boards : Option Run → Type 0) (words : List (List ℕ)) (before now : K) (asked : Command) → Asks words asked → (result : Status) → now ≡ before → result ≡ NoMemory → Ends taken faults told is_sound end_boards words before now result
+ends_wanting {K} taken faults told is_sound end_boards words before now asked asks result same is =
     let E : Status → Type 0 = Ends taken faults told is_sound end_boards words before now in
     let W : K → Type 0 = λ k. WantsMemory (taken before) (taken k) words in
-    subst E (sym h.1) (subst W (sym h.0) (wants_memory taken before words (RunOf asked) asks))
+    subst E (sym is) (subst W (sym same) (wants_memory taken before words asked asks))
+
+-- a run or a check that its files stopped
+pub ends_stopped : {K : Type 0} (taken : K → Option (List ℕ)) (faults : K → ℕ) (told : Told) (is_sound : List ℕ → Type 0) (end_boards : Option Run → Type 0) (words : List (List ℕ)) (before now : K) (files : FilesAsked) → end_boards None → AsksOver words files → (stop : InputStop) (result : Status)
+    → StopsOpening told is_sound files stop → EndsStopped taken faults files stop before now result → Ends taken faults told is_sound end_boards words before now result
+ends_stopped taken faults told is_sound end_boards words before now files left over (StopRefused flaw) result stops h = ends_refused taken faults told is_sound end_boards words before now files flaw result left over stops h
+ends_stopped taken faults told is_sound end_boards words before now files left over (StopUnread file) result stops h = ends_unread taken faults told is_sound end_boards words before now files file result left over stops h
+ends_stopped taken faults told is_sound end_boards words before now files left over StopMemory result stops h = ends_wanting taken faults told is_sound end_boards words before now over.asked over.is_asked result h.0 h.1

@@ -9,7 +9,7 @@ use Rattle.dm_outside.specs.Faults.{HasRisen}
 use Rattle.dm_input.specs.Input.{Told, IsHeld, Opening, OpeningAnswer, IsUnread}
 use Rattle.dm_input.specs.Order.{SameFlaw}
 use Rattle.dm_input.specs.Lines.{refused_line, read_fault_line}
-use Rattle.dm_words.specs.Words.{RunAsked, RunOf, GenAsked, GenOf}
+use Rattle.dm_words.specs.Words.{RunAsked, RunOf, CheckAsked, CheckOf, GenAsked, GenOf, FilesAsked, Asks, AsksNothing}
 use Rattle.dm_input.specs.declared.flaws.InputFlaw.{InputFlaw}
 use Rattle.dm_words.proofs.OneCommand.{one_command}
 use Rattle.dm_input.proofs.OneOpening.{opening_is_one, not_after}
@@ -20,16 +20,16 @@ use Rattle.dm_cert.specs.declared.replies.FeedLog.{FeedLog}
 use Rattle.dm_cert.specs.RunTexts.{Run}
 use Rattle.dm_rounds.proofs.Places.{behind_one}
 use Rattle.dm_program.specs.declared.status.Status.{Status}
-use Rattle.dm_program.specs.declared.status.Status.TheVariants.{Ok as Well, Usage, Refused, ReadFault, WriteFault, NoMemory}
-use Rattle.dm_program.specs.Served.{AsksServed, AsksNothingServed}
+use Rattle.dm_program.specs.declared.status.Status.TheVariants.{Ok as Well, Bad, Usage, Refused, ReadFault, WriteFault, NoMemory}
 use Rattle.dm_program.specs.Feeds.{IsLogOfName, AreLogsOf, is_fault, is_long, status_of}
 use Rattle.dm_program.specs.Headline.{IsRunOf}
-use Rattle.dm_program.specs.Ends.{Ends, EndsAt, AreSound, AreShort}
+use Rattle.dm_program.specs.Checked.{IsVerdictFor}
+use Rattle.dm_program.specs.Ends.{Ends, AsksOver, files_of_command, EndsAt, AreSound, AreShort}
 
 some_is : {X : Type 0} (x y : X) → Some x ≡ Some y → x ≡ y
 some_is x y e = cc
 
-held_is : (told : Told) (name x y : List ℕ) → IsSome told → IsHeld told name x → IsHeld told name y → x ≡ y
+pub held_is : (told : Told) (name x y : List ℕ) → IsSome told → IsHeld told name x → IsHeld told name y → x ≡ y
 held_is None name x y known h k = absurd (false≢true known)
 held_is (Some files) name x y known h k = some_is x y (sym h ∙ k)
 
@@ -38,6 +38,26 @@ run_is x y e = cc
 
 no_day : (run : RunAsked) (day : GenAsked) → RunOf run ≡ GenOf day → ⊥
 no_day run day e = cc
+
+no_check : (run : RunAsked) (check : CheckAsked) → RunOf run ≡ CheckOf check → ⊥
+no_check run check e = cc
+
+none_is_some : (files : FilesAsked) → None ≡ Some files → ⊥
+none_is_some files e = cc
+
+-- words name files at most once
+pub same_files : (words : List (List ℕ)) (one other : FilesAsked) → AsksOver words one → AsksOver words other → one ≡ other
+same_files words one other a b = some_is one other (sym a.reads ∙ (ap files_of_command (one_command words a.asked b.asked a.is_asked b.is_asked) ∙ b.reads))
+
+-- words that ask for a generated day name none
+no_files : (words : List (List ℕ)) (files : FilesAsked) (day : GenAsked) → AsksOver words files → Asks words (GenOf day) → ⊥
+no_files words files day over asks = none_is_some files (ap files_of_command (one_command words (GenOf day) over.asked asks over.is_asked) ∙ over.reads)
+
+run_over : (words : List (List ℕ)) (run : RunAsked) → Asks words (RunOf run) → AsksOver words run.files
+run_over words run asks = record { asked = RunOf run; is_asked = asks; reads = refl }
+
+check_over : (words : List (List ℕ)) (check : CheckAsked) → Asks words (CheckOf check) → AsksOver words check.files
+check_over words check asks = record { asked = CheckOf check; is_asked = asks; reads = refl }
 
 -- ---- feeds that end well
 
@@ -70,48 +90,81 @@ name_ends told is_sound name bytes log known held short sound (inl l) =
 name_ends told is_sound name bytes log known held short sound (inr l) = absurd (l.cause sound)
 
 module _ {K : Type 0} (taken : K → Option (List ℕ)) (faults : K → ℕ) (told : Told) (is_sound : List ℕ → Type 0) (end_boards : Option Run → Type 0) (words : List (List ℕ)) (before now : K) where
-  -- how a run ends whose words ask for nothing
-  pub ends_outside : AsksNothingServed words → (result : Status) → Ends taken faults told is_sound end_boards words before now result → (result ≡ Usage) ⊎ (result ≡ WriteFault)
+  -- how a call ends whose words ask for nothing
+  pub ends_outside : AsksNothing words → (result : Status) → Ends taken faults told is_sound end_boards words before now result → (result ≡ Usage) ⊎ (result ≡ WriteFault)
   ends_outside nothing Usage h = inl refl
   ends_outside nothing WriteFault h = inr refl
-  ends_outside nothing Well h = elim (h.holds) [ inl r ↦ absurd (nothing (RunOf r.asked) r.is_asked) | inr d ↦ absurd (nothing (GenOf d.asked) d.is_asked) ]
-  ends_outside nothing Refused h = elim (h.holds) [ inl r ↦ absurd (nothing (RunOf r.asked) r.is_asked) | inr r ↦ absurd (nothing (RunOf r.asked) r.is_asked) ]
-  ends_outside nothing ReadFault h = elim (h.holds) [ inl r ↦ absurd (nothing (RunOf r.asked) r.is_asked) | inr r ↦ absurd (nothing (RunOf r.asked) r.is_asked) ]
+  ends_outside nothing Well h =
+      elim (h.holds) [
+        | inl r ↦ absurd (nothing (RunOf r.asked) r.is_asked)
+        | inr other ↦ elim other [ inl d ↦ absurd (nothing (GenOf d.asked) d.is_asked) | inr v ↦ absurd (nothing (CheckOf v.asked) v.is_asked) ]
+      ]
+  ends_outside nothing Bad h = absurd (nothing (CheckOf h.holds.asked) h.holds.is_asked)
+  ends_outside nothing Refused h =
+      elim (h.holds) [
+        | inl r ↦ absurd (nothing r.over.asked r.over.is_asked)
+        | inr other ↦ elim other [ inl t ↦ absurd (nothing (CheckOf t.asked) t.is_asked) | inr r ↦ absurd (nothing (RunOf r.asked) r.is_asked) ]
+      ]
+  ends_outside nothing ReadFault h =
+      elim (h.holds) [
+        | inl r ↦ absurd (nothing r.over.asked r.over.is_asked)
+        | inr other ↦ elim other [ inl t ↦ absurd (nothing (CheckOf t.asked) t.is_asked) | inr r ↦ absurd (nothing (RunOf r.asked) r.is_asked) ]
+      ]
   ends_outside nothing NoMemory h = absurd (nothing h.asked h.is_asked)
 
-  module _ (asked : RunAsked) (asks : AsksServed words (RunOf asked)) (known : IsSome told) where
-    same_asked : (other : RunAsked) → AsksServed words (RunOf other) → other ≡ asked
-    same_asked other also = run_is other asked (one_command words (RunOf other) (RunOf asked) also.0 asks.0)
+  module _ (files : FilesAsked) (over : AsksOver words files) (known : IsSome told) (flaw : InputFlaw) (first : OpeningAnswer told files (Err flaw)) where
+    -- what is refused is not opened
+    never_opened : (other : FilesAsked) (opening : Opening) → AsksOver words other → OpeningAnswer told other (Ok opening) → ⊥
+    never_opened other opening also opens =
+        let here : OpeningAnswer told files (Ok opening) = subst (λ (f : FilesAsked). OpeningAnswer told f (Ok opening)) (same_files words other files also over) opens in
+        opening_is_one told files known (Ok opening) (Err flaw) here first
 
-    opens_here : (status : Status) (text : List ℕ) (r : IsRunOf told is_sound end_boards words status text) → OpeningAnswer told asked.files (Ok r.opening)
-    opens_here status text r = subst (λ (a : RunAsked). OpeningAnswer told a.files (Ok r.opening)) (same_asked r.asked r.is_asked) r.opens
+    no_run : (status : Status) (text : List ℕ) → IsRunOf told is_sound end_boards words status text → ⊥
+    no_run status text r = never_opened r.asked.files r.opening (run_over words r.asked r.is_asked) r.opens
 
-    -- how a run ends of which this is the first refusal
-    pub ends_at : (flaw : InputFlaw) → OpeningAnswer told asked.files (Err flaw) → (result : Status) → Ends taken faults told is_sound end_boards words before now result → EndsAt asked flaw (taken before) (taken now) result
-    ends_at flaw first Well h =
-        elim (h.holds) as (λ _. EndsAt asked flaw (taken before) (taken now) Well) [
-          | inl r ↦ absurd (opening_is_one told asked.files known (Ok r.opening) (Err flaw) (opens_here Well h.text r) first)
-          | inr d ↦ absurd (no_day asked d.asked (one_command words (RunOf asked) (GenOf d.asked) asks.0 d.is_asked.0))
+    no_verdict : (status : Status) (text : List ℕ) → IsVerdictFor told end_boards words status text → ⊥
+    no_verdict status text v = never_opened v.asked.files v.opening (check_over words v.asked v.is_asked) v.opens
+
+    -- how a call ends of which this is the first refusal
+    pub ends_at : (result : Status) → Ends taken faults told is_sound end_boards words before now result → EndsAt files flaw (taken before) (taken now) result
+    ends_at Well h =
+        elim (h.holds) as (λ _. EndsAt files flaw (taken before) (taken now) Well) [
+          | inl r ↦ absurd (no_run Well h.text r)
+          | inr other ↦ elim other [ inl d ↦ absurd (no_files words files d.asked over d.is_asked) | inr v ↦ absurd (no_verdict Well h.text v) ]
         ]
-    ends_at flaw first Usage h = absurd (h.holds.outside (RunOf asked) asks)
-    ends_at flaw first Refused h =
-        elim (h.holds) as (λ _. EndsAt asked flaw (taken before) (taken now) Refused) [
+    ends_at Bad h = absurd (no_verdict Bad h.text h.holds)
+    ends_at Usage h = absurd (h.holds.outside over.asked over.is_asked)
+    ends_at Refused h =
+        elim (h.holds) as (λ _. EndsAt files flaw (taken before) (taken now) Refused) [
           | inl r ↦
-              let same = same_asked r.asked r.is_asked in
-              let shown : SameFlaw r.flaw flaw = opening_is_one told asked.files known (Err r.flaw) (Err flaw) (subst (λ (a : RunAsked). OpeningAnswer told a.files (Err r.flaw)) same r.refusal) first in
-              record { text = h.text; holds = (r.flaw, shown, r.line ∙ ap (λ (a : RunAsked). refused_line a.files r.flaw) same); appended = h.appended }
-          | inr r ↦ absurd (opening_is_one told asked.files known (Ok r.opening) (Err flaw) (opens_here Refused h.text r) first)
+              let same : r.files ≡ files = same_files words r.files files r.over over in
+              let shown : SameFlaw r.flaw flaw = opening_is_one told files known (Err r.flaw) (Err flaw) (subst (λ (f : FilesAsked). OpeningAnswer told f (Err r.flaw)) same r.refusal) first in
+              record { text = h.text; holds = (r.flaw, shown, r.line ∙ ap (λ (f : FilesAsked). refused_line f r.flaw) same); appended = h.appended }
+          | inr other ↦ elim other as (λ _. EndsAt files flaw (taken before) (taken now) Refused) [
+            | inl t ↦ absurd (never_opened t.asked.files t.opening (check_over words t.asked t.is_asked) t.opens)
+            | inr r ↦ absurd (no_run Refused h.text r)
+          ]
         ]
-    ends_at flaw first ReadFault h =
-        elim (h.holds) as (λ _. EndsAt asked flaw (taken before) (taken now) ReadFault) [
+    ends_at ReadFault h =
+        elim (h.holds) as (λ _. EndsAt files flaw (taken before) (taken now) ReadFault) [
           | inl r ↦
-              let same = same_asked r.asked r.is_asked in
-              let unread : IsUnread told is_sound asked.files r.file = subst (λ (a : RunAsked). IsUnread told is_sound a.files r.file) same r.unread in
-              record { text = h.text; holds = (r.file, not_after told asked.files known flaw first r.file unread.passes, r.line ∙ ap (λ (a : RunAsked). read_fault_line a.files r.file) same); appended = h.appended }
-          | inr r ↦ absurd (opening_is_one told asked.files known (Ok r.opening) (Err flaw) (opens_here ReadFault h.text r) first)
+              let same : r.files ≡ files = same_files words r.files files r.over over in
+              let unread : IsUnread told is_sound files r.file = subst (λ (f : FilesAsked). IsUnread told is_sound f r.file) same r.unread in
+              record { text = h.text; holds = (r.file, not_after told files known flaw first r.file unread.passes, r.line ∙ ap (λ (f : FilesAsked). read_fault_line f r.file) same); appended = h.appended }
+          | inr other ↦ elim other as (λ _. EndsAt files flaw (taken before) (taken now) ReadFault) [
+            | inl t ↦ absurd (never_opened t.asked.files t.opening (check_over words t.asked t.is_asked) t.opens)
+            | inr r ↦ absurd (no_run ReadFault h.text r)
+          ]
         ]
-    ends_at flaw first WriteFault h = tt
-    ends_at flaw first NoMemory h = tt
+    ends_at WriteFault h = tt
+    ends_at NoMemory h = tt
+
+  module _ (asked : RunAsked) (asks : Asks words (RunOf asked)) (known : IsSome told) where
+    same_asked : (other : RunAsked) → Asks words (RunOf other) → other ≡ asked
+    same_asked other also = run_is other asked (one_command words (RunOf other) (RunOf asked) also asks)
+
+    never_check : (check : CheckAsked) → Asks words (CheckOf check) → ⊥
+    never_check check also = no_check asked check (one_command words (RunOf asked) (CheckOf check) asks also)
 
     -- the feeds of a run all end well where each is short and sound
     run_ends_well : AreShort told asked → AreSound is_sound asked → (status : Status) (text : List ℕ) → IsRunOf told is_sound end_boards words status text → status ≡ Well
@@ -131,16 +184,20 @@ module _ {K : Type 0} (taken : K → Option (List ℕ)) (faults : K → ℕ) (to
     ends_well opening opens short sound unrisen Well h = inl refl
     ends_well opening opens short sound unrisen NoMemory h = inr refl
     ends_well opening opens short sound unrisen WriteFault h = absurd (unrisen h.front.risen)
+    ends_well opening opens short sound unrisen Bad h = absurd (never_check h.holds.asked h.holds.is_asked)
     ends_well opening opens short sound unrisen Usage h = absurd (h.holds.outside (RunOf asked) asks)
     ends_well opening opens short sound unrisen Refused h =
         elim (h.holds) as (λ _. (Refused ≡ Well) ⊎ (Refused ≡ NoMemory)) [
-          | inl r ↦ absurd (opening_is_one told asked.files known (Ok opening) (Err r.flaw) opens (subst (λ (a : RunAsked). OpeningAnswer told a.files (Err r.flaw)) (same_asked r.asked r.is_asked) r.refusal))
-          | inr r ↦ inl (run_ends_well short sound Refused h.text r)
+          | inl r ↦
+              let same : r.files ≡ asked.files = same_files words r.files asked.files r.over (run_over words asked asks) in
+              absurd (opening_is_one told asked.files known (Ok opening) (Err r.flaw) opens (subst (λ (f : FilesAsked). OpeningAnswer told f (Err r.flaw)) same r.refusal))
+          | inr other ↦ elim other as (λ _. (Refused ≡ Well) ⊎ (Refused ≡ NoMemory)) [ inl t ↦ absurd (never_check t.asked t.is_asked) | inr r ↦ inl (run_ends_well short sound Refused h.text r) ]
         ]
     ends_well opening opens short sound unrisen ReadFault h =
         elim (h.holds) as (λ _. (ReadFault ≡ Well) ⊎ (ReadFault ≡ NoMemory)) [
           | inl r ↦
-              let unread : IsUnread told is_sound asked.files r.file = subst (λ (a : RunAsked). IsUnread told is_sound a.files r.file) (same_asked r.asked r.is_asked) r.unread in
+              let same : r.files ≡ asked.files = same_files words r.files asked.files r.over (run_over words asked asks) in
+              let unread : IsUnread told is_sound asked.files r.file = subst (λ (f : FilesAsked). IsUnread told is_sound f r.file) same r.unread in
               absurd (unread.unsound (sound.files r.file unread.name unread.named))
-          | inr r ↦ inl (run_ends_well short sound ReadFault h.text r)
+          | inr other ↦ elim other as (λ _. (ReadFault ≡ Well) ⊎ (ReadFault ≡ NoMemory)) [ inl t ↦ absurd (never_check t.asked t.is_asked) | inr r ↦ inl (run_ends_well short sound ReadFault h.text r) ]
         ]

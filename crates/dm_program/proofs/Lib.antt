@@ -1,7 +1,9 @@
 pub mod Asked
 pub mod Boarding
+pub mod Checked
 pub mod Closing
 pub mod Generated
+pub mod Judging
 pub mod Converse
 pub mod Opened
 pub mod Printed

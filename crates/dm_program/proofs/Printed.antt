@@ -1,16 +1,13 @@
 -- A run that is answered has a spelling, and is true.
-use Rattle.std.proofs.Common.{◌≡◌, ◌≢◌, ℕ, suc, zero, ◌+◌, ◌<◌, ◌≤◌, inl, inr, Bool, cond, true, false, List, [], ◌∷◌, ◌++◌, length, Option, Some, None, Ok, refl, sym, ap, subst, ◌∙◌, arith, zero-add, get_or}
-use Rattle.std.specs.Prelude.{◌==◌, IfSome}
-use Rattle.std.proofs.lemmas.List.FromFn.{map-range_with_len_more}
-use Rattle.std.proofs.lemmas.List.Sums.{sum_by-append, sum_by-cons}
+use Rattle.std.proofs.Common.{◌≡◌, ℕ, ◌≤◌, inl, inr, List, [], length, Option, Some, None, Ok, refl, sym, ap, subst, ◌∙◌, arith, get_or}
+use Rattle.std.specs.Prelude.{IfSome}
 use Rattle.std.proofs.lemmas.Option.{slice_get_within, slice_get-get_or}
-use Rattle.std.proofs.lemmas.Bool.{cases_eq, eq-eqb, ne_eqb, cases_lt}
 use Rattle.dm_network.specs.Net.{Net}
 use Rattle.dm_rows.specs.Rows.{RowsValue}
 use Rattle.dm_rows.specs.Cost.{cost_of}
 use Rattle.dm_rows.specs.Timetable.{IsLeast}
 use Rattle.dm_input.specs.Input.{Told, IsHeld, Opening, OpeningAnswer}
-use Rattle.dm_words.specs.Words.{RunAsked, RunOf}
+use Rattle.dm_words.specs.Words.{RunAsked, RunOf, Asks}
 use Rattle.dm_cert.specs.declared.replies.FeedLog.{FeedLog}
 use Rattle.dm_cert.specs.Logs.{names, AreTrueLogs, KeepsRounds}
 use Rattle.dm_cert.specs.declared.notes.Note.{Note}
@@ -20,53 +17,11 @@ use Rattle.dm_desk.specs.Answered.{times}
 use Rattle.dm_rounds.specs.Rounds.{IsLogFrom, IsLogFor}
 use Rattle.dm_table.specs.Value.{TableValue}
 use Rattle.dm_program.specs.declared.status.Status.{Status}
-use Rattle.dm_program.specs.Served.{AsksServed}
 use Rattle.dm_program.specs.Feeds.{IsLogOfHeld, IsLogOfName, AreLogsOf, status_of}
 use Rattle.dm_program.specs.Headline.{IsRunOf}
-use Rattle.dm_crew.specs.AtOnce.{numbers_to, table_desk, AnswersDay}
+use Rattle.dm_crew.specs.AtOnce.{table_desk, AnswersDay}
+use Rattle.dm_crew.proofs.Days.{each_once}
 use Rattle.dm_program.specs.Inside.Stages.{IsOpenedAs, IsOpened, AreOpened, AreWithin, run_in}
-
--- ---- numbers
-
-one_more_number : (n : ℕ) → numbers_to (n + 1) ≡ numbers_to n ++ (n + 1) ∷ []
-one_more_number n = map-range_with_len_more (λ k. k + 1) 0 n n (zero-add n)
-
-abbrev one_where : Bool → ℕ
-one_where b = cond b 1 0
-
-abbrev one_if : ℕ → ℕ → ℕ
-one_if n m = one_where (m == n)
-
-if_is : (b c : Bool) → b ≡ c → one_where b ≡ one_where c
-if_is b c e = ap one_where e
-
-is_one : (n m : ℕ) → m ≡ n → one_if n m ≡ 1
-is_one n m same = if_is (m == n) true (eq-eqb m n same)
-
-is_none : (n m : ℕ) → m ≢ n → one_if n m ≡ 0
-is_none n m other = if_is (m == n) false (ne_eqb m n other)
-
-with_last : (n m : ℕ) (numbers : List ℕ) → times n (numbers ++ m ∷ []) ≡ times n numbers + one_if n m
-with_last n m numbers = omega (arith, sum_by-append (one_if n) numbers (m ∷ []), sum_by-cons (one_if n) m [])
-
-one_more : (len n : ℕ) → times n (numbers_to (suc len)) ≡ times n (numbers_to len) + one_if n (len + 1)
-one_more len n =
-    let size : suc len ≡ len + 1 = omega arith in
-    ap (times n) (ap numbers_to size ∙ one_more_number len) ∙ with_last n (len + 1) (numbers_to len)
-
-none_above : (len n : ℕ) → len < n → times n (numbers_to len) ≡ 0
-none_above zero n low = refl
-none_above (suc len) n low = omega (arith, one_more len n, is_none n (len + 1) (λ e. omega arith), none_above len n (omega arith))
-
-pub each_once : (len n : ℕ) → 0 < n → n ≤ len → times n (numbers_to len) ≡ 1
-each_once zero n some low = absurd (omega arith)
-each_once (suc len) n some low =
-    elim (cases_eq (len + 1) n) [
-      | inl same ↦ omega (arith, one_more len n, is_one n (len + 1) same, none_above len n (omega arith))
-      | inr other ↦
-          let below : n ≤ len = elim (cases_lt len n) [ inl lt ↦ absurd (other (omega arith)) | inr le ↦ le ] in
-          omega (arith, one_more len n, is_none n (len + 1) other, each_once len n some below)
-    ]
 
 -- ---- one run
 
@@ -125,7 +80,7 @@ module _ {S : Type 0} (left : S → Option (List ℕ)) (source_sound : S → Typ
 
   -- ---- its text
 
-  pub is_run_of : (told : Told) (is_sound : List ℕ → Type 0) (end_boards : Option Run → Type 0) (words : List (List ℕ)) (asked : RunAsked) (opening : Opening) → AsksServed words (RunOf asked) → AreWithin asked → OpeningAnswer told asked.files (Ok opening) → opening.net ≡ net → opening.rows ≡ rows → price ≡ asked.files.penalty
+  pub is_run_of : (told : Told) (is_sound : List ℕ → Type 0) (end_boards : Option Run → Type 0) (words : List (List ℕ)) (asked : RunAsked) (opening : Opening) → Asks words (RunOf asked) → AreWithin asked → OpeningAnswer told asked.files (Ok opening) → opening.net ≡ net → opening.rows ≡ rows → price ≡ asked.files.penalty
       → batch ≡ asked.batch → AreOpened left source_sound told is_sound asked.feeds feeds → FitsRun (run_in table logs notes) → AreTrueNotes (length table.history) notes → end_boards (Some (run_in table logs notes)) → (status : Status) → status ≡ status_of logs → IsRunOf told is_sound end_boards words status (run_text 2 (run_in table logs notes))
   is_run_of told is_sound end_boards words asked opening asks within opens is_net is_rows is_price is_batch opened fits noted boards status is_status =
       let of = logs_of_names told is_sound asked.feeds opened in

@@ -4,14 +4,13 @@
 -- is_sound, what it tells of an event.
 use Rattle.std.specs.Prelude.{ℕ, ◌≡◌, List, Option, None, Some}
 use Rattle.dm_cert.specs.RunTexts.{Run}
-use Rattle.dm_publish.specs.Since.{AreKeptSince, AllShow}
+use Rattle.dm_publish.specs.Since.{AreUpSince}
 
 -- The list keeps its boards' stops in their order. Each note of the run names a board by its place and with its stop, whose
 -- count has risen and which was not sound for the network. Each board that no note names shows the final times of its stop,
 -- where it told at first what it shows.
-pub record ShowRun {B : Type 0} (place : B → ℕ) (times : B → Option (ℕ → Option ℕ)) (faults : B → ℕ) (is_sound : B → ℕ → Type 0) (old new : List B) (run : Run) : Type 0 where
-  pub kept : AreKeptSince place times faults is_sound run.net old new run.notes
-  pub shown : AllShow place times run.net run.times run.notes old new
+abbrev pub ShowRun : {B : Type 0} → (B → ℕ) → (B → Option (ℕ → Option ℕ)) → (B → ℕ) → (B → ℕ → Type 0) → List B → List B → Run → Type 0
+ShowRun place times faults is_sound old new run = AreUpSince place times faults is_sound run.net run.times run.notes old new
 
 -- of a call that ends without a run they are as before
 abbrev pub EndBoards : {B : Type 0} → (B → ℕ) → (B → Option (ℕ → Option ℕ)) → (B → ℕ) → (B → ℕ → Type 0) → List B → List B → Option Run → Type 0

@@ -1,4 +1,4 @@
--- How a run ends: what is due to be written for each status, and why. What becomes of the boards is told of a run, or of
+-- How a call ends: what is due to be written for each status, and why. What becomes of the boards is told of a run, or of
 -- none where there is no run.
 use Rattle.std.specs.Prelude.{ℕ, ◌≡◌, ◌≤◌, ◌⊎◌, List, length, slice_get, Option, None, Some, Err}
 use Rattle.std.specs.Io.KnownBytes.{Appends, Keeps}
@@ -6,48 +6,65 @@ use Rattle.dm_base.specs.declared.limits.TheConstants.{FEED}
 use Rattle.dm_input.specs.Input.{Told, IsHeld, OpeningAnswer, IsUnread, file_name}
 use Rattle.dm_input.specs.Lines.{usage_line, refused_line, read_fault_line}
 use Rattle.dm_input.specs.Order.{SameFlaw, IsReadBy}
-use Rattle.dm_words.specs.Words.{Command, RunAsked, RunOf}
+use Rattle.dm_words.specs.Words.{Command, FilesAsked, RunAsked, CheckAsked, RunOf, CheckOf, GenOf, Asks, AsksNothing}
 use Rattle.dm_cert.specs.RunTexts.{Run}
 use Rattle.dm_input.specs.declared.flaws.File.{File}
 use Rattle.dm_input.specs.declared.flaws.InputFlaw.{InputFlaw}
 use Rattle.dm_outside.specs.Printing.{TakesAll, TakesFront}
 use Rattle.dm_program.specs.declared.status.Status.{Status}
-use Rattle.dm_program.specs.declared.status.Status.TheVariants.{Ok, Usage, Refused, ReadFault, WriteFault, NoMemory}
-use Rattle.dm_program.specs.Served.{AsksServed, AsksNothingServed}
+use Rattle.dm_program.specs.declared.status.Status.TheVariants.{Ok, Bad, Usage, Refused, ReadFault, WriteFault, NoMemory}
 use Rattle.dm_program.specs.Headline.{IsRunOf}
 use Rattle.dm_program.specs.Generated.{IsSummaryFor}
+use Rattle.dm_program.specs.Checked.{IsVerdictFor, IsLongText, IsUnreadText}
+
+-- the files that a command reads before all else
+abbrev pub files_of_command : Command → Option FilesAsked
+files_of_command (RunOf asked) = Some asked.files
+files_of_command (CheckOf asked) = Some asked.files
+files_of_command (GenOf asked) = None
+
+-- the words ask for a run, or for a check, over these files
+pub record AsksOver (words : List (List ℕ)) (files : FilesAsked) : Type 0 where
+  pub asked : Command
+  pub is_asked : Asks words asked
+  pub reads : files_of_command asked ≡ Some files
 
 -- the words ask for nothing
 pub record IsUsage (end_boards : Option Run → Type 0) (words : List (List ℕ)) (text : List ℕ) : Type 0 where
-  pub outside : AsksNothingServed words
+  pub outside : AsksNothing words
   pub line : text ≡ usage_line
   pub boards : end_boards None
 
 -- what is refused first, of bytes that are those that the shelf tells
 pub record IsRefusal (told : Told) (end_boards : Option Run → Type 0) (words : List (List ℕ)) (text : List ℕ) : Type 0 where
-  pub asked : RunAsked
-  pub is_asked : AsksServed words (RunOf asked)
+  pub files : FilesAsked
+  pub over : AsksOver words files
   pub flaw : InputFlaw
-  pub refusal : OpeningAnswer told asked.files (Err flaw)
-  pub line : text ≡ refused_line asked.files flaw
+  pub refusal : OpeningAnswer told files (Err flaw)
+  pub line : text ≡ refused_line files flaw
   pub boards : end_boards None
 
 -- a file that the shelf does not tell sound, where nothing is refused before it
 pub record IsReadFault (told : Told) (is_sound : List ℕ → Type 0) (end_boards : Option Run → Type 0) (words : List (List ℕ)) (text : List ℕ) : Type 0 where
-  pub asked : RunAsked
-  pub is_asked : AsksServed words (RunOf asked)
+  pub files : FilesAsked
+  pub over : AsksOver words files
   pub file : File
-  pub unread : IsUnread told is_sound asked.files file
-  pub line : text ≡ read_fault_line asked.files file
+  pub unread : IsUnread told is_sound files file
+  pub line : text ≡ read_fault_line files file
   pub boards : end_boards None
 
--- The text that is due at a status, of a run or of a generated day; a write fault and want of memory have none of their own.
--- A run whose feeds did not all end well has its whole text.
+-- The text that is due at a status, of a run, of a generated day or of a checked text; a write fault and want of memory have
+-- none of their own. A run whose feeds did not all end well has its whole text.
 abbrev pub IsDue : Told → (List ℕ → Type 0) → (Option Run → Type 0) → List (List ℕ) → Status → List ℕ → Type 0
-IsDue told is_sound end_boards words Ok text = IsRunOf told is_sound end_boards words Ok text ⊎ IsSummaryFor end_boards words text
+IsDue told is_sound end_boards words Ok text =
+    IsRunOf told is_sound end_boards words Ok text ⊎ (IsSummaryFor end_boards words text ⊎ IsVerdictFor told end_boards words Ok text)
+IsDue told is_sound end_boards words Bad text = IsVerdictFor told end_boards words Bad text
 IsDue told is_sound end_boards words Usage text = IsUsage end_boards words text
-IsDue told is_sound end_boards words Refused text = IsRefusal told end_boards words text ⊎ IsRunOf told is_sound end_boards words Refused text
-IsDue told is_sound end_boards words ReadFault text = IsReadFault told is_sound end_boards words text ⊎ IsRunOf told is_sound end_boards words ReadFault text
+IsDue told is_sound end_boards words Refused text =
+    IsRefusal told end_boards words text ⊎ (IsLongText told end_boards words text ⊎ IsRunOf told is_sound end_boards words Refused text)
+IsDue told is_sound end_boards words ReadFault text =
+    IsReadFault told is_sound end_boards words text
+    ⊎ (IsUnreadText told is_sound end_boards words text ⊎ IsRunOf told is_sound end_boards words ReadFault text)
 IsDue told is_sound end_boards words WriteFault text = ⊥
 IsDue told is_sound end_boards words NoMemory text = ⊥
 
@@ -67,10 +84,10 @@ pub record FailsToWrite {K : Type 0} (taken : K → Option (List ℕ)) (faults :
 -- the words ask for something, for which there was not enough memory, and nothing was written
 pub record WantsMemory (before now : Option (List ℕ)) (words : List (List ℕ)) : Type 0 where
   pub asked : Command
-  pub is_asked : AsksServed words asked
+  pub is_asked : Asks words asked
   pub kept : Keeps before now
 
--- how a run ends, by its status
+-- how a call ends, by its status
 abbrev pub Ends : {K : Type 0} → (K → Option (List ℕ)) → (K → ℕ) → Told → (List ℕ → Type 0) → (Option Run → Type 0) → List (List ℕ) → K → K → Status → Type 0
 Ends taken faults told is_sound end_boards words before now WriteFault = FailsToWrite taken faults before now (IsDue told is_sound end_boards words)
 Ends taken faults told is_sound end_boards words before now NoMemory = WantsMemory (taken before) (taken now) words
@@ -82,17 +99,32 @@ EndsAs taken faults before now text status result =
     ((result ≡ status) × TakesAll taken faults before now text)
     ⊎ ((result ≡ WriteFault) × TakesFront taken faults before now text)
 
--- How a run ends of which this is the first refusal: with its line, in which another cycle may be shown, or with a read
+-- How a call ends of which this is the first refusal: with its line, in which another cycle may be shown, or with a read
 -- fault at its file or an earlier one, or with a write fault or want of memory.
-abbrev pub EndsAt : RunAsked → InputFlaw → Option (List ℕ) → Option (List ℕ) → Status → Type 0
-EndsAt asked flaw before now Refused =
-    Writes before now (λ text. (shown : InputFlaw) × SameFlaw shown flaw × (text ≡ refused_line asked.files shown))
-EndsAt asked flaw before now ReadFault =
-    Writes before now (λ text. (file : File) × IsReadBy file flaw × (text ≡ read_fault_line asked.files file))
-EndsAt asked flaw before now WriteFault = Unit {0}
-EndsAt asked flaw before now NoMemory = Unit {0}
-EndsAt asked flaw before now Ok = ⊥
-EndsAt asked flaw before now Usage = ⊥
+abbrev pub EndsAt : FilesAsked → InputFlaw → Option (List ℕ) → Option (List ℕ) → Status → Type 0
+EndsAt files flaw before now Refused =
+    Writes before now (λ text. (shown : InputFlaw) × SameFlaw shown flaw × (text ≡ refused_line files shown))
+EndsAt files flaw before now ReadFault =
+    Writes before now (λ text. (file : File) × IsReadBy file flaw × (text ≡ read_fault_line files file))
+EndsAt files flaw before now WriteFault = Unit {0}
+EndsAt files flaw before now NoMemory = Unit {0}
+EndsAt files flaw before now Ok = ⊥
+EndsAt files flaw before now Bad = ⊥
+EndsAt files flaw before now Usage = ⊥
+
+-- How a call ends to which this line is due at this status: so, but for a read fault, a write fault and want of memory.
+abbrev pub EndsTold : Status → List ℕ → Option (List ℕ) → Option (List ℕ) → Status → Type 0
+EndsTold status line before now result =
+    ((result ≡ status) × Writes before now (λ text. text ≡ line)) ⊎ ((result ≡ ReadFault) ⊎ ((result ≡ WriteFault) ⊎ (result ≡ NoMemory)))
+
+-- the words ask for no run
+abbrev pub AsksNoRun : List (List ℕ) → Type 0
+AsksNoRun words = (asked : RunAsked) → Asks words (RunOf asked) → ⊥
+
+-- the shelf tells each name of the check sound
+pub record IsSoundFor (is_sound : List ℕ → Type 0) (asked : CheckAsked) : Type 0 where
+  pub files : (file : File) (name : List ℕ) → file_name asked.files file ≡ Some name → is_sound name
+  pub text : is_sound asked.text
 
 -- the shelf tells each name of the run sound
 pub record AreSound (is_sound : List ℕ → Type 0) (asked : RunAsked) : Type 0 where

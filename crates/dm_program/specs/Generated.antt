@@ -1,16 +1,15 @@
 -- What is printed of a generated day.
 use Rattle.std.specs.Prelude.{ℕ, ◌≡◌, List, Option, None}
-use Rattle.dm_words.specs.Words.{GenAsked, GenOf}
+use Rattle.dm_words.specs.Words.{GenAsked, GenOf, Asks}
 use Rattle.dm_cert.specs.RunTexts.{Run}
 use Rattle.dm_report.specs.declared.summaries.Summary.{Summary}
 use Rattle.dm_report.specs.Summaries.{summary_text}
 use Rattle.dm_summary.specs.Summed.{IsSummaryOf}
-use Rattle.dm_program.specs.Served.{AsksServed}
 
 -- the text is the summary of the day that the words ask for, at their penalty; of boards it is no run
 pub record IsSummaryFor (end_boards : Option Run → Type 0) (words : List (List ℕ)) (text : List ℕ) : Type 0 where
   pub asked : GenAsked
-  pub is_asked : AsksServed words (GenOf asked)
+  pub is_asked : Asks words (GenOf asked)
   pub summary : Summary
   pub is_summary : IsSummaryOf asked.number asked.trains asked.penalty summary
   pub is_text : text ≡ summary_text summary

@@ -1,6 +1,8 @@
--- What is done of what words ask for, what becomes of boards, what a run's text is, which logs answer its feeds, and how a run ends.
-pub mod Served
+-- What becomes of boards, what a run's text is, which logs answer its feeds, what is printed of generated days and of checked
+-- texts, and how a call ends.
 pub mod Generated
+pub mod Verdicts
+pub mod Checked
 pub mod Boards
 pub mod Headline
 pub mod Feeds

@@ -3,9 +3,12 @@ ghost use Rattle.std.specs.Prelude.{◌≡◌, ◌≤◌};
 ghost use Rattle.dm_input.specs.Lines.{usage_line, refused_line, read_fault_line};
 ghost use Rattle.dm_words.specs.Asked.{files_of};
 ghost use Rattle.dm_program.specs.Ends.{EndsAs};
+ghost use Rattle.dm_program.specs.Verdicts.{verdict_line, verdict_status, long_text_line, unread_text_line};
 ghost use Rattle.dm_program.specs.Inside.Stages.{EndsStopped};
 
 use crate::status::Status;
+use crate::verdicts::{put_long_text, put_unread_text, put_verdict};
+use dm_check::Verdict;
 use dm_input::{File, InputFlaw, InputStop, put_read_fault, put_refused, put_usage};
 use dm_outside::{Sink, WriteFault};
 use dm_words::FileWords;
@@ -45,6 +48,46 @@ fn end_unread<K: Sink>(files: &FileWords<'_>, file: File, out: &mut K) -> Status
     ensures { EndsAs K.taken K.faults out.old out.new (read_fault_line (files_of files.now) file) Status.ReadFault result }
 {
     match put_read_fault(out, files, file) {
+        Ok(()) => Status::ReadFault,
+        Err(WriteFault) => Status::WriteFault,
+    }
+}
+
+/// Says what is told of a text, and ends with the status of that.
+pub fn end_verdict<K: Sink>(verdict: Verdict, out: &mut K) -> Status
+    ensures { EndsAs K.taken K.faults out.old out.new (verdict_line verdict) (verdict_status verdict) result }
+{
+    match put_verdict(out, verdict) {
+        Ok(()) => status_of_verdict(verdict),
+        Err(WriteFault) => Status::WriteFault,
+    }
+}
+
+/// The status of a verdict.
+fn status_of_verdict(verdict: Verdict) -> Status
+    ensures { result ≡ verdict_status verdict }
+{
+    match verdict {
+        Verdict::Good { .. } => Status::Ok,
+        Verdict::Bad { .. } => Status::Bad,
+    }
+}
+
+/// Says that the text of a name is too long.
+pub fn end_long_text<K: Sink>(name: &str, out: &mut K) -> Status
+    ensures { EndsAs K.taken K.faults out.old out.new (long_text_line name.now) Status.Refused result }
+{
+    match put_long_text(out, name) {
+        Ok(()) => Status::Refused,
+        Err(WriteFault) => Status::WriteFault,
+    }
+}
+
+/// Says that the text of a name could not be read.
+pub fn end_unread_text<K: Sink>(name: &str, out: &mut K) -> Status
+    ensures { EndsAs K.taken K.faults out.old out.new (unread_text_line name.now) Status.ReadFault result }
+{
+    match put_unread_text(out, name) {
         Ok(()) => Status::ReadFault,
         Err(WriteFault) => Status::WriteFault,
     }

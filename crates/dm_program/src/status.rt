@@ -3,16 +3,19 @@
 /// How the program ends.
 #[derive(Clone, Copy, PartialEq, Eq, Debug)]
 pub enum Status {
-    /// All was read to the end and written.
+    /// All was read to the end and written, and a text that was checked is good.
     Ok = 0,
+
+    /// A text that was checked is not good.
+    Bad = 1,
 
     /// The words are in no form.
     Usage = 2,
 
-    /// A file, the network or a start row is refused, or a feed is too long and none could not be read.
+    /// A file, the network, a start row or a text that is too long is refused, or a feed is too long and none could not be read.
     Refused = 3,
 
-    /// A file or a feed could not be read.
+    /// A file, a text or a feed could not be read.
     ReadFault = 4,
 
     /// The text could not be written whole.

@@ -1,17 +1,20 @@
 //! The top call.
-ghost use Rattle.std.specs.Prelude.{◌≡◌, ◌⊎◌, ◌≤◌, ℕ, List, Ok, Err, IsSome, map, string_bytes, vec_len};
-ghost use Rattle.dm_base.specs.declared.limits.TheConstants.{BOARDS};
+ghost use Rattle.std.specs.Prelude.{◌≡◌, ◌⊎◌, ◌≤◌, ℕ, List, Ok, Err, IsSome, length, map, string_bytes, vec_len};
+ghost use Rattle.dm_base.specs.declared.limits.TheConstants.{BOARDS, TEXT};
 ghost use Rattle.dm_outside.specs.Faults.{HasRisen};
 ghost use Rattle.dm_input.specs.declared.flaws.InputFlaw.{InputFlaw as AFlaw};
-ghost use Rattle.dm_input.specs.Input.{Opening, OpeningAnswer};
-ghost use Rattle.dm_input.specs.Stops.{IsKept};
+ghost use Rattle.dm_input.specs.Input.{Opening, OpeningAnswer, IsHeld};
+ghost use Rattle.dm_input.specs.Stops.{IsKept, IsLong};
 ghost use Rattle.dm_words.specs.Asked.{command_of};
-ghost use Rattle.dm_words.specs.Words.{Asks, GenAsked, GenOf, RunAsked, RunOf};
-ghost use Rattle.dm_program.specs.Served.{AsksServed, AsksNothingServed};
+ghost use Rattle.dm_words.specs.Words.{Asks, AsksNothing, CheckAsked, CheckOf, FilesAsked, GenAsked, GenOf, RunAsked, RunOf};
+ghost use Rattle.dm_check.specs.declared.verdicts.Verdict.{Verdict};
+ghost use Rattle.dm_check.specs.FalseRecords.{IsVerdict};
 ghost use Rattle.dm_program.specs.Boards.{EndBoards};
-ghost use Rattle.dm_program.specs.Ends.{IsDue, Writes, FailsToWrite, WantsMemory, EndsAt, AreSound, AreShort, Ends};
+ghost use Rattle.dm_program.specs.Ends.{IsDue, Writes, FailsToWrite, WantsMemory, AsksOver, AsksNoRun, EndsAt, EndsTold, AreSound, AreShort, IsSoundFor, Ends};
+ghost use Rattle.dm_program.specs.Verdicts.{verdict_line, verdict_status, long_text_line};
 ghost use Rattle.dm_program.specs.Inside.Stages.{IsWithin};
 
+use crate::checking::check_text;
 use crate::ends::end_usage;
 use crate::generate::generate;
 use crate::run::run_feeds;
@@ -36,11 +39,13 @@ pub fn dispatch<R: Threads + Wait + Sync, H: Shelf, K: Sink, G: Gate>(
     requires { vec_len boards.old ≤ BOARDS }
 
     // The text is that of a run whose journal, logs, notes, times and cost are true, and whose feeds all ended well, or the
-    // summary of a generated day. Each board that no note names shows the final times of its stop. At every end without a run
-    // the boards are as before.
+    // summary of a generated day, or the verdict that a text is good. Each board that no note names shows the final times of its
+    // stop. At every end without a run the boards are as before.
     ensures headline { result ≡ Status.Ok → Writes (K.taken out.old) (K.taken out.new) (IsDue (H.files shelf.old) (H.is_sound shelf.old) (EndBoards place times (λ b. (Board-box b).faults b.value) (λ b. (Board-box b).is_sound b.value) boards.old.items boards.new.items) (map string_bytes words.now) Status.Ok) }
 
-    // Each other status has its cause. Where a feed alone is the cause, the text is that of a run too.
+    // Each other status has its cause. That a text is bad comes with the first record that breaks its rule. Where a feed alone is
+    // the cause, the text is that of a run too.
+    ensures bad { result ≡ Status.Bad → Writes (K.taken out.old) (K.taken out.new) (IsDue (H.files shelf.old) (H.is_sound shelf.old) (EndBoards place times (λ b. (Board-box b).faults b.value) (λ b. (Board-box b).is_sound b.value) boards.old.items boards.new.items) (map string_bytes words.now) Status.Bad) }
     ensures usage { result ≡ Status.Usage → Writes (K.taken out.old) (K.taken out.new) (IsDue (H.files shelf.old) (H.is_sound shelf.old) (EndBoards place times (λ b. (Board-box b).faults b.value) (λ b. (Board-box b).is_sound b.value) boards.old.items boards.new.items) (map string_bytes words.now) Status.Usage) }
     ensures refused { result ≡ Status.Refused → Writes (K.taken out.old) (K.taken out.new) (IsDue (H.files shelf.old) (H.is_sound shelf.old) (EndBoards place times (λ b. (Board-box b).faults b.value) (λ b. (Board-box b).is_sound b.value) boards.old.items boards.new.items) (map string_bytes words.now) Status.Refused) }
     ensures read_fault { result ≡ Status.ReadFault → Writes (K.taken out.old) (K.taken out.new) (IsDue (H.files shelf.old) (H.is_sound shelf.old) (EndBoards place times (λ b. (Board-box b).faults b.value) (λ b. (Board-box b).is_sound b.value) boards.old.items boards.new.items) (map string_bytes words.now) Status.ReadFault) }
@@ -48,22 +53,38 @@ pub fn dispatch<R: Threads + Wait + Sync, H: Shelf, K: Sink, G: Gate>(
     ensures no_memory { result ≡ Status.NoMemory → WantsMemory (K.taken out.old) (K.taken out.new) (map string_bytes words.now) }
 
     // Nothing of a generated day is refused: words that ask for one end well, but for a write fault and want of memory.
-    ensures generated { (asked : GenAsked) → AsksServed (map string_bytes words.now) (GenOf asked) → (result ≡ Status.Ok) ⊎ ((result ≡ Status.WriteFault) ⊎ (result ≡ Status.NoMemory)) }
+    ensures generated { (asked : GenAsked) → Asks (map string_bytes words.now) (GenOf asked) → (result ≡ Status.Ok) ⊎ ((result ≡ Status.WriteFault) ⊎ (result ≡ Status.NoMemory)) }
 
     // Words that ask for nothing come to the usage line, but for a write fault.
-    ensures outside { AsksNothingServed (map string_bytes words.now) → (result ≡ Status.Usage) ⊎ (result ≡ Status.WriteFault) }
+    ensures outside { AsksNothing (map string_bytes words.now) → (result ≡ Status.Usage) ⊎ (result ≡ Status.WriteFault) }
 
     // The first refusal comes exactly where it is, but for the faults that go before.
-    ensures first_refusal { (asked : RunAsked) (flaw : AFlaw) → AsksServed (map string_bytes words.now) (RunOf asked) → IsSome (H.files shelf.old)
-        → OpeningAnswer (H.files shelf.old) asked.files (Err flaw) → EndsAt asked flaw (K.taken out.old) (K.taken out.new) result }
+    ensures first_refusal { (files : FilesAsked) (flaw : AFlaw) → AsksOver (map string_bytes words.now) files → IsSome (H.files shelf.old)
+        → OpeningAnswer (H.files shelf.old) files (Err flaw) → EndsAt files flaw (K.taken out.old) (K.taken out.new) result }
+    ensures long_text { (asked : CheckAsked) (opening : Opening) → Asks (map string_bytes words.now) (CheckOf asked) → IsSome (H.files shelf.old)
+        → OpeningAnswer (H.files shelf.old) asked.files (Ok opening) → IsLong (H.files shelf.old) asked.text TEXT
+        → EndsTold Status.Refused (long_text_line asked.text) (K.taken out.old) (K.taken out.new) result }
+
+    // The verdict on a text comes exactly where it is, but for the same.
+    ensures judged { (asked : CheckAsked) (opening : Opening) (bytes : List ℕ) (verdict : Verdict) → Asks (map string_bytes words.now) (CheckOf asked) → IsSome (H.files shelf.old)
+        → OpeningAnswer (H.files shelf.old) asked.files (Ok opening) → IsHeld (H.files shelf.old) asked.text bytes → length bytes ≤ TEXT
+        → IsVerdict opening.net opening.rows asked.files.penalty bytes verdict → EndsTold (verdict_status verdict) (verdict_line verdict) (K.taken out.old) (K.taken out.new) result }
 
     // Good words, files and feeds, a sound shelf and a sink without a fault give a run, or want of memory.
-    ensures complete { (asked : RunAsked) (opening : Opening) → AsksServed (map string_bytes words.now) (RunOf asked) → IsSome (H.files shelf.old)
+    ensures complete { (asked : RunAsked) (opening : Opening) → Asks (map string_bytes words.now) (RunOf asked) → IsSome (H.files shelf.old)
         → OpeningAnswer (H.files shelf.old) asked.files (Ok opening) → AreShort (H.files shelf.old) asked → AreSound (H.is_sound shelf.old) asked
         → (HasRisen (K.faults out.old) (K.faults out.new) → ⊥) → (result ≡ Status.Ok) ⊎ (result ≡ Status.NoMemory) }
 
-    // Whatever the status, the shelf tells what it told, the sink's count has not fallen and the list has its
-    // boards in their order.
+    // A text that is not too long has a verdict, or wants memory, where the files are good, the shelf is sound and the sink does
+    // not fail.
+    ensures complete_check { (asked : CheckAsked) (opening : Opening) (bytes : List ℕ) → Asks (map string_bytes words.now) (CheckOf asked) → IsSome (H.files shelf.old)
+        → OpeningAnswer (H.files shelf.old) asked.files (Ok opening) → IsHeld (H.files shelf.old) asked.text bytes → length bytes ≤ TEXT
+        → IsSoundFor (H.is_sound shelf.old) asked → (HasRisen (K.faults out.old) (K.faults out.new) → ⊥)
+        → (result ≡ Status.Ok) ⊎ ((result ≡ Status.Bad) ⊎ (result ≡ Status.NoMemory)) }
+
+    // Whatever the status, words that ask for no run leave the boards as they were, the shelf tells what it told, the sink's
+    // count has not fallen and the list has its boards in their order.
+    ensures boards_left { AsksNoRun (map string_bytes words.now) → boards.new.items ≡ boards.old.items }
     ensures shelf_kept { IsKept H.files H.is_sound shelf.old shelf.new }
     ensures later { K.faults out.old ≤ K.faults out.new }
     ensures boards_kept { map place boards.new.items ≡ map place boards.old.items }
@@ -86,6 +107,7 @@ fn run<R: Threads + Wait + Sync, H: Shelf, K: Sink, G: Hold + Sync>(
     ensures kept { IsKept H.files H.is_sound shelf.old shelf.new }
     ensures later { K.faults out.old ≤ K.faults out.new }
     ensures stops { map place boards.new.items ≡ map place boards.old.items }
+    ensures left { AsksNoRun (map string_bytes words.now) → boards.new.items ≡ boards.old.items }
 {
     match read_words(words) {
         Some(command) => do_command(rt, alloc, &command, shelf, boards, gate, out),
@@ -93,7 +115,7 @@ fn run<R: Threads + Wait + Sync, H: Shelf, K: Sink, G: Hold + Sync>(
     }
 }
 
-/// Does what a command asks, or says which words are in form where it is not done yet.
+/// Does what a command asks.
 fn do_command<R: Threads + Wait + Sync, H: Shelf, K: Sink, G: Hold + Sync>(
     rt: &R,
     alloc: Global,
@@ -109,10 +131,11 @@ fn do_command<R: Threads + Wait + Sync, H: Shelf, K: Sink, G: Hold + Sync>(
     ensures kept { IsKept H.files H.is_sound shelf.old shelf.new }
     ensures later { K.faults out.old ≤ K.faults out.new }
     ensures stops { map place boards.new.items ≡ map place boards.old.items }
+    ensures left { ((asked : RunAsked) → command_of command.now ≡ RunOf asked → ⊥) → boards.new.items ≡ boards.old.items }
 {
     match command {
         CommandWords::Run(run) => run_feeds(rt, alloc, run, shelf, boards, gate, out),
-        CommandWords::Check(_) => end_usage(out),
+        CommandWords::Check(check) => check_text(alloc, check, shelf, out),
         CommandWords::Gen(day) => generate(alloc, day, out),
     }
 }

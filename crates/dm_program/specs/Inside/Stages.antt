@@ -37,7 +37,7 @@ pub record AreWithin (asked : RunAsked) : Type 0 where
 
 abbrev pub IsWithin : Command → Type 0
 IsWithin (RunOf asked) = AreWithin asked
-IsWithin (CheckOf asked) = Unit {0}
+IsWithin (CheckOf asked) = asked.files.penalty ≤ PENALTY
 IsWithin (GenOf asked) = IsDayWithin asked
 
 -- ---- feeds

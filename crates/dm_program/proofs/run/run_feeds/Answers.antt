@@ -1,5 +1,6 @@
 use Rattle.std.proofs.Common.{refl}
 use Rattle.dm_words.specs.Asked.{run_of}
+use Rattle.dm_words.specs.Words.{RunOf}
 use Rattle.dm_input.specs.Stops.{opening_in}
 use Rattle.dm_program.specs.Feeds.{status_of}
 use Rattle.dm_program.proofs.Boarding.{end_shown}
@@ -10,7 +11,7 @@ use Rattle.dm_program.proofs.run.run_feeds.Goals as goal
 
 pub returns-in-Err-clause-ends : goal.returns-in-Err-clause-ends
 returns-in-Err-clause-ends g c = λ words asks.
-    ends_stopped g.K.Sink.taken g.K.Sink.faults (g.H.Shelf.files c.args.shelf.now) (g.H.Shelf.is_sound c.args.shelf.now) _ words c.args.out.now c.end_stopped.new.out (run_of c.args.run.now) refl (asks, tt) c.in-Err.stop c.end_stopped.result
+    ends_stopped g.K.Sink.taken g.K.Sink.faults (g.H.Shelf.files c.args.shelf.now) (g.H.Shelf.is_sound c.args.shelf.now) _ words c.args.out.now c.end_stopped.new.out (run_of c.args.run.now).files refl (record { asked = RunOf (run_of c.args.run.now); is_asked = asks; reads = refl }) c.in-Err.stop c.end_stopped.result
     c.in-Err.ensures.stops c.end_stopped.ensures.ends
 
 pub end_run-requires : goal.end_run-requires
@@ -31,7 +32,7 @@ returns-in-Ok-answered-clause-ends g c = λ words asks.
     opened_at_entry g.H.Src.Source.left g.H.Src.Source.is_sound (g.H.Shelf.files c.read_opening.new.shelf) told (g.H.Shelf.is_sound c.read_opening.new.shelf) is_sound _ feeds c.in-Ok.ensures.kept.same c.in-Ok.ensures.kept.sound
     (rw (c.as_slice.ensures.value, c.in-Ok-names_of.ensures) at c.in-Ok-open_feeds.ensures.opened) in
     ends_run g.K.Sink.taken g.K.Sink.faults told is_sound _ words c.args.out.now c.end_run.new.out logs _ c.end_run.result
-    (is_run_of g.H.Src.Source.left g.H.Src.Source.is_sound _ _ _ feeds _ table logs notes answers told is_sound _ words (run_of c.args.run.now) (opening_in c.in-Ok.opened) (asks, tt) c.requires.within c.in-Ok.ensures.opening refl refl refl refl opened c.end_run.ensures.fits
+    (is_run_of g.H.Src.Source.left g.H.Src.Source.is_sound _ _ _ feeds _ table logs notes answers told is_sound _ words (run_of c.args.run.now) (opening_in c.in-Ok.opened) asks c.requires.within c.in-Ok.ensures.opening refl refl refl refl opened c.end_run.ensures.fits
     shown.noted (end_shown _ _ _ _ _ table logs notes c.args.boards.now.items c.answer_run-answered.new.boards.items answers.network shown) (status_of logs) refl) c.end_run.ensures.ends
 
 pub returns-in-Ok-answered-clause-kept : goal.returns-in-Ok-answered-clause-kept

@@ -1,11 +1,15 @@
 use Rattle.std.proofs.Common.{Global}
 use Rattle.std.specs.Prelude.{map, string_bytes}
+use Rattle.dm_program.proofs.Checked.{long_text_ends, judged_ends, check_ends_well}
 use Rattle.dm_program.proofs.Converse.{ends_outside, ends_at, ends_well}
 use Rattle.dm_program.proofs.Generated.{generated_ends}
 use Rattle.dm_program.proofs.top.dispatch.Goals as goal
 
 pub returns-clause-headline : goal.returns-clause-headline
 returns-clause-headline g c = λ e. rw e at c.run.ensures.ends
+
+pub returns-clause-bad : goal.returns-clause-bad
+returns-clause-bad g c = λ e. rw e at c.run.ensures.ends
 
 pub returns-clause-usage : goal.returns-clause-usage
 returns-clause-usage g c = λ e. rw e at c.run.ensures.ends
@@ -31,8 +35,20 @@ returns-clause-generated g c = λ asked asks.
     generated_ends g.K.Sink.taken g.K.Sink.faults (g.H.Shelf.files c.args.shelf.now) (g.H.Shelf.is_sound c.args.shelf.now) _ (map (string_bytes {Z = Global}) c.args.words.now) c.args.out.now c.run.new.out asked asks c.run.result c.run.ensures.ends
 
 pub returns-clause-first_refusal : goal.returns-clause-first_refusal
-returns-clause-first_refusal g c = λ asked flaw asks known first.
-    ends_at g.K.Sink.taken g.K.Sink.faults (g.H.Shelf.files c.args.shelf.now) (g.H.Shelf.is_sound c.args.shelf.now) _ (map (string_bytes {Z = Global}) c.args.words.now) c.args.out.now c.run.new.out asked asks known flaw first c.run.result c.run.ensures.ends
+returns-clause-first_refusal g c = λ files flaw over known first.
+    ends_at g.K.Sink.taken g.K.Sink.faults (g.H.Shelf.files c.args.shelf.now) (g.H.Shelf.is_sound c.args.shelf.now) _ (map (string_bytes {Z = Global}) c.args.words.now) c.args.out.now c.run.new.out files over known flaw first c.run.result c.run.ensures.ends
+
+pub returns-clause-long_text : goal.returns-clause-long_text
+returns-clause-long_text g c = λ asked opening asks known opens long.
+    long_text_ends g.K.Sink.taken g.K.Sink.faults (g.H.Shelf.files c.args.shelf.now) (g.H.Shelf.is_sound c.args.shelf.now) _ (map (string_bytes {Z = Global}) c.args.words.now) c.args.out.now c.run.new.out asked asks known opening opens long c.run.result c.run.ensures.ends
+
+pub returns-clause-judged : goal.returns-clause-judged
+returns-clause-judged g c = λ asked opening bytes verdict asks known opens held short is.
+    judged_ends g.K.Sink.taken g.K.Sink.faults (g.H.Shelf.files c.args.shelf.now) (g.H.Shelf.is_sound c.args.shelf.now) _ (map (string_bytes {Z = Global}) c.args.words.now) c.args.out.now c.run.new.out asked asks known opening opens bytes held short verdict is c.run.result c.run.ensures.ends
+
+pub returns-clause-complete_check : goal.returns-clause-complete_check
+returns-clause-complete_check g c = λ asked opening bytes asks known opens held short sound unrisen.
+    check_ends_well g.K.Sink.taken g.K.Sink.faults (g.H.Shelf.files c.args.shelf.now) (g.H.Shelf.is_sound c.args.shelf.now) _ (map (string_bytes {Z = Global}) c.args.words.now) c.args.out.now c.run.new.out asked asks known opening opens bytes held short sound unrisen c.run.result c.run.ensures.ends
 
 pub returns-clause-complete : goal.returns-clause-complete
 returns-clause-complete g c = λ asked opening asks known opens short sound unrisen.

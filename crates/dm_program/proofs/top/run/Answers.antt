@@ -1,7 +1,7 @@
 use Rattle.std.proofs.Common.{refl}
 use Rattle.dm_words.specs.Asked.{command_of}
 use Rattle.dm_program.proofs.Asked.{command_within}
-use Rattle.dm_program.proofs.Closing.{ends_usage, serves_nothing}
+use Rattle.dm_program.proofs.Closing.{ends_usage}
 use Rattle.dm_program.proofs.top.run.Goals as goal
 
 pub do_command-requires-clause-within : goal.do_command-requires-clause-within
@@ -12,4 +12,4 @@ returns-in-Some-clause-ends g c = c.do_command.ensures.ends _ c.in-Some.ensures
 
 pub returns-in-None-clause-ends : goal.returns-in-None-clause-ends
 returns-in-None-clause-ends g c =
-    ends_usage g.K.Sink.taken g.K.Sink.faults _ _ _ _ c.args.out.now c.end_usage.new.out c.end_usage.result refl (serves_nothing _ c.in-None.ensures) c.end_usage.ensures
+    ends_usage g.K.Sink.taken g.K.Sink.faults _ _ _ _ c.args.out.now c.end_usage.new.out c.end_usage.result refl c.in-None.ensures c.end_usage.ensures

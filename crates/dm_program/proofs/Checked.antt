@@ -1,0 +1,173 @@
+-- How words that ask for a check end.
+use Rattle.std.proofs.Common.{◌≡◌, ℕ, ◌≤◌, ◌⊎◌, inl, inr, List, length, Option, None, Result, Ok, Err, refl, sym, ap, subst, ◌∙◌, arith}
+use Rattle.std.specs.Prelude.{IsSome}
+use Rattle.dm_base.specs.declared.limits.TheConstants.{TEXT}
+use Rattle.dm_outside.specs.Faults.{HasRisen}
+use Rattle.dm_outside.specs.declared.faults.TakeFault.{TakeFault}
+use Rattle.dm_outside.specs.declared.faults.TakeFault.TheVariants.{ReadFault as NotRead, TooLong as TooMany, OutOfMemory}
+use Rattle.dm_network.specs.Net.{IsWithinLimits}
+use Rattle.dm_network.specs.Start.{IsNetwork}
+use Rattle.dm_rows.specs.Rows.{RowsAreWithinLimits}
+use Rattle.dm_input.specs.Input.{Told, IsHeld, Opening, OpeningAnswer, IsUnread}
+use Rattle.dm_input.specs.Stops.{IsLong}
+use Rattle.dm_input.specs.declared.flaws.InputFlaw.{InputFlaw}
+use Rattle.dm_input.proofs.OneOpening.{opening_is_one}
+use Rattle.dm_words.specs.Words.{CheckAsked, CheckOf, RunAsked, RunOf, GenAsked, GenOf, FilesAsked, Asks}
+use Rattle.dm_words.proofs.OneCommand.{one_command}
+use Rattle.dm_cert.specs.RunTexts.{Run}
+use Rattle.dm_check.specs.declared.verdicts.Verdict.{Verdict}
+use Rattle.dm_check.specs.declared.verdicts.Verdict.TheVariants.{Good as GoodVerdict, Bad as BadVerdict}
+use Rattle.dm_check.specs.FalseRecords.{IsVerdict}
+use Rattle.dm_check.proofs.ToldOnce.{verdicts_are_one}
+use Rattle.dm_truth.proofs.ToldRuns.{good_texts_are_true}
+use Rattle.dm_program.specs.declared.status.Status.{Status}
+use Rattle.dm_program.specs.declared.status.Status.TheVariants.{Ok as Well, Bad, Usage, Refused, ReadFault, WriteFault, NoMemory}
+use Rattle.dm_program.specs.Checked.{IsVerdictFor, IsLongText}
+use Rattle.dm_program.specs.Ends.{IsDue, Ends, AsksOver, EndsTold, IsSoundFor}
+use Rattle.dm_program.specs.Verdicts.{verdict_line, verdict_status, long_text_line, unread_text_line}
+use Rattle.dm_program.specs.Inside.Checking.{IsJudged, Judges, EndsBy, EndsChecked}
+use Rattle.dm_program.proofs.Asked.{check_within}
+use Rattle.dm_program.proofs.Closing.{ends_due, ends_stopped, ends_wanting}
+use Rattle.dm_program.proofs.Converse.{held_is, same_files}
+
+check_is : (x y : CheckAsked) → CheckOf x ≡ CheckOf y → x ≡ y
+check_is x y e = cc
+
+no_run : (run : RunAsked) (check : CheckAsked) → RunOf run ≡ CheckOf check → ⊥
+no_run run check e = cc
+
+bad_is_not_well : Bad ≡ Well → ⊥
+bad_is_not_well e = cc
+
+no_day : (day : GenAsked) (check : CheckAsked) → GenOf day ≡ CheckOf check → ⊥
+no_day day check e = cc
+
+module _ {K : Type 0} (taken : K → Option (List ℕ)) (faults : K → ℕ) (told : Told) (is_sound : List ℕ → Type 0) (end_boards : Option Run → Type 0) (words : List (List ℕ)) (before now : K) (asked : CheckAsked) (asks : Asks words (CheckOf asked)) where
+  -- ---- what was done is due
+
+  due_verdict : (opening : Opening) → OpeningAnswer told asked.files (Ok opening) → IsNetwork opening.net → IsWithinLimits opening.net → RowsAreWithinLimits opening.rows → end_boards None → (verdict : Verdict) → IsJudged told asked.text opening.net opening.rows asked.files.penalty verdict → IsDue told is_sound end_boards words (verdict_status verdict) (verdict_line verdict)
+  due_verdict opening opens network limits within left (GoodVerdict entries plans) judged =
+      let is_run_text = good_texts_are_true opening.net opening.rows asked.files.penalty judged.bytes entries plans network limits within (check_within words asked asks) judged.is_verdict in
+      inr (inr (record { asked = asked; is_asked = asks; opening = opening; opens = opens; bytes = judged.bytes; held = judged.held; short = judged.short; verdict = GoodVerdict entries plans; is_verdict = judged.is_verdict; has_status = refl; is_run_text = λ well. is_run_text; is_line = refl; boards = left }))
+  due_verdict opening opens network limits within left (BadVerdict line kind) judged =
+      record { asked = asked; is_asked = asks; opening = opening; opens = opens; bytes = judged.bytes; held = judged.held; short = judged.short; verdict = BadVerdict line kind; is_verdict = judged.is_verdict; has_status = refl; is_run_text = λ well. absurd (bad_is_not_well well); is_line = refl; boards = left }
+
+  ends_by : (opening : Opening) → OpeningAnswer told asked.files (Ok opening) → IsNetwork opening.net → IsWithinLimits opening.net → RowsAreWithinLimits opening.rows → end_boards None → (judgement : Result Verdict TakeFault) (result : Status) → Judges told is_sound asked.text opening.net opening.rows asked.files.penalty judgement → EndsBy taken faults asked.text judgement before now result → Ends taken faults told is_sound end_boards words before now result
+  ends_by opening opens network limits within left (Ok verdict) result judges h = ends_due taken faults told is_sound end_boards words before now (verdict_status verdict) (verdict_line verdict) result (due_verdict opening opens network limits within left verdict judges) h
+  ends_by opening opens network limits within left (Err NotRead) result judges h =
+      ends_due taken faults told is_sound end_boards words before now ReadFault (unread_text_line asked.text) result (inr (inl (record { asked = asked; is_asked = asks; opening = opening; opens = opens; unsound = judges; is_line = refl; boards = left }))) h
+  ends_by opening opens network limits within left (Err TooMany) result judges h =
+      ends_due taken faults told is_sound end_boards words before now Refused (long_text_line asked.text) result (inr (inl (record { asked = asked; is_asked = asks; opening = opening; opens = opens; long = judges; is_line = refl; boards = left }))) h
+  ends_by opening opens network limits within left (Err OutOfMemory) result judges h = ends_wanting taken faults told is_sound end_boards words before now (CheckOf asked) asks result h.0 h.1
+
+  pub ends_checked : end_boards None → (result : Status) → EndsChecked taken faults told is_sound asked before now result → Ends taken faults told is_sound end_boards words before now result
+  ends_checked left result (inl files) = ends_stopped taken faults told is_sound end_boards words before now asked.files left (record { asked = CheckOf asked; is_asked = asks; reads = refl }) files.stop result files.stops files.ends
+  ends_checked left result (inr text) = ends_by text.opening text.opens text.network text.limits text.within left text.ends.judgement result text.ends.judges text.ends.ends
+
+  -- ---- what is due was done
+
+  same_check : (other : CheckAsked) → Asks words (CheckOf other) → other ≡ asked
+  same_check other also = check_is other asked (one_command words (CheckOf other) (CheckOf asked) also asks)
+
+  never_run : (run : RunAsked) → Asks words (RunOf run) → ⊥
+  never_run run also = no_run run asked (one_command words (RunOf run) (CheckOf asked) also asks)
+
+  never_day : (day : GenAsked) → Asks words (GenOf day) → ⊥
+  never_day day also = no_day day asked (one_command words (GenOf day) (CheckOf asked) also asks)
+
+  module _ (known : IsSome told) (opening : Opening) (opens : OpeningAnswer told asked.files (Ok opening)) where
+    -- its files are not refused
+    never_refused : (files : FilesAsked) → AsksOver words files → (flaw : InputFlaw) → OpeningAnswer told files (Err flaw) → ⊥
+    never_refused files over flaw refusal =
+        let same : files ≡ asked.files = same_files words files asked.files over (record { asked = CheckOf asked; is_asked = asks; reads = refl }) in
+        opening_is_one told asked.files known (Ok opening) (Err flaw) opens (subst (λ (f : FilesAsked). OpeningAnswer told f (Err flaw)) same refusal)
+
+    -- its text is not both long and short
+    long_or_short : (bytes : List ℕ) → IsHeld told asked.text bytes → length bytes ≤ TEXT → IsLong told asked.text TEXT → ⊥
+    long_or_short bytes held short long = omega (arith, ap length (held_is told asked.text long.bytes bytes known long.held held), long.long, short)
+
+    never_verdict : IsLong told asked.text TEXT → (status : Status) (line : List ℕ) → IsVerdictFor told end_boards words status line → ⊥
+    never_verdict long status line v = long_or_short v.bytes (subst (λ (a : CheckAsked). IsHeld told a.text v.bytes) (same_check v.asked v.is_asked) v.held) v.short long
+
+    pub long_text_ends : IsLong told asked.text TEXT → (result : Status) → Ends taken faults told is_sound end_boards words before now result → EndsTold Refused (long_text_line asked.text) (taken before) (taken now) result
+    long_text_ends long Well h =
+        elim (h.holds) [ inl r ↦ absurd (never_run r.asked r.is_asked) | inr other ↦ elim other [ inl d ↦ absurd (never_day d.asked d.is_asked) | inr v ↦ absurd (never_verdict long Well h.text v) ] ]
+    long_text_ends long Bad h = absurd (never_verdict long Bad h.text h.holds)
+    long_text_ends long Usage h = absurd (h.holds.outside (CheckOf asked) asks)
+    long_text_ends long Refused h =
+        elim (h.holds) [
+          | inl r ↦ absurd (never_refused r.files r.over r.flaw r.refusal)
+          | inr other ↦ elim other [
+            | inl t ↦ inl (refl, record { text = h.text; holds = t.is_line ∙ ap (λ (a : CheckAsked). long_text_line a.text) (same_check t.asked t.is_asked); appended = h.appended })
+            | inr r ↦ absurd (never_run r.asked r.is_asked)
+          ]
+        ]
+    long_text_ends long ReadFault h = inr (inl refl)
+    long_text_ends long WriteFault h = inr (inr (inl refl))
+    long_text_ends long NoMemory h = inr (inr (inr refl))
+
+    module _ (bytes : List ℕ) (held : IsHeld told asked.text bytes) (short : length bytes ≤ TEXT) where
+      same_verdict : (verdict : Verdict) → IsVerdict opening.net opening.rows asked.files.penalty bytes verdict → (status : Status) (line : List ℕ) (v : IsVerdictFor told end_boards words status line) → v.verdict ≡ verdict
+      same_verdict verdict is status line v =
+          let same : v.asked ≡ asked = same_check v.asked v.is_asked in
+          let there : IsHeld told asked.text v.bytes = subst (λ (a : CheckAsked). IsHeld told a.text v.bytes) same v.held in
+          let here : v.bytes ≡ bytes = held_is told asked.text v.bytes bytes known there held in
+          let also : OpeningAnswer told asked.files (Ok v.opening) = subst (λ (a : CheckAsked). OpeningAnswer told a.files (Ok v.opening)) same v.opens in
+          let opened : v.opening ≡ opening = opening_is_one told asked.files known (Ok v.opening) (Ok opening) also opens in
+          let at_price : IsVerdict v.opening.net v.opening.rows asked.files.penalty v.bytes v.verdict = subst (λ (a : CheckAsked). IsVerdict v.opening.net v.opening.rows a.files.penalty v.bytes v.verdict) same v.is_verdict in
+          let over : IsVerdict opening.net opening.rows asked.files.penalty v.bytes v.verdict = subst (λ (o : Opening). IsVerdict o.net o.rows asked.files.penalty v.bytes v.verdict) opened at_price in
+          let of : IsVerdict opening.net opening.rows asked.files.penalty bytes v.verdict = subst (λ (b : List ℕ). IsVerdict opening.net opening.rows asked.files.penalty b v.verdict) here over in
+          verdicts_are_one opening.net opening.rows asked.files.penalty bytes v.verdict verdict of is
+
+      told_verdict : (verdict : Verdict) → IsVerdict opening.net opening.rows asked.files.penalty bytes verdict → (status : Status) (line : List ℕ) → IsVerdictFor told end_boards words status line → (status ≡ verdict_status verdict) × (line ≡ verdict_line verdict)
+      told_verdict verdict is status line v =
+          let same = same_verdict verdict is status line v in
+          (v.has_status ∙ ap verdict_status same, v.is_line ∙ ap verdict_line same)
+
+      -- the words ask for a check, whose text is short
+      never_long : (line : List ℕ) → IsLongText told end_boards words line → ⊥
+      never_long line t = long_or_short bytes held short (subst (λ (a : CheckAsked). IsLong told a.text TEXT) (same_check t.asked t.is_asked) t.long)
+
+      pub judged_ends : (verdict : Verdict) → IsVerdict opening.net opening.rows asked.files.penalty bytes verdict → (result : Status) → Ends taken faults told is_sound end_boards words before now result → EndsTold (verdict_status verdict) (verdict_line verdict) (taken before) (taken now) result
+      judged_ends verdict is Well h =
+          elim (h.holds) [
+            | inl r ↦ absurd (never_run r.asked r.is_asked)
+            | inr other ↦ elim other [
+              | inl d ↦ absurd (never_day d.asked d.is_asked)
+              | inr v ↦ let same = told_verdict verdict is Well h.text v in inl (same.0, record { text = h.text; holds = same.1; appended = h.appended })
+            ]
+          ]
+      judged_ends verdict is Bad h = let same = told_verdict verdict is Bad h.text h.holds in inl (same.0, record { text = h.text; holds = same.1; appended = h.appended })
+      judged_ends verdict is Usage h = absurd (h.holds.outside (CheckOf asked) asks)
+      judged_ends verdict is Refused h =
+          elim (h.holds) [
+            | inl r ↦ absurd (never_refused r.files r.over r.flaw r.refusal)
+            | inr other ↦ elim other [ inl t ↦ absurd (never_long h.text t) | inr r ↦ absurd (never_run r.asked r.is_asked) ]
+          ]
+      judged_ends verdict is ReadFault h = inr (inl refl)
+      judged_ends verdict is WriteFault h = inr (inr (inl refl))
+      judged_ends verdict is NoMemory h = inr (inr (inr refl))
+
+      -- there is a verdict where all names are told sound and the sink does not fail
+      pub check_ends_well : IsSoundFor is_sound asked → (HasRisen (faults before) (faults now) → ⊥) → (result : Status) → Ends taken faults told is_sound end_boards words before now result → (result ≡ Well) ⊎ ((result ≡ Bad) ⊎ (result ≡ NoMemory))
+      check_ends_well sound unrisen Well h = inl refl
+      check_ends_well sound unrisen Bad h = inr (inl refl)
+      check_ends_well sound unrisen NoMemory h = inr (inr refl)
+      check_ends_well sound unrisen WriteFault h = absurd (unrisen h.front.risen)
+      check_ends_well sound unrisen Usage h = absurd (h.holds.outside (CheckOf asked) asks)
+      check_ends_well sound unrisen Refused h =
+          elim (h.holds) [
+            | inl r ↦ absurd (never_refused r.files r.over r.flaw r.refusal)
+            | inr other ↦ elim other [ inl t ↦ absurd (never_long h.text t) | inr r ↦ absurd (never_run r.asked r.is_asked) ]
+          ]
+      check_ends_well sound unrisen ReadFault h =
+          elim (h.holds) [
+            | inl r ↦
+                let same : r.files ≡ asked.files = same_files words r.files asked.files r.over (record { asked = CheckOf asked; is_asked = asks; reads = refl }) in
+                let unread : IsUnread told is_sound asked.files r.file = subst (λ (f : FilesAsked). IsUnread told is_sound f r.file) same r.unread in
+                absurd (unread.unsound (sound.files r.file unread.name unread.named))
+            | inr other ↦ elim other [
+              | inl t ↦ absurd (t.unsound (subst (λ (a : CheckAsked). is_sound a.text) (sym (same_check t.asked t.is_asked)) sound.text))
+              | inr r ↦ absurd (never_run r.asked r.is_asked)
+            ]
+          ]

@@ -1,0 +1,92 @@
+//! Verdicts in print, and the lines that say why a text has none.
+ghost use Rattle.std.specs.Prelude.{◌≡◌};
+ghost use Rattle.dm_outside.specs.Printing.{Puts, pieces_text};
+ghost use Rattle.dm_program.specs.Verdicts.{kind_word, verdict_line, long_text_line, unread_text_line};
+
+use dm_check::{BadKind, Verdict};
+use dm_outside::{Page, Piece, Sink, WriteFault};
+
+/// The word of what is wrong with a record.
+fn kind_word(kind: BadKind) -> &'static str
+    ensures { result.now ≡ kind_word kind }
+{
+    match kind {
+        BadKind::Form => "form",
+        BadKind::Truncated => "truncated",
+        BadKind::Entry => "entry",
+        BadKind::Reply => "reply",
+        BadKind::Plan => "plan",
+        BadKind::Unnamed => "unnamed",
+        BadKind::Board => "board",
+        BadKind::Time => "time",
+        BadKind::Cost => "cost",
+    }
+}
+
+/// Puts the pieces, one after another.
+fn put_pieces<K: Sink>(sink: &mut K, pieces: &[Piece<'_>]) -> Result<(), WriteFault>
+    ensures { Puts K.taken K.faults sink.old sink.new result (pieces_text pieces.now) }
+{
+    let mut page = Page::new();
+    let Ok(()) = page.put(sink, pieces) else {
+        return Err(WriteFault);
+    };
+    page.finish(sink)
+}
+
+/// Puts the line of a verdict.
+pub fn put_verdict<K: Sink>(sink: &mut K, verdict: Verdict) -> Result<(), WriteFault>
+    ensures { Puts K.taken K.faults sink.old sink.new result (verdict_line verdict) }
+{
+    match verdict {
+        Verdict::Good { entries, plans } => put_pieces(
+            sink,
+            &[
+                Piece::Text("good "),
+                Piece::Number(entries as u128),
+                Piece::Text(" "),
+                Piece::Number(plans as u128),
+                Piece::Text("\n"),
+            ],
+        ),
+        Verdict::Bad { line, kind } => put_pieces(
+            sink,
+            &[
+                Piece::Text("bad "),
+                Piece::Number(line as u128),
+                Piece::Text(" "),
+                Piece::Text(kind_word(kind)),
+                Piece::Text("\n"),
+            ],
+        ),
+    }
+}
+
+/// Puts the line of a text that is too long.
+pub fn put_long_text<K: Sink>(sink: &mut K, name: &str) -> Result<(), WriteFault>
+    ensures { Puts K.taken K.faults sink.old sink.new result (long_text_line name.now) }
+{
+    put_pieces(
+        sink,
+        &[
+            Piece::Text("refused "),
+            Piece::Text(name),
+            Piece::Text(" too-long"),
+            Piece::Text("\n"),
+        ],
+    )
+}
+
+/// Puts the line of a text that could not be read.
+pub fn put_unread_text<K: Sink>(sink: &mut K, name: &str) -> Result<(), WriteFault>
+    ensures { Puts K.taken K.faults sink.old sink.new result (unread_text_line name.now) }
+{
+    put_pieces(
+        sink,
+        &[
+            Piece::Text("read fault "),
+            Piece::Text(name),
+            Piece::Text("\n"),
+        ],
+    )
+}
