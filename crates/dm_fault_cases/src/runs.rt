@@ -1,5 +1,4 @@
-//! Whole runs over files in memory whose files are too long, or whose openings, reads or writes fail. Runs over good and
-//! refused files are cases of dm_runs.
+//! Whole runs over files in memory, and what is due of each.
 ghost use Rattle.std.specs.Prelude.{◌<◌, ◌≤◌, vec_len};
 ghost use Rattle.dm_base.specs.declared.limits.TheConstants.{BOARDS};
 
@@ -67,14 +66,7 @@ fn texts(alloc: Global, words: &[&str]) -> Result<Vec<String>, AllocError> {
     Ok(texts)
 }
 
-fn run_case<R: Threads + Wait + Sync + AllocGlobal>(
-    rt: &R,
-    words: &[&str],
-    case: &Case<'_>,
-) -> Result<(Status, Vec<u8>), Fail> {
-    run_on_boards(rt, words, case, &mut Vec::new(rt.alloc()))
-}
-
+// The status of a run over these boards, and what it wrote.
 fn run_on_boards<R: Threads + Wait + Sync + AllocGlobal>(
     rt: &R,
     words: &[&str],
@@ -83,6 +75,7 @@ fn run_on_boards<R: Threads + Wait + Sync + AllocGlobal>(
 ) -> Result<(Status, Vec<u8>), Fail>
     requires { vec_len boards.old ≤ BOARDS }
 {
+    let alloc = rt.alloc();
     let files = [
         MemFile {
             name: "net/Events-expanded.giv",
@@ -121,20 +114,41 @@ fn run_on_boards<R: Threads + Wait + Sync + AllocGlobal>(
             fails: case.second_reads,
         },
     ];
-    let words = texts(rt.alloc(), words)?;
+    let words = texts(alloc, words)?;
     let mut shelf = MemShelf::new(&files, case.opens);
-    let writes = Vec::from_slice(rt.alloc(), case.writes)?;
-    let mut sink = MemSink::new(rt.alloc(), 1_000_000, case.piece.max(1), writes)?;
+    let writes = Vec::from_slice(alloc, case.writes)?;
+    let mut sink = MemSink::new(alloc, 1_000_000, case.piece.max(1), writes)?;
     let status = dispatch(
         rt,
-        rt.alloc(),
+        alloc,
         words.as_slice(),
         &mut shelf,
         boards,
         &OpenGate,
         &mut sink,
     );
-    Ok((status, sink.taken().to_vec(rt.alloc())?))
+    Ok((status, sink.taken().to_vec(alloc)?))
+}
+
+// A run, and the status and one of the texts that are due.
+#[derive(Clone, Copy)]
+struct Due<'a> {
+    words: &'a [&'a str],
+    case: Case<'a>,
+    status: Status,
+    texts: &'a [&'a [u8]],
+}
+
+// Whether each run ends as is due.
+fn all_end<R: Threads + Wait + Sync + AllocGlobal>(rt: &R, runs: &[Due<'_>]) -> Result<bool, Fail> {
+    for run in runs {
+        let (status, taken) = run_on_boards(rt, run.words, &run.case, &mut Vec::new(rt.alloc()))?;
+        let text = taken.as_slice();
+        if status != run.status || !run.texts.iter().any(|due| text == *due) {
+            return Ok(false);
+        }
+    }
+    Ok(true)
 }
 
 const RUN: &[&str] = &["run", "net", "--penalty=10", "f"];
@@ -148,6 +162,14 @@ const DELAYED: &[&str] = &[
     "--penalty=10",
 ];
 
+const TWO_FEEDS: &[&str] = &["run", "net", "--penalty=10", "f", "g"];
+
+const CHECK: &[&str] = &["check", "net", "--penalty=10", "g"];
+
+// The whole text of a run of which one feed says that the first train is late.
+const LATE: &[u8] =
+    b"dm-run 1\npenalty 10\nfeeds 1\nentries 1\nentry 1 feed 1 line 1 delay event 1 60\nfeed 1 1\n1 delay event 1 60 -> 1 ok\nend\nboards 0\ntimes 1\n1; 160\n2; 250\n3; 260\n4; 340\n5; 270\n6; 365\ncost 1075000\ndone\n";
+
 // The whole text of a run over good files whose one feed cannot be opened.
 const UNOPENED: &[u8] =
     b"dm-run 2\npenalty 10\nfeeds 1\nentries 0\nfeed 1 0\nfault\nboards 0\ntimes 0\n1; 100\n2; 200\n3; 220\n4; 300\n5; 230\n6; 330\ncost 0\ndone\n";
@@ -160,142 +182,235 @@ const HALF_READ: [&[u8]; 3] = [
     b"dm-run 2\npenalty 10\nfeeds 2\nentries 1\nentry 1 feed 1 line 1 delay event 1 60\nfeed 1 1\n1 delay event 1 60 -> 1 ok\nend\nfeed 2 2\n1 read -> 0 read\n2 read -> 0 read\nfault\nboards 0\ntimes 1\n1; 160\n2; 250\n3; 260\n4; 340\n5; 270\n6; 365\ncost 1075000\ndone\n",
 ];
 
-fn ends<R: Threads + Wait + Sync + AllocGlobal>(
-    rt: &R,
-    words: &[&str],
-    case: &Case<'_>,
-    status: Status,
-    text: &[u8],
-) -> Result<bool, Fail> {
-    let (ended, taken) = run_case(rt, words, case)?;
-    Ok(ended == status && taken.as_slice() == text)
+// Each opening, the first read of each file, the third of a feed, and the second write fail in turn.
+const FAULTS: &[Due<'static>] = &[
+    Due {
+        words: DELAYED,
+        case: Case {
+            opens: &[1],
+            ..GOOD
+        },
+        status: Status::ReadFault,
+        texts: &[b"read fault net/Events-expanded.giv\n"],
+    },
+    Due {
+        words: DELAYED,
+        case: Case {
+            opens: &[2],
+            ..GOOD
+        },
+        status: Status::ReadFault,
+        texts: &[b"read fault net/Activities-expanded.giv\n"],
+    },
+    Due {
+        words: DELAYED,
+        case: Case {
+            opens: &[3],
+            ..GOOD
+        },
+        status: Status::ReadFault,
+        texts: &[b"read fault net/d\n"],
+    },
+    Due {
+        words: DELAYED,
+        case: Case {
+            opens: &[4],
+            ..GOOD
+        },
+        status: Status::ReadFault,
+        texts: &[b"read fault net/e\n"],
+    },
+    Due {
+        words: DELAYED,
+        case: Case {
+            opens: &[5],
+            ..GOOD
+        },
+        status: Status::ReadFault,
+        texts: &[UNOPENED],
+    },
+    Due {
+        words: DELAYED,
+        case: Case {
+            event_reads: &[1],
+            ..GOOD
+        },
+        status: Status::ReadFault,
+        texts: &[b"read fault net/Events-expanded.giv\n"],
+    },
+    Due {
+        words: DELAYED,
+        case: Case {
+            activity_reads: &[1],
+            ..GOOD
+        },
+        status: Status::ReadFault,
+        texts: &[b"read fault net/Activities-expanded.giv\n"],
+    },
+    Due {
+        words: DELAYED,
+        case: Case {
+            delay_reads: &[1],
+            ..GOOD
+        },
+        status: Status::ReadFault,
+        texts: &[b"read fault net/d\n"],
+    },
+    Due {
+        words: TWO_FEEDS,
+        case: Case {
+            feed: b"delay event 1 60\n",
+            second: b"read\nread\nread\n",
+            second_reads: &[3],
+            ..GOOD
+        },
+        status: Status::ReadFault,
+        texts: &HALF_READ,
+    },
+    Due {
+        words: RUN,
+        case: Case {
+            piece: 5,
+            writes: &[2],
+            ..GOOD
+        },
+        status: Status::WriteFault,
+        texts: &[b"dm-ru"],
+    },
+    Due {
+        words: &["run"],
+        case: Case {
+            piece: 5,
+            writes: &[2],
+            ..GOOD
+        },
+        status: Status::WriteFault,
+        texts: &[b"usage"],
+    },
+    Due {
+        words: RUN,
+        case: Case {
+            events: b"x\n",
+            piece: 5,
+            writes: &[2],
+            ..GOOD
+        },
+        status: Status::WriteFault,
+        texts: &[b"refus"],
+    },
+];
+
+// A good text, each opening and read before its verdict, and the second write fail in turn.
+const CHECKED: &[Due<'static>] = &[
+    Due {
+        words: CHECK,
+        case: Case {
+            second: LATE,
+            ..GOOD
+        },
+        status: Status::Ok,
+        texts: &[b"good 1 0\n"],
+    },
+    Due {
+        words: CHECK,
+        case: Case {
+            opens: &[3],
+            second: LATE,
+            ..GOOD
+        },
+        status: Status::ReadFault,
+        texts: &[b"read fault g\n"],
+    },
+    Due {
+        words: CHECK,
+        case: Case {
+            second: LATE,
+            second_reads: &[2],
+            ..GOOD
+        },
+        status: Status::ReadFault,
+        texts: &[b"read fault g\n"],
+    },
+    Due {
+        words: CHECK,
+        case: Case {
+            opens: &[1],
+            second: LATE,
+            ..GOOD
+        },
+        status: Status::ReadFault,
+        texts: &[b"read fault net/Events-expanded.giv\n"],
+    },
+    Due {
+        words: CHECK,
+        case: Case {
+            second: LATE,
+            piece: 5,
+            writes: &[2],
+            ..GOOD
+        },
+        status: Status::WriteFault,
+        texts: &[b"good "],
+    },
+];
+
+#[test]
+fn openings_reads_and_writes_that_fail(rt: HostRuntime) -> Result<(), Fail> {
+    assert!(rt; all_end(&rt, FAULTS)?);
+    Ok(())
 }
 
-fn lines(alloc: Global, count: usize) -> Result<Vec<u8>, AllocError> {
-    vec![in alloc; b'\n'; count]
+#[test]
+fn checks_that_fail(rt: HostRuntime) -> Result<(), Fail> {
+    assert!(rt; all_end(&rt, CHECKED)?);
+    Ok(())
+}
+
+// The refusal of a run with both delay files and this case.
+fn refused<'a>(case: Case<'a>, texts: &'a [&'a [u8]]) -> Due<'a> {
+    Due {
+        words: DELAYED,
+        case,
+        status: Status::Refused,
+        texts,
+    }
 }
 
 #[test]
 fn files_past_the_limit(rt: HostRuntime) -> Result<(), Fail> {
-    let long = lines(rt.alloc(), FILE + 1)?;
-    let long = long.as_slice();
-    let cases = [
-        (
+    let lines = vec![in rt.alloc(); b'\n'; FILE + 1]?;
+    let long = lines.as_slice();
+    let runs = [
+        refused(
             Case {
                 events: long,
                 ..GOOD
             },
-            b"refused net/Events-expanded.giv too-long\n".as_slice(),
+            &[b"refused net/Events-expanded.giv too-long\n"],
         ),
-        (
+        refused(
             Case {
                 activities: long,
                 ..GOOD
             },
-            b"refused net/Activities-expanded.giv too-long\n".as_slice(),
+            &[b"refused net/Activities-expanded.giv too-long\n"],
         ),
-        (
+        refused(
             Case {
                 event_delays: long,
                 ..GOOD
             },
-            b"refused net/d too-long\n".as_slice(),
+            &[b"refused net/d too-long\n"],
         ),
-        (
+        refused(
             Case {
                 activity_delays: long,
                 ..GOOD
             },
-            b"refused net/e too-long\n".as_slice(),
+            &[b"refused net/e too-long\n"],
         ),
     ];
-    for (case, text) in cases {
-        assert!(rt; ends(&rt, DELAYED, &case, Status::Refused, text)?);
-    }
-    Ok(())
-}
-
-#[test]
-fn what_cannot_be_opened(rt: HostRuntime) -> Result<(), Fail> {
-    for (opens, text) in [
-        (
-            [1].as_slice(),
-            b"read fault net/Events-expanded.giv\n".as_slice(),
-        ),
-        (
-            [2].as_slice(),
-            b"read fault net/Activities-expanded.giv\n".as_slice(),
-        ),
-        ([3].as_slice(), b"read fault net/d\n".as_slice()),
-        ([4].as_slice(), b"read fault net/e\n".as_slice()),
-        ([5].as_slice(), UNOPENED),
-    ] {
-        let case = Case { opens, ..GOOD };
-        assert!(rt; ends(&rt, DELAYED, &case, Status::ReadFault, text)?);
-    }
-    Ok(())
-}
-
-#[test]
-fn first_reads_that_fail(rt: HostRuntime) -> Result<(), Fail> {
-    let cases = [
-        (
-            Case {
-                event_reads: &[1],
-                ..GOOD
-            },
-            b"read fault net/Events-expanded.giv\n".as_slice(),
-        ),
-        (
-            Case {
-                activity_reads: &[1],
-                ..GOOD
-            },
-            b"read fault net/Activities-expanded.giv\n".as_slice(),
-        ),
-        (
-            Case {
-                delay_reads: &[1],
-                ..GOOD
-            },
-            b"read fault net/d\n".as_slice(),
-        ),
-    ];
-    for (case, text) in cases {
-        assert!(rt; ends(&rt, DELAYED, &case, Status::ReadFault, text)?);
-    }
-    Ok(())
-}
-
-#[test]
-fn feed_that_fails_at_its_third_read(rt: HostRuntime) -> Result<(), Fail> {
-    let case = Case {
-        feed: b"delay event 1 60\n",
-        second: b"read\nread\nread\n",
-        second_reads: &[3],
-        ..GOOD
-    };
-    let words = &["run", "net", "--penalty=10", "f", "g"];
-    let (ended, taken) = run_case(&rt, words, &case)?;
-    assert!(rt; ended == Status::ReadFault);
-    assert!(rt; HALF_READ.iter().any(|text| taken.as_slice() == *text));
-    Ok(())
-}
-
-#[test]
-fn sink_that_fails(rt: HostRuntime) -> Result<(), Fail> {
-    let case = Case {
-        piece: 5,
-        writes: &[2],
-        ..GOOD
-    };
-    assert!(rt; ends(&rt, RUN, &case, Status::WriteFault, b"dm-ru")?);
-    assert!(rt; ends(&rt, &["run"], &case, Status::WriteFault, b"usage")?);
-    let refused = Case {
-        events: b"x\n",
-        ..case
-    };
-    assert!(rt; ends(&rt, RUN, &refused, Status::WriteFault, b"refus")?);
+    assert!(rt; all_end(&rt, &runs)?);
     Ok(())
 }
 

@@ -10,7 +10,7 @@ use dm_network::Network;
 use dm_rows::{
     Change, Decision, Flip, Message, Refusal, Rows, StartFault, admit, flip_of, start_rows,
 };
-use std::alloc::Global;
+use std::alloc::{AllocError, Global};
 use std::test::Fail;
 
 fn record(id: u32, delay: u64) -> DelayRow {
@@ -44,19 +44,27 @@ fn started(
     }
 }
 
+/// Whether a network has the counts of the connection, and rows these delays and the decisions of the start.
+fn are_started(net: &Network, rows: &Rows) -> bool
+    requires { IsSized net.now rows.now }
+{
+    net.events() == 6
+        && net.activities() == 7
+        && net.pairs() == 1
+        && rows.event_delay(0) == 0
+        && rows.event_delay(2) == 7
+        && rows.act_delay(4) == 9
+        && rows.passed(0) == None
+        && rows.kept(4)
+        && rows.small_first(0)
+}
+
 #[test]
 fn later_delay_record_wins(rt: HostRuntime) -> Result<(), Fail> {
     let net = connection(rt.alloc())?;
     let events = [record(1, 60), record(3, 7), record(1, 0)];
     let rows = started(rt.alloc(), &net, &events, &[record(5, 9)])?.copy()?;
-    assert_eq!(rt; net.events(), 6);
-    assert_eq!(rt; net.activities(), 7);
-    assert_eq!(rt; net.pairs(), 1);
-    assert_eq!(rt; rows.event_delay(0), 0);
-    assert_eq!(rt; rows.event_delay(2), 7);
-    assert_eq!(rt; rows.act_delay(4), 9);
-    assert_eq!(rt; rows.passed(0), None);
-    assert!(rt; rows.kept(4) && rows.small_first(0));
+    assert!(rt; are_started(&net, &rows));
     Ok(())
 }
 
@@ -64,43 +72,47 @@ fn later_delay_record_wins(rt: HostRuntime) -> Result<(), Fail> {
 fn unknown_delay_records(rt: HostRuntime) -> Result<(), Fail> {
     let net = connection(rt.alloc())?;
     let unknown = [record(9, 5)];
-    assert_eq!(rt;
-        started(rt.alloc(), &net, &unknown, &unknown).err(),
-        Some(StartFault::UnknownEvent(EventId(9)))
-    );
-    assert_eq!(rt;
-        started(rt.alloc(), &net, &[], &unknown).err(),
-        Some(StartFault::UnknownActivity(ActId(9)))
-    );
+    let event = started(rt.alloc(), &net, &unknown, &unknown).err();
+    assert!(rt; event == Some(StartFault::UnknownEvent(EventId(9))));
+    let activity = started(rt.alloc(), &net, &[], &unknown).err();
+    assert!(rt; activity == Some(StartFault::UnknownActivity(ActId(9))));
     Ok(())
 }
 
-#[test]
-fn adopted_decisions_by_place(rt: HostRuntime) -> Result<(), Fail> {
-    let net = connection(rt.alloc())?;
-    let mut rows = started(rt.alloc(), &net, &[], &[])?;
-    let decisions = vec![in rt.alloc();
+/// The decisions that are adopted, and these by place.
+fn adopted(alloc: Global) -> Result<(Message, Change), AllocError> {
+    let decisions = vec![in alloc;
         Decision::Drop(ActId(5)),
         Decision::First(EventId(5), EventId(3)),
     ]?;
-    let change = admit(
-        rt.alloc(),
-        &net,
-        &rows,
-        &Message::Adopt(Items::from_vec(decisions)),
-    )?;
-    let flips = vec![in rt.alloc();
+    let flips = vec![in alloc;
         Flip::Drop { act: 4 },
         Flip::First {
             pair: 0,
             small: false
         },
     ]?;
-    assert_eq!(rt; change, Change::Adopted(Items::from_vec(flips)));
-    assert_eq!(rt;
-        flip_of(&net, &rows, &Decision::Keep(ActId(4))),
-        Err(Refusal::UnknownChange(ActId(4)))
-    );
+    Ok((
+        Message::Adopt(Items::from_vec(decisions)),
+        Change::Adopted(Items::from_vec(flips)),
+    ))
+}
+
+/// Whether rows of the connection take the adopted decisions, by place, and none of an activity that is no change.
+fn take_decisions(alloc: Global, net: &Network, mut rows: Rows) -> Result<bool, Fail>
+    requires { IsSized net.now rows }
+{
+    let (message, due) = adopted(alloc)?;
+    let change = admit(alloc, net, &rows, &message)?;
     rows.apply(&change);
+    let refused = flip_of(net, &rows, &Decision::Keep(ActId(4)));
+    Ok(change == due && refused == Err(Refusal::UnknownChange(ActId(4))))
+}
+
+#[test]
+fn adopted_decisions_by_place(rt: HostRuntime) -> Result<(), Fail> {
+    let net = connection(rt.alloc())?;
+    let rows = started(rt.alloc(), &net, &[], &[])?;
+    assert!(rt; take_decisions(rt.alloc(), &net, rows)?);
     Ok(())
 }
