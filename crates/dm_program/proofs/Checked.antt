@@ -1,13 +1,13 @@
 -- How words that ask for a check end.
 use Rattle.std.proofs.Common.{◌≡◌, ℕ, ◌≤◌, ◌⊎◌, inl, inr, List, length, Option, None, Result, Ok, Err, refl, sym, ap, subst, ◌∙◌, arith}
 use Rattle.std.specs.Prelude.{IsSome}
-use Rattle.dm_base.specs.declared.limits.TheConstants.{TEXT}
+use Rattle.dm_base.specs.declared.limits.TheConstants.{PENALTY, TEXT}
 use Rattle.dm_outside.specs.Faults.{HasRisen}
 use Rattle.dm_outside.specs.declared.faults.TakeFault.{TakeFault}
 use Rattle.dm_outside.specs.declared.faults.TakeFault.TheVariants.{ReadFault as NotRead, TooLong as TooMany, OutOfMemory}
-use Rattle.dm_network.specs.Net.{IsWithinLimits}
+use Rattle.dm_network.specs.Net.{Net, IsWithinLimits}
 use Rattle.dm_network.specs.Start.{IsNetwork}
-use Rattle.dm_rows.specs.Rows.{RowsAreWithinLimits}
+use Rattle.dm_rows.specs.Rows.{RowsValue, RowsAreWithinLimits}
 use Rattle.dm_input.specs.Input.{Told, IsHeld, Opening, OpeningAnswer, IsUnread}
 use Rattle.dm_input.specs.Stops.{IsLong}
 use Rattle.dm_input.specs.declared.flaws.InputFlaw.{InputFlaw}
@@ -15,10 +15,14 @@ use Rattle.dm_input.proofs.OneOpening.{opening_is_one}
 use Rattle.dm_words.specs.Words.{CheckAsked, CheckOf, RunAsked, RunOf, GenAsked, GenOf, FilesAsked, Asks}
 use Rattle.dm_words.proofs.OneCommand.{one_command}
 use Rattle.dm_cert.specs.RunTexts.{Run}
+use Rattle.dm_cert.specs.Runs.{IsRunText}
+use Rattle.dm_check.specs.declared.verdicts.BadKind.{BadKind}
 use Rattle.dm_check.specs.declared.verdicts.Verdict.{Verdict}
 use Rattle.dm_check.specs.declared.verdicts.Verdict.TheVariants.{Good as GoodVerdict, Bad as BadVerdict}
 use Rattle.dm_check.specs.FalseRecords.{IsVerdict}
 use Rattle.dm_check.proofs.ToldOnce.{verdicts_are_one}
+use Rattle.dm_truth.specs.Laws.{EventIdsFit, HasNoFalseRecord}
+use Rattle.dm_truth.proofs.BothWays.{run_texts_are_the_good_ones}
 use Rattle.dm_truth.proofs.ToldRuns.{good_texts_are_true}
 use Rattle.dm_program.specs.declared.status.Status.{Status}
 use Rattle.dm_program.specs.declared.status.Status.TheVariants.{Ok as Well, Bad, Usage, Refused, ReadFault, WriteFault, NoMemory}
@@ -39,30 +43,40 @@ no_run run check e = cc
 bad_is_not_well : Bad ≡ Well → ⊥
 bad_is_not_well e = cc
 
+good_is_not_bad : (entries plans line : ℕ) (kind : BadKind) → GoodVerdict entries plans ≡ BadVerdict line kind → ⊥
+good_is_not_bad entries plans line kind e = cc
+
+-- no text of a true run is told bad
+no_run_text_is_bad : (net : Net) (rows : RowsValue) (penalty : ℕ) (bytes : List ℕ) (line : ℕ) (kind : BadKind) → IsNetwork net → IsWithinLimits net → RowsAreWithinLimits rows → EventIdsFit net → penalty ≤ PENALTY → IsVerdict net rows penalty bytes (BadVerdict line kind) → IsRunText net rows penalty bytes → ⊥
+no_run_text_is_bad net rows penalty bytes line kind network limits within ids low bad is =
+    let has : HasNoFalseRecord net rows penalty bytes = (run_texts_are_the_good_ones net rows penalty bytes network limits ids within low).0 is in
+    good_is_not_bad has.entries has.plans line kind (verdicts_are_one net rows penalty bytes (GoodVerdict has.entries has.plans) (BadVerdict line kind) has.good bad)
+
 no_day : (day : GenAsked) (check : CheckAsked) → GenOf day ≡ CheckOf check → ⊥
 no_day day check e = cc
 
 module _ {K : Type 0} (taken : K → Option (List ℕ)) (faults : K → ℕ) (told : Told) (is_sound : List ℕ → Type 0) (end_boards : Option Run → Type 0) (words : List (List ℕ)) (before now : K) (asked : CheckAsked) (asks : Asks words (CheckOf asked)) where
   -- ---- what was done is due
 
-  due_verdict : (opening : Opening) → OpeningAnswer told asked.files (Ok opening) → IsNetwork opening.net → IsWithinLimits opening.net → RowsAreWithinLimits opening.rows → end_boards None → (verdict : Verdict) → IsJudged told asked.text opening.net opening.rows asked.files.penalty verdict → IsDue told is_sound end_boards words (verdict_status verdict) (verdict_line verdict)
-  due_verdict opening opens network limits within left (GoodVerdict entries plans) judged =
+  due_verdict : (opening : Opening) → OpeningAnswer told asked.files (Ok opening) → IsNetwork opening.net → IsWithinLimits opening.net → RowsAreWithinLimits opening.rows → EventIdsFit opening.net → end_boards None → (verdict : Verdict) → IsJudged told asked.text opening.net opening.rows asked.files.penalty verdict → IsDue told is_sound end_boards words (verdict_status verdict) (verdict_line verdict)
+  due_verdict opening opens network limits within ids left (GoodVerdict entries plans) judged =
       let is_run_text = good_texts_are_true opening.net opening.rows asked.files.penalty judged.bytes entries plans network limits within (check_within words asked asks) judged.is_verdict in
-      inr (inr (record { asked = asked; is_asked = asks; opening = opening; opens = opens; bytes = judged.bytes; held = judged.held; short = judged.short; verdict = GoodVerdict entries plans; is_verdict = judged.is_verdict; has_status = refl; is_run_text = λ well. is_run_text; is_line = refl; boards = left }))
-  due_verdict opening opens network limits within left (BadVerdict line kind) judged =
-      record { asked = asked; is_asked = asks; opening = opening; opens = opens; bytes = judged.bytes; held = judged.held; short = judged.short; verdict = BadVerdict line kind; is_verdict = judged.is_verdict; has_status = refl; is_run_text = λ well. absurd (bad_is_not_well well); is_line = refl; boards = left }
+      inr (inr (record { asked = asked; is_asked = asks; opening = opening; opens = opens; bytes = judged.bytes; held = judged.held; short = judged.short; verdict = GoodVerdict entries plans; is_verdict = judged.is_verdict; has_status = refl; run_texts = (λ well. is_run_text, λ is. refl); is_line = refl; boards = left }))
+  due_verdict opening opens network limits within ids left (BadVerdict line kind) judged =
+      let never = no_run_text_is_bad opening.net opening.rows asked.files.penalty judged.bytes line kind network limits within ids (check_within words asked asks) judged.is_verdict in
+      record { asked = asked; is_asked = asks; opening = opening; opens = opens; bytes = judged.bytes; held = judged.held; short = judged.short; verdict = BadVerdict line kind; is_verdict = judged.is_verdict; has_status = refl; run_texts = (λ well. absurd (bad_is_not_well well), λ is. absurd (never is)); is_line = refl; boards = left }
 
-  ends_by : (opening : Opening) → OpeningAnswer told asked.files (Ok opening) → IsNetwork opening.net → IsWithinLimits opening.net → RowsAreWithinLimits opening.rows → end_boards None → (judgement : Result Verdict TakeFault) (result : Status) → Judges told is_sound asked.text opening.net opening.rows asked.files.penalty judgement → EndsBy taken faults asked.text judgement before now result → Ends taken faults told is_sound end_boards words before now result
-  ends_by opening opens network limits within left (Ok verdict) result judges h = ends_due taken faults told is_sound end_boards words before now (verdict_status verdict) (verdict_line verdict) result (due_verdict opening opens network limits within left verdict judges) h
-  ends_by opening opens network limits within left (Err NotRead) result judges h =
+  ends_by : (opening : Opening) → OpeningAnswer told asked.files (Ok opening) → IsNetwork opening.net → IsWithinLimits opening.net → RowsAreWithinLimits opening.rows → EventIdsFit opening.net → end_boards None → (judgement : Result Verdict TakeFault) (result : Status) → Judges told is_sound asked.text opening.net opening.rows asked.files.penalty judgement → EndsBy taken faults asked.text judgement before now result → Ends taken faults told is_sound end_boards words before now result
+  ends_by opening opens network limits within ids left (Ok verdict) result judges h = ends_due taken faults told is_sound end_boards words before now (verdict_status verdict) (verdict_line verdict) result (due_verdict opening opens network limits within ids left verdict judges) h
+  ends_by opening opens network limits within ids left (Err NotRead) result judges h =
       ends_due taken faults told is_sound end_boards words before now ReadFault (unread_text_line asked.text) result (inr (inl (record { asked = asked; is_asked = asks; opening = opening; opens = opens; unsound = judges; is_line = refl; boards = left }))) h
-  ends_by opening opens network limits within left (Err TooMany) result judges h =
+  ends_by opening opens network limits within ids left (Err TooMany) result judges h =
       ends_due taken faults told is_sound end_boards words before now Refused (long_text_line asked.text) result (inr (inl (record { asked = asked; is_asked = asks; opening = opening; opens = opens; long = judges; is_line = refl; boards = left }))) h
-  ends_by opening opens network limits within left (Err OutOfMemory) result judges h = ends_wanting taken faults told is_sound end_boards words before now (CheckOf asked) asks result h.0 h.1
+  ends_by opening opens network limits within ids left (Err OutOfMemory) result judges h = ends_wanting taken faults told is_sound end_boards words before now (CheckOf asked) asks result h.0 h.1
 
   pub ends_checked : end_boards None → (result : Status) → EndsChecked taken faults told is_sound asked before now result → Ends taken faults told is_sound end_boards words before now result
   ends_checked left result (inl files) = ends_stopped taken faults told is_sound end_boards words before now asked.files left (record { asked = CheckOf asked; is_asked = asks; reads = refl }) files.stop result files.stops files.ends
-  ends_checked left result (inr text) = ends_by text.opening text.opens text.network text.limits text.within left text.ends.judgement result text.ends.judges text.ends.ends
+  ends_checked left result (inr text) = ends_by text.opening text.opens text.network text.limits text.within text.ids left text.ends.judgement result text.ends.judges text.ends.ends
 
   -- ---- what is due was done
 
@@ -107,17 +121,23 @@ module _ {K : Type 0} (taken : K → Option (List ℕ)) (faults : K → ℕ) (to
     long_text_ends long NoMemory h = inr (inr (inr refl))
 
     module _ (bytes : List ℕ) (held : IsHeld told asked.text bytes) (short : length bytes ≤ TEXT) where
+      same_opening : (status : Status) (line : List ℕ) (v : IsVerdictFor told end_boards words status line) → v.opening ≡ opening
+      same_opening status line v = opening_is_one told asked.files known (Ok v.opening) (Ok opening) (subst (λ (a : CheckAsked). OpeningAnswer told a.files (Ok v.opening)) (same_check v.asked v.is_asked) v.opens) opens
+
+      same_bytes : (status : Status) (line : List ℕ) (v : IsVerdictFor told end_boards words status line) → v.bytes ≡ bytes
+      same_bytes status line v = held_is told asked.text v.bytes bytes known (subst (λ (a : CheckAsked). IsHeld told a.text v.bytes) (same_check v.asked v.is_asked) v.held) held
+
+      -- what is said of the text over one opening is said over the other
+      said_here : (P : Net → RowsValue → ℕ → List ℕ → Type 0) (status : Status) (line : List ℕ) (v : IsVerdictFor told end_boards words status line) → P v.opening.net v.opening.rows v.asked.files.penalty v.bytes → P opening.net opening.rows asked.files.penalty bytes
+      said_here P status line v said =
+          let at_price : P v.opening.net v.opening.rows asked.files.penalty v.bytes = subst (λ (a : CheckAsked). P v.opening.net v.opening.rows a.files.penalty v.bytes) (same_check v.asked v.is_asked) said in
+          let over : P opening.net opening.rows asked.files.penalty v.bytes = subst (λ (o : Opening). P o.net o.rows asked.files.penalty v.bytes) (same_opening status line v) at_price in
+          subst (λ (b : List ℕ). P opening.net opening.rows asked.files.penalty b) (same_bytes status line v) over
+
       same_verdict : (verdict : Verdict) → IsVerdict opening.net opening.rows asked.files.penalty bytes verdict → (status : Status) (line : List ℕ) (v : IsVerdictFor told end_boards words status line) → v.verdict ≡ verdict
       same_verdict verdict is status line v =
-          let same : v.asked ≡ asked = same_check v.asked v.is_asked in
-          let there : IsHeld told asked.text v.bytes = subst (λ (a : CheckAsked). IsHeld told a.text v.bytes) same v.held in
-          let here : v.bytes ≡ bytes = held_is told asked.text v.bytes bytes known there held in
-          let also : OpeningAnswer told asked.files (Ok v.opening) = subst (λ (a : CheckAsked). OpeningAnswer told a.files (Ok v.opening)) same v.opens in
-          let opened : v.opening ≡ opening = opening_is_one told asked.files known (Ok v.opening) (Ok opening) also opens in
-          let at_price : IsVerdict v.opening.net v.opening.rows asked.files.penalty v.bytes v.verdict = subst (λ (a : CheckAsked). IsVerdict v.opening.net v.opening.rows a.files.penalty v.bytes v.verdict) same v.is_verdict in
-          let over : IsVerdict opening.net opening.rows asked.files.penalty v.bytes v.verdict = subst (λ (o : Opening). IsVerdict o.net o.rows asked.files.penalty v.bytes v.verdict) opened at_price in
-          let of : IsVerdict opening.net opening.rows asked.files.penalty bytes v.verdict = subst (λ (b : List ℕ). IsVerdict opening.net opening.rows asked.files.penalty b v.verdict) here over in
-          verdicts_are_one opening.net opening.rows asked.files.penalty bytes v.verdict verdict of is
+          let here = said_here (λ net rows penalty text. IsVerdict net rows penalty text v.verdict) status line v v.is_verdict in
+          verdicts_are_one opening.net opening.rows asked.files.penalty bytes v.verdict verdict here is
 
       told_verdict : (verdict : Verdict) → IsVerdict opening.net opening.rows asked.files.penalty bytes verdict → (status : Status) (line : List ℕ) → IsVerdictFor told end_boards words status line → (status ≡ verdict_status verdict) × (line ≡ verdict_line verdict)
       told_verdict verdict is status line v =
@@ -169,5 +189,21 @@ module _ {K : Type 0} (taken : K → Option (List ℕ)) (faults : K → ℕ) (to
             | inr other ↦ elim other [
               | inl t ↦ absurd (t.unsound (subst (λ (a : CheckAsked). is_sound a.text) (sym (same_check t.asked t.is_asked)) sound.text))
               | inr r ↦ absurd (never_run r.asked r.is_asked)
+            ]
+          ]
+
+      -- a text of a true run is told good
+      never_bad : IsRunText opening.net opening.rows asked.files.penalty bytes → (line : List ℕ) → IsVerdictFor told end_boards words Bad line → ⊥
+      never_bad is line v = said_here (λ net rows penalty text. IsRunText net rows penalty text → ⊥) Bad line v (λ there. bad_is_not_well (v.run_texts.1 there)) is
+
+      pub run_text_ends : IsRunText opening.net opening.rows asked.files.penalty bytes → IsSoundFor is_sound asked → (HasRisen (faults before) (faults now) → ⊥) → (result : Status) → Ends taken faults told is_sound end_boards words before now result → (result ≡ Well) ⊎ (result ≡ NoMemory)
+      run_text_ends is sound unrisen result h =
+          elim (check_ends_well sound unrisen result h) [
+            | inl well ↦ inl well
+            | inr other ↦ elim other [
+              | inl bad ↦
+                  let ends : Ends taken faults told is_sound end_boards words before now Bad = subst (Ends taken faults told is_sound end_boards words before now) bad h in
+                  absurd (never_bad is ends.text ends.holds)
+              | inr memory ↦ inr memory
             ]
           ]

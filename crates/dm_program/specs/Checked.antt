@@ -1,6 +1,6 @@
 -- What is printed of a text that is checked. Its bytes are those that the shelf tells under its name. It comes after the files:
 -- nothing of them is refused, and they make the network and the start rows by which it is judged.
-use Rattle.std.specs.Prelude.{ℕ, ◌≡◌, ◌≤◌, List, length, Option, None, Ok}
+use Rattle.std.specs.Prelude.{ℕ, ◌≡◌, ◌≤◌, ◌↔◌, List, length, Option, None, Ok}
 use Rattle.dm_base.specs.declared.limits.TheConstants.{TEXT}
 use Rattle.dm_input.specs.Input.{Told, IsHeld, Opening, OpeningAnswer}
 use Rattle.dm_input.specs.Stops.{IsLong}
@@ -14,8 +14,8 @@ use Rattle.dm_program.specs.declared.status.Status.TheVariants.{Ok as Well}
 use Rattle.dm_program.specs.Verdicts.{verdict_line, verdict_status, long_text_line, unread_text_line}
 
 -- The line is the verdict on the text, over the network and the start rows of the files and at the penalty of the words: that it is
--- good, with so many entries and plans, or the first record that breaks its rule. The status is the verdict's. A good text is
--- the spelling, in one of the versions, of a true run.
+-- good, with so many entries and plans, or the first record that breaks its rule. The status is the verdict's. The good texts are
+-- exactly the spellings, in one of the versions, of true runs.
 pub record IsVerdictFor (told : Told) (end_boards : Option Run → Type 0) (words : List (List ℕ)) (status : Status) (line : List ℕ) : Type 0 where
   pub asked : CheckAsked
   pub is_asked : Asks words (CheckOf asked)
@@ -27,7 +27,7 @@ pub record IsVerdictFor (told : Told) (end_boards : Option Run → Type 0) (word
   pub verdict : Verdict
   pub is_verdict : IsVerdict opening.net opening.rows asked.files.penalty bytes verdict
   pub has_status : status ≡ verdict_status verdict
-  pub is_run_text : status ≡ Well → IsRunText opening.net opening.rows asked.files.penalty bytes
+  pub run_texts : (status ≡ Well) ↔ IsRunText opening.net opening.rows asked.files.penalty bytes
   pub is_line : line ≡ verdict_line verdict
   pub boards : end_boards None
 

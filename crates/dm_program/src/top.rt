@@ -7,6 +7,7 @@ ghost use Rattle.dm_input.specs.Input.{Opening, OpeningAnswer, IsHeld};
 ghost use Rattle.dm_input.specs.Stops.{IsKept, IsLong};
 ghost use Rattle.dm_words.specs.Asked.{command_of};
 ghost use Rattle.dm_words.specs.Words.{Asks, AsksNothing, CheckAsked, CheckOf, FilesAsked, GenAsked, GenOf, RunAsked, RunOf};
+ghost use Rattle.dm_cert.specs.Runs.{IsRunText};
 ghost use Rattle.dm_check.specs.declared.verdicts.Verdict.{Verdict};
 ghost use Rattle.dm_check.specs.FalseRecords.{IsVerdict};
 ghost use Rattle.dm_program.specs.Boards.{EndBoards};
@@ -81,6 +82,12 @@ pub fn dispatch<R: Threads + Wait + Sync, H: Shelf, K: Sink, G: Gate>(
         → OpeningAnswer (H.files shelf.old) asked.files (Ok opening) → IsHeld (H.files shelf.old) asked.text bytes → length bytes ≤ TEXT
         → IsSoundFor (H.is_sound shelf.old) asked → (HasRisen (K.faults out.old) (K.faults out.new) → ⊥)
         → (result ≡ Status.Ok) ⊎ ((result ≡ Status.Bad) ⊎ (result ≡ Status.NoMemory)) }
+
+    // Where the same hold, the text of a true run is good, or wants memory.
+    ensures run_texts_are_good { (asked : CheckAsked) (opening : Opening) (bytes : List ℕ) → Asks (map string_bytes words.now) (CheckOf asked) → IsSome (H.files shelf.old)
+        → OpeningAnswer (H.files shelf.old) asked.files (Ok opening) → IsHeld (H.files shelf.old) asked.text bytes → length bytes ≤ TEXT
+        → IsRunText opening.net opening.rows asked.files.penalty bytes → IsSoundFor (H.is_sound shelf.old) asked → (HasRisen (K.faults out.old) (K.faults out.new) → ⊥)
+        → (result ≡ Status.Ok) ⊎ (result ≡ Status.NoMemory) }
 
     // Whatever the status, words that ask for no run leave the boards as they were, the shelf tells what it told, the sink's
     // count has not fallen and the list has its boards in their order.

@@ -12,6 +12,7 @@ use Rattle.dm_input.specs.declared.flaws.InputStop.{InputStop}
 use Rattle.dm_words.specs.Words.{CheckAsked}
 use Rattle.dm_check.specs.declared.verdicts.Verdict.{Verdict}
 use Rattle.dm_check.specs.FalseRecords.{IsVerdict}
+use Rattle.dm_truth.specs.Laws.{EventIdsFit}
 use Rattle.dm_program.specs.declared.status.Status.{Status}
 use Rattle.dm_program.specs.declared.status.Status.TheVariants.{Refused, ReadFault, NoMemory}
 use Rattle.dm_program.specs.Ends.{EndsAs}
@@ -58,6 +59,7 @@ pub record EndsAtText {K : Type 0} (taken : K → Option (List ℕ)) (faults : K
   pub network : IsNetwork opening.net
   pub limits : IsWithinLimits opening.net
   pub within : RowsAreWithinLimits opening.rows
+  pub ids : EventIdsFit opening.net
   pub ends : EndsJudged taken faults told is_sound asked.text opening.net opening.rows asked.files.penalty before now result
 
 -- how a check ends

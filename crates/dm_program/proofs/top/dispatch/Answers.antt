@@ -1,6 +1,6 @@
 use Rattle.std.proofs.Common.{Global}
 use Rattle.std.specs.Prelude.{map, string_bytes}
-use Rattle.dm_program.proofs.Checked.{long_text_ends, judged_ends, check_ends_well}
+use Rattle.dm_program.proofs.Checked.{long_text_ends, judged_ends, check_ends_well, run_text_ends}
 use Rattle.dm_program.proofs.Converse.{ends_outside, ends_at, ends_well}
 use Rattle.dm_program.proofs.Generated.{generated_ends}
 use Rattle.dm_program.proofs.top.dispatch.Goals as goal
@@ -53,3 +53,7 @@ returns-clause-complete_check g c = λ asked opening bytes asks known opens held
 pub returns-clause-complete : goal.returns-clause-complete
 returns-clause-complete g c = λ asked opening asks known opens short sound unrisen.
     ends_well g.K.Sink.taken g.K.Sink.faults (g.H.Shelf.files c.args.shelf.now) (g.H.Shelf.is_sound c.args.shelf.now) _ (map (string_bytes {Z = Global}) c.args.words.now) c.args.out.now c.run.new.out asked asks known opening opens short sound unrisen c.run.result c.run.ensures.ends
+
+pub returns-clause-run_texts_are_good : goal.returns-clause-run_texts_are_good
+returns-clause-run_texts_are_good g c = λ asked opening bytes asks known opens held short is sound unrisen.
+    run_text_ends g.K.Sink.taken g.K.Sink.faults (g.H.Shelf.files c.args.shelf.now) (g.H.Shelf.is_sound c.args.shelf.now) _ (map (string_bytes {Z = Global}) c.args.words.now) c.args.out.now c.run.new.out asked asks known opening opens bytes held short is sound unrisen c.run.result c.run.ensures.ends
