@@ -431,6 +431,8 @@ fn board_files_of_two_runs(rt: HostRuntime) -> Result<(), Fail> {
         feed: b"delay event 1 60\n",
         ..GOOD
     };
+    fs::write(&rt, "late-2.txt", b"")?;
+    fs::write(&rt, "late-4.txt", b"")?;
     let mut boards: Vec<Box<dyn Board>> = Vec::new(rt.alloc());
     boards.push(board_in_file(rt, "late-2.txt", 2)?)?;
     boards.push(board_in_file(rt, "late-4.txt", 4)?)?;
