@@ -20,10 +20,11 @@ use Rattle.dm_rows.specs.declared.messages.Flip.TheVariants.{Keep, Drop, First}
 use Rattle.dm_rows.specs.declared.messages.Change.{Change}
 use Rattle.dm_rows.specs.declared.messages.Change.TheVariants.{EventDelay, ActDelay, Passed, Recalled, Flipped, Adopted, Clock}
 use Rattle.dm_relaxation.specs.Binding.{AreFlags, AreSpansOf, AreFloorsOf}
-use Rattle.dm_relaxation.specs.Timetables.{TimetableValue, AgreesWith, RenewsEvent, RenewsActivity, FlipsNet, ChangesNet}
-use Rattle.dm_relaxation.specs.Inside.Agreeing.{FloorAgrees, ActivityAgrees, Renews, Nowhere, Here, Before, InRow, IsInto, IsOutOf, LeadsAt, IsDecided}
+use Rattle.dm_relaxation.specs.Timetables.{TimetableValue, AgreesWith, RenewsEvent, RenewsActivity, TakesClock, FlipsNet, ChangesNet}
+use Rattle.dm_relaxation.specs.Inside.Agreeing.{FloorAgrees, ActivityAgrees, Renews, MovesAt, Nowhere, Here, IsMoved, MovedBefore, InRow, IsInto, IsOutOf, LeadsAt, IsDecided}
 use Rattle.dm_relaxation.proofs.Rising.{LeadsOut, stands_out}
 use Rattle.dm_relaxation.proofs.Spreading.{LeadsInto, stands_into}
+use Rattle.dm_relaxation.proofs.OfTimetables.{agrees_same}
 
 -- ---- one place after the other
 
@@ -32,6 +33,7 @@ renews_none net rows t = record {
   held_size = refl;
   spans_size = refl;
   floors_size = refl;
+  clock_kept = refl;
   events_there = λ e nowhere. absurd nowhere;
   events_kept = λ e is. is;
   activities_there = λ a nowhere. absurd nowhere;
@@ -44,6 +46,7 @@ renews_then net rows e1 e2 events a1 a2 activities old mid new of_events of_acti
   held_size = two.held_size ∙ one.held_size;
   spans_size = two.spans_size ∙ one.spans_size;
   floors_size = two.floors_size ∙ one.floors_size;
+  clock_kept = two.clock_kept ∙ one.clock_kept;
   events_there = λ e is. elim (of_events e is) [
     | inl first ↦ two.events_kept e (one.events_there e first)
     | inr second ↦ two.events_there e second
@@ -61,6 +64,7 @@ event_renews net rows event old new inside renews = record {
   held_size = ap (λ (xs : List Bool). length xs) renews.held;
   spans_size = ap (λ (xs : List ℕ). length xs) renews.spans;
   floors_size = ap (λ (xs : List ℕ). length xs) renews.floors ∙ length-set old.floors event (floor_of net rows event);
+  clock_kept = renews.clock;
   events_there = λ e here. there e here;
   events_kept = λ e was. elim (cases_eq e event) [
     | inl here ↦ there e here
@@ -78,6 +82,7 @@ activity_renews net rows a old new inside inside_spans renews = record {
   held_size = ap (λ (xs : List Bool). length xs) renews.held ∙ length-set old.held a (is_active net rows a);
   spans_size = ap (λ (xs : List ℕ). length xs) renews.spans ∙ length-set old.spans a (span_of net rows a);
   floors_size = ap (λ (xs : List ℕ). length xs) renews.floors;
+  clock_kept = renews.clock;
   events_there = λ e nowhere. absurd nowhere;
   events_kept = λ e was. ap (λ (xs : List ℕ). slice_index xs e) renews.floors ∙ was;
   activities_there = λ b here. there b here;
@@ -101,6 +106,7 @@ row_none net rows row t = let none = renews_none net rows t in record {
   held_size = none.held_size;
   spans_size = none.spans_size;
   floors_size = none.floors_size;
+  clock_kept = none.clock_kept;
   events_there = none.events_there;
   events_kept = none.events_kept;
   activities_there = λ a inside. absurd (let b = inside.before in omega arith);
@@ -117,25 +123,65 @@ row_more net rows row n old mid new had more =
     ])
     had more
 
-pub events_begin : (net : Net) (rows : RowsValue) (t : TimetableValue) → Renews net rows (Before 0) Nowhere t t
-events_begin net rows t = let none = renews_none net rows t in record {
+pub moved_none : (net : Net) (rows : RowsValue) (t : TimetableValue) → Renews net rows (MovedBefore t rows.clock 0) Nowhere t t
+moved_none net rows t = let none = renews_none net rows t in record {
   held_size = none.held_size;
   spans_size = none.spans_size;
   floors_size = none.floors_size;
-  events_there = λ e below. absurd (omega arith);
+  clock_kept = none.clock_kept;
+  events_there = λ e moved. absurd (let b = moved.0 in omega arith);
   events_kept = none.events_kept;
   activities_there = none.activities_there;
   activities_kept = none.activities_kept;
 }
 
-pub events_more : (net : Net) (rows : RowsValue) (n : ℕ) (old mid new : TimetableValue) → Renews net rows (Before n) Nowhere old mid → Renews net rows (Here n) Nowhere mid new → Renews net rows (Before (n + 1)) Nowhere old new
-events_more net rows n old mid new had more =
-    renews_then net rows (Before n) (Here n) (Before (n + 1)) Nowhere Nowhere Nowhere old mid new
-    (λ e below. elim (cases_lt e n) [
-      | inl less ↦ inl less
-      | inr past ↦ inr (omega arith)
+pub moved_more : (net : Net) (rows : RowsValue) (n : ℕ) (old mid new : TimetableValue) → Renews net rows (MovedBefore old rows.clock n) Nowhere old mid → slice_index mid.floors n ≡ slice_index old.floors n →
+    MovesAt net rows n mid new → Renews net rows (MovedBefore old rows.clock (n + 1)) Nowhere old new
+moved_more net rows n old mid new had same more =
+    renews_then net rows (MovedBefore old rows.clock n) (λ k. (k ≡ n) × IsMoved mid rows.clock n) (MovedBefore old rows.clock (n + 1)) Nowhere Nowhere Nowhere old mid new
+    (λ e moved. elim (cases_lt e n) [
+      | inl less ↦ inl (less, moved.1)
+      | inr past ↦
+          let b = moved.0 in
+          let is : e ≡ n = omega arith in
+          inr (is, still (subst (λ (k : ℕ). IsMoved old rows.clock k) is moved.1))
     ])
-    (λ a is. inl is) had more
+    (λ a is. inl is) had more.renews
+  where
+    still : IsMoved old rows.clock n → IsMoved mid rows.clock n
+    still (inl back) = inl (let c = had.clock_kept in omega arith)
+    still (inr early) = inr (omega arith)
+
+-- an event that the clock does not move, and one that is renewed
+pub moves_not : (net : Net) (rows : RowsValue) (event : ℕ) (t : TimetableValue) → (IsMoved t rows.clock event → ⊥) → MovesAt net rows event t t
+moves_not net rows event t not = let none = renews_none net rows t in record {
+  renews = record {
+    held_size = none.held_size;
+    spans_size = none.spans_size;
+    floors_size = none.floors_size;
+    clock_kept = none.clock_kept;
+    events_there = λ e moved. absurd (not moved.1);
+    events_kept = none.events_kept;
+    activities_there = none.activities_there;
+    activities_kept = none.activities_kept;
+  };
+  elsewhere = λ k ne. refl;
+}
+
+pub moves_event : (net : Net) (rows : RowsValue) (event : ℕ) (old new : TimetableValue) → event < length old.floors → RenewsEvent net rows event old new → MovesAt net rows event old new
+moves_event net rows event old new inside renews = let all = event_renews net rows event old new inside renews in record {
+  renews = record {
+    held_size = all.held_size;
+    spans_size = all.spans_size;
+    floors_size = all.floors_size;
+    clock_kept = all.clock_kept;
+    events_there = λ e moved. all.events_there e moved.0;
+    events_kept = all.events_kept;
+    activities_there = all.activities_there;
+    activities_kept = all.activities_kept;
+  };
+  elsewhere = λ k ne. ap (λ (xs : List ℕ). slice_index xs k) renews.floors ∙ get_or-set_other old.floors event k (floor_of net rows event) 0 ne;
+}
 
 -- ---- whole rows of activities
 
@@ -144,6 +190,7 @@ row_into_whole net rows i n row old new is all had = record {
   held_size = had.held_size;
   spans_size = had.spans_size;
   floors_size = had.floors_size;
+  clock_kept = had.clock_kept;
   events_there = had.events_there;
   events_kept = had.events_kept;
   activities_there = λ a enters. had.activities_there a
@@ -156,6 +203,7 @@ row_out_whole net rows i n row old new is all had = record {
   held_size = had.held_size;
   spans_size = had.spans_size;
   floors_size = had.floors_size;
+  clock_kept = had.clock_kept;
   events_there = had.events_there;
   events_kept = had.events_kept;
   activities_there = λ a leaves. had.activities_there a
@@ -256,6 +304,11 @@ flip_keeps_floor net rows (Keep a) i = refl
 flip_keeps_floor net rows (Drop a) i = refl
 flip_keeps_floor net rows (First p small) i = refl
 
+flip_keeps_clock : (rows : RowsValue) (flip : Flip) → (after_flip rows flip).clock ≡ rows.clock
+flip_keeps_clock rows (Keep b) = refl
+flip_keeps_clock rows (Drop b) = refl
+flip_keeps_clock rows (First p small) = refl
+
 flip_keeps_span : (net : Net) (rows : RowsValue) (flip : Flip) (a : ℕ) → span_of net (after_flip rows flip) a ≡ span_of net rows a
 flip_keeps_span net rows (Keep b) a = refl
 flip_keeps_span net rows (Drop b) a = refl
@@ -277,6 +330,16 @@ passed_leaves net rows i o b below =
 passed_floor : (net : Net) (rows : RowsValue) (i : ℕ) (o : Option ℕ) (e : ℕ) → (e ≡ i → ⊥) → floor_of net (record rows { passed = slice_set rows.passed i o }) e ≡ floor_of net rows e
 passed_floor net rows i o e ne = ap (λ (p : Option ℕ). unwrap_or p (max (planned_time net rows e) rows.clock)) (get_or-set_other rows.passed i e o None ne)
 
+-- a floor that is no earlier than a clock that goes on is as before
+late_stays : (o : Option ℕ) (planned was clock : ℕ) → was ≤ clock → clock ≤ unwrap_or o (max planned was) → unwrap_or o (max planned clock) ≡ unwrap_or o (max planned was)
+late_stays (Some t) planned was clock on late = refl
+late_stays None planned was clock on late = omega arith
+
+floor_stays : (net : Net) (before rows : RowsValue) (e t : ℕ) → rows ≡ after_change before (Clock t) → before.clock ≤ rows.clock → rows.clock ≤ floor_of net before e → floor_of net rows e ≡ floor_of net before e
+floor_stays net before rows e t is =
+    subst (λ (r : RowsValue). before.clock ≤ r.clock → r.clock ≤ floor_of net before e → floor_of net r e ≡ floor_of net before e) (sym is)
+    (late_stays (passed_at before e) (planned_time net before e) before.clock t)
+
 -- ---- where all that a change does not leave is taken from the rows after it, all agrees with them
 
 module _ (net : Net) (before rows : RowsValue) (events activities : ℕ → Type 0) (old new : TimetableValue) (renews : Renews net rows events activities old new) (agrees : AgreesWith net before old)
@@ -294,12 +357,17 @@ module _ (net : Net) (before rows : RowsValue) (events activities : ℕ → Type
     | inr there ↦ renews.activities_there a there
   ]
 
-  pub still_agrees : AgreesWith net rows new
-  still_agrees = record {
+  -- all but the clock
+  pub timed_agrees : AgreesWith net rows (record new { clock = rows.clock })
+  timed_agrees = record {
     held = λ a below. (activity_now a below).0;
     spans = record { as_many = renews.spans_size ∙ agrees.spans.as_many; each = λ a below. (activity_now a below).1 };
     floors = record { as_many = renews.floors_size ∙ agrees.floors.as_many; each = floor_now };
+    clock = refl;
   }
+
+  pub still_agrees : rows.clock ≡ before.clock → AgreesWith net rows new
+  still_agrees clock = agrees_same net rows (record new { clock = rows.clock }) new refl refl refl (renews.clock_kept ∙ (agrees.clock ∙ sym clock)) timed_agrees
 
 module _ (net : Net) (before rows : RowsValue) (old new : TimetableValue) (agrees : AgreesWith net before old) where
   pub agrees_delayed : (i d : ℕ) → rows ≡ after_change before (EventDelay i d) → Renews net rows (Here i) Nowhere old new → AgreesWith net rows new
@@ -310,6 +378,7 @@ module _ (net : Net) (before rows : RowsValue) (old new : TimetableValue) (agree
         | inr ne ↦ inl (ap (λ (delay : ℕ). unwrap_or (passed_at before e) (max ((event_at net e).time + delay) before.clock)) (get_or-set_other before.event_delays i e d 0 ne))
       ]))
       (λ a below. rw is (inl (refl, refl)))
+      (rw is refl)
 
   pub agrees_lengthened : (b d : ℕ) → rows ≡ after_change before (ActDelay b d) → Renews net rows Nowhere (Here b) old new → AgreesWith net rows new
   agrees_lengthened b d is renews =
@@ -319,6 +388,7 @@ module _ (net : Net) (before rows : RowsValue) (old new : TimetableValue) (agree
         | inl here ↦ inr here
         | inr ne ↦ inl (refl, ap (λ (delay : ℕ). (activity_at net a).lower + delay) (get_or-set_other before.act_delays b a d 0 ne))
       ]))
+      (rw is refl)
 
   passed_or_not : (i : ℕ) (o : Option ℕ) → rows ≡ record before { passed = slice_set before.passed i o } → Renews net rows (Here i) (LeadsAt net i) old new → AgreesWith net rows new
   passed_or_not i o is renews =
@@ -331,6 +401,7 @@ module _ (net : Net) (before rows : RowsValue) (old new : TimetableValue) (agree
         | inl same ↦ inl (same, refl)
         | inr there ↦ inr there
       ]))
+      (rw is refl)
 
   pub agrees_passed : (i t : ℕ) → rows ≡ after_change before (Passed i t) → Renews net rows (Here i) (LeadsAt net i) old new → AgreesWith net rows new
   agrees_passed i t is renews = passed_or_not i (Some t) is renews
@@ -346,12 +417,26 @@ module _ (net : Net) (before rows : RowsValue) (old new : TimetableValue) (agree
         | inl same ↦ inl (same, flip_keeps_span net before flip a)
         | inr there ↦ inr there
       ]))
+      (rw is (flip_keeps_clock before flip))
 
-  pub agrees_timed : (t : ℕ) → rows ≡ after_change before (Clock t) → Renews net rows (Before (length net.events)) Nowhere old new → AgreesWith net rows new
-  agrees_timed t is renews =
-      still_agrees net before rows (Before (length net.events)) Nowhere old new renews agrees
-      (λ e below. inr below)
-      (λ a below. rw is (inl (refl, refl)))
+  pub agrees_timed : (last : TimetableValue) (t : ℕ) → rows ≡ after_change before (Clock t) → Renews net rows (MovedBefore old rows.clock (length net.events)) Nowhere old new → TakesClock rows new last → AgreesWith net rows last
+  agrees_timed last t is renews takes =
+      agrees_same net rows (record new { clock = rows.clock }) last takes.held takes.spans takes.floors takes.clock
+      (timed_agrees net before rows (MovedBefore old rows.clock (length net.events)) Nowhere old new renews agrees
+      (λ e below. moved_or_not e below)
+      (λ a below. rw is (inl (refl, refl))))
+    where
+      moved_or_not : (e : ℕ) → e < length net.events → (floor_of net rows e ≡ floor_of net before e) ⊎ MovedBefore old rows.clock (length net.events) e
+      moved_or_not e below =
+          let clock = agrees.clock in
+          let floor = agrees.floors.each e below in
+          elim (cases_lt rows.clock old.clock) [
+            | inl back ↦ inr (below, inl back)
+            | inr on ↦ elim (cases_lt (slice_index old.floors e) rows.clock) [
+              | inl early ↦ inr (below, inr early)
+              | inr late ↦ inl (floor_stays net before rows e t is (omega arith) (omega arith))
+            ]
+          ]
 
 pub changes_net : (net : Net) (rows : RowsValue) (change : Change) → IsSized net rows → Reaches rows change → ChangesNet net change
 changes_net net rows (EventDelay i d) sized reaches = let s = sized.event_delays in let r = reaches.0 in omega arith

@@ -18,11 +18,22 @@ use Rattle.dm_relaxation.proofs.Renewing.{least_follows}
 use Rattle.dm_relaxation.proofs.Spreading.{true_false}
 use Rattle.dm_relaxation.proofs.OfRows.{least_holding_rows, no_cycle_of_rows, cycle_of_rows, times_are_below}
 
-pub agrees_same : (net : Net) (rows : RowsValue) (old new : TimetableValue) → new.held ≡ old.held → new.spans ≡ old.spans → new.floors ≡ old.floors → AgreesWith net rows old → AgreesWith net rows new
-agrees_same net rows old new held spans floors agrees = record {
+pub agrees_same : (net : Net) (rows : RowsValue) (old new : TimetableValue) → new.held ≡ old.held → new.spans ≡ old.spans → new.floors ≡ old.floors → new.clock ≡ old.clock → AgreesWith net rows old → AgreesWith net rows new
+agrees_same net rows old new held spans floors clock agrees = record {
   held = subst (λ (xs : List Bool). AreFlags net (is_active net rows) xs) (sym held) agrees.held;
   spans = subst (λ (xs : List ℕ). AreSpansOf net rows xs) (sym spans) agrees.spans;
   floors = subst (λ (xs : List ℕ). AreFloorsOf net rows xs) (sym floors) agrees.floors;
+  clock = clock ∙ agrees.clock;
+}
+
+pub with_clock : (net : Net) (t : TimetableValue) (clock : ℕ) → IsTimetableOf net t → IsTimetableOf net (record t { clock = clock })
+with_clock net t clock was = record {
+  room = record { held = was.room.held; spans = was.room.spans; floors = was.room.floors; times = was.room.times; stale = was.room.stale; due = was.room.due };
+  bindings = was.bindings;
+  early = was.early;
+  early_floors = was.early_floors;
+  follows = was.follows;
+  all_due = was.all_due;
 }
 
 module _ (net : Net) (rows : RowsValue) (t : TimetableValue) (agrees : AgreesWith net rows t) where
@@ -47,8 +58,8 @@ module _ (net : Net) (rows : RowsValue) (t : TimetableValue) (agrees : AgreesWit
   pub rows_cyclic : (HasNoCycleOfArcs (arcs_of net (is_held t.held)) → ⊥) → HasNoCycle net rows → ⊥
   rows_cyclic some none = cycle_of_rows net rows (is_active net rows) t.held t.spans agrees.held agrees.spans some none
 
-abbrev pub value : List Bool → List ℕ → List ℕ → List ℕ → List Bool → List Bool → TimetableValue
-value held spans floors times stale due = record { held = held; spans = spans; floors = floors; times = times; stale = stale; due = due }
+abbrev pub value : List Bool → List ℕ → List ℕ → List ℕ → List Bool → List Bool → ℕ → TimetableValue
+value held spans floors times stale due clock = record { held = held; spans = spans; floors = floors; times = times; stale = stale; due = due; clock = clock }
 
 pub settled : (net : Net) (rows : RowsValue) (t : TimetableValue) → IsNetwork net → IsWithinLimits net → RowsAreWithinLimits rows → IsRoomOf net t → AreBindings net t.held t.spans → AreAtMost t.floors (2 ^ 38) →
     AgreesWith net rows t → ((e : ℕ) → is_marked t.stale e ≡ false) → IsLeastNow net t → IsSettledFor net rows t
@@ -70,27 +81,27 @@ settled net rows t network few within room bindings early_floors agrees none now
     }
 
 module _ {A B : Type 0} (result : Result A B) (net : Net) (rows : RowsValue) (network : IsNetwork net) (few : IsWithinLimits net) (within : RowsAreWithinLimits rows)
-    (held given : List Bool) (spans spans_given floors floors_given : List ℕ) (same : given ≡ held) (same_spans : spans_given ≡ spans) (same_floors : floors_given ≡ floors) where
-  pub settled_ok : (times written : List ℕ) (stale due : List Bool) → written ≡ times → IsRoomOf net (value held spans floors times stale due) → AreBindings net held spans → AreAtMost floors (2 ^ 38) →
-      AgreesWith net rows (value held spans floors times stale due) → ((e : ℕ) → is_marked stale e ≡ false) → OnOk result (IsLeastOfGraph (graph_with net given spans_given (slice_index floors_given)) (slice_index times)) →
-      OnOk result (IsSettledFor net rows (value held spans floors written stale due))
+    (held given : List Bool) (spans spans_given floors floors_given : List ℕ) (same : given ≡ held) (same_spans : spans_given ≡ spans) (same_floors : floors_given ≡ floors) (clock : ℕ) where
+  pub settled_ok : (times written : List ℕ) (stale due : List Bool) → written ≡ times → IsRoomOf net (value held spans floors times stale due clock) → AreBindings net held spans → AreAtMost floors (2 ^ 38) →
+      AgreesWith net rows (value held spans floors times stale due clock) → ((e : ℕ) → is_marked stale e ≡ false) → OnOk result (IsLeastOfGraph (graph_with net given spans_given (slice_index floors_given)) (slice_index times)) →
+      OnOk result (IsSettledFor net rows (value held spans floors written stale due clock))
   settled_ok times written stale due is room bindings early_floors agrees none least = by result least
     where
-      now : IsLeastOfGraph (graph_with net given spans_given (slice_index floors_given)) (slice_index times) → IsLeastNow net (value held spans floors times stale due)
+      now : IsLeastOfGraph (graph_with net given spans_given (slice_index floors_given)) (slice_index times) → IsLeastNow net (value held spans floors times stale due clock)
       now l =
           subst (λ (f : List ℕ). IsLeastOfGraph (graph_with net held spans (slice_index f)) (slice_index times)) same_floors
           (subst (λ (s : List ℕ). IsLeastOfGraph (graph_with net held s (slice_index floors_given)) (slice_index times)) same_spans
           (subst (λ (h : List Bool). IsLeastOfGraph (graph_with net h spans_given (slice_index floors_given)) (slice_index times)) same l))
 
-      by : (r : Result A B) → OnOk r (IsLeastOfGraph (graph_with net given spans_given (slice_index floors_given)) (slice_index times)) → OnOk r (IsSettledFor net rows (value held spans floors written stale due))
+      by : (r : Result A B) → OnOk r (IsLeastOfGraph (graph_with net given spans_given (slice_index floors_given)) (slice_index times)) → OnOk r (IsSettledFor net rows (value held spans floors written stale due clock))
       by (Ok a) l =
-          subst (λ (x : List ℕ). IsSettledFor net rows (value held spans floors x stale due)) (sym is)
-          (settled net rows (value held spans floors times stale due) network few within room bindings early_floors agrees none (now l))
+          subst (λ (x : List ℕ). IsSettledFor net rows (value held spans floors x stale due clock)) (sym is)
+          (settled net rows (value held spans floors times stale due clock) network few within room bindings early_floors agrees none (now l))
       by (Err b) l = tt
 
-  pub settled_err : (times : List ℕ) (stale due : List Bool) → AgreesWith net rows (value held spans floors times stale due) → OnErr result (HasNoCycleOfArcs (arcs_of net (is_held given)) → ⊥) → OnErr result (HasNoCycle net rows → ⊥)
+  pub settled_err : (times : List ℕ) (stale due : List Bool) → AgreesWith net rows (value held spans floors times stale due clock) → OnErr result (HasNoCycleOfArcs (arcs_of net (is_held given)) → ⊥) → OnErr result (HasNoCycle net rows → ⊥)
   settled_err times stale due agrees some = by result some
     where
       by : (r : Result A B) → OnErr r (HasNoCycleOfArcs (arcs_of net (is_held given)) → ⊥) → OnErr r (HasNoCycle net rows → ⊥)
       by (Ok a) s = tt
-      by (Err b) s = rows_cyclic net rows (value held spans floors times stale due) agrees (subst (λ (h : List Bool). HasNoCycleOfArcs (arcs_of net (is_held h)) → ⊥) same s)
+      by (Err b) s = rows_cyclic net rows (value held spans floors times stale due clock) agrees (subst (λ (h : List Bool). HasNoCycleOfArcs (arcs_of net (is_held h)) → ⊥) same s)

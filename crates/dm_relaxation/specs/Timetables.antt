@@ -13,7 +13,7 @@ use Rattle.dm_relaxation.specs.Binding.{graph_with, is_due, AreBindings, AreFlag
 use Rattle.dm_relaxation.specs.Following.{Follows}
 use Rattle.dm_relaxation.specs.Marked.{is_marked}
 
--- what is held, the spans, the floors, times, and which events are stale and due
+-- what is held, the spans, the floors, times, which events are stale and due, and the clock of the floors
 pub record TimetableValue : Type 0 where
   pub held : List Bool
   pub spans : List ℕ
@@ -21,6 +21,7 @@ pub record TimetableValue : Type 0 where
   pub times : List ℕ
   pub stale : List Bool
   pub due : List Bool
+  pub clock : ℕ
 
 -- the lists are as long as the network's
 pub record IsRoomOf (net : Net) (t : TimetableValue) : Type 0 where
@@ -48,11 +49,12 @@ pub record IsTimetableOf (net : Net) (t : TimetableValue) : Type 0 where
 abbrev pub IsLeastNow : Net → TimetableValue → Type 0
 IsLeastNow net t = IsLeastOfGraph (graph_with net t.held t.spans (slice_index t.floors)) (slice_index t.times)
 
--- what binds, the spans and the floors are those of the rows
+-- what binds, the spans, the floors and the clock are those of the rows
 pub record AgreesWith (net : Net) (rows : RowsValue) (t : TimetableValue) : Type 0 where
   pub held : AreFlags net (is_active net rows) t.held
   pub spans : AreSpansOf net rows t.spans
   pub floors : AreFloorsOf net rows t.floors
+  pub clock : t.clock ≡ rows.clock
 
 -- the timetable is kept with the rows, which have no cycle, and its times are their least ones
 pub record IsSettledFor (net : Net) (rows : RowsValue) (t : TimetableValue) : Type 0 where
@@ -67,11 +69,20 @@ pub record RenewsEvent (net : Net) (rows : RowsValue) (event : ℕ) (old new : T
   pub floors : new.floors ≡ slice_set old.floors event (floor_of net rows event)
   pub held : new.held ≡ old.held
   pub spans : new.spans ≡ old.spans
+  pub clock : new.clock ≡ old.clock
 
 -- one activity binds as under the rows now, and nothing else that binds has changed
 pub record RenewsActivity (net : Net) (rows : RowsValue) (a : ℕ) (old new : TimetableValue) : Type 0 where
   pub held : new.held ≡ slice_set old.held a (is_active net rows a)
   pub spans : new.spans ≡ slice_set old.spans a (span_of net rows a)
+  pub floors : new.floors ≡ old.floors
+  pub clock : new.clock ≡ old.clock
+
+-- the clock is that of the rows now, and nothing else has changed
+pub record TakesClock (rows : RowsValue) (old new : TimetableValue) : Type 0 where
+  pub clock : new.clock ≡ rows.clock
+  pub held : new.held ≡ old.held
+  pub spans : new.spans ≡ old.spans
   pub floors : new.floors ≡ old.floors
 
 -- what the flip, the change is of is one of the network's

@@ -4,7 +4,7 @@ ghost use Rattle.dm_rows.specs.Rows.{RowsValue, IsSized};
 ghost use Rattle.dm_rows.specs.Resolve.{after_change};
 ghost use Rattle.dm_rows.specs.declared.messages.Flip.TheVariants.{First};
 ghost use Rattle.dm_relaxation.specs.Timetables.{IsTimetableOf, AgreesWith, ChangesNet, FlipsNet};
-ghost use Rattle.dm_relaxation.specs.Inside.Agreeing.{Renews, Nowhere, Here, Before, IsInto, IsOutOf, LeadsAt, IsDecided};
+ghost use Rattle.dm_relaxation.specs.Inside.Agreeing.{Renews, MovesAt, MovesClock, Nowhere, Here, MovedBefore, IsInto, IsOutOf, LeadsAt, IsDecided};
 
 use crate::row::{row_into, row_out_of};
 use crate::timetable::Timetable;
@@ -12,7 +12,8 @@ use dm_network::Network;
 use dm_rows::{Change, Flip, Rows};
 
 /// Keeps a timetable with rows that have just changed so, and answers yes; or answers no, for an adopted list, which is not
-/// followed. It takes no memory. It looks at what is around the change, and at every event where the clock has changed.
+/// followed. It takes no memory. It looks at what is around the change. Where the clock
+/// has changed it compares each floor with it, and looks at the events that the clock may move.
 pub fn keep_up(timetable: &mut Timetable, net: &Network, rows: &Rows, change: &Change) -> bool
     requires sized { IsSized net.now rows.now }
     requires timetable { IsTimetableOf net.now timetable.old }
@@ -44,7 +45,7 @@ pub fn keep_up(timetable: &mut Timetable, net: &Network, rows: &Rows, change: &C
         }
         Change::Adopted(_) => false,
         Change::Clock { .. } => {
-            renew_events(timetable, net, rows);
+            renew_clock(timetable, net, rows);
             true
         }
     }
@@ -121,14 +122,41 @@ fn renew_out_of(timetable: &mut Timetable, net: &Network, rows: &Rows, event: us
     }
 }
 
-/// Renews every event.
-fn renew_events(timetable: &mut Timetable, net: &Network, rows: &Rows)
+/// Renews what a clock may move, and the clock.
+fn renew_clock(timetable: &mut Timetable, net: &Network, rows: &Rows)
     requires sized { IsSized net.now rows.now }
     requires timetable { IsTimetableOf net.now timetable.old }
     ensures timetable { IsTimetableOf net.now timetable.new }
-    ensures renews { Renews net.now rows.now (Before (length net.now.events)) Nowhere timetable.old timetable.new }
+    ensures moves { MovesClock net.now rows.now timetable.old timetable.new }
+{
+    renew_moved(timetable, net, rows);
+    timetable.take_clock(net, rows);
+}
+
+/// Renews the events whose floors are before the clock, or every event where the clock has gone back.
+fn renew_moved(timetable: &mut Timetable, net: &Network, rows: &Rows)
+    requires sized { IsSized net.now rows.now }
+    requires timetable { IsTimetableOf net.now timetable.old }
+    ensures timetable { IsTimetableOf net.now timetable.new }
+    ensures renews { Renews net.now rows.now (MovedBefore timetable.old rows.now.clock (length net.now.events)) Nowhere timetable.old timetable.new }
 {
     for event in 0..net.events() {
-        timetable.renew_event(net, rows, event);
+        renew_if_moved(timetable, net, rows, event);
     }
+}
+
+/// Renews an event if its floor is before the clock, or the clock has gone back.
+fn renew_if_moved(timetable: &mut Timetable, net: &Network, rows: &Rows, event: usize)
+    requires sized { IsSized net.now rows.now }
+    requires timetable { IsTimetableOf net.now timetable.old }
+    requires is_event { event < length net.now.events }
+    ensures timetable { IsTimetableOf net.now timetable.new }
+    ensures moves { MovesAt net.now rows.now event timetable.old timetable.new }
+{
+    let (clock, was) = (rows.clock(), timetable.clock());
+    let floor = timetable.floor(event);
+    if was <= clock && clock <= floor {
+        return;
+    }
+    timetable.renew_event(net, rows, event);
 }

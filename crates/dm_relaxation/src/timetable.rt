@@ -4,7 +4,7 @@ ghost use Rattle.dm_base.specs.declared.limits.TheConstants.{BOUND, DELAY};
 ghost use Rattle.dm_network.specs.Held.{is_held};
 ghost use Rattle.dm_rows.specs.Rows.{IsSized};
 ghost use Rattle.dm_rows.specs.Active.{HasNoCycle};
-ghost use Rattle.dm_relaxation.specs.Timetables.{IsRoomOf, IsTimetableOf, IsSettledFor, AgreesWith, RenewsEvent, RenewsActivity};
+ghost use Rattle.dm_relaxation.specs.Timetables.{IsRoomOf, IsTimetableOf, IsSettledFor, AgreesWith, RenewsEvent, RenewsActivity, TakesClock};
 ghost use Rattle.dm_relaxation.specs.Inside.Renewing.{IsKeptAt, IsMetAt};
 ghost use Rattle.dm_relaxation.specs.Inside.Spreading.{Spreads};
 ghost use Rattle.dm_relaxation.specs.Marked.{is_marked};
@@ -29,6 +29,9 @@ pub struct Timetable {
     times: Vec<Secs>,
     stale: Marks,
     due: Marks,
+
+    /// The clock of the rows that the floors are of.
+    clock: Secs,
 }
 
 impl Model for Timetable {
@@ -36,7 +39,7 @@ impl Model for Timetable {
 
     ghost Value = { TimetableValue };
 
-    ghost view = { λ t. record { held = t.held.items; spans = t.spans.items; floors = t.floors.items; times = t.times.items; stale = t.stale; due = t.due } };
+    ghost view = { λ t. record { held = t.held.items; spans = t.spans.items; floors = t.floors.items; times = t.times.items; stale = t.stale; due = t.due; clock = t.clock } };
 
     ghost invariant = { λ t. Unit {0} };
 }
@@ -53,6 +56,7 @@ impl Timetable {
             times: vec![in alloc; 0; net.events()]?,
             stale: Marks::new(alloc, net.events())?,
             due: Marks::new(alloc, net.events())?,
+            clock: 0,
         })
     }
 
@@ -72,11 +76,18 @@ impl Timetable {
     }
 
     /// The floor of an event.
-    fn floor(&self, event: usize) -> Secs
+    pub(crate) fn floor(&self, event: usize) -> Secs
         requires { event < length self.now.floors }
         ensures { result ≡ slice_index self.now.floors event }
     {
         self.floors[event]
+    }
+
+    /// The clock of the rows that the floors are of.
+    pub(crate) fn clock(&self) -> Secs
+        ensures { result ≡ self.now.clock }
+    {
+        self.clock
     }
 
     /// Whether an activity is held.
@@ -106,6 +117,7 @@ impl Timetable {
     {
         net.sound();
         rows.is_within_limits();
+        self.clock = rows.clock();
         flag_active(net, rows, &mut self.held);
         fill_spans(net, rows, &mut self.spans);
         fill_floors(net, rows, &mut self.floors);
@@ -135,6 +147,15 @@ impl Timetable {
             &mut self.stale,
             &mut self.due,
         )
+    }
+
+    /// Takes the clock from rows, and no floor.
+    pub(crate) fn take_clock(&mut self, net: &Network, rows: &Rows)
+        requires { IsTimetableOf net.now self.old }
+        ensures timetable { IsTimetableOf net.now self.new }
+        ensures takes { TakesClock rows.now self.old self.new }
+    {
+        self.clock = rows.clock();
     }
 
     /// Takes the floor of an event from rows. It takes no memory.

@@ -7,7 +7,7 @@ use Rattle.dm_rows.specs.Rows.{RowsValue}
 use Rattle.dm_rows.specs.Timetable.{floor_of, span_of}
 use Rattle.dm_rows.specs.declared.messages.Flip.{Flip}
 use Rattle.dm_rows.specs.declared.messages.Flip.TheVariants.{Keep, Drop, First}
-use Rattle.dm_relaxation.specs.Timetables.{TimetableValue}
+use Rattle.dm_relaxation.specs.Timetables.{TimetableValue, TakesClock}
 
 -- the floor of the event, and what binds and the span of the activity, are those of the rows
 abbrev pub FloorAgrees : Net → RowsValue → TimetableValue → ℕ → Type 0
@@ -21,20 +21,25 @@ pub record Renews (net : Net) (rows : RowsValue) (events activities : ℕ → Ty
   pub held_size : length new.held ≡ length old.held
   pub spans_size : length new.spans ≡ length old.spans
   pub floors_size : length new.floors ≡ length old.floors
+  pub clock_kept : new.clock ≡ old.clock
   pub events_there : (e : ℕ) → events e → FloorAgrees net rows new e
   pub events_kept : (e : ℕ) → FloorAgrees net rows old e → FloorAgrees net rows new e
   pub activities_there : (a : ℕ) → activities a → ActivityAgrees net rows new a
   pub activities_kept : (a : ℕ) → ActivityAgrees net rows old a → ActivityAgrees net rows new a
 
--- no place, this one, one of the first n, and one that stands among the first n of a row
+-- the clock has gone back, or the floor of this event is before it
+abbrev pub IsMoved : TimetableValue → ℕ → ℕ → Type 0
+IsMoved old clock e = (clock < old.clock) ⊎ (slice_index old.floors e < clock)
+
+-- no place, this one, one of the first n that a clock moves, and one that stands among the first n of a row
 abbrev pub Nowhere : ℕ → Type 0
 Nowhere k = ⊥
 
 abbrev pub Here : ℕ → ℕ → Type 0
 Here place k = k ≡ place
 
-abbrev pub Before : ℕ → ℕ → Type 0
-Before n k = k < n
+abbrev pub MovedBefore : TimetableValue → ℕ → ℕ → ℕ → Type 0
+MovedBefore old clock n k = (k < n) × IsMoved old clock k
 
 pub record InRow (row : List ℕ) (n : ℕ) (a : ℕ) : Type 0 where
   pub place : ℕ
@@ -56,3 +61,14 @@ abbrev pub IsDecided : Net → Flip → ℕ → Type 0
 IsDecided net (Keep a) b = b ≡ a
 IsDecided net (Drop a) b = b ≡ a
 IsDecided net (First p small) b = (b < length net.activities) × (((activity_at net b).tail ≡ (pair_at net p).small) ⊎ ((activity_at net b).tail ≡ (pair_at net p).large))
+
+-- the event agrees with the rows now, if the clock moves it, and no other floor has changed
+pub record MovesAt (net : Net) (rows : RowsValue) (event : ℕ) (old new : TimetableValue) : Type 0 where
+  pub renews : Renews net rows (λ k. (k ≡ event) × IsMoved old rows.clock event) Nowhere old new
+  pub elsewhere : (k : ℕ) → (k ≡ event → ⊥) → slice_index new.floors k ≡ slice_index old.floors k
+
+-- the events that the clock moves agree with the rows now, and the clock is theirs
+pub record MovesClock (net : Net) (rows : RowsValue) (old new : TimetableValue) : Type 0 where
+  pub mid : TimetableValue
+  pub renews : Renews net rows (MovedBefore old rows.clock (length net.events)) Nowhere old mid
+  pub takes : TakesClock rows mid new

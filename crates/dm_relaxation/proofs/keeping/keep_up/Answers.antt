@@ -2,7 +2,7 @@ use Rattle.std.proofs.Common.{◌≡◌, arith, subst}
 use Rattle.dm_rows.specs.Resolve.{after_change}
 use Rattle.dm_rows.specs.declared.messages.Change.{Change}
 use Rattle.dm_relaxation.specs.Timetables.{ChangesNet}
-use Rattle.dm_relaxation.proofs.Agreeing.{event_renews, activity_renews, agrees_delayed, agrees_lengthened, agrees_passed, agrees_recalled, agrees_flipped}
+use Rattle.dm_relaxation.proofs.Agreeing.{event_renews, activity_renews, agrees_delayed, agrees_lengthened, agrees_passed, agrees_recalled, agrees_flipped, agrees_timed}
 use Rattle.dm_relaxation.proofs.keeping.keep_up.Goals as goal
 
 pub returns-in-ActDelay-clause-agrees : goal.returns-in-ActDelay-clause-agrees
@@ -28,3 +28,9 @@ pub returns-in-Flipped-clause-agrees : goal.returns-in-Flipped-clause-agrees
 returns-in-Flipped-clause-agrees c = λ _ before is agrees.
     agrees_flipped c.args.net.now before c.args.rows.now c.args.timetable.now c.renew_flipped.new.timetable agrees c.sound.ensures.network.formed.is_paired c.in-Flipped.flip
     (subst (λ (ch : Change). c.args.rows.now ≡ after_change before ch) c.in-Flipped.is is) c.renew_flipped.ensures.renews
+
+pub returns-in-Clock-clause-agrees : goal.returns-in-Clock-clause-agrees
+returns-in-Clock-clause-agrees c = λ _ before is agrees.
+    let moves = c.renew_clock.ensures.moves in
+    agrees_timed c.args.net.now before c.args.rows.now c.args.timetable.now moves.mid agrees c.renew_clock.new.timetable c.in-Clock.time
+    (subst (λ (ch : Change). c.args.rows.now ≡ after_change before ch) c.in-Clock.is is) moves.renews moves.takes

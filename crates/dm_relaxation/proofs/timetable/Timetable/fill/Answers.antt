@@ -17,7 +17,7 @@ pub returns-clause-settled : goal.returns-clause-settled
 returns-clause-settled c =
     let net = c.args.net.now in
     let rows = c.args.rows.now in
-    let room : IsRoomOf net (value c.self.inside.held.items c.self.inside.spans.items c.self.inside.floors.items c.self.inside.times.items c.self.inside.stale c.self.inside.due) =
+    let room : IsRoomOf net (value c.self.inside.held.items c.self.inside.spans.items c.self.inside.floors.items c.self.inside.times.items c.self.inside.stale c.self.inside.due c.self.inside.clock) =
     subst (IsRoomOf net) (sym c.self.view_is) c.requires.room in
     let held : List Bool = (with_items c.self.inside.held c.flag_active.new.held).items in
     let spans : List ℕ = (with_items c.self.inside.spans c.fill_spans.new.spans).items in
@@ -38,17 +38,17 @@ returns-clause-settled c =
     let size : length c.copy_from_slice.new.self.items ≡ length net.events = ap (λ (x : List ℕ). length x) copied ∙ of_floors.as_many in
     let flag_size : length held ≡ length net.activities = ap (λ (x : List Bool). length x) held_is ∙ c.flag_active.ensures.as_many in
     settled_ok c.raise.result net rows c.sound.ensures.network c.sound.ensures.within c.is_within_limits.ensures held c.deref-2.result.now spans c.deref-3.result.now floors floors
-    c.deref-2.ensures.value c.deref-3.ensures.value refl c.raise.new.times (with_items c.copy_from_slice.new.self c.raise.new.times).items c.clear_all.new.self c.raise.new.due
+    c.deref-2.ensures.value c.deref-3.ensures.value refl c.clock-self-inside.result c.raise.new.times (with_items c.copy_from_slice.new.self c.raise.new.times).items c.clear_all.new.self c.raise.new.due
     (written c.copy_from_slice.new.self c.raise.new.times (length net.events) as_many size)
     (record { held = flag_size; spans = of_spans.as_many; floors = of_floors.as_many; times = as_many; stale = c.clear_all.ensures.as_many ∙ room.stale; due = c.raise.ensures.as_many_due ∙ all_due })
     (spans_are_bindings net rows held spans c.sound.ensures.within c.is_within_limits.ensures flag_size of_spans) (floors_are_early net rows floors c.sound.ensures.within c.is_within_limits.ensures of_floors)
-    (record { held = flags; spans = of_spans; floors = of_floors }) c.clear_all.ensures.none (c.raise.ensures.least (slice_index floors) begins)
+    (record { held = flags; spans = of_spans; floors = of_floors; clock = c.clock-self-inside.ensures.value }) c.clear_all.ensures.none (c.raise.ensures.least (slice_index floors) begins)
 
 pub returns-clause-cyclic : goal.returns-clause-cyclic
 returns-clause-cyclic c =
     let net = c.args.net.now in
     let rows = c.args.rows.now in
-    let room : IsRoomOf net (value c.self.inside.held.items c.self.inside.spans.items c.self.inside.floors.items c.self.inside.times.items c.self.inside.stale c.self.inside.due) =
+    let room : IsRoomOf net (value c.self.inside.held.items c.self.inside.spans.items c.self.inside.floors.items c.self.inside.times.items c.self.inside.stale c.self.inside.due c.self.inside.clock) =
     subst (IsRoomOf net) (sym c.self.view_is) c.requires.room in
     let held : List Bool = (with_items c.self.inside.held c.flag_active.new.held).items in
     let spans : List ℕ = (with_items c.self.inside.spans c.fill_spans.new.spans).items in
@@ -66,4 +66,4 @@ returns-clause-cyclic c =
     subst (λ (x : List ℕ). MayBegin (graph_with net c.deref-2.result.now c.deref-3.result.now (slice_index floors)) x c.mark_all.new.self) (sym began)
     (floors_begin net c.deref-2.result.now c.deref-3.result.now floors c.mark_all.new.self (λ e below. c.mark_all.ensures.all e (omega (arith, below, room.due)))) in
     settled_err c.raise.result net rows c.sound.ensures.network c.sound.ensures.within c.is_within_limits.ensures held c.deref-2.result.now spans c.deref-3.result.now floors floors
-    c.deref-2.ensures.value c.deref-3.ensures.value refl floors c.clear_all.new.self c.raise.new.due (record { held = flags; spans = of_spans; floors = of_floors }) (c.raise.ensures.cyclic (slice_index floors) begins)
+    c.deref-2.ensures.value c.deref-3.ensures.value refl c.clock-self-inside.result floors c.clear_all.new.self c.raise.new.due (record { held = flags; spans = of_spans; floors = of_floors; clock = c.clock-self-inside.ensures.value }) (c.raise.ensures.cyclic (slice_index floors) begins)

@@ -9,7 +9,7 @@ use Rattle.dm_relaxation.proofs.timetable.Timetable.renew_event.Goals as goal
 pub returns-clause-timetable : goal.returns-clause-timetable
 returns-clause-timetable c =
     let net = c.args.net.now in
-    let t : TimetableValue = value c.self.inside.held.items c.self.inside.spans.items c.self.inside.floors.items c.self.inside.times.items c.self.inside.stale c.self.inside.due in
+    let t : TimetableValue = value c.self.inside.held.items c.self.inside.spans.items c.self.inside.floors.items c.self.inside.times.items c.self.inside.stale c.self.inside.due c.self.inside.clock in
     let was : IsTimetableOf net t = subst (IsTimetableOf net) (sym c.self.view_is) c.requires.timetable in
     let floor : ℕ = c.floor_of-floor.result in
     let limit = c.floor_of-floor.ensures.limit in
