@@ -9,6 +9,8 @@ use Rattle.dm_rows.specs.Active.{HasNoCycle}
 use Rattle.dm_rows.specs.Refuse.{Refuses}
 use Rattle.dm_rows.specs.Resolve.{after}
 use Rattle.dm_rows.specs.Timetable.{IsLeast, time_at}
+use Rattle.dm_relaxation.specs.Binding.{AreBelowLimit}
+use Rattle.dm_relaxation.specs.KeptCosts.{KeptCostValue, IsKeptCostOf}
 use Rattle.dm_relaxation.specs.Timetables.{TimetableValue, IsRoomOf, IsTimetableOf, AgreesWith}
 
 -- nothing refuses the message at so many entries
@@ -59,12 +61,15 @@ pub record IsRoomFor (net : Net) (room : Room) : Type 0 where
 
 -- ---- rows as messages come
 
--- rows, whether they are known to have no cycle, whether the timetable is kept with them, and the timetable
+-- rows, whether they are known to have no cycle, whether the timetable is kept with them, whether it is settled, the timetable,
+-- and what its times cost
 pub record DispositionValue : Type 0 where
   pub rows : RowsValue
   pub is_free : Bool
   pub is_kept : Bool
+  pub is_settled : Bool
   pub timetable : TimetableValue
+  pub kept_cost : KeptCostValue
 
 -- the times that were computed last
 abbrev pub times_of : DispositionValue → List ℕ
@@ -82,12 +87,24 @@ pub record KeepsTo (net : Net) (rows : RowsValue) (t : TimetableValue) : Type 0 
 abbrev pub IsKept : Net → RowsValue → TimetableValue → Bool → Type 0
 IsKept net rows t kept = IsTrue kept → KeepsTo net rows t
 
+-- the times are the rows' least ones, and what these cost is kept
+pub record IsCosted (net : Net) (rows : RowsValue) (t : TimetableValue) (kept : KeptCostValue) : Type 0 where
+  pub least : IsLeast net rows t.times
+  pub early : AreBelowLimit t.times
+  pub no_cycle : HasNoCycle net rows
+  pub times : kept.times ≡ t.times
+
+abbrev pub IsSettledIf : Net → RowsValue → TimetableValue → KeptCostValue → Bool → Type 0
+IsSettledIf net rows t kept settled = IsTrue settled → IsCosted net rows t kept
+
 -- the rows and the timetable are of the network, what is known of them is so
 pub record IsDispositionOf (net : Net) (d : DispositionValue) : Type 0 where
   pub sized : IsSized net d.rows
   pub free : IsKnownFree net d.rows d.is_free
   pub room : IsRoomOf net d.timetable
   pub kept : IsKept net d.rows d.timetable d.is_kept
+  pub cost : IsKeptCostOf net d.kept_cost
+  pub settled : IsSettledIf net d.rows d.timetable d.kept_cost d.is_settled
 
 -- ---- refusals
 

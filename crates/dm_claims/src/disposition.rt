@@ -7,7 +7,7 @@ ghost use Rattle.dm_rows.specs.Active.{HasNoCycle};
 ghost use Rattle.dm_rows.specs.Resolve.{after, after_change};
 ghost use Rattle.dm_rows.specs.Refuse.{PassesAtOnce, RefusesAdmission, IsNow};
 ghost use Rattle.dm_rows.specs.Timetable.{IsLeast, time_at};
-ghost use Rattle.dm_rows.specs.Cost.{Costs};
+ghost use Rattle.dm_rows.specs.Cost.{Costs, cost_of};
 ghost use Rattle.dm_rows.specs.declared.messages.Refusal.TheVariants.{OutOfMemory};
 ghost use Rattle.dm_relaxation.specs.Binding.{AreBelowLimit};
 ghost use Rattle.dm_relaxation.specs.Timetables.{IsRoomOf, IsTimetableOf, IsSettledFor, ChangesNet};
@@ -16,7 +16,7 @@ ghost use Rattle.dm_claims.specs.Inside.Harmless.{IsHarmless};
 
 use dm_base::Cost;
 use dm_network::Network;
-use dm_relaxation::{Cyclic, Timetable, cost_of, keep_up};
+use dm_relaxation::{Cyclic, KeptCost, Timetable, cost_of, keep_up};
 use dm_rows::{Change, Message, Refusal, Rows, admit};
 use std::alloc::{AllocError, Global};
 use std::marker::Model;
@@ -32,7 +32,11 @@ pub struct Disposition {
 
     /// Whether the timetable is kept with the rows.
     is_kept: bool,
+
+    /// Whether the timetable is that of the rows, and the cost is kept of its times.
+    is_settled: bool,
     timetable: Timetable,
+    kept_cost: KeptCost,
 }
 
 impl Model for Disposition {
@@ -40,7 +44,7 @@ impl Model for Disposition {
 
     ghost Value = { DispositionValue };
 
-    ghost view = { λ d. record { rows = d.rows; is_free = d.is_free; is_kept = d.is_kept; timetable = d.timetable } };
+    ghost view = { λ d. record { rows = d.rows; is_free = d.is_free; is_kept = d.is_kept; is_settled = d.is_settled; timetable = d.timetable; kept_cost = d.kept_cost } };
 
     ghost invariant = { λ d. Unit {0} };
 }
@@ -56,7 +60,9 @@ impl Disposition {
             rows,
             is_free: false,
             is_kept: false,
+            is_settled: false,
             timetable: Timetable::new(alloc, net)?,
+            kept_cost: KeptCost::new(alloc, net)?,
         })
     }
 
@@ -83,6 +89,7 @@ impl Disposition {
     {
         self.is_free = false;
         self.is_kept = false;
+        self.is_settled = false;
         self.rows.copy_from(rows);
     }
 
@@ -108,7 +115,7 @@ impl Disposition {
         if self.is_free || is_now(message) {
             return Ok(true);
         }
-        match self.settle(net) {
+        match self.settle_times(net) {
             Ok(()) => Ok(true),
             Err(Cyclic) => Ok(false),
         }
@@ -128,13 +135,15 @@ impl Disposition {
             Ok(change) => change,
             Err(refusal) => return Err(refusal),
         };
+        self.is_settled = false;
         self.is_free = stays_free(self.is_free, message);
         self.rows.apply(&change);
         self.is_kept = keep_if(self.is_kept, &mut self.timetable, net, &self.rows, &change);
         Ok(())
     }
 
-    /// Computes the least timetable of the rows. `Err` comes exactly where they have a cycle. It takes no memory.
+    /// Computes the least timetable of the rows. `Err` comes exactly where they have a cycle. It takes no memory, and nothing is
+    /// done where the rows have not changed since the last time.
     pub fn settle(&mut self, net: &Network) -> Result<(), Cyclic>
         requires stands { IsDispositionOf net.now self.old }
         ensures stands { IsDispositionOf net.now self.new }
@@ -144,6 +153,29 @@ impl Disposition {
         ensures no_cycle { OnOk result (HasNoCycle net.now self.new.rows) }
         ensures cyclic { OnErr result (HasNoCycle net.now self.new.rows → ⊥) }
     {
+        if self.is_settled {
+            return Ok(());
+        }
+        match self.settle_times(net) {
+            Ok(()) => {
+                self.follow_cost(net);
+                Ok(())
+            }
+            Err(Cyclic) => Err(Cyclic),
+        }
+    }
+
+    /// The same, with no cost kept.
+    fn settle_times(&mut self, net: &Network) -> Result<(), Cyclic>
+        requires stands { IsDispositionOf net.now self.old }
+        ensures stands { IsDispositionOf net.now self.new }
+        ensures rows { self.new.rows ≡ self.old.rows }
+        ensures least { OnOk result (IsLeast net.now self.new.rows (times_of self.new)) }
+        ensures early { OnOk result (AreBelowLimit (times_of self.new)) }
+        ensures no_cycle { OnOk result (HasNoCycle net.now self.new.rows) }
+        ensures cyclic { OnErr result (HasNoCycle net.now self.new.rows → ⊥) }
+    {
+        self.is_settled = false;
         match least(self.is_kept, &mut self.timetable, net, &self.rows) {
             Ok(()) => {
                 self.is_free = true;
@@ -156,6 +188,20 @@ impl Disposition {
                 Err(Cyclic)
             }
         }
+    }
+
+    /// Keeps what the times cost, which are the least ones.
+    fn follow_cost(&mut self, net: &Network)
+        requires stands { IsDispositionOf net.now self.old }
+        requires least { IsLeast net.now self.old.rows (times_of self.old) }
+        requires early { AreBelowLimit (times_of self.old) }
+        requires no_cycle { HasNoCycle net.now self.old.rows }
+        ensures stands { IsDispositionOf net.now self.new }
+        ensures rows { self.new.rows ≡ self.old.rows }
+        ensures times { times_of self.new ≡ times_of self.old }
+    {
+        self.kept_cost.follow(net, self.timetable.times());
+        self.is_settled = true;
     }
 
     /// Whether this is the time of the event at this place, where the times are the least ones.
@@ -174,7 +220,21 @@ impl Disposition {
         requires penalty { penalty ≤ PENALTY }
         ensures { Tells (Costs net.now self.now.rows penalty cost) result }
     {
-        cost_of(net, &self.rows, self.timetable.times(), penalty) == cost
+        self.cost(net, penalty) == cost
+    }
+
+    /// What the times cost.
+    fn cost(&self, net: &Network, penalty: u64) -> Cost
+        requires stands { IsDispositionOf net.now self.now }
+        requires early { AreBelowLimit (times_of self.now) }
+        requires penalty { penalty ≤ PENALTY }
+        ensures { result ≡ cost_of net.now self.now.rows (times_of self.now) penalty }
+    {
+        if self.is_settled {
+            self.kept_cost.cost(net, &self.rows, penalty)
+        } else {
+            cost_of(net, &self.rows, self.timetable.times(), penalty)
+        }
     }
 }
 

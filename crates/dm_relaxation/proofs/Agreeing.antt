@@ -1,11 +1,10 @@
 -- A timetable kept with rows, one place after the other.
-use Rattle.std.proofs.Common.{◌≡◌, ℕ, ◌+◌, ◌<◌, ◌≤◌, ◌⊎◌, Bool, true, false, cond, List, length, Option, Some, None, sym, ap, subst, ◌∙◌, inl, inr, refl, arith, slice_index, length-set, get_or-set_same, get_or-set_other, eq-eqb}
-use Rattle.std.specs.Prelude.{slice_set, is_some, unwrap_or, max, ◌==◌}
+use Rattle.std.proofs.Common.{◌≡◌, ℕ, ◌+◌, ◌<◌, ◌≤◌, ◌⊎◌, Bool, true, false, cond, List, length, Option, Some, None, sym, ap, subst, ◌∙◌, inl, inr, refl, arith, slice_index, length-set, get_or-set_same, get_or-set_other}
+use Rattle.std.specs.Prelude.{slice_set, is_some, unwrap_or, max}
 use Rattle.std.proofs.lemmas.Bool.{cases_Bool, cases_eq, cases_lt}
 use Rattle.std.proofs.lemmas.List.Quantifiers.{position-Some}
 use Rattle.dm_base.specs.declared.rows.ActKind.{ActKind}
 use Rattle.dm_base.specs.declared.rows.ActKind.TheVariants.{Drive, Wait, Turnaround, Change as ChangeKind, Headway}
-use Rattle.dm_graph.proofs.Windows.{StandsAt, stands_in}
 use Rattle.dm_network.specs.Net.{Net, event_at, activity_at, pair_at, no_pair, is_headway, places_into, places_out_of}
 use Rattle.dm_network.specs.Held.{is_held}
 use Rattle.dm_network.specs.Pairs.{joins, own_pair, pair_place, IsPaired}
@@ -19,11 +18,10 @@ use Rattle.dm_rows.specs.declared.messages.Flip.{Flip}
 use Rattle.dm_rows.specs.declared.messages.Flip.TheVariants.{Keep, Drop, First}
 use Rattle.dm_rows.specs.declared.messages.Change.{Change}
 use Rattle.dm_rows.specs.declared.messages.Change.TheVariants.{EventDelay, ActDelay, Passed, Recalled, Flipped, Adopted, Clock}
-use Rattle.dm_relaxation.specs.Binding.{AreFlags, AreSpansOf, AreFloorsOf}
-use Rattle.dm_relaxation.specs.Timetables.{TimetableValue, AgreesWith, RenewsEvent, RenewsActivity, TakesClock, FlipsNet, ChangesNet}
+use Rattle.dm_relaxation.specs.Timetables.{TimetableValue, AgreesWith, RenewsEvent, RenewsActivity, TakesClock, ChangesNet}
 use Rattle.dm_relaxation.specs.Inside.Agreeing.{FloorAgrees, ActivityAgrees, Renews, MovesAt, Nowhere, Here, IsMoved, MovedBefore, InRow, IsInto, IsOutOf, LeadsAt, IsDecided}
-use Rattle.dm_relaxation.proofs.Rising.{LeadsOut, stands_out}
-use Rattle.dm_relaxation.proofs.Spreading.{LeadsInto, stands_into}
+use Rattle.dm_relaxation.proofs.Rising.{stands_out}
+use Rattle.dm_relaxation.proofs.Spreading.{stands_into}
 use Rattle.dm_relaxation.proofs.OfTimetables.{agrees_same}
 
 -- ---- one place after the other

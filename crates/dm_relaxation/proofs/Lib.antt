@@ -8,3 +8,4 @@ pub mod Lowering
 pub mod Renewing
 pub mod OfTimetables
 pub mod Agreeing
+pub mod Kept

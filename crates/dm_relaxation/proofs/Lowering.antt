@@ -1,13 +1,12 @@
 -- Where rounds may begin after what binds has changed: at the times of before for the events that are not stale, and at the floors for the others.
-use Rattle.std.proofs.Common.{◌≡◌, ℕ, ◌+◌, ◌-◌, ◌<◌, ◌≤◌, ◌⊎◌, Bool, true, false, cond, IsTrue, List, length, sym, ap, subst, ◌∙◌, inl, inr, refl, arith, slice_index}
-use Rattle.std.specs.Prelude.{min, max, ◌^◌}
+use Rattle.std.proofs.Common.{◌≡◌, ℕ, ◌+◌, ◌-◌, ◌<◌, ◌≤◌, Bool, true, false, cond, List, length, sym, subst, inl, inr, refl, arith, slice_index}
+use Rattle.std.specs.Prelude.{min, max}
 use Rattle.std.proofs.lemmas.Bool.{cases_Bool, cases_lt}
-use Rattle.std.proofs.lemmas.List.{get_or_past}
 use Rattle.dm_graph.specs.Arcs.{Binds}
-use Rattle.dm_graph.specs.Graph.{Meets, IsLeast}
+use Rattle.dm_graph.specs.Graph.{Meets}
 use Rattle.dm_network.specs.Net.{Net, activity_at}
 use Rattle.dm_network.specs.Held.{arcs_of, is_held}
-use Rattle.dm_relaxation.specs.Binding.{graph_with, is_due, IsEarly, MayBegin}
+use Rattle.dm_relaxation.specs.Binding.{graph_with, is_due, MayBegin}
 use Rattle.dm_relaxation.specs.Marked.{is_marked}
 use Rattle.dm_relaxation.specs.Following.{Follows}
 use Rattle.dm_relaxation.specs.Inside.Rising.{AreWithin}

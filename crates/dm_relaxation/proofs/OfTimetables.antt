@@ -1,8 +1,8 @@
 -- A timetable that is least for its lists is least for the rows that these agree with.
-use Rattle.std.proofs.Common.{◌≡◌, ℕ, ◌<◌, ◌^◌, List, Bool, false, length, refl, sym, ap, subst, ◌∙◌, arith, slice_index, Result, Ok, Err}
+use Rattle.std.proofs.Common.{◌≡◌, ℕ, ◌^◌, List, Bool, false, length, refl, sym, subst, ◌∙◌, arith, slice_index, Result, Ok, Err}
 use Rattle.std.specs.Prelude.{OnOk, OnErr}
 use Rattle.dm_graph.specs.Arcs.{HasNoCycle as HasNoCycleOfArcs}
-use Rattle.dm_graph.specs.Graph.{IsLeast as IsLeastOfGraph, AsksNoMore}
+use Rattle.dm_graph.specs.Graph.{IsLeast as IsLeastOfGraph}
 use Rattle.dm_graph.proofs.Timetables.{same_is_least_alike}
 use Rattle.dm_network.specs.Net.{Net, IsWithinLimits}
 use Rattle.dm_network.specs.Held.{arcs_of, is_held}

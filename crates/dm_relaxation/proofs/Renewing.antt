@@ -1,13 +1,12 @@
 -- What has changed of what binds, one place at a time.
-use Rattle.std.proofs.Common.{◌≡◌, ℕ, ◌+◌, ◌<◌, ◌≤◌, ◌⊎◌, Bool, true, false, IsTrue, List, length, sym, ap, subst, ◌∙◌, inl, inr, refl, arith, slice_index, length-set, get_or-set_same, get_or-set_other}
+use Rattle.std.proofs.Common.{◌≡◌, ℕ, ◌+◌, ◌<◌, ◌≤◌, ◌⊎◌, Bool, true, false, IsTrue, List, length, sym, subst, ◌∙◌, inl, inr, arith, slice_index, length-set, get_or-set_same, get_or-set_other}
 use Rattle.std.specs.Prelude.{slice_set}
-use Rattle.std.proofs.lemmas.Bool.{cases_Bool, cases_lt, cases_eq}
+use Rattle.std.proofs.lemmas.Bool.{cases_lt, cases_eq}
 use Rattle.std.proofs.lemmas.List.{get_or_past}
 use Rattle.dm_base.specs.declared.limits.TheConstants.{BOUND, DELAY}
-use Rattle.dm_graph.specs.Arcs.{Binds}
-use Rattle.dm_graph.specs.Graph.{Meets, IsLeast}
+use Rattle.dm_graph.specs.Graph.{IsLeast}
 use Rattle.dm_network.specs.Net.{Net, activity_at}
-use Rattle.dm_network.specs.Held.{arcs_of, is_held}
+use Rattle.dm_network.specs.Held.{is_held}
 use Rattle.dm_relaxation.specs.Binding.{graph_with, is_due, AreBindings, MayBegin}
 use Rattle.dm_relaxation.specs.Marked.{is_marked}
 use Rattle.dm_relaxation.specs.Following.{Follows}

@@ -6,5 +6,7 @@ pub mod Following
 pub mod Timetables
 -- Marks at events.
 pub mod Marked
+-- What a timetable costs, kept while its times change.
+pub mod KeptCosts
 -- How far a round has come: checked, and not to be believed.
 pub mod Inside

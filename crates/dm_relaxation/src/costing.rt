@@ -49,7 +49,7 @@ pub fn cost_of(net: &Network, rows: &Rows, times: &[Secs], penalty: u64) -> Cost
 }
 
 /// What the lateness of the arrivals costs.
-fn lateness_cost(net: &Network, times: &[Secs]) -> Cost
+pub(crate) fn lateness_cost(net: &Network, times: &[Secs]) -> Cost
     requires as_many { length times.now ≡ length net.now.events }
     requires early { AreBelowLimit times.now }
     ensures cost { result ≡ sum_by (event_cost net.now times.now) (range_with_len 0 (length net.now.events)) }
@@ -104,7 +104,7 @@ fn missed_weights(net: &Network, rows: &Rows, times: &[Secs]) -> Cost
 }
 
 /// What the lateness of one event costs: nothing unless it is an arrival.
-fn event_cost(net: &Network, times: &[Secs], i: usize) -> Cost
+pub(crate) fn event_cost(net: &Network, times: &[Secs], i: usize) -> Cost
     requires as_many { length times.now ≡ length net.now.events }
     requires early { AreBelowLimit times.now }
     requires is_event { i < length net.now.events }
@@ -123,7 +123,7 @@ fn event_cost(net: &Network, times: &[Secs], i: usize) -> Cost
 }
 
 /// The weight of an activity, if it is charged for.
-fn charged_weight(net: &Network, charged: &[bool], a: usize) -> Milli
+pub(crate) fn charged_weight(net: &Network, charged: &[bool], a: usize) -> Milli
     requires flags { length charged.now ≡ length net.now.activities }
     requires is_activity { a < length net.now.activities }
     ensures weight { result ≡ charged_weight net.now (is_held charged.now) a }
@@ -138,7 +138,7 @@ fn charged_weight(net: &Network, charged: &[bool], a: usize) -> Milli
 }
 
 /// The weight of a dropped change whose head has not passed.
-fn dropped_weight(net: &Network, rows: &Rows, a: usize) -> Milli
+pub(crate) fn dropped_weight(net: &Network, rows: &Rows, a: usize) -> Milli
     requires sized { IsSized net.now rows.now }
     requires is_activity { a < length net.now.activities }
     ensures weight { result ≡ dropped_weight net.now rows.now a }
@@ -153,7 +153,7 @@ fn dropped_weight(net: &Network, rows: &Rows, a: usize) -> Milli
 }
 
 /// The weight of a change that its passed head has missed for good.
-fn missed_weight(net: &Network, rows: &Rows, times: &[Secs], a: usize) -> Milli
+pub(crate) fn missed_weight(net: &Network, rows: &Rows, times: &[Secs], a: usize) -> Milli
     requires sized { IsSized net.now rows.now }
     requires as_many { length times.now ≡ length net.now.events }
     requires early { AreBelowLimit times.now }

@@ -6,13 +6,15 @@
 //! exactly where the held activities have a cycle. Rounds may begin from any times that are not too late ([`raise`]), and
 //! from scratch they give the least timetable of rows ([`least_holding`]). Times that were least may also follow what binds as it
 //! changes ([`follow`]): the events that this may concern begin anew from their floors, and rounds from there. A [`Timetable`] is
-//! kept so with rows ([`keep_up`]). What a timetable costs is added up place by place. Memory is taken once, for a timetable and
+//! kept so with rows ([`keep_up`]). What a timetable costs is added up place by place, or
+//! kept while its times change ([`KeptCost`]), which costs what has changed and a look at each change. Memory is taken once, for a timetable and
 //! for [`Marks`]. Every time is below 2^38 seconds, and every cost below 2^100 thousandths of passenger seconds.
 #![tactic(auto)]
 
 mod costing;
 mod following;
 mod keeping;
+mod kept_cost;
 mod marks;
 mod rounds;
 mod row;
@@ -22,6 +24,7 @@ mod timetable;
 pub use costing::{comes_too_early, cost_charging, cost_of, flag_dropped, is_dropped_change};
 pub use following::follow;
 pub use keeping::keep_up;
+pub use kept_cost::KeptCost;
 pub use marks::Marks;
 pub use rounds::{Cyclic, raise};
 pub use row::{row_into, row_out_of};

@@ -1,4 +1,4 @@
-use Rattle.std.proofs.Common.{List, Bool, ◌<◌, ◌≡◌, refl, ap, sym, subst, ◌∙◌, arith, length, true, length-set}
+use Rattle.std.proofs.Common.{List, Bool, ◌≡◌, refl, ap, ◌∙◌, arith, length, true, length-set}
 use Rattle.dm_relaxation.proofs.Spreading.{reset_none, reset_next, reset_all, none_left}
 use Rattle.dm_relaxation.proofs.following.reset.Goals as goal
 

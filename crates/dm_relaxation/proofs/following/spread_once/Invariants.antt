@@ -1,4 +1,4 @@
-use Rattle.std.proofs.Common.{◌≡◌, ◌-◌, ◌≤◌, List, Bool, length}
+use Rattle.std.proofs.Common.{◌≡◌, ◌-◌, List, Bool, length}
 use Rattle.dm_relaxation.specs.Inside.Spreading.{HasSpread}
 use Rattle.dm_relaxation.proofs.following.spread_once.Given as goal
 

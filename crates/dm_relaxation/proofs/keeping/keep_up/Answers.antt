@@ -2,7 +2,7 @@ use Rattle.std.proofs.Common.{◌≡◌, arith, subst}
 use Rattle.dm_rows.specs.Resolve.{after_change}
 use Rattle.dm_rows.specs.declared.messages.Change.{Change}
 use Rattle.dm_relaxation.specs.Timetables.{ChangesNet}
-use Rattle.dm_relaxation.proofs.Agreeing.{event_renews, activity_renews, agrees_delayed, agrees_lengthened, agrees_passed, agrees_recalled, agrees_flipped, agrees_timed}
+use Rattle.dm_relaxation.proofs.Agreeing.{activity_renews, agrees_lengthened, agrees_passed, agrees_recalled, agrees_flipped, agrees_timed}
 use Rattle.dm_relaxation.proofs.keeping.keep_up.Goals as goal
 
 pub returns-in-ActDelay-clause-agrees : goal.returns-in-ActDelay-clause-agrees

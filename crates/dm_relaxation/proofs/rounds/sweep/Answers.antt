@@ -1,6 +1,6 @@
-use Rattle.std.proofs.Common.{ℕ, List, Bool, ◌≡◌, ◌+◌, ◌<◌, arith, refl, sym, ap, ◌∙◌, length, false, length-set}
+use Rattle.std.proofs.Common.{List, Bool, ◌≡◌, arith, refl, ap, ◌∙◌, length, false, length-set}
 use Rattle.dm_relaxation.specs.Binding.{graph_with}
-use Rattle.dm_relaxation.specs.Inside.Rising.{AreWithin, latest}
+use Rattle.dm_relaxation.specs.Inside.Rising.{latest}
 use Rattle.dm_relaxation.proofs.Rising.{swept_none, swept_next, swept_last}
 use Rattle.dm_relaxation.proofs.rounds.sweep.Goals as goal
 

@@ -1,4 +1,4 @@
-use Rattle.std.proofs.Common.{Bool, ℕ, false, ◌≡◌, ◌≤◌, ◌<◌, sym, ap, subst, ◌∙◌, arith, length, length-set, slice_index}
+use Rattle.std.proofs.Common.{Bool, ℕ, false, ◌≡◌, sym, subst, ◌∙◌, arith, length-set, slice_index}
 use Rattle.dm_network.specs.declared.parts.Activity.{Activity}
 use Rattle.dm_network.specs.Held.{is_held}
 use Rattle.dm_relaxation.specs.Inside.Renewing.{IsMetAt}

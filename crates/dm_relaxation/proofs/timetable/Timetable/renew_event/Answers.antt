@@ -1,5 +1,4 @@
-use Rattle.std.proofs.Common.{List, ℕ, ◌≡◌, ◌≤◌, ◌^◌, ◌<◌, sym, subst, ◌∙◌, arith, length, length-set, slice_index}
-use Rattle.dm_base.specs.declared.limits.TheConstants.{PASSED_TIME}
+use Rattle.std.proofs.Common.{ℕ, ◌^◌, sym, subst, ◌∙◌, arith, length-set, slice_index}
 use Rattle.dm_relaxation.specs.Inside.Renewing.{IsKeptAt}
 use Rattle.dm_relaxation.specs.Timetables.{TimetableValue, IsTimetableOf}
 use Rattle.dm_relaxation.proofs.OfTimetables.{value}

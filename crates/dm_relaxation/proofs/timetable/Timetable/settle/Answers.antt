@@ -1,4 +1,4 @@
-use Rattle.std.proofs.Common.{List, ℕ, Bool, ◌≡◌, sym, subst, ◌∙◌, refl, length}
+use Rattle.std.proofs.Common.{◌≡◌, sym, subst, ◌∙◌, refl}
 use Rattle.std.specs.Vec.{with_items}
 use Rattle.std.proofs.lemmas.List.{with_items_is}
 use Rattle.dm_relaxation.specs.Timetables.{TimetableValue, IsTimetableOf, AgreesWith}
