@@ -120,15 +120,5 @@ pub fn copy_times(table: &Table<'_>, into: &mut Times)
     ensures { AreTimesAfter (base_of table.now) table.now.history into.new }
 {
     table.sound();
-    copy(table.times(), into);
-}
-
-/// Makes times equal to others of the same network.
-fn copy(times: &Times, into: &mut Times)
-    requires { length into.old ≡ length times.now }
-    ensures { into.new ≡ times.now }
-{
-    for i in 0..times.events() {
-        into.set(i, times.time(i));
-    }
+    into.copy_from(table.times());
 }

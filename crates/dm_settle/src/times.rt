@@ -76,6 +76,14 @@ impl Times {
         self.seconds[i] = time;
     }
 
+    /// Makes the times those of another timetable of as many events.
+    pub fn copy_from(&mut self, other: &Times)
+        requires { length self.old ≡ length other.now }
+        ensures { self.new ≡ other.now }
+    {
+        self.seconds.copy_from_slice(&other.seconds);
+    }
+
     /// The times, by place of the event, in seconds.
     pub fn as_slice(&self) -> &[Secs]
         ensures { result.now ≡ self.now }
