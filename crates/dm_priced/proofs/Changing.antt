@@ -1,5 +1,5 @@
 -- How the sums change where one event has another time, where an event passes, and where a span or a charge changes.
-use Rattle.std.proofs.Common.{◌≡◌, ◌≢◌, ℕ, zero, suc, ◌+◌, ◌<◌, Bool, false, List, [], ◌∷◌, length, sum_by, replicate, refl, sym, ap, ◌∙◌, ◌&&◌, if◌then◌else◌, inl, inr, arith, nat_lt, eq-eqb, eqb-true, slice_index, get_or-set_same, get_or-set_other}
+use Rattle.std.proofs.Common.{◌≡◌, ◌≢◌, ℕ, zero, suc, ◌+◌, ◌<◌, Bool, true, false, List, [], ◌∷◌, length, sum_by, replicate, refl, sym, ap, ◌∙◌, ◌&&◌, if◌then◌else◌, inl, inr, arith, nat_lt, eq-eqb, eqb-true, slice_index, get_or-set_same, get_or-set_other}
 use Rattle.std.specs.Prelude.{◌==◌, slice_set}
 use Rattle.std.specs.List.{range_with_len}
 use Rattle.std.proofs.lemmas.Bool.{cases_lt, lt-ltb, le-ltb, and_right}
@@ -7,7 +7,7 @@ use Rattle.dm_network.specs.Net.{Net, activity_at, is_change, places_into, place
 use Rattle.dm_rows.specs.Cost.{event_cost, charged_weight}
 use Rattle.dm_priced.specs.Priced.{is_flagged, comes_too_early, missed_weight, lateness_of, charged_of, missed_of}
 use Rattle.dm_priced.specs.Inside.Adding.{cost_at, missed_at}
-use Rattle.dm_priced.proofs.Sums.{sum_none, sum_moves, sum_moves_row, sum_moves_rows}
+use Rattle.dm_priced.proofs.Sums.{sum_none, sum_none_along, sum_moves, sum_moves_row, sum_moves_rows}
 
 differs : (j i : ℕ) → (j == i) ≡ false → j ≢ i
 differs j i not is = let yes = eq-eqb j i is in absurd cc
@@ -116,3 +116,32 @@ none_missed net passed spans x n are =
     rw are (sum_none (missed_weight net (replicate n false) spans x) (range_with_len 0 (length net.activities))
     (λ k. let late : Bool → ℕ = λ b. if b && comes_too_early net spans x k then (activity_at net k).weight else 0 in
     ap late (and_right (is_change (activity_at net k).kind) _ (none_flagged n (activity_at net k).head))))
+
+-- ---- what cannot be missed
+
+not_flagged : (change passed late : Bool) (weight : ℕ) → change && passed ≡ false → 0 ≡ (if change && passed && late then weight else 0)
+not_flagged false passed late weight is = refl
+not_flagged true false late weight is = refl
+not_flagged true true late weight is = absurd cc
+
+not_passed : (change passed : Bool) → passed ≡ false → change && passed ≡ false
+not_passed false passed is = refl
+not_passed true passed is = is
+
+-- an activity that is no change, or whose head has not passed
+pub unmissable : (net : Net) (passed : List Bool) (spans x : List ℕ) (a : ℕ) → is_change (activity_at net a).kind && is_flagged passed (activity_at net a).head ≡ false →
+    0 ≡ missed_weight net passed spans x a
+unmissable net passed spans x a is =
+    not_flagged (is_change (activity_at net a).kind) (is_flagged passed (activity_at net a).head) (comes_too_early net spans x a) (activity_at net a).weight is
+
+-- the activities into an event that has not passed
+pub unpassed_into : (net : Net) (passed : List Bool) (spans x : List ℕ) (e : ℕ) (row : List ℕ) → row ≡ places_into net e → is_flagged passed e ≡ false →
+    0 ≡ sum_by (missed_weight net passed spans x) row
+unpassed_into net passed spans x e row is not =
+    sym (ap (sum_by (missed_weight net passed spans x)) is
+    ∙ sum_none_along (missed_weight net passed spans x) (λ (a : ℕ). (activity_at net a).head == e)
+    (λ a enters.
+    let head : (activity_at net a).head ≡ e = eqb-true (activity_at net a).head e enters in
+    sym (unmissable net passed spans x a
+    (not_passed (is_change (activity_at net a).kind) (is_flagged passed (activity_at net a).head) (ap (is_flagged passed) head ∙ not))))
+    (range_with_len 0 (length net.activities)))

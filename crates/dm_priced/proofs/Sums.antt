@@ -51,6 +51,16 @@ added : (f : ℕ → ℕ) (p : ℕ → Bool) (x : ℕ) (xs : List ℕ) (b : Bool
 added f p x xs true is = ap (λ (b : Bool). sum_by f (cond b (x ∷ filter p xs) (filter p xs))) is ∙ sum_by-cons f x (filter p xs)
 added f p x xs false is = ap (λ (b : Bool). sum_by f (cond b (x ∷ filter p xs) (filter p xs))) is ∙ omega arith
 
+-- a function that is 0 along a row
+pub sum_none_along : (f : ℕ → ℕ) (p : ℕ → Bool) → ((k : ℕ) → p k ≡ true → f k ≡ 0) → (xs : List ℕ) → sum_by f (filter p xs) ≡ 0
+sum_none_along f p none [] = refl
+sum_none_along f p none (x ∷ xs) =
+    let rest = sum_none_along f p none xs in
+    elim (cases_Bool (p x)) [
+      | inl is ↦ omega (arith, added f p x xs true is, none x is, rest)
+      | inr not ↦ omega (arith, added f p x xs false not, rest)
+    ]
+
 -- a function that changes along one row
 pub sum_moves_row : (f g : ℕ → ℕ) (p : ℕ → Bool) → ((k : ℕ) → p k ≡ false → g k ≡ f k) → (xs : List ℕ) →
     sum_by g xs + sum_by f (filter p xs) ≡ sum_by f xs + sum_by g (filter p xs)

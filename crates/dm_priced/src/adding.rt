@@ -1,9 +1,9 @@
 //! What one event and one activity add to the sums.
-ghost use Rattle.std.specs.Prelude.{◌≡◌, ◌+◌, ◌*◌, ◌^◌, ◌<◌, ◌≤◌, length, slice_index, slice_set, sum_by, if◌then◌else◌};
-ghost use Rattle.dm_network.specs.Net.{activity_at};
+ghost use Rattle.std.specs.Prelude.{◌≡◌, ◌&&◌, ◌+◌, ◌*◌, ◌^◌, ◌<◌, ◌≤◌, length, slice_index, slice_set, sum_by, if◌then◌else◌};
+ghost use Rattle.dm_network.specs.Net.{activity_at, is_change, places_into};
 ghost use Rattle.dm_base.specs.declared.limits.TheConstants.{BOUND, DELAY, WEIGHT};
 ghost use Rattle.dm_settle.specs.Constraints.{IsSizedFor};
-ghost use Rattle.dm_priced.specs.Priced.{missed_weight};
+ghost use Rattle.dm_priced.specs.Priced.{is_flagged, missed_weight};
 ghost use Rattle.dm_priced.specs.Inside.Adding.{cost_at, missed_at, AreActivities};
 
 use dm_base::{ActKind, Cost, EventKind, Milli, Secs};
@@ -90,6 +90,126 @@ fn missed_where(
     let tail = times.time_where(event, time, activity.tail);
     let head = times.time_where(event, time, activity.head);
     missed_at(net, passed, a, tail, head, constraints.span(a))
+}
+
+/// Whether an activity is a change whose head has passed. No other is missed.
+fn is_change_to_passed(net: &Network, passed: &[bool], a: usize) -> bool
+    requires is_activity { a < length net.now.activities }
+    requires as_many { length passed.now ≡ length net.now.events }
+    ensures { result ≡ is_change (activity_at net.now a).kind && is_flagged passed.now (activity_at net.now a).head }
+{
+    net.sound();
+    let activity = net.activity(a);
+    matches!(activity.kind, ActKind::Change) && passed[activity.head]
+}
+
+/// The weights of activities that are missed, where one event has an earlier time and where it has a later one.
+#[derive(Clone, Copy)]
+pub struct Missed {
+    pub was: Cost,
+    pub now: Cost,
+}
+
+/// What one activity adds to these.
+fn missed_by(
+    net: &Network,
+    constraints: &Constraints,
+    passed: &[bool],
+    times: &Times,
+    event: usize,
+    earlier: Secs,
+    later: Secs,
+    a: usize,
+) -> Missed
+    requires sized { IsSizedFor net.now constraints.now }
+    requires as_many { length passed.now ≡ length net.now.events }
+    requires as_many_times { length times.now ≡ length net.now.events }
+    requires is_event { event < length net.now.events }
+    requires early { (earlier < 2 ^ 38) × (later < 2 ^ 38) }
+    requires is_activity { a < length net.now.activities }
+    ensures was { result.was ≡ missed_weight net.now passed.now constraints.now.spans (slice_set times.now event earlier) a }
+    ensures now { result.now ≡ missed_weight net.now passed.now constraints.now.spans (slice_set times.now event later) a }
+    ensures was_limit { result.was ≤ WEIGHT }
+    ensures now_limit { result.now ≤ WEIGHT }
+{
+    if !is_change_to_passed(net, passed, a) {
+        return Missed { was: 0, now: 0 };
+    }
+    let was = missed_where(net, constraints, passed, times, event, earlier, a);
+    let now = missed_where(net, constraints, passed, times, event, later, a);
+    Missed {
+        was: was as Cost,
+        now: now as Cost,
+    }
+}
+
+/// What the activities of a row add to these.
+pub fn missed_between(
+    net: &Network,
+    constraints: &Constraints,
+    passed: &[bool],
+    times: &Times,
+    event: usize,
+    earlier: Secs,
+    later: Secs,
+    row: &[usize],
+) -> Missed
+    requires sized { IsSizedFor net.now constraints.now }
+    requires as_many { length passed.now ≡ length net.now.events }
+    requires as_many_times { length times.now ≡ length net.now.events }
+    requires is_event { event < length net.now.events }
+    requires early { (earlier < 2 ^ 38) × (later < 2 ^ 38) }
+    requires activities { AreActivities net.now row.now }
+    ensures was { result.was ≡ sum_by (missed_weight net.now passed.now constraints.now.spans (slice_set times.now event earlier)) row.now }
+    ensures now { result.now ≡ sum_by (missed_weight net.now passed.now constraints.now.spans (slice_set times.now event later)) row.now }
+    ensures was_limit { result.was < 2 ^ 96 }
+    ensures now_limit { result.now < 2 ^ 96 }
+{
+    let mut was = 0;
+    let mut now = 0;
+    for a in row {
+        let missed = missed_by(net, constraints, passed, times, event, earlier, later, *a);
+        was += missed.was;
+        now += missed.now;
+    }
+    Missed { was, now }
+}
+
+/// What the activities into that event add to these: nothing unless it has passed.
+pub fn missed_into(
+    net: &Network,
+    constraints: &Constraints,
+    passed: &[bool],
+    times: &Times,
+    event: usize,
+    earlier: Secs,
+    later: Secs,
+    into: &[usize],
+) -> Missed
+    requires sized { IsSizedFor net.now constraints.now }
+    requires as_many { length passed.now ≡ length net.now.events }
+    requires as_many_times { length times.now ≡ length net.now.events }
+    requires is_event { event < length net.now.events }
+    requires early { (earlier < 2 ^ 38) × (later < 2 ^ 38) }
+    requires into { into.now ≡ places_into net.now event }
+    ensures was { result.was ≡ sum_by (missed_weight net.now passed.now constraints.now.spans (slice_set times.now event earlier)) into.now }
+    ensures now { result.now ≡ sum_by (missed_weight net.now passed.now constraints.now.spans (slice_set times.now event later)) into.now }
+    ensures was_limit { result.was < 2 ^ 96 }
+    ensures now_limit { result.now < 2 ^ 96 }
+{
+    if has_passed(passed, event) {
+        missed_between(net, constraints, passed, times, event, earlier, later, into)
+    } else {
+        Missed { was: 0, now: 0 }
+    }
+}
+
+/// Whether an event has passed.
+fn has_passed(passed: &[bool], event: usize) -> bool
+    requires { event < length passed.now }
+    ensures { result ≡ is_flagged passed.now event }
+{
+    passed[event]
 }
 
 /// The weights of the activities of a row that are missed, where one event has another time.

@@ -3,7 +3,7 @@ ghost use Rattle.std.specs.Prelude.{◌≡◌, length};
 ghost use Rattle.dm_priced.specs.Priced.{lateness_of};
 ghost use Rattle.dm_priced.specs.Inside.Adding.{AreKnown};
 
-use crate::adding::{cost_at, missed_along};
+use crate::adding::{cost_at, missed_between, missed_into};
 use dm_base::{Cost, Secs};
 use dm_network::Network;
 use dm_settle::{Constraints, Times, Watcher};
@@ -39,10 +39,27 @@ impl Watcher for Watch<'_> {
         let cost = cost_at(net, event, time);
         let was = cost_at(net, event, earlier);
         self.lateness = self.lateness + cost - was;
-        let missed_into = missed_along(net, constraints, self.passed, times, event, time, into);
-        let missed_out = missed_along(net, constraints, self.passed, times, event, time, out_of);
-        let was_into = missed_along(net, constraints, self.passed, times, event, earlier, into);
-        let was_out = missed_along(net, constraints, self.passed, times, event, earlier, out_of);
-        self.missed = self.missed + (missed_into + missed_out) - (was_into + was_out);
+        let along_into = missed_into(
+            net,
+            constraints,
+            self.passed,
+            times,
+            event,
+            earlier,
+            time,
+            into,
+        );
+        let along_out = missed_between(
+            net,
+            constraints,
+            self.passed,
+            times,
+            event,
+            earlier,
+            time,
+            out_of,
+        );
+        self.missed = self.missed + (along_into.now + along_out.now)
+            - (along_into.was + along_out.was);
     }
 }

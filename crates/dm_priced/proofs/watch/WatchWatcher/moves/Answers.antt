@@ -1,7 +1,7 @@
 use Rattle.std.proofs.Common.{◌∙◌, ap, arith}
 use Rattle.dm_priced.specs.Inside.Adding.{cost_at}
 use Rattle.dm_priced.proofs.Limits.{lateness_within, missed_within}
-use Rattle.dm_priced.proofs.Pricing.{into_are_activities, out_are_activities, lateness_holds, lateness_now, missed_holds, missed_now}
+use Rattle.dm_priced.proofs.Pricing.{out_are_activities, lateness_holds, lateness_now, missed_holds, missed_now}
 use Rattle.dm_priced.proofs.watch.WatchWatcher.moves.Goals as goal
 
 pub overflow_add-self : goal.overflow_add-self
@@ -18,24 +18,15 @@ overflow_sub-self c =
     c.cost_at-cost.result c.cost_at-was.result c.cost_at-cost.ensures.cost
     (c.cost_at-was.ensures.cost ∙ ap (cost_at c.args.net.now c.args.event) c.time-earlier.ensures.value)
 
-pub missed_along-missed_into-requires-clause-activities : goal.missed_along-missed_into-requires-clause-activities
-missed_along-missed_into-requires-clause-activities c = into_are_activities c.args.net.now c.args.event c.args.into.now c.requires.into
-
-pub missed_along-missed_out-requires-clause-activities : goal.missed_along-missed_out-requires-clause-activities
-missed_along-missed_out-requires-clause-activities c = out_are_activities c.args.net.now c.args.event c.args.out_of.now c.requires.out_of
-
-pub missed_along-was_into-requires-clause-activities : goal.missed_along-was_into-requires-clause-activities
-missed_along-was_into-requires-clause-activities c = into_are_activities c.args.net.now c.args.event c.args.into.now c.requires.into
-
-pub missed_along-was_out-requires-clause-activities : goal.missed_along-was_out-requires-clause-activities
-missed_along-was_out-requires-clause-activities c = out_are_activities c.args.net.now c.args.event c.args.out_of.now c.requires.out_of
+pub missed_between-along_out-requires-clause-activities : goal.missed_between-along_out-requires-clause-activities
+missed_between-along_out-requires-clause-activities c = out_are_activities c.args.net.now c.args.event c.args.out_of.now c.requires.out_of
 
 pub overflow_add-self-3 : goal.overflow_add-self-3
 overflow_add-self-3 c =
     let bound = missed_within c.args.net.now c.sound.ensures.within c.args.self.now.passed.now c.args.constraints.now.spans c.args.times.now in
     let is = c.requires.knows.is_missed in
-    let into = c.missed_along-missed_into.ensures.limit in
-    let out_of = c.missed_along-missed_out.ensures.limit in
+    let into = c.missed_into-along_into.ensures.now_limit in
+    let out_of = c.missed_between-along_out.ensures.now_limit in
     omega (arith, bound, is, into, out_of)
 
 pub overflow_sub-self-2 : goal.overflow_sub-self-2
@@ -43,9 +34,9 @@ overflow_sub-self-2 c =
     missed_holds c.args.net.now c.args.self.now.passed.now c.args.constraints.now.spans c.args.times.now c.args.event c.args.time
     c.args.self.now.lateness c.args.self.now.missed c.requires.knows c.requires.is_event c.requires.as_many
     c.args.into.now c.args.out_of.now c.requires.into c.requires.out_of c.time-earlier.result
-    c.missed_along-missed_into.result c.missed_along-missed_out.result c.missed_along-was_into.result c.missed_along-was_out.result
-    c.time-earlier.ensures.value c.missed_along-missed_into.ensures.weight c.missed_along-missed_out.ensures.weight
-    c.missed_along-was_into.ensures.weight c.missed_along-was_out.ensures.weight
+    c.missed_into-along_into.result.now c.missed_between-along_out.result.now c.missed_into-along_into.result.was c.missed_between-along_out.result.was
+    c.time-earlier.ensures.value c.missed_into-along_into.ensures.now c.missed_between-along_out.ensures.now
+    c.missed_into-along_into.ensures.was c.missed_between-along_out.ensures.was
 
 pub returns-clause-knows : goal.returns-clause-knows
 returns-clause-knows c = record {
@@ -59,7 +50,7 @@ returns-clause-knows c = record {
       missed_now c.args.net.now c.args.self.now.passed.now c.args.constraints.now.spans c.args.times.now c.args.event c.args.time
       c.args.self.now.lateness c.args.self.now.missed c.requires.knows c.requires.is_event c.requires.as_many
       c.args.into.now c.args.out_of.now c.requires.into c.requires.out_of c.time-earlier.result
-      c.missed_along-missed_into.result c.missed_along-missed_out.result c.missed_along-was_into.result c.missed_along-was_out.result
-      c.time-earlier.ensures.value c.missed_along-missed_into.ensures.weight c.missed_along-missed_out.ensures.weight
-      c.missed_along-was_into.ensures.weight c.missed_along-was_out.ensures.weight;
+      c.missed_into-along_into.result.now c.missed_between-along_out.result.now c.missed_into-along_into.result.was c.missed_between-along_out.result.was
+      c.time-earlier.ensures.value c.missed_into-along_into.ensures.now c.missed_between-along_out.ensures.now
+      c.missed_into-along_into.ensures.was c.missed_between-along_out.ensures.was;
 }
