@@ -10,13 +10,14 @@ use Rattle.dm_network.specs.Start.{IsNetwork}
 use Rattle.dm_rows.specs.declared.messages.Decision.{Decision}
 use Rattle.dm_rows.specs.declared.messages.Flip.{Flip}
 use Rattle.dm_rows.specs.Active.{has_passed}
-use Rattle.dm_rows.specs.Decide.{IsChoiceList, choice_of, free_choices_of}
+use Rattle.dm_rows.specs.Decide.{IsChoiceList, choice_of, free_choices_of, with_decisions}
 use Rattle.dm_rows.specs.Relax.{is_undecided_change, is_undecided_pair, is_relaxed_active, is_relaxed_dropped}
 use Rattle.dm_rows.specs.Rows.{RowsValue, IsSized, kept_at}
 use Rattle.dm_verify.specs.Inside.Flags.{AreFlags, AreSetWhere, with_change, with_pair}
 use Rattle.dm_verify.specs.Inside.Moves.{is_bound_by, is_charged_by}
 use Rattle.dm_verify.specs.Inside.Paths.{AddsDecision, IsOpen, IsFlipOf}
 use Rattle.dm_verify.specs.Inside.Timetables.{TimetableValue}
+use Rattle.dm_relaxation.specs.KeptCosts.{KeptCostValue}
 use Rattle.dm_verify.specs.Inside.Relaxations.{RelaxationValue, IsRelaxationOf}
 use Rattle.dm_verify.proofs.Apart.{Apart, choice_list_from}
 use Rattle.dm_verify.proofs.Decided.{changes_decided, pairs_decided, changes_undecided, pairs_undecided}
@@ -56,7 +57,7 @@ module _ (net : Net) (network : IsNetwork net) (rows : RowsValue) (sized : IsSiz
     (d : Decision) (flip : Flip) (named : IsFlipOf net rows d flip) (held charged : List Bool) where
   pub decided : IsOpen net rows old.path (choice_of d) →
       AreSetWhere (is_bound_by net flip) true (length net.activities) old.held held → AreSetWhere (is_charged_by flip) true (length net.activities) old.charged charged →
-      IsRelaxationOf net rows (record { path = old.path ++ d ∷ []; changes = with_change flip false old.changes; pairs = with_pair flip false old.pairs; held = held; charged = charged; timetable = old.timetable })
+      IsRelaxationOf net rows (record { path = old.path ++ d ∷ []; changes = with_change flip false old.changes; pairs = with_pair flip false old.pairs; held = held; charged = charged; timetable = old.timetable; kept_cost = old.kept_cost })
   decided opened holds charges =
       let other : List Decision = old.path ++ d ∷ [] in
       let list : IsChoiceList net rows other = open_list net rows old.path d was.is_path opened in
@@ -70,11 +71,12 @@ module _ (net : Net) (network : IsNetwork net) (rows : RowsValue) (sized : IsSiz
         charged = flags_on (is_charged_by flip) (is_relaxed_dropped net rows old.path) (is_relaxed_dropped net rows other) (length net.activities) old.charged charged was.charged charges
             (charge_differs net network rows sized old.path other was.is_path list d adds flip named);
         timetable = was.timetable;
+        cost = was.cost;
       }
 
   pub taken_back : (path : List Decision) → old.path ≡ path ++ d ∷ [] →
       AreSetWhere (is_bound_by net flip) false (length net.activities) old.held held → AreSetWhere (is_charged_by flip) false (length net.activities) old.charged charged →
-      IsRelaxationOf net rows (record { path = path; changes = with_change flip true old.changes; pairs = with_pair flip true old.pairs; held = held; charged = charged; timetable = old.timetable })
+      IsRelaxationOf net rows (record { path = path; changes = with_change flip true old.changes; pairs = with_pair flip true old.pairs; held = held; charged = charged; timetable = old.timetable; kept_cost = old.kept_cost })
   taken_back path is holds charges =
       let other : List Decision = path ++ d ∷ [] in
       let list : IsChoiceList net rows other = subst (IsChoiceList net rows) is was.is_path in
@@ -93,6 +95,7 @@ module _ (net : Net) (network : IsNetwork net) (rows : RowsValue) (sized : IsSiz
             (subst (λ (p : List Decision). AreFlags (is_relaxed_dropped net rows p) (length net.activities) old.charged) is was.charged) charges
             (charge_differs net network rows sized path other less list d adds flip named);
         timetable = was.timetable;
+        cost = was.cost;
       }
 
 -- where nothing is decided nothing is charged for
@@ -104,6 +107,11 @@ none_dropped false kept passed = refl
 
 pub none_charged : (net : Net) (rows : RowsValue) (a : ℕ) → is_relaxed_dropped net rows [] a ≡ false
 none_charged net rows a = none_dropped (is_change (activity_at net a).kind) (kept_at rows a) (has_passed rows (activity_at net a).head)
+
+-- what is no change is charged for nowhere
+pub no_change_charged : (net : Net) (rows : RowsValue) (path : List Decision) (a : ℕ) → is_change (activity_at net a).kind ≡ false → is_relaxed_dropped net rows path a ≡ false
+no_change_charged net rows path a other =
+    ap (λ (b : Bool). (b && not (kept_at (with_decisions net rows path) a) && not (has_passed (with_decisions net rows path) (activity_at net a).head)) && not (is_undecided_change net rows path a)) other
 
 -- one flag more
 pub one_flag_more : (test : ℕ → Bool) (n : ℕ) (flags more : List Bool) (v : Bool) → AreFlags test n flags → v ≡ test n → more ≡ flags ++ v ∷ [] → AreFlags test (n + 1) more
@@ -130,11 +138,11 @@ over_vec some value n v now after is turned =
     (subst (λ (f : List Bool). AreSetWhere some value n f after) is turned)
 
 -- the same with other names for the path and the flags of what is undecided
-pub moved : (net : Net) (rows : RowsValue) (old_path : List Decision) (old_changes old_pairs held charged : List Bool) (timetable : TimetableValue) (path now : List Decision)
+pub moved : (net : Net) (rows : RowsValue) (old_path : List Decision) (old_changes old_pairs held charged : List Bool) (timetable : TimetableValue) (cost : KeptCostValue) (path now : List Decision)
     (changes pairs : List Bool) → now ≡ path → changes ≡ old_changes → pairs ≡ old_pairs →
-    IsRelaxationOf net rows (record { path = path; changes = old_changes; pairs = old_pairs; held = held; charged = charged; timetable = timetable }) →
-    IsRelaxationOf net rows (record { path = now; changes = changes; pairs = pairs; held = held; charged = charged; timetable = timetable })
-moved net rows old_path old_changes old_pairs held charged timetable path now changes pairs path_is changes_are pairs_are is =
-    subst (λ (p : List Decision). IsRelaxationOf net rows (record { path = p; changes = changes; pairs = pairs; held = held; charged = charged; timetable = timetable })) (sym path_is)
-    (subst (λ (f : List Bool). IsRelaxationOf net rows (record { path = path; changes = f; pairs = pairs; held = held; charged = charged; timetable = timetable })) (sym changes_are)
-    (subst (λ (f : List Bool). IsRelaxationOf net rows (record { path = path; changes = old_changes; pairs = f; held = held; charged = charged; timetable = timetable })) (sym pairs_are) is))
+    IsRelaxationOf net rows (record { path = path; changes = old_changes; pairs = old_pairs; held = held; charged = charged; timetable = timetable; kept_cost = cost }) →
+    IsRelaxationOf net rows (record { path = now; changes = changes; pairs = pairs; held = held; charged = charged; timetable = timetable; kept_cost = cost })
+moved net rows old_path old_changes old_pairs held charged timetable cost path now changes pairs path_is changes_are pairs_are is =
+    subst (λ (p : List Decision). IsRelaxationOf net rows (record { path = p; changes = changes; pairs = pairs; held = held; charged = charged; timetable = timetable; kept_cost = cost })) (sym path_is)
+    (subst (λ (f : List Bool). IsRelaxationOf net rows (record { path = path; changes = f; pairs = pairs; held = held; charged = charged; timetable = timetable; kept_cost = cost })) (sym changes_are)
+    (subst (λ (f : List Bool). IsRelaxationOf net rows (record { path = path; changes = old_changes; pairs = f; held = held; charged = charged; timetable = timetable; kept_cost = cost })) (sym pairs_are) is))

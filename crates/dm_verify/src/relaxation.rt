@@ -17,7 +17,7 @@ use crate::undecided::Undecided;
 use crate::violations::{is_any_violated, is_violated};
 use dm_base::Cost;
 use dm_network::Network;
-use dm_relaxation::{Cyclic, cost_charging};
+use dm_relaxation::{Cyclic, KeptCost};
 use dm_rows::{Choice, Decision, Rows};
 use std::alloc::{AllocError, Global};
 use std::marker::Model;
@@ -31,6 +31,7 @@ pub struct Relaxation {
     held: Vec<bool>,
     charged: Vec<bool>,
     timetable: Timetable,
+    kept_cost: KeptCost,
 }
 
 impl Model for Relaxation {
@@ -38,7 +39,7 @@ impl Model for Relaxation {
 
     ghost Value = { RelaxationValue };
 
-    ghost view = { λ r. record { path = r.path.items; changes = r.undecided.changes.items; pairs = r.undecided.pairs.items; held = r.held.items; charged = r.charged.items; timetable = r.timetable } };
+    ghost view = { λ r. record { path = r.path.items; changes = r.undecided.changes.items; pairs = r.undecided.pairs.items; held = r.held.items; charged = r.charged.items; timetable = r.timetable; kept_cost = r.kept_cost } };
 
     ghost invariant = { λ r. Unit {0} };
 }
@@ -56,6 +57,7 @@ impl Relaxation {
             held: bound_flags(alloc, net, rows)?,
             charged: vec![in alloc; false; net.activities()]?,
             timetable: Timetable::new(alloc, net, rows)?,
+            kept_cost: KeptCost::new(alloc, net)?,
         })
     }
 
@@ -68,7 +70,13 @@ impl Relaxation {
         ensures solved { OnOk result (IsSolved net.now rows.now self.new) }
         ensures cyclic { OnErr result (HasRelaxedCycle net.now rows.now self.old.path) }
     {
-        self.timetable.settle(net, rows, &self.held)
+        match self.timetable.settle(net, rows, &self.held) {
+            Ok(()) => {
+                self.kept_cost.follow(net, self.timetable.times());
+                Ok(())
+            }
+            Err(Cyclic) => Err(Cyclic),
+        }
     }
 
     /// Decides a choice that is free and that the path leaves undecided. The times are then those of before.
@@ -124,7 +132,8 @@ impl Relaxation {
         requires penalty { penalty ≤ PENALTY }
         ensures { result ≡ relaxed_cost_of net.now rows.now self.now.path (times_of self.now) penalty }
     {
-        cost_charging(net, rows, &self.charged, self.timetable.times(), penalty)
+        self.kept_cost
+            .cost_charging(net, rows, &self.charged, penalty)
     }
 
     /// Whether a choice is undecided and violated, where the times are the least ones.

@@ -6,14 +6,22 @@ use Rattle.dm_rows.specs.declared.messages.Decision.{Decision}
 use Rattle.dm_tree.specs.declared.forms.Node.{Node}
 use Rattle.dm_tree.specs.declared.forms.Node.TheVariants.{Inner}
 use Rattle.dm_tree.specs.Plans.{whole_task}
-use Rattle.dm_verify.specs.Inside.Visiting.{IsNextOpen, GoesOn}
+use Rattle.dm_verify.specs.Inside.Visiting.{IsNextOpen, IsLeftToVisit, GoesOn}
 use Rattle.dm_verify.proofs.Told.{next_open}
-use Rattle.dm_verify.proofs.Visited.{false_here, ordered_here, goes_on, ends_there, none_to_visit, next_left}
+use Rattle.dm_verify.proofs.Visited.{at_first, false_here, ordered_here, goes_on, ends_there, none_to_visit, next_left}
 use Rattle.dm_verify.proofs.nodes.are_all_true.Goals as goal
 
 -- what stands past the end of a list
 abbrev past_end : Node
 past_end = let id : ActId = record { 0 = 0 } in Inner (Change id)
+
+pub loop-node-init : goal.loop-node-init
+loop-node-init c = record {
+  relaxation = c.in-Ok.ensures.relaxation;
+  left = λ budget.
+      let task = whole_task c.args.net.now c.args.rows.now c.args.penalty budget in
+      subst (λ (p : List Decision). IsLeftToVisit task c.args.costs.plan c.args.nodes.now c.args.nodes.now p) (sym c.in-Ok.ensures.path) (at_first task c.args.costs.plan c.args.nodes.now c.requires.whole);
+}
 
 pub returns-then-not-is_true : goal.returns-then-not-is_true
 returns-then-not-is_true c = λ budget.

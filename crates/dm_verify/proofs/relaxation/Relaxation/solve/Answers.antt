@@ -1,34 +1,35 @@
 use Rattle.std.proofs.Common.{List, Bool, sym, ap, subst, ◌∙◌}
 use Rattle.std.specs.Prelude.{OnErr}
-use Rattle.std.proofs.lemmas.Result.{on_err_weaker}
 use Rattle.dm_rows.specs.Relax.{is_relaxed_active}
 use Rattle.dm_relaxation.specs.Binding.{AreFlags}
 use Rattle.dm_rows.specs.declared.messages.Decision.{Decision}
 use Rattle.dm_verify.specs.Inside.Flags.{is_flagged}
 use Rattle.dm_verify.specs.Inside.Relaxations.{RelaxationValue, IsRelaxationOf, HasRelaxedCycle}
-use Rattle.dm_verify.proofs.Relaxed.{on_ok_three, relaxed_least, enters_no_passed, has_cycle}
+use Rattle.dm_verify.proofs.Relaxed.{relaxed_least, enters_no_passed, has_cycle}
 use Rattle.dm_verify.proofs.relaxation.Relaxation.solve.Goals as goal
 
-pub returns-clause-solved : goal.returns-clause-solved
-returns-clause-solved c =
+pub returns-in-Ok-clause-solved : goal.returns-in-Ok-clause-solved
+returns-in-Ok-clause-solved c =
     let net = c.args.net.now in
     let rows = c.args.rows.now in
     let was = subst (IsRelaxationOf net rows) (sym c.self.view_is) c.requires.relaxation in
     let path = c.self.inside.path.items in
     let flags : AreFlags net (is_relaxed_active net rows path) c.deref.result.now =
     λ a below. ap (λ (f : List Bool). is_flagged f a) c.deref.ensures.value ∙ was.held.each a below in
-    on_ok_three c.settle.result _ _ _ _
-    (λ least none early. record { least = relaxed_least net rows path c.settle.new.self.last.times least; no_cycle = none; below = early })
-    (c.settle.ensures.least (is_relaxed_active net rows path) flags (enters_no_passed net rows path))
-    (c.settle.ensures.none (is_relaxed_active net rows path) flags) c.settle.ensures.early
+    record {
+      least = relaxed_least net rows path c.settle.new.self.last.times (c.in-Ok.ensures.least (is_relaxed_active net rows path) flags (enters_no_passed net rows path));
+      no_cycle = c.in-Ok.ensures.none (is_relaxed_active net rows path) flags;
+      below = c.in-Ok.ensures.early;
+      kept = c.follow.ensures.times ∙ c.times.ensures;
+    }
 
-pub returns-clause-cyclic : goal.returns-clause-cyclic
-returns-clause-cyclic c =
+pub returns-in-Err-clause-cyclic : goal.returns-in-Err-clause-cyclic
+returns-in-Err-clause-cyclic c =
     let net = c.args.net.now in
     let rows = c.args.rows.now in
     let was = subst (IsRelaxationOf net rows) (sym c.self.view_is) c.requires.relaxation in
     let path = c.self.inside.path.items in
     let flags : AreFlags net (is_relaxed_active net rows path) c.deref.result.now =
     λ a below. ap (λ (f : List Bool). is_flagged f a) c.deref.ensures.value ∙ was.held.each a below in
-    subst (λ (p : List Decision). OnErr c.settle.result (HasRelaxedCycle net rows p)) (ap (λ (r : RelaxationValue). r.path) c.self.view_is)
-    (on_err_weaker c.settle.result (has_cycle net rows path) (c.settle.ensures.cyclic (is_relaxed_active net rows path) flags))
+    subst (λ (p : List Decision). HasRelaxedCycle net rows p) (ap (λ (r : RelaxationValue). r.path) c.self.view_is)
+    (has_cycle net rows path (c.in-Err.ensures.cyclic (is_relaxed_active net rows path) flags))
