@@ -1,7 +1,7 @@
 -- The relaxed problem of a path with one decision more, or one less, by its flags.
 use Rattle.std.proofs.Common.{◌≡◌, ℕ, ◌+◌, ◌<◌, Bool, true, false, cond, List, [], ◌∷◌, ◌++◌, length, map, refl, sym, ap, subst, ◌∙◌, inl, inr, arith, Vec, Global}
 use Rattle.std.specs.Prelude.{Contains, ◌&&◌, not}
-use Rattle.std.proofs.lemmas.Bool.{cases_lt}
+use Rattle.std.proofs.lemmas.Bool.{cases_Bool, cases_lt}
 use Rattle.std.specs.Vec.{with_items}
 use Rattle.std.proofs.lemmas.List.{map-append, length-append, get_or_append_left, get_or_push, with_items_is}
 use Rattle.std.proofs.lemmas.List.Elements.{All-contains, Contains-append_left}
@@ -16,7 +16,7 @@ use Rattle.dm_rows.specs.Rows.{RowsValue, IsSized, kept_at}
 use Rattle.dm_verify.specs.Inside.Flags.{AreFlags, AreSetWhere, with_change, with_pair}
 use Rattle.dm_verify.specs.Inside.Moves.{is_bound_by, is_charged_by}
 use Rattle.dm_verify.specs.Inside.Paths.{AddsDecision, IsOpen, IsFlipOf}
-use Rattle.dm_verify.specs.Inside.Timetables.{TimetableValue}
+use Rattle.dm_verify.specs.Inside.Timetables.{TimetableValue, AreWithinFlags}
 use Rattle.dm_relaxation.specs.KeptCosts.{KeptCostValue}
 use Rattle.dm_verify.specs.Inside.Relaxations.{RelaxationValue, IsRelaxationOf}
 use Rattle.dm_verify.proofs.Apart.{Apart, choice_list_from}
@@ -53,11 +53,19 @@ front_list net rows path d list =
 pub last_is_open : (net : Net) (rows : RowsValue) (path : List Decision) (d : Decision) → IsChoiceList net rows (path ++ d ∷ []) → IsOpen net rows path (choice_of d)
 last_is_open net rows path d list = record { free = decides_free net rows path d list; undecided = (pushed net rows path d list).new }
 
+-- what was held still is where more is
+grows_on : (some : ℕ → Bool) (n : ℕ) (last before after : List Bool) → length last ≡ n → AreSetWhere some true n before after → AreWithinFlags last before → AreWithinFlags last after
+grows_on some n last before after size set within a below on =
+    set.each a (omega (arith, below, size)) ∙ elim (cases_Bool (some a)) [
+      | inl here ↦ rw here refl
+      | inr other ↦ rw other (within a below on)
+    ]
+
 module _ (net : Net) (network : IsNetwork net) (rows : RowsValue) (sized : IsSized net rows) (old : RelaxationValue) (was : IsRelaxationOf net rows old)
     (d : Decision) (flip : Flip) (named : IsFlipOf net rows d flip) (held charged : List Bool) where
   pub decided : IsOpen net rows old.path (choice_of d) →
       AreSetWhere (is_bound_by net flip) true (length net.activities) old.held held → AreSetWhere (is_charged_by flip) true (length net.activities) old.charged charged →
-      IsRelaxationOf net rows (record { path = old.path ++ d ∷ []; changes = with_change flip false old.changes; pairs = with_pair flip false old.pairs; held = held; charged = charged; timetable = old.timetable; kept_cost = old.kept_cost })
+      IsRelaxationOf net rows (record { path = old.path ++ d ∷ []; changes = with_change flip false old.changes; pairs = with_pair flip false old.pairs; held = held; charged = charged; is_grown = old.is_grown; timetable = old.timetable; kept_cost = old.kept_cost })
   decided opened holds charges =
       let other : List Decision = old.path ++ d ∷ [] in
       let list : IsChoiceList net rows other = open_list net rows old.path d was.is_path opened in
@@ -70,13 +78,14 @@ module _ (net : Net) (network : IsNetwork net) (rows : RowsValue) (sized : IsSiz
             (held_differs net network rows sized old.path other was.is_path list d adds flip named);
         charged = flags_on (is_charged_by flip) (is_relaxed_dropped net rows old.path) (is_relaxed_dropped net rows other) (length net.activities) old.charged charged was.charged charges
             (charge_differs net network rows sized old.path other was.is_path list d adds flip named);
+        grown = λ is. grows_on (is_bound_by net flip) (length net.activities) old.timetable.last.held old.held held (was.timetable.last.flags) holds (was.grown is);
         timetable = was.timetable;
         cost = was.cost;
       }
 
   pub taken_back : (path : List Decision) → old.path ≡ path ++ d ∷ [] →
       AreSetWhere (is_bound_by net flip) false (length net.activities) old.held held → AreSetWhere (is_charged_by flip) false (length net.activities) old.charged charged →
-      IsRelaxationOf net rows (record { path = path; changes = with_change flip true old.changes; pairs = with_pair flip true old.pairs; held = held; charged = charged; timetable = old.timetable; kept_cost = old.kept_cost })
+      IsRelaxationOf net rows (record { path = path; changes = with_change flip true old.changes; pairs = with_pair flip true old.pairs; held = held; charged = charged; is_grown = false; timetable = old.timetable; kept_cost = old.kept_cost })
   taken_back path is holds charges =
       let other : List Decision = path ++ d ∷ [] in
       let list : IsChoiceList net rows other = subst (IsChoiceList net rows) is was.is_path in
@@ -94,6 +103,7 @@ module _ (net : Net) (network : IsNetwork net) (rows : RowsValue) (sized : IsSiz
         charged = flags_off (is_charged_by flip) (is_relaxed_dropped net rows path) (is_relaxed_dropped net rows other) (length net.activities) old.charged charged
             (subst (λ (p : List Decision). AreFlags (is_relaxed_dropped net rows p) (length net.activities) old.charged) is was.charged) charges
             (charge_differs net network rows sized path other less list d adds flip named);
+        grown = λ is. absurd cc;
         timetable = was.timetable;
         cost = was.cost;
       }
@@ -138,11 +148,11 @@ over_vec some value n v now after is turned =
     (subst (λ (f : List Bool). AreSetWhere some value n f after) is turned)
 
 -- the same with other names for the path and the flags of what is undecided
-pub moved : (net : Net) (rows : RowsValue) (old_path : List Decision) (old_changes old_pairs held charged : List Bool) (timetable : TimetableValue) (cost : KeptCostValue) (path now : List Decision)
+pub moved : (net : Net) (rows : RowsValue) (old_path : List Decision) (old_changes old_pairs held charged : List Bool) (grown : Bool) (timetable : TimetableValue) (cost : KeptCostValue) (path now : List Decision)
     (changes pairs : List Bool) → now ≡ path → changes ≡ old_changes → pairs ≡ old_pairs →
-    IsRelaxationOf net rows (record { path = path; changes = old_changes; pairs = old_pairs; held = held; charged = charged; timetable = timetable; kept_cost = cost }) →
-    IsRelaxationOf net rows (record { path = now; changes = changes; pairs = pairs; held = held; charged = charged; timetable = timetable; kept_cost = cost })
-moved net rows old_path old_changes old_pairs held charged timetable cost path now changes pairs path_is changes_are pairs_are is =
-    subst (λ (p : List Decision). IsRelaxationOf net rows (record { path = p; changes = changes; pairs = pairs; held = held; charged = charged; timetable = timetable; kept_cost = cost })) (sym path_is)
-    (subst (λ (f : List Bool). IsRelaxationOf net rows (record { path = path; changes = f; pairs = pairs; held = held; charged = charged; timetable = timetable; kept_cost = cost })) (sym changes_are)
-    (subst (λ (f : List Bool). IsRelaxationOf net rows (record { path = path; changes = old_changes; pairs = f; held = held; charged = charged; timetable = timetable; kept_cost = cost })) (sym pairs_are) is))
+    IsRelaxationOf net rows (record { path = path; changes = old_changes; pairs = old_pairs; held = held; charged = charged; is_grown = grown; timetable = timetable; kept_cost = cost }) →
+    IsRelaxationOf net rows (record { path = now; changes = changes; pairs = pairs; held = held; charged = charged; is_grown = grown; timetable = timetable; kept_cost = cost })
+moved net rows old_path old_changes old_pairs held charged grown timetable cost path now changes pairs path_is changes_are pairs_are is =
+    subst (λ (p : List Decision). IsRelaxationOf net rows (record { path = p; changes = changes; pairs = pairs; held = held; charged = charged; is_grown = grown; timetable = timetable; kept_cost = cost })) (sym path_is)
+    (subst (λ (f : List Bool). IsRelaxationOf net rows (record { path = path; changes = f; pairs = pairs; held = held; charged = charged; is_grown = grown; timetable = timetable; kept_cost = cost })) (sym changes_are)
+    (subst (λ (f : List Bool). IsRelaxationOf net rows (record { path = path; changes = old_changes; pairs = f; held = held; charged = charged; is_grown = grown; timetable = timetable; kept_cost = cost })) (sym pairs_are) is))

@@ -30,6 +30,9 @@ pub struct Relaxation {
     undecided: Undecided,
     held: Vec<bool>,
     charged: Vec<bool>,
+
+    /// Whether only more has been held since the times were computed.
+    is_grown: bool,
     timetable: Timetable,
     kept_cost: KeptCost,
 }
@@ -39,7 +42,7 @@ impl Model for Relaxation {
 
     ghost Value = { RelaxationValue };
 
-    ghost view = { λ r. record { path = r.path.items; changes = r.undecided.changes.items; pairs = r.undecided.pairs.items; held = r.held.items; charged = r.charged.items; timetable = r.timetable; kept_cost = r.kept_cost } };
+    ghost view = { λ r. record { path = r.path.items; changes = r.undecided.changes.items; pairs = r.undecided.pairs.items; held = r.held.items; charged = r.charged.items; is_grown = r.is_grown; timetable = r.timetable; kept_cost = r.kept_cost } };
 
     ghost invariant = { λ r. Unit {0} };
 }
@@ -56,6 +59,7 @@ impl Relaxation {
             undecided: all_undecided(alloc, net, rows)?,
             held: bound_flags(alloc, net, rows)?,
             charged: vec![in alloc; false; net.activities()]?,
+            is_grown: false,
             timetable: Timetable::new(alloc, net, rows)?,
             kept_cost: KeptCost::new(alloc, net)?,
         })
@@ -70,8 +74,11 @@ impl Relaxation {
         ensures solved { OnOk result (IsSolved net.now rows.now self.new) }
         ensures cyclic { OnErr result (HasRelaxedCycle net.now rows.now self.old.path) }
     {
-        match self.timetable.settle(net, rows, &self.held) {
+        let is_grown = self.is_grown;
+        self.is_grown = false;
+        match self.timetable.settle(net, rows, &self.held, is_grown) {
             Ok(()) => {
+                self.is_grown = true;
                 self.kept_cost.follow(net, self.timetable.times());
                 Ok(())
             }
@@ -116,6 +123,7 @@ impl Relaxation {
         match self.path.pop() {
             Some(decision) => {
                 let flip = flip_of(net, rows, decision);
+                self.is_grown = false;
                 turn(net, flip, false, &mut self.held, &mut self.charged);
                 self.undecided.set(flip, true);
                 Some(decision)

@@ -1,5 +1,5 @@
 //! The least times of what is held, as it grows and shrinks.
-ghost use Rattle.std.specs.Prelude.{ℕ, ◌≡◌, Bool, length, IfOk, OnOk, OnErr};
+ghost use Rattle.std.specs.Prelude.{ℕ, ◌≡◌, Bool, IsTrue, length, IfOk, OnOk, OnErr};
 ghost use Rattle.dm_network.specs.Held.{HasNoCycleOf};
 ghost use Rattle.dm_rows.specs.Laws.{EntersNoPassed};
 ghost use Rattle.dm_network.specs.Net.{Net};
@@ -16,8 +16,8 @@ use dm_rows::Rows;
 use std::alloc::{AllocError, Global};
 use std::marker::Model;
 
-/// Times of what was held last and of what was held first. Where all that was held last is held still, rounds begin from its
-/// times; else from those of what was held first, or from the floors.
+/// Times of what was held last and of what was held first. Where only more is held, rounds begin from the
+/// last times; else from those of what was held first, or from the floors.
 #[derive(Drop)]
 pub struct Timetable {
     spans: Vec<Secs>,
@@ -61,19 +61,28 @@ impl Timetable {
         self.last.times()
     }
 
-    /// Computes the least times for what is held. `Err` comes exactly where it has a cycle. It takes no memory.
-    pub fn settle(&mut self, net: &Network, rows: &Rows, held: &[bool]) -> Result<(), Cyclic>
+    /// Computes the least times for what is held, which may be known to be all that the last times are for, and more. `Err`
+    /// comes exactly where it has a cycle. It takes no memory.
+    pub fn settle(
+        &mut self,
+        net: &Network,
+        rows: &Rows,
+        held: &[bool],
+        is_grown: bool,
+    ) -> Result<(), Cyclic>
         requires sized { IsSized net.now rows.now }
         requires timetable { IsTimetableOf net.now rows.now self.old }
         requires flags { length held.now ≡ length net.now.activities }
+        requires grown { IsTrue is_grown → AreWithinFlags self.old.last.held held.now }
         ensures timetable { IsTimetableOf net.now rows.now self.new }
+        ensures held { OnOk result (self.new.last.held ≡ held.now) }
         ensures least { (holds : ℕ → Bool) → AreFlags net.now holds held.now → EntersNoPassed net.now rows.now holds → OnOk result (IsLeastHolding net.now rows.now holds self.new.last.times) }
         ensures none { (holds : ℕ → Bool) → AreFlags net.now holds held.now → OnOk result (HasNoCycleOf net.now holds) }
         ensures cyclic { (holds : ℕ → Bool) → AreFlags net.now holds held.now → OnErr result (HasNoCycleOf net.now holds → ⊥) }
         ensures early { OnOk result (AreBelowLimit self.new.last.times) }
     {
         net.sound();
-        self.begin(net, rows, held);
+        self.begin(net, rows, held, is_grown);
         match self.last.raise(net, rows, &self.spans, held, &mut self.due) {
             Ok(()) => {
                 self.keep_first();
@@ -87,14 +96,15 @@ impl Timetable {
     }
 
     /// Takes the times of before that are for some of what is held.
-    fn begin(&mut self, net: &Network, rows: &Rows, held: &[bool])
+    fn begin(&mut self, net: &Network, rows: &Rows, held: &[bool], is_grown: bool)
         requires sized { IsSized net.now rows.now }
         requires timetable { IsTimetableOf net.now rows.now self.old }
         requires flags { length held.now ≡ length net.now.activities }
+        requires grown { IsTrue is_grown → AreWithinFlags self.old.last.held held.now }
         ensures timetable { IsTimetableOf net.now rows.now self.new }
         ensures within { AreWithinFlags self.new.last.held held.now }
     {
-        if self.last.is_for_some_of(held) {
+        if is_grown {
             return;
         }
         self.last.copy_from(&self.first);

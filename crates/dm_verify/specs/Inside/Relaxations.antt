@@ -1,5 +1,5 @@
 -- The relaxed problem of a path, kept by flags.
-use Rattle.std.specs.Prelude.{ℕ, ◌≡◌, Bool, List, length}
+use Rattle.std.specs.Prelude.{ℕ, ◌≡◌, Bool, IsTrue, List, length}
 use Rattle.dm_network.specs.Net.{Net}
 use Rattle.dm_rows.specs.declared.messages.Decision.{Decision}
 use Rattle.dm_rows.specs.Decide.{IsChoiceList}
@@ -9,16 +9,17 @@ use Rattle.dm_tree.specs.Relaxed.{IsRelaxedLeast, IsRelaxedCycle, HasNoRelaxedCy
 use Rattle.dm_relaxation.specs.Binding.{AreBelowLimit}
 use Rattle.dm_relaxation.specs.KeptCosts.{KeptCostValue, IsKeptCostOf}
 use Rattle.dm_verify.specs.Inside.Flags.{AreFlags}
-use Rattle.dm_verify.specs.Inside.Timetables.{TimetableValue, IsTimetableOf}
+use Rattle.dm_verify.specs.Inside.Timetables.{TimetableValue, IsTimetableOf, AreWithinFlags}
 
--- a path, which changes and which pairs it leaves undecided, what its relaxed problem holds and charges for, its
--- timetable, and what the times cost that it had last
+-- a path, which changes and which pairs it leaves undecided, what its relaxed problem holds and charges for, whether
+-- only more has been held since its times were computed last, its timetable, and what the times cost that it had last
 pub record RelaxationValue : Type 0 where
   pub path : List Decision
   pub changes : List Bool
   pub pairs : List Bool
   pub held : List Bool
   pub charged : List Bool
+  pub is_grown : Bool
   pub timetable : TimetableValue
   pub kept_cost : KeptCostValue
 
@@ -32,6 +33,7 @@ pub record IsRelaxationOf (net : Net) (rows : RowsValue) (relaxation : Relaxatio
   pub pairs : AreFlags (is_undecided_pair net rows relaxation.path) (length net.pairs) relaxation.pairs
   pub held : AreFlags (is_relaxed_active net rows relaxation.path) (length net.activities) relaxation.held
   pub charged : AreFlags (is_relaxed_dropped net rows relaxation.path) (length net.activities) relaxation.charged
+  pub grown : IsTrue relaxation.is_grown → AreWithinFlags relaxation.timetable.last.held relaxation.held
   pub timetable : IsTimetableOf net rows relaxation.timetable
   pub cost : IsKeptCostOf net relaxation.kept_cost
 

@@ -15,7 +15,7 @@ returns-clause-relaxation c =
     let d = c.args.decision in
     let flip = c.flip_of-flip.result in
     let n = length net.activities in
-    let old : RelaxationValue = record { path = c.self.inside.path.items; changes = c.self.inside.undecided.changes.items; pairs = c.self.inside.undecided.pairs.items; held = c.self.inside.held.items; charged = c.self.inside.charged.items; timetable = c.self.inside.timetable; kept_cost = c.self.inside.kept_cost } in
+    let old : RelaxationValue = record { path = c.self.inside.path.items; changes = c.self.inside.undecided.changes.items; pairs = c.self.inside.undecided.pairs.items; held = c.self.inside.held.items; charged = c.self.inside.charged.items; is_grown = c.self.inside.is_grown; timetable = c.self.inside.timetable; kept_cost = c.self.inside.kept_cost } in
     let was : IsRelaxationOf net rows old = subst (IsRelaxationOf net rows) (sym c.self.view_is) c.requires.relaxation in
     let opened : IsOpen net rows old.path (choice_of d) = subst (λ (r : RelaxationValue). IsOpen net rows r.path (choice_of d)) (sym c.self.view_is) c.requires.open in
     let held = (with_items c.self.inside.held c.turn.new.held).items in
@@ -23,6 +23,6 @@ returns-clause-relaxation c =
     let now = decided net c.sound.ensures.network rows c.requires.sized old was d flip c.flip_of-flip.ensures.flip held charged opened
     (over_vec (is_bound_by net flip) true n c.self.inside.held c.deref_mut.result.now c.turn.new.held c.deref_mut.ensures.value c.turn.ensures.held)
     (over_vec (is_charged_by flip) true n c.self.inside.charged c.deref_mut-2.result.now c.turn.new.charged c.deref_mut-2.ensures.value c.turn.ensures.charged) in
-    moved net rows old.path (with_change flip false old.changes) (with_pair flip false old.pairs) held charged old.timetable old.kept_cost
+    moved net rows old.path (with_change flip false old.changes) (with_pair flip false old.pairs) held charged old.is_grown old.timetable old.kept_cost
     (old.path ++ d ∷ []) c.push.new.self.items c.set.new.self.changes.items c.set.new.self.pairs.items
     c.in-Ok.ensures.items c.set.ensures.changes c.set.ensures.pairs now

@@ -30,12 +30,12 @@ returns-in-Some-clause-relaxation c =
     let d = c.in-Some.decision in
     let flip = c.flip_of-flip.result in
     let n = length net.activities in
-    let old : RelaxationValue = record { path = c.self.inside.path.items; changes = c.self.inside.undecided.changes.items; pairs = c.self.inside.undecided.pairs.items; held = c.self.inside.held.items; charged = c.self.inside.charged.items; timetable = c.self.inside.timetable; kept_cost = c.self.inside.kept_cost } in
+    let old : RelaxationValue = record { path = c.self.inside.path.items; changes = c.self.inside.undecided.changes.items; pairs = c.self.inside.undecided.pairs.items; held = c.self.inside.held.items; charged = c.self.inside.charged.items; is_grown = c.self.inside.is_grown; timetable = c.self.inside.timetable; kept_cost = c.self.inside.kept_cost } in
     let was : IsRelaxationOf net rows old = subst (IsRelaxationOf net rows) (sym c.self.view_is) c.requires.relaxation in
     let e : c.self.inside.path.items ≡ c.pop.new.self.items ++ c.in-Some.decision ∷ [] = search rules in
     let held = (with_items c.self.inside.held c.turn.new.held).items in
     let charged = (with_items c.self.inside.charged c.turn.new.charged).items in
-    moved net rows old.path (with_change flip true old.changes) (with_pair flip true old.pairs) held charged old.timetable old.kept_cost
+    moved net rows old.path (with_change flip true old.changes) (with_pair flip true old.pairs) held charged false old.timetable old.kept_cost
     c.pop.new.self.items c.pop.new.self.items c.set.new.self.changes.items c.set.new.self.pairs.items refl c.set.ensures.changes c.set.ensures.pairs
     (taken_back net c.sound.ensures.network rows c.requires.sized old was d flip c.flip_of-flip.ensures.flip held charged c.pop.new.self.items e
     (over_vec (is_bound_by net flip) false n c.self.inside.held c.deref_mut.result.now c.turn.new.held c.deref_mut.ensures.value c.turn.ensures.held)

@@ -1,8 +1,11 @@
-use Rattle.std.proofs.Common.{sym, subst}
+use Rattle.std.proofs.Common.{sym, ap, subst, ◌∙◌}
 use Rattle.dm_relaxation.specs.Binding.{AreSpansOf}
-use Rattle.dm_verify.specs.Inside.Timetables.{IsTimetableOf}
+use Rattle.dm_verify.specs.Inside.Timetables.{KnownValue, IsTimetableOf}
 use Rattle.dm_verify.proofs.Begun.{known_least, known_acyclic, known_cyclic}
 use Rattle.dm_verify.proofs.timetable.Timetable.settle.Goals as goal
+
+pub returns-in-Ok-clause-held : goal.returns-in-Ok-clause-held
+returns-in-Ok-clause-held c = ap (λ (k : KnownValue). k.held) c.keep_first.ensures.last ∙ c.in-Ok.ensures.held
 
 pub returns-in-Ok-clause-least : goal.returns-in-Ok-clause-least
 returns-in-Ok-clause-least c = λ holds flags enters.
