@@ -1,0 +1,24 @@
+//! Tables with a million entries, entries replayed, and a table copied.
+//!
+//! For each case it prints `NAME ok`, or after how many steps it came out otherwise. The times and refusals that are due were
+//! worked out by hand. It stands on dm_table and dm_history for what it tries and on dm_samples for networks, and promises
+//! nothing.
+#![tactic(auto)]
+
+mod entering;
+mod millions;
+mod replays;
+
+use dm_samples::report;
+use millions::{million_delays, million_drops};
+use replays::{copied, refused, replayed};
+use std::io;
+
+fn main(rt: HostRuntime) -> io::Result<()> {
+    let alloc = rt.alloc();
+    report(&rt, "full-table", million_drops(alloc))?;
+    report(&rt, "million-delays", million_delays(alloc))?;
+    report(&rt, "delay-and-adopted-plan-replayed", replayed(alloc))?;
+    report(&rt, "refused-replay", refused(alloc))?;
+    report(&rt, "copied-table", copied(alloc))
+}
