@@ -83,13 +83,17 @@ impl Marks {
         }
     }
 
-    /// Takes all marks away.
+    /// Takes all marks away. It looks at blocks that may have some alone.
     pub fn clear_all(&mut self)
         ensures none { (e : ℕ) → is_marked self.new e ≡ false }
         ensures as_many { length self.new ≡ length self.old }
     {
-        for event in 0..self.events() {
+        let events = self.events();
+        let mut start = 0;
+        while let Some(event) = self.first_from(start) {
+            prove!(event < events);
             self.clear(event);
+            start = event + 1;
         }
     }
 

@@ -1,21 +1,16 @@
-use Rattle.std.proofs.Common.{false, arith, ◌∙◌, length-set, get_or-set_other, get_or-set_same, below_more}
-use Rattle.dm_relaxation.proofs.Marking.{below_or_past}
+use Rattle.std.proofs.Common.{List, Bool, ◌≡◌, false, ap, ◌∙◌, length, length-set}
+use Rattle.dm_relaxation.proofs.Marking.{cleared_next, none_at_all}
 use Rattle.dm_relaxation.proofs.marks.Marks.clear_all.Goals as goal
 
 pub loop-event-preserved : goal.loop-event-preserved
 loop-event-preserved c =
-    let same = c.loop-event.invariant.as_many in
-    let many = c.events-event-end.ensures in
-    rw c.clear.ensures
-    (record {
-      marked = below_more _ _
-          (λ k h. get_or-set_other c.loop-event.self c.loop-event.event k false false (omega arith) ∙ c.loop-event.invariant.marked k h)
-          (get_or-set_same c.loop-event.self c.loop-event.event false false (omega (arith, same, many)));
-      as_many = length-set c.loop-event.self c.loop-event.event false ∙ same;
-    })
+    let had = c.loop-event.invariant in
+    let same : length c.clear.new.self ≡ length c.loop-event.self =
+    ap (λ (m : List Bool). length m) c.clear.ensures ∙ (length-set c.first_from.new.self c.in-Some.event false ∙ ap (λ (m : List Bool). length m) c.in-Some.ensures.same) in
+    record {
+      marked = cleared_next c.loop-event.self c.first_from.new.self c.clear.new.self c.loop-event.start c.in-Some.event c.in-Some.ensures.same c.clear.ensures c.in-Some.ensures.first had.marked;
+      as_many = same ∙ had.as_many;
+    }
 
 pub returns-clause-none : goal.returns-clause-none
-returns-clause-none c =
-    let same = c.loop-event.invariant.as_many in
-    let many = c.events-event-end.ensures in
-    below_or_past _ c.loop-event.invariant.marked (omega (arith, same, many))
+returns-clause-none c = none_at_all c.loop-event.self c.first_from.new.self c.loop-event.start c.in_default.ensures.same c.loop-event.invariant.marked c.in_default.ensures.none
