@@ -1,0 +1,84 @@
+//! Plans beside a slow reading of what a true plan is.
+//!
+//! It goes over every list of three messages where two trains meet, and over generated days of 9 to 12 trains with drawn messages:
+//! events that have passed or are recalled, dropped changes, pairs that are turned, delays and a clock. For each it has plans
+//! made of up to 64 nodes, and judges each plan over plain lists: the times of a path come by rounds over all activities, and
+//! where there are few choices the costs of all of them are compared. For each case it prints `NAME ok`, or what is wrong with a
+//! plan. It stands on dm_samples for networks and messages and on dm_search for the plans; its reading stands on no crate that
+//! computes times or judges plans. It promises nothing.
+#![tactic(auto)]
+
+mod changed;
+mod day;
+mod every;
+mod judging;
+mod lists;
+mod planning;
+mod relaxing;
+mod trials;
+mod wrong;
+
+use changed::judge_changed;
+use dm_samples::{Sample, generated_day, turning_day};
+use lists::judge_lists;
+use std::alloc::Global;
+use std::io;
+use trials::{Drawn, Seen, judge_drawn};
+use wrong::{Wrong, report};
+
+/// The name of a day, its trains, whether they turn around, before when all has passed, and the penalty.
+const DAYS: [(&str, u32, bool, u64, u64); 6] = [
+    ("day-of-9-trains", 9, false, 23_720, 10),
+    ("day-of-9-trains-at-dear-changes", 9, false, 23_660, 200),
+    ("day-of-10-trains", 10, false, 0, 10),
+    ("day-of-11-trains", 11, false, 23_000, 30),
+    ("day-of-12-trains", 12, false, 22_400, 10),
+    ("day-of-12-trains-that-turn", 12, true, 24_000, 100),
+];
+
+fn main(rt: HostRuntime) -> io::Result<()> {
+    let alloc = rt.alloc();
+    report(&rt, "changed-plans", judge_changed(alloc))?;
+    report(
+        &rt,
+        "lists-connection",
+        judge_lists(alloc, Sample::Connection),
+    )?;
+    report(
+        &rt,
+        "lists-turnaround",
+        judge_lists(alloc, Sample::Turnaround),
+    )?;
+    let mut seen = Seen::nothing();
+    for (name, trains, turns, passed, penalty) in DAYS {
+        let drawn = Drawn {
+            trains,
+            seed: penalty.saturating_add(passed),
+            parts: 3,
+            messages: 12,
+            passed,
+            penalty,
+        };
+        report(&rt, name, judge_day(alloc, turns, drawn, &mut seen))?;
+    }
+    report(&rt, "days-together", tries_enough(seen))
+}
+
+/// Judges the plans of a day.
+fn judge_day(alloc: Global, turns: bool, drawn: Drawn, seen: &mut Seen) -> Result<(), Wrong> {
+    let net = if turns {
+        turning_day(alloc, drawn.trains)?
+    } else {
+        generated_day(alloc, drawn.trains)?
+    };
+    judge_drawn(alloc, &net, drawn, seen)
+}
+
+/// Whether all days together had what they are there for.
+fn tries_enough(seen: Seen) -> Result<(), Wrong> {
+    if seen.is_enough(100) && seen.pairs >= 100 && seen.compared >= 3 {
+        Ok(())
+    } else {
+        Err(Wrong::TooFew)
+    }
+}

@@ -1,0 +1,110 @@
+//! Rows that hear messages, and the plans for them.
+ghost use Rattle.std.specs.Prelude.{◌≡◌, ◌≤◌, IfOk};
+ghost use Rattle.dm_base.specs.declared.limits.TheConstants.{PENALTY, BUDGET};
+ghost use Rattle.dm_rows.specs.Rows.{IsSized};
+
+use crate::day::Day;
+use crate::relaxing::Undecided;
+use crate::wrong::Wrong;
+use dm_base::limits::{BUDGET, PENALTY};
+use dm_network::Network;
+use dm_rows::{Message, Refusal, Rows, Snapshot, admit};
+use dm_samples::rows_on_time;
+use dm_search::finish;
+use dm_search::laws::a_hole_is_a_start;
+use dm_times::least;
+use dm_tree::{Plan, assemble};
+use std::alloc::Global;
+use std::marker::Model;
+
+/// What the plans' entry is.
+const ENTRY: u32 = 7;
+
+/// The rows of a network, which have no cycle.
+#[derive(Drop)]
+pub struct Standing<'n> {
+    net: &'n Network,
+    rows: Rows,
+    penalty: u64,
+}
+
+impl<'n> Model for Standing<'n> {
+    ghost use Rattle.dm_rows.specs.Rows.{RowsValue, IsSized};
+
+    ghost Value = { RowsValue };
+
+    ghost view = { λ standing. standing.rows };
+
+    ghost invariant = { λ standing. IsSized standing.net.now standing.rows };
+}
+
+impl<'n> Standing<'n> {
+    /// The rows at the start. The penalty is in seconds for each passenger.
+    pub fn new(alloc: Global, net: &'n Network, penalty: u64) -> Result<Standing<'n>, Wrong> {
+        let rows = rows_on_time(alloc, net)?;
+        Ok(Standing { net, rows, penalty })
+    }
+
+    /// What the rows say.
+    pub fn day(&self, alloc: Global) -> Result<Day, Wrong> {
+        Ok(Day::new(alloc, self.net, &self.rows, self.penalty)?)
+    }
+
+    /// Makes a change that nothing refuses and that brings no cycle.
+    pub fn hear(&mut self, alloc: Global, message: &Message) -> Result<(), Wrong> {
+        let change = match admit(alloc, self.net, &self.rows, message) {
+            Ok(change) => change,
+            Err(Refusal::OutOfMemory) => return Err(Wrong::OutOfMemory),
+            Err(_) => return Ok(()),
+        };
+        let mut next = self.rows.copy()?;
+        next.apply(&change);
+        let day = Day::new(alloc, self.net, &next, self.penalty)?;
+        if day.timed(alloc, &[], Undecided::AsItIs)?.is_some() {
+            self.rows = next;
+        }
+        Ok(())
+    }
+
+    /// A plan of the rows.
+    pub fn plan(&self, alloc: Global, budget: u64) -> Result<Plan, Wrong> {
+        let rows = self.rows.copy()?;
+        let snapshot = Snapshot { entry: ENTRY, rows };
+        let penalty = self.penalty.min(PENALTY);
+        let nodes = budget.max(1).min(BUDGET);
+        let plan = planned(alloc, self.net, &snapshot, penalty, nodes)?;
+        if plan.entry == ENTRY {
+            Ok(plan)
+        } else {
+            Err(Wrong::Entry)
+        }
+    }
+}
+
+/// A plan that is searched for from nothing.
+fn planned(
+    alloc: Global,
+    net: &Network,
+    snapshot: &Snapshot,
+    penalty: u64,
+    budget: u64,
+) -> Result<Plan, Wrong>
+    requires sized { IsSized net.now snapshot.now.rows }
+    requires penalty { penalty ≤ PENALTY }
+    requires budget { (1 ≤ budget) × (budget ≤ BUDGET) }
+{
+    net.sound();
+    a_hole_is_a_start();
+    let _times = least(alloc, net, &snapshot.rows)?;
+    let partial = assemble(alloc, Vec::new(alloc))?;
+    let plan = finish(
+        alloc,
+        net,
+        penalty,
+        snapshot,
+        partial,
+        Vec::new(alloc),
+        budget,
+    )?;
+    Ok(plan)
+}

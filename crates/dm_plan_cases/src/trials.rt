@@ -1,0 +1,169 @@
+//! Days with drawn messages, and plans of each budget for them.
+
+use crate::day::Day;
+use crate::every::known;
+use crate::judging::{Known, judge};
+use crate::planning::Standing;
+use crate::wrong::Wrong;
+use dm_base::Secs;
+use dm_network::Network;
+use dm_rows::{Decision, Message};
+use dm_samples::Draws;
+use dm_tree::{Mark, Node, Plan};
+use std::alloc::Global;
+
+/// The largest budget.
+const NODES: u64 = 64;
+
+/// A day with drawn messages.
+#[derive(Clone, Copy)]
+pub struct Drawn {
+    pub trains: u32,
+    pub seed: u64,
+
+    /// How often messages are drawn and plans are made behind them.
+    pub parts: u32,
+
+    /// How many messages are drawn in each part.
+    pub messages: u32,
+
+    /// What is scheduled earlier has passed when the first message is drawn.
+    pub passed: Secs,
+    pub penalty: u64,
+}
+
+/// What the plans of a case had.
+#[derive(Clone, Copy)]
+pub struct Seen {
+    pub optimal: u32,
+    pub open: u32,
+    /// Leaves with a cycle.
+    pub cycles: u32,
+    /// Pairs that are turned.
+    pub pairs: u32,
+    pub dropped: u32,
+
+    /// Rows of which all choices were tried.
+    pub compared: u32,
+}
+
+impl Seen {
+    pub fn nothing() -> Seen {
+        Seen {
+            optimal: 0,
+            open: 0,
+            cycles: 0,
+            pairs: 0,
+            dropped: 0,
+            compared: 0,
+        }
+    }
+
+    /// Whether plans of both marks, and changes that are dropped, came so often.
+    pub fn is_enough(self, often: u32) -> bool {
+        self.optimal >= often && self.open >= often && self.dropped >= often
+    }
+
+    fn count(&mut self, plan: &Plan) {
+        match plan.mark {
+            Mark::Optimal => self.optimal = self.optimal.saturating_add(1),
+            Mark::Open => self.open = self.open.saturating_add(1),
+        }
+        for decision in plan.choices.as_slice() {
+            self.count_choice(*decision);
+        }
+        for node in plan.tree.as_slice() {
+            if *node == Node::Cycle {
+                self.cycles = self.cycles.saturating_add(1);
+            }
+        }
+    }
+
+    fn count_choice(&mut self, decision: Decision) {
+        match decision {
+            Decision::Keep(_) => {}
+            Decision::Drop(_) => self.dropped = self.dropped.saturating_add(1),
+            Decision::First(_, _) => self.pairs = self.pairs.saturating_add(1),
+        }
+    }
+}
+
+/// Judges the plans of a day of many trains.
+pub fn judge_drawn(
+    alloc: Global,
+    net: &Network,
+    drawn: Drawn,
+    seen: &mut Seen,
+) -> Result<(), Wrong> {
+    let mut standing = Standing::new(alloc, net, drawn.penalty)?;
+    pass_early(alloc, &mut standing, drawn.passed)?;
+    let mut draws = Draws {
+        state: drawn.seed,
+        trains: drawn.trains,
+    };
+    for part in 0..drawn.parts {
+        hear_part(alloc, &mut standing, &mut draws, part, drawn.messages)?;
+        judge_plans(alloc, &standing, NODES, seen)?;
+    }
+    Ok(())
+}
+
+/// Passes each event that is scheduled before a time, a little late.
+fn pass_early(alloc: Global, standing: &mut Standing<'_>, before: Secs) -> Result<(), Wrong> {
+    let day = standing.day(alloc)?;
+    for line in &day.events {
+        if line.scheduled < before {
+            let late = Secs::from(line.id.0 % 7).saturating_mul(20);
+            let time = line.scheduled.saturating_add(late);
+            standing.hear(alloc, &Message::Pass(line.id, time))?;
+        }
+    }
+    Ok(())
+}
+
+/// Hears so many drawn messages.
+fn hear_part(
+    alloc: Global,
+    standing: &mut Standing<'_>,
+    draws: &mut Draws,
+    part: u32,
+    messages: u32,
+) -> Result<(), Wrong> {
+    for turn in 0..messages {
+        let message = draws.message(alloc, part.saturating_mul(messages).saturating_add(turn))?;
+        standing.hear(alloc, &message)?;
+    }
+    Ok(())
+}
+
+/// Judges the plans of the rows with each budget from 1.
+pub fn judge_plans(
+    alloc: Global,
+    standing: &Standing<'_>,
+    most: u64,
+    seen: &mut Seen,
+) -> Result<(), Wrong> {
+    let day = standing.day(alloc)?;
+    let known = known(alloc, &day)?;
+    seen.compared = seen
+        .compared
+        .saturating_add(u32::from(known.best.is_some()));
+    for budget in 1..most.saturating_add(1) {
+        judge_plan(alloc, standing, &day, known, budget, seen)?;
+    }
+    Ok(())
+}
+
+fn judge_plan(
+    alloc: Global,
+    standing: &Standing<'_>,
+    day: &Day,
+    known: Known,
+    budget: u64,
+    seen: &mut Seen,
+) -> Result<(), Wrong> {
+    let plan = standing.plan(alloc, budget)?;
+    judge(alloc, day, known, budget, &plan)?;
+    seen.count(&plan);
+    Ok(())
+}
