@@ -3,7 +3,7 @@ use Rattle.std.proofs.Common.{◌≡◌, ℕ, ◌+◌, ◌-◌, ◌<◌, ◌≤�
 use Rattle.std.specs.Prelude.{OnOk}
 use mathlib.Core.List.{IsPrefix}
 use Rattle.std.proofs.lemmas.List.{length-map}
-use Rattle.std.proofs.lemmas.List.Elements.{All-nil}
+use Rattle.std.proofs.lemmas.List.Elements.{All-nil, All-weaker}
 use Rattle.std.proofs.lemmas.Option.{slice_get_within}
 use Rattle.dm_network.specs.Net.{Net}
 use Rattle.dm_rows.specs.declared.messages.Entry.{Entry}
@@ -38,6 +38,15 @@ none_yet = record {
   each = All-nil (IsTrueNote 0);
   once = λ i j one other x y same. absurd (omega (arith, slice_get_within [] i one x));
   in_order = λ i j one other x y low. absurd (omega (arith, slice_get_within [] i one x));
+}
+
+-- notes that are true at an entry are so at a later one
+true_later : (entries later : ℕ) (notes : List Note) → entries ≤ later → AreTrueNotes entries notes → AreTrueNotes later notes
+true_later entries later notes low t = record {
+  few = t.few;
+  each = All-weaker (IsTrueNote entries) (IsTrueNote later) (λ note is. record { some_board = is.some_board; few_boards = is.few_boards; stop = is.stop; entry = omega (arith, low, is.entry) }) notes t.each;
+  once = t.once;
+  in_order = t.in_order;
 }
 
 -- ---- passes that have looked
@@ -108,8 +117,11 @@ module _ {B : Type 0} (place : B → ℕ) (times_on : B → Option (ℕ → Opti
       → ((entries : ℕ) → entries ≤ entry → AreTrueNotes entries display.publisher.notes → AreTrueNotes entry now.publisher.notes)
       → now.publisher.last ≡ now.times → now.publisher.boards ≡ display.publisher.boards → now.publisher.events ≡ display.publisher.events → Shows place times_on faults is_sound base seen display now old new
   shows_history base seen display now net entry old new fits is network here least stops keeps noted last boards events = λ first entries low k.
-      let keeps_up : KeepsUpLast place times_on faults is_sound base.network display.publisher.last now.times old new display.publisher.notes now.publisher.notes =
-      subst (λ (n : Net). KeepsUpLast place times_on faults is_sound n display.publisher.last now.times old new display.publisher.notes now.publisher.notes) is keeps in
+      let notes = now.publisher.notes in
+      let keeps_up : KeepsUpLast place times_on faults is_sound base.network display.publisher.last now.times old new display.publisher.notes notes =
+      subst (λ (n : Net). KeepsUpLast place times_on faults is_sound n display.publisher.last now.times old new display.publisher.notes notes) is keeps in
+      let up = keeps_up first k.kept k.last in
+      let true_now : AreTrueNotes (length seen) notes = subst (λ (n : ℕ). AreTrueNotes n notes) here (noted entries (omega (arith, low, here)) k.noted) in
       record {
         is_for = record {
           network = network;
@@ -117,9 +129,30 @@ module _ {B : Type 0} (place : B → ℕ) (times_on : B → Option (ℕ → Opti
           events = events ∙ fits.events;
           size = least.meets.size;
         };
-        least = least;
-        last = last;
-        shown = record { up = keeps_up first k.kept k.last; noted = subst (λ (n : ℕ). AreTrueNotes n now.publisher.notes) here (noted entries (omega (arith, low, here)) k.noted) };
+        kept = record {
+          kept = up.kept;
+          noted = true_now;
+          last = subst (λ (l : List ℕ). AllShowLast place times_on base.network l notes first new) (sym last) (all_show_last place times_on faults is_sound base.network now.times notes first new up.shown);
+        };
+        shown = λ x other.
+            let same = same_times base.network (rows_after base seen) now.times x least other in
+            record {
+              up = record { kept = up.kept; shown = λ at before after b n none some. shows_same base.network now.times x (place after) (times_on after) same (up.shown at before after b n none some) };
+              noted = true_now;
+            };
+      }
+
+  -- no boards are up, whatever the times are
+  pub shows_none : (base : Base) (seen : List Entry) (display : Display) (none : List B) → length none ≡ 0 → IsFor base.network (length none) display → Shows place times_on faults is_sound base seen display display none none
+  shows_none base seen display none empty fits = λ first entries low k.
+      let noted = true_later entries (length seen) display.publisher.notes low k.noted in
+      record {
+        is_for = fits;
+        kept = record { kept = k.kept; noted = noted; last = k.last };
+        shown = λ x least. record {
+          up = record { kept = k.kept; shown = λ at before after b n free told. absurd (omega (arith, empty, slice_get_within none at after n)) };
+          noted = noted;
+        };
       }
 
   pub shown_first : (base : Base) (seen : List Entry) (display now : Display) (boards new : List B) → HasShownNothing display → Shows place times_on faults is_sound base seen display now boards new
@@ -134,11 +167,7 @@ module _ {B : Type 0} (place : B → ℕ) (times_on : B → Option (ℕ → Opti
 
   pub shown_next : (base : Base) (seen later : List Entry) (display now : Display) (first old new : List B) → length seen ≤ length later → AreUp place times_on faults is_sound base seen display first old → Shows place times_on faults is_sound base later display now old new
       → AreUp place times_on faults is_sound base later now first new
-  shown_next base seen later display now first old new low up shows = shows first (length seen) low (record {
-    kept = up.shown.up.kept;
-    noted = up.shown.noted;
-    last = subst (λ (last : List ℕ). AllShowLast place times_on base.network last display.publisher.notes first old) (sym up.last) (all_show_last place times_on faults is_sound base.network display.times display.publisher.notes first old up.shown.up.shown);
-  })
+  shown_next base seen later display now first old new low up shows = shows first (length seen) low up.kept
 
   -- what is shown after a server's history is what its table has in the end
   pub shown_at_end : (base : Base) (seen : List Entry) (display : Display) (first now : List B) (table : TableValue) → base_of table ≡ base → table.history ≡ seen → IsTable table → AreUp place times_on faults is_sound base seen display first now
@@ -148,11 +177,4 @@ module _ {B : Type 0} (place : B → ℕ) (times_on : B → Option (ℕ → Opti
       subst (λ (b : Base). IsLeast b.network (rows_after b seen) table.times) is
       (subst (λ (h : List Entry). IsLeast table.network (rows_after (base_of table) h) table.times) history
       (subst (λ (r : RowsValue). IsLeast table.network r table.times) is_table.replayed is_table.least)) in
-      let same = same_times base.network (rows_after base seen) display.times table.times up.least least in
-      record {
-        up = record {
-          kept = up.shown.up.kept;
-          shown = λ at before after b n none some. shows_same base.network display.times table.times (place after) (times_on after) same (up.shown.up.shown at before after b n none some);
-        };
-        noted = subst (λ (h : List Entry). AreTrueNotes (length h) display.publisher.notes) (sym history) up.shown.noted;
-      }
+      subst (λ (h : List Entry). AreShown place times_on faults is_sound base.network table.times (length h) display.publisher.notes first now) (sym history) (up.shown table.times least)

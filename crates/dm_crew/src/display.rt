@@ -39,7 +39,7 @@ impl<'n> Display<'n> {
     }
 
     /// Shows boards the times after the history that a pass then sees. Nobody else shows them anything in between, so they are
-    /// asked only for what has changed. It takes no memory.
+    /// asked only for what has changed. Where there are no boards, no times are copied. It takes no memory.
     pub fn show<P: Seat, R: Wait>(
         &mut self,
         rt: &R,
@@ -56,6 +56,10 @@ impl<'n> Display<'n> {
         ensures up { Shows place times faults is_sound P.base main.new.seen self.old self.new boards.old.items boards.new.items }
         ensures stops { map place boards.new.items ≡ map place boards.old.items }
     {
+        if boards.is_empty() {
+            server.length(rt, main);
+            return;
+        }
         let entry = server.copy_times(rt, main, &mut self.times);
         let _dropped = self
             .publisher

@@ -26,12 +26,11 @@ pub record AreKept {B : Type 0} (place : B → ℕ) (times : B → Option (ℕ �
   pub noted : AreTrueNotes entries display.publisher.notes
   pub last : AllShowLast place times net display.publisher.last display.publisher.notes first now
 
--- and they show the times after this history
+-- and they show the times after this history; the display has them only where there are boards
 pub record AreUp {B : Type 0} (place : B → ℕ) (times : B → Option (ℕ → Option ℕ)) (faults : B → ℕ) (is_sound : B → ℕ → Type 0) (base : Base) (seen : List Entry) (display : Display) (first now : List B) : Type 0 where
   pub is_for : IsFor base.network (length now) display
-  pub least : AreTimesAfter base seen display.times
-  pub last : display.publisher.last ≡ display.times
-  pub shown : AreShown place times faults is_sound base.network display.times (length seen) display.publisher.notes first now
+  pub kept : AreKept place times faults is_sound base.network (length seen) display first now
+  pub shown : (x : List ℕ) → AreTimesAfter base seen x → AreShown place times faults is_sound base.network x (length seen) display.publisher.notes first now
 
 -- boards that were kept up to an earlier entry are shown the times after this history
 abbrev pub Shows : {B : Type 0} → (B → ℕ) → (B → Option (ℕ → Option ℕ)) → (B → ℕ) → (B → ℕ → Type 0) → Base → List Entry → Display → Display → List B → List B → Type 0

@@ -1,10 +1,10 @@
-use Rattle.std.proofs.Common.{◌≡◌, ℕ, length, sym, ap, subst, ◌∙◌}
+use Rattle.std.proofs.Common.{◌≡◌, ℕ, length, vec_len, eqb-true, sym, ap, subst, ◌∙◌, arith}
 use Rattle.dm_network.specs.Net.{Net}
 use Rattle.dm_server.specs.declared.kept.Base.{Base}
 use Rattle.dm_server.specs.Answers.{AreTimesAfter}
 use Rattle.dm_crew.specs.Inside.Displays.{IsFor}
 use Rattle.dm_crew.proofs.Desks.{IsLegalAfter, holds_at, base_looked}
-use Rattle.dm_crew.proofs.Displays.{some_base, shows_history}
+use Rattle.dm_crew.proofs.Displays.{some_base, shows_history, shows_none}
 use Rattle.dm_crew.proofs.display.Display.show.Goals as goal
 
 pub copy_times-entry-requires-clause-size : goal.copy_times-entry-requires-clause-size
@@ -21,6 +21,16 @@ publish_changes-dropped-requires-clause-times g c =
 
 pub publish_changes-dropped-requires-clause-boards : goal.publish_changes-dropped-requires-clause-boards
 publish_changes-dropped-requires-clause-boards g c = sym c.requires.fits.boards
+
+pub returns-then-is_empty-clause-legal : goal.returns-then-is_empty-clause-legal
+returns-then-is_empty-clause-legal g c =
+    holds_at IsLegalAfter g.P.Seat.base c.args.main.now c.length.new.pass c.requires.base (base_looked c.args.main.now c.length.new.pass c.length.ensures.looked) c.length.ensures.legal
+
+pub returns-then-is_empty-clause-up : goal.returns-then-is_empty-clause-up
+returns-then-is_empty-clause-up g c =
+    let none : vec_len c.args.boards.now ≡ 0 = eqb-true _ 0 (sym c.if-is_empty.ensures) in
+    let fits = subst (λ (n : ℕ). IsFor g.P.Seat.base.network n c.args.self.now) c.args.boards.now.ok.0 c.requires.fits in
+    shows_none _ _ _ _ g.P.Seat.base c.length.new.pass.seen c.args.self.now c.args.boards.now.items (omega arith) fits
 
 pub returns-clause-legal : goal.returns-clause-legal
 returns-clause-legal g c =
