@@ -1,6 +1,6 @@
 -- The relaxed problem of a path with one decision more, or one less, by its flags.
-use Rattle.std.proofs.Common.{◌≡◌, ℕ, ◌+◌, ◌<◌, Bool, true, false, cond, List, [], ◌∷◌, ◌++◌, length, map, refl, sym, ap, subst, ◌∙◌, inl, inr, arith, Vec, Global}
-use Rattle.std.specs.Prelude.{Contains, ◌&&◌, not}
+use Rattle.std.proofs.Common.{◌≡◌, ℕ, ◌+◌, ◌<◌, Bool, true, false, cond, List, [], ◌∷◌, ◌++◌, length, map, refl, sym, ap, subst, ◌∙◌, inl, inr, arith, Vec, Global, length-set, get_or-set_same}
+use Rattle.std.specs.Prelude.{Contains, ◌&&◌, not, slice_set}
 use Rattle.std.proofs.lemmas.Bool.{cases_Bool, cases_lt}
 use Rattle.std.specs.Vec.{with_items}
 use Rattle.std.proofs.lemmas.List.{map-append, length-append, get_or_append_left, get_or_push, with_items_is}
@@ -16,7 +16,10 @@ use Rattle.dm_rows.specs.Rows.{RowsValue, IsSized, kept_at}
 use Rattle.dm_verify.specs.Inside.Flags.{AreFlags, AreSetWhere, with_change, with_pair}
 use Rattle.dm_verify.specs.Inside.Moves.{is_bound_by, is_charged_by}
 use Rattle.dm_verify.specs.Inside.Paths.{AddsDecision, IsOpen, IsFlipOf}
-use Rattle.dm_verify.specs.Inside.Timetables.{TimetableValue, AreWithinFlags}
+use Rattle.dm_verify.specs.Inside.Timetables.{KnownValue, TimetableValue, IsKnown, IsGrownTo, MakesDue, AreWithinFlags}
+use Rattle.dm_network.specs.Held.{is_held}
+use Rattle.dm_relaxation.specs.Binding.{is_due, AreSpansOf}
+use Rattle.dm_relaxation.proofs.Marking.{mark_still}
 use Rattle.dm_relaxation.specs.KeptCosts.{KeptCostValue}
 use Rattle.dm_verify.specs.Inside.Relaxations.{RelaxationValue, IsRelaxationOf}
 use Rattle.dm_verify.proofs.Apart.{Apart, choice_list_from}
@@ -53,6 +56,13 @@ front_list net rows path d list =
 pub last_is_open : (net : Net) (rows : RowsValue) (path : List Decision) (d : Decision) → IsChoiceList net rows (path ++ d ∷ []) → IsOpen net rows path (choice_of d)
 last_is_open net rows path d list = record { free = decides_free net rows path d list; undecided = (pushed net rows path d list).new }
 
+-- where the last times are for all that is held, nothing is added
+pub all_held : (net : Net) (timetable : TimetableValue) (held : List Bool) → timetable.last.held ≡ held → IsGrownTo net timetable held
+all_held net timetable held is = record {
+  within = λ a below on. ap (λ (f : List Bool). is_held f a) (sym is) ∙ on;
+  added = λ a below on off. absurd (let e : true ≡ false = sym on ∙ (ap (λ (f : List Bool). is_held f a) (sym is) ∙ off) in cc);
+}
+
 -- what was held still is where more is
 grows_on : (some : ℕ → Bool) (n : ℕ) (last before after : List Bool) → length last ≡ n → AreSetWhere some true n before after → AreWithinFlags last before → AreWithinFlags last after
 grows_on some n last before after size set within a below on =
@@ -63,10 +73,10 @@ grows_on some n last before after size set within a below on =
 
 module _ (net : Net) (network : IsNetwork net) (rows : RowsValue) (sized : IsSized net rows) (old : RelaxationValue) (was : IsRelaxationOf net rows old)
     (d : Decision) (flip : Flip) (named : IsFlipOf net rows d flip) (held charged : List Bool) where
-  pub decided : IsOpen net rows old.path (choice_of d) →
+  pub decided : (event : ℕ) (timetable : TimetableValue) → MakesDue event old.timetable timetable → event < length net.events → ((b : ℕ) → is_bound_by net flip b ≡ true → (activity_at net b).tail ≡ event) → IsOpen net rows old.path (choice_of d) →
       AreSetWhere (is_bound_by net flip) true (length net.activities) old.held held → AreSetWhere (is_charged_by flip) true (length net.activities) old.charged charged →
-      IsRelaxationOf net rows (record { path = old.path ++ d ∷ []; changes = with_change flip false old.changes; pairs = with_pair flip false old.pairs; held = held; charged = charged; is_grown = old.is_grown; timetable = old.timetable; kept_cost = old.kept_cost })
-  decided opened holds charges =
+      IsRelaxationOf net rows (record { path = old.path ++ d ∷ []; changes = with_change flip false old.changes; pairs = with_pair flip false old.pairs; held = held; charged = charged; is_grown = old.is_grown; timetable = timetable; kept_cost = old.kept_cost })
+  decided event timetable makes inside tails opened holds charges =
       let other : List Decision = old.path ++ d ∷ [] in
       let list : IsChoiceList net rows other = open_list net rows old.path d was.is_path opened in
       let adds : AddsDecision old.path other d = pushed net rows old.path d list in
@@ -78,10 +88,30 @@ module _ (net : Net) (network : IsNetwork net) (rows : RowsValue) (sized : IsSiz
             (held_differs net network rows sized old.path other was.is_path list d adds flip named);
         charged = flags_on (is_charged_by flip) (is_relaxed_dropped net rows old.path) (is_relaxed_dropped net rows other) (length net.activities) old.charged charged was.charged charges
             (charge_differs net network rows sized old.path other was.is_path list d adds flip named);
-        grown = λ is. grows_on (is_bound_by net flip) (length net.activities) old.timetable.last.held old.held held (was.timetable.last.flags) holds (was.grown is);
-        timetable = was.timetable;
+        grown = λ is. grown_on (was.grown is);
+        timetable = record { spans = subst (λ (x : List ℕ). AreSpansOf net rows x) (sym makes.spans) was.timetable.spans; last = last_is; first = first_is; due = ap (λ (m : List Bool). length m) makes.due ∙ (length-set old.timetable.due event true ∙ was.timetable.due) };
         cost = was.cost;
       }
+    where
+      last_is : IsKnown net rows timetable.spans timetable.last
+      last_is = subst (λ (x : List ℕ). IsKnown net rows x timetable.last) (sym makes.spans) (subst (λ (k : KnownValue). IsKnown net rows old.timetable.spans k) (sym makes.last) was.timetable.last)
+
+      first_is : IsKnown net rows timetable.spans timetable.first
+      first_is = subst (λ (x : List ℕ). IsKnown net rows x timetable.first) (sym makes.spans) (subst (λ (k : KnownValue). IsKnown net rows old.timetable.spans k) (sym makes.first) was.timetable.first)
+
+      grown_on : IsGrownTo net old.timetable old.held → IsGrownTo net timetable held
+      grown_on had = record {
+        within = subst (λ (k : KnownValue). AreWithinFlags k.held held) (sym makes.last) (grows_on (is_bound_by net flip) (length net.activities) old.timetable.last.held old.held held was.timetable.last.flags holds had.within);
+        added = λ a below on off.
+            subst (λ (m : List Bool). is_due m (activity_at net a).tail ≡ true) (sym makes.due)
+            (due_on a below on (sym (ap (λ (k : KnownValue). is_held k.held a) makes.last) ∙ off));
+      }
+        where
+          due_on : (a : ℕ) → a < length net.activities → is_held held a ≡ true → is_held old.timetable.last.held a ≡ false → is_due (slice_set old.timetable.due event true) (activity_at net a).tail ≡ true
+          due_on a below on off = elim (cases_Bool (is_bound_by net flip a)) [
+            | inl here ↦ subst (λ (e : ℕ). is_due (slice_set old.timetable.due event true) e ≡ true) (sym (tails a here)) (get_or-set_same old.timetable.due event true false (let d = was.timetable.due in omega arith))
+            | inr other ↦ mark_still old.timetable.due event (activity_at net a).tail (let d = was.timetable.due in omega arith) (had.added a below (sym (holds.each a below ∙ rw other refl) ∙ on) off)
+          ]
 
   pub taken_back : (path : List Decision) → old.path ≡ path ++ d ∷ [] →
       AreSetWhere (is_bound_by net flip) false (length net.activities) old.held held → AreSetWhere (is_charged_by flip) false (length net.activities) old.charged charged →

@@ -4,7 +4,7 @@ ghost use Rattle.dm_graph.specs.Arcs.{HasNoCycle};
 ghost use Rattle.dm_network.specs.Held.{arcs_of, is_held};
 ghost use Rattle.dm_rows.specs.Rows.{IsSized};
 ghost use Rattle.dm_relaxation.specs.Binding.{AreSpansOf};
-ghost use Rattle.dm_verify.specs.Inside.Timetables.{IsKnown, AreWithinFlags};
+ghost use Rattle.dm_verify.specs.Inside.Timetables.{IsKnown, AreWithinFlags, AreAddedDue};
 
 use crate::beginning::{clear, is_within, mark_added};
 use dm_base::Secs;
@@ -84,8 +84,20 @@ impl Known {
         is_within(&self.held, held)
     }
 
-    /// Raises the times to the least ones for what is held, which is what they are for and more. `Err` comes exactly where
-    /// that has a cycle; nothing is known of the times then.
+    /// Makes the tails of what is held more than what the times are for due, and no other event.
+    pub fn mark_added(&self, net: &Network, held: &[bool], due: &mut Marks)
+        requires known { length self.now.held ≡ length net.now.activities }
+        requires flags { length held.now ≡ length net.now.activities }
+        requires due { length due.old ≡ length net.now.events }
+        ensures added { AreAddedDue net.now self.now.held held.now due.new }
+        ensures as_many { length due.new ≡ length due.old }
+    {
+        due.clear_all();
+        mark_added(net, &self.held, held, due);
+    }
+
+    /// Raises the times to the least ones for what is held, which is what they are for and more, from the events that are due.
+    /// `Err` comes exactly where that has a cycle; nothing is known of the times then.
     pub fn raise(
         &mut self,
         net: &Network,
@@ -100,6 +112,7 @@ impl Known {
         requires flags { length held.now ≡ length net.now.activities }
         requires within { AreWithinFlags self.old.held held.now }
         requires due { length due.old ≡ length net.now.events }
+        requires added { AreAddedDue net.now self.old.held held.now due.old }
         ensures known { OnOk result (IsKnown net.now rows.now spans.now self.new) }
         ensures held { OnOk result (self.new.held ≡ held.now) }
         ensures cyclic { OnErr result (HasNoCycle (arcs_of net.now (is_held held.now)) → ⊥) }
@@ -109,8 +122,6 @@ impl Known {
     {
         net.sound();
         rows.is_within_limits();
-        due.clear_all();
-        mark_added(net, &self.held, held, due);
         match raise(net, held, spans, &mut self.times, due) {
             Ok(()) => {
                 self.held.copy_from_slice(held);

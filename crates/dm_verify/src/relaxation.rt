@@ -12,7 +12,7 @@ ghost use Rattle.dm_verify.specs.Inside.Violations.{IsSomeViolated};
 use crate::flips::flip_of;
 use crate::free::{all_undecided, bound_flags};
 use crate::timetable::Timetable;
-use crate::turning::turn;
+use crate::turning::{tail_of, turn};
 use crate::undecided::Undecided;
 use crate::violations::{is_any_violated, is_violated};
 use dm_base::Cost;
@@ -101,6 +101,7 @@ impl Relaxation {
     {
         net.sound();
         let flip = flip_of(net, rows, decision);
+        self.timetable.make_due(tail_of(net, flip));
         turn(net, flip, true, &mut self.held, &mut self.charged);
         self.undecided.set(flip, false);
         let Ok(()) = self.path.push(decision) else {

@@ -1,12 +1,12 @@
 //! The least times of what is held, as it grows and shrinks.
-ghost use Rattle.std.specs.Prelude.{ℕ, ◌≡◌, Bool, IsTrue, length, IfOk, OnOk, OnErr};
+ghost use Rattle.std.specs.Prelude.{ℕ, ◌≡◌, ◌<◌, Bool, IsTrue, length, IfOk, OnOk, OnErr};
 ghost use Rattle.dm_network.specs.Held.{HasNoCycleOf};
 ghost use Rattle.dm_rows.specs.Laws.{EntersNoPassed};
 ghost use Rattle.dm_network.specs.Net.{Net};
 ghost use Rattle.dm_rows.specs.Rows.{RowsValue, IsSized};
 ghost use Rattle.dm_rows.specs.Timetable.{IsLeastHolding};
 ghost use Rattle.dm_relaxation.specs.Binding.{AreFlags, AreBelowLimit};
-ghost use Rattle.dm_verify.specs.Inside.Timetables.{IsTimetableOf, AreWithinFlags};
+ghost use Rattle.dm_verify.specs.Inside.Timetables.{IsTimetableOf, IsGrownTo, MakesDue, AreWithinFlags};
 
 use crate::known::Known;
 use dm_base::Secs;
@@ -73,7 +73,7 @@ impl Timetable {
         requires sized { IsSized net.now rows.now }
         requires timetable { IsTimetableOf net.now rows.now self.old }
         requires flags { length held.now ≡ length net.now.activities }
-        requires grown { IsTrue is_grown → AreWithinFlags self.old.last.held held.now }
+        requires grown { IsTrue is_grown → IsGrownTo net.now self.old held.now }
         ensures timetable { IsTimetableOf net.now rows.now self.new }
         ensures held { OnOk result (self.new.last.held ≡ held.now) }
         ensures least { (holds : ℕ → Bool) → AreFlags net.now holds held.now → EntersNoPassed net.now rows.now holds → OnOk result (IsLeastHolding net.now rows.now holds self.new.last.times) }
@@ -95,18 +95,38 @@ impl Timetable {
         }
     }
 
-    /// Takes the times of before that are for some of what is held.
+    /// Makes an event due.
+    pub fn make_due(&mut self, event: usize)
+        requires { event < length self.old.due }
+        ensures { MakesDue event self.old self.new }
+    {
+        self.due.mark(event);
+    }
+
+    /// Takes the times of before that are for some of what is held, and makes the tails of what is held more due.
     fn begin(&mut self, net: &Network, rows: &Rows, held: &[bool], is_grown: bool)
         requires sized { IsSized net.now rows.now }
         requires timetable { IsTimetableOf net.now rows.now self.old }
         requires flags { length held.now ≡ length net.now.activities }
-        requires grown { IsTrue is_grown → AreWithinFlags self.old.last.held held.now }
+        requires grown { IsTrue is_grown → IsGrownTo net.now self.old held.now }
         ensures timetable { IsTimetableOf net.now rows.now self.new }
-        ensures within { AreWithinFlags self.new.last.held held.now }
+        ensures grown { IsGrownTo net.now self.new held.now }
     {
         if is_grown {
             return;
         }
+        self.take_first(net, rows, held);
+        self.last.mark_added(net, held, &mut self.due);
+    }
+
+    /// Takes the first times, or the floors where the first times are for more than what is held.
+    fn take_first(&mut self, net: &Network, rows: &Rows, held: &[bool])
+        requires sized { IsSized net.now rows.now }
+        requires timetable { IsTimetableOf net.now rows.now self.old }
+        requires flags { length held.now ≡ length net.now.activities }
+        ensures timetable { IsTimetableOf net.now rows.now self.new }
+        ensures within { AreWithinFlags self.new.last.held held.now }
+    {
         self.last.copy_from(&self.first);
         if self.last.is_for_some_of(held) {
             return;

@@ -1,5 +1,5 @@
 //! What a decision holds and charges for, flagged or no longer.
-ghost use Rattle.std.specs.Prelude.{◌≡◌, ◌<◌, length, slice_set, MatchBool};
+ghost use Rattle.std.specs.Prelude.{ℕ, ◌≡◌, ◌<◌, true, length, slice_set, MatchBool};
 ghost use Rattle.dm_network.specs.Net.{activity_at};
 ghost use Rattle.dm_network.specs.Start.{first_event};
 ghost use Rattle.dm_rows.specs.Relax.{is_of_pair};
@@ -59,6 +59,20 @@ pub fn is_headway_of(net: &Network, a: usize, pair: usize) -> bool
     match net.activity(a).pair {
         None => false,
         Some(its) => its == pair,
+    }
+}
+
+/// An event that is the tail of all that a decision holds.
+pub fn tail_of(net: &Network, flip: Flip) -> usize
+    requires { ReachesNet net.now flip }
+    ensures tail { (b : ℕ) → is_bound_by net.now flip b ≡ true → (activity_at net.now b).tail ≡ result }
+    ensures is_event { result < length net.now.events }
+{
+    net.sound();
+    match flip {
+        Flip::Keep { act } => net.activity(act).tail,
+        Flip::Drop { act } => net.activity(act).tail,
+        Flip::First { pair, small } => first_event(net, pair, small),
     }
 }
 

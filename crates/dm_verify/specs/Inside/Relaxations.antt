@@ -9,7 +9,7 @@ use Rattle.dm_tree.specs.Relaxed.{IsRelaxedLeast, IsRelaxedCycle, HasNoRelaxedCy
 use Rattle.dm_relaxation.specs.Binding.{AreBelowLimit}
 use Rattle.dm_relaxation.specs.KeptCosts.{KeptCostValue, IsKeptCostOf}
 use Rattle.dm_verify.specs.Inside.Flags.{AreFlags}
-use Rattle.dm_verify.specs.Inside.Timetables.{TimetableValue, IsTimetableOf, AreWithinFlags}
+use Rattle.dm_verify.specs.Inside.Timetables.{TimetableValue, IsTimetableOf, IsGrownTo}
 
 -- a path, which changes and which pairs it leaves undecided, what its relaxed problem holds and charges for, whether
 -- only more has been held since its times were computed last, its timetable, and what the times cost that it had last
@@ -33,7 +33,7 @@ pub record IsRelaxationOf (net : Net) (rows : RowsValue) (relaxation : Relaxatio
   pub pairs : AreFlags (is_undecided_pair net rows relaxation.path) (length net.pairs) relaxation.pairs
   pub held : AreFlags (is_relaxed_active net rows relaxation.path) (length net.activities) relaxation.held
   pub charged : AreFlags (is_relaxed_dropped net rows relaxation.path) (length net.activities) relaxation.charged
-  pub grown : IsTrue relaxation.is_grown → AreWithinFlags relaxation.timetable.last.held relaxation.held
+  pub grown : IsTrue relaxation.is_grown → IsGrownTo net relaxation.timetable relaxation.held
   pub timetable : IsTimetableOf net rows relaxation.timetable
   pub cost : IsKeptCostOf net relaxation.kept_cost
 

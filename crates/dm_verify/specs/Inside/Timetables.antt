@@ -1,11 +1,11 @@
 -- Times that are least for some activities, from which rounds may begin for more.
-use Rattle.std.specs.Prelude.{ℕ, ◌≡◌, ◌<◌, Bool, true, List, length, slice_index}
+use Rattle.std.specs.Prelude.{ℕ, ◌≡◌, ◌<◌, Bool, true, false, List, length, slice_index, slice_set}
 use Rattle.dm_graph.specs.Graph.{IsLeast}
-use Rattle.dm_network.specs.Net.{Net}
+use Rattle.dm_network.specs.Net.{Net, activity_at}
 use Rattle.dm_network.specs.Held.{is_held}
 use Rattle.dm_rows.specs.Rows.{RowsValue}
 use Rattle.dm_rows.specs.Timetable.{floor_of}
-use Rattle.dm_relaxation.specs.Binding.{graph_with, AreSpansOf, AreBelowLimit}
+use Rattle.dm_relaxation.specs.Binding.{graph_with, is_due, AreSpansOf, AreBelowLimit}
 
 -- flags of activities, and times for these
 pub record KnownValue : Type 0 where
@@ -35,3 +35,20 @@ pub record IsTimetableOf (net : Net) (rows : RowsValue) (timetable : TimetableVa
   pub last : IsKnown net rows timetable.spans timetable.last
   pub first : IsKnown net rows timetable.spans timetable.first
   pub due : length timetable.due ≡ length net.events
+
+-- the tail of each activity that is held now and was not is due
+abbrev pub AreAddedDue : Net → List Bool → List Bool → List Bool → Type 0
+AreAddedDue net before now due =
+    (a : ℕ) → a < length net.activities → is_held now a ≡ true → is_held before a ≡ false → is_due due (activity_at net a).tail ≡ true
+
+-- all that the last times are for is held, and the tails of what is held more are due
+pub record IsGrownTo (net : Net) (timetable : TimetableValue) (held : List Bool) : Type 0 where
+  pub within : AreWithinFlags timetable.last.held held
+  pub added : AreAddedDue net timetable.last.held held timetable.due
+
+-- an event is due, and nothing else has changed
+pub record MakesDue (event : ℕ) (old new : TimetableValue) : Type 0 where
+  pub spans : new.spans ≡ old.spans
+  pub last : new.last ≡ old.last
+  pub first : new.first ≡ old.first
+  pub due : new.due ≡ slice_set old.due event true

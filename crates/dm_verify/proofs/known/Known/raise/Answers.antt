@@ -1,12 +1,11 @@
 use Rattle.std.proofs.Common.{List, Bool, ℕ, ◌≡◌, ◌^◌, length, sym, ap, subst, ◌∙◌}
 use Rattle.std.specs.Vec.{with_items}
 use Rattle.std.proofs.lemmas.List.{with_items_is}
-use Rattle.dm_network.specs.Held.{is_held}
 use Rattle.dm_rows.specs.Timetable.{floor_of}
 use Rattle.dm_relaxation.specs.Binding.{graph_with, MayBegin}
 use Rattle.dm_relaxation.specs.Inside.Rising.{AreWithin}
 use Rattle.dm_relaxation.proofs.OfRows.{spans_are_bindings}
-use Rattle.dm_verify.specs.Inside.Timetables.{KnownValue, IsKnown, AreWithinFlags}
+use Rattle.dm_verify.specs.Inside.Timetables.{KnownValue, IsKnown, AreWithinFlags, AreAddedDue}
 use Rattle.dm_verify.proofs.Begun.{may_begin, early_enough, now_known}
 use Rattle.dm_verify.proofs.known.Known.raise.Goals as goal
 
@@ -33,12 +32,12 @@ returns-in-Ok-clause-known c =
     let known : KnownValue = record { held = c.self.inside.held.items; times = c.self.inside.times.items } in
     let was : IsKnown net rows spans known = subst (IsKnown net rows spans) (sym c.self.view_is) c.requires.known in
     let within : AreWithinFlags known.held held = subst (λ (k : KnownValue). AreWithinFlags k.held held) (sym c.self.view_is) c.requires.within in
-    let begins : MayBegin (graph_with net held spans (floor_of net rows)) known.times c.mark_added.new.due =
-    may_begin net rows spans known held c.mark_added.new.due was within
-    (λ a lt on off. c.mark_added.ensures.added a lt on (ap (λ (f : List Bool). is_held f a) c.deref.ensures.value ∙ off)) in
+    let begins : MayBegin (graph_with net held spans (floor_of net rows)) known.times c.args.due.now =
+    may_begin net rows spans known held c.args.due.now was within
+    (subst (λ (k : KnownValue). AreAddedDue net k.held held c.args.due.now) (sym c.self.view_is) c.requires.added) in
     let size : length times ≡ length net.events = c.in-Ok.ensures.as_many ∙ ap (λ (x : List ℕ). length x) c.deref_mut.ensures.value ∙ was.as_many in
     let least = c.in-Ok.ensures.least (floor_of net rows)
-    (subst (λ (x : List ℕ). MayBegin (graph_with net held spans (floor_of net rows)) x c.mark_added.new.due) (sym c.deref_mut.ensures.value) begins) in
+    (subst (λ (x : List ℕ). MayBegin (graph_with net held spans (floor_of net rows)) x c.args.due.now) (sym c.deref_mut.ensures.value) begins) in
     let now = now_known net rows spans c.sound.ensures.network c.sound.ensures.within c.is_within_limits.ensures c.requires.spans held times c.requires.flags size least in
     let items : (with_items c.self.inside.times times).items ≡ times =
     with_items_is c.self.inside.times times (c.in-Ok.ensures.as_many ∙ ap (λ (x : List ℕ). length x) c.deref_mut.ensures.value ∙ sym c.self.inside.times.ok.0) in
@@ -54,8 +53,8 @@ returns-in-Err-clause-cyclic c =
     let known : KnownValue = record { held = c.self.inside.held.items; times = c.self.inside.times.items } in
     let was : IsKnown net rows spans known = subst (IsKnown net rows spans) (sym c.self.view_is) c.requires.known in
     let within : AreWithinFlags known.held held = subst (λ (k : KnownValue). AreWithinFlags k.held held) (sym c.self.view_is) c.requires.within in
-    let begins : MayBegin (graph_with net held spans (floor_of net rows)) known.times c.mark_added.new.due =
-    may_begin net rows spans known held c.mark_added.new.due was within
-    (λ a lt on off. c.mark_added.ensures.added a lt on (ap (λ (f : List Bool). is_held f a) c.deref.ensures.value ∙ off)) in
+    let begins : MayBegin (graph_with net held spans (floor_of net rows)) known.times c.args.due.now =
+    may_begin net rows spans known held c.args.due.now was within
+    (subst (λ (k : KnownValue). AreAddedDue net k.held held c.args.due.now) (sym c.self.view_is) c.requires.added) in
     c.in-Err.ensures.cyclic (floor_of net rows)
-    (subst (λ (x : List ℕ). MayBegin (graph_with net held spans (floor_of net rows)) x c.mark_added.new.due) (sym c.deref_mut.ensures.value) begins)
+    (subst (λ (x : List ℕ). MayBegin (graph_with net held spans (floor_of net rows)) x c.args.due.now) (sym c.deref_mut.ensures.value) begins)

@@ -20,9 +20,9 @@ returns-clause-relaxation c =
     let opened : IsOpen net rows old.path (choice_of d) = subst (λ (r : RelaxationValue). IsOpen net rows r.path (choice_of d)) (sym c.self.view_is) c.requires.open in
     let held = (with_items c.self.inside.held c.turn.new.held).items in
     let charged = (with_items c.self.inside.charged c.turn.new.charged).items in
-    let now = decided net c.sound.ensures.network rows c.requires.sized old was d flip c.flip_of-flip.ensures.flip held charged opened
+    let now = decided net c.sound.ensures.network rows c.requires.sized old was d flip c.flip_of-flip.ensures.flip held charged c.tail_of.result c.make_due.new.self c.make_due.ensures c.tail_of.ensures.is_event c.tail_of.ensures.tail opened
     (over_vec (is_bound_by net flip) true n c.self.inside.held c.deref_mut.result.now c.turn.new.held c.deref_mut.ensures.value c.turn.ensures.held)
     (over_vec (is_charged_by flip) true n c.self.inside.charged c.deref_mut-2.result.now c.turn.new.charged c.deref_mut-2.ensures.value c.turn.ensures.charged) in
-    moved net rows old.path (with_change flip false old.changes) (with_pair flip false old.pairs) held charged old.is_grown old.timetable old.kept_cost
+    moved net rows old.path (with_change flip false old.changes) (with_pair flip false old.pairs) held charged old.is_grown c.make_due.new.self old.kept_cost
     (old.path ++ d ∷ []) c.push.new.self.items c.set.new.self.changes.items c.set.new.self.pairs.items
     c.in-Ok.ensures.items c.set.ensures.changes c.set.ensures.pairs now

@@ -4,7 +4,8 @@ use Rattle.dm_rows.specs.Relax.{is_relaxed_active}
 use Rattle.dm_relaxation.specs.Binding.{AreFlags}
 use Rattle.dm_rows.specs.declared.messages.Decision.{Decision}
 use Rattle.dm_verify.specs.Inside.Flags.{is_flagged}
-use Rattle.dm_verify.specs.Inside.Timetables.{AreWithinFlags}
+use Rattle.dm_verify.specs.Inside.Timetables.{IsGrownTo}
+use Rattle.dm_verify.proofs.Turned.{all_held}
 use Rattle.dm_verify.specs.Inside.Relaxations.{RelaxationValue, IsRelaxationOf, HasRelaxedCycle}
 use Rattle.dm_verify.proofs.Relaxed.{relaxed_least, enters_no_passed, has_cycle}
 use Rattle.dm_verify.proofs.relaxation.Relaxation.solve.Goals as goal
@@ -12,7 +13,7 @@ use Rattle.dm_verify.proofs.relaxation.Relaxation.solve.Goals as goal
 pub settle-requires-clause-grown : goal.settle-requires-clause-grown
 settle-requires-clause-grown c =
     let was = subst (IsRelaxationOf c.args.net.now c.args.rows.now) (sym c.self.view_is) c.requires.relaxation in
-    λ is. subst (λ (h : List Bool). AreWithinFlags c.self.inside.timetable.last.held h) (sym c.deref.ensures.value) (was.grown is)
+    λ is. subst (λ (h : List Bool). IsGrownTo c.args.net.now c.self.inside.timetable h) (sym c.deref.ensures.value) (was.grown is)
 
 pub returns-in-Ok-clause-relaxation : goal.returns-in-Ok-clause-relaxation
 returns-in-Ok-clause-relaxation c =
@@ -23,7 +24,7 @@ returns-in-Ok-clause-relaxation c =
       pairs = was.pairs;
       held = was.held;
       charged = was.charged;
-      grown = λ _. subst (λ (h : List Bool). AreWithinFlags h c.self.inside.held.items) (sym (c.in-Ok.ensures.held ∙ c.deref.ensures.value)) (λ a below on. on);
+      grown = λ _. all_held c.args.net.now c.settle.new.self c.self.inside.held.items (c.in-Ok.ensures.held ∙ c.deref.ensures.value);
       timetable = c.settle.ensures.timetable;
       cost = c.follow.ensures.kept;
     }
