@@ -1,7 +1,6 @@
 -- What an evaluator is after a decision is made, refused or taken back.
-use Rattle.std.proofs.Common.{◌≡◌, ℕ, ◌+◌, ◌<◌, Bool, true, false, List, [], ◌∷◌, ◌++◌, length, get_or, take, drop, suc, Some, sym, ap, subst, ◌∙◌, inl, inr, arith, length-set, get_or-set_same, get_or-set_other}
-use Rattle.std.specs.Prelude.{slice_set, Contains, slice_get}
-use Rattle.std.proofs.lemmas.Bool.{cases_eq}
+use Rattle.std.proofs.Common.{◌≡◌, ℕ, ◌+◌, ◌<◌, Bool, true, false, List, [], ◌∷◌, ◌++◌, length, get_or, take, drop, suc, Some, sym, subst, ◌∙◌, arith}
+use Rattle.std.specs.Prelude.{Contains, slice_get}
 use Rattle.std.proofs.lemmas.List.{length-append}
 use Rattle.std.proofs.lemmas.Option.{slice_get-get_or}
 use Rattle.dm_live.specs.Live.{IsAtRest}
@@ -11,99 +10,21 @@ use Rattle.dm_network.specs.Start.{IsNetwork}
 use Rattle.dm_rows.specs.declared.messages.Choice.{Choice}
 use Rattle.dm_rows.specs.declared.messages.Decision.{Decision}
 use Rattle.dm_rows.specs.declared.messages.Flip.{Flip}
-use Rattle.dm_rows.specs.declared.messages.Flip.TheVariants.{Keep, Drop, First}
-use Rattle.dm_rows.specs.Rows.{RowsValue, IsSized}
 use Rattle.dm_rows.specs.Decide.{IsChoiceList, choice_of, free_choices_of}
-use Rattle.dm_rows.specs.Relax.{is_same_choice, is_undecided_change, is_undecided_pair}
-use Rattle.dm_priced.specs.Priced.{PricedValue, IsPriced, is_flagged}
+use Rattle.dm_rows.specs.Relax.{is_same_choice}
+use Rattle.dm_priced.specs.Priced.{PricedValue, IsPriced}
 use Rattle.dm_tree.specs.Relaxed.{IsRelaxedLeast, IsRelaxedCycle, HasNoRelaxedCycle}
-use Rattle.dm_evaluate.specs.Evaluator.{EvaluatorValue, IsEvaluatorOf, AreFlags, times_of, path_without}
+use Rattle.dm_evaluate.specs.Evaluator.{EvaluatorValue, IsEvaluatorOf, times_of, path_without}
 use Rattle.dm_evaluate.specs.Marks.{MarksValue, MarksUnkept}
-use Rattle.dm_evaluate.specs.Inside.Paths.{AddsDecision, IsFlipOf}
-use Rattle.dm_evaluate.specs.Inside.Moves.{is_bound_by, set_where, Turns, Stays, IsOff}
-use Rattle.dm_evaluate.specs.Inside.Undecided.{with_change, with_pair, HasRoomFor}
-use Rattle.dm_evaluate.proofs.Lists.{list_is_short, pushed, without_list, without_adds, without_at}
+use Rattle.dm_paths.specs.Decisions.{AddsDecision, IsFlipOf}
+use Rattle.dm_evaluate.specs.Inside.Moves.{set_where, Turns, Stays, IsOff}
+use Rattle.dm_paths.specs.Decisions.{is_bound_by}
+use Rattle.dm_paths.specs.Flags.{with_change, with_pair}
+use Rattle.dm_evaluate.proofs.Lists.{list_is_short, without_list, without_adds, without_at}
+use Rattle.dm_paths.proofs.Lists.{pushed}
 use Rattle.dm_evaluate.proofs.Moving.{stays_evaluates, decided_evaluates, undecided_evaluates, is_off, decision_cycle, one_relaxed_least}
-use Rattle.dm_evaluate.proofs.Paths.{undecided_change_same, undecided_pair_same, change_undecided_before, change_decided_after, change_apart, change_no_pair, pair_undecided_before, pair_decided_after, pair_apart, pair_no_change}
 use Rattle.dm_evaluate.proofs.Relaxing.{relaxed_least, no_relaxed_cycle}
-
-flags_set : (f g : ℕ → Bool) (n a : ℕ) (flags : List Bool) (v : Bool) → AreFlags f n flags → a < n → g a ≡ v →
-    ((k : ℕ) → k < n → (k ≡ a → ⊥) → g k ≡ f k) → AreFlags g n (slice_set flags a v)
-flags_set f g n a flags v h below is other =
-    let size = h.size in
-    record {
-      size = length-set flags a v ∙ h.size;
-      each = λ k lt. elim (cases_eq k a) [
-        | inl same ↦ ap (is_flagged (slice_set flags a v)) same ∙ get_or-set_same flags a v false (omega arith) ∙ sym is ∙ ap g (sym same)
-        | inr apart ↦ get_or-set_other flags a k v false apart ∙ h.each k lt ∙ sym (other k lt apart)
-      ];
-    }
-
-flags_same : (f g : ℕ → Bool) (n : ℕ) (flags : List Bool) → AreFlags f n flags → ((k : ℕ) → k < n → g k ≡ f k) → AreFlags g n flags
-flags_same f g n flags h same = record { size = h.size; each = λ k lt. h.each k lt ∙ sym (same k lt) }
-
--- the flags of what is undecided
-module _ (net : Net) (network : IsNetwork net) (rows : RowsValue) (sized : IsSized net rows) (path other : List Decision)
-    (list : IsChoiceList net rows path) (other_list : IsChoiceList net rows other) (d : Decision) (adds : AddsDecision path other d) where
-  pub changes_decided : (flip : Flip) → IsFlipOf net rows d flip → (flags : List Bool) → AreFlags (is_undecided_change net rows path) (length net.activities) flags →
-      AreFlags (is_undecided_change net rows other) (length net.activities) (with_change flip false flags)
-  changes_decided (Keep a) is flags h =
-      flags_set (is_undecided_change net rows path) (is_undecided_change net rows other) (length net.activities) a flags false h is.is_activity
-      (change_decided_after net network rows sized path other list other_list d adds a true is)
-      (λ k lt ne. undecided_change_same net network rows sized path other list other_list d adds k (change_apart net network rows sized path other list other_list d adds a true is k lt ne))
-  changes_decided (Drop a) is flags h =
-      flags_set (is_undecided_change net rows path) (is_undecided_change net rows other) (length net.activities) a flags false h is.is_activity
-      (change_decided_after net network rows sized path other list other_list d adds a false is)
-      (λ k lt ne. undecided_change_same net network rows sized path other list other_list d adds k (change_apart net network rows sized path other list other_list d adds a false is k lt ne))
-  changes_decided (First p small) is flags h =
-      flags_same (is_undecided_change net rows path) (is_undecided_change net rows other) (length net.activities) flags h
-      (λ k lt. undecided_change_same net network rows sized path other list other_list d adds k (pair_no_change net network rows sized path other list other_list d adds p small is k))
-
-  pub pairs_decided : (flip : Flip) → IsFlipOf net rows d flip → (flags : List Bool) → AreFlags (is_undecided_pair net rows path) (length net.pairs) flags →
-      AreFlags (is_undecided_pair net rows other) (length net.pairs) (with_pair flip false flags)
-  pairs_decided (Keep a) is flags h =
-      flags_same (is_undecided_pair net rows path) (is_undecided_pair net rows other) (length net.pairs) flags h
-      (λ k lt. undecided_pair_same net network rows sized path other list other_list d adds k (change_no_pair net network rows sized path other list other_list d adds a true is k))
-  pairs_decided (Drop a) is flags h =
-      flags_same (is_undecided_pair net rows path) (is_undecided_pair net rows other) (length net.pairs) flags h
-      (λ k lt. undecided_pair_same net network rows sized path other list other_list d adds k (change_no_pair net network rows sized path other list other_list d adds a false is k))
-  pairs_decided (First p small) is flags h =
-      flags_set (is_undecided_pair net rows path) (is_undecided_pair net rows other) (length net.pairs) p flags false h is.is_pair
-      (pair_decided_after net network rows sized path other list other_list d adds p small is)
-      (λ k lt ne. undecided_pair_same net network rows sized path other list other_list d adds k (pair_apart net network rows sized path other list other_list d adds p small is k lt ne))
-
-  pub changes_undecided : (flip : Flip) → IsFlipOf net rows d flip → (flags : List Bool) → AreFlags (is_undecided_change net rows other) (length net.activities) flags →
-      AreFlags (is_undecided_change net rows path) (length net.activities) (with_change flip true flags)
-  changes_undecided (Keep a) is flags h =
-      flags_set (is_undecided_change net rows other) (is_undecided_change net rows path) (length net.activities) a flags true h is.is_activity
-      (change_undecided_before net network rows sized path other list other_list d adds a true is)
-      (λ k lt ne. sym (undecided_change_same net network rows sized path other list other_list d adds k (change_apart net network rows sized path other list other_list d adds a true is k lt ne)))
-  changes_undecided (Drop a) is flags h =
-      flags_set (is_undecided_change net rows other) (is_undecided_change net rows path) (length net.activities) a flags true h is.is_activity
-      (change_undecided_before net network rows sized path other list other_list d adds a false is)
-      (λ k lt ne. sym (undecided_change_same net network rows sized path other list other_list d adds k (change_apart net network rows sized path other list other_list d adds a false is k lt ne)))
-  changes_undecided (First p small) is flags h =
-      flags_same (is_undecided_change net rows other) (is_undecided_change net rows path) (length net.activities) flags h
-      (λ k lt. sym (undecided_change_same net network rows sized path other list other_list d adds k (pair_no_change net network rows sized path other list other_list d adds p small is k)))
-
-  pub pairs_undecided : (flip : Flip) → IsFlipOf net rows d flip → (flags : List Bool) → AreFlags (is_undecided_pair net rows other) (length net.pairs) flags →
-      AreFlags (is_undecided_pair net rows path) (length net.pairs) (with_pair flip true flags)
-  pairs_undecided (Keep a) is flags h =
-      flags_same (is_undecided_pair net rows other) (is_undecided_pair net rows path) (length net.pairs) flags h
-      (λ k lt. sym (undecided_pair_same net network rows sized path other list other_list d adds k (change_no_pair net network rows sized path other list other_list d adds a true is k)))
-  pairs_undecided (Drop a) is flags h =
-      flags_same (is_undecided_pair net rows other) (is_undecided_pair net rows path) (length net.pairs) flags h
-      (λ k lt. sym (undecided_pair_same net network rows sized path other list other_list d adds k (change_no_pair net network rows sized path other list other_list d adds a false is k)))
-  pairs_undecided (First p small) is flags h =
-      flags_set (is_undecided_pair net rows other) (is_undecided_pair net rows path) (length net.pairs) p flags true h is.is_pair
-      (pair_undecided_before net network rows sized path other list other_list d adds p small is)
-      (λ k lt ne. sym (undecided_pair_same net network rows sized path other list other_list d adds k (pair_apart net network rows sized path other list other_list d adds p small is k lt ne)))
-
-pub room_for : (net : Net) (rows : RowsValue) (d : Decision) (flip : Flip) → IsFlipOf net rows d flip → (changes pairs : List Bool) →
-    length changes ≡ length net.activities → length pairs ≡ length net.pairs → HasRoomFor flip changes pairs
-room_for net rows d (Keep a) is changes pairs e f = let b = is.is_activity in omega (arith, e, b)
-room_for net rows d (Drop a) is changes pairs e f = let b = is.is_activity in omega (arith, e, b)
-room_for net rows d (First p small) is changes pairs e f = let b = is.is_pair in omega (arith, f, b)
+use Rattle.dm_paths.proofs.Decided.{changes_decided, changes_undecided, pairs_decided, pairs_undecided}
 
 -- an evaluator has the least times of its relaxed problem, which has no cycle
 pub evaluator_least : (net : Net) (e : EvaluatorValue) → EndsAreKnown net → IsEvaluatorOf net e → IsRelaxedLeast net e.rows e.path (times_of e)

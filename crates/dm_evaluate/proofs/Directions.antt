@@ -10,8 +10,9 @@ use Rattle.dm_network.specs.Held.{arcs_of, is_held, IsCycleOf}
 use Rattle.dm_rows.specs.Relax.{is_of_pair}
 use Rattle.dm_settle.proofs.Marking.{leads_out, stands_out}
 use Rattle.dm_priced.specs.Priced.{PricedValue}
-use Rattle.dm_evaluate.specs.Inside.Moves.{is_directed, set_where, TurnsTo, Stays, IsAmong, KeepsBut, TurnsAmong, IsRefused}
-use Rattle.dm_evaluate.proofs.Headings.{its_pair}
+use Rattle.dm_evaluate.specs.Inside.Moves.{set_where, TurnsTo, Stays, IsAmong, KeepsBut, TurnsAmong, IsRefused}
+use Rattle.dm_paths.specs.Decisions.{is_directed}
+use Rattle.dm_paths.proofs.Changing.{its_pair}
 
 -- the places in the row out of an event are those of activities
 pub row_below : (net : Net) (tail : ℕ) (row : List ℕ) → row ≡ places_out_of net tail → (k d : ℕ) → k < length row → get_or row k d < length net.activities

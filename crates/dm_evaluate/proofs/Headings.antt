@@ -1,7 +1,7 @@
 -- Headways of a pair that are held and let go, one and several.
-use Rattle.std.proofs.Common.{◌≡◌, ◌≢◌, ℕ, ◌+◌, ◌<◌, Bool, true, false, List, length, Some, refl, sym, ap, ◌∙◌, ◌⊎◌, inl, inr, arith, slice_index, get_or-set_same, get_or-set_other}
-use Rattle.std.specs.Prelude.{slice_set, Option, None, ◌==◌}
-use Rattle.std.proofs.lemmas.Bool.{cases_eq, cases_lt, eqb-true, both_ways, eq-eqb}
+use Rattle.std.proofs.Common.{◌≡◌, ◌≢◌, ℕ, ◌+◌, ◌<◌, Bool, true, false, List, length, refl, sym, ap, ◌∙◌, ◌⊎◌, inl, inr, arith, slice_index, get_or-set_same, get_or-set_other}
+use Rattle.std.specs.Prelude.{slice_set}
+use Rattle.std.proofs.lemmas.Bool.{cases_eq, cases_lt}
 use Rattle.dm_network.specs.Net.{Net, activity_at}
 use Rattle.dm_network.specs.Held.{is_held, IsCycleOf}
 use Rattle.dm_rows.specs.Relax.{is_of_pair}
@@ -9,6 +9,7 @@ use Rattle.dm_settle.specs.Constraints.{ConstraintsValue}
 use Rattle.dm_live.specs.Live.{LiveValue, with_held}
 use Rattle.dm_priced.specs.Priced.{PricedValue}
 use Rattle.dm_evaluate.specs.Inside.Moves.{IsAmong, IsOnly, KeepsBut, TurnsAmong, IsRefused}
+use Rattle.dm_paths.proofs.Changing.{its_pair, no_pair}
 
 -- one flag that is set
 set_on : (flags : List Bool) (a b : ℕ) (flag : Bool) → b ≡ a → a < length flags → is_held (slice_set flags a flag) b ≡ flag
@@ -27,14 +28,6 @@ among_next row n b (k, lt, is) =
 
 among_before : (row : List ℕ) (n b : ℕ) → IsAmong row n b → IsAmong row (n + 1) b
 among_before row n b (k, lt, is) = (k, omega arith, is)
-
-pub its_pair : (p : ℕ) (o : Option ℕ) → is_of_pair p o ≡ true → o ≡ Some p
-its_pair p None h = cc
-its_pair p (Some q) h = ap (λ r. Some r) (eqb-true q p h)
-
-pub no_pair : (p : ℕ) (o : Option ℕ) → is_of_pair p o ≡ false → o ≡ Some p → ⊥
-no_pair p None h e = cc
-no_pair p (Some q) h e = let same : q ≡ p = cc in both_ways (q == p) h (eq-eqb q p same)
 
 module _ (net : Net) (p : ℕ) where
   keeps_all : (among : ℕ → Type 0) (priced : PricedValue) → KeepsBut net p among priced priced

@@ -1,9 +1,7 @@
 pub mod Relaxing
-pub mod Paths
 pub mod Headings
 pub mod Directions
 pub mod Flipping
-pub mod FlipNames
 pub mod Moving
 pub mod Lists
 pub mod Behind
@@ -12,5 +10,4 @@ pub mod Decided
 pub mod Rooted
 pub mod Violating
 pub mod Unkept
-pub mod Placed
 pub mod Open

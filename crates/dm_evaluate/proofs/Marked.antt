@@ -4,7 +4,7 @@ use Rattle.std.specs.Prelude.{slice_set, if◌then◌else◌}
 use Rattle.std.proofs.lemmas.Bool.{cases_lt, cases_eq, and_parts, both_ways, false_from_ne_true}
 use Rattle.dm_network.specs.Net.{Net, activity_at, pair_at, is_change, places_into, places_out_of}
 use Rattle.dm_network.specs.Start.{IsNetwork}
-use Rattle.dm_relax.proofs.Agreeing.{pair_joins}
+use Rattle.dm_paths.proofs.Agreeing.{pair_joins}
 use Rattle.dm_settle.specs.Marked.{is_marked, IsFirstFrom, NoneFrom}
 use Rattle.dm_settle.proofs.Joining.{stands_into}
 use Rattle.dm_settle.proofs.Marking.{stands_out, marked_here, marked_still}

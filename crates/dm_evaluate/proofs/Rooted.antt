@@ -15,7 +15,8 @@ use Rattle.dm_rows.specs.Rows.{RowsValue, IsSized, kept_at}
 use Rattle.dm_settle.specs.Constraints.{ConstraintsValue}
 use Rattle.dm_times.specs.Inside.Filling.{AreConstraintsHolding}
 use Rattle.dm_evaluate.specs.Evaluating.{Evaluates}
-use Rattle.dm_evaluate.specs.Evaluator.{IsEvaluatorOf, AreFlags}
+use Rattle.dm_evaluate.specs.Evaluator.{IsEvaluatorOf}
+use Rattle.dm_paths.specs.Flags.{AreFlags}
 use Rattle.dm_evaluate.specs.Marks.{MarksValue, MarksUnkept}
 use Rattle.dm_evaluate.specs.Inside.Starting.{RefusesRoot, HasPassedTo}
 use Rattle.dm_evaluate.proofs.Directions.{cycle_within}

@@ -10,21 +10,22 @@ use Rattle.dm_rows.specs.Decide.{with_decisions, is_free_change}
 use Rattle.dm_rows.specs.Relax.{is_of_pair, is_unmet_from, has_unmet_from, is_undecided_change, is_undecided_pair}
 use Rattle.dm_rows.specs.Rows.{RowsValue}
 use Rattle.dm_rows.specs.Timetable.{span_of}
-use Rattle.dm_relax.proofs.Agreeing.{passes_one, span_same}
-use Rattle.dm_relax.proofs.Setting.{differs_in_none, differs_with}
+use Rattle.dm_paths.proofs.Agreeing.{passes_one, span_same}
+use Rattle.dm_paths.proofs.Setting.{differs_in_none, differs_with}
 use Rattle.dm_settle.proofs.Joining.{leads_into}
 use Rattle.dm_live.specs.Live.{LiveValue, with_held}
 use Rattle.dm_settle.specs.Constraints.{ConstraintsValue}
 use Rattle.dm_priced.specs.Priced.{PricedValue, is_flagged}
 use Rattle.dm_priced.specs.Priced as priced
-use Rattle.dm_evaluate.specs.Evaluator.{EvaluatorValue, IsEvaluatorOf, AreFlags, times_of}
+use Rattle.dm_evaluate.specs.Evaluator.{EvaluatorValue, IsEvaluatorOf, times_of}
+use Rattle.dm_paths.specs.Flags.{AreFlags}
 use Rattle.dm_evaluate.specs.Marks.{MarksValue, MarksUnkept, IsUnmetHeadway, IsUnmetPair}
 use Rattle.dm_evaluate.specs.Inside.Marking.{AreMarksOf, Clears}
 use Rattle.dm_evaluate.specs.Inside.Moves.{KeepsBut}
-use Rattle.dm_evaluate.specs.Inside.Violations.{is_unmet_pair}
-use Rattle.dm_evaluate.proofs.Headings.{its_pair}
-use Rattle.dm_evaluate.proofs.Paths.{one_passes}
-use Rattle.dm_evaluate.proofs.Violating.{in_range, range_below}
+use Rattle.dm_paths.specs.Decisions.{is_unmet_pair}
+use Rattle.dm_paths.proofs.Changing.{its_pair}
+use Rattle.dm_paths.proofs.Paths.{one_passes}
+use Rattle.dm_paths.proofs.Violating.{in_range, range_below}
 
 -- the places in the row into an event are those of activities
 pub into_below : (net : Net) (head : ℕ) (row : List ℕ) → row ≡ places_into net head → (k d : ℕ) → k < length row → get_or row k d < length net.activities

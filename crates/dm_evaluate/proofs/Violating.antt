@@ -1,42 +1,27 @@
 -- Which choices a timetable violates, by flags of what is undecided and by rows.
-use Rattle.std.proofs.Common.{◌≡◌, ℕ, ◌-◌, ◌<◌, ◌≤◌, Bool, true, false, ◌&&◌, List, [], ◌++◌, length, map, Some, None, refl, sym, ap, subst, ◌∙◌, arith, slice_index}
-use Rattle.std.specs.Prelude.{filter, slice_get, ◌==◌, Contains}
+use Rattle.std.proofs.Common.{◌≡◌, ℕ, ◌-◌, ◌<◌, ◌≤◌, Bool, true, false, ◌&&◌, List, [], ◌++◌, length, map, Some, None, sym, ap, subst, ◌∙◌, arith, slice_index}
+use Rattle.std.specs.Prelude.{filter, slice_get, ◌==◌}
 use Rattle.std.specs.List.{range_with_len}
 use Rattle.std.proofs.lemmas.Bool.{and_parts, and_from, eq-eqb, eqb-true, both_ways, false_from_ne_true}
 use Rattle.std.proofs.lemmas.List.{append-nil}
-use Rattle.std.proofs.lemmas.List.FromFn.{length-range_with_len, get_or-range_with_len}
-use Rattle.dm_network.specs.Net.{Net, activity_at, pair_at, places_out_of}
+use Rattle.dm_network.specs.Net.{Net, activity_at, places_out_of}
 use Rattle.dm_rows.specs.declared.messages.Choice.{Choice}
 use Rattle.dm_rows.specs.declared.messages.Decision.{Decision}
 use Rattle.dm_rows.specs.Cost.{comes_too_early}
 use Rattle.dm_rows.specs.Decide.{change_choice, pair_choice}
 use Rattle.dm_rows.specs.Relax.{is_of_pair, is_unmet_from, has_unmet_from, is_undecided_change, is_undecided_pair, is_violated_change, is_violated_pair}
 use Rattle.dm_rows.specs.Rows.{RowsValue}
-use Rattle.dm_relax.proofs.Agreeing.{passes_one}
+use Rattle.dm_paths.proofs.Agreeing.{passes_one}
 use Rattle.dm_relax.specs.Relaxed.{first_violated}
 use Rattle.dm_settle.proofs.Marking.{leads_out, stands_out}
 use Rattle.dm_priced.specs.Priced.{is_flagged}
-use Rattle.dm_evaluate.specs.Evaluator.{AreFlags}
+use Rattle.dm_paths.specs.Flags.{AreFlags}
 use Rattle.dm_evaluate.specs.Inside.Marking.{IsFirst}
-use Rattle.dm_evaluate.specs.Inside.Violations.{NoneUnmet, is_unmet_pair, violated_from, violated_pair_from}
+use Rattle.dm_evaluate.specs.Inside.Violations.{NoneUnmet, violated_from, violated_pair_from}
+use Rattle.dm_paths.specs.Decisions.{is_unmet_pair}
 use Rattle.dm_evaluate.proofs.Behind.{first_passing, none_passing}
-use Rattle.dm_evaluate.proofs.Paths.{one_passes}
-
-pub in_range : (n k : ℕ) → k < n → Contains (range_with_len 0 n) k
-in_range n k lt =
-    let many = length-range_with_len 0 n in
-    let e = get_or-range_with_len 0 n k k lt in
-    (k, omega arith, omega (arith, e))
-
-pub range_below : (n k : ℕ) → Contains (range_with_len 0 n) k → k < n
-range_below n k h =
-    let many = length-range_with_len 0 n in
-    let below = h.1 in
-    let place : ℕ = h.0 in
-    let lt : place < n = omega (arith, below, many) in
-    let e = get_or-range_with_len 0 n place k lt in
-    let is = h.2 in
-    omega (arith, e, is, lt)
+use Rattle.dm_paths.proofs.Paths.{one_passes}
+use Rattle.dm_paths.proofs.Violating.{in_range, range_below, violated_change_by, violated_pair_by}
 
 module _ (net : Net) (rows : RowsValue) (x : List ℕ) (p tail : ℕ) (row : List ℕ) (row_is : row ≡ places_out_of net tail) where
   pub unmet_in_row : (a k : ℕ) → k < length row → a ≡ slice_index row k → is_of_pair p (activity_at net a).pair ≡ true → comes_too_early net rows x a ≡ true →
@@ -63,22 +48,6 @@ module _ (net : Net) (rows : RowsValue) (x : List ℕ) (p tail : ℕ) (row : Lis
       subst (λ (b : ℕ). (is_of_pair p (activity_at net b).pair && comes_too_early net rows x b) ≡ false) stands.is (none stands.place stands.within) in
       both_ways (is_of_pair p (activity_at net a).pair && comes_too_early net rows x a) seen
       (and_from (is_of_pair p (activity_at net a).pair) (comes_too_early net rows x a) two.0 both.1))
-
-and_assoc : (a b c : Bool) → ((a && b) && c) ≡ (a && (b && c))
-and_assoc true b c = refl
-and_assoc false b c = refl
-
-module _ (net : Net) (rows : RowsValue) (path : List Decision) (x : List ℕ) (flags : List Bool) where
-  pub violated_change_by : AreFlags (is_undecided_change net rows path) (length net.activities) flags → (k : ℕ) → k < length net.activities →
-      is_violated_change net rows path x k ≡ (is_flagged flags k && comes_too_early net rows x k)
-  violated_change_by are k lt = ap (λ u. u && comes_too_early net rows x k) (sym (are.each k lt))
-
-  pub violated_pair_by : AreFlags (is_undecided_pair net rows path) (length net.pairs) flags → (k : ℕ) → k < length net.pairs →
-      is_violated_pair net rows path x k
-      ≡ (is_flagged flags k && (has_unmet_from net rows x k (pair_at net k).small && has_unmet_from net rows x k (pair_at net k).large))
-  violated_pair_by are k lt =
-      and_assoc (is_undecided_pair net rows path k) (has_unmet_from net rows x k (pair_at net k).small) (has_unmet_from net rows x k (pair_at net k).large)
-      ∙ ap (λ u. u && (has_unmet_from net rows x k (pair_at net k).small && has_unmet_from net rows x k (pair_at net k).large)) (sym (are.each k lt))
 
 -- the first violated choice from a place on, by flags
 module _ (net : Net) (rows : RowsValue) (path : List Decision) (x : List ℕ) (changes pairs : List Bool)

@@ -1,15 +1,16 @@
 -- What contracts see of an evaluator, and what holds of it between its moves.
-use Rattle.std.specs.Prelude.{ℕ, ◌≡◌, ◌+◌, ◌<◌, Bool, false, not, List, length, filter, Contains, Option, Some, slice_get}
+use Rattle.std.specs.Prelude.{ℕ, ◌≡◌, ◌+◌, Bool, not, List, length, filter, Option, Some, slice_get}
 use Rattle.dm_live.specs.Live.{IsAtRest}
 use Rattle.dm_network.specs.Net.{Net}
 use Rattle.dm_rows.specs.declared.messages.Choice.{Choice}
 use Rattle.dm_rows.specs.declared.messages.Decision.{Decision}
-use Rattle.dm_rows.specs.Decide.{IsChoiceList, choice_of, free_choices_of}
-use Rattle.dm_rows.specs.Relax.{is_same_choice, is_decided, is_undecided_change, is_undecided_pair, violated_choices_of}
+use Rattle.dm_rows.specs.Decide.{IsChoiceList, choice_of}
+use Rattle.dm_rows.specs.Relax.{is_same_choice, is_undecided_change, is_undecided_pair, violated_choices_of}
 use Rattle.dm_rows.specs.Rows.{RowsValue, IsSized}
-use Rattle.dm_priced.specs.Priced.{PricedValue, is_flagged}
+use Rattle.dm_priced.specs.Priced.{PricedValue}
 use Rattle.dm_evaluate.specs.Evaluating.{Evaluates}
 use Rattle.dm_evaluate.specs.Marks.{MarksValue, MarksUnkept}
+use Rattle.dm_paths.specs.Flags.{AreFlags}
 
 -- rows, a path of decisions, which changes and which pairs it leaves undecided, the timetable of its relaxed problem, and marks
 pub record EvaluatorValue : Type 0 where
@@ -27,11 +28,6 @@ times_of evaluator = evaluator.priced.live.times
 abbrev pub cycle_of : EvaluatorValue → List ℕ
 cycle_of evaluator = evaluator.priced.live.order.cycle
 
--- each of the first n places has its flag, and there are no more flags
-pub record AreFlags (test : ℕ → Bool) (n : ℕ) (flags : List Bool) : Type 0 where
-  pub size : length flags ≡ n
-  pub each : (k : ℕ) → k < n → is_flagged flags k ≡ test k
-
 -- The rows are of the network, the path decides free choices, none twice, the flags are those of what it leaves undecided,
 -- the timetable evaluates it, with no time left to be computed, and what the times do not keep is marked.
 pub record IsEvaluatorOf (net : Net) (evaluator : EvaluatorValue) : Type 0 where
@@ -42,11 +38,6 @@ pub record IsEvaluatorOf (net : Net) (evaluator : EvaluatorValue) : Type 0 where
   pub evaluates : Evaluates net evaluator.rows evaluator.path evaluator.priced
   pub at_rest : IsAtRest evaluator.priced.live
   pub marked : MarksUnkept net evaluator.priced.live.given.spans (times_of evaluator) evaluator.marks
-
--- the choice is free, and the path leaves it undecided
-pub record IsOpen (net : Net) (rows : RowsValue) (path : List Decision) (choice : Choice) : Type 0 where
-  pub free : Contains (free_choices_of net rows) choice
-  pub undecided : is_decided path choice ≡ false
 
 -- the path without the decisions of a choice
 abbrev pub path_without : Choice → List Decision → List Decision

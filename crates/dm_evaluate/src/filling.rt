@@ -4,8 +4,8 @@ ghost use Rattle.dm_rows.specs.Relax.{is_relaxed_active};
 ghost use Rattle.dm_rows.specs.Rows.{IsSized};
 ghost use Rattle.dm_times.specs.Inside.Filling.{AreConstraintsHolding, HoldsTo, FloorsTo, SpansTo};
 
-use crate::free::is_bound;
 use dm_network::Network;
+use dm_paths::is_bound;
 use dm_rows::Rows;
 use dm_settle::Constraints;
 use dm_times::{floor_of, span_of};

@@ -6,7 +6,8 @@ ghost use Rattle.dm_network.specs.Net.{activity_at};
 ghost use Rattle.dm_rows.specs.Relax.{is_of_pair};
 ghost use Rattle.dm_priced.specs.Priced.{IsPriced};
 ghost use Rattle.dm_evaluate.specs.Marks.{MarksUnkept};
-ghost use Rattle.dm_evaluate.specs.Inside.Moves.{is_directed, set_where, IsAmong, IsOnly, TurnsTo, Stays, TurnsAmong, IsRefused};
+ghost use Rattle.dm_evaluate.specs.Inside.Moves.{set_where, IsAmong, IsOnly, TurnsTo, Stays, TurnsAmong, IsRefused};
+ghost use Rattle.dm_paths.specs.Decisions.{is_directed};
 
 use crate::marks::ViolationMarks;
 use dm_base::Steps;

@@ -5,7 +5,8 @@ ghost use Rattle.dm_network.specs.Held.{is_held, IsCycleOf};
 ghost use Rattle.dm_network.specs.Start.{first_event};
 ghost use Rattle.dm_priced.specs.Priced.{IsPriced};
 ghost use Rattle.dm_evaluate.specs.Marks.{MarksUnkept};
-ghost use Rattle.dm_evaluate.specs.Inside.Moves.{is_bound_by, set_where, Turns, Stays, IsOff, ReachesNet};
+ghost use Rattle.dm_evaluate.specs.Inside.Moves.{set_where, Turns, Stays, IsOff};
+ghost use Rattle.dm_paths.specs.Decisions.{is_bound_by, ReachesNet};
 
 use crate::headways::{hold_direction, release_direction};
 use crate::marks::ViolationMarks;

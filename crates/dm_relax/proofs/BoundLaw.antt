@@ -10,7 +10,7 @@ use Rattle.dm_rows.specs.Decide.{with_decisions}
 use Rattle.dm_tree.specs.Relaxed.{RelaxedCosts, relaxed_cost_of}
 use Rattle.dm_relax.specs.Complete.{completion_of}
 use Rattle.dm_relax.specs.Laws.{Holds, RelaxedCostIsABound}
-use Rattle.dm_relax.proofs.Setting.{HasDecision, DiffersInDecisions, differs_in_none, differs_with, has_each}
+use Rattle.dm_paths.proofs.Setting.{HasDecision, DiffersInDecisions, differs_in_none, differs_with, has_each}
 use Rattle.dm_relax.proofs.Bounding.{costs_no_more, relaxed_has_no_cycle}
 use Rattle.dm_relax.proofs.Completion.{completion_decides, completion_holds, completion_is_list}
 use Rattle.dm_relax.proofs.Completed.{completed_least, completed_has_no_cycle, completed_costs}

@@ -22,8 +22,8 @@ use Rattle.dm_rows.specs.Decide.{with_decisions}
 use Rattle.dm_rows.specs.Relax.{is_of_undecided, is_undecided_change, is_relaxed_active, is_relaxed_dropped}
 use Rattle.dm_rows.proofs.AsGraph.{least_to_graph, to_graph, relaxed_enter_no_passed}
 use Rattle.dm_tree.specs.Relaxed.{IsRelaxedLeast, relaxed_cost_of, HasNoRelaxedCycle}
-use Rattle.dm_relax.proofs.Setting.{DiffersInDecisions, HasDecision, differs_in_none, differs_with}
-use Rattle.dm_relax.proofs.Agreeing.{active_same, span_same, floor_same, has_passed_same, passed_same, kept_agrees, decided_change}
+use Rattle.dm_paths.proofs.Setting.{DiffersInDecisions, HasDecision, differs_in_none, differs_with}
+use Rattle.dm_paths.proofs.Agreeing.{active_same, span_same, floor_same, has_passed_same, passed_same, kept_agrees, decided_change}
 
 -- sums over places, place by place
 pub sum-le : (f g : ℕ → ℕ) (a n : ℕ) → ((i : ℕ) → a ≤ i → i < a + n → f i ≤ g i) → sum_by f (range_with_len a n) ≤ sum_by g (range_with_len a n)

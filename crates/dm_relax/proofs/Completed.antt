@@ -25,11 +25,11 @@ use Rattle.dm_tree.specs.Relaxed.{relaxed_cost_of}
 use Rattle.dm_times.proofs.Meeting.{rows_are_met}
 use Rattle.dm_relax.specs.Complete.{completed_kept, completed_small_first, completed_change, completed_pair, completion_of}
 use Rattle.dm_relax.specs.Laws.{ViolatesNothing}
-use Rattle.dm_relax.proofs.Naming.{pair_found, pair_found_back}
-use Rattle.dm_relax.proofs.Setting.{DiffersInDecisions, HasDecision, differs_in_none, differs_with, has_each, has_kept, has_first}
-use Rattle.dm_relax.proofs.Agreeing.{pair_joins, active_same, has_passed_same, passed_same, span_same, kept_agrees, decided_change}
+use Rattle.dm_paths.proofs.Naming.{pair_found, pair_found_back}
+use Rattle.dm_paths.proofs.Setting.{DiffersInDecisions, HasDecision, differs_in_none, differs_with, has_each, has_kept, has_first}
+use Rattle.dm_paths.proofs.Agreeing.{pair_joins, active_same, has_passed_same, passed_same, span_same, kept_agrees, decided_change}
 use Rattle.dm_relax.proofs.Bounding.{sum-le, if_weight, asks_no_more, costs_no_more}
-use Rattle.dm_relax.proofs.Apart.{listed}
+use Rattle.dm_paths.proofs.Apart.{listed}
 use Rattle.dm_relax.proofs.Completion.{cases_option, change_completed, pair_completed, completion_holds}
 
 -- what binds into an event that has not passed, and what that needs of a paired headway

@@ -15,10 +15,11 @@ use Rattle.dm_rows.specs.Rows.{RowsValue, IsSized, kept_at, small_first_at}
 use Rattle.dm_rows.specs.Decide.{free_choices_of, choice_of, change_choice, pair_choice, is_free_change, is_free_pair, with_decisions, IsChoiceList}
 use Rattle.dm_rows.specs.Timetable.{time_at}
 use Rattle.dm_rows.specs.Relax.{is_same_choice, is_decided, is_undecided_change, is_undecided_pair}
-use Rattle.dm_relax.specs.Complete.{change_decision, pair_decision, completed_kept, completed_small_first, completed_change, completed_pair, completion_of}
-use Rattle.dm_relax.proofs.Naming.{Names, of_change, of_pair, names, change_decides, pair_decides, same_itself}
-use Rattle.dm_relax.proofs.Setting.{HasDecision, has_each, has_kept, has_first}
-use Rattle.dm_relax.proofs.Apart.{listed, Apart, free_are_apart, choice_list_from, in_map, map_through}
+use Rattle.dm_relax.specs.Complete.{completed_kept, completed_small_first, completed_change, completed_pair, completion_of}
+use Rattle.dm_paths.specs.Decisions.{change_decision, pair_decision}
+use Rattle.dm_paths.proofs.Naming.{Names, of_change, of_pair, names, change_decides, pair_decides, same_itself}
+use Rattle.dm_paths.proofs.Setting.{HasDecision, has_each, has_kept, has_first}
+use Rattle.dm_paths.proofs.Apart.{listed, Apart, free_are_apart, choice_list_from, in_map, map_through}
 
 places_below : (test : ℕ → Bool) (n : ℕ) → All (λ i. i < n) (filter test (range_with_len 0 n))
 places_below test n =

@@ -14,9 +14,10 @@ use Rattle.dm_rows.specs.Rows.{RowsValue, kept_at, small_first_at}
 use Rattle.dm_rows.specs.Resolve.{flip_named}
 use Rattle.dm_rows.specs.Decide.{is_free_change, is_free_pair}
 use Rattle.dm_tree.specs.Plans.{is_set}
-use Rattle.dm_relax.specs.Complete.{change_decision, pair_decision, completed_change, completed_pair, completion_of, differs_from, differences_from}
+use Rattle.dm_relax.specs.Complete.{completed_change, completed_pair, completion_of, differences_from}
+use Rattle.dm_paths.specs.Decisions.{change_decision, pair_decision, differs_from}
 use Rattle.dm_relax.specs.Inside.Differing.{differing, differing_changes, differing_pairs}
-use Rattle.dm_relax.proofs.Setting.{has_kept, kept_has, has_first, first_has}
+use Rattle.dm_paths.proofs.Setting.{has_kept, kept_has, has_first, first_has}
 
 -- one place more
 pub gathers : (f : ℕ → Option Decision) (before : List Decision) (n : ℕ) (d : Decision) (items : List Decision) →

@@ -1,20 +1,19 @@
 -- What differs from the rows in a completion completes as well.
-use Rattle.std.proofs.Common.{◌≡◌, ℕ, Bool, true, false, cond, List, [], ◌∷◌, ◌++◌, length, map, IsTrue, refl, sym, ap, subst, ◌∙◌, ◌⊎◌, inl, inr, arith}
-use Rattle.std.specs.Prelude.{filter, Contains, All, not}
+use Rattle.std.proofs.Common.{◌≡◌, Bool, true, List, [], ◌∷◌, map, refl, sym, ap, subst, ◌∙◌, inl, inr, arith}
+use Rattle.std.specs.Prelude.{filter, Contains, All}
 use Rattle.std.proofs.lemmas.Bool.{cases_Bool, cond-true, cond-false, not-false}
 use Rattle.std.proofs.lemmas.List.Elements.{All-filter, All-contains, All-contains_itself, Contains-append_right, filter_passes}
-use Rattle.dm_network.specs.Net.{Net}
-use Rattle.dm_network.specs.Start.{IsNetwork}
 use Rattle.dm_rows.specs.declared.messages.Choice.{Choice}
 use Rattle.dm_rows.specs.declared.messages.Decision.{Decision}
-use Rattle.dm_rows.specs.Rows.{RowsValue, IsSized}
+use Rattle.dm_rows.specs.Rows.{RowsValue}
 use Rattle.dm_rows.specs.Resolve.{flip_named}
 use Rattle.dm_rows.specs.Decide.{free_choices_of, choice_of, with_decisions, IsChoiceList}
 use Rattle.dm_tree.specs.Plans.{AreSomeOf, is_set}
-use Rattle.dm_relax.specs.Complete.{completion_of, differs_from, differences_from}
-use Rattle.dm_relax.specs.Laws.{ViolatesNothing, DifferencesComplete}
-use Rattle.dm_relax.proofs.Naming.{names}
-use Rattle.dm_relax.proofs.Setting.{HasDecision, differs_in_none, differs_with, there_with, one_decides, in_front}
+use Rattle.dm_relax.specs.Complete.{completion_of}
+use Rattle.dm_paths.specs.Decisions.{differs_from}
+use Rattle.dm_relax.specs.Laws.{DifferencesComplete}
+use Rattle.dm_paths.proofs.Naming.{names}
+use Rattle.dm_paths.proofs.Setting.{HasDecision, differs_in_none, differs_with, there_with, one_decides, in_front}
 use Rattle.dm_relax.proofs.Completion.{completion_decides, completion_is_list}
 use Rattle.dm_relax.proofs.Completed.{completed_least, completed_has_no_cycle, completed_costs}
 

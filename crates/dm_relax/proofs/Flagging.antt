@@ -16,9 +16,9 @@ use Rattle.dm_rows.specs.Decide.{is_free_change, is_free_pair, change_choice, pa
 use Rattle.dm_rows.specs.Relax.{is_same_choice, is_decided, is_undecided_change, is_undecided_pair, is_of_pair, is_unmet_from}
 use Rattle.dm_rows.specs.Cost.{comes_too_early}
 use Rattle.dm_rows.proofs.PairEnds.{small_is_event, large_is_event}
-use Rattle.dm_relax.specs.Complete.{change_decision, pair_decision}
+use Rattle.dm_paths.specs.Decisions.{change_decision, pair_decision}
 use Rattle.dm_relax.specs.Inside.Flags.{AreFlags, change_place, pair_place, end_of, is_unmet_so_far}
-use Rattle.dm_relax.proofs.Naming.{Names, of_change, of_pair, names, same_choice, same_itself, activity_found, event_found, pair_found, pair_found_back, change_decides, pair_decides, one_change, one_pair}
+use Rattle.dm_paths.proofs.Naming.{Names, of_change, of_pair, names, same_choice, same_itself, activity_found, event_found, pair_found, pair_found_back, change_decides, pair_decides, one_change, one_pair}
 
 pub flags_set : (f g : ℕ → Bool) (n act : ℕ) (flags : List Bool) (v : Bool) → AreFlags f n flags → act < n → v ≡ g act →
     ((k : ℕ) → k < n → (k ≡ act → ⊥) → g k ≡ f k) → AreFlags g n (set flags act v)

@@ -1,8 +1,4 @@
-pub mod Naming
-pub mod Setting
-pub mod Agreeing
 pub mod Bounding
-pub mod Apart
 pub mod Completion
 pub mod Completed
 pub mod BoundLaw

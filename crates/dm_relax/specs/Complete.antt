@@ -1,25 +1,13 @@
 -- What completes the decisions of a path that leaves nothing violated.
-use Rattle.std.specs.Prelude.{ℕ, ◌++◌, nat_lt, Bool, true, false, not, List, length, map, filter, if◌then◌else◌}
+use Rattle.std.specs.Prelude.{ℕ, ◌++◌, nat_lt, Bool, true, List, length, map, filter, if◌then◌else◌}
 use Rattle.std.specs.List.{range_with_len}
-use Rattle.dm_network.specs.Net.{Net, event_at, activity_at, pair_at}
+use Rattle.dm_network.specs.Net.{Net, pair_at}
 use Rattle.dm_rows.specs.declared.messages.Decision.{Decision}
-use Rattle.dm_rows.specs.declared.messages.Decision.TheVariants.{Keep, Drop, First}
 use Rattle.dm_rows.specs.Rows.{RowsValue, kept_at, small_first_at}
-use Rattle.dm_rows.specs.Resolve.{flip_named}
 use Rattle.dm_rows.specs.Timetable.{time_at}
 use Rattle.dm_rows.specs.Decide.{is_free_change, is_free_pair, with_decisions}
 use Rattle.dm_rows.specs.Relax.{is_undecided_change, is_undecided_pair}
-use Rattle.dm_tree.specs.Plans.{is_set}
-
--- the change at a place kept or dropped
-abbrev pub change_decision : Net → ℕ → Bool → Decision
-change_decision net a true = Keep (activity_at net a).id
-change_decision net a false = Drop (activity_at net a).id
-
--- the small or the large event of the pair at a place first
-abbrev pub pair_decision : Net → ℕ → Bool → Decision
-pair_decision net p true = First (event_at net (pair_at net p).small).id (event_at net (pair_at net p).large).id
-pair_decision net p false = First (event_at net (pair_at net p).large).id (event_at net (pair_at net p).small).id
+use Rattle.dm_paths.specs.Decisions.{change_decision, differs_from, pair_decision}
 
 -- an undecided change is kept, and any other is as the path leaves it
 abbrev pub completed_kept : Net → RowsValue → List Decision → ℕ → Bool
@@ -44,10 +32,6 @@ abbrev pub completion_of : Net → RowsValue → List Decision → List ℕ → 
 completion_of net rows path x =
     map (completed_change net rows path) (filter (is_free_change net rows) (range_with_len 0 (length net.activities)))
     ++ map (completed_pair net rows path x) (filter (is_free_pair net rows) (range_with_len 0 (length net.pairs)))
-
--- the decision is not what the rows have
-abbrev pub differs_from : Net → RowsValue → Decision → Bool
-differs_from net rows d = not (is_set rows (flip_named net d))
 
 -- the decisions of a list that differ from the rows
 abbrev pub differences_from : Net → RowsValue → List Decision → List Decision

@@ -11,7 +11,8 @@ use Rattle.dm_rows.specs.Cost.{Costs, cost_of}
 use Rattle.dm_rows.specs.Decide.{IsChoiceList, free_choices_of, choice_of, with_decisions}
 use Rattle.dm_tree.specs.Relaxed.{IsRelaxedLeast, relaxed_cost_of, RelaxedCosts, HasNoRelaxedCycle, IsViolated}
 use Rattle.dm_tree.specs.Plans.{AreSomeOf}
-use Rattle.dm_relax.specs.Complete.{completion_of, differs_from, differences_from}
+use Rattle.dm_relax.specs.Complete.{completion_of, differences_from}
+use Rattle.dm_paths.specs.Decisions.{differs_from}
 
 -- a network, its rows, a path of decisions of free choices, and a choice list that holds them
 pub record Holds (net : Net) (rows : RowsValue) (path choices : List Decision) : Type 0 where

@@ -3,7 +3,8 @@ ghost use Rattle.std.specs.Prelude.{ℕ, ◌≡◌, ◌<◌, ◌++◌, length, N
 ghost use Rattle.dm_rows.specs.Rows.{IsSized};
 ghost use Rattle.dm_rows.specs.Decide.{IsChoiceList};
 ghost use Rattle.dm_relax.specs.Relaxed.{IsRelaxed};
-ghost use Rattle.dm_relax.specs.Complete.{completion_of, differences_from, completed_kept, completed_small_first, change_decision, pair_decision};
+ghost use Rattle.dm_relax.specs.Complete.{completion_of, differences_from, completed_kept, completed_small_first};
+ghost use Rattle.dm_paths.specs.Decisions.{change_decision, pair_decision};
 ghost use Rattle.dm_relax.specs.Inside.Differing.{differing_change, differing_pair, differing_changes, differing_pairs};
 
 use crate::relaxation::Relaxation;

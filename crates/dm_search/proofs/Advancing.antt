@@ -15,7 +15,7 @@ use Rattle.dm_tree.specs.Inside.Filling.{is_ordered, is_none_left, fills, visits
 use Rattle.dm_tree.specs.Inside.Assembling.{seen, GoesOn}
 use Rattle.dm_tree.proofs.Filled.{both, some_more, one_back}
 use Rattle.dm_tree.proofs.Walked.{due_after_choice, is_inner}
-use Rattle.dm_relax.proofs.Setting.{in_front}
+use Rattle.dm_paths.proofs.Setting.{in_front}
 use Rattle.dm_search.specs.Finish.{IsKnown}
 use Rattle.dm_search.specs.Inside.Searching.{AreBest, IsGoing, IsUsedUp, IsSearched, IsSplit, Stands}
 use Rattle.dm_search.proofs.Leaves.{violated_is_undecided, decides_it, path_goes_on}

@@ -18,7 +18,7 @@ use Rattle.dm_tree.specs.Plans.{Task, IsTrueInner, IsTrueCycle, IsTrueBound, IsT
 use Rattle.dm_tree.specs.Inside.Filling.{visits}
 use Rattle.dm_tree.specs.Inside.Assembling.{seen}
 use Rattle.dm_tree.proofs.Standing.{visits_below, visits_filled, stands_among}
-use Rattle.dm_relax.proofs.Setting.{in_front, differs_in_none, differs_with}
+use Rattle.dm_paths.proofs.Setting.{in_front, differs_in_none, differs_with}
 use Rattle.dm_search.specs.Finish.{IsKnown}
 use Rattle.dm_search.specs.Laws.{IsTask}
 use Rattle.dm_search.specs.Inside.Ending.{closed, carried, least_with, bound_of, is_open, mark_of, IsPlanOf}

@@ -14,7 +14,7 @@ use Rattle.dm_tree.specs.declared.forms.Node.TheVariants.{Cycle, Bound, Open}
 use Rattle.dm_tree.specs.Plans.{Task, whole_task, IsViolatedThere}
 use Rattle.dm_tree.specs.Inside.Filling.{is_ordered}
 use Rattle.dm_relax.proofs.Differing.{differences_complete}
-use Rattle.dm_relax.proofs.Naming.{from_place, ids_rise}
+use Rattle.dm_paths.proofs.Naming.{from_place, ids_rise}
 use Rattle.dm_search.specs.Steps.{HasRelaxedCycle, IsPruned, IsSolved}
 use Rattle.dm_search.specs.Inside.Walking.{IsBranchThere}
 use Rattle.dm_search.specs.Inside.Searching.{AreBest, IsSettled, IsBetter, IsSplit}

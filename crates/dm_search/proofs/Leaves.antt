@@ -22,9 +22,9 @@ use Rattle.dm_tree.specs.declared.forms.Node.TheVariants.{Inner, Cycle, Bound, O
 use Rattle.dm_tree.specs.Trees.{Shape, leaf, branch, IsProper, IsWhole, StandsAt, first_decision, second_decision}
 use Rattle.dm_tree.specs.Relaxed.{RelaxedCosts, IsRelaxedCycle, IsViolated, relaxed_cost_of}
 use Rattle.dm_tree.specs.Plans.{Task}
-use Rattle.dm_relax.proofs.Naming.{from_place, change_decides, pair_decides}
-use Rattle.dm_relax.proofs.Setting.{DiffersInDecisions, HasDecision, has_each, kept_has, first_has, in_front}
-use Rattle.dm_relax.proofs.Apart.{listed, Apart, apart_append, choice_list_from}
+use Rattle.dm_paths.proofs.Naming.{from_place, change_decides, pair_decides}
+use Rattle.dm_paths.proofs.Setting.{DiffersInDecisions, HasDecision, has_each, kept_has, first_has, in_front}
+use Rattle.dm_paths.proofs.Apart.{listed, Apart, apart_append, choice_list_from}
 use Rattle.dm_relax.proofs.Bounding.{costs_no_more, relaxed_has_no_cycle}
 use Rattle.dm_relax.proofs.Completion.{is_decided_by}
 

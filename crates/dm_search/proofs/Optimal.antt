@@ -20,9 +20,9 @@ use Rattle.dm_tree.specs.declared.forms.Node.TheVariants.{Inner, Cycle, Bound, O
 use Rattle.dm_tree.specs.declared.plans.Plan.{Plan}
 use Rattle.dm_tree.specs.Trees.{StandsAt, preorder}
 use Rattle.dm_tree.specs.Plans.{Task, whole_task, AreSomeOf, HasNoOpen, IsTruePlan, IsOptimal}
-use Rattle.dm_relax.proofs.Naming.{names}
-use Rattle.dm_relax.proofs.Setting.{HasDecision, differs_in_none, differs_with, there_with, in_front}
-use Rattle.dm_relax.proofs.Apart.{Apart, free_are_apart, apart_once, choice_list_from, in_map}
+use Rattle.dm_paths.proofs.Naming.{names}
+use Rattle.dm_paths.proofs.Setting.{HasDecision, differs_in_none, differs_with, there_with, in_front}
+use Rattle.dm_paths.proofs.Apart.{Apart, free_are_apart, apart_once, choice_list_from, in_map}
 use Rattle.dm_relax.proofs.BoundLaw.{all_from}
 use Rattle.dm_search.specs.Laws.{IsTask, CostsWithin, OptimalPlansAreOptimal}
 use Rattle.dm_search.proofs.Leaves.{IsUndecided, violated_is_undecided, Fact, apart_from_once, has_low_leaf}

@@ -15,7 +15,7 @@ use Rattle.dm_rows.specs.Relax.{is_decided, is_same_choice}
 use Rattle.dm_tree.specs.declared.forms.Node.TheVariants.{Inner, Open}
 use Rattle.dm_tree.specs.Trees.{Shape, leaf, branch, preorder, IsProper, StandsAt, first_decision, second_decision}
 use Rattle.dm_tree.specs.Plans.{Task}
-use Rattle.dm_relax.proofs.Setting.{in_front}
+use Rattle.dm_paths.proofs.Setting.{in_front}
 use Rattle.dm_relax.proofs.Completion.{is_decided_by}
 use Rattle.dm_search.proofs.Leaves.{Facts, fact_here, facts_first, facts_second, decides_it}
 

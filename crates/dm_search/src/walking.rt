@@ -1,7 +1,8 @@
 //! One step of a search by an evaluator that is brought to the path.
 ghost use Rattle.std.specs.Prelude.{◌≡◌, ◌<◌, ◌≤◌, ◌+◌, ◌-◌, ◌++◌, ◌∷◌, [], length, take, IfOk, OnOk, OnErr, MatchBool, IsTrue, ◌↔◌, IfSome};
 ghost use Rattle.dm_rows.specs.Decide.{IsChoiceList, choice_of};
-ghost use Rattle.dm_evaluate.specs.Evaluator.{IsEvaluatorOf, IsOpen, times_of};
+ghost use Rattle.dm_evaluate.specs.Evaluator.{IsEvaluatorOf, times_of};
+ghost use Rattle.dm_paths.specs.Decisions.{IsOpen};
 ghost use Rattle.dm_base.specs.declared.limits.TheConstants.{PENALTY};
 ghost use Rattle.dm_relax.specs.Relaxed.{first_violated};
 ghost use Rattle.dm_tree.specs.Relaxed.{IsViolated};

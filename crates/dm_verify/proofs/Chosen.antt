@@ -20,10 +20,10 @@ use Rattle.dm_rows.specs.Active.{HasNoCycle}
 use Rattle.dm_rows.specs.Cost.{Costs}
 use Rattle.dm_tree.specs.Plans.{AreSomeOf, DiffersFrom, CostsWith, whole_task}
 use Rattle.dm_claims.specs.Claims.{Tells}
-use Rattle.dm_verify.specs.Inside.Moves.{ReachesNet}
+use Rattle.dm_paths.specs.Decisions.{ReachesNet}
 use Rattle.dm_verify.specs.Inside.Paths.{AreFree, decides, is_next, IsLeftToChoose, AreTrueChoices}
-use Rattle.dm_verify.proofs.Naming.{same_choice, same_itself}
-use Rattle.dm_verify.proofs.Setting.{in_front}
+use Rattle.dm_paths.proofs.Naming.{same_choice, same_itself}
+use Rattle.dm_paths.proofs.Setting.{in_front}
 
 -- ---- some of the choices, in their order
 

@@ -6,9 +6,9 @@ use Rattle.std.proofs.lemmas.Bool.{cases_Bool, and_parts, and_from, or_cases, or
 use Rattle.std.proofs.lemmas.Map.Keys.{IsDistinct-cons}
 use Rattle.std.proofs.lemmas.Map.Steps.{length-le_from_distinct_below}
 use Rattle.dm_graph.specs.Arcs.{Arcs, Binds, Chain, IsCycle, HasNoCycle}
-use Rattle.dm_verify.proofs.Agreeing.{passes_one}
-use Rattle.dm_verify.proofs.Paths.{one_passes}
-use Rattle.dm_verify.proofs.Violating.{in_range, range_below}
+use Rattle.dm_paths.proofs.Agreeing.{passes_one}
+use Rattle.dm_paths.proofs.Paths.{one_passes}
+use Rattle.dm_paths.proofs.Violating.{in_range, range_below}
 
 pub record SomeCycle (g : Arcs) : Type 0 where
   pub cycle : List ℕ

@@ -4,17 +4,12 @@ use Rattle.std.specs.Prelude.{slice_set, Option, None, ◌==◌, MatchBool}
 use Rattle.std.proofs.lemmas.Bool.{cases_Bool, cases_eq, cases_lt, and_parts, and_from, cond-true, cond-false, eqb-true, both_ways, eq-eqb, ne_eqb}
 use Rattle.dm_network.specs.Net.{Net, activity_at, places_out_of}
 use Rattle.dm_rows.specs.Relax.{is_of_pair}
-use Rattle.dm_verify.specs.Inside.Flags.{is_flagged, AreSetWhere}
-use Rattle.dm_verify.specs.Inside.Moves.{is_directed, IsAmong, HasTurned}
+use Rattle.dm_verify.specs.Inside.Flags.{AreSetWhere}
+use Rattle.dm_paths.specs.Flags.{is_flagged}
+use Rattle.dm_verify.specs.Inside.Moves.{IsAmong, HasTurned}
+use Rattle.dm_paths.specs.Decisions.{is_directed}
 use Rattle.dm_verify.proofs.RowsOut.{leads_out, stands_out}
-
-pub its_pair : (p : ℕ) (o : Option ℕ) → is_of_pair p o ≡ true → o ≡ Some p
-its_pair p None h = cc
-its_pair p (Some q) h = ap (λ r. Some r) (eqb-true q p h)
-
-pub no_pair : (p : ℕ) (o : Option ℕ) → is_of_pair p o ≡ false → o ≡ Some p → ⊥
-no_pair p None h e = cc
-no_pair p (Some q) h e = let same : q ≡ p = cc in both_ways (q == p) h (eq-eqb q p same)
+use Rattle.dm_paths.proofs.Changing.{its_pair, no_pair}
 
 -- one flag that is set
 pub set_one : (flags : List Bool) (a n : ℕ) (value : Bool) → a < length flags → AreSetWhere (λ b. b == a) value n flags (slice_set flags a value)

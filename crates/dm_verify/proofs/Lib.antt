@@ -1,15 +1,5 @@
-pub mod Naming
-pub mod Setting
-pub mod Agreeing
-pub mod Apart
 pub mod RowsOut
-pub mod Paths
-pub mod Lists
-pub mod Placed
-pub mod FlipNames
 pub mod Headways
-pub mod Moving
-pub mod Decided
 pub mod Violating
 pub mod Open
 pub mod Cycles

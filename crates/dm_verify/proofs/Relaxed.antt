@@ -15,8 +15,8 @@ use Rattle.dm_rows.proofs.AsGraph.{relaxed_enter_no_passed}
 use Rattle.dm_tree.specs.Relaxed.{IsRelaxedLeast, HasNoRelaxedCycle, relaxed_cost_of}
 use Rattle.dm_verify.specs.Inside.Relaxations.{HasRelaxedCycle}
 use Rattle.dm_verify.proofs.Cycles.{cycle_or_none}
-use Rattle.dm_verify.proofs.Setting.{DiffersInDecisions, differs_in_none, differs_with}
-use Rattle.dm_verify.proofs.Agreeing.{passed_same, span_same}
+use Rattle.dm_paths.proofs.Setting.{DiffersInDecisions, differs_in_none, differs_with}
+use Rattle.dm_paths.proofs.Agreeing.{passed_same, span_same}
 
 differs_back : (rows r : RowsValue) → DiffersInDecisions rows r → DiffersInDecisions r rows
 differs_back rows r h = record {

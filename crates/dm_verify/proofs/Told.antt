@@ -23,7 +23,7 @@ use Rattle.dm_claims.specs.Claims.{Tells}
 use Rattle.dm_verify.specs.Inside.Relaxations.{HasRelaxedCycle}
 use Rattle.dm_verify.specs.Inside.Violations.{IsSomeViolated}
 use Rattle.dm_verify.specs.Inside.Visiting.{IsTrueNode, IsNextOpen, is_cycle}
-use Rattle.dm_verify.proofs.Open.{violated_is_open}
+use Rattle.dm_paths.proofs.Open.{violated_is_open}
 
 -- one timetable is least
 one_least : (net : Net) (rows : RowsValue) (held : ℕ → Bool) (x y : List ℕ) → IsLeastHolding net rows held x → IsLeastHolding net rows held y → x ≡ y

@@ -13,20 +13,21 @@ use Rattle.dm_rows.specs.Active.{has_passed}
 use Rattle.dm_rows.specs.Decide.{IsChoiceList, choice_of, free_choices_of, with_decisions}
 use Rattle.dm_rows.specs.Relax.{is_undecided_change, is_undecided_pair, is_relaxed_active, is_relaxed_dropped}
 use Rattle.dm_rows.specs.Rows.{RowsValue, IsSized, kept_at}
-use Rattle.dm_verify.specs.Inside.Flags.{AreFlags, AreSetWhere, with_change, with_pair}
-use Rattle.dm_verify.specs.Inside.Moves.{is_bound_by, is_charged_by}
-use Rattle.dm_verify.specs.Inside.Paths.{AddsDecision, IsOpen, IsFlipOf}
+use Rattle.dm_verify.specs.Inside.Flags.{AreSetWhere}
+use Rattle.dm_paths.specs.Flags.{AreFlags, with_change, with_pair}
+use Rattle.dm_paths.specs.Decisions.{is_bound_by, is_charged_by}
+use Rattle.dm_paths.specs.Decisions.{AddsDecision, IsOpen, IsFlipOf}
 use Rattle.dm_verify.specs.Inside.Timetables.{KnownValue, TimetableValue, IsKnown, IsGrownTo, MakesDue, AreWithinFlags}
 use Rattle.dm_network.specs.Held.{is_held}
 use Rattle.dm_relaxation.specs.Binding.{is_due, AreSpansOf}
 use Rattle.dm_relaxation.proofs.Marking.{mark_still}
 use Rattle.dm_relaxation.specs.KeptCosts.{KeptCostValue}
 use Rattle.dm_verify.specs.Inside.Relaxations.{RelaxationValue, IsRelaxationOf}
-use Rattle.dm_verify.proofs.Apart.{Apart, choice_list_from}
-use Rattle.dm_verify.proofs.Decided.{changes_decided, pairs_decided, changes_undecided, pairs_undecided}
-use Rattle.dm_verify.proofs.Lists.{pushed, decides_free, apart_from_once}
-use Rattle.dm_verify.proofs.Moving.{DiffersAt, set_on, set_off, held_differs, charge_differs}
-use Rattle.dm_verify.proofs.Open.{open_list}
+use Rattle.dm_paths.proofs.Apart.{Apart, choice_list_from}
+use Rattle.dm_paths.proofs.Decided.{changes_decided, pairs_decided, changes_undecided, pairs_undecided}
+use Rattle.dm_paths.proofs.Lists.{pushed, decides_free, apart_from_once}
+use Rattle.dm_paths.proofs.Changing.{DiffersAt, set_on, set_off, held_differs, charge_differs}
+use Rattle.dm_paths.proofs.Open.{open_list}
 
 flags_on : (some f g : ℕ → Bool) (n : ℕ) (before after : List Bool) → AreFlags f n before → AreSetWhere some true n before after →
     ((b : ℕ) → b < n → DiffersAt (some b) (f b) (g b)) → AreFlags g n after
@@ -152,22 +153,6 @@ none_charged net rows a = none_dropped (is_change (activity_at net a).kind) (kep
 pub no_change_charged : (net : Net) (rows : RowsValue) (path : List Decision) (a : ℕ) → is_change (activity_at net a).kind ≡ false → is_relaxed_dropped net rows path a ≡ false
 no_change_charged net rows path a other =
     ap (λ (b : Bool). (b && not (kept_at (with_decisions net rows path) a) && not (has_passed (with_decisions net rows path) (activity_at net a).head)) && not (is_undecided_change net rows path a)) other
-
--- one flag more
-pub one_flag_more : (test : ℕ → Bool) (n : ℕ) (flags more : List Bool) (v : Bool) → AreFlags test n flags → v ≡ test n → more ≡ flags ++ v ∷ [] → AreFlags test (n + 1) more
-one_flag_more test n flags more v was is more_is =
-    let size = was.size in
-    let last = length-append flags (v ∷ []) in
-    subst (AreFlags test (n + 1)) (sym more_is)
-    (record {
-      size = omega (arith, size, last);
-      each = λ k lt. elim (cases_lt k n) [
-        | inl early ↦ get_or_append_left flags (v ∷ []) false k (omega arith) ∙ was.each k early
-        | inr past ↦
-            let here : k ≡ n = omega arith in
-            get_or_push flags v false k (omega arith) ∙ is ∙ ap test (sym here)
-      ];
-    })
 
 -- flags that are set in a vector's slice
 pub over_vec : (some : ℕ → Bool) (value : Bool) (n : ℕ) (v : Vec Bool Global) (now after : List Bool) → now ≡ v.items → AreSetWhere some value n now after →

@@ -15,7 +15,7 @@ use Rattle.dm_tree.specs.declared.forms.Node.TheVariants.{Inner, Cycle, Bound, O
 use Rattle.dm_tree.specs.Trees.{choice_in, first_decision, IsOrdered}
 use Rattle.dm_tree.specs.Inside.Filling.{pending, is_first_decision, other_decision}
 use Rattle.dm_tree.proofs.Walked.{first_turned, second_left, is_inner}
-use Rattle.dm_verify.specs.Inside.Paths.{IsOpen}
+use Rattle.dm_paths.specs.Decisions.{IsOpen}
 use Rattle.dm_verify.specs.Inside.Visiting.{IsNextOpen, GoesOn}
 
 first_decides : (c : Choice) → IsOrdered c → choice_of (first_decision c) ≡ c

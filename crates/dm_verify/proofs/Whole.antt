@@ -19,7 +19,7 @@ use Rattle.dm_claims.specs.Claims.{Tells}
 use Rattle.dm_verify.specs.Inside.Leaves.{is_open, is_at, is_below, node_at, SomeNode, NoneNode}
 use Rattle.dm_verify.specs.Inside.Paths.{AreTrueChoices}
 use Rattle.dm_verify.specs.Inside.Visiting.{IsTrueNode, AreTrueNodes, IsMarked, IsToldOf}
-use Rattle.dm_verify.proofs.Setting.{in_front}
+use Rattle.dm_paths.proofs.Setting.{in_front}
 
 -- ---- nodes in preorder, and what stands at paths
 

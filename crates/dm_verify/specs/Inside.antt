@@ -1,6 +1,5 @@
 pub mod Flags
 pub mod Paths
-pub mod Places
 pub mod Moves
 pub mod Violations
 pub mod Timetables

@@ -7,12 +7,13 @@ ghost use Rattle.dm_rows.specs.Decide.{choice_of, free_choices_of, with_decision
 ghost use Rattle.dm_rows.specs.Relax.{is_same_choice};
 ghost use Rattle.dm_tree.specs.Plans.{whole_task, is_set, AreSomeOf, DiffersFrom, CostsWith};
 ghost use Rattle.dm_claims.specs.Claims.{IsRoomFor, Tells};
-ghost use Rattle.dm_verify.specs.Inside.Paths.{AreFree, differs_from, is_next};
+ghost use Rattle.dm_verify.specs.Inside.Paths.{AreFree, is_next};
+ghost use Rattle.dm_paths.specs.Decisions.{differs_from};
 
-use crate::flips::flip_of;
 use dm_base::Cost;
 use dm_claims::Evaluator;
 use dm_network::Network;
+use dm_paths::flip_of;
 use dm_relaxation::Cyclic;
 use dm_rows::{Change, Choice, Decision, Flip, Rows};
 use std::alloc::AllocError;

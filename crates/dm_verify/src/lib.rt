@@ -1,6 +1,6 @@
 //! Whether a plan is true, exactly, whatever stands in it.
 //!
-//! It stands on dm_tree for what a true plan is, on dm_relaxation for the least times of relaxed problems, and on dm_claims for
+//! It stands on dm_tree for what a true plan is, on dm_paths for paths of decisions, on dm_relaxation for the least times of relaxed problems, and on dm_claims for
 //! those of rows; on nothing that searches plans. [`is_true_plan`] tells whether a plan is a true plan of rows for so many
 //! nodes: its choices, its cost, each node of its tree in preorder by the relaxed problem of the node's path, its bound, its
 //! mark and its size. The tree is walked by a loop, and memory is linear in the network and the tree.
@@ -8,18 +8,14 @@
 
 mod beginning;
 mod choices;
-mod flips;
-mod free;
 mod known;
 mod leaves;
 mod nodes;
-mod places;
 mod plans;
 mod relaxation;
 mod rows;
 mod timetable;
 mod turning;
-mod undecided;
 mod violations;
 
 pub use plans::is_true_plan;

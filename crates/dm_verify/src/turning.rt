@@ -4,7 +4,7 @@ ghost use Rattle.dm_network.specs.Net.{activity_at};
 ghost use Rattle.dm_network.specs.Start.{first_event};
 ghost use Rattle.dm_rows.specs.Relax.{is_of_pair};
 ghost use Rattle.dm_verify.specs.Inside.Flags.{AreSetWhere};
-ghost use Rattle.dm_verify.specs.Inside.Moves.{is_directed, is_bound_by, is_charged_by, ReachesNet};
+ghost use Rattle.dm_paths.specs.Decisions.{is_directed, is_bound_by, is_charged_by, ReachesNet};
 
 use crate::rows::row_out_of;
 use dm_network::Network;

@@ -7,16 +7,16 @@ ghost use Rattle.dm_rows.specs.Rows.{IsSized};
 ghost use Rattle.dm_relaxation.specs.Binding.{AreBelowLimit};
 ghost use Rattle.dm_tree.specs.Relaxed.{IsViolated};
 ghost use Rattle.dm_claims.specs.Claims.{Tells};
-ghost use Rattle.dm_verify.specs.Inside.Flags.{AreFlags};
-ghost use Rattle.dm_verify.specs.Inside.Places.{at_place, IsWithin};
-ghost use Rattle.dm_verify.specs.Inside.Violations.{is_unmet_pair, SomeFlagged, NoneFlagged, IsSomeViolated};
+ghost use Rattle.dm_paths.specs.Flags.{AreFlags};
+ghost use Rattle.dm_paths.specs.Places.{at_place, IsWithin};
+ghost use Rattle.dm_verify.specs.Inside.Violations.{SomeFlagged, NoneFlagged, IsSomeViolated};
+ghost use Rattle.dm_paths.specs.Decisions.{is_unmet_pair};
 
-use crate::places::{Place, place_of_choice};
 use crate::rows::row_out_of;
 use crate::turning::is_headway_of;
-use crate::undecided::Undecided;
 use dm_base::Secs;
 use dm_network::Network;
+use dm_paths::{Place, Undecided, place_of_choice};
 use dm_relaxation::comes_too_early;
 use dm_rows::{Choice, Rows};
 

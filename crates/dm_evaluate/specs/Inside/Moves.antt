@@ -1,34 +1,10 @@
 -- What a decision does to a timetable that is priced.
-use Rattle.std.specs.Prelude.{ℕ, ◌≡◌, ◌==◌, ◌&&◌, ◌<◌, ◌⊎◌, Bool, true, false, List, length, Some, slice_index, if◌then◌else◌}
+use Rattle.std.specs.Prelude.{ℕ, ◌≡◌, ◌<◌, ◌⊎◌, Bool, true, false, List, length, Some, slice_index, if◌then◌else◌}
 use Rattle.dm_network.specs.Net.{Net, activity_at}
 use Rattle.dm_network.specs.Held.{is_held, IsCycleOf}
-use Rattle.dm_network.specs.Start.{first_event}
 use Rattle.dm_rows.specs.declared.messages.Flip.{Flip}
-use Rattle.dm_rows.specs.declared.messages.Flip.TheVariants.{Keep, Drop, First}
-use Rattle.dm_rows.specs.Relax.{is_of_pair}
 use Rattle.dm_priced.specs.Priced.{PricedValue, is_flagged}
-
--- the activity is a headway of the pair out of this event
-abbrev pub is_directed : Net → ℕ → ℕ → ℕ → Bool
-is_directed net p tail b = is_of_pair p (activity_at net b).pair && (activity_at net b).tail == tail
-
--- the activity is held where the decision stands, and not where its choice is undecided
-abbrev pub is_bound_by : Net → Flip → ℕ → Bool
-is_bound_by net (Keep a) b = b == a
-is_bound_by net (Drop a) b = false
-is_bound_by net (First p small) b = is_directed net p (first_event net p small) b
-
--- the activity is charged for where the decision stands, and not where its choice is undecided
-abbrev pub is_charged_by : Flip → ℕ → Bool
-is_charged_by (Keep a) b = false
-is_charged_by (Drop a) b = b == a
-is_charged_by (First p small) b = false
-
--- the activity or the pair of the decision is one of the network's
-abbrev pub ReachesNet : Net → Flip → Type 0
-ReachesNet net (Keep a) = a < length net.activities
-ReachesNet net (Drop a) = a < length net.activities
-ReachesNet net (First p small) = p < length net.pairs
+use Rattle.dm_paths.specs.Decisions.{is_bound_by, is_charged_by}
 
 -- what is held, or charged for, with these places set to a value
 abbrev pub set_where : (ℕ → Bool) → Bool → (ℕ → Bool) → ℕ → Bool

@@ -1,26 +1,22 @@
 -- What a row has shown so far, which pairs are not met, and the first violated choice from a place on.
 use Rattle.std.specs.Prelude.{ℕ, ◌≡◌, ◌+◌, ◌-◌, ◌&&◌, ◌<◌, ◌++◌, Bool, true, false, List, length, map, filter, Option, slice_get, slice_index}
 use Rattle.std.specs.List.{range_with_len}
-use Rattle.dm_network.specs.Net.{Net, activity_at, pair_at}
+use Rattle.dm_network.specs.Net.{Net, activity_at}
 use Rattle.dm_rows.specs.Cost.{comes_too_early}
 use Rattle.dm_rows.specs.declared.messages.Decision.{Decision}
 use Rattle.dm_rows.specs.declared.messages.Choice.{Choice}
 use Rattle.dm_rows.specs.Decide.{change_choice, pair_choice}
-use Rattle.dm_rows.specs.Relax.{is_of_pair, has_unmet_from, is_violated_change, is_violated_pair}
+use Rattle.dm_rows.specs.Relax.{is_of_pair, is_violated_change, is_violated_pair}
 use Rattle.dm_rows.specs.Rows.{RowsValue}
 use Rattle.dm_priced.specs.Priced.{is_flagged}
-use Rattle.dm_evaluate.specs.declared.choices.Place.{Place}
-use Rattle.dm_evaluate.specs.declared.choices.Place.TheVariants.{Change, Pair}
-use Rattle.dm_evaluate.specs.Inside.Choices.{IsPlaceOf, at_place}
+use Rattle.dm_paths.specs.declared.places.Place.{Place}
+use Rattle.dm_paths.specs.declared.places.Place.TheVariants.{Change, Pair}
+use Rattle.dm_paths.specs.Places.{IsPlaceOf, at_place}
 
 -- none of the first n activities of a row is a headway of the pair that is not met
 abbrev pub NoneUnmet : Net → RowsValue → List ℕ → ℕ → List ℕ → ℕ → Type 0
 NoneUnmet net rows x p row n =
     (k : ℕ) → k < n → (is_of_pair p (activity_at net (slice_index row k)).pair && comes_too_early net rows x (slice_index row k)) ≡ false
-
--- neither direction of the pair has all its headways met
-abbrev pub is_unmet_pair : Net → RowsValue → List ℕ → ℕ → Bool
-is_unmet_pair net rows x p = has_unmet_from net rows x p (pair_at net p).small && has_unmet_from net rows x p (pair_at net p).large
 
 -- the first violated choice among the changes from a place on and then the pairs, and among the pairs from a place on
 abbrev pub violated_from : Net → RowsValue → List Decision → List ℕ → ℕ → Option Choice

@@ -5,7 +5,8 @@ use Rattle.dm_network.specs.Net.{Net}
 use Rattle.dm_rows.specs.declared.messages.Decision.{Decision}
 use Rattle.dm_rows.specs.Rows.{RowsValue}
 use Rattle.dm_rows.specs.Decide.{is_free_change, is_free_pair}
-use Rattle.dm_relax.specs.Complete.{completed_change, completed_pair, differs_from}
+use Rattle.dm_relax.specs.Complete.{completed_change, completed_pair}
+use Rattle.dm_paths.specs.Decisions.{differs_from}
 
 -- the decision of a place that passes, where it differs
 abbrev pub differing : Net → RowsValue → Bool → Decision → Option Decision

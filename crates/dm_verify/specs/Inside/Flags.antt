@@ -2,14 +2,7 @@
 use Rattle.std.specs.Prelude.{ℕ, ◌≡◌, ◌<◌, Bool, false, List, length, slice_index_or, slice_set, if◌then◌else◌}
 use Rattle.dm_rows.specs.declared.messages.Flip.{Flip}
 use Rattle.dm_rows.specs.declared.messages.Flip.TheVariants.{Keep, Drop, First}
-
-abbrev pub is_flagged : List Bool → ℕ → Bool
-is_flagged flags k = slice_index_or flags k false
-
--- each of the first n places has its flag, and there are no more flags
-pub record AreFlags (test : ℕ → Bool) (n : ℕ) (flags : List Bool) : Type 0 where
-  pub size : length flags ≡ n
-  pub each : (k : ℕ) → k < n → is_flagged flags k ≡ test k
+use Rattle.dm_paths.specs.Flags.{is_flagged}
 
 -- the test with these places set to a value
 abbrev pub set_where : (ℕ → Bool) → Bool → (ℕ → Bool) → ℕ → Bool
@@ -19,20 +12,3 @@ set_where some value flags b = if some b then value else flags b
 pub record AreSetWhere (some : ℕ → Bool) (value : Bool) (n : ℕ) (before after : List Bool) : Type 0 where
   pub size : length after ≡ length before
   pub each : (b : ℕ) → b < n → is_flagged after b ≡ set_where some value (is_flagged before) b
-
--- there is a flag for the change, for the pair that is decided
-abbrev pub HasRoomFor : Flip → List Bool → List Bool → Type 0
-HasRoomFor (Keep a) changes pairs = a < length changes
-HasRoomFor (Drop a) changes pairs = a < length changes
-HasRoomFor (First p small) changes pairs = p < length pairs
-
--- the flags of the changes, of the pairs with that of the flip set
-abbrev pub with_change : Flip → Bool → List Bool → List Bool
-with_change (Keep a) undecided changes = slice_set changes a undecided
-with_change (Drop a) undecided changes = slice_set changes a undecided
-with_change (First p small) undecided changes = changes
-
-abbrev pub with_pair : Flip → Bool → List Bool → List Bool
-with_pair (Keep a) undecided pairs = pairs
-with_pair (Drop a) undecided pairs = pairs
-with_pair (First p small) undecided pairs = slice_set pairs p undecided

@@ -12,58 +12,11 @@ use Rattle.dm_rows.specs.Resolve.{flip_named}
 use Rattle.dm_rows.specs.Rows.{RowsValue}
 use Rattle.dm_tree.specs.Plans.{Task, AreSomeOf, DiffersFrom, CostsWith, is_set}
 
--- the change at a place kept or dropped
-abbrev pub change_decision : Net → ℕ → Bool → Decision
-change_decision net a true = KeepIt (activity_at net a).id
-change_decision net a false = DropIt (activity_at net a).id
-
--- the small or the large event of the pair at a place first
-abbrev pub pair_decision : Net → ℕ → Bool → Decision
-pair_decision net p true = FirstOf (event_at net (pair_at net p).small).id (event_at net (pair_at net p).large).id
-pair_decision net p false = FirstOf (event_at net (pair_at net p).large).id (event_at net (pair_at net p).small).id
-
--- the choice is free, and the path leaves it undecided
-pub record IsOpen (net : Net) (rows : RowsValue) (path : List Decision) (choice : Choice) : Type 0 where
-  pub free : Contains (free_choices_of net rows) choice
-  pub undecided : is_decided path choice ≡ false
-
--- the other path has the decisions of this one and one more, which decides a choice that this one does not
-pub record AddsDecision (path other : List Decision) (d : Decision) : Type 0 where
-  pub kept : (e : Decision) → Contains path e → Contains other e
-  pub added : Contains other d
-  pub only : (e : Decision) → Contains other e → Contains path e ⊎ (e ≡ d)
-  pub new : is_decided path (choice_of d) ≡ false
-
--- the choice is that of the activity, which is of this pair or of none
-abbrev pub is_of : Net → Choice → ℕ → Option ℕ → Bool
-is_of net c a None = is_same_choice c (change_choice net a)
-is_of net c a (Some p) = is_same_choice c (pair_choice net p)
-
--- the decision is one of a free change or of a free pair, at its place
-pub record IsOfChange (net : Net) (rows : RowsValue) (d : Decision) (a : ℕ) (kept : Bool) : Type 0 where
-  pub is_activity : a < length net.activities
-  pub free : is_free_change net rows a ≡ true
-  pub is : d ≡ change_decision net a kept
-
-pub record IsOfPair (net : Net) (rows : RowsValue) (d : Decision) (p : ℕ) (small : Bool) : Type 0 where
-  pub is_pair : p < length net.pairs
-  pub free : is_free_pair net rows p ≡ true
-  pub is : d ≡ pair_decision net p small
-
-abbrev pub IsFlipOf : Net → RowsValue → Decision → Flip → Type 0
-IsFlipOf net rows d (Keep a) = IsOfChange net rows d a true
-IsFlipOf net rows d (Drop a) = IsOfChange net rows d a false
-IsFlipOf net rows d (First p small) = IsOfPair net rows d p small
-
 -- ---- the choices of a plan
 
 -- each decision decides a free choice
 abbrev pub AreFree : Net → RowsValue → List Decision → Type 0
 AreFree net rows decisions = All (λ d. Contains (free_choices_of net rows) (choice_of d)) decisions
-
--- the decision is not what the rows have
-abbrev pub differs_from : Net → RowsValue → Decision → Bool
-differs_from net rows d = not (is_set rows (flip_named net d))
 
 -- the decision at a place decides the choice
 abbrev pub decides : Option Decision → Choice → Bool

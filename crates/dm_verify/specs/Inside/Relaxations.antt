@@ -8,7 +8,7 @@ use Rattle.dm_rows.specs.Rows.{RowsValue}
 use Rattle.dm_tree.specs.Relaxed.{IsRelaxedLeast, IsRelaxedCycle, HasNoRelaxedCycle}
 use Rattle.dm_relaxation.specs.Binding.{AreBelowLimit}
 use Rattle.dm_relaxation.specs.KeptCosts.{KeptCostValue, IsKeptCostOf}
-use Rattle.dm_verify.specs.Inside.Flags.{AreFlags}
+use Rattle.dm_paths.specs.Flags.{AreFlags}
 use Rattle.dm_verify.specs.Inside.Timetables.{TimetableValue, IsTimetableOf, IsGrownTo}
 
 -- a path, which changes and which pairs it leaves undecided, what its relaxed problem holds and charges for, whether

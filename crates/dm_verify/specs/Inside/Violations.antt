@@ -7,7 +7,7 @@ use Rattle.dm_rows.specs.Rows.{RowsValue}
 use Rattle.dm_rows.specs.declared.messages.Choice.{Choice}
 use Rattle.dm_rows.specs.declared.messages.Decision.{Decision}
 use Rattle.dm_tree.specs.Relaxed.{IsViolated}
-use Rattle.dm_verify.specs.Inside.Flags.{is_flagged}
+use Rattle.dm_paths.specs.Flags.{is_flagged}
 
 -- none of the first n activities of a row is a headway of the pair that is not met
 abbrev pub NoneUnmet : Net → RowsValue → List ℕ → ℕ → List ℕ → ℕ → Type 0
@@ -28,7 +28,3 @@ pub record SomeFlagged (flags : List Bool) (test : ℕ → Bool) (n : ℕ) : Typ
 pub record IsSomeViolated (net : Net) (rows : RowsValue) (path : List Decision) (x : List ℕ) : Type 0 where
   pub choice : Choice
   pub violated : IsViolated net rows path x choice
-
--- neither direction of the pair has all its headways met
-abbrev pub is_unmet_pair : Net → RowsValue → List ℕ → ℕ → Bool
-is_unmet_pair net rows x p = has_unmet_from net rows x p (pair_at net p).small && has_unmet_from net rows x p (pair_at net p).large

@@ -12,7 +12,7 @@ use Rattle.dm_tree.specs.declared.forms.Mark.TheVariants.{Optimal, Open as OpenM
 use Rattle.dm_tree.specs.Trees.{first_decision, IsOrdered}
 use Rattle.dm_tree.specs.Inside.Filling.{fills, visits, pending}
 use Rattle.dm_verify.specs.Inside.Leaves.{is_open, is_at, is_below, SomeNode, NoneNode}
-use Rattle.dm_verify.specs.Inside.Paths.{IsOpen}
+use Rattle.dm_paths.specs.Decisions.{IsOpen}
 
 -- the node at the path is true; a hole is not
 abbrev pub IsTrueNode : Task → ℕ → List Decision → Node → Type 0

@@ -1,6 +1,7 @@
 use Rattle.std.proofs.Common.{List, ℕ, true, sym, subst, ◌∙◌}
 use Rattle.dm_network.specs.Held.{is_held, IsCycleOf}
-use Rattle.dm_evaluate.specs.Inside.Moves.{is_directed, set_where}
+use Rattle.dm_evaluate.specs.Inside.Moves.{set_where}
+use Rattle.dm_paths.specs.Decisions.{is_directed}
 use Rattle.dm_evaluate.proofs.Directions.{row_below, settled_from, direction_turned, direction_stays, direction_cycle}
 use Rattle.dm_evaluate.proofs.headways.hold_direction.Goals as goal
 

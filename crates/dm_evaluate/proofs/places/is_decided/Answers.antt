@@ -5,8 +5,8 @@ use Rattle.std.proofs.lemmas.List.{get_or_default}
 use Rattle.std.proofs.lemmas.Option.{slice_get-get_or}
 use Rattle.dm_rows.specs.Decide.{choice_of}
 use Rattle.dm_rows.specs.Relax.{is_same_choice, is_decided}
-use Rattle.dm_relax.proofs.Agreeing.{passes_one}
-use Rattle.dm_evaluate.proofs.Paths.{one_passes}
+use Rattle.dm_paths.proofs.Agreeing.{passes_one}
+use Rattle.dm_paths.proofs.Paths.{one_passes}
 use Rattle.dm_evaluate.proofs.places.is_decided.Goals as goal
 
 pub returns-then-decides : goal.returns-then-decides

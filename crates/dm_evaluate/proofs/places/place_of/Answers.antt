@@ -4,7 +4,7 @@ use Rattle.std.proofs.lemmas.Bool.{both_ways}
 use Rattle.std.proofs.lemmas.Option.{slice_get-get_or}
 use Rattle.dm_rows.specs.Decide.{choice_of}
 use Rattle.dm_rows.specs.Relax.{is_same_choice}
-use Rattle.dm_relax.proofs.Agreeing.{passes_one}
+use Rattle.dm_paths.proofs.Agreeing.{passes_one}
 use Rattle.dm_evaluate.proofs.places.place_of.Goals as goal
 
 pub unreachable-requires : goal.unreachable-requires

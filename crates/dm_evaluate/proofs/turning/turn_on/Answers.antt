@@ -1,6 +1,7 @@
 use Rattle.std.proofs.Common.{ℕ, true, subst, OnErr}
 use Rattle.dm_network.specs.Held.{is_held, IsCycleOf}
-use Rattle.dm_evaluate.specs.Inside.Moves.{is_directed, set_where}
+use Rattle.dm_evaluate.specs.Inside.Moves.{set_where}
+use Rattle.dm_paths.specs.Decisions.{is_directed}
 use Rattle.dm_evaluate.proofs.turning.turn_on.Goals as goal
 
 pub returns-in-Keep-clause-cycle : goal.returns-in-Keep-clause-cycle

@@ -2,9 +2,9 @@ use Rattle.std.proofs.Common.{sym, ◌∙◌}
 use Rattle.std.proofs.lemmas.Bool.{and_from, and_parts, both_ways}
 use Rattle.dm_rows.specs.Cost.{comes_too_early}
 use Rattle.dm_priced.specs.Priced.{is_flagged}
-use Rattle.dm_evaluate.specs.Inside.Choices.{at_place}
-use Rattle.dm_evaluate.specs.Inside.Violations.{is_unmet_pair}
-use Rattle.dm_evaluate.proofs.Open.{violated_where, where_violated, not_violated}
+use Rattle.dm_paths.specs.Places.{at_place}
+use Rattle.dm_paths.specs.Decisions.{is_unmet_pair}
+use Rattle.dm_paths.proofs.Open.{violated_where, where_violated, not_violated}
 use Rattle.dm_evaluate.proofs.violations.is_violated.Goals as goal
 
 pub returns-in_default : goal.returns-in_default

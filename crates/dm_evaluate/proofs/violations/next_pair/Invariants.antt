@@ -1,5 +1,5 @@
 use Rattle.std.proofs.Common.{◌≤◌, ◌-◌, length}
-use Rattle.dm_evaluate.specs.Inside.Violations.{is_unmet_pair}
+use Rattle.dm_paths.specs.Decisions.{is_unmet_pair}
 use Rattle.dm_evaluate.specs.Inside.Marking.{Clears, NoneBetween}
 use Rattle.dm_evaluate.proofs.violations.next_pair.Given as goal
 

@@ -3,8 +3,8 @@ use Rattle.dm_network.specs.declared.parts.Activity.{Activity}
 use Rattle.dm_rows.specs.declared.messages.Choice.TheVariants as choice
 use Rattle.dm_rows.specs.Relax.{is_undecided_change}
 use Rattle.dm_priced.specs.Priced.{is_flagged}
-use Rattle.dm_evaluate.specs.declared.choices.Place.TheVariants.{Change}
-use Rattle.dm_evaluate.specs.Evaluator.{AreFlags}
+use Rattle.dm_paths.specs.declared.places.Place.TheVariants.{Change}
+use Rattle.dm_paths.specs.Flags.{AreFlags}
 use Rattle.dm_evaluate.proofs.Violating.{change_is_first, no_change_from, pairs_from_start}
 use Rattle.dm_evaluate.proofs.violations.violated_from.Goals as goal
 

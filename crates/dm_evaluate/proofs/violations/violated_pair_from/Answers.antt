@@ -2,8 +2,8 @@ use Rattle.std.proofs.Common.{◌≡◌, Bool, true, List, length, sym, ap, subs
 use Rattle.dm_rows.specs.declared.messages.Choice.{Choice}
 use Rattle.dm_rows.specs.Relax.{is_undecided_pair}
 use Rattle.dm_priced.specs.Priced.{is_flagged}
-use Rattle.dm_evaluate.specs.declared.choices.Place.TheVariants.{Pair}
-use Rattle.dm_evaluate.specs.Evaluator.{AreFlags}
+use Rattle.dm_paths.specs.declared.places.Place.TheVariants.{Pair}
+use Rattle.dm_paths.specs.Flags.{AreFlags}
 use Rattle.dm_evaluate.proofs.Violating.{pair_is_first, no_pair_from}
 use Rattle.dm_evaluate.proofs.violations.violated_pair_from.Goals as goal
 

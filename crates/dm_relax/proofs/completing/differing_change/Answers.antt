@@ -1,6 +1,7 @@
 use Rattle.std.proofs.Common.{sym, ap, ◌∙◌, Some}
 use Rattle.dm_rows.specs.Decide.{is_free_change}
-use Rattle.dm_relax.specs.Complete.{completed_kept, change_decision}
+use Rattle.dm_relax.specs.Complete.{completed_kept}
+use Rattle.dm_paths.specs.Decisions.{change_decision}
 use Rattle.dm_relax.proofs.Differences.{change_is_there, change_differs, same_flags, other_flags}
 use Rattle.dm_relax.proofs.completing.differing_change.Goals as goal
 

@@ -1,6 +1,7 @@
 use Rattle.std.proofs.Common.{sym, ap, ◌∙◌, Some}
 use Rattle.dm_rows.specs.Decide.{is_free_pair}
-use Rattle.dm_relax.specs.Complete.{completed_small_first, pair_decision}
+use Rattle.dm_relax.specs.Complete.{completed_small_first}
+use Rattle.dm_paths.specs.Decisions.{pair_decision}
 use Rattle.dm_relax.proofs.Differences.{pair_is_there, pair_differs, same_flags, other_flags}
 use Rattle.dm_relax.proofs.completing.differing_pair.Goals as goal
 

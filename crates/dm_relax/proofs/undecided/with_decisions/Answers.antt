@@ -10,7 +10,7 @@ use Rattle.dm_rows.specs.Rows.{RowsValue}
 use Rattle.dm_rows.specs.Resolve.{after_change, after_named, change_named, flip_named}
 use Rattle.dm_rows.specs.Decide.{IsChoiceList, with_decisions, free_choices_of, choice_of}
 use Rattle.dm_rows.proofs.Setting.{adopt_sets_decisions}
-use Rattle.dm_relax.proofs.Naming.{Names, of_change, of_pair, names, change_flips, pair_flips}
+use Rattle.dm_paths.proofs.Naming.{Names, of_change, of_pair, names, change_flips, pair_flips}
 use Rattle.dm_relax.proofs.undecided.with_decisions.Goals as goal
 
 named_is_some : (net : Net) → IsNetwork net → (rows : RowsValue) (d : Decision) → Names net rows d → IsSome (flip_named net d)

@@ -1,6 +1,6 @@
 use Rattle.std.proofs.Common.{sym, ap, ◌∙◌, inl, inr, length, ◌<◌, arith}
 use Rattle.dm_network.specs.declared.parts.Activity.{Activity}
-use Rattle.dm_relax.proofs.Agreeing.{pair_joins}
+use Rattle.dm_paths.proofs.Agreeing.{pair_joins}
 use Rattle.dm_relax.proofs.Flagging.{unmet_marked, unmet_of_its_pair, unmet_of_no_pair}
 use Rattle.dm_relax.proofs.unmet.unmet_from.Goals as goal
 use Rattle.dm_relax.proofs.unmet.unmet_from.Goals.{in-Some+then-goes_out_of+then-comes_too_early, in-Some+else-goes_out_of, else-goes_out_of-via-then-goes_out_of+else-comes_too_early, else-goes_out_of-via-else-goes_out_of, in_default}

@@ -1,4 +1,4 @@
-use Rattle.dm_evaluate.proofs.Lists.{decides_free, pushed}
+use Rattle.dm_paths.proofs.Lists.{decides_free, pushed}
 use Rattle.dm_search.proofs.walking.decide_with.Goals as goal
 
 pub decide-requires-clause-open : goal.decide-requires-clause-open

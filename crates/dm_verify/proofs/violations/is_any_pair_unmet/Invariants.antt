@@ -1,4 +1,5 @@
-use Rattle.dm_verify.specs.Inside.Violations.{NoneFlagged, is_unmet_pair}
+use Rattle.dm_verify.specs.Inside.Violations.{NoneFlagged}
+use Rattle.dm_paths.specs.Decisions.{is_unmet_pair}
 use Rattle.dm_verify.proofs.violations.is_any_pair_unmet.Given as goal
 
 abbrev pub invariant-loop-p : goal.invariant-loop-p

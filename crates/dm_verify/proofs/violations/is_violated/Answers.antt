@@ -1,10 +1,10 @@
 use Rattle.std.proofs.Common.{sym, ◌∙◌}
 use Rattle.std.proofs.lemmas.Bool.{and_from, and_parts, both_ways}
 use Rattle.dm_rows.specs.Cost.{comes_too_early}
-use Rattle.dm_verify.specs.Inside.Flags.{is_flagged}
-use Rattle.dm_verify.specs.Inside.Places.{at_place}
-use Rattle.dm_verify.specs.Inside.Violations.{is_unmet_pair}
-use Rattle.dm_verify.proofs.Open.{violated_where, where_violated, not_violated}
+use Rattle.dm_paths.specs.Flags.{is_flagged}
+use Rattle.dm_paths.specs.Places.{at_place}
+use Rattle.dm_paths.specs.Decisions.{is_unmet_pair}
+use Rattle.dm_paths.proofs.Open.{violated_where, where_violated, not_violated}
 use Rattle.dm_verify.proofs.violations.is_violated.Goals as goal
 
 pub returns-in_default : goal.returns-in_default

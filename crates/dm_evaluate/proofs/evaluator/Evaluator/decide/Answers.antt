@@ -1,8 +1,9 @@
 use Rattle.std.proofs.Common.{◌∷◌, [], ◌++◌, sym, ap, subst, ◌∙◌, arith}
 use Rattle.dm_rows.specs.Decide.{choice_of}
 use Rattle.dm_tree.specs.Relaxed.{HasNoRelaxedCycle, IsRelaxedCycle}
-use Rattle.dm_evaluate.specs.Evaluator.{EvaluatorValue, IsEvaluatorOf, IsOpen, times_of}
-use Rattle.dm_evaluate.proofs.Open.{open_list}
+use Rattle.dm_evaluate.specs.Evaluator.{EvaluatorValue, IsEvaluatorOf, times_of}
+use Rattle.dm_paths.specs.Decisions.{IsOpen}
+use Rattle.dm_paths.proofs.Open.{open_list}
 use Rattle.dm_evaluate.proofs.Decided.{evaluator_least, evaluator_no_cycle, decide_off, decide_room, decide_cycle, decide_is, refused_is, refused_times}
 use Rattle.dm_evaluate.proofs.evaluator.Evaluator.decide.Goals as goal
 

@@ -1,8 +1,9 @@
 use Rattle.std.proofs.Common.{◌≡◌, sym, subst, ◌∙◌}
 use Rattle.dm_rows.specs.Relax.{is_undecided_change, is_undecided_pair}
-use Rattle.dm_evaluate.specs.Evaluator.{EvaluatorValue, IsEvaluatorOf, IsOpen}
-use Rattle.dm_evaluate.specs.Inside.Choices.{at_place}
-use Rattle.dm_evaluate.proofs.Open.{open_where_flagged, flagged_where_open, not_open, flag_is}
+use Rattle.dm_evaluate.specs.Evaluator.{EvaluatorValue, IsEvaluatorOf}
+use Rattle.dm_paths.specs.Decisions.{IsOpen}
+use Rattle.dm_paths.specs.Places.{at_place}
+use Rattle.dm_paths.proofs.Open.{open_where_flagged, flagged_where_open, not_open, flag_is}
 use Rattle.dm_evaluate.proofs.evaluator.Evaluator.is_open.Goals as goal
 
 pub returns-in-Some : goal.returns-in-Some

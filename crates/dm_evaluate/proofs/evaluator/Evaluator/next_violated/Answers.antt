@@ -2,9 +2,10 @@ use Rattle.std.proofs.Common.{◌≡◌, ℕ, List, length, sym, ap, subst, ◌�
 use Rattle.std.specs.Prelude.{IfSome}
 use Rattle.dm_live.specs.Live.{LiveValue}
 use Rattle.dm_rows.specs.Cost.{comes_too_early}
-use Rattle.dm_evaluate.specs.Evaluator.{EvaluatorValue, IsEvaluatorOf, IsOpen, IsNextViolated, times_of}
+use Rattle.dm_evaluate.specs.Evaluator.{EvaluatorValue, IsEvaluatorOf, IsNextViolated, times_of}
+use Rattle.dm_paths.specs.Decisions.{IsOpen}
 use Rattle.dm_evaluate.specs.Inside.Marking.{AreMarksOf, Clears}
-use Rattle.dm_evaluate.specs.Inside.Violations.{is_unmet_pair}
+use Rattle.dm_paths.specs.Decisions.{is_unmet_pair}
 use Rattle.dm_evaluate.proofs.Open.{behind_place, none_behind, flagged_is_open}
 use Rattle.dm_evaluate.proofs.Unkept.{marks_of_changes, marks_of_pairs, cleared_is}
 use Rattle.dm_evaluate.proofs.evaluator.Evaluator.next_violated.Goals as goal

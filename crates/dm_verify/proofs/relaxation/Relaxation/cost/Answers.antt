@@ -5,7 +5,7 @@ use Rattle.dm_rows.specs.Cost.{cost_charging}
 use Rattle.dm_rows.specs.Relax.{is_relaxed_dropped}
 use Rattle.dm_relaxation.specs.Binding.{AreFlags}
 use Rattle.dm_tree.specs.Relaxed.{relaxed_cost_of}
-use Rattle.dm_verify.specs.Inside.Flags.{is_flagged}
+use Rattle.dm_paths.specs.Flags.{is_flagged}
 use Rattle.dm_verify.specs.Inside.Relaxations.{RelaxationValue, IsRelaxationOf, IsSolved, times_of}
 use Rattle.dm_verify.proofs.Relaxed.{relaxed_cost}
 use Rattle.dm_verify.proofs.Turned.{no_change_charged}

@@ -1,9 +1,9 @@
 use Rattle.std.proofs.Common.{[], ◌∷◌, ◌++◌, true, false, length, sym, subst}
 use Rattle.std.specs.Vec.{with_items}
 use Rattle.dm_rows.specs.Decide.{choice_of}
-use Rattle.dm_verify.specs.Inside.Flags.{with_change, with_pair}
-use Rattle.dm_verify.specs.Inside.Moves.{is_bound_by, is_charged_by}
-use Rattle.dm_verify.specs.Inside.Paths.{IsOpen}
+use Rattle.dm_paths.specs.Flags.{with_change, with_pair}
+use Rattle.dm_paths.specs.Decisions.{is_bound_by, is_charged_by}
+use Rattle.dm_paths.specs.Decisions.{IsOpen}
 use Rattle.dm_verify.specs.Inside.Relaxations.{RelaxationValue, IsRelaxationOf}
 use Rattle.dm_verify.proofs.Turned.{decided, over_vec, moved}
 use Rattle.dm_verify.proofs.relaxation.Relaxation.decide.Goals as goal

@@ -3,7 +3,7 @@ use Rattle.std.specs.Prelude.{OnErr}
 use Rattle.dm_rows.specs.Relax.{is_relaxed_active}
 use Rattle.dm_relaxation.specs.Binding.{AreFlags}
 use Rattle.dm_rows.specs.declared.messages.Decision.{Decision}
-use Rattle.dm_verify.specs.Inside.Flags.{is_flagged}
+use Rattle.dm_paths.specs.Flags.{is_flagged}
 use Rattle.dm_verify.specs.Inside.Timetables.{IsGrownTo}
 use Rattle.dm_verify.proofs.Turned.{all_held}
 use Rattle.dm_verify.specs.Inside.Relaxations.{RelaxationValue, IsRelaxationOf, HasRelaxedCycle}

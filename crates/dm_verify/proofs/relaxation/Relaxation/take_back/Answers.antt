@@ -1,8 +1,8 @@
 use Rattle.std.proofs.Common.{[], ◌∷◌, ◌++◌, ◌≡◌, true, false, length, refl, sym, subst, rules}
 use Rattle.std.specs.Vec.{with_items}
 use Rattle.dm_rows.specs.Decide.{IsChoiceList}
-use Rattle.dm_verify.specs.Inside.Flags.{with_change, with_pair}
-use Rattle.dm_verify.specs.Inside.Moves.{is_bound_by, is_charged_by}
+use Rattle.dm_paths.specs.Flags.{with_change, with_pair}
+use Rattle.dm_paths.specs.Decisions.{is_bound_by, is_charged_by}
 use Rattle.dm_verify.specs.Inside.Relaxations.{RelaxationValue, IsRelaxationOf}
 use Rattle.dm_verify.proofs.Turned.{taken_back, last_is_open, over_vec, moved}
 use Rattle.dm_verify.proofs.relaxation.Relaxation.take_back.Goals as goal

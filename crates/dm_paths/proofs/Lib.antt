@@ -1,0 +1,13 @@
+pub mod Naming
+pub mod Setting
+pub mod Agreeing
+pub mod Apart
+pub mod Paths
+pub mod Lists
+pub mod Placed
+pub mod FlipNames
+pub mod Changing
+pub mod Decided
+pub mod Violating
+pub mod Open
+pub mod Flagged

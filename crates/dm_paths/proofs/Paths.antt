@@ -1,0 +1,303 @@
+-- What binds and what is charged for in the relaxed problems of two paths of which the second has one decision more.
+use Rattle.std.proofs.Common.{◌≡◌, ℕ, ◌<◌, Bool, true, false, List, [], ◌∷◌, length, Option, Some, None, refl, sym, ap, subst, ◌∙◌, inl, inr, arith}
+use Rattle.std.specs.Prelude.{Contains, not, ◌&&◌, ◌==◌}
+use Rattle.std.specs.List.{list_any}
+use Rattle.std.proofs.lemmas.Bool.{cases_Bool, not-true, not_from_true, not_from_false, and_from, and_parts, and_right, or_left, or_right, cond-true, cond-false, both_ways, false_from_ne_true}
+use Rattle.dm_base.specs.declared.rows.ActKind.{ActKind}
+use Rattle.dm_base.specs.declared.rows.ActKind.TheVariants.{Drive, Wait, Turnaround, Change, Headway}
+use Rattle.dm_network.specs.Net.{Net, activity_at, pair_at, is_change, is_headway}
+use Rattle.dm_network.specs.Start.{IsNetwork, first_event}
+use Rattle.dm_rows.specs.declared.messages.Decision.{Decision}
+use Rattle.dm_rows.specs.declared.messages.Choice.{Choice}
+use Rattle.dm_rows.specs.Rows.{RowsValue, IsSized, kept_at, small_first_at}
+use Rattle.dm_rows.specs.Active.{has_passed, is_active, binds}
+use Rattle.dm_rows.specs.Cost.{is_dropped_change}
+use Rattle.dm_rows.specs.Decide.{IsChoiceList, is_free_change, is_free_pair, change_choice, pair_choice, choice_of, with_decisions}
+use Rattle.dm_rows.specs.Relax.{is_same_choice, is_decided, is_undecided_change, is_undecided_pair, is_of_undecided, is_relaxed_active, is_relaxed_dropped}
+use Rattle.dm_paths.proofs.Naming.{same_choice, same_itself, change_decides, pair_decides, one_change, one_pair}
+use Rattle.dm_paths.proofs.Setting.{DiffersInDecisions, HasDecision, differs_in_none, differs_with, has_each, has_kept, has_first, in_front}
+use Rattle.dm_paths.proofs.Agreeing.{passes_one, PairJoins, pair_joins, change_has_no_pair, has_passed_same, active_same, kept_agrees, decided_change}
+use Rattle.dm_paths.specs.Decisions.{AddsDecision, is_of, IsOfChange, IsOfPair}
+
+-- what one element of a list passes, some element passes
+pub one_passes : {X : Type 0} (p : X → Bool) (xs : List X) (x : X) → Contains xs x → p x ≡ true → list_any p xs ≡ true
+one_passes p [] x h is = absurd (omega (arith, h.1))
+one_passes p (y ∷ xs) x h is =
+    elim (in_front y x xs h) [
+      | inl here ↦ or_left (p y) (list_any p xs) (ap p here ∙ is)
+      | inr later ↦ or_right (p y) (list_any p xs) (one_passes p xs x later is)
+    ]
+
+-- tests that pass together are the same
+pub alike : (b c : Bool) → (b ≡ true → c ≡ true) → (c ≡ true → b ≡ true) → b ≡ c
+alike true c f g = sym (f refl)
+alike false true f g = g refl
+alike false false f g = refl
+
+module _ (path other : List Decision) (d : Decision) (adds : AddsDecision path other d) where
+  pub decided_same : (c : Choice) → is_same_choice (choice_of d) c ≡ false → is_decided other c ≡ is_decided path c
+  decided_same c apart =
+      alike (is_decided other c) (is_decided path c)
+      (λ h.
+      let one = passes_one (λ e. is_same_choice (choice_of e) c) other h in
+      elim (adds.only one.0 one.1) [
+        | inl there ↦ one_passes (λ e. is_same_choice (choice_of e) c) path one.0 there one.2
+        | inr is ↦ absurd (both_ways (is_same_choice (choice_of d) c) apart (subst (λ e. is_same_choice (choice_of e) c ≡ true) is one.2))
+      ])
+      (λ h.
+      let one = passes_one (λ e. is_same_choice (choice_of e) c) path h in
+      one_passes (λ e. is_same_choice (choice_of e) c) other one.0 (adds.kept one.0 one.1) one.2)
+
+  pub decided_here : (c : Choice) → choice_of d ≡ c → is_decided other c ≡ true
+  decided_here c is =
+      one_passes (λ e. is_same_choice (choice_of e) c) other d adds.added
+      (ap (λ e. is_same_choice e c) is ∙ same_itself c)
+
+  pub undecided_before : (c : Choice) → choice_of d ≡ c → is_decided path c ≡ false
+  undecided_before c is = subst (λ e. is_decided path e ≡ false) is adds.new
+
+three : (c k p : Bool) → (c && p) ≡ false → (c && k && p) ≡ false
+three true true p h = h
+three true false p h = refl
+three false k p h = refl
+
+change_kind : (k : ActKind) → is_change k ≡ true → k ≡ Change
+change_kind Drive h = cc
+change_kind Wait h = cc
+change_kind Turnaround h = cc
+change_kind Change h = refl
+change_kind Headway h = cc
+
+headway_kind : (k : ActKind) → is_headway k ≡ true → k ≡ Headway
+headway_kind Drive h = cc
+headway_kind Wait h = cc
+headway_kind Turnaround h = cc
+headway_kind Change h = cc
+headway_kind Headway h = refl
+
+headway_is_no_change : (k : ActKind) → is_headway k ≡ true → is_change k ≡ false
+headway_is_no_change Drive h = cc
+headway_is_no_change Wait h = cc
+headway_is_no_change Turnaround h = cc
+headway_is_no_change Change h = cc
+headway_is_no_change Headway h = refl
+
+module _ (net : Net) (network : IsNetwork net) (rows : RowsValue) (sized : IsSized net rows) (path other : List Decision)
+    (list : IsChoiceList net rows path) (other_list : IsChoiceList net rows other) (d : Decision) (adds : AddsDecision path other d) where
+  over : (ds : List Decision) → DiffersInDecisions rows (with_decisions net rows ds)
+  over ds = differs_with net rows rows ds (differs_in_none rows)
+
+  has_p : (e : Decision) → Contains path e → HasDecision net (with_decisions net rows path) e
+  has_p e h = has_each net network rows sized path list e h
+
+  has_o : (e : Decision) → Contains path e → HasDecision net (with_decisions net rows other) e
+  has_o e h = has_each net network rows sized other other_list e (adds.kept e h)
+
+  pub undecided_change_same : (a : ℕ) → is_same_choice (choice_of d) (change_choice net a) ≡ false →
+      is_undecided_change net rows other a ≡ is_undecided_change net rows path a
+  undecided_change_same a apart =
+      ap (λ b. is_free_change net rows a && not b) (decided_same path other d adds (change_choice net a) apart)
+
+  pub undecided_pair_same : (p : ℕ) → is_same_choice (choice_of d) (pair_choice net p) ≡ false →
+      is_undecided_pair net rows other p ≡ is_undecided_pair net rows path p
+  undecided_pair_same p apart =
+      ap (λ b. is_free_pair net rows p && not b) (decided_same path other d adds (pair_choice net p) apart)
+
+  of_undecided_same : (a : ℕ) (o : Option ℕ) → is_of net (choice_of d) a o ≡ false →
+      is_of_undecided net rows other a o ≡ is_of_undecided net rows path a o
+  of_undecided_same a None apart = undecided_change_same a apart
+  of_undecided_same a (Some p) apart = undecided_pair_same p apart
+
+  -- what is not of the decision's choice binds in both or in neither
+  pub relaxed_same : (a : ℕ) → a < length net.activities → is_of net (choice_of d) a (activity_at net a).pair ≡ false →
+      is_relaxed_active net rows other a ≡ is_relaxed_active net rows path a
+  relaxed_same a below apart =
+      let u : Bool = is_of_undecided net rows path a (activity_at net a).pair in
+      let v : Bool = is_of_undecided net rows other a (activity_at net a).pair in
+      let ap_ : Bool = is_active net (with_decisions net rows path) a in
+      let ao : Bool = is_active net (with_decisions net rows other) a in
+      let same : v ≡ u = of_undecided_same a (activity_at net a).pair apart in
+      elim (cases_Bool u) [
+        | inl t ↦ cond-true v false ao (same ∙ t) ∙ sym (cond-true u false ap_ t)
+        | inr f ↦
+            cond-false v false ao (same ∙ f)
+            ∙ sym (active_same net network rows path (with_decisions net rows path) (with_decisions net rows other) (over path) (over other) has_p has_o a below f)
+            ∙ sym (cond-false u false ap_ f)
+      ]
+
+  -- and is charged for in both or in neither
+  pub dropped_same : (a : ℕ) → a < length net.activities → is_same_choice (choice_of d) (change_choice net a) ≡ false →
+      is_relaxed_dropped net rows other a ≡ is_relaxed_dropped net rows path a
+  dropped_same a below apart =
+      let act = activity_at net a in
+      let q : RowsValue = with_decisions net rows path in
+      let s : RowsValue = with_decisions net rows other in
+      let change : Bool = is_change act.kind in
+      let u : Bool = is_undecided_change net rows path a in
+      let v : Bool = is_undecided_change net rows other a in
+      let same : v ≡ u = undecided_change_same a apart in
+      let pq : has_passed q act.head ≡ has_passed rows act.head = has_passed_same rows q (over path) act.head in
+      let ps : has_passed s act.head ≡ has_passed rows act.head = has_passed_same rows s (over other) act.head in
+      let dq : Bool = is_dropped_change net q a in
+      let ds : Bool = is_dropped_change net s a in
+      let dropped : ds ≡ dq → (ds && not v) ≡ (dq && not u) = λ e. ap (λ b. b && not v) e ∙ ap (λ b. dq && not b) same in
+      elim (cases_Bool u) [
+        | inl t ↦ and_right ds (not v) (not_from_true v (same ∙ t)) ∙ sym (and_right dq (not u) (not_from_true u t))
+        | inr f ↦ elim (cases_Bool (is_free_change net rows a)) [
+          | inl free ↦
+              let decided = decided_change net network rows path q s (over path) (over other) has_p has_o a free f in
+              let kept : kept_at q a ≡ kept_at s a = kept_agrees net network rows path q s (over path) (over other) has_p has_o a below decided in
+              dropped (ap (λ k. change && not k && not (has_passed s act.head)) (sym kept) ∙ ap (λ p. change && not (kept_at q a) && not p) (ps ∙ sym pq))
+          | inr fixed ↦
+              dropped (three change (not (kept_at s a)) (not (has_passed s act.head)) (ap (λ p. change && not p) ps ∙ fixed)
+              ∙ sym (three change (not (kept_at q a)) (not (has_passed q act.head)) (ap (λ p. change && not p) pq ∙ fixed)))
+        ]
+      ]
+
+  -- the decision of a change
+  module _ (a : ℕ) (kept : Bool) (is : IsOfChange net rows d a kept) where
+    pub decides_change : choice_of d ≡ change_choice net a
+    decides_change = ap choice_of is.is ∙ change_decides net network a kept
+
+    no_pair : (activity_at net a).pair ≡ None
+    no_pair = change_has_no_pair net network a is.is_activity (and_parts (is_change (activity_at net a).kind) (not (has_passed rows (activity_at net a).head)) is.free).0
+
+    head_free : has_passed rows (activity_at net a).head ≡ false
+    head_free = not-true (has_passed rows (activity_at net a).head) (and_parts (is_change (activity_at net a).kind) (not (has_passed rows (activity_at net a).head)) is.free).1
+
+    kind_is : (activity_at net a).kind ≡ Change
+    kind_is = change_kind (activity_at net a).kind (and_parts (is_change (activity_at net a).kind) (not (has_passed rows (activity_at net a).head)) is.free).0
+
+    pub change_undecided_before : is_undecided_change net rows path a ≡ true
+    change_undecided_before =
+        and_from (is_free_change net rows a) (not (is_decided path (change_choice net a))) is.free
+        (not_from_false (is_decided path (change_choice net a)) (undecided_before path other d adds (change_choice net a) decides_change))
+
+    pub change_decided_after : is_undecided_change net rows other a ≡ false
+    change_decided_after =
+        and_right (is_free_change net rows a) (not (is_decided other (change_choice net a)))
+        (not_from_true (is_decided other (change_choice net a)) (decided_here path other d adds (change_choice net a) decides_change))
+
+    pub change_apart : (b : ℕ) → b < length net.activities → (b ≡ a → ⊥) → is_same_choice (choice_of d) (change_choice net b) ≡ false
+    change_apart b below other_one =
+        false_from_ne_true (is_same_choice (choice_of d) (change_choice net b))
+        (λ h. other_one (sym (one_change net network a b is.is_activity below (sym decides_change ∙ same_choice (choice_of d) (change_choice net b) h))))
+
+    of_change : (b : ℕ) (o : Option ℕ) → b < length net.activities → (b ≡ a → ⊥) → is_of net (choice_of d) b o ≡ false
+    of_change b None below other_one = change_apart b below other_one
+    of_change b (Some p) below other_one = ap (λ c. is_same_choice c (pair_choice net p)) decides_change
+
+    pub change_not_of : (b : ℕ) → b < length net.activities → (b ≡ a → ⊥) → is_of net (choice_of d) b (activity_at net b).pair ≡ false
+    change_not_of b below other_one = of_change b (activity_at net b).pair below other_one
+
+    pub change_no_pair : (p : ℕ) → is_same_choice (choice_of d) (pair_choice net p) ≡ false
+    change_no_pair p = ap (λ c. is_same_choice c (pair_choice net p)) decides_change
+
+    pub change_bound_before : is_relaxed_active net rows path a ≡ false
+    change_bound_before =
+        cond-true (is_of_undecided net rows path a (activity_at net a).pair) false (is_active net (with_decisions net rows path) a)
+        (ap (is_of_undecided net rows path a) no_pair ∙ change_undecided_before)
+
+    pub change_dropped_before : is_relaxed_dropped net rows path a ≡ false
+    change_dropped_before =
+        and_right (is_dropped_change net (with_decisions net rows path) a) (not (is_undecided_change net rows path a))
+        (not_from_true (is_undecided_change net rows path a) change_undecided_before)
+
+    kept_is : kept_at (with_decisions net rows other) a ≡ kept
+    kept_is =
+        has_kept net network (with_decisions net rows other) a kept is.is_activity
+        (subst (HasDecision net (with_decisions net rows other)) is.is (has_each net network rows sized other other_list d adds.added))
+
+    pub change_binds : is_relaxed_active net rows other a ≡ kept
+    change_binds =
+        let s : RowsValue = with_decisions net rows other in
+        let act = activity_at net a in
+        cond-false (is_of_undecided net rows other a act.pair) false (is_active net s a)
+        (ap (is_of_undecided net rows other a) no_pair ∙ change_decided_after)
+        ∙ cond-false (has_passed s act.head) false (binds net s act.kind act.pair act.tail a) (has_passed_same rows s (over other) act.head ∙ head_free)
+        ∙ ap (λ k. binds net s k act.pair act.tail a) kind_is
+        ∙ kept_is
+
+    pub change_dropped : is_relaxed_dropped net rows other a ≡ not kept
+    change_dropped =
+        let s : RowsValue = with_decisions net rows other in
+        let act = activity_at net a in
+        ap (λ b. is_dropped_change net s a && not b) change_decided_after
+        ∙ and_true (is_dropped_change net s a)
+        ∙ ap (λ k. is_change k && not (kept_at s a) && not (has_passed s act.head)) kind_is
+        ∙ ap (λ k. not k && not (has_passed s act.head)) kept_is
+        ∙ ap (λ p. not kept && not p) (has_passed_same rows s (over other) act.head ∙ head_free)
+        ∙ and_true (not kept)
+      where
+        and_true : (b : Bool) → (b && true) ≡ b
+        and_true true = refl
+        and_true false = refl
+
+  -- the decision of a pair
+  module _ (p : ℕ) (small : Bool) (is : IsOfPair net rows d p small) where
+    pub decides_pair : choice_of d ≡ pair_choice net p
+    decides_pair = ap choice_of is.is ∙ pair_decides net network p small is.is_pair
+
+    pub pair_undecided_before : is_undecided_pair net rows path p ≡ true
+    pair_undecided_before =
+        and_from (is_free_pair net rows p) (not (is_decided path (pair_choice net p))) is.free
+        (not_from_false (is_decided path (pair_choice net p)) (undecided_before path other d adds (pair_choice net p) decides_pair))
+
+    pub pair_decided_after : is_undecided_pair net rows other p ≡ false
+    pair_decided_after =
+        and_right (is_free_pair net rows p) (not (is_decided other (pair_choice net p)))
+        (not_from_true (is_decided other (pair_choice net p)) (decided_here path other d adds (pair_choice net p) decides_pair))
+
+    pub pair_apart : (q : ℕ) → q < length net.pairs → (q ≡ p → ⊥) → is_same_choice (choice_of d) (pair_choice net q) ≡ false
+    pair_apart q below other_one =
+        false_from_ne_true (is_same_choice (choice_of d) (pair_choice net q))
+        (λ h. other_one (sym (one_pair net network p q is.is_pair below (sym decides_pair ∙ same_choice (choice_of d) (pair_choice net q) h))))
+
+    pub pair_no_change : (b : ℕ) → is_same_choice (choice_of d) (change_choice net b) ≡ false
+    pair_no_change b = ap (λ c. is_same_choice c (change_choice net b)) decides_pair
+
+    of_pair : (b : ℕ) (o : Option ℕ) → ((q : ℕ) → o ≡ Some q → q < length net.pairs) → (o ≡ Some p → ⊥) → is_of net (choice_of d) b o ≡ false
+    of_pair b None below other_one = pair_no_change b
+    of_pair b (Some q) below other_one = pair_apart q (below q refl) (λ e. other_one (ap (λ r. Some r) e))
+
+    pub pair_not_of : (b : ℕ) → b < length net.activities → ((activity_at net b).pair ≡ Some p → ⊥) → is_of net (choice_of d) b (activity_at net b).pair ≡ false
+    pair_not_of b below other_one =
+        of_pair b (activity_at net b).pair (λ q e. (pair_joins net network b q below e).is_pair) other_one
+
+    module _ (b : ℕ) (below : b < length net.activities) (its : (activity_at net b).pair ≡ Some p) where
+      pub pair_bound_before : is_relaxed_active net rows path b ≡ false
+      pair_bound_before =
+          cond-true (is_of_undecided net rows path b (activity_at net b).pair) false (is_active net (with_decisions net rows path) b)
+          (ap (is_of_undecided net rows path b) its ∙ pair_undecided_before)
+
+      joins : PairJoins net b p
+      joins = pair_joins net network b p below its
+
+      frees : (has_passed rows (pair_at net p).small ≡ false) × (has_passed rows (pair_at net p).large ≡ false)
+      frees =
+          let both = and_parts (not (has_passed rows (pair_at net p).small)) (not (has_passed rows (pair_at net p).large)) is.free in
+          (not-true (has_passed rows (pair_at net p).small) both.0, not-true (has_passed rows (pair_at net p).large) both.1)
+
+      ends_free : (has_passed rows (activity_at net b).tail ≡ false) × (has_passed rows (activity_at net b).head ≡ false)
+      ends_free =
+          elim joins.ends [
+            | inl e ↦ (ap (has_passed rows) (sym e.0) ∙ frees.0, ap (has_passed rows) (sym e.1) ∙ frees.1)
+            | inr e ↦ (ap (has_passed rows) (sym e.1) ∙ frees.1, ap (has_passed rows) (sym e.0) ∙ frees.0)
+          ]
+
+      first_is : small_first_at (with_decisions net rows other) p ≡ small
+      first_is =
+          has_first net network (with_decisions net rows other) p small is.is_pair
+          (subst (HasDecision net (with_decisions net rows other)) is.is (has_each net network rows sized other other_list d adds.added))
+
+      pub pair_binds : is_relaxed_active net rows other b ≡ ((activity_at net b).tail == first_event net p small)
+      pair_binds =
+          let s : RowsValue = with_decisions net rows other in
+          let act = activity_at net b in
+          cond-false (is_of_undecided net rows other b act.pair) false (is_active net s b)
+          (ap (is_of_undecided net rows other b) its ∙ pair_decided_after)
+          ∙ cond-false (has_passed s act.head) false (binds net s act.kind act.pair act.tail b) (has_passed_same rows s (over other) act.head ∙ ends_free.1)
+          ∙ ap (λ k. binds net s k act.pair act.tail b) (headway_kind act.kind joins.headway)
+          ∙ ap (λ o. binds net s Headway o act.tail b) its
+          ∙ cond-false (has_passed s act.tail) true (act.tail == first_event net p (small_first_at s p)) (has_passed_same rows s (over other) act.tail ∙ ends_free.0)
+          ∙ ap (λ f. act.tail == first_event net p f) first_is
