@@ -422,7 +422,7 @@ fault_is_read version entry bytes lines fault start (inr told) = inr (subst (λ 
 
 -- ---- plans and their texts
 
-leaves_few : (due : List (List Decision)) (nodes : List Node) → length (leaves_at due nodes) ≤ length nodes
+pub leaves_few : (due : List (List Decision)) (nodes : List Node) → length (leaves_at due nodes) ≤ length nodes
 leaves_few due [] = omega arith
 leaves_few [] (n ∷ ns) = omega arith
 leaves_few (path ∷ due) (Inner c ∷ ns) = let more = leaves_few ((path ++ first_decision c ∷ []) ∷ (path ++ second_decision c ∷ []) ∷ due) ns in omega arith
@@ -435,7 +435,7 @@ smaller : (b : Bool) (m n k : ℕ) → m ≤ n → n ≤ k → cond b m n ≤ k
 smaller true m n k p q = omega arith
 smaller false m n k p q = q
 
-counted_in : (version : ℕ) (plan : Plan) → IsHeld plan → IsCounted version plan
+pub counted_in : (version : ℕ) (plan : Plan) → IsHeld plan → IsCounted version plan
 counted_in version plan held = record {
   choices = omega (arith, held.choices);
   size = smaller (eqb version 1) (length (leaves_in plan.tree)) (length plan.tree) largest_cost (leaves_few ([] ∷ []) plan.tree) (omega (arith, held.nodes));

@@ -14,9 +14,9 @@ use Rattle.dm_rows.specs.Refuse.{RefusesAdmission, PassesAtOnce, IsNow}
 use Rattle.dm_claims.specs.Claims.{IsAccepted, IsKnownFree, IsKept, IsDispositionOf, TellsAcceptance}
 use Rattle.dm_relaxation.specs.KeptCosts.{KeptCostValue, IsKeptCostOf}
 use Rattle.dm_relaxation.specs.Timetables.{TimetableValue, IsRoomOf, IsSettledFor}
-use Rattle.dm_claims.specs.Inside.Harmless.{IsHarmless}
+use Rattle.dm_rows.specs.Harmless.{IsHarmless}
 use Rattle.dm_claims.proofs.AtOnce.{refuses_at_once}
-use Rattle.dm_claims.proofs.Harmless.{never_make_cycles}
+use Rattle.dm_rows.proofs.Harmless.{never_make_cycles}
 
 pub after_is : (net : Net) (rows new : RowsValue) (m : Message) (change : Change) → change_named net m ≡ Some change → new ≡ after_change rows change → new ≡ after net rows m
 after_is net rows new m change named is = is ∙ sym (ap (after_named rows) named)

@@ -4,4 +4,3 @@ pub mod Telling
 pub mod Walked
 pub mod OneCause
 pub mod Refused
-pub mod Harmless

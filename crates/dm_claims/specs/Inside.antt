@@ -1,3 +1,2 @@
 -- States of loops.
 pub mod Walking
-pub mod Harmless

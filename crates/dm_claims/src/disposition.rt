@@ -12,7 +12,7 @@ ghost use Rattle.dm_rows.specs.declared.messages.Refusal.TheVariants.{OutOfMemor
 ghost use Rattle.dm_relaxation.specs.Binding.{AreBelowLimit};
 ghost use Rattle.dm_relaxation.specs.Timetables.{IsRoomOf, IsTimetableOf, IsSettledFor, ChangesNet};
 ghost use Rattle.dm_claims.specs.Claims.{IsDispositionOf, IsTimeOf, IsKnownFree, IsKept, Tells, TellsAcceptance, times_of};
-ghost use Rattle.dm_claims.specs.Inside.Harmless.{IsHarmless};
+ghost use Rattle.dm_rows.specs.Harmless.{IsHarmless};
 
 use dm_base::Cost;
 use dm_network::Network;

@@ -1,26 +1,17 @@
 -- A direction of a pair that is held or let go, and the timetable settled.
-use Rattle.std.proofs.Common.{◌≡◌, ℕ, ◌<◌, Bool, true, false, List, length, Some, get_or, refl, sym, ap, ◌∙◌, inl, inr, arith, slice_index}
+use Rattle.std.proofs.Common.{◌≡◌, ℕ, ◌<◌, Bool, true, false, List, length, Some, refl, sym, ap, ◌∙◌, inl, inr}
 use Rattle.std.specs.Prelude.{◌==◌}
 use Rattle.std.proofs.lemmas.Bool.{cases_Bool, and_parts, and_from, eqb-true, eq-eqb, both_ways, cond-true, cond-false}
-use Rattle.std.proofs.lemmas.List.{get_or_default}
 use Rattle.dm_graph.specs.Arcs.{Binds, BindsIn}
 use Rattle.dm_graph.proofs.Transfers.{cycle_carries}
 use Rattle.dm_network.specs.Net.{Net, activity_at, places_out_of}
 use Rattle.dm_network.specs.Held.{arcs_of, is_held, IsCycleOf}
 use Rattle.dm_rows.specs.Relax.{is_of_pair}
-use Rattle.dm_settle.proofs.Marking.{leads_out, stands_out}
+use Rattle.dm_network.proofs.EventRows.{leads_out, stands_out}
 use Rattle.dm_priced.specs.Priced.{PricedValue}
 use Rattle.dm_evaluate.specs.Inside.Moves.{set_where, TurnsTo, Stays, IsAmong, KeepsBut, TurnsAmong, IsRefused}
 use Rattle.dm_paths.specs.Decisions.{is_directed}
 use Rattle.dm_paths.proofs.Changing.{its_pair}
-
--- the places in the row out of an event are those of activities
-pub row_below : (net : Net) (tail : ℕ) (row : List ℕ) → row ≡ places_out_of net tail → (k d : ℕ) → k < length row → get_or row k d < length net.activities
-row_below net tail row is k d lt =
-    let leads = leads_out net tail k row is lt in
-    let e : get_or row k d ≡ slice_index row k = get_or_default row k d 0 lt in
-    let b = leads.is_activity in
-    omega (arith, e, b)
 
 -- a cycle of some activities is one of more
 pub cycle_within : (net : Net) (f g : ℕ → Bool) → ((a : ℕ) → a < length net.activities → f a ≡ true → g a ≡ true) → (cycle : List ℕ) →

@@ -6,8 +6,9 @@ use Rattle.dm_network.specs.Net.{Net, activity_at, pair_at, is_change, places_in
 use Rattle.dm_network.specs.Start.{IsNetwork}
 use Rattle.dm_paths.proofs.Agreeing.{pair_joins}
 use Rattle.dm_settle.specs.Marked.{is_marked, IsFirstFrom, NoneFrom}
-use Rattle.dm_settle.proofs.Joining.{stands_into}
-use Rattle.dm_settle.proofs.Marking.{stands_out, marked_here, marked_still}
+use Rattle.dm_network.proofs.EventRows.{stands_into}
+use Rattle.dm_settle.proofs.Marking.{marked_here, marked_still}
+use Rattle.dm_network.proofs.EventRows.{stands_out}
 use Rattle.dm_priced.specs.Priced.{is_flagged, comes_too_early}
 use Rattle.dm_evaluate.specs.Marks.{MarksUnkept, IsUnmetHeadway, IsUnmetPair}
 use Rattle.dm_evaluate.specs.Inside.Moves.{IsAmong}

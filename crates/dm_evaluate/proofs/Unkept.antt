@@ -12,7 +12,7 @@ use Rattle.dm_rows.specs.Rows.{RowsValue}
 use Rattle.dm_rows.specs.Timetable.{span_of}
 use Rattle.dm_paths.proofs.Agreeing.{passes_one, span_same}
 use Rattle.dm_paths.proofs.Setting.{differs_in_none, differs_with}
-use Rattle.dm_settle.proofs.Joining.{leads_into}
+use Rattle.dm_network.proofs.EventRows.{leads_into}
 use Rattle.dm_live.specs.Live.{LiveValue, with_held}
 use Rattle.dm_settle.specs.Constraints.{ConstraintsValue}
 use Rattle.dm_priced.specs.Priced.{PricedValue, is_flagged}

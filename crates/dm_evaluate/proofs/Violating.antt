@@ -13,7 +13,7 @@ use Rattle.dm_rows.specs.Relax.{is_of_pair, is_unmet_from, has_unmet_from, is_un
 use Rattle.dm_rows.specs.Rows.{RowsValue}
 use Rattle.dm_paths.proofs.Agreeing.{passes_one}
 use Rattle.dm_relax.specs.Relaxed.{first_violated}
-use Rattle.dm_settle.proofs.Marking.{leads_out, stands_out}
+use Rattle.dm_network.proofs.EventRows.{leads_out, stands_out}
 use Rattle.dm_priced.specs.Priced.{is_flagged}
 use Rattle.dm_paths.specs.Flags.{AreFlags}
 use Rattle.dm_evaluate.specs.Inside.Marking.{IsFirst}

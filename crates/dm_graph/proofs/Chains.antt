@@ -57,12 +57,12 @@ unfoldable pub passed : Arcs → ℕ → List ℕ → List ℕ
 passed g i [] = i ∷ []
 passed g i (a ∷ rest) = i ∷ passed g (g.head a) rest
 
-length-passed : (g : Arcs) (i : ℕ) (chain : List ℕ) → length (passed g i chain) ≡ suc (length chain)
+pub length-passed : (g : Arcs) (i : ℕ) (chain : List ℕ) → length (passed g i chain) ≡ suc (length chain)
 unfolding passed
 length-passed g i [] = refl
 length-passed g i (a ∷ rest) = ap suc (length-passed g (g.head a) rest)
 
-passed_is_event : (g : Arcs) (i : ℕ) (chain : List ℕ) (j : ℕ) → i < g.events → Chain g i chain j →
+pub passed_is_event : (g : Arcs) (i : ℕ) (chain : List ℕ) (j : ℕ) → i < g.events → Chain g i chain j →
     (q : ℕ) → list_any (eqb q) (passed g i chain) ≡ true → q < g.events
 unfolding passed
 passed_is_event g i [] j lt h q is =
@@ -77,7 +77,7 @@ passed_is_event g i (a ∷ rest) j lt h q is =
     ]
 
 -- to each event that a chain passes leads a chain from its first
-front : (g : Arcs) (i : ℕ) (chain : List ℕ) (j : ℕ) → Chain g i chain j →
+pub front : (g : Arcs) (i : ℕ) (chain : List ℕ) (j : ℕ) → Chain g i chain j →
     (q : ℕ) → list_any (eqb q) (passed g i chain) ≡ true → (part : List ℕ) × Chain g i part q
 unfolding passed
 front g i [] j h q is =
@@ -91,7 +91,7 @@ front g i (a ∷ rest) j h q is =
       | inr later ↦ let f = front g (g.head a) rest j h.2 q later in (a ∷ f.0, (h.0, h.1, f.1))
     ]
 
-none_is : (q : ℕ) (xs : List ℕ) → list_any (eqb q) xs ≡ false → AllByRecursion (λ y. eqb q y ≡ false) xs
+pub none_is : (q : ℕ) (xs : List ℕ) → list_any (eqb q) xs ≡ false → AllByRecursion (λ y. eqb q y ≡ false) xs
 none_is q [] h = tt
 none_is q (x ∷ xs) h =
     let parts = or_parts (eqb q x) (list_any (eqb q) xs) h in

@@ -5,7 +5,8 @@ use Rattle.std.proofs.lemmas.Bool.{cases_lt}
 use Rattle.dm_network.specs.Net.{Net, activity_at, places_out_of, EndsAreKnown}
 use Rattle.dm_network.specs.Held.{arcs_of}
 use Rattle.dm_settle.specs.Marked.{is_marked}
-use Rattle.dm_settle.proofs.Marking.{leads_out, stands_out, marked_here, marked_still, marked_if}
+use Rattle.dm_settle.proofs.Marking.{marked_here, marked_still, marked_if}
+use Rattle.dm_network.proofs.EventRows.{leads_out, stands_out}
 use Rattle.dm_live.specs.Live.{MarksHeads}
 use Rattle.dm_live.specs.Inside.Marking.{HasMarked}
 

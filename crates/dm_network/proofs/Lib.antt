@@ -10,3 +10,4 @@ pub mod Arraying
 pub mod Flagged
 pub mod Starting
 pub mod Making
+pub mod EventRows

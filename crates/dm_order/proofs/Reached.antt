@@ -1,24 +1,13 @@
 -- What held activities lead to within an interval of places.
-use Rattle.std.proofs.Common.{◌≡◌, ℕ, zero, suc, ◌+◌, ◌<◌, ◌≤◌, Bool, true, false, IsTrue, List, [], ◌∷◌, length, Option, Some, None, refl, sym, ap, subst, ◌∙◌, ◌⊎◌, inl, inr, arith, eqb-true, eq-eqb, slice_index, slice_index_or, get_or-set_same, get_or-set_other, length-set}
+use Rattle.std.proofs.Common.{◌≡◌, ℕ, zero, suc, ◌+◌, ◌<◌, ◌≤◌, Bool, true, false, IsTrue, List, [], ◌∷◌, length, Option, Some, None, refl, sym, ap, subst, ◌∙◌, ◌⊎◌, inl, inr, arith, eq-eqb, slice_index, slice_index_or, get_or-set_same, get_or-set_other, length-set}
 use Rattle.std.specs.Prelude.{◌==◌, ◌&&◌, nat_lt, nat_le, is_some, slice_set, if◌then◌else◌}
 use Rattle.std.proofs.lemmas.Bool.{cases_Bool, cases_lt, cases_eq, and_parts, lt-ltb, le-leb, ltb-true, leb-true}
 use Rattle.dm_graph.specs.Arrays.{AreRanks}
-use Rattle.dm_graph.proofs.Windows.{kept_at, StandsAt, stands_in}
+use Rattle.dm_graph.proofs.Windows.{StandsAt, stands_in}
 use Rattle.dm_network.specs.Net.{Net, EndsAreKnown, activity_at, places_out_of}
 use Rattle.dm_network.specs.Held.{is_held}
 use Rattle.dm_order.specs.Inside.Reaching.{is_reached, leads_on, followed, followed_all, IsCause, HasReached}
-
--- an activity out of the event
-pub record LeadsOut (net : Net) (e a : ℕ) : Type 0 where
-  pub is_activity : a < length net.activities
-  pub tail : (activity_at net a).tail ≡ e
-
-pub leads_out : (net : Net) (e k : ℕ) (row : List ℕ) → row ≡ places_out_of net e → k < length row → LeadsOut net e (slice_index row k)
-leads_out net e k row is below =
-    let kept = kept_at (λ a. (activity_at net a).tail == e) 0 (length net.activities) k (subst (λ (xs : List ℕ). k < length xs) is below) in
-    let there : LeadsOut net e (slice_index (places_out_of net e) k) =
-    record { is_activity = let b = kept.below in omega arith; tail = eqb-true _ e kept.passes } in
-    subst (λ (xs : List ℕ). LeadsOut net e (slice_index xs k)) (sym is) there
+use Rattle.dm_network.proofs.EventRows.{leads_out}
 
 pub stands_out : (net : Net) (e a : ℕ) → a < length net.activities → (activity_at net a).tail ≡ e → StandsAt (places_out_of net e) a
 stands_out net e a lt is =

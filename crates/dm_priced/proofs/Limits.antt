@@ -6,7 +6,7 @@ use Rattle.dm_network.specs.Net.{Net, event_at, IsWithinLimits}
 use Rattle.dm_rows.specs.Cost.{event_cost, charged_weight, is_arrival}
 use Rattle.dm_settle.specs.Settling.{AreEarly}
 use Rattle.dm_priced.specs.Priced.{is_flagged, missed_weight, lateness_of, charged_of, missed_of}
-use Rattle.dm_priced.proofs.Sums.{sum_within}
+use Rattle.dm_rows.proofs.Totals.{sum_within}
 
 chosen : (b : Bool) (w m : ℕ) → w ≤ m → (if b then w else 0) ≤ m
 chosen true w m le = le

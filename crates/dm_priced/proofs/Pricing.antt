@@ -12,9 +12,9 @@ use Rattle.dm_priced.specs.Priced.{PricedValue, FollowsPrice, is_flagged, missed
 use Rattle.dm_priced.specs.Inside.Adding.{AreKnown, AreWithin, AreActivities, cost_at}
 use Rattle.dm_priced.proofs.Changing.{set_same, lateness_moves, missed_moves}
 use Rattle.dm_priced.proofs.Limits.{lateness_within, charged_within, missed_within}
-use Rattle.dm_priced.proofs.Sums.{sum_alike}
-use Rattle.dm_settle.proofs.Joining.{leads_into}
-use Rattle.dm_settle.proofs.Marking.{leads_out}
+use Rattle.dm_rows.proofs.Totals.{sum_alike}
+use Rattle.dm_network.proofs.EventRows.{leads_into}
+use Rattle.dm_network.proofs.EventRows.{leads_out}
 
 pub into_are_activities : (net : Net) (e : ℕ) (row : List ℕ) → row ≡ places_into net e → AreActivities net row
 into_are_activities net e row is k lt = (leads_into net e k row is lt).is_activity

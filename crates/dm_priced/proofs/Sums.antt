@@ -1,30 +1,14 @@
 -- Sums over places, and how they change where a function changes at one place or along rows.
-use Rattle.std.proofs.Common.{◌≡◌, ◌≢◌, ℕ, zero, suc, ◌+◌, ◌*◌, ◌<◌, ◌≤◌, Bool, true, false, cond, List, [], ◌∷◌, length, filter, sum_by, refl, sym, ap, ◌∙◌, inl, inr, arith, slice_index}
+use Rattle.std.proofs.Common.{◌≡◌, ◌≢◌, ℕ, zero, suc, ◌+◌, ◌*◌, ◌<◌, ◌≤◌, Bool, true, false, cond, List, [], ◌∷◌, length, filter, sum_by, refl, ap, ◌∙◌, inl, inr, arith, slice_index}
 use Rattle.std.specs.List.{range_with_len}
 use Rattle.std.proofs.lemmas.Bool.{cases_Bool, cases_eq}
 use Rattle.std.proofs.lemmas.List.Sums.{sum_by-cons, sum_by_more}
 use Rattle.dm_priced.specs.Inside.Adding.{IsTotalOf, IsTotalBelow}
-
-pub sum_alike : (f g : ℕ → ℕ) (a n : ℕ) → ((k : ℕ) → a ≤ k → k < a + n → f k ≡ g k) → sum_by f (range_with_len a n) ≡ sum_by g (range_with_len a n)
-sum_alike f g a zero same = refl
-sum_alike f g a (suc n) same =
-    let here : f a ≡ g a = same a (omega arith) (omega arith) in
-    let rest : sum_by f (range_with_len (a + 1) n) ≡ sum_by g (range_with_len (a + 1) n) = sum_alike f g (a + 1) n (λ k le lt. same k (omega arith) (omega arith)) in
-    let left = sum_by-cons f a (range_with_len (a + 1) n) in
-    let right = sum_by-cons g a (range_with_len (a + 1) n) in
-    left ∙ omega (arith, here, rest) ∙ sym right
+use Rattle.dm_rows.proofs.Totals.{sum_alike}
 
 pub sum_none : (f : ℕ → ℕ) (xs : List ℕ) → ((k : ℕ) → f k ≡ 0) → sum_by f xs ≡ 0
 sum_none f [] none = refl
 sum_none f (x ∷ xs) none = let here = none x in let rest = sum_none f xs none in let all = sum_by-cons f x xs in all ∙ omega (arith, here, rest)
-
-pub sum_within : (f : ℕ → ℕ) (most a n : ℕ) → ((k : ℕ) → f k ≤ most) → sum_by f (range_with_len a n) ≤ n * most
-sum_within f most a zero each = omega arith
-sum_within f most a (suc n) each =
-    let here = each a in
-    let rest = sum_within f most (a + 1) n each in
-    let all = sum_by-cons f a (range_with_len (a + 1) n) in
-    omega (arith, here, rest, all)
 
 -- a function that changes at one place
 pub sum_moves : (f g : ℕ → ℕ) (i : ℕ) → ((k : ℕ) → k ≢ i → g k ≡ f k) → (a n : ℕ) → a ≤ i → i < a + n →

@@ -1,16 +1,12 @@
 -- Which activities, floors and spans a change leaves as they are.
-use Rattle.std.proofs.Common.{◌≡◌, ℕ, zero, suc, ◌+◌, ◌<◌, Bool, true, false, cond, List, [], ◌∷◌, length, Option, Some, None, refl, sym, ap, subst, ◌∙◌, ◌⊎◌, inl, inr, arith, fold, slice_index, get_or-set_other}
+use Rattle.std.proofs.Common.{◌≡◌, ℕ, zero, suc, ◌+◌, ◌<◌, true, false, List, [], ◌∷◌, length, Option, Some, None, refl, sym, ap, subst, ◌∙◌, ◌⊎◌, inl, inr, arith, fold, slice_index, get_or-set_other}
 use Rattle.std.specs.Prelude.{slice_set, slice_get, is_some, unwrap_or, max}
-use Rattle.std.proofs.lemmas.Bool.{cases_eq, cases_Bool}
-use Rattle.std.proofs.lemmas.List.Quantifiers.{position-Some}
-use Rattle.dm_base.specs.declared.rows.ActKind.{ActKind}
-use Rattle.dm_base.specs.declared.rows.ActKind.TheVariants.{Drive, Wait, Turnaround, Change as ChangeKind, Headway}
-use Rattle.dm_network.specs.Net.{Net, event_at, activity_at, pair_at, no_pair, is_headway}
-use Rattle.dm_network.specs.Pairs.{joins, own_pair, pair_place, IsPaired}
-use Rattle.dm_network.proofs.PairKeys.{joins-true}
-use Rattle.dm_rows.specs.Active.{is_active, binds, has_passed}
+use Rattle.std.proofs.lemmas.Bool.{cases_eq}
+use Rattle.dm_network.specs.Net.{Net, event_at, activity_at, pair_at}
+use Rattle.dm_network.specs.Pairs.{IsPaired}
+use Rattle.dm_rows.specs.Active.{is_active}
 use Rattle.dm_rows.specs.Resolve.{after_change, after_flip}
-use Rattle.dm_rows.specs.Rows.{RowsValue, passed_at, kept_at, small_first_at}
+use Rattle.dm_rows.specs.Rows.{RowsValue, passed_at}
 use Rattle.dm_rows.specs.Timetable.{planned_time, floor_of, span_of}
 use Rattle.dm_rows.specs.declared.messages.Flip.{Flip}
 use Rattle.dm_rows.specs.declared.messages.Flip.TheVariants.{Keep, Drop, First}
@@ -21,27 +17,7 @@ use Rattle.dm_live.specs.Live.{LiveValue}
 use Rattle.dm_propagate.specs.Engine.{FollowsRows}
 use Rattle.dm_propagate.specs.Inside.Changing.{IsTurnRefused}
 use Rattle.dm_propagate.specs.Inside.Concern.{LeadsAt, IsDecided, IsOfOneBefore, IsDecidedBefore, IsConcerned, MovesFloor, MovesSpan, FollowsBut}
-
--- what an activity needs to bind is the same where the parts that it reads are
-binds_alike : (net : Net) (rows after : RowsValue) (kind : ActKind) (pair : Option ℕ) (tail a : ℕ) → kept_at after a ≡ kept_at rows a →
-    has_passed after tail ≡ has_passed rows tail → ((p : ℕ) → pair ≡ Some p → small_first_at after p ≡ small_first_at rows p) →
-    binds net after kind pair tail a ≡ binds net rows kind pair tail a
-binds_alike net rows after Drive pair tail a kept passed first = refl
-binds_alike net rows after Wait pair tail a kept passed first = refl
-binds_alike net rows after Turnaround pair tail a kept passed first = refl
-binds_alike net rows after ChangeKind pair tail a kept passed first = kept
-binds_alike net rows after Headway None tail a kept passed first = refl
-binds_alike net rows after Headway (Some p) tail a kept passed first =
-    let here : small_first_at after p ≡ small_first_at rows p = first p refl in
-    rw (passed, here) refl
-
-active_alike : (net : Net) (rows after : RowsValue) (a : ℕ) → has_passed after (activity_at net a).head ≡ has_passed rows (activity_at net a).head →
-    kept_at after a ≡ kept_at rows a → has_passed after (activity_at net a).tail ≡ has_passed rows (activity_at net a).tail →
-    ((p : ℕ) → (activity_at net a).pair ≡ Some p → small_first_at after p ≡ small_first_at rows p) → is_active net after a ≡ is_active net rows a
-active_alike net rows after a head kept tail first =
-    ap (λ (b : Bool). cond b false (binds net after (activity_at net a).kind (activity_at net a).pair (activity_at net a).tail a)) head
-    ∙ ap (λ (b : Bool). cond (has_passed rows (activity_at net a).head) false b)
-    (binds_alike net rows after (activity_at net a).kind (activity_at net a).pair (activity_at net a).tail a kept tail first)
+use Rattle.dm_rows.proofs.Alike.{active_alike, EndsAtPair, flip_keeps_floor, flip_keeps_span, pair_ends}
 
 -- a flip leaves every activity but those that it decides about
 flip_leaves : (net : Net) (rows : RowsValue) (flip : Flip) (b : ℕ) →
@@ -73,11 +49,6 @@ pub decided_later : (decides : Flip → ℕ → Type 0) (flip : Flip) (flips : L
 decided_later decides flip flips n b d =
     let lt = d.before in
     record { flip = d.flip; place = suc d.place; before = omega arith; there = d.there; decided = d.decided }
-
--- an activity of a pair leads out of one of its events
-abbrev EndsAtPair : Net → ℕ → Type 0
-EndsAtPair net b =
-    (p : ℕ) → (activity_at net b).pair ≡ Some p → ((activity_at net b).tail ≡ (pair_at net p).small) ⊎ ((activity_at net b).tail ≡ (pair_at net p).large)
 
 flips_leave : (net : Net) (rows : RowsValue) (flips : List Flip) (b : ℕ) → EndsAtPair net b →
     (is_active net (fold after_flip rows flips) b ≡ is_active net rows b) ⊎ IsDecidedBefore net flips (length flips) b
@@ -115,20 +86,9 @@ change_leaves net rows (Flipped flip) b ends = flip_leaves net rows flip b ends
 change_leaves net rows (Adopted flips) b ends = flips_leave net rows flips b ends
 change_leaves net rows (Clock t) b ends = inl refl
 
--- floors and spans
-flip_keeps_floor : (net : Net) (rows : RowsValue) (flip : Flip) (i : ℕ) → floor_of net (after_flip rows flip) i ≡ floor_of net rows i
-flip_keeps_floor net rows (Keep a) i = refl
-flip_keeps_floor net rows (Drop a) i = refl
-flip_keeps_floor net rows (First p small) i = refl
-
 flips_keep_floor : (net : Net) (rows : RowsValue) (flips : List Flip) (i : ℕ) → floor_of net (fold after_flip rows flips) i ≡ floor_of net rows i
 flips_keep_floor net rows [] i = refl
 flips_keep_floor net rows (flip ∷ flips) i = flips_keep_floor net (after_flip rows flip) flips i ∙ flip_keeps_floor net rows flip i
-
-flip_keeps_span : (net : Net) (rows : RowsValue) (flip : Flip) (a : ℕ) → span_of net (after_flip rows flip) a ≡ span_of net rows a
-flip_keeps_span net rows (Keep b) a = refl
-flip_keeps_span net rows (Drop b) a = refl
-flip_keeps_span net rows (First p small) a = refl
 
 flips_keep_span : (net : Net) (rows : RowsValue) (flips : List Flip) (a : ℕ) → span_of net (fold after_flip rows flips) a ≡ span_of net rows a
 flips_keep_span net rows [] a = refl
@@ -169,24 +129,6 @@ span_leaves net rows (Recalled e) a = inl refl
 span_leaves net rows (Flipped flip) a = inl (flip_keeps_span net rows flip a)
 span_leaves net rows (Adopted flips) a = inl (flips_keep_span net rows flips a)
 span_leaves net rows (Clock t) a = inl refl
-
--- a paired headway leads out of one of the events of its pair
-pair_ends : (net : Net) → IsPaired net → (b : ℕ) → b < length net.activities → EndsAtPair net b
-pair_ends net paired b lt p some =
-    elim (cases_Bool (is_headway (activity_at net b).kind)) [
-      | inl headway ↦
-          let own : own_pair net (activity_at net b) ≡ pair_place net (activity_at net b).tail (activity_at net b).head = rw headway refl in
-          let found : pair_place net (activity_at net b).tail (activity_at net b).head ≡ Some p = sym own ∙ sym (paired.belongs b lt) ∙ some in
-          let there = position-Some (λ q. joins q (activity_at net b).tail (activity_at net b).head) net.pairs p no_pair found in
-          elim (joins-true (pair_at net p) (activity_at net b).tail (activity_at net b).head there.1) [
-            | inl forward ↦ inl (sym forward.0)
-            | inr backward ↦ inr (sym backward.1)
-          ]
-      | inr other ↦
-          let none : own_pair net (activity_at net b) ≡ None = rw other refl in
-          let e : Some p ≡ None = sym some ∙ paired.belongs b lt ∙ none in
-          absurd cc
-    ]
 
 -- what follows the rows follows those after a change but for what it concerns, and the other way round
 module _ (net : Net) (paired : IsPaired net) (rows : RowsValue) (change : Change) (given : ConstraintsValue) where

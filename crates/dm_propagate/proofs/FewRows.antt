@@ -1,9 +1,9 @@
 -- Which rows of the network a change makes an engine read.
-use Rattle.std.proofs.Common.{◌≡◌, ◌≢◌, ℕ, zero, suc, ◌+◌, ◌<◌, ◌≤◌, true, false, List, [], ◌∷◌, length, Option, Some, None, refl, sym, ap, subst, ◌∙◌, ◌⊎◌, inl, inr, arith, slice_index, slice_index_or, get_or-set_same, get_or-set_other}
+use Rattle.std.proofs.Common.{◌≡◌, ◌≢◌, ℕ, ◌+◌, ◌<◌, ◌≤◌, true, false, List, [], ◌∷◌, length, Option, Some, None, refl, sym, ap, subst, ◌∙◌, ◌⊎◌, inl, inr, arith, slice_index, get_or-set_same, get_or-set_other}
 use Rattle.std.specs.Prelude.{nat_eq, unwrap_or, max}
-use Rattle.std.specs.List.{Contains, IsDistinct, AllByRecursion}
-use Rattle.std.proofs.lemmas.Bool.{cases_eq, ne_eqb, eq-eqb}
-use Rattle.std.proofs.lemmas.Map.Keys.{IsDistinct-cons, IsDistinct-head}
+use Rattle.std.specs.List.{Contains, IsDistinct}
+use Rattle.std.proofs.lemmas.Bool.{cases_eq, eq-eqb}
+use Rattle.std.proofs.lemmas.Map.Keys.{IsDistinct-head}
 use Rattle.dm_network.specs.Net.{Net}
 use Rattle.dm_rows.specs.Active.{is_active}
 use Rattle.dm_rows.specs.Resolve.{after_change}
@@ -19,27 +19,7 @@ use Rattle.dm_propagate.specs.Engine.{FollowsRows}
 use Rattle.dm_propagate.specs.Reading.{KeepsClock, ReadsFew}
 use Rattle.dm_propagate.specs.Inside.Changing.{IsOffFloor, HasPassed, MarksFor}
 use Rattle.dm_propagate.proofs.Passing.{is_passed, enters_no_passed, pass_ends, pass_begins}
-
--- what a list with one more in front contains
-in_front : (xs : List ℕ) (x : ℕ) → Contains (x ∷ xs) x
-in_front xs x = (0, omega arith, refl)
-
-behind : (xs : List ℕ) (x y : ℕ) → Contains xs y → Contains (x ∷ xs) y
-behind xs x y c = let lt = c.1 in (suc c.0, omega arith, c.2)
-
-at_place : (xs : List ℕ) (x y k : ℕ) → k < suc (length xs) → slice_index_or (x ∷ xs) k y ≡ y → (y ≡ x) ⊎ Contains xs y
-at_place xs x y zero lt is = inl (sym is)
-at_place xs x y (suc k) lt is = inr (k, omega arith, is)
-
-front_or : (xs : List ℕ) (x y : ℕ) → Contains (x ∷ xs) y → (y ≡ x) ⊎ Contains xs y
-front_or xs x y c = at_place xs x y c.0 c.1 c.2
-
-none_is : (xs : List ℕ) (x : ℕ) → ((y : ℕ) → Contains xs y → x ≢ y) → AllByRecursion (λ y. nat_eq x y ≡ false) xs
-none_is [] x each = tt
-none_is (y ∷ ys) x each = (ne_eqb x y (each y (in_front ys y)), none_is ys x (λ z c. each z (behind ys y z c)))
-
-distinct_with : (xs : List ℕ) (x : ℕ) → IsDistinct nat_eq xs → ((y : ℕ) → Contains xs y → x ≢ y) → IsDistinct nat_eq (x ∷ xs)
-distinct_with xs x distinct each = IsDistinct-cons nat_eq x xs (none_is xs x each) distinct
+use Rattle.dm_settle.proofs.Reading.{in_front, behind, front_or, distinct_with}
 
 -- the timetable before a change, when it follows the rows after it, and when it is settled again
 module _ (net : Net) (rows : RowsValue) (before turned after : LiveValue) (first mid last : ℕ)

@@ -1,18 +1,14 @@
 -- A timetable kept with rows, one place after the other.
-use Rattle.std.proofs.Common.{◌≡◌, ℕ, ◌+◌, ◌<◌, ◌≤◌, ◌⊎◌, Bool, true, false, cond, List, length, Option, Some, None, sym, ap, subst, ◌∙◌, inl, inr, refl, arith, slice_index, length-set, get_or-set_same, get_or-set_other}
+use Rattle.std.proofs.Common.{◌≡◌, ℕ, ◌+◌, ◌<◌, ◌≤◌, ◌⊎◌, Bool, true, false, List, length, Option, Some, None, sym, ap, subst, ◌∙◌, inl, inr, refl, arith, slice_index, length-set, get_or-set_same, get_or-set_other}
 use Rattle.std.specs.Prelude.{slice_set, is_some, unwrap_or, max}
-use Rattle.std.proofs.lemmas.Bool.{cases_Bool, cases_eq, cases_lt}
-use Rattle.std.proofs.lemmas.List.Quantifiers.{position-Some}
-use Rattle.dm_base.specs.declared.rows.ActKind.{ActKind}
-use Rattle.dm_base.specs.declared.rows.ActKind.TheVariants.{Drive, Wait, Turnaround, Change as ChangeKind, Headway}
-use Rattle.dm_network.specs.Net.{Net, event_at, activity_at, pair_at, no_pair, is_headway, places_into, places_out_of}
+use Rattle.std.proofs.lemmas.Bool.{cases_eq, cases_lt}
+use Rattle.dm_network.specs.Net.{Net, event_at, activity_at, pair_at, places_into, places_out_of}
 use Rattle.dm_network.specs.Held.{is_held}
-use Rattle.dm_network.specs.Pairs.{joins, own_pair, pair_place, IsPaired}
-use Rattle.dm_network.proofs.PairKeys.{joins-true}
-use Rattle.dm_rows.specs.Active.{is_active, binds, has_passed}
+use Rattle.dm_network.specs.Pairs.{IsPaired}
+use Rattle.dm_rows.specs.Active.{is_active}
 use Rattle.dm_rows.specs.Reach.{Reaches}
 use Rattle.dm_rows.specs.Resolve.{after_change, after_flip}
-use Rattle.dm_rows.specs.Rows.{RowsValue, IsSized, passed_at, kept_at, small_first_at}
+use Rattle.dm_rows.specs.Rows.{RowsValue, IsSized, passed_at}
 use Rattle.dm_rows.specs.Timetable.{planned_time, floor_of, span_of}
 use Rattle.dm_rows.specs.declared.messages.Flip.{Flip}
 use Rattle.dm_rows.specs.declared.messages.Flip.TheVariants.{Keep, Drop, First}
@@ -20,9 +16,10 @@ use Rattle.dm_rows.specs.declared.messages.Change.{Change}
 use Rattle.dm_rows.specs.declared.messages.Change.TheVariants.{EventDelay, ActDelay, Passed, Recalled, Flipped, Adopted, Clock}
 use Rattle.dm_relaxation.specs.Timetables.{TimetableValue, AgreesWith, RenewsEvent, RenewsActivity, TakesClock, ChangesNet}
 use Rattle.dm_relaxation.specs.Inside.Agreeing.{FloorAgrees, ActivityAgrees, Renews, MovesAt, Nowhere, Here, IsMoved, MovedBefore, InRow, IsInto, IsOutOf, LeadsAt, IsDecided}
-use Rattle.dm_relaxation.proofs.Rising.{stands_out}
-use Rattle.dm_relaxation.proofs.Spreading.{stands_into}
+use Rattle.dm_network.proofs.EventRows.{stands_out}
+use Rattle.dm_network.proofs.EventRows.{stands_into}
 use Rattle.dm_relaxation.proofs.OfTimetables.{agrees_same}
+use Rattle.dm_rows.proofs.Alike.{active_alike, EndsAtPair, pair_ends, flip_keeps_floor, flip_keeps_span}
 
 -- ---- one place after the other
 
@@ -232,48 +229,6 @@ pair_whole net rows p small old mid new one two =
 
 -- ---- what a change leaves
 
-binds_alike : (net : Net) (rows after : RowsValue) (kind : ActKind) (pair : Option ℕ) (tail a : ℕ) → kept_at after a ≡ kept_at rows a →
-    has_passed after tail ≡ has_passed rows tail → ((p : ℕ) → pair ≡ Some p → small_first_at after p ≡ small_first_at rows p) →
-    binds net after kind pair tail a ≡ binds net rows kind pair tail a
-binds_alike net rows after Drive pair tail a kept passed first = refl
-binds_alike net rows after Wait pair tail a kept passed first = refl
-binds_alike net rows after Turnaround pair tail a kept passed first = refl
-binds_alike net rows after ChangeKind pair tail a kept passed first = kept
-binds_alike net rows after Headway None tail a kept passed first = refl
-binds_alike net rows after Headway (Some p) tail a kept passed first =
-    let here : small_first_at after p ≡ small_first_at rows p = first p refl in
-    rw (passed, here) refl
-
-active_alike : (net : Net) (rows after : RowsValue) (a : ℕ) → has_passed after (activity_at net a).head ≡ has_passed rows (activity_at net a).head →
-    kept_at after a ≡ kept_at rows a → has_passed after (activity_at net a).tail ≡ has_passed rows (activity_at net a).tail →
-    ((p : ℕ) → (activity_at net a).pair ≡ Some p → small_first_at after p ≡ small_first_at rows p) → is_active net after a ≡ is_active net rows a
-active_alike net rows after a head kept tail first =
-    ap (λ (b : Bool). cond b false (binds net after (activity_at net a).kind (activity_at net a).pair (activity_at net a).tail a)) head
-    ∙ ap (λ (b : Bool). cond (has_passed rows (activity_at net a).head) false b)
-    (binds_alike net rows after (activity_at net a).kind (activity_at net a).pair (activity_at net a).tail a kept tail first)
-
--- an activity of a pair leads out of one of its events
-abbrev EndsAtPair : Net → ℕ → Type 0
-EndsAtPair net b =
-    (p : ℕ) → (activity_at net b).pair ≡ Some p → ((activity_at net b).tail ≡ (pair_at net p).small) ⊎ ((activity_at net b).tail ≡ (pair_at net p).large)
-
-pair_ends : (net : Net) → IsPaired net → (b : ℕ) → b < length net.activities → EndsAtPair net b
-pair_ends net paired b lt p some =
-    elim (cases_Bool (is_headway (activity_at net b).kind)) [
-      | inl headway ↦
-          let own : own_pair net (activity_at net b) ≡ pair_place net (activity_at net b).tail (activity_at net b).head = rw headway refl in
-          let found : pair_place net (activity_at net b).tail (activity_at net b).head ≡ Some p = sym own ∙ sym (paired.belongs b lt) ∙ some in
-          let there = position-Some (λ q. joins q (activity_at net b).tail (activity_at net b).head) net.pairs p no_pair found in
-          elim (joins-true (pair_at net p) (activity_at net b).tail (activity_at net b).head there.1) [
-            | inl forward ↦ inl (sym forward.0)
-            | inr backward ↦ inr (sym backward.1)
-          ]
-      | inr other ↦
-          let none : own_pair net (activity_at net b) ≡ None = rw other refl in
-          let e : Some p ≡ None = sym some ∙ paired.belongs b lt ∙ none in
-          absurd cc
-    ]
-
 -- a flip leaves every activity but those that it decides about
 flip_leaves : (net : Net) (rows : RowsValue) (flip : Flip) (b : ℕ) → b < length net.activities → EndsAtPair net b → (is_active net (after_flip rows flip) b ≡ is_active net rows b) ⊎ IsDecided net flip b
 flip_leaves net rows (Keep a) b below ends =
@@ -297,20 +252,10 @@ flip_leaves net rows (First p small) b below ends = pair_leaves (activity_at net
             (λ r e. let same : r ≡ q = cc in get_or-set_other rows.small_first p r small true (λ at. ne (sym same ∙ at))))
       ]
 
-flip_keeps_floor : (net : Net) (rows : RowsValue) (flip : Flip) (i : ℕ) → floor_of net (after_flip rows flip) i ≡ floor_of net rows i
-flip_keeps_floor net rows (Keep a) i = refl
-flip_keeps_floor net rows (Drop a) i = refl
-flip_keeps_floor net rows (First p small) i = refl
-
 flip_keeps_clock : (rows : RowsValue) (flip : Flip) → (after_flip rows flip).clock ≡ rows.clock
 flip_keeps_clock rows (Keep b) = refl
 flip_keeps_clock rows (Drop b) = refl
 flip_keeps_clock rows (First p small) = refl
-
-flip_keeps_span : (net : Net) (rows : RowsValue) (flip : Flip) (a : ℕ) → span_of net (after_flip rows flip) a ≡ span_of net rows a
-flip_keeps_span net rows (Keep b) a = refl
-flip_keeps_span net rows (Drop b) a = refl
-flip_keeps_span net rows (First p small) a = refl
 
 -- a passed event, or one that is recalled, leaves every activity but those at it, and every floor but its own
 passed_leaves : (net : Net) (rows : RowsValue) (i : ℕ) (o : Option ℕ) (b : ℕ) → b < length net.activities → (is_active net (record rows { passed = slice_set rows.passed i o }) b ≡ is_active net rows b) ⊎ LeadsAt net i b

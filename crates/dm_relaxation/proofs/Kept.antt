@@ -18,25 +18,9 @@ use Rattle.dm_rows.specs.Cost.{event_cost, charged_weight, dropped_weight, misse
 use Rattle.dm_relaxation.specs.Binding.{AreFlags, AreBelowLimit}
 use Rattle.dm_relaxation.specs.KeptCosts.{KeptCostValue, AreWithin, AreChangesTo, IsKeptCostOf}
 use Rattle.dm_relaxation.proofs.OfRows.{cost_of_flags}
+use Rattle.dm_rows.proofs.Totals.{sum_alike, sum_within}
 
 -- ---- sums over places
-
-pub sum_alike : (f g : ℕ → ℕ) (a n : ℕ) → ((k : ℕ) → a ≤ k → k < a + n → f k ≡ g k) → sum_by f (range_with_len a n) ≡ sum_by g (range_with_len a n)
-sum_alike f g a zero same = refl
-sum_alike f g a (suc n) same =
-    let here : f a ≡ g a = same a (omega arith) (omega arith) in
-    let rest : sum_by f (range_with_len (a + 1) n) ≡ sum_by g (range_with_len (a + 1) n) = sum_alike f g (a + 1) n (λ k le lt. same k (omega arith) (omega arith)) in
-    let left = sum_by-cons f a (range_with_len (a + 1) n) in
-    let right = sum_by-cons g a (range_with_len (a + 1) n) in
-    left ∙ omega (arith, here, rest) ∙ sym right
-
-sum_within : (f : ℕ → ℕ) (most a n : ℕ) → ((k : ℕ) → f k ≤ most) → sum_by f (range_with_len a n) ≤ n * most
-sum_within f most a zero each = omega arith
-sum_within f most a (suc n) each =
-    let here = each a in
-    let rest = sum_within f most (a + 1) n each in
-    let all = sum_by-cons f a (range_with_len (a + 1) n) in
-    omega (arith, here, rest, all)
 
 -- a function that changes at one place
 sum_moves : (f g : ℕ → ℕ) (i : ℕ) → ((k : ℕ) → (k ≡ i → ⊥) → g k ≡ f k) → (a n : ℕ) → a ≤ i → i < a + n →

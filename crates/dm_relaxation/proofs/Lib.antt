@@ -1,7 +1,6 @@
 pub mod Marking
 pub mod Rising
 pub mod Rounding
-pub mod Totals
 pub mod OfRows
 pub mod Spreading
 pub mod Lowering

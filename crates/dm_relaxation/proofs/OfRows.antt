@@ -42,7 +42,7 @@ pub span_is_short : (net : Net) (rows : RowsValue) → IsWithinLimits net → Ro
 span_is_short net rows few within a = let bound = few.bounds a in let delay = within.of_activities a in omega arith
 
 -- numbers in a list are at most this, where those at its places are
-all_within : (xs : List ℕ) (n most : ℕ) → length xs ≡ n → ((i : ℕ) → i < n → slice_index xs i ≤ most) → (i : ℕ) → slice_index xs i ≤ most
+pub all_within : (xs : List ℕ) (n most : ℕ) → length xs ≡ n → ((i : ℕ) → i < n → slice_index xs i ≤ most) → (i : ℕ) → slice_index xs i ≤ most
 all_within xs n most as_many each i =
     elim (cases_lt i n) [
       | inl below ↦ each i below

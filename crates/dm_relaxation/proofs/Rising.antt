@@ -1,16 +1,16 @@
 -- How times rise: one event, the heads out of an event, and a round.
-use Rattle.std.proofs.Common.{◌≡◌, ℕ, ◌+◌, ◌<◌, ◌≤◌, Bool, true, false, IsTrue, List, length, sym, ap, subst, ◌∙◌, inl, inr, refl, arith, slice_index, length-set, get_or-set_same, get_or-set_other, eqb-true, eq-eqb}
+use Rattle.std.proofs.Common.{◌≡◌, ℕ, ◌+◌, ◌<◌, ◌≤◌, Bool, true, false, IsTrue, List, length, sym, ap, subst, ◌∙◌, inl, inr, refl, arith, slice_index, length-set, get_or-set_same, get_or-set_other}
 use Rattle.std.specs.Prelude.{slice_set, ◌==◌}
 use Rattle.std.proofs.lemmas.Bool.{cases_lt, cases_eq}
 use Rattle.dm_base.specs.declared.limits.TheConstants.{BOUND, DELAY}
 use Rattle.dm_graph.specs.Arcs.{Binds}
 use Rattle.dm_graph.specs.Graph.{Graph}
-use Rattle.dm_graph.proofs.Windows.{kept_at, StandsAt, stands_in}
 use Rattle.dm_network.specs.Net.{Net, activity_at, places_out_of, EndsAreKnown}
 use Rattle.dm_network.specs.Held.{is_held}
 use Rattle.dm_relaxation.specs.Binding.{graph_with, IsEarly, is_due}
 use Rattle.dm_relaxation.specs.Marked.{IsFirstFrom, NoneFrom}
 use Rattle.dm_relaxation.specs.Inside.Rising.{AreWithin, HaveRisen, Raises, HasRelaxed, Relaxes, AreMet, HasSwept}
+use Rattle.dm_network.proofs.EventRows.{LeadsOut, leads_out, stands_out}
 
 true_false : {A : Type 0} {b : Bool} → b ≡ true → b ≡ false → A
 true_false p q = absurd (let e : true ≡ false = sym p ∙ q in cc)
@@ -105,24 +105,6 @@ risen_twice old mid new before between after one two = record {
 }
 
 -- ---- the heads out of an event
-
--- each place in the row of an event is that of an activity out of it
-pub record LeadsOut (net : Net) (e a : ℕ) : Type 0 where
-  pub is_activity : a < length net.activities
-  pub tail : (activity_at net a).tail ≡ e
-
-pub leads_out : (net : Net) (e k : ℕ) (row : List ℕ) → row ≡ places_out_of net e → k < length row → LeadsOut net e (slice_index row k)
-leads_out net e k row is below =
-    let kept = kept_at (λ a. (activity_at net a).tail == e) 0 (length net.activities) k (subst (λ (xs : List ℕ). k < length xs) is below) in
-    let there : LeadsOut net e (slice_index (places_out_of net e) k) =
-    record { is_activity = let b = kept.below in omega arith; tail = eqb-true _ e kept.passes } in
-    subst (λ (xs : List ℕ). LeadsOut net e (slice_index xs k)) (sym is) there
-
-pub stands_out : (net : Net) (e a : ℕ) (row : List ℕ) → row ≡ places_out_of net e → LeadsOut net e a → StandsAt row a
-stands_out net e a row is leads =
-    let b = leads.is_activity in
-    subst (λ (xs : List ℕ). StandsAt xs a) (sym is)
-    (stands_in (λ b. (activity_at net b).tail == e) 0 (length net.activities) a (eq-eqb _ e leads.tail) (omega arith) (omega arith))
 
 pub relaxed_none : (g : Graph) (event from : ℕ) (row : List ℕ) (times : List ℕ) (due : List Bool) → HasRelaxed g event from row 0 times times due due
 relaxed_none g event from row times due = record {

@@ -1,16 +1,16 @@
 -- Stale events found, one behind the other, and their times begun anew.
-use Rattle.std.proofs.Common.{◌≡◌, ℕ, ◌+◌, ◌<◌, ◌≤◌, Bool, true, false, IsTrue, List, length, sym, ap, subst, ◌∙◌, inl, inr, refl, arith, slice_index, length-set, get_or-set_same, get_or-set_other, eqb-true, eq-eqb}
+use Rattle.std.proofs.Common.{◌≡◌, ℕ, ◌+◌, ◌<◌, ◌≤◌, Bool, true, false, IsTrue, List, length, sym, ap, subst, ◌∙◌, inl, inr, refl, arith, slice_index, length-set, get_or-set_same, get_or-set_other}
 use Rattle.std.specs.Prelude.{slice_set, ◌==◌}
 use Rattle.std.proofs.lemmas.Bool.{cases_Bool, cases_lt, cases_eq}
 use Rattle.std.proofs.lemmas.List.{get_or_past}
-use Rattle.dm_graph.proofs.Windows.{kept_at, StandsAt, stands_in}
 use Rattle.dm_network.specs.Net.{Net, activity_at, places_out_of, places_into}
 use Rattle.dm_network.specs.Held.{is_held}
 use Rattle.dm_relaxation.specs.Binding.{is_due}
 use Rattle.dm_relaxation.specs.Marked.{is_marked, IsFirstFrom, NoneFrom}
 use Rattle.dm_relaxation.specs.Inside.Spreading.{IsClosed, HasSpread, Spreads, SpreadsTo, SpreadsAlong, HasSpreadTo, SpreadsFrom, MarksTail, HasMarkedTailsTo, HasMarkedTails, HasReset, IsResetting}
 use Rattle.dm_relaxation.proofs.Marking.{mark_here, mark_there, mark_still}
-use Rattle.dm_relaxation.proofs.Rising.{stands_out}
+use Rattle.dm_network.proofs.EventRows.{stands_out}
+use Rattle.dm_network.proofs.EventRows.{stands_into}
 
 pub true_false : {A : Type 0} {b : Bool} → b ≡ true → b ≡ false → A
 true_false p q = absurd (let e : true ≡ false = sym p ∙ q in cc)
@@ -150,24 +150,6 @@ pub all_closed : (net : Net) (held : List Bool) (spans times : List ℕ) (stale 
 all_closed net held spans times stale n is all = λ a binds tail tight. let b = binds.to_event in all _ (omega arith)
 
 -- ---- the tails into an event
-
--- an activity into the event
-pub record LeadsInto (net : Net) (e a : ℕ) : Type 0 where
-  pub is_activity : a < length net.activities
-  pub head : (activity_at net a).head ≡ e
-
-pub leads_into : (net : Net) (e k : ℕ) (row : List ℕ) → row ≡ places_into net e → k < length row → LeadsInto net e (slice_index row k)
-leads_into net e k row is below =
-    let kept = kept_at (λ a. (activity_at net a).head == e) 0 (length net.activities) k (subst (λ (xs : List ℕ). k < length xs) is below) in
-    let there : LeadsInto net e (slice_index (places_into net e) k) =
-    record { is_activity = let b = kept.below in omega arith; head = eqb-true _ e kept.passes } in
-    subst (λ (xs : List ℕ). LeadsInto net e (slice_index xs k)) (sym is) there
-
-pub stands_into : (net : Net) (e a : ℕ) (row : List ℕ) → row ≡ places_into net e → LeadsInto net e a → StandsAt row a
-stands_into net e a row is leads =
-    let b = leads.is_activity in
-    subst (λ (xs : List ℕ). StandsAt xs a) (sym is)
-    (stands_in (λ b. (activity_at net b).head == e) 0 (length net.activities) a (eq-eqb _ e leads.head) (omega arith) (omega arith))
 
 pub tail_free : (net : Net) (held : List Bool) (a : ℕ) (due : List Bool) → is_held held a ≡ false → MarksTail net held a due due
 tail_free net held a due free = record { as_many = refl; grows = λ e is. is; tail = λ is. true_false is free }

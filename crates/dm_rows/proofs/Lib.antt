@@ -9,3 +9,6 @@ pub mod Setting
 pub mod StartDelays
 pub mod StartSizes
 pub mod Worked
+pub mod Totals
+pub mod Harmless
+pub mod Alike

@@ -11,7 +11,7 @@ use Rattle.dm_rows.specs.Timetable.{time_at, floor_of, span_of, IsLeast, graph_o
 use Rattle.dm_rows.proofs.AsGraph.{least_from_graph, active_enter_no_passed}
 
 -- what all places pass, each does
-pass_from : (p : ℕ → Bool) (a n : ℕ) → list_all p (range_with_len a n) ≡ true → (i : ℕ) → a ≤ i → i < a + n → p i ≡ true
+pub pass_from : (p : ℕ → Bool) (a n : ℕ) → list_all p (range_with_len a n) ≡ true → (i : ℕ) → a ≤ i → i < a + n → p i ≡ true
 pass_from p a zero all i low high = absurd (omega arith)
 pass_from p a (suc n) all i low high =
     let both = and_parts (p a) (list_all p (range_with_len (a + 1) n)) all in
@@ -70,11 +70,11 @@ is_pushed net rows x i a h =
     }
 
 -- each event is at its floor or pushed
-tight_or_pushed : (b : Bool) (x floor : ℕ) (pushed : Bool) → b ≡ nat_le x floor → (if b then true else pushed) ≡ true → (x ≤ floor) ⊎ (pushed ≡ true)
+pub tight_or_pushed : (b : Bool) (x floor : ℕ) (pushed : Bool) → b ≡ nat_le x floor → (if b then true else pushed) ≡ true → (x ≤ floor) ⊎ (pushed ≡ true)
 tight_or_pushed true x floor pushed is h = inl (leb-true x floor (sym is))
 tight_or_pushed false x floor pushed is h = inr h
 
-met_if : (b : Bool) (kept : Bool) → (if b then kept else true) ≡ true → IsTrue b → kept ≡ true
+pub met_if : (b : Bool) (kept : Bool) → (if b then kept else true) ≡ true → IsTrue b → kept ≡ true
 met_if true kept h active = h
 met_if false kept h active = cc
 

@@ -13,6 +13,7 @@ pub mod Touch
 pub mod StartFaults
 -- What holds of these, and what they give on two small networks.
 pub mod Laws
+pub mod Harmless
 pub mod Examples
 pub mod Worked
 -- Stages of the start rows: checked, so that a reader need not believe them.

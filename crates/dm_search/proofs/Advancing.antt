@@ -1,5 +1,5 @@
 -- A search settles one node after another, and knows what it said of each.
-use Rattle.std.proofs.Common.{◌≡◌, ℕ, ◌+◌, ◌-◌, ◌≤◌, true, cond, List, [], ◌∷◌, ◌++◌, length, eqb, refl, sym, ap, subst, ◌∙◌, ◌⊎◌, inl, inr, arith, Some, None, append_assoc, append-nil, add-one, length-append}
+use Rattle.std.proofs.Common.{◌≡◌, ℕ, ◌+◌, ◌-◌, ◌≤◌, true, List, [], ◌∷◌, ◌++◌, length, refl, sym, ap, subst, ◌∙◌, ◌⊎◌, inl, inr, arith, Some, None, append_assoc, append-nil, add-one, length-append}
 use Rattle.std.specs.Prelude.{Contains}
 use Rattle.std.proofs.lemmas.List.Elements.{Contains-append_right, Contains-push_cases}
 use Rattle.dm_network.specs.Start.{IsNetwork}
@@ -11,7 +11,7 @@ use Rattle.dm_tree.specs.declared.forms.Node.TheVariants.{Inner, Cycle, Bound, O
 use Rattle.dm_tree.specs.declared.forms.Leaf.{Leaf}
 use Rattle.dm_tree.specs.Trees.{choice_in, first_decision, second_decision}
 use Rattle.dm_tree.specs.Plans.{Task, IsTrueInner}
-use Rattle.dm_tree.specs.Inside.Filling.{is_ordered, is_none_left, fills, visits, pending}
+use Rattle.dm_tree.specs.Inside.Filling.{is_ordered, fills, visits, pending}
 use Rattle.dm_tree.specs.Inside.Assembling.{seen, GoesOn}
 use Rattle.dm_tree.proofs.Filled.{both, some_more, one_back}
 use Rattle.dm_tree.proofs.Walked.{due_after_choice, is_inner}
@@ -19,41 +19,8 @@ use Rattle.dm_paths.proofs.Setting.{in_front}
 use Rattle.dm_search.specs.Finish.{IsKnown}
 use Rattle.dm_search.specs.Inside.Searching.{AreBest, IsGoing, IsUsedUp, IsSearched, IsSplit, Stands}
 use Rattle.dm_search.proofs.Leaves.{violated_is_undecided, decides_it, path_goes_on}
-
--- what stands at the path of one node
-abbrev pub station : List Decision → Node → Leaf
-station path n = record { path = path; node = n }
-
-visits_none : (due : List (List Decision)) → visits due [] ≡ []
-visits_none [] = refl
-visits_none (p ∷ due) = refl
-
-one_visit : (path : List Decision) (due : List (List Decision)) (n : Node) → visits (path ∷ due) (n ∷ []) ≡ station path n ∷ []
-one_visit path due (Inner c) = refl
-one_visit path due Cycle = ap (λ xs. station path Cycle ∷ xs) (visits_none due)
-one_visit path due (Bound c) = ap (λ xs. station path (Bound c) ∷ xs) (visits_none due)
-one_visit path due (Open c) = ap (λ xs. station path (Open c) ∷ xs) (visits_none due)
-one_visit path due Hole = ap (λ xs. station path Hole ∷ xs) (visits_none due)
-
-pub leaf_visit : (path : List Decision) (due : List (List Decision)) (n : Node) (ns : List Node) → choice_in n ≡ None →
-    visits (path ∷ due) (n ∷ ns) ≡ station path n ∷ visits due ns
-leaf_visit path due (Inner c) ns e = cc
-leaf_visit path due Cycle ns e = refl
-leaf_visit path due (Bound c) ns e = refl
-leaf_visit path due (Open c) ns e = refl
-leaf_visit path due Hole ns e = refl
-
-leaf_fill : (more : ℕ) (n : Node) (ns : List Node) → choice_in n ≡ None →
-    fills true more (n ∷ ns) ≡ cond (eqb more 0) (is_none_left ns) (fills true (more - 1) ns)
-leaf_fill more (Inner c) ns e = cc
-leaf_fill more Cycle ns e = refl
-leaf_fill more (Bound c) ns e = refl
-leaf_fill more (Open c) ns e = refl
-leaf_fill more Hole ns e = refl
-
-none_left : (rest : List Node) → is_none_left rest ≡ true → rest ≡ []
-none_left [] e = refl
-none_left (n ∷ ns) e = cc
+use Rattle.dm_tree.proofs.Growing.{station, one_visit, leaf_visit, leaf_fill, goes_next}
+use Rattle.dm_tree.proofs.Walked.{none_left, none_left}
 
 first_is : {X : Type 0} (x : X) (xs : List X) → Contains (x ∷ xs) x
 first_is x xs = (0, omega arith, refl)
@@ -96,21 +63,6 @@ going_at task limit best nodes rest path n s = elim s.going [ inl e ↦ (let non
 -- the next node stands at the path
 seen_next : (nodes : List Node) (path : List Decision) (n : Node) → GoesOn nodes path → seen (nodes ++ n ∷ []) ≡ seen nodes ++ station path n ∷ []
 seen_next nodes path n g = g.visiting (n ∷ []) ∙ ap (λ xs. seen nodes ++ xs) (one_visit path (pending path) n)
-
-goes_next : (nodes : List Node) (path new : List Decision) (n : Node) → GoesOn nodes path →
-    ((ns : List Node) → fills true (length (pending path)) (n ∷ ns) ≡ fills true (length (pending new)) ns) →
-    ((ns : List Node) → visits (path ∷ pending path) (n ∷ ns) ≡ station path n ∷ visits (new ∷ pending new) ns) →
-    GoesOn (nodes ++ n ∷ []) new
-goes_next nodes path new n g filling visiting =
-    record {
-      filling = λ ns. ap (fills true 0) (append_assoc nodes (n ∷ []) ns) ∙ (g.filling (n ∷ ns) ∙ filling ns);
-      visiting = λ ns.
-          ap (visits ([] ∷ [])) (append_assoc nodes (n ∷ []) ns)
-          ∙ (g.visiting (n ∷ ns)
-          ∙ (ap (λ xs. seen nodes ++ xs) (visiting ns)
-          ∙ (sym (append_assoc (seen nodes) (station path n ∷ []) (visits (new ∷ pending new) ns))
-          ∙ ap (λ xs. xs ++ visits (new ∷ pending new) ns) (sym (seen_next nodes path n g)))));
-    }
 
 settled_next : (task : Task) (best : ℕ) (nodes : List Node) (path : List Decision) (n : Node) → GoesOn nodes path → IsKnown task best path n →
     ((l : Leaf) → Contains (seen nodes) l → IsKnown task best l.path l.node) →

@@ -25,7 +25,7 @@ use Rattle.dm_search.specs.Inside.Ending.{closed, carried, least_with, bound_of,
 use Rattle.dm_search.specs.Inside.Searching.{IsUsedUp, Stands}
 use Rattle.dm_search.proofs.Leaves.{Fact, HasLowLeaf, has_low_leaf, from_map, violated_is_undecided}
 use Rattle.dm_search.proofs.Optimal.{allowed_there, chosen, has_base}
-use Rattle.dm_search.proofs.Advancing.{station, leaf_visit}
+use Rattle.dm_tree.proofs.Growing.{station, leaf_visit}
 
 -- what a true plan of this cost asks of a node
 abbrev IsFinal : Task → ℕ → List Decision → Node → Type 0

@@ -1,32 +1,12 @@
 -- Marks at the heads of the activities out of an event, set along its row.
-use Rattle.std.proofs.Common.{◌≡◌, ℕ, ◌+◌, ◌<◌, Bool, true, false, IsTrue, List, length, sym, ap, subst, ◌∙◌, ◌⊎◌, inl, inr, arith, eqb-true, eq-eqb, slice_index, length-set, get_or-set_same, get_or-set_other}
+use Rattle.std.proofs.Common.{◌≡◌, ℕ, ◌+◌, ◌<◌, Bool, true, false, IsTrue, List, length, sym, ap, subst, ◌∙◌, ◌⊎◌, inl, inr, arith, slice_index, length-set, get_or-set_same, get_or-set_other}
 use Rattle.std.specs.Prelude.{◌==◌, slice_set}
 use Rattle.std.proofs.lemmas.Bool.{cases_lt, cases_eq}
-use Rattle.dm_graph.proofs.Windows.{kept_at, StandsAt, stands_in}
 use Rattle.dm_network.specs.Net.{Net, activity_at, places_out_of, EndsAreKnown}
 use Rattle.dm_network.specs.Held.{arcs_of}
 use Rattle.dm_settle.specs.Marked.{is_marked}
 use Rattle.dm_settle.specs.Inside.Pass.{HasMarked, MarksHeads}
-
--- an activity out of the event
-pub record LeadsOut (net : Net) (e a : ℕ) : Type 0 where
-  pub is_activity : a < length net.activities
-  pub tail : (activity_at net a).tail ≡ e
-
--- each place in the row of an event is that of an activity out of it
-pub leads_out : (net : Net) (e k : ℕ) (row : List ℕ) → row ≡ places_out_of net e → k < length row → LeadsOut net e (slice_index row k)
-leads_out net e k row is below =
-    let kept = kept_at (λ a. (activity_at net a).tail == e) 0 (length net.activities) k (subst (λ (xs : List ℕ). k < length xs) is below) in
-    let there : LeadsOut net e (slice_index (places_out_of net e) k) =
-    record { is_activity = let b = kept.below in omega arith; tail = eqb-true _ e kept.passes } in
-    subst (λ (xs : List ℕ). LeadsOut net e (slice_index xs k)) (sym is) there
-
--- each activity out of an event stands in its row
-pub stands_out : (net : Net) (e a : ℕ) (row : List ℕ) → row ≡ places_out_of net e → LeadsOut net e a → StandsAt row a
-stands_out net e a row is leads =
-    let b = leads.is_activity in
-    subst (λ (xs : List ℕ). StandsAt xs a) (sym is)
-    (stands_in (λ b. (activity_at net b).tail == e) 0 (length net.activities) a (eq-eqb _ e leads.tail) (omega arith) (omega arith))
+use Rattle.dm_network.proofs.EventRows.{leads_out, stands_out}
 
 -- a place that is marked, and every one that was
 pub marked_here : (marks : List Bool) (place : ℕ) → place < length marks → is_marked (slice_set marks place true) place ≡ true

@@ -13,25 +13,25 @@ use Rattle.dm_settle.specs.Inside.Pass.{Stays, Moves, HasRead}
 use Rattle.dm_settle.proofs.Passing.{one_of_rank, marked_else}
 
 -- what a list with one more in front contains
-in_front : (xs : List ℕ) (x : ℕ) → Contains (x ∷ xs) x
+pub in_front : (xs : List ℕ) (x : ℕ) → Contains (x ∷ xs) x
 in_front xs x = (0, omega arith, refl)
 
-behind : (xs : List ℕ) (x y : ℕ) → Contains xs y → Contains (x ∷ xs) y
+pub behind : (xs : List ℕ) (x y : ℕ) → Contains xs y → Contains (x ∷ xs) y
 behind xs x y c = let lt = c.1 in (suc c.0, omega arith, c.2)
 
-at_place : (xs : List ℕ) (x y k : ℕ) → k < suc (length xs) → slice_index_or (x ∷ xs) k y ≡ y → (y ≡ x) ⊎ Contains xs y
+pub at_place : (xs : List ℕ) (x y k : ℕ) → k < suc (length xs) → slice_index_or (x ∷ xs) k y ≡ y → (y ≡ x) ⊎ Contains xs y
 at_place xs x y zero lt is = inl (sym is)
 at_place xs x y (suc k) lt is = inr (k, omega arith, is)
 
-front_or : (xs : List ℕ) (x y : ℕ) → Contains (x ∷ xs) y → (y ≡ x) ⊎ Contains xs y
+pub front_or : (xs : List ℕ) (x y : ℕ) → Contains (x ∷ xs) y → (y ≡ x) ⊎ Contains xs y
 front_or xs x y c = at_place xs x y c.0 c.1 c.2
 
-none_is : (xs : List ℕ) (x : ℕ) → ((y : ℕ) → Contains xs y → x ≢ y) → AllByRecursion (λ y. nat_eq x y ≡ false) xs
+pub none_is : (xs : List ℕ) (x : ℕ) → ((y : ℕ) → Contains xs y → x ≢ y) → AllByRecursion (λ y. nat_eq x y ≡ false) xs
 none_is [] x each = tt
 none_is (y ∷ ys) x each = (ne_eqb x y (each y (in_front ys y)), none_is ys x (λ z c. each z (behind ys y z c)))
 
 -- one more that none of them is
-distinct_with : (xs : List ℕ) (x : ℕ) → IsDistinct nat_eq xs → ((y : ℕ) → Contains xs y → x ≢ y) → IsDistinct nat_eq (x ∷ xs)
+pub distinct_with : (xs : List ℕ) (x : ℕ) → IsDistinct nat_eq xs → ((y : ℕ) → Contains xs y → x ≢ y) → IsDistinct nat_eq (x ∷ xs)
 distinct_with xs x distinct each = IsDistinct-cons nat_eq x xs (none_is xs x each) distinct
 
 -- what follows some events follows more

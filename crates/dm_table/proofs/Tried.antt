@@ -16,8 +16,8 @@ use Rattle.dm_rows.specs.Refuse.{PassesAtOnce, IsNow}
 use Rattle.dm_rows.specs.Resolve.{after}
 use Rattle.dm_rows.specs.Rows.{RowsValue}
 use Rattle.dm_settle.proofs.Given.{cycle_names}
-use Rattle.dm_times.specs.Laws.{IsHarmless}
-use Rattle.dm_times.proofs.Harmless.{never_make_cycles}
+use Rattle.dm_rows.specs.Harmless.{IsHarmless}
+use Rattle.dm_rows.proofs.Harmless.{never_make_cycles}
 use Rattle.dm_table.specs.Answers.{RefusesPost}
 use Rattle.dm_table.specs.Inside.Trying.{HasTried, IsTried, IsAccepted}
 

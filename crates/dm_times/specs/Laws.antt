@@ -14,7 +14,6 @@ use Rattle.dm_rows.specs.Timetable.{Meets, MeetsHolding, IsLeast}
 use Rattle.dm_rows.specs.declared.messages.Decision.{Decision}
 use Rattle.dm_rows.specs.declared.messages.Entry.{Entry}
 use Rattle.dm_rows.specs.declared.messages.Message.{Message}
-use Rattle.dm_rows.specs.declared.messages.Message.TheVariants.{DelayEvent, DelayActivity, Pass, Drop, Now}
 use Rattle.dm_settle.specs.Settling.{AreEarly}
 
 -- the rows that messages and decisions, one after another, reach from a network's start rows
@@ -46,20 +45,6 @@ pub record MetExactlyWithoutCycle : Type 0 where
       IsMetExactlyWithoutCycle net (with_decisions net rows decisions)
   pub relaxed : (net : Net) (rows : RowsValue) (path : List Decision) → IsNetwork net → IsReached net rows →
       IsMetRelaxedExactlyWithoutCycle net rows path
-
--- a delay, a passed event, a dropped change or a clock
-abbrev pub IsHarmless : Message → Type 0
-IsHarmless (DelayEvent e d) = Unit {0}
-IsHarmless (DelayActivity a d) = Unit {0}
-IsHarmless (Pass e t) = Unit {0}
-IsHarmless (Drop a) = Unit {0}
-IsHarmless (Now t) = Unit {0}
-IsHarmless _ = ⊥
-
--- rows without a cycle have none after a delay, a passed event, a dropped change or a clock
-abbrev pub NeverMakeCycles : Type 0
-NeverMakeCycles =
-    (net : Net) (rows : RowsValue) (m : Message) → IsHarmless m → HasNoCycle net rows → HasNoCycle net (after net rows m)
 
 -- the start rows of a network have no cycle, whatever the delays
 abbrev pub StartHasNoCycle : Type 0

@@ -1,6 +1,7 @@
 //! What holds of all rows and their timetables. A law has no code: it is proved as the contract of an empty function.
 
-ghost use Rattle.dm_times.specs.Laws.{MetExactlyWithoutCycle, NeverMakeCycles, StartHasNoCycle, LeastTimesAreEarly};
+ghost use Rattle.dm_times.specs.Laws.{MetExactlyWithoutCycle, StartHasNoCycle, LeastTimesAreEarly};
+ghost use Rattle.dm_rows.specs.Harmless.{NeverMakeCycles};
 
 /// Rows can be met exactly where they have no cycle: any rows of a network, and so those that messages and decisions reach
 /// from its start rows; and what is relaxed by any path from them.

@@ -17,21 +17,21 @@ use Rattle.dm_tree.proofs.Walked.{due_after_choice, is_inner}
 use Rattle.dm_tree.proofs.Standing.{is_either, stands_above, visits_below, visits_filled, stands_among, among_stands}
 
 -- what stands at the path of one node
-abbrev station : List Decision → Node → Leaf
+abbrev pub station : List Decision → Node → Leaf
 station path n = record { path = path; node = n }
 
-visits_none : (due : List (List Decision)) → visits due [] ≡ []
+pub visits_none : (due : List (List Decision)) → visits due [] ≡ []
 visits_none [] = refl
 visits_none (p ∷ due) = refl
 
-one_visit : (path : List Decision) (due : List (List Decision)) (n : Node) → visits (path ∷ due) (n ∷ []) ≡ station path n ∷ []
+pub one_visit : (path : List Decision) (due : List (List Decision)) (n : Node) → visits (path ∷ due) (n ∷ []) ≡ station path n ∷ []
 one_visit path due (Inner c) = refl
 one_visit path due Cycle = ap (λ xs. station path Cycle ∷ xs) (visits_none due)
 one_visit path due (Bound c) = ap (λ xs. station path (Bound c) ∷ xs) (visits_none due)
 one_visit path due (Open c) = ap (λ xs. station path (Open c) ∷ xs) (visits_none due)
 one_visit path due Hole = ap (λ xs. station path Hole ∷ xs) (visits_none due)
 
-leaf_visit : (path : List Decision) (due : List (List Decision)) (n : Node) (ns : List Node) → choice_in n ≡ None →
+pub leaf_visit : (path : List Decision) (due : List (List Decision)) (n : Node) (ns : List Node) → choice_in n ≡ None →
     visits (path ∷ due) (n ∷ ns) ≡ station path n ∷ visits due ns
 leaf_visit path due (Inner c) ns e = cc
 leaf_visit path due Cycle ns e = refl
@@ -39,7 +39,7 @@ leaf_visit path due (Bound c) ns e = refl
 leaf_visit path due (Open c) ns e = refl
 leaf_visit path due Hole ns e = refl
 
-leaf_fill : (more : ℕ) (n : Node) (ns : List Node) → choice_in n ≡ None →
+pub leaf_fill : (more : ℕ) (n : Node) (ns : List Node) → choice_in n ≡ None →
     fills true more (n ∷ ns) ≡ cond (eqb more 0) (is_none_left ns) (fills true (more - 1) ns)
 leaf_fill more (Inner c) ns e = cc
 leaf_fill more Cycle ns e = refl
@@ -52,7 +52,7 @@ seen_next : (nodes : List Node) (path : List Decision) (n : Node) → GoesOn nod
     seen (nodes ++ n ∷ []) ≡ seen nodes ++ station path n ∷ []
 seen_next nodes path n g = g.visiting (n ∷ []) ∙ ap (λ xs. seen nodes ++ xs) (one_visit path (pending path) n)
 
-goes_next : (nodes : List Node) (path new : List Decision) (n : Node) → GoesOn nodes path →
+pub goes_next : (nodes : List Node) (path new : List Decision) (n : Node) → GoesOn nodes path →
     ((ns : List Node) → fills true (length (pending path)) (n ∷ ns) ≡ fills true (length (pending new)) ns) →
     ((ns : List Node) → visits (path ∷ pending path) (n ∷ ns) ≡ station path n ∷ visits (new ∷ pending new) ns) →
     GoesOn (nodes ++ n ∷ []) new

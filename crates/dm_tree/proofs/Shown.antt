@@ -1,9 +1,9 @@
 -- Timetables of held activities shown least by computing, where each time is at the event's floor or is pushed by an activity
 -- out of an earlier event; and that held activities have no cycle, by ranks.
-use Rattle.std.proofs.Common.{◌≡◌, ℕ, ◌+◌, ◌<◌, ◌≤◌, List, length, Bool, true, false, IsTrue, arith, refl, sym, ap, subst, inl, inr}
+use Rattle.std.proofs.Common.{◌≡◌, ℕ, ◌+◌, ◌<◌, ◌≤◌, List, length, Bool, true, IsTrue, arith, refl, ap, inl, inr}
 use Rattle.std.specs.Prelude.{◌&&◌, ◌⊎◌, ◌==◌, nat_lt, nat_le, slice_index_or, if◌then◌else◌, zero, suc}
 use Rattle.std.specs.List.{range_with_len, list_all}
-use Rattle.std.proofs.lemmas.Bool.{cases_eq, and_parts, ltb-true, leb-true, eqb-true}
+use Rattle.std.proofs.lemmas.Bool.{and_parts, ltb-true, leb-true, eqb-true}
 use Rattle.dm_graph.specs.Graph.{Meets as MeetsGraph}
 use Rattle.std.proofs.lemmas.List.{ext_get_or}
 use Rattle.dm_graph.proofs.Chains.{no_cycle_where_rank_rises}
@@ -13,16 +13,7 @@ use Rattle.dm_rows.specs.Rows.{RowsValue}
 use Rattle.dm_rows.specs.Timetable.{time_at, floor_of, span_of, IsLeastHolding, graph_holding}
 use Rattle.dm_rows.specs.Laws.{EntersNoPassed}
 use Rattle.dm_rows.proofs.AsGraph.{least_from_graph}
-
--- what all places pass, each does
-pass_from : (p : ℕ → Bool) (a n : ℕ) → list_all p (range_with_len a n) ≡ true → (i : ℕ) → a ≤ i → i < a + n → p i ≡ true
-pass_from p a zero all i low high = absurd (omega arith)
-pass_from p a (suc n) all i low high =
-    let both = and_parts (p a) (list_all p (range_with_len (a + 1) n)) all in
-    elim (cases_eq i a) [
-      | inl same ↦ subst (λ (k : ℕ). p k ≡ true) (sym same) both.0
-      | inr other ↦ pass_from p (a + 1) n both.1 i (omega arith) (omega arith)
-    ]
+use Rattle.dm_rows.proofs.Worked.{pass_from, tight_or_pushed, met_if}
 
 passes : (p : ℕ → Bool) (n : ℕ) → list_all p (range_with_len 0 n) ≡ true → (i : ℕ) → i < n → p i ≡ true
 passes p n all i below = pass_from p 0 n all i (omega arith) (omega arith)
@@ -72,15 +63,6 @@ is_pushed net rows held x i a h =
       earlier = ltb-true _ _ four.0;
       late = leb-true _ _ four.1;
     }
-
--- each event is at its floor or pushed
-tight_or_pushed : (b : Bool) (x floor : ℕ) (pushed : Bool) → b ≡ nat_le x floor → (if b then true else pushed) ≡ true → (x ≤ floor) ⊎ (pushed ≡ true)
-tight_or_pushed true x floor pushed is h = inl (leb-true x floor (sym is))
-tight_or_pushed false x floor pushed is h = inr h
-
-met_if : (b : Bool) (kept : Bool) → (if b then kept else true) ≡ true → IsTrue b → kept ≡ true
-met_if true kept h active = h
-met_if false kept h active = cc
 
 earliest : (net : Net) (rows : RowsValue) (held : ℕ → Bool) (x why : List ℕ) → EndsAreKnown net →
     ((i : ℕ) → i < length net.events → is_tight_at net rows held x why i ≡ true) →

@@ -108,7 +108,7 @@ leaf_fills (Bound c) more rest e f = f
 leaf_fills (Open c) more rest e f = f
 leaf_fills Hole more rest e f = cc
 
-none_left : (rest : List Node) → is_none_left rest ≡ true → rest ≡ []
+pub none_left : (rest : List Node) → is_none_left rest ≡ true → rest ≡ []
 none_left [] e = refl
 none_left (n ∷ ns) e = cc
 

@@ -26,7 +26,7 @@ use Rattle.dm_cert.specs.RunTexts.{item_text, reply_text}
 use Rattle.dm_cert.proofs.HeadingsRead.{front_text, heading_spelled}
 use Rattle.dm_cert.proofs.LineFeeds.{NoFeed, has_no_feed, no_feed_append}
 use Rattle.dm_cert.proofs.SpelledPlans.{plan_stands}
-use Rattle.dm_truth.proofs.Counted.{counted_in}
+use Rattle.dm_cert.proofs.SpelledPlans.{counted_in}
 use Rattle.dm_records.specs.RunLines.{PlanOpening, planned, IsFormedSaid, opening_text}
 use Rattle.dm_records.proofs.Splitting.{parts_no_feed}
 use Rattle.dm_check.specs.declared.faults.Fault.{Fault}

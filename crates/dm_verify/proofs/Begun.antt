@@ -15,18 +15,9 @@ use Rattle.dm_rows.specs.Timetable.{IsLeastHolding}
 use Rattle.dm_graph.specs.Arcs.{HasNoCycle}
 use Rattle.dm_network.specs.Held.{arcs_of, HasNoCycleOf}
 use Rattle.dm_relaxation.specs.Binding.{AreFlags}
-use Rattle.std.proofs.lemmas.List.{get_or_past}
-use Rattle.std.proofs.lemmas.Bool.{cases_lt}
 use Rattle.dm_relaxation.proofs.OfRows.{floor_is_within, times_are_below, least_holding_rows, no_cycle_of_rows, cycle_of_rows}
 use Rattle.dm_verify.specs.Inside.Timetables.{KnownValue, IsKnown, AreWithinFlags}
-
--- numbers in a list are at most this, where those at its places are
-all_within : (xs : List ℕ) (n most : ℕ) → length xs ≡ n → ((i : ℕ) → i < n → slice_index xs i ≤ most) → (i : ℕ) → slice_index xs i ≤ most
-all_within xs n most as_many each i =
-    elim (cases_lt i n) [
-      | inl below ↦ each i below
-      | inr past ↦ let e : slice_index xs i ≡ 0 = get_or_past xs i 0 (omega arith) in omega arith
-    ]
+use Rattle.dm_relaxation.proofs.OfRows.{all_within}
 
 module _ (net : Net) (rows : RowsValue) (spans : List ℕ) where
   -- for more activities, where the tails of those that were added are due

@@ -1,63 +1,21 @@
 -- Arcs have a cycle, or have none: one of the two can be shown.
 use Rattle.std.proofs.Common.{◌≡◌, ℕ, zero, suc, ◌<◌, Bool, true, false, List, [], ◌∷◌, length, ◌⊎◌, inl, inr, eqb, refl, sym, ap, subst, arith, eqb-true, eq-eqb, ltb-true, lt-ltb}
 use Rattle.std.specs.Prelude.{◌&&◌, ◌==◌, nat_lt}
-use Rattle.std.specs.List.{list_any, range_with_len, IsDistinct, AllByRecursion}
-use Rattle.std.proofs.lemmas.Bool.{cases_Bool, and_parts, and_from, or_cases, or_parts, both_ways}
+use Rattle.std.specs.List.{list_any, range_with_len, IsDistinct}
+use Rattle.std.proofs.lemmas.Bool.{cases_Bool, and_parts, and_from, both_ways}
 use Rattle.std.proofs.lemmas.Map.Keys.{IsDistinct-cons}
 use Rattle.std.proofs.lemmas.Map.Steps.{length-le_from_distinct_below}
 use Rattle.dm_graph.specs.Arcs.{Arcs, Binds, Chain, IsCycle, HasNoCycle}
 use Rattle.dm_paths.proofs.Agreeing.{passes_one}
 use Rattle.dm_paths.proofs.Paths.{one_passes}
 use Rattle.dm_paths.proofs.Violating.{in_range, range_below}
+use Rattle.dm_graph.proofs.Chains.{passed, length-passed, passed_is_event, front, none_is}
 
 pub record SomeCycle (g : Arcs) : Type 0 where
   pub cycle : List ℕ
   pub is_cycle : IsCycle g cycle
 
 -- ---- the events that a chain passes
-
-unfoldable passed : Arcs → ℕ → List ℕ → List ℕ
-passed g i [] = i ∷ []
-passed g i (a ∷ rest) = i ∷ passed g (g.head a) rest
-
-length-passed : (g : Arcs) (i : ℕ) (chain : List ℕ) → length (passed g i chain) ≡ suc (length chain)
-unfolding passed
-length-passed g i [] = refl
-length-passed g i (a ∷ rest) = ap suc (length-passed g (g.head a) rest)
-
-passed_is_event : (g : Arcs) (i : ℕ) (chain : List ℕ) (j : ℕ) → i < g.events → Chain g i chain j →
-    (q : ℕ) → list_any (eqb q) (passed g i chain) ≡ true → q < g.events
-unfolding passed
-passed_is_event g i [] j lt h q is =
-    elim (or_cases (eqb q i) false is) [
-      | inl same ↦ let e = eqb-true q i same in omega arith
-      | inr other ↦ cc
-    ]
-passed_is_event g i (a ∷ rest) j lt h q is =
-    elim (or_cases (eqb q i) (list_any (eqb q) (passed g (g.head a) rest)) is) [
-      | inl same ↦ let e = eqb-true q i same in omega arith
-      | inr later ↦ passed_is_event g (g.head a) rest j h.0.to_event h.2 q later
-    ]
-
-front : (g : Arcs) (i : ℕ) (chain : List ℕ) (j : ℕ) → Chain g i chain j →
-    (q : ℕ) → list_any (eqb q) (passed g i chain) ≡ true → (part : List ℕ) × Chain g i part q
-unfolding passed
-front g i [] j h q is =
-    elim (or_cases (eqb q i) false is) [
-      | inl same ↦ ([], sym (eqb-true q i same))
-      | inr other ↦ cc
-    ]
-front g i (a ∷ rest) j h q is =
-    elim (or_cases (eqb q i) (list_any (eqb q) (passed g (g.head a) rest)) is) [
-      | inl same ↦ ([], sym (eqb-true q i same))
-      | inr later ↦ let f = front g (g.head a) rest j h.2 q later in (a ∷ f.0, (h.0, h.1, f.1))
-    ]
-
-none_is : (q : ℕ) (xs : List ℕ) → list_any (eqb q) xs ≡ false → AllByRecursion (λ y. eqb q y ≡ false) xs
-none_is q [] h = tt
-none_is q (x ∷ xs) h =
-    let parts = or_parts (eqb q x) (list_any (eqb q) xs) h in
-    (parts.0, none_is q xs parts.1)
 
 -- a chain that passes an event twice closes a cycle
 cycle_or_once : (g : Arcs) (i : ℕ) (chain : List ℕ) (j : ℕ) → Chain g i chain j → SomeCycle g ⊎ IsDistinct eqb (passed g i chain)

@@ -8,7 +8,7 @@ use Rattle.dm_verify.specs.Inside.Flags.{AreSetWhere}
 use Rattle.dm_paths.specs.Flags.{is_flagged}
 use Rattle.dm_verify.specs.Inside.Moves.{IsAmong, HasTurned}
 use Rattle.dm_paths.specs.Decisions.{is_directed}
-use Rattle.dm_verify.proofs.RowsOut.{leads_out, stands_out}
+use Rattle.dm_network.proofs.EventRows.{leads_out, stands_out}
 use Rattle.dm_paths.proofs.Changing.{its_pair, no_pair}
 
 -- one flag that is set

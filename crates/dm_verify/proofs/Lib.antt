@@ -1,4 +1,3 @@
-pub mod RowsOut
 pub mod Headways
 pub mod Violating
 pub mod Open

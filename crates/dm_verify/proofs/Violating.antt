@@ -10,7 +10,7 @@ use Rattle.dm_rows.specs.Cost.{comes_too_early}
 use Rattle.dm_rows.specs.Relax.{is_of_pair, is_unmet_from, has_unmet_from, is_undecided_change, is_undecided_pair, is_violated_change, is_violated_pair}
 use Rattle.dm_rows.specs.Rows.{RowsValue}
 use Rattle.dm_paths.proofs.Agreeing.{passes_one}
-use Rattle.dm_verify.proofs.RowsOut.{leads_out, stands_out}
+use Rattle.dm_network.proofs.EventRows.{leads_out, stands_out}
 use Rattle.dm_paths.specs.Flags.{is_flagged}
 use Rattle.dm_paths.specs.Flags.{AreFlags}
 use Rattle.dm_verify.specs.Inside.Violations.{NoneUnmet, NoneFlagged}

@@ -22,10 +22,6 @@ filled_here : (n : Node) (rest : List Node) (more : ℕ) → ((n ∷ rest) ≡ [
 filled_here n rest more (inl e) = cc
 filled_here n rest more (inr f) = f
 
-none_left : (rest : List Node) → is_none_left rest ≡ true → rest ≡ []
-none_left [] e = refl
-none_left (n ∷ ns) e = cc
-
 module _ (task : Task) (plan_cost : ℕ) where
   abbrev True : Leaf → Type 0
   True l = IsTrueNode task plan_cost l.path l.node

@@ -2,7 +2,8 @@ use Rattle.std.proofs.Common.{List, ℕ, true, sym, subst, ◌∙◌}
 use Rattle.dm_network.specs.Held.{is_held, IsCycleOf}
 use Rattle.dm_evaluate.specs.Inside.Moves.{set_where}
 use Rattle.dm_paths.specs.Decisions.{is_directed}
-use Rattle.dm_evaluate.proofs.Directions.{row_below, settled_from, direction_turned, direction_stays, direction_cycle}
+use Rattle.dm_evaluate.proofs.Directions.{settled_from, direction_turned, direction_stays, direction_cycle}
+use Rattle.dm_network.proofs.EventRows.{row_below}
 use Rattle.dm_evaluate.proofs.headways.hold_direction.Goals as goal
 
 pub hold_each-requires-clause-are_activities : goal.hold_each-requires-clause-are_activities

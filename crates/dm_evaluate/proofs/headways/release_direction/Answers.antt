@@ -1,5 +1,6 @@
 use Rattle.std.proofs.Common.{false}
-use Rattle.dm_evaluate.proofs.Directions.{row_below, settled_from, direction_turned}
+use Rattle.dm_evaluate.proofs.Directions.{settled_from, direction_turned}
+use Rattle.dm_network.proofs.EventRows.{row_below}
 use Rattle.dm_evaluate.proofs.headways.release_direction.Goals as goal
 
 pub release_each-requires-clause-are_activities : goal.release_each-requires-clause-are_activities

@@ -3,7 +3,7 @@ use Rattle.std.specs.Prelude.{slice_set}
 use Rattle.dm_network.specs.declared.parts.Activity.{Activity}
 use Rattle.dm_network.specs.Held.{is_held}
 use Rattle.dm_settle.specs.Constraints.{arcs_given}
-use Rattle.dm_settle.proofs.Marking.{leads_out}
+use Rattle.dm_network.proofs.EventRows.{leads_out}
 use Rattle.dm_live.specs.Inside.Marking.{HasMarked}
 use Rattle.dm_live.proofs.Heads.{marked_with, marked_without, marked_whole}
 use Rattle.dm_live.proofs.marking.mark_heads.Goals as goal

@@ -2,7 +2,7 @@ use Rattle.std.proofs.Common.{arith, ◌<◌, length}
 use Rattle.dm_base.specs.declared.limits.TheConstants.{WEIGHT}
 use Rattle.dm_network.specs.Held.{is_held}
 use Rattle.dm_rows.specs.Cost.{charged_weight}
-use Rattle.dm_relaxation.proofs.Totals.{total_next}
+use Rattle.dm_rows.proofs.Totals.{total_next}
 use Rattle.dm_relaxation.proofs.costing.charged_weights.Goals as goal
 
 pub loop-a-preserved : goal.loop-a-preserved

@@ -1,5 +1,6 @@
 use Rattle.std.proofs.Common.{arith}
-use Rattle.dm_relaxation.proofs.Spreading.{leads_into, tails_none, tails_more, tails_row}
+use Rattle.dm_relaxation.proofs.Spreading.{tails_none, tails_more, tails_row}
+use Rattle.dm_network.proofs.EventRows.{leads_into}
 use Rattle.dm_relaxation.proofs.following.mark_tails.Goals as goal
 
 pub loop-a-init : goal.loop-a-init

@@ -1,5 +1,5 @@
 use Rattle.std.proofs.Common.{arith, refl}
-use Rattle.dm_relaxation.proofs.Rising.{leads_out}
+use Rattle.dm_network.proofs.EventRows.{leads_out}
 use Rattle.dm_relaxation.proofs.Spreading.{spread_none, spread_more, spread_row}
 use Rattle.dm_relaxation.proofs.following.spread_from.Goals as goal
 

@@ -1,5 +1,5 @@
 use Rattle.std.proofs.Common.{arith}
-use Rattle.dm_relaxation.proofs.Spreading.{leads_into}
+use Rattle.dm_network.proofs.EventRows.{leads_into}
 use Rattle.dm_relaxation.proofs.Agreeing.{row_none, row_more, activity_renews, row_into_whole}
 use Rattle.dm_relaxation.proofs.keeping.renew_into.Goals as goal
 

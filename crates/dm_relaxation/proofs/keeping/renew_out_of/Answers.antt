@@ -1,5 +1,5 @@
 use Rattle.std.proofs.Common.{arith}
-use Rattle.dm_relaxation.proofs.Rising.{leads_out}
+use Rattle.dm_network.proofs.EventRows.{leads_out}
 use Rattle.dm_relaxation.proofs.Agreeing.{row_none, row_more, activity_renews, row_out_whole}
 use Rattle.dm_relaxation.proofs.keeping.renew_out_of.Goals as goal
 

@@ -2,7 +2,8 @@ use Rattle.std.proofs.Common.{ℕ, List, Bool, ◌+◌, arith, refl, sym, ◌∙
 use Rattle.dm_relaxation.specs.Binding.{graph_with}
 use Rattle.dm_network.specs.declared.parts.Activity.{Activity}
 use Rattle.dm_relaxation.specs.Inside.Rising.{HasRelaxed, Raises}
-use Rattle.dm_relaxation.proofs.Rising.{leads_out, relaxed_none, relaxed_more, relaxed_same, relaxed_all}
+use Rattle.dm_relaxation.proofs.Rising.{relaxed_none, relaxed_more, relaxed_same, relaxed_all}
+use Rattle.dm_network.proofs.EventRows.{leads_out}
 use Rattle.dm_relaxation.proofs.rounds.relax_from.Goals as goal
 use Rattle.dm_relaxation.proofs.rounds.relax_from.Goals.{then-held-a, else-held-a}
 

@@ -2,7 +2,8 @@ use Rattle.std.proofs.Common.{sym, ◌∙◌, arith, slice_index}
 use Rattle.dm_network.specs.Held.{is_held}
 use Rattle.dm_settle.specs.Constraints.{graph_given}
 use Rattle.dm_settle.proofs.Early.{join_is_early}
-use Rattle.dm_settle.proofs.Joining.{leads_into, joined_by, joined_still, joined_whole}
+use Rattle.dm_settle.proofs.Joining.{joined_by, joined_still, joined_whole}
+use Rattle.dm_network.proofs.EventRows.{leads_into}
 use Rattle.dm_settle.proofs.time.time_of.Goals as goal
 use Rattle.dm_settle.proofs.time.time_of.Goals.{then-is_held, else-is_held}
 

@@ -1,7 +1,7 @@
 use Rattle.std.proofs.Common.{length}
 use Rattle.dm_base.specs.declared.limits.TheConstants.{WEIGHT}
 use Rattle.dm_rows.specs.Cost.{charged_weight}
-use Rattle.dm_times.proofs.Totals.{IsTotalTo}
+use Rattle.dm_rows.proofs.Totals.{IsTotalTo}
 use Rattle.dm_times.proofs.costing.charged_weights.Given as goal
 
 abbrev pub invariant-loop-a : goal.invariant-loop-a

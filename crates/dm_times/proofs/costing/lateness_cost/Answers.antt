@@ -1,7 +1,7 @@
 use Rattle.std.proofs.Common.{arith, ◌<◌, length, ◌*◌, ◌^◌}
 use Rattle.dm_base.specs.declared.limits.TheConstants.{WEIGHT}
 use Rattle.dm_rows.specs.Cost.{event_cost}
-use Rattle.dm_times.proofs.Totals.{total_next}
+use Rattle.dm_rows.proofs.Totals.{total_next}
 use Rattle.dm_times.proofs.costing.lateness_cost.Goals as goal
 
 pub loop-i-preserved : goal.loop-i-preserved

@@ -1,5 +1,5 @@
 use Rattle.std.proofs.Common.{refl, ◌∙◌, arith}
-use Rattle.dm_verify.proofs.RowsOut.{row_below}
+use Rattle.dm_network.proofs.EventRows.{row_below}
 use Rattle.dm_verify.proofs.Headways.{none_turned, next_turned, all_turned}
 use Rattle.dm_verify.proofs.turning.turn_direction.Goals as goal
 

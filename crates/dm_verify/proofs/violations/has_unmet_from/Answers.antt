@@ -1,5 +1,5 @@
 use Rattle.std.proofs.Common.{refl, sym, ◌∙◌, arith, slice_index}
-use Rattle.dm_verify.proofs.RowsOut.{row_below}
+use Rattle.dm_network.proofs.EventRows.{row_below}
 use Rattle.dm_verify.proofs.Violating.{unmet_in_row, none_in_row}
 use Rattle.dm_verify.proofs.violations.has_unmet_from.Goals as goal
 

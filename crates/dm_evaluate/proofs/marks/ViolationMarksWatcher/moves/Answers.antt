@@ -1,4 +1,4 @@
-use Rattle.dm_evaluate.proofs.Directions.{row_below}
+use Rattle.dm_network.proofs.EventRows.{row_below}
 use Rattle.dm_evaluate.proofs.Marked.{marks_moved}
 use Rattle.dm_evaluate.proofs.Unkept.{into_below}
 use Rattle.dm_evaluate.proofs.marks.ViolationMarksWatcher.moves.Goals as goal

@@ -1,4 +1,4 @@
-use Rattle.dm_order.proofs.Reached.{leads_out}
+use Rattle.dm_network.proofs.EventRows.{leads_out}
 use Rattle.std.proofs.Common.{arith}
 use Rattle.dm_order.proofs.reach.Reach.follow_all.Goals as goal
 

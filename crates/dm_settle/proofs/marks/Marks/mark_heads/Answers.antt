@@ -2,7 +2,8 @@ use Rattle.std.proofs.Common.{sym, ◌∙◌, arith, subst, ◌+◌, Bool, List}
 use Rattle.dm_network.specs.Held.{is_held}
 use Rattle.dm_settle.specs.Constraints.{arcs_given}
 use Rattle.dm_settle.specs.Inside.Pass.{HasMarked}
-use Rattle.dm_settle.proofs.Marking.{leads_out, marked_with, marked_without, marked_whole}
+use Rattle.dm_settle.proofs.Marking.{marked_with, marked_without, marked_whole}
+use Rattle.dm_network.proofs.EventRows.{leads_out}
 use Rattle.dm_settle.proofs.marks.Marks.mark_heads.Goals as goal
 use Rattle.dm_settle.proofs.marks.Marks.mark_heads.Goals.{then-is_held, else-is_held}
 

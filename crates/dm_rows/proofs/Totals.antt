@@ -1,5 +1,5 @@
 -- A sum over places, place by place.
-use Rattle.std.proofs.Common.{◌≡◌, ℕ, suc, ◌+◌, ◌-◌, ◌*◌, ◌<◌, ◌≤◌, ap, ◌∙◌, arith}
+use Rattle.std.proofs.Common.{◌≡◌, ℕ, suc, ◌+◌, ◌-◌, ◌*◌, ◌<◌, ◌≤◌, ap, ◌∙◌, arith, ◌≢◌, zero, ◌∷◌, refl, sym}
 use Rattle.std.specs.Prelude.{sum_by}
 use Rattle.std.specs.List.{range_with_len}
 use Rattle.std.proofs.lemmas.List.Sums.{sum_by-cons}
@@ -29,3 +29,20 @@ total_all f n most i total le t =
     let none : sum_by f (range_with_len i (n - i)) ≡ 0 = ap (λ (k : ℕ). sum_by f (range_with_len i k)) e in
     let old = t.sum in
     omega (arith, none, old)
+
+pub sum_alike : (f g : ℕ → ℕ) (a n : ℕ) → ((k : ℕ) → a ≤ k → k < a + n → f k ≡ g k) → sum_by f (range_with_len a n) ≡ sum_by g (range_with_len a n)
+sum_alike f g a zero same = refl
+sum_alike f g a (suc n) same =
+    let here : f a ≡ g a = same a (omega arith) (omega arith) in
+    let rest : sum_by f (range_with_len (a + 1) n) ≡ sum_by g (range_with_len (a + 1) n) = sum_alike f g (a + 1) n (λ k le lt. same k (omega arith) (omega arith)) in
+    let left = sum_by-cons f a (range_with_len (a + 1) n) in
+    let right = sum_by-cons g a (range_with_len (a + 1) n) in
+    left ∙ omega (arith, here, rest) ∙ sym right
+
+pub sum_within : (f : ℕ → ℕ) (most a n : ℕ) → ((k : ℕ) → f k ≤ most) → sum_by f (range_with_len a n) ≤ n * most
+sum_within f most a zero each = omega arith
+sum_within f most a (suc n) each =
+    let here = each a in
+    let rest = sum_within f most (a + 1) n each in
+    let all = sum_by-cons f a (range_with_len (a + 1) n) in
+    omega (arith, here, rest, all)

@@ -16,14 +16,14 @@ use Rattle.dm_rows.specs.declared.messages.Message.TheVariants.{DelayEvent, Dela
 use Rattle.dm_rows.specs.Active.{is_active, active_arcs, binds, has_passed, HasNoCycle}
 use Rattle.dm_rows.specs.Resolve.{after, after_named}
 use Rattle.dm_rows.specs.Rows.{RowsValue}
-use Rattle.dm_times.specs.Laws.{NeverMakeCycles}
+use Rattle.dm_rows.specs.Harmless.{NeverMakeCycles}
 
 -- the head of an active activity has not passed
-open_if_active : (passed b : Bool) → IsTrue (cond passed false b) → passed ≡ false
+pub open_if_active : (passed b : Bool) → IsTrue (cond passed false b) → passed ≡ false
 open_if_active true b h = cc
 open_if_active false b h = refl
 
-head_is_open : (net : Net) (rows : RowsValue) (a : ℕ) → IsTrue (is_active net rows a) → has_passed rows (activity_at net a).head ≡ false
+pub head_is_open : (net : Net) (rows : RowsValue) (a : ℕ) → IsTrue (is_active net rows a) → has_passed rows (activity_at net a).head ≡ false
 head_is_open net rows a h = open_if_active (has_passed rows (activity_at net a).head) _ h
 
 -- where each active activity out of an event that has not passed is held, and what is held has no cycle, the rows have none
@@ -54,7 +54,7 @@ module _ (net : Net) (rows : RowsValue) (held : ℕ → Bool)
       (ends_open (activity_at net a).head rest (activity_at net a).tail (head_is_open net rows a c.0.is_held) c.2) c)
 
 -- a dropped change: what is kept was kept
-kept_before : (kept : List Bool) (a x : ℕ) → IsTrue (get_or (set kept a false) x true) → IsTrue (get_or kept x true)
+pub kept_before : (kept : List Bool) (a x : ℕ) → IsTrue (get_or (set kept a false) x true) → IsTrue (get_or kept x true)
 kept_before kept a x h =
     elim (cases_eq x a) [
       | inl same ↦ elim (cases_lt x (length kept)) [
@@ -64,7 +64,7 @@ kept_before kept a x h =
       | inr other ↦ sym (get_or-set_other kept a x false true other) ∙ h
     ]
 
-binds_kept : (net : Net) (rows : RowsValue) (kept : List Bool) (kind : ActKind) (pair : Option ℕ) (tail x : ℕ) →
+pub binds_kept : (net : Net) (rows : RowsValue) (kept : List Bool) (kind : ActKind) (pair : Option ℕ) (tail x : ℕ) →
     (IsTrue (get_or kept x true) → IsTrue (get_or rows.kept x true)) → IsTrue (binds net (record rows { kept = kept }) kind pair tail x) →
     IsTrue (binds net rows kind pair tail x)
 binds_kept net rows kept Drive pair tail x same h = h
@@ -74,11 +74,11 @@ binds_kept net rows kept Change pair tail x same h = same h
 binds_kept net rows kept Headway None tail x same h = h
 binds_kept net rows kept Headway (Some p) tail x same h = h
 
-unless : (passed b c : Bool) → (IsTrue b → IsTrue c) → IsTrue (cond passed false b) → IsTrue (cond passed false c)
+pub unless : (passed b c : Bool) → (IsTrue b → IsTrue c) → IsTrue (cond passed false b) → IsTrue (cond passed false c)
 unless true b c to h = h
 unless false b c to h = to h
 
-dropped : (net : Net) (rows : RowsValue) (o : Option ℕ) → HasNoCycle net rows →
+pub dropped : (net : Net) (rows : RowsValue) (o : Option ℕ) → HasNoCycle net rows →
     HasNoCycle net (after_named rows (option_map (λ flip. Flipped flip) (option_map (λ a. DropFlip a) o)))
 dropped net rows None none = none
 dropped net rows (Some a) none =
@@ -89,7 +89,7 @@ dropped net rows (Some a) none =
     none
 
 -- a passed event: what has not passed had not
-open_before : (passed : List (Option ℕ)) (i t j : ℕ) → is_some (get_or (set passed i (Some t)) j None) ≡ false →
+pub open_before : (passed : List (Option ℕ)) (i t j : ℕ) → is_some (get_or (set passed i (Some t)) j None) ≡ false →
     is_some (get_or passed j None) ≡ false
 open_before passed i t j h =
     elim (cases_eq j i) [
@@ -100,12 +100,12 @@ open_before passed i t j h =
       | inr other ↦ sym (ap is_some (get_or-set_other passed i j (Some t) None other)) ∙ h
     ]
 
-first_goes : (before after b : Bool) → before ≡ false → after ≡ false → IsTrue (cond after true b) → IsTrue (cond before true b)
+pub first_goes : (before after b : Bool) → before ≡ false → after ≡ false → IsTrue (cond after true b) → IsTrue (cond before true b)
 first_goes true after b p q h = refl
 first_goes false true b p q h = cc
 first_goes false false b p q h = h
 
-binds_open : (net : Net) (rows : RowsValue) (passed : List (Option ℕ)) (kind : ActKind) (pair : Option ℕ) (tail x : ℕ) →
+pub binds_open : (net : Net) (rows : RowsValue) (passed : List (Option ℕ)) (kind : ActKind) (pair : Option ℕ) (tail x : ℕ) →
     has_passed rows tail ≡ false → is_some (get_or passed tail None) ≡ false → IsTrue (binds net (record rows { passed = passed }) kind pair tail x) →
     IsTrue (binds net rows kind pair tail x)
 binds_open net rows passed Drive pair tail x p q h = h
@@ -115,12 +115,12 @@ binds_open net rows passed Change pair tail x p q h = h
 binds_open net rows passed Headway None tail x p q h = h
 binds_open net rows passed Headway (Some n) tail x p q h = first_goes (has_passed rows tail) (is_some (get_or passed tail None)) _ p q h
 
-active_before : (before after b c : Bool) → (after ≡ false → before ≡ false) → (IsTrue b → IsTrue c) → IsTrue (cond after false b) →
+pub active_before : (before after b c : Bool) → (after ≡ false → before ≡ false) → (IsTrue b → IsTrue c) → IsTrue (cond after false b) →
     IsTrue (cond before false c)
 active_before before true b c same to h = cc
 active_before before false b c same to h = let e = same refl in rw e (to h)
 
-passed : (net : Net) (rows : RowsValue) (t : ℕ) (o : Option ℕ) → HasNoCycle net rows →
+pub passed : (net : Net) (rows : RowsValue) (t : ℕ) (o : Option ℕ) → HasNoCycle net rows →
     HasNoCycle net (after_named rows (option_map (λ i. Passed i t) o))
 passed net rows t None none = none
 passed net rows t (Some i) none =
@@ -134,12 +134,12 @@ passed net rows t (Some i) none =
     none
 
 -- delays and the clock change nothing that binds
-event_delayed : (net : Net) (rows : RowsValue) (d : ℕ) (o : Option ℕ) → HasNoCycle net rows →
+pub event_delayed : (net : Net) (rows : RowsValue) (d : ℕ) (o : Option ℕ) → HasNoCycle net rows →
     HasNoCycle net (after_named rows (option_map (λ i. EventDelay i d) o))
 event_delayed net rows d None none = none
 event_delayed net rows d (Some i) none = none
 
-activity_delayed : (net : Net) (rows : RowsValue) (d : ℕ) (o : Option ℕ) → HasNoCycle net rows →
+pub activity_delayed : (net : Net) (rows : RowsValue) (d : ℕ) (o : Option ℕ) → HasNoCycle net rows →
     HasNoCycle net (after_named rows (option_map (λ a. ActDelay a d) o))
 activity_delayed net rows d None none = none
 activity_delayed net rows d (Some a) none = none
