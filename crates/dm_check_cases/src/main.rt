@@ -1,24 +1,31 @@
 //! Texts of runs with the verdicts that are due on them.
 //!
 //! It reads the file `cases`, a case a line: its name, which is that of a file under `texts`, the verdict that is due, the
-//! network, which is a folder under `networks`, and the penalty. For each case it prints `NAME ok`, or what is told of the
+//! network, which is a folder under `networks`, and the penalty. Where `every front truncated` is due, each front of the text
+//! is to lack its next line; where `every byte judged` is, each byte is replaced by five others in turn, and what is due is a line
+//! for each byte in a file under `bytes`. For each case it prints `NAME ok`, or what is told of the
 //! text instead.
+//!
+//! What is due comes from the rules of run texts, worked out by hand; the files under `bytes` come from a reading of these
+//! rules in another language.
 #![tactic(auto)]
 
 mod case;
+mod judged;
+mod repeating;
 mod verdict;
 
 use case::Case;
 use dm_base::limits::PENALTY;
-use dm_check::check;
 use dm_input::read_opening;
 use dm_outside::{FolderShelf, Shelf, take_all};
 use dm_words::{CommandWords, read_words};
-use std::alloc::AllocError;
+use judged::{EVERY_BYTE, told_as};
+use repeating::written_out;
+use std::alloc::{AllocError, Global};
 use std::fs::File;
 use std::rt::Files;
 use std::{io, str};
-use verdict::spelling_of;
 
 /// The most bytes that a file of a case may have.
 const LIMIT: usize = 4_000_000;
@@ -56,7 +63,7 @@ fn report<R: Print + AllocGlobal + Files<File = File>>(rt: &R, case: &Case) -> i
     }
 }
 
-/// What is told of the text of a case, in print, or `None` where it cannot be read or memory is wanting.
+/// What is told of the texts of a case, in print, or `None` where it cannot be read or memory is wanting.
 fn verdict_on<R: AllocGlobal + Files<File = File>>(rt: &R, case: &Case) -> Option<String> {
     let alloc = rt.alloc();
     let Some(CommandWords::Check(words)) = read_words(case.words.as_slice()) else {
@@ -65,14 +72,35 @@ fn verdict_on<R: AllocGlobal + Files<File = File>>(rt: &R, case: &Case) -> Optio
     if words.files.penalty > PENALTY {
         return None;
     }
+    let text = written_out(alloc, read_file(rt, words.text)?)?;
+    let due = due_for_bytes(rt, case)?;
     let mut shelf = FolderShelf::new(rt);
     let Ok(opened) = read_opening(alloc, &mut shelf, &words.files) else {
         return None;
     };
-    let text = read_file(rt, words.text)?;
-    if text.len() > LIMIT {
-        return None;
+    let penalty = words.files.penalty;
+    told_as(
+        alloc,
+        &opened.net,
+        &opened.rows,
+        penalty,
+        &case.due,
+        &text,
+        &due,
+    )
+}
+
+/// What is due for each byte of the text of a case, or nothing where the case asks for no bytes.
+fn due_for_bytes<R: AllocGlobal + Files<File = File>>(rt: &R, case: &Case) -> Option<Vec<u8>> {
+    if case.due.as_str() == EVERY_BYTE {
+        read_file(rt, &bytes_file(rt.alloc(), case)?)
+    } else {
+        Some(Vec::new(rt.alloc()))
     }
-    let verdict = check(alloc, &opened.net, &opened.rows, words.files.penalty, &text).ok()?;
-    spelling_of(alloc, verdict).ok()
+}
+
+/// The file of what is due for each byte.
+fn bytes_file(alloc: Global, case: &Case) -> Option<String> {
+    let name = case.name.as_str();
+    format!(in alloc; "bytes/{name}").ok()
 }
