@@ -22,6 +22,13 @@ module _ {B : Type 0} (place : B → ℕ) (times : B → Option (ℕ → Option 
       let Q : List Note → Type 0 = λ n. Publishes place times faults is_sound net last x entry old new n noted_now count in
       subst P same (subst Q notes h)
 
+  pub keeps_last_by : (old new : List B) (noted others noted_now : List Note) → noted ≡ others → KeepsUpLast place times faults is_sound net last x old new noted noted_now
+      → KeepsUpLast place times faults is_sound net other x old new others noted_now
+  keeps_last_by old new noted others noted_now notes h =
+      let P : List ℕ → Type 0 = λ l. KeepsUpLast place times faults is_sound net l x old new others noted_now in
+      let Q : List Note → Type 0 = λ n. KeepsUpLast place times faults is_sound net last x old new n noted_now in
+      subst P same (subst Q notes h)
+
 module _ {B : Type 0} (place : B → ℕ) (times : B → Option (ℕ → Option ℕ)) (faults : B → ℕ) (is_sound : B → ℕ → Type 0) (net : Net) (last x : List ℕ) where
   pub published_to_by : (entry : ℕ) (old new : List B) (noted noted_now others : List Note) (k : ℕ) → noted_now ≡ others → IsPublishedTo place times faults is_sound net last x entry old new noted noted_now k
       → IsPublishedTo place times faults is_sound net last x entry old new noted others k

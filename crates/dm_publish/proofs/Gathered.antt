@@ -1,7 +1,8 @@
 -- The changes of one board.
 use Rattle.std.proofs.Common.{◌≡◌, ℕ, zero, suc, ◌+◌, ◌<◌, ◌≤◌, Bool, true, false, cond, eqb, List, [], ◌∷◌, ◌++◌, length, Option, Some, None, Result, Ok, Err, refl, sym, ap, subst, ◌∙◌, inl, inr, arith, length-append, slice_index}
-use Rattle.std.specs.Prelude.{All, IfSome, IsSome, OnOk, ◌==◌, unwrap_or, if◌then◌else◌}
+use Rattle.std.specs.Prelude.{◌⊎◌, ⊤, not, All, IfSome, IsSome, OnOk, ◌==◌, unwrap_or, if◌then◌else◌}
 use Rattle.std.proofs.lemmas.Bool.{cases_lt, cases_eq, eqb-true, eq-eqb, ne_eqb}
+use Rattle.std.proofs.lemmas.List.{get_or_default}
 use Rattle.std.proofs.lemmas.List.Elements.{All-push}
 use Rattle.std.proofs.lemmas.List.Sums.{length-filter, count_by-le-length}
 use Rattle.std.proofs.lemmas.List.FromFn.{length-range_with_len}
@@ -14,7 +15,8 @@ use Rattle.dm_network.proofs.Keys.{key_is_found}
 use Rattle.dm_rows.specs.Timetable.{time_at}
 use Rattle.dm_outside.specs.Board.{times_after, Sets}
 use Rattle.dm_publish.specs.Shown.{IsAtStop, AllStand, ShowsTimes, ShowsLast, KeepsOthers, IsSoundFor}
-use Rattle.dm_publish.specs.Inside.Refreshing.{TellsTime, IsDue, Gathers, TakesChanges, Refreshes}
+use Rattle.dm_publish.specs.Inside.Changes.{StandsIn, ListsChanges}
+use Rattle.dm_publish.specs.Inside.Refreshing.{TellsTime, LacksTime, IsDue, Covers, Gathers, HasGathered, TakesChanges, Refreshes}
 
 -- ---- the events at a stop
 
@@ -43,6 +45,48 @@ row_is_short net stop row is =
     let c = length-range_with_len 0 (length net.events) in
     let d = ap length is in
     omega arith
+
+-- the row of a stop has each event there
+pub row_covers : (net : Net) (last x : List ℕ) (stop : ℕ) (row : List ℕ) → row ≡ places_at net (record { 0 = stop }) → Covers net last x stop row
+row_covers net last x stop row is =
+    record {
+      each = λ i at.
+          let there = stands_there net stop i at in
+          let from : 0 ≤ there.place = omega arith in
+          inl (subst (λ (xs : List ℕ). StandsIn xs i) (sym is) (record { at = there.place; from = from; within = there.within; is = there.is }));
+      within = All-places;
+      few = row_is_short net stop row is;
+    }
+  where
+    All-places : All (λ (i : ℕ). i < length net.events) row
+    All-places k d lt = subst (λ (i : ℕ). i < length net.events) (get_or_default row k 0 d lt) (at_stop net stop k row is lt).is_event
+
+-- so has a list of all places whose times are not the last ones
+pub listed_cover : (net : Net) (last x : List ℕ) (stop : ℕ) (places : List ℕ) → length x ≡ length net.events → ListsChanges last x (length x) places → Covers net last x stop places
+listed_cover net last x stop places size h =
+    record {
+      each = λ i at. let lt = at.is_event in h.each i (omega arith);
+      within = λ k d lt. let low = h.within k d lt in omega arith;
+      few = let f = h.few in omega arith;
+    }
+
+pub either_covers : (net : Net) (last x : List ℕ) (stop : ℕ) (listed places : List ℕ) → length x ≡ length net.events → ListsChanges last x (length x) listed →
+    (places ≡ listed) ⊎ (places ≡ places_at net (record { 0 = stop })) → Covers net last x stop places
+either_covers net last x stop listed places size h (inl same) = subst (λ (xs : List ℕ). Covers net last x stop xs) (sym same) (listed_cover net last x stop listed size h)
+either_covers net last x stop listed places size h (inr row) = row_covers net last x stop places row
+
+-- ---- whether a board lacks a time
+
+pub lacks_not_last : (net : Net) (last : List ℕ) (stop : ℕ) (told : Option (ℕ → Option ℕ)) (i time : ℕ) → (i < length last) × (time_at last i ≡ time) → LacksTime net last stop told i time false
+lacks_not_last net last stop None i time same at = tt
+lacks_not_last net last stop (Some shown) i time same at = λ showed. showed i at same.0 ∙ ap Some same.1
+
+-- what a board answers
+pub lacks_shown : (net : Net) (last : List ℕ) (stop : ℕ) (told : Option (ℕ → Option ℕ)) (i time : ℕ) → IsAtStop net stop i → (answer : Bool) → TellsTime ⊤ told (event_at net i).id.0 time answer →
+    LacksTime net last stop told i time (not answer)
+lacks_shown net last stop told i time at false tells = (at, tells)
+lacks_shown net last stop None i time at true tells = λ _. tt
+lacks_shown net last stop (Some shown) i time at true tells = λ _ showed. tells tt
 
 -- ---- changes made in turn
 
@@ -105,36 +149,34 @@ module _ (net : Net) (last x : List ℕ) (network : IsNetwork net) where
           few = omega arith;
         }
       where
-        no_shows : (told : Option (ℕ → Option ℕ)) → IfSome told (λ shown. (j : ℕ) → j < 0 →
+        no_shows : (told : Option (ℕ → Option ℕ)) → IfSome told (λ shown. (j : ℕ) → j < 0 → IsAtStop net stop (slice_index places j) →
             times_after shown changes (event_at net (slice_index places j)).id.0 ≡ Some (time_at x (slice_index places j)))
         no_shows None = tt
-        no_shows (Some shown) = λ j lt. absurd (omega arith)
+        no_shows (Some shown) = λ j lt at. absurd (omega arith)
 
         no_none : (told : Option (ℕ → Option ℕ)) → IfSome told (λ shown. AllStand net x stop shown → changes ≡ [])
         no_none None = tt
         no_none (Some shown) = λ all. empty
 
-    module _ (places : List ℕ) (row_is : places ≡ places_at net (record { 0 = stop })) (k : ℕ) (below : k < length places) where
+    module _ (places : List ℕ) (k : ℕ) (below : k < length places) where
       id_at : ℕ → ℕ
       id_at j = (event_at net (slice_index places j)).id.0
 
-      at_row : (j : ℕ) → j < length places → IsAtStop net stop (slice_index places j)
-      at_row j lt = at_stop net stop j places row_is lt
-
-      -- an event that stands with its time
+      -- an event that stands with its time, or is of another stop
       pub gathered_standing : (told : Option (ℕ → Option ℕ)) (changes : List (ℕ × ℕ)) → Gathers net last x stop told places k changes →
-          TellsTime (ShowsLast net last stop told) told (event_at net (slice_index places k)).id.0 (time_at x (slice_index places k)) true → Gathers net last x stop told places (k + 1) changes
+          LacksTime net last stop told (slice_index places k) (time_at x (slice_index places k)) false → Gathers net last x stop told places (k + 1) changes
       gathered_standing None changes g tells = record { due = g.due; shows = λ showed. tt; none = tt; few = let f = g.few in omega arith }
       gathered_standing (Some shown) changes g tells =
           record {
             due = g.due;
-            shows = λ showed j lt. elim (cases_lt j k) [
-              | inl before ↦ g.shows showed j before
+            shows = λ showed j lt at. elim (cases_lt j k) [
+              | inl before ↦ g.shows showed j before at
               | inr past ↦
                   let same : k ≡ j = omega arith in
-                  let time : time_named (event_at net (slice_index places k)).id.0 ≡ time_at x (slice_index places k) = time_of (slice_index places k) (at_row k below).is_event in
+                  let here : IsAtStop net stop (slice_index places k) = subst (λ (i : ℕ). IsAtStop net stop (slice_index places i)) (sym same) at in
+                  let time : time_named (event_at net (slice_index places k)).id.0 ≡ time_at x (slice_index places k) = time_of (slice_index places k) here.is_event in
                   let there : times_after shown changes (event_at net (slice_index places k)).id.0 ≡ Some (time_at x (slice_index places k)) =
-                  stays time_named changes shown (event_at net (slice_index places k)).id.0 (due_times changes g.due) (tells showed ∙ ap Some (sym time)) ∙ ap Some time in
+                  stays time_named changes shown (event_at net (slice_index places k)).id.0 (due_times changes g.due) (tells here showed ∙ ap Some (sym time)) ∙ ap Some time in
                   subst (λ (i : ℕ). times_after shown changes (event_at net (slice_index places i)).id.0 ≡ Some (time_at x (slice_index places i))) same there
             ];
             none = g.none;
@@ -143,31 +185,30 @@ module _ (net : Net) (last x : List ℕ) (network : IsNetwork net) where
 
       -- an event that does not
       pub gathered_change : (told : Option (ℕ → Option ℕ)) (changes : List (ℕ × ℕ)) → Gathers net last x stop told places k changes →
-          TellsTime (ShowsLast net last stop told) told (event_at net (slice_index places k)).id.0 (time_at x (slice_index places k)) false →
+          LacksTime net last stop told (slice_index places k) (time_at x (slice_index places k)) true →
           Gathers net last x stop told places (k + 1) (changes ++ ((event_at net (slice_index places k)).id.0, time_at x (slice_index places k)) ∷ [])
-      gathered_change told changes g tells =
+      gathered_change told changes g lacks =
           let c : ℕ × ℕ = ((event_at net (slice_index places k)).id.0, time_at x (slice_index places k)) in
           record {
-            due = All-push (IsDue net x stop) changes c g.due (record { place = slice_index places k; at_stop = at_row k below; event = refl; time = refl });
+            due = All-push (IsDue net x stop) changes c g.due (record { place = slice_index places k; at_stop = lacks.0; event = refl; time = refl });
             shows = λ showed. all_show told (g.shows showed);
-            none = not_all told tells;
+            none = not_all told lacks.1;
             few = let f = g.few in let l = length-append changes (c ∷ []) in omega arith;
           }
         where
           all_show : (told : Option (ℕ → Option ℕ)) →
-              IfSome told (λ shown. (j : ℕ) → j < k → times_after shown changes (event_at net (slice_index places j)).id.0 ≡ Some (time_at x (slice_index places j))) →
-              IfSome told (λ shown. (j : ℕ) → j < k + 1 →
+              IfSome told (λ shown. (j : ℕ) → j < k → IsAtStop net stop (slice_index places j) → times_after shown changes (event_at net (slice_index places j)).id.0 ≡ Some (time_at x (slice_index places j))) →
+              IfSome told (λ shown. (j : ℕ) → j < k + 1 → IsAtStop net stop (slice_index places j) →
               times_after shown (changes ++ ((event_at net (slice_index places k)).id.0, time_at x (slice_index places k)) ∷ []) (event_at net (slice_index places j)).id.0 ≡ Some (time_at x (slice_index places j)))
           all_show None h = tt
-          all_show (Some shown) h = λ j lt.
+          all_show (Some shown) h = λ j lt at.
               let c : ℕ × ℕ = ((event_at net (slice_index places k)).id.0, time_at x (slice_index places k)) in
               let e : ℕ = (event_at net (slice_index places j)).id.0 in
-              let in_row : j < length places = omega arith in
-              let time_k : time_named c.0 ≡ c.1 = time_of (slice_index places k) (at_row k below).is_event in
-              let time_j : time_named e ≡ time_at x (slice_index places j) = time_of (slice_index places j) (at_row j in_row).is_event in
+              let time_k : time_named c.0 ≡ c.1 = time_of (slice_index places k) lacks.0.is_event in
+              let time_j : time_named e ≡ time_at x (slice_index places j) = time_of (slice_index places j) at.is_event in
               after_push shown changes c e ∙ elim (cases_eq e c.0) [
                 | inl same ↦ rw (eq-eqb e c.0 same) (ap Some (sym time_k ∙ (ap time_named (sym same) ∙ time_j)))
-                | inr ne ↦ rw (ne_eqb e c.0 ne) (h j (earlier j lt ne))
+                | inr ne ↦ rw (ne_eqb e c.0 ne) (h j (earlier j lt ne) at)
               ]
             where
               earlier : (j : ℕ) → j < k + 1 → ((event_at net (slice_index places j)).id.0 ≡ (event_at net (slice_index places k)).id.0 → ⊥) → j < k
@@ -176,33 +217,43 @@ module _ (net : Net) (last x : List ℕ) (network : IsNetwork net) where
                 | inr past ↦ let same : j ≡ k = omega arith in absurd (ne (ap (λ (i : ℕ). (event_at net (slice_index places i)).id.0) same))
               ]
 
-          not_all : (told : Option (ℕ → Option ℕ)) → TellsTime (ShowsLast net last stop told) told (event_at net (slice_index places k)).id.0 (time_at x (slice_index places k)) false →
+          not_all : (told : Option (ℕ → Option ℕ)) → TellsTime ⊤ told (event_at net (slice_index places k)).id.0 (time_at x (slice_index places k)) false →
               IfSome told (λ shown. AllStand net x stop shown → changes ++ ((event_at net (slice_index places k)).id.0, time_at x (slice_index places k)) ∷ [] ≡ [])
           not_all None t = tt
-          not_all (Some shown) t = λ all. absurd (t (all (slice_index places k) (at_row k below)))
+          not_all (Some shown) t = λ all. absurd (t (all (slice_index places k) lacks.0))
 
-    -- one event more, with the changes that stand after it
-    pub gathered_next : (told : Option (ℕ → Option ℕ)) (places : List ℕ) (row_is : places ≡ places_at net (record { 0 = stop })) (k : ℕ) (below : k < length places)
-        (changes : List (ℕ × ℕ)) (e t : ℕ) → Gathers net last x stop told places k changes →
-        e ≡ (event_at net (slice_index places k)).id.0 → t ≡ time_at x (slice_index places k) →
-        (answer : Bool) → TellsTime (ShowsLast net last stop told) told e t answer → (after : List (ℕ × ℕ)) → after ≡ (if answer then changes else changes ++ (e, t) ∷ []) →
-        Gathers net last x stop told places (k + 1) after
-    gathered_next told places row_is k below changes e t g e-is t-is answer tells after is =
-        rw is (elim answer as (λ (b : Bool). TellsTime (ShowsLast net last stop told) told e t b → Gathers net last x stop told places (k + 1) (if b then changes else changes ++ (e, t) ∷ [])) [
-          | true ↦ λ h. gathered_standing places row_is k below told changes g
-              (subst (λ (u : ℕ). TellsTime (ShowsLast net last stop told) told (event_at net (slice_index places k)).id.0 u true) t-is (subst (λ (v : ℕ). TellsTime (ShowsLast net last stop told) told v t true) e-is h))
-          | false ↦ λ h. rw (e-is, t-is) (gathered_change places row_is k below told changes g
-              (subst (λ (u : ℕ). TellsTime (ShowsLast net last stop told) told (event_at net (slice_index places k)).id.0 u false) t-is (subst (λ (v : ℕ). TellsTime (ShowsLast net last stop told) told v t false) e-is h)))
-        ] tells)
+    -- one place more, with the changes that stand after it
+    pub gathered_next : (told : Option (ℕ → Option ℕ)) (places : List ℕ) (k : ℕ) (below : k < length places)
+        (changes : List (ℕ × ℕ)) (t : ℕ) → Gathers net last x stop told places k changes → t ≡ time_at x (slice_index places k) →
+        (answer : Bool) → LacksTime net last stop told (slice_index places k) t answer → (after : List (ℕ × ℕ)) →
+        after ≡ (if answer then changes ++ ((event_at net (slice_index places k)).id.0, t) ∷ [] else changes) → Gathers net last x stop told places (k + 1) after
+    gathered_next told places k below changes t g t-is answer lacks after is =
+        rw is (elim answer as (λ (b : Bool). LacksTime net last stop told (slice_index places k) t b →
+        Gathers net last x stop told places (k + 1) (if b then changes ++ ((event_at net (slice_index places k)).id.0, t) ∷ [] else changes)) [
+          | true ↦ λ h. rw t-is (gathered_change places k below told changes g (subst (λ (u : ℕ). LacksTime net last stop told (slice_index places k) u true) t-is h))
+          | false ↦ λ h. gathered_standing places k below told changes g (subst (λ (u : ℕ). LacksTime net last stop told (slice_index places k) u false) t-is h)
+        ] lacks)
+
+    -- all places are looked at
+    pub gathered_all : (told : Option (ℕ → Option ℕ)) (places : List ℕ) → Covers net last x stop places → (k : ℕ) → k ≡ length places → (changes : List (ℕ × ℕ)) →
+        Gathers net last x stop told places k changes → HasGathered net last x stop told changes
+    gathered_all told places covers k over changes g = record { due = g.due; shows = λ showed. all_stand told showed (g.shows showed); none = g.none }
+      where
+        all_stand : (told : Option (ℕ → Option ℕ)) → ShowsLast net last stop told →
+            IfSome told (λ shown. (j : ℕ) → j < k → IsAtStop net stop (slice_index places j) → times_after shown changes (event_at net (slice_index places j)).id.0 ≡ Some (time_at x (slice_index places j))) →
+            IfSome told (λ shown. AllStand net x stop (times_after shown changes))
+        all_stand None showed h = tt
+        all_stand (Some shown) showed h = λ i at. elim (covers.each i at) [
+          | inl s ↦
+              let w = s.within in
+              subst (λ (v : ℕ). times_after shown changes (event_at net v).id.0 ≡ Some (time_at x v)) s.is
+              (h s.at (omega arith) (subst (λ (v : ℕ). IsAtStop net stop v) (sym s.is) at))
+          | inr l ↦
+              let time : time_named (event_at net i).id.0 ≡ time_at x i = time_of i at.is_event in
+              stays time_named changes shown (event_at net i).id.0 (due_times changes g.due) (showed i at l.within ∙ ap Some (l.same ∙ sym time)) ∙ ap Some time
+        ]
 
     module _ (changes : List (ℕ × ℕ)) where
-      -- with all that was gathered, each event at the stop has its time
-      all_stand : (shown : ℕ → Option ℕ) → Gathers net last x stop (Some shown) (places_at net (record { 0 = stop })) (length (places_at net (record { 0 = stop }))) changes →
-          ShowsLast net last stop (Some shown) → AllStand net x stop (times_after shown changes)
-      all_stand shown g showed i at =
-          let there = stands_there net stop i at in
-          subst (λ (v : ℕ). times_after shown changes (event_at net v).id.0 ≡ Some (time_at x v)) there.is (g.shows showed there.place there.within)
-
       others_stand : (shown : ℕ → Option ℕ) → All (IsDue net x stop) changes → (event : ℕ) →
           ((i : ℕ) → IsAtStop net stop i → (event_at net i).id.0 ≡ event → ⊥) → times_after shown changes event ≡ shown event
       others_stand shown due event none =
@@ -212,12 +263,12 @@ module _ (net : Net) (last x : List ℕ) (network : IsNetwork net) where
       all_sound is_sound due sound k d lt = let h = due k d lt in subst is_sound (sym h.event) (sound h.place h.at_stop)
 
       abbrev AllGathered : Option (ℕ → Option ℕ) → Type 0
-      AllGathered told = Gathers net last x stop told (places_at net (record { 0 = stop })) (length (places_at net (record { 0 = stop }))) changes
+      AllGathered told = HasGathered net last x stop told changes
 
       shows_by_sets : (told now : Option (ℕ → Option ℕ)) → AllGathered told → Sets told now changes → IsSome told → ShowsLast net last stop told → ShowsTimes net x stop now
       shows_by_sets None now g sets some showed = absurd (let e : IsSome {T = ℕ → Option ℕ} None = some in cc)
       shows_by_sets (Some shown) None g sets some showed = absurd sets
-      shows_by_sets (Some shown) (Some after) g sets some showed = λ i at. sets (event_at net i).id.0 ∙ all_stand shown g showed i at
+      shows_by_sets (Some shown) (Some after) g sets some showed = λ i at. sets (event_at net i).id.0 ∙ g.shows showed i at
 
       others_by_sets : (told now : Option (ℕ → Option ℕ)) → AllGathered told → Sets told now changes → KeepsOthers net stop told now
       others_by_sets None now g sets = tt
@@ -234,13 +285,6 @@ module _ (net : Net) (last x : List ℕ) (network : IsNetwork net) where
       not_quiet A None g some = tt
       not_quiet A (Some shown) g some = λ all. absurd (some (g.none all))
 
--- all events of the row are looked at
-pub gathered_all : (net : Net) (last x : List ℕ) (stop : ℕ) (told : Option (ℕ → Option ℕ)) (places : List ℕ) → places ≡ places_at net (record { 0 = stop }) →
-    (k : ℕ) → k ≡ length places → (changes : List (ℕ × ℕ)) → Gathers net last x stop told places k changes →
-    Gathers net last x stop told (places_at net (record { 0 = stop })) (length (places_at net (record { 0 = stop }))) changes
-gathered_all net last x stop told places row k over changes g =
-    subst (λ (row : List ℕ). Gathers net last x stop told row (length row) changes) row (subst (λ (n : ℕ). Gathers net last x stop told places n changes) over g)
-
 -- ---- the board
 
 on_ok : {T E P Q : Type 0} (result : Result T E) → (P → Q) → OnOk result P → OnOk result Q
@@ -249,7 +293,7 @@ on_ok (Err e) f h = h
 
 module _ {B : Type 0} (place : B → ℕ) (times : B → Option (ℕ → Option ℕ)) (faults : B → ℕ) (is_sound : B → ℕ → Type 0)
     (net : Net) (last x : List ℕ) (network : IsNetwork net) (before : B) (changes : List (ℕ × ℕ))
-    (g : Gathers net last x (place before) (times before) (places_at net (record { 0 = place before })) (length (places_at net (record { 0 = place before }))) changes) where
+    (g : HasGathered net last x (place before) (times before) changes) where
   same_quiet : (told : Option (ℕ → Option ℕ)) → IfSome told (λ shown. AllStand net x (place before) shown → before ≡ before)
   same_quiet None = tt
   same_quiet (Some shown) = λ all. refl

@@ -1,3 +1,4 @@
 -- One board and states of loops. Who believes what publishing promises need not read them.
+pub mod Changes
 pub mod Refreshing
 pub mod Turns

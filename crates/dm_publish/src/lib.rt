@@ -6,7 +6,9 @@
 //! notes knows of the others.
 #![tactic(auto)]
 
+mod changes;
 mod publisher;
 mod refreshing;
+mod showing;
 
 pub use publisher::Publisher;

@@ -1,17 +1,16 @@
 //! Boards kept up to date.
-ghost use Rattle.std.specs.Prelude.{ℕ, ◌≡◌, ◌<◌, ◌≤◌, [], length, vec_len, vec_capacity, IfOk};
+ghost use Rattle.std.specs.Prelude.{ℕ, ◌≡◌, ◌≤◌, [], length, vec_len, IfOk};
 ghost use Rattle.dm_base.specs.declared.limits.TheConstants.{BOARDS};
 ghost use Rattle.dm_cert.specs.Runs.{AreTrueNotes};
 ghost use Rattle.dm_publish.specs.Value.{PublisherValue};
-ghost use Rattle.dm_publish.specs.Publishing.{has_note, Publishes};
+ghost use Rattle.dm_publish.specs.Publishing.{Publishes};
 ghost use Rattle.dm_publish.specs.Since.{KeepsUp, KeepsUpLast};
-ghost use Rattle.dm_publish.specs.Inside.Turns.{TakesTurn};
 
-use crate::refreshing::{refresh, stop_of};
-use dm_base::Secs;
+use crate::changes::list_changes;
+use crate::showing::Showing;
 use dm_cert::Note;
 use dm_network::Network;
-use dm_outside::{Board, Failed};
+use dm_outside::Board;
 use dm_times::Times;
 use std::alloc::{AllocError, Global};
 use std::marker::Model;
@@ -19,27 +18,21 @@ use std::marker::Model;
 /// Which boards of a list were dropped, what was published last, and the room to show the others what has changed.
 #[derive(Drop)]
 pub struct Publisher {
-    boards: usize,
-    events: usize,
-    notes: Vec<Note>,
-    changes: Vec<(u32, Secs)>,
+    showing: Showing,
 
-    /// The times in seconds that were published last, by place of the event; none before the first publishing.
-    last: Vec<Secs>,
+    /// Room for the places whose times differ from those published last.
+    listed: Vec<usize>,
 }
 
 impl Model for Publisher {
-    ghost use Rattle.std.specs.Prelude.{ℕ, ◌≤◌, vec_capacity};
-    ghost use Rattle.dm_base.specs.declared.limits.TheConstants.{BOARDS};
+    ghost use Rattle.std.specs.Prelude.{◌≤◌, vec_capacity};
     ghost use Rattle.dm_publish.specs.Value.{PublisherValue};
-    ghost use Rattle.dm_publish.specs.Inside.Turns.{AreNotesOf};
 
     ghost Value = { PublisherValue };
 
-    ghost view = { λ p. record { boards = p.boards; events = p.events; notes = p.notes.items; last = p.last.items } };
+    ghost view = { λ p. p.showing };
 
-    ghost invariant = { λ p.
-        (p.boards ≤ BOARDS) × (p.boards ≤ vec_capacity p.notes) × (p.events ≤ vec_capacity p.changes) × (p.events ≤ vec_capacity p.last) × AreNotesOf p.boards p.notes.items };
+    ghost invariant = { λ p. p.showing.events ≤ vec_capacity p.listed };
 }
 
 impl Publisher {
@@ -49,11 +42,8 @@ impl Publisher {
         ensures { IfOk result (λ p. p ≡ record { boards = boards; events = length net.now.events; notes = []; last = [] }) }
     {
         Ok(Publisher {
-            boards,
-            events: net.events(),
-            notes: Vec::with_capacity(alloc, boards)?,
-            changes: Vec::with_capacity(alloc, net.events())?,
-            last: Vec::with_capacity(alloc, net.events())?,
+            showing: Showing::new(alloc, net, boards)?,
+            listed: Vec::with_capacity(alloc, net.events())?,
         })
     }
 
@@ -61,7 +51,7 @@ impl Publisher {
     pub fn notes(&self) -> &[Note]
         ensures { result.now ≡ self.now.notes }
     {
-        self.notes.as_slice()
+        self.showing.notes()
     }
 
     /// Shows each board that no note names the events of its stop whose times differ, in ascending order of ids, and calls it
@@ -89,7 +79,7 @@ impl Publisher {
         ensures same_boards { self.new.boards ≡ self.old.boards }
         ensures same_events { self.new.events ≡ self.old.events }
     {
-        self.last.clear();
+        self.showing.forget();
         self.publish_changes(net, timetable, entry, boards)
     }
 
@@ -117,63 +107,8 @@ impl Publisher {
         ensures same_boards { self.new.boards ≡ self.old.boards }
         ensures same_events { self.new.events ≡ self.old.events }
     {
-        let before = self.notes.len();
-        for index in 0..boards.len() {
-            self.keep_up(net, timetable, entry, index, &mut boards[index]);
-        }
-        keep(&mut self.last, timetable);
-        self.notes.len() - before
+        list_changes(self.showing.last(), timetable.as_slice(), &mut self.listed);
+        self.showing
+            .show_listed(net, timetable, entry, &self.listed, boards)
     }
-
-    /// Shows the board at a place the times of its stop, unless a note names it.
-    fn keep_up(
-        &mut self,
-        net: &Network,
-        timetable: &Times,
-        entry: u32,
-        index: usize,
-        board: &mut Box<dyn Board>,
-    )
-        requires events { length net.now.events ≡ self.old.events }
-        requires times { length timetable.now ≡ length net.now.events }
-        requires is_board { index < self.old.boards }
-        ensures turn { TakesTurn place times faults is_sound net.now self.old.last timetable.now entry index self.old.notes self.new.notes board.old board.new }
-        ensures same_last { self.new.last ≡ self.old.last }
-        ensures same_boards { self.new.boards ≡ self.old.boards }
-        ensures same_events { self.new.events ≡ self.old.events }
-    {
-        if has_note(&self.notes, index) {
-            return;
-        }
-        if let Err(Failed) = refresh(net, &self.last, timetable, board, &mut self.changes) {
-            let note = Note {
-                board: index as u32 + 1,
-                stop: stop_of(board).0,
-                entry,
-            };
-            let Ok(()) = self.notes.push(note) else {
-                unreachable!();
-            };
-        }
-    }
-}
-
-/// Keeps the times of a timetable in a list that has room for them.
-fn keep(last: &mut Vec<Secs>, timetable: &Times)
-    requires { length timetable.now ≤ vec_capacity last.old }
-    ensures times { last.new.items ≡ timetable.now }
-    ensures room { vec_capacity last.old ≤ vec_capacity last.new }
-{
-    last.clear();
-    let Ok(()) = last.extend_from_slice(timetable.as_slice()) else {
-        unreachable!();
-    };
-}
-
-/// Whether a note names the board at a place.
-fn has_note(notes: &[Note], index: usize) -> bool
-    requires { index < BOARDS }
-    ensures { result ≡ has_note notes.now index }
-{
-    notes.iter().any(|note| index + 1 == note.board as usize)
 }

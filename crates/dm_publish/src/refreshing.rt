@@ -1,38 +1,54 @@
 //! One board.
-ghost use Rattle.std.specs.Prelude.{◌≡◌, ◌<◌, ◌≤◌, ℕ, true, [], length, slice_index, vec_capacity, All, IsOk, OnOk, ⊤};
+ghost use Rattle.std.specs.Prelude.{◌≡◌, ◌<◌, ◌≤◌, ◌⊎◌, ℕ, [], length, vec_capacity, All, IsOk, OnOk, ⊤};
 ghost use Rattle.dm_network.specs.Net.{places_at};
 ghost use Rattle.dm_outside.specs.Board.{Sets};
 ghost use Rattle.dm_outside.specs.Faults.{Counts};
-ghost use Rattle.dm_network.specs.Net.{event_at};
-ghost use Rattle.dm_publish.specs.Shown.{IsAtStop, ShowsLast};
-ghost use Rattle.dm_publish.specs.Inside.Refreshing.{Gathers, Refreshes, TellsTime};
+ghost use Rattle.dm_publish.specs.Inside.Changes.{ListsChanges};
+ghost use Rattle.dm_publish.specs.Inside.Refreshing.{Covers, HasGathered, LacksTime, Refreshes, TellsTime};
 
+use crate::changes::is_last;
 use dm_base::{Secs, StopId};
 use dm_network::Network;
 use dm_outside::{Board, Failed};
 use dm_times::Times;
 
 /// Shows a board that shows the last times the events of its stop whose times differ, and shows it nothing where there are none.
-/// The changes are written to a list that has room for one of each event.
+/// The places whose times are not the last ones are listed. The changes are written to a list that has room for one of each
+/// event.
 pub(crate) fn refresh(
     net: &Network,
     last: &[Secs],
     timetable: &Times,
+    listed: &[usize],
     board: &mut Box<dyn Board>,
     changes: &mut Vec<(u32, Secs)>,
 ) -> Result<(), Failed>
     requires size { length timetable.now ≡ length net.now.events }
+    requires listed { ListsChanges last.now timetable.now (length timetable.now) listed.now }
     requires room { length net.now.events ≤ vec_capacity changes.old }
     ensures refreshed { Refreshes place times faults is_sound net.now last.now timetable.now board.old board.new result }
     ensures room { vec_capacity changes.old ≤ vec_capacity changes.new }
 {
     net.sound();
     changes.clear();
-    gather(net, last, timetable, board, changes);
+    let places = places_to_see(net, listed, stop_of(board));
+    gather(net, last, timetable, places, board, changes);
     if changes.is_empty() {
         return Ok(());
     }
     show_on(board, changes)
+}
+
+/// The shorter of two lists: the listed places, or those of the events at a stop.
+fn places_to_see<'a>(net: &'a Network, listed: &'a [usize], stop: StopId) -> &'a [usize]
+    ensures { (result.now ≡ listed.now) ⊎ (result.now ≡ places_at net.now stop) }
+{
+    let row = net.at_stop(stop);
+    if listed.len() < row.len() {
+        listed
+    } else {
+        row
+    }
 }
 
 /// Shows a board these changes.
@@ -46,25 +62,28 @@ fn show_on(board: &mut Box<dyn Board>, changes: &[(u32, Secs)]) -> Result<(), Fa
     board.show(changes)
 }
 
-/// Lists the events of the board's stop whose times differ from those that it shows. It is asked where the last time differs.
+/// Lists the events of the board's stop whose times differ from those that it shows. These places are looked at, and it is asked
+/// where the last time differs.
 fn gather(
     net: &Network,
     last: &[Secs],
     timetable: &Times,
+    places: &[usize],
     board: &Box<dyn Board>,
     changes: &mut Vec<(u32, Secs)>,
 )
     requires size { length timetable.now ≡ length net.now.events }
+    requires covers { Covers net.now last.now timetable.now (place board.now) places.now }
     requires empty { changes.old.items ≡ [] }
     requires room { length net.now.events ≤ vec_capacity changes.old }
-    ensures gathered { Gathers net.now last.now timetable.now (place board.now) (times board.now) (places_at net.now (record { 0 = place board.now })) (length (places_at net.now (record { 0 = place board.now }))) changes.new.items }
+    ensures gathered { HasGathered net.now last.now timetable.now (place board.now) (times board.now) changes.new.items }
     ensures room { vec_capacity changes.old ≤ vec_capacity changes.new }
 {
     net.sound();
     let stop = stop_of(board);
-    for i in net.at_stop(stop) {
+    for i in places {
         let time = timetable.time(*i);
-        if !stands(net, last, board, *i, time) {
+        if lacks(net, last, board, stop, *i, time) {
             let Ok(()) = changes.push((net.event(*i).id.0, time)) else {
                 unreachable!();
             };
@@ -80,19 +99,28 @@ pub(crate) fn stop_of(board: &Box<dyn Board>) -> StopId
     StopId(board.stop())
 }
 
-/// Whether a board that shows the last times shows this time for an event of its stop. It is asked where the last time differs.
-fn stands(net: &Network, last: &[Secs], board: &Box<dyn Board>, i: usize, time: Secs) -> bool
-    requires { IsAtStop net.now (place board.now) i }
-    ensures { TellsTime (ShowsLast net.now last.now (place board.now) (times board.now)) (times board.now) (event_at net.now i).id.0 time result }
+/// Whether an event is of the board's stop, and a board that shows the last times does not show this time for it. It is asked
+/// where the last time differs.
+fn lacks(
+    net: &Network,
+    last: &[Secs],
+    board: &Box<dyn Board>,
+    stop: StopId,
+    i: usize,
+    time: Secs,
+) -> bool
+    requires is_event { i < length net.now.events }
+    requires is_stop { stop ≡ record { 0 = place board.now } }
+    ensures { LacksTime net.now last.now (place board.now) (times board.now) i time result }
 {
-    is_last(last, i, time) || shows(board, net.event(i).id.0, time)
-}
-
-/// Whether this is the last time at a place.
-fn is_last(last: &[Secs], i: usize, time: Secs) -> bool
-    ensures { result ≡ true → (i < length last.now) × (slice_index last.now i ≡ time) }
-{
-    i < last.len() && last[i] == time
+    if is_last(last, i, time) {
+        return false;
+    }
+    let event = net.event(i);
+    if event.stop.0 != stop.0 {
+        return false;
+    }
+    !shows(board, event.id.0, time)
 }
 
 /// Whether a board shows this time for an event.

@@ -1,9 +1,10 @@
 -- What one board is shown.
-use Rattle.std.specs.Prelude.{ℕ, ◌≡◌, ◌<◌, ◌≤◌, Bool, true, false, List, [], length, Option, None, Some, IfSome, IsSome, Result, IsOk, OnOk, OnErr, ⊤, All, slice_index}
+use Rattle.std.specs.Prelude.{ℕ, ◌≡◌, ◌<◌, ◌≤◌, ◌⊎◌, Bool, true, false, List, [], length, Option, None, Some, IfSome, IsSome, Result, IsOk, OnOk, OnErr, ⊤, All, slice_index}
 use Rattle.dm_network.specs.Net.{Net, event_at}
 use Rattle.dm_rows.specs.Timetable.{time_at}
 use Rattle.dm_outside.specs.Faults.{Counts, HasRisen}
 use Rattle.dm_outside.specs.Board.{times_after, Sets}
+use Rattle.dm_publish.specs.Inside.Changes.{StandsIn, HasLast}
 use Rattle.dm_publish.specs.Shown.{IsAtStop, AllStand, ShowsTimes, ShowsLast, KeepsOthers, IsSoundFor}
 
 -- whether this time stands there for the event, where the board tells that: known where it showed the last times
@@ -19,13 +20,31 @@ pub record IsDue (net : Net) (x : List ℕ) (stop : ℕ) (change : ℕ × ℕ) :
   pub event : change.0 ≡ (event_at net place).id.0
   pub time : change.1 ≡ time_at x place
 
--- The changes that a board needs for the first k of these events: with them each has its time, where it showed the last times.
+-- whether the event at a place is of the stop, and does not have this time there, where the board tells that
+abbrev pub LacksTime : Net → List ℕ → ℕ → Option (ℕ → Option ℕ) → ℕ → ℕ → Bool → Type 0
+LacksTime net last stop told i time true = IsAtStop net stop i × TellsTime ⊤ told (event_at net i).id.0 time false
+LacksTime net last stop told i time false = IsAtStop net stop i → TellsTime (ShowsLast net last stop told) told (event_at net i).id.0 time true
+
+-- places of events, among which stands each event at the stop whose time is not the last one
+pub record Covers (net : Net) (last x : List ℕ) (stop : ℕ) (places : List ℕ) : Type 0 where
+  pub each : (i : ℕ) → IsAtStop net stop i → StandsIn places i ⊎ HasLast last x i
+  pub within : All (λ i. i < length net.events) places
+  pub few : length places ≤ length net.events
+
+-- The changes that a board needs for those of the first k of these places that are at its stop: with them each has its time,
+-- where it showed the last times.
 pub record Gathers (net : Net) (last x : List ℕ) (stop : ℕ) (told : Option (ℕ → Option ℕ)) (places : List ℕ) (k : ℕ) (changes : List (ℕ × ℕ)) : Type 0 where
   pub due : All (IsDue net x stop) changes
-  pub shows : ShowsLast net last stop told → IfSome told (λ shown. (j : ℕ) → j < k →
+  pub shows : ShowsLast net last stop told → IfSome told (λ shown. (j : ℕ) → j < k → IsAtStop net stop (slice_index places j) →
       times_after shown changes (event_at net (slice_index places j)).id.0 ≡ Some (time_at x (slice_index places j)))
   pub none : IfSome told (λ shown. AllStand net x stop shown → changes ≡ [])
   pub few : length changes ≤ k
+
+-- the changes that a board needs: with them each event at the stop has its time, where it showed the last times
+pub record HasGathered (net : Net) (last x : List ℕ) (stop : ℕ) (told : Option (ℕ → Option ℕ)) (changes : List (ℕ × ℕ)) : Type 0 where
+  pub due : All (IsDue net x stop) changes
+  pub shows : ShowsLast net last stop told → IfSome told (λ shown. AllStand net x stop (times_after shown changes))
+  pub none : IfSome told (λ shown. AllStand net x stop shown → changes ≡ [])
 
 -- what a show of these changes does to a board
 pub record TakesChanges {B T E : Type 0} (place : B → ℕ) (times : B → Option (ℕ → Option ℕ)) (faults : B → ℕ) (is_sound : B → ℕ → Type 0)

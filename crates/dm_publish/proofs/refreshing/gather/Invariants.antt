@@ -5,5 +5,5 @@ use Rattle.dm_publish.proofs.refreshing.gather.Given as goal
 abbrev pub invariant-loop-i : goal.invariant-loop-i
 invariant-loop-i g l =
     Gathers l.net l.last l.timetable ((goal.Board-dyn g (l.board.vtable, l.board.value)).place l.board.value)
-    ((goal.Board-dyn g (l.board.vtable, l.board.value)).times l.board.value) l.i-items l.i-index l.changes.items
+    ((goal.Board-dyn g (l.board.vtable, l.board.value)).times l.board.value) l.places l.i-index l.changes.items
     × (vec_capacity l.initial.changes ≤ vec_capacity l.changes)

@@ -1,6 +1,6 @@
 use Rattle.std.proofs.Common.{arith}
 use Rattle.dm_publish.proofs.Notes.{no_notes}
-use Rattle.dm_publish.proofs.publisher.Publisher.new.Goals as goal
+use Rattle.dm_publish.proofs.showing.Showing.new.Goals as goal
 
 pub invariant_of-result : goal.invariant_of-result
 invariant_of-result c =

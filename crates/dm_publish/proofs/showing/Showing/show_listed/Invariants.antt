@@ -1,6 +1,6 @@
 use Rattle.std.proofs.Common.{◌≡◌}
 use Rattle.dm_publish.specs.Inside.Turns.{IsPublishedTo}
-use Rattle.dm_publish.proofs.publisher.Publisher.publish_changes.Given as goal
+use Rattle.dm_publish.proofs.showing.Showing.show_listed.Given as goal
 
 abbrev pub invariant-loop-index : goal.invariant-loop-index
 invariant-loop-index g l =

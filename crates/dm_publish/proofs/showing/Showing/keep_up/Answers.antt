@@ -4,7 +4,7 @@ use Rattle.dm_publish.specs.Publishing.{has_note}
 use Rattle.dm_publish.specs.Inside.Turns.{note_of, is_shown, is_dropped}
 use Rattle.dm_publish.proofs.Carried.{refreshes_by}
 use Rattle.dm_publish.proofs.Notes.{one_more, has_room}
-use Rattle.dm_publish.proofs.publisher.Publisher.keep_up.Goals as goal
+use Rattle.dm_publish.proofs.showing.Showing.keep_up.Goals as goal
 
 pub invariant_of-self : goal.invariant_of-self
 invariant_of-self g c =

@@ -1,0 +1,161 @@
+//! Boards that are shown what is listed.
+ghost use Rattle.std.specs.Prelude.{ℕ, ◌≡◌, ◌<◌, ◌≤◌, [], length, vec_len, vec_capacity, IfOk};
+ghost use Rattle.dm_base.specs.declared.limits.TheConstants.{BOARDS};
+ghost use Rattle.dm_cert.specs.Runs.{AreTrueNotes};
+ghost use Rattle.dm_publish.specs.Value.{PublisherValue};
+ghost use Rattle.dm_publish.specs.Publishing.{has_note, Publishes};
+ghost use Rattle.dm_publish.specs.Since.{KeepsUpLast};
+ghost use Rattle.dm_publish.specs.Inside.Changes.{ListsChanges};
+ghost use Rattle.dm_publish.specs.Inside.Turns.{TakesTurn};
+
+use crate::changes::keep;
+use crate::refreshing::{refresh, stop_of};
+use dm_base::Secs;
+use dm_cert::Note;
+use dm_network::Network;
+use dm_outside::{Board, Failed};
+use dm_times::Times;
+use std::alloc::{AllocError, Global};
+use std::marker::Model;
+
+/// Which boards of a list were dropped, what was published last, and the room to show the others what has changed.
+#[derive(Drop)]
+pub(crate) struct Showing {
+    boards: usize,
+    events: usize,
+    notes: Vec<Note>,
+    changes: Vec<(u32, Secs)>,
+
+    /// The times in seconds that were published last, by place of the event; none before the first publishing.
+    last: Vec<Secs>,
+}
+
+impl Model for Showing {
+    ghost use Rattle.std.specs.Prelude.{ℕ, ◌≤◌, vec_capacity};
+    ghost use Rattle.dm_base.specs.declared.limits.TheConstants.{BOARDS};
+    ghost use Rattle.dm_publish.specs.Value.{PublisherValue};
+    ghost use Rattle.dm_publish.specs.Inside.Turns.{AreNotesOf};
+
+    ghost Value = { PublisherValue };
+
+    ghost view = { λ p. record { boards = p.boards; events = p.events; notes = p.notes.items; last = p.last.items } };
+
+    ghost invariant = { λ p.
+        (p.boards ≤ BOARDS) × (p.boards ≤ vec_capacity p.notes) × (p.events ≤ vec_capacity p.changes) × (p.events ≤ vec_capacity p.last) × AreNotesOf p.boards p.notes.items };
+}
+
+impl Showing {
+    /// The state of so many boards, at most 64, that show times of this network, with all the room that it needs.
+    pub(crate) fn new(alloc: Global, net: &Network, boards: usize) -> Result<Showing, AllocError>
+        requires { boards ≤ BOARDS }
+        ensures { IfOk result (λ p. p ≡ record { boards = boards; events = length net.now.events; notes = []; last = [] }) }
+    {
+        Ok(Showing {
+            boards,
+            events: net.events(),
+            notes: Vec::with_capacity(alloc, boards)?,
+            changes: Vec::with_capacity(alloc, net.events())?,
+            last: Vec::with_capacity(alloc, net.events())?,
+        })
+    }
+
+    /// The notes of all boards that were dropped, in the order in which they were.
+    pub(crate) fn notes(&self) -> &[Note]
+        ensures { result.now ≡ self.now.notes }
+    {
+        self.notes.as_slice()
+    }
+
+    /// The times that were published last, by place.
+    pub(crate) fn last(&self) -> &[Secs]
+        ensures { result.now ≡ self.now.last }
+    {
+        self.last.as_slice()
+    }
+
+    /// Forgets what was published last.
+    pub(crate) fn forget(&mut self)
+        ensures last { self.new.last ≡ [] }
+        ensures same_notes { self.new.notes ≡ self.old.notes }
+        ensures same_boards { self.new.boards ≡ self.old.boards }
+        ensures same_events { self.new.events ≡ self.old.events }
+    {
+        self.last.clear();
+    }
+
+    /// Shows each board that no note names the events of its stop whose times differ, and keeps the times. The places whose times
+    /// are not those published last are listed. A board whose show fails is dropped, and it answers how many were.
+    pub(crate) fn show_listed(
+        &mut self,
+        net: &Network,
+        timetable: &Times,
+        entry: u32,
+        listed: &[usize],
+        boards: &mut Vec<Box<dyn Board>>,
+    ) -> usize
+        requires events { length net.now.events ≡ self.old.events }
+        requires times { length timetable.now ≡ length net.now.events }
+        requires boards { vec_len boards.old ≡ self.old.boards }
+        requires listed { ListsChanges self.old.last timetable.now (length timetable.now) listed.now }
+        ensures published { Publishes place times faults is_sound net.now self.old.last timetable.now entry boards.old.items boards.new.items self.old.notes self.new.notes result }
+
+        // Boards that were kept up since some first list, and show the times published last, are so after the call, and show
+        // the timetable.
+        ensures keeps_up { KeepsUpLast place times faults is_sound net.now self.old.last timetable.now boards.old.items boards.new.items self.old.notes self.new.notes }
+
+        // Notes that are true at an earlier entry are so with the new ones.
+        ensures true_notes { (entries : ℕ) → entries ≤ entry → AreTrueNotes entries self.old.notes → AreTrueNotes entry self.new.notes }
+        ensures last { self.new.last ≡ timetable.now }
+        ensures same_boards { self.new.boards ≡ self.old.boards }
+        ensures same_events { self.new.events ≡ self.old.events }
+    {
+        let before = self.notes.len();
+        for index in 0..boards.len() {
+            self.keep_up(net, timetable, entry, listed, index, &mut boards[index]);
+        }
+        keep(&mut self.last, timetable.as_slice(), listed);
+        self.notes.len() - before
+    }
+
+    /// Shows the board at a place the times of its stop, unless a note names it.
+    fn keep_up(
+        &mut self,
+        net: &Network,
+        timetable: &Times,
+        entry: u32,
+        listed: &[usize],
+        index: usize,
+        board: &mut Box<dyn Board>,
+    )
+        requires events { length net.now.events ≡ self.old.events }
+        requires times { length timetable.now ≡ length net.now.events }
+        requires is_board { index < self.old.boards }
+        requires listed { ListsChanges self.old.last timetable.now (length timetable.now) listed.now }
+        ensures turn { TakesTurn place times faults is_sound net.now self.old.last timetable.now entry index self.old.notes self.new.notes board.old board.new }
+        ensures same_last { self.new.last ≡ self.old.last }
+        ensures same_boards { self.new.boards ≡ self.old.boards }
+        ensures same_events { self.new.events ≡ self.old.events }
+    {
+        if has_note(&self.notes, index) {
+            return;
+        }
+        if let Err(Failed) = refresh(net, &self.last, timetable, listed, board, &mut self.changes) {
+            let note = Note {
+                board: index as u32 + 1,
+                stop: stop_of(board).0,
+                entry,
+            };
+            let Ok(()) = self.notes.push(note) else {
+                unreachable!();
+            };
+        }
+    }
+}
+
+/// Whether a note names the board at a place.
+fn has_note(notes: &[Note], index: usize) -> bool
+    requires { index < BOARDS }
+    ensures { result ≡ has_note notes.now index }
+{
+    notes.iter().any(|note| index + 1 == note.board as usize)
+}
