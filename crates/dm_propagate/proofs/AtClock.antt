@@ -1,10 +1,10 @@
 -- Floors at one clock and at another.
-use Rattle.std.proofs.Common.{◌≡◌, ℕ, ◌+◌, ◌<◌, ◌≤◌, length, Option, Some, None, refl, subst, ◌∙◌, arith, slice_index}
+use Rattle.std.proofs.Common.{◌≡◌, ℕ, ◌≤◌, Option, Some, None, refl, subst, ◌∙◌, arith}
 use Rattle.std.specs.Prelude.{unwrap_or, max}
 use Rattle.dm_network.specs.Net.{Net}
 use Rattle.dm_rows.specs.Resolve.{after_change}
 use Rattle.dm_rows.specs.Rows.{RowsValue, passed_at}
-use Rattle.dm_rows.specs.Timetable.{planned_time, floor_of}
+use Rattle.dm_rows.specs.Timetable.{planned_time}
 use Rattle.dm_rows.specs.declared.messages.Change.{Change}
 use Rattle.dm_rows.specs.declared.messages.Change.TheVariants.{EventDelay, ActDelay, Passed, Recalled, Flipped, Adopted, Clock}
 use Rattle.dm_settle.specs.Constraints.{ConstraintsValue}

@@ -13,6 +13,8 @@ use Rattle.dm_times.specs.Inside.Filling.{AreConstraintsOf}
 use Rattle.dm_times.proofs.Filled.{least_for_rows, no_cycle_of_rows}
 use Rattle.dm_priced.specs.Priced.{PricedValue, IsPriced, FollowsPrice}
 use Rattle.dm_propagate.specs.Inside.Flags.{flags_of, AreFlagsOf}
+use Rattle.dm_propagate.specs.Schedule.{IsScheduleOf}
+use Rattle.dm_propagate.specs.declared.schedule.Scheduled.{Scheduled}
 use Rattle.dm_propagate.specs.Engine.{EngineValue, FollowsRows, IsEngineOf, times_of}
 
 constraints_of_rows : (net : Net) (rows : RowsValue) (given : ConstraintsValue) → IsSizedFor net given → FollowsRows net rows given →
@@ -32,14 +34,16 @@ follows_no_cycle net rows live is follows =
     no_cycle_of_rows net rows live.given (constraints_of_rows net rows live.given is.sized follows) (live_has_no_cycle net live is)
 
 -- an engine of parts that follow the rows
-pub is_engine : (net : Net) (rows : RowsValue) (priced : PricedValue) → IsSized net rows → IsPriced net priced → IsAtRest priced.live →
-    FollowsRows net rows priced.live.given → AreFlagsOf net rows (flags_of priced) → IsEngineOf net (record { rows = rows; priced = priced })
-is_engine net rows priced sized is rest follows flags = record {
+pub is_engine : (net : Net) (rows : RowsValue) (priced : PricedValue) (schedule : List Scheduled) → IsSized net rows → IsPriced net priced → IsAtRest priced.live →
+    FollowsRows net rows priced.live.given → AreFlagsOf net rows (flags_of priced) → IsScheduleOf net schedule →
+    IsEngineOf net (record { rows = rows; priced = priced; schedule = schedule })
+is_engine net rows priced schedule sized is rest follows flags scheduled = record {
   sized = sized;
   priced = is;
   at_rest = rest;
   follows = follows;
   price = record { passed = flags.passed; charged = flags.charged; spans = follows.spans };
+  schedule = scheduled;
 }
 
 pub engine_flags : (net : Net) (rows : RowsValue) (priced : PricedValue) → FollowsPrice net rows (is_dropped_change net rows) priced →

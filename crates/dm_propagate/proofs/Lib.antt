@@ -6,5 +6,6 @@ pub mod Flagging
 pub mod Following
 pub mod HeldLemmas
 pub mod Passing
+pub mod Raising
 pub mod Reaching
 pub mod Turned

@@ -5,5 +5,6 @@ pub mod Setting
 pub mod Concern
 pub mod Turning
 pub mod Changing
+pub mod Raising
 pub mod Altering
 pub mod Flags

@@ -8,10 +8,12 @@ ghost use Rattle.dm_priced.specs.Priced.{IsPriced};
 ghost use Rattle.dm_propagate.specs.Engine.{FollowsRows};
 ghost use Rattle.dm_propagate.specs.Inside.Concern.{FollowsBut, LeadsAt, IsDecidedBefore};
 ghost use Rattle.dm_propagate.specs.Inside.Flags.{flags_of, AreFlagsOf, AreFlagsBut, SetsFlagsAt, SetsFlagsBy};
+ghost use Rattle.dm_propagate.specs.Schedule.{IsScheduleOf};
 ghost use Rattle.dm_propagate.specs.Inside.Changing.{FollowsAt, Turns, IsTurnRefused, HasPassed, MarksFor};
 
 use crate::charging::{charge_by_flips, set_flags_at};
 use crate::clock::move_clock;
+use crate::schedule::Scheduled;
 use crate::turning::{let_go_around, let_go_by_flips, set_place, take_up_around, take_up_by_flips};
 use dm_base::{Secs, Steps};
 use dm_graph::search::Cyclic;
@@ -108,6 +110,7 @@ pub fn turn<L: Ledger>(
     net: &Network,
     rows: &Rows,
     change: &Change,
+    schedule: &[Scheduled],
     earlier: Secs,
     steps: &mut Steps<L>,
 ) -> Result<(), Cyclic>
@@ -116,6 +119,7 @@ pub fn turn<L: Ledger>(
     requires reaches { Reaches rows.now change.now }
     requires follows { FollowsBut net.now rows.now change.now priced.old.live.given }
     requires flags { AreFlagsBut net.now rows.now change.now (flags_of priced.old) }
+    requires schedule { IsScheduleOf net.now schedule.now }
     requires clock { FollowsAt net.now rows.now change.now earlier priced.old.live.given }
     ensures priced { IsPriced net.now priced.new }
     ensures follows { OnOk result (FollowsRows net.now rows.now priced.new.live.given) }
@@ -140,7 +144,7 @@ pub fn turn<L: Ledger>(
         Change::Flipped(flip) => turn_by_flips(priced, net, rows, &[*flip], steps),
         Change::Adopted(flips) => turn_adopted(priced, net, rows, flips.as_slice(), steps),
         Change::Clock { .. } => {
-            move_clock(priced, net, rows, earlier);
+            move_clock(priced, net, rows, schedule, earlier);
             Ok(())
         }
     }

@@ -1,11 +1,14 @@
 //! A timetable that is brought to follow rows at another clock.
-ghost use Rattle.std.specs.Prelude.{◌≡◌, ◌+◌, ◌<◌, length};
+ghost use Rattle.std.specs.Prelude.{ℕ, ◌≡◌, ◌+◌, ◌<◌, All, List, length, slice_index_or};
 ghost use Rattle.dm_rows.specs.Rows.{IsSized};
 ghost use Rattle.dm_live.specs.Live.{LiveValue};
 ghost use Rattle.dm_priced.specs.Priced.{IsPriced};
 ghost use Rattle.dm_propagate.specs.Inside.Flags.{flags_of};
 ghost use Rattle.dm_propagate.specs.Inside.Changing.{AreFloorsAt, HaveFloorsFrom, HasFloors};
+ghost use Rattle.dm_propagate.specs.Inside.Raising.{HaveFloorsBut, RaisesFloors};
+ghost use Rattle.dm_propagate.specs.Schedule.{IsScheduleOf};
 
+use crate::schedule::{Scheduled, scheduled_before};
 use crate::sweeping::set_floors;
 use dm_base::Secs;
 use dm_network::Network;
@@ -14,10 +17,17 @@ use dm_rows::Rows;
 use dm_times::floor_of;
 
 /// Gives each event its floor by the rows, where each had it by the same rows at an earlier clock. Unless the clock is taken
-/// back, a floor that is not below it stands: one look at each floor finds those to change.
-pub fn move_clock(priced: &mut PricedTimetable, net: &Network, rows: &Rows, earlier: Secs)
+/// back, an event that is scheduled at it or later has its floor already: a look at each other one finds those to change.
+pub fn move_clock(
+    priced: &mut PricedTimetable,
+    net: &Network,
+    rows: &Rows,
+    schedule: &[Scheduled],
+    earlier: Secs,
+)
     requires priced { IsPriced net.now priced.old }
     requires sized { IsSized net.now rows.now }
+    requires schedule { IsScheduleOf net.now schedule.now }
     requires floors { AreFloorsAt net.now rows.now earlier priced.old.live.given }
     ensures priced { IsPriced net.now priced.new }
     ensures flags { flags_of priced.new ≡ flags_of priced.old }
@@ -27,24 +37,35 @@ pub fn move_clock(priced: &mut PricedTimetable, net: &Network, rows: &Rows, earl
     if clock < earlier {
         set_floors(priced, net, rows);
     } else {
-        raise_floors(priced, net, rows, clock);
+        let due = scheduled_before(schedule, clock);
+        raise_floors(priced, net, rows, clock, due);
     }
 }
 
-/// Gives each event its floor by the rows, where each that has one from a clock on has it already.
-fn raise_floors(priced: &mut PricedTimetable, net: &Network, rows: &Rows, clock: Secs)
+/// Gives each event its floor by the rows, where each that is not due has it already, and so has each that has one from a
+/// clock on.
+#[tactic(auto, using(crate::proofs::Raising::none_raised, crate::proofs::Raising::all_raised))]
+fn raise_floors(
+    priced: &mut PricedTimetable,
+    net: &Network,
+    rows: &Rows,
+    clock: Secs,
+    due: &[Scheduled],
+)
     requires priced { IsPriced net.now priced.old }
     requires sized { IsSized net.now rows.now }
+    requires are_events { All (λ s. s.event < length net.now.events) due.now }
     requires stand { HaveFloorsFrom net.now rows.now clock priced.old.live.given }
+    requires others { HaveFloorsBut net.now rows.now due.now priced.old.live.given }
     ensures priced { IsPriced net.now priced.new }
     ensures flags { flags_of priced.new ≡ flags_of priced.old }
     ensures floors { HasFloors net.now rows.now (length net.now.events) priced.old.live priced.new.live }
 {
-    for i in 0..net.events() {
-        if clock <= priced.live().floor(i) {
+    for scheduled in due {
+        if clock <= priced.live().floor(scheduled.event) {
             continue;
         }
-        renew_floor(priced, net, rows, i);
+        renew_floor(priced, net, rows, scheduled.event);
     }
 }
 
@@ -55,7 +76,8 @@ fn renew_floor(priced: &mut PricedTimetable, net: &Network, rows: &Rows, i: usiz
     requires is_event { i < length net.now.events }
     ensures priced { IsPriced net.now priced.new }
     ensures flags { flags_of priced.new ≡ flags_of priced.old }
-    ensures next { (before : LiveValue) → HasFloors net.now rows.now i before priced.old.live → HasFloors net.now rows.now (i + 1) before priced.new.live }
+    ensures next { (before : LiveValue) (due : List Scheduled) (n : ℕ) → ((d : Scheduled) → (slice_index_or due n d).event ≡ i) →
+        RaisesFloors net.now rows.now due n before priced.old.live → RaisesFloors net.now rows.now due (n + 1) before priced.new.live }
 {
     priced.set_floor(net, i, floor_of(net, rows, i));
 }

@@ -13,6 +13,7 @@ ghost use Rattle.dm_propagate.specs.Engine.{IsEngineOf, times_of, cycle_of};
 ghost use Rattle.dm_propagate.specs.Reading.{KeepsClock, ReadsFew};
 
 use crate::moving::{Alteration, move_to, try_rows};
+use crate::schedule::{Scheduled, schedule_of};
 use crate::setting::set_flips;
 use crate::starting::priced_for;
 use dm_base::{Cost, Steps};
@@ -36,6 +37,9 @@ pub struct Engine {
     /// The rows that a change is tried on. Between calls they are the same.
     twin: Rows,
     priced: PricedTimetable,
+
+    /// The events by their scheduled times, for the clock.
+    schedule: Vec<Scheduled>,
 }
 
 impl Model for Engine {
@@ -44,14 +48,15 @@ impl Model for Engine {
 
     ghost Value = { EngineValue };
 
-    ghost view = { λ e. record { rows = e.rows; priced = e.priced } };
+    ghost view = { λ e. record { rows = e.rows; priced = e.priced; schedule = e.schedule.items } };
 
     ghost invariant = { λ e. e.twin ≡ e.rows };
 }
 
 impl Engine {
     /// The engine of these rows, with the room of all its changes. [`NoTimes::Cycle`] comes exactly where the rows have a
-    /// cycle, unless memory is short first: then [`NoTimes::OutOfMemory`]. Its time is linear in events and activities.
+    /// cycle, unless memory is short first: then [`NoTimes::OutOfMemory`]. Its time is linear in events and activities, but for a
+    /// sort of the events.
     #[tactic(auto, using(crate::proofs::Following::is_engine, crate::proofs::Following::engine_flags))]
     pub fn new(alloc: Global, net: &Network, rows: Rows) -> Result<Engine, NoTimes>
         requires { IsSized net.now rows }
@@ -67,7 +72,13 @@ impl Engine {
             Err(no_times) => return Err(no_times),
         };
         let twin = rows.copy()?;
-        Ok(Engine { rows, twin, priced })
+        let schedule = schedule_of(alloc, net)?;
+        Ok(Engine {
+            rows,
+            twin,
+            priced,
+            schedule,
+        })
     }
 
     /// Makes a change, and computes the times that it moves. [`Cyclic`] comes exactly where the changed rows have a cycle:
@@ -93,7 +104,15 @@ impl Engine {
         net.sound();
         self.twin.apply(change);
         let what = Alteration::Change(change);
-        match move_to(&mut self.priced, net, &self.rows, &self.twin, &what, steps) {
+        match move_to(
+            &mut self.priced,
+            net,
+            &self.rows,
+            &self.twin,
+            &what,
+            self.schedule.as_slice(),
+            steps,
+        ) {
             Ok(()) => {
                 self.rows.apply(change);
                 Ok(())
@@ -125,7 +144,15 @@ impl Engine {
         net.sound();
         set_flips(&mut self.twin, flips);
         let what = Alteration::Adoption(flips);
-        match move_to(&mut self.priced, net, &self.rows, &self.twin, &what, steps) {
+        match move_to(
+            &mut self.priced,
+            net,
+            &self.rows,
+            &self.twin,
+            &what,
+            self.schedule.as_slice(),
+            steps,
+        ) {
             Ok(()) => {
                 set_flips(&mut self.rows, flips);
                 Ok(())
@@ -155,7 +182,15 @@ impl Engine {
     {
         self.twin.apply(change);
         let what = Alteration::Change(change);
-        let outcome = try_rows(&mut self.priced, net, &self.rows, &self.twin, &what, steps);
+        let outcome = try_rows(
+            &mut self.priced,
+            net,
+            &self.rows,
+            &self.twin,
+            &what,
+            self.schedule.as_slice(),
+            steps,
+        );
         self.twin.copy_from(&self.rows);
         outcome
     }
@@ -177,7 +212,15 @@ impl Engine {
     {
         set_flips(&mut self.twin, flips);
         let what = Alteration::Adoption(flips);
-        let outcome = try_rows(&mut self.priced, net, &self.rows, &self.twin, &what, steps);
+        let outcome = try_rows(
+            &mut self.priced,
+            net,
+            &self.rows,
+            &self.twin,
+            &what,
+            self.schedule.as_slice(),
+            steps,
+        );
         self.twin.copy_from(&self.rows);
         outcome
     }

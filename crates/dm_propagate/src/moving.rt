@@ -9,6 +9,7 @@ ghost use Rattle.dm_rows.specs.Resolve.{after_change};
 ghost use Rattle.dm_rows.specs.Timetable.{IsLeast};
 ghost use Rattle.dm_rows.specs.Touch.{IsDelayPassOrClock};
 ghost use Rattle.dm_propagate.specs.Engine.{FollowsRows};
+ghost use Rattle.dm_propagate.specs.Schedule.{IsScheduleOf};
 ghost use Rattle.dm_propagate.specs.Reading.{KeepsClock, ReadsFew};
 ghost use Rattle.dm_propagate.specs.Inside.Concern.{FollowsBut};
 ghost use Rattle.dm_propagate.specs.Inside.Altering.{change_in};
@@ -16,6 +17,7 @@ ghost use Rattle.dm_propagate.specs.Inside.Flags.{flags_of, AreFlagsOf, AreFlags
 ghost use Rattle.dm_propagate.specs.Inside.Changing.{FollowsAt, MarksFor};
 
 use crate::changing::{turn, turn_adopted};
+use crate::schedule::Scheduled;
 use dm_base::{Secs, Steps};
 use dm_graph::search::Cyclic;
 use dm_network::Network;
@@ -38,6 +40,7 @@ pub fn move_to<L: Ledger>(
     rows: &Rows,
     other: &Rows,
     what: &Alteration<'_>,
+    schedule: &[Scheduled],
     steps: &mut Steps<L>,
 ) -> Result<(), Cyclic>
     requires sized { IsSized net.now rows.now }
@@ -48,6 +51,7 @@ pub fn move_to<L: Ledger>(
     requires at_rest { IsAtRest priced.old.live }
     requires follows { FollowsRows net.now rows.now priced.old.live.given }
     requires flags { AreFlagsOf net.now rows.now (flags_of priced.old) }
+    requires schedule { IsScheduleOf net.now schedule.now }
     ensures priced { IsPriced net.now priced.new }
     ensures at_rest { IsAtRest priced.new.live }
     ensures follows { OnOk result (FollowsRows net.now other.now priced.new.live.given) }
@@ -59,13 +63,13 @@ pub fn move_to<L: Ledger>(
     ensures few_reads { IsDelayPassOrClock (change_in what.now) → KeepsClock rows.now (change_in what.now) → ReadsFew net.now other.now (change_in what.now) priced.old.live.times priced.new.live.times steps.old steps.new }
 {
     net.sound();
-    match turn_to(priced, net, other, what, rows.clock(), steps) {
+    match turn_to(priced, net, other, what, schedule, rows.clock(), steps) {
         Ok(()) => {
             priced.settle(net, steps);
             Ok(())
         }
         Err(Cyclic) => {
-            come_back(priced, net, rows, what, other.clock(), steps);
+            come_back(priced, net, rows, what, schedule, other.clock(), steps);
             Err(Cyclic)
         }
     }
@@ -79,6 +83,7 @@ pub fn try_rows<L: Ledger>(
     rows: &Rows,
     other: &Rows,
     what: &Alteration<'_>,
+    schedule: &[Scheduled],
     steps: &mut Steps<L>,
 ) -> Result<(), Cyclic>
     requires sized { IsSized net.now rows.now }
@@ -89,6 +94,7 @@ pub fn try_rows<L: Ledger>(
     requires at_rest { IsAtRest priced.old.live }
     requires follows { FollowsRows net.now rows.now priced.old.live.given }
     requires flags { AreFlagsOf net.now rows.now (flags_of priced.old) }
+    requires schedule { IsScheduleOf net.now schedule.now }
     ensures priced { IsPriced net.now priced.new }
     ensures at_rest { IsAtRest priced.new.live }
     ensures followed { FollowsRows net.now rows.now priced.new.live.given }
@@ -98,8 +104,8 @@ pub fn try_rows<L: Ledger>(
     ensures cycle { OnErr result (IsCycle net.now other.now priced.new.live.order.cycle) }
 {
     net.sound();
-    let outcome = turn_to(priced, net, other, what, rows.clock(), steps);
-    come_back(priced, net, rows, what, other.clock(), steps);
+    let outcome = turn_to(priced, net, other, what, schedule, rows.clock(), steps);
+    come_back(priced, net, rows, what, schedule, other.clock(), steps);
     outcome
 }
 
@@ -110,6 +116,7 @@ fn come_back<L: Ledger>(
     net: &Network,
     rows: &Rows,
     what: &Alteration<'_>,
+    schedule: &[Scheduled],
     earlier: Secs,
     steps: &mut Steps<L>,
 )
@@ -120,6 +127,7 @@ fn come_back<L: Ledger>(
     requires no_cycle { HasNoCycle net.now rows.now }
     requires flags { AreFlagsBut net.now rows.now (change_in what.now) (flags_of priced.old) }
     requires clock { FollowsAt net.now rows.now (change_in what.now) earlier priced.old.live.given }
+    requires schedule { IsScheduleOf net.now schedule.now }
     ensures priced { IsPriced net.now priced.new }
     ensures at_rest { IsAtRest priced.new.live }
     ensures follows { FollowsRows net.now rows.now priced.new.live.given }
@@ -128,7 +136,7 @@ fn come_back<L: Ledger>(
     ensures cycle_stays { priced.new.live.order.cycle ≡ priced.old.live.order.cycle }
 {
     net.sound();
-    let Ok(()) = turn_to(priced, net, rows, what, earlier, steps) else {
+    let Ok(()) = turn_to(priced, net, rows, what, schedule, earlier, steps) else {
         unreachable!();
     };
     priced.settle(net, steps);
@@ -141,6 +149,7 @@ fn turn_to<L: Ledger>(
     net: &Network,
     rows: &Rows,
     what: &Alteration<'_>,
+    schedule: &[Scheduled],
     earlier: Secs,
     steps: &mut Steps<L>,
 ) -> Result<(), Cyclic>
@@ -150,6 +159,7 @@ fn turn_to<L: Ledger>(
     requires follows { FollowsBut net.now rows.now (change_in what.now) priced.old.live.given }
     requires flags { AreFlagsBut net.now rows.now (change_in what.now) (flags_of priced.old) }
     requires clock { FollowsAt net.now rows.now (change_in what.now) earlier priced.old.live.given }
+    requires schedule { IsScheduleOf net.now schedule.now }
     ensures priced { IsPriced net.now priced.new }
     ensures follows { OnOk result (FollowsRows net.now rows.now priced.new.live.given) }
     ensures flags { AreFlagsOf net.now rows.now (flags_of priced.new) }
@@ -160,7 +170,7 @@ fn turn_to<L: Ledger>(
     ensures marks { OnOk result (MarksFor net.now rows.now (change_in what.now) priced.old.live priced.new.live steps.old steps.new) }
 {
     let outcome = match what {
-        Alteration::Change(change) => turn(priced, net, rows, change, earlier, steps),
+        Alteration::Change(change) => turn(priced, net, rows, change, schedule, earlier, steps),
         Alteration::Adoption(flips) => turn_adopted(priced, net, rows, flips, steps),
     };
     match outcome {

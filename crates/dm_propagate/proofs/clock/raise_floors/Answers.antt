@@ -1,6 +1,36 @@
-use Rattle.std.proofs.Common.{◌∙◌}
+use Rattle.std.proofs.Common.{◌≡◌, ◌∙◌, ◌<◌, length, slice_index, slice_index_or, ap, arith}
+use Rattle.std.proofs.lemmas.List.{get_or_default}
+use Rattle.dm_live.specs.Live.{LiveValue}
+use Rattle.dm_propagate.specs.declared.schedule.Scheduled.{Scheduled}
+use Rattle.dm_propagate.proofs.Raising.{stays_raised, right_from}
 use Rattle.dm_propagate.proofs.clock.raise_floors.Goals as goal
 
-pub loop-i-preserved : goal.loop-i-preserved
-loop-i-preserved c =
-    (c.renew_floor.ensures.priced, c.renew_floor.ensures.flags ∙ c.loop-i.invariant.1, c.renew_floor.ensures.next c.args.priced.now.live c.loop-i.invariant.2)
+pub loop-scheduled-preserved-then-clock-floor : goal.loop-scheduled-preserved-then-clock-floor
+loop-scheduled-preserved-then-clock-floor c =
+    let net = c.args.net.now in
+    let rows = c.args.rows.now in
+    let due = c.args.due.now in
+    let n = c.loop-scheduled.scheduled-index in
+    let before = c.args.priced.now.live in
+    let after = c.loop-scheduled.priced.live in
+    let d : Scheduled = record { time = 0; event = 0 } in
+    let i = (slice_index_or due n d).event in
+    let within : n < length due = omega arith in
+    let here = λ (e : Scheduled). ap (λ (s : Scheduled). s.event) (get_or_default due n e d within) in
+    let so = c.loop-scheduled.invariant.2 in
+    let same = ap (λ (live : LiveValue). slice_index live.given.floors i) c.live.ensures in
+    let value : c.floor.result ≡ slice_index c.live.result.now.given.floors i =
+    c.floor.ensures.value ∙ ap (λ (s : Scheduled). slice_index c.live.result.now.given.floors s.event) (get_or_default due n _ d within) in (
+      c.loop-scheduled.invariant.0,
+      c.loop-scheduled.invariant.1,
+      stays_raised net rows due n i before after here
+          (right_from net rows due n i c.args.clock before after (c.requires.are_events n d within) c.requires.stand so (omega arith)) so,
+    )
+
+pub loop-scheduled-preserved : goal.loop-scheduled-preserved
+loop-scheduled-preserved c = (
+  c.renew_floor.ensures.priced,
+  c.renew_floor.ensures.flags ∙ c.loop-scheduled.invariant.1,
+  c.renew_floor.ensures.next c.args.priced.now.live c.args.due.now c.loop-scheduled.scheduled-index
+      (λ d. ap (λ (s : Scheduled). s.event) (get_or_default c.args.due.now c.loop-scheduled.scheduled-index d _ (omega arith))) c.loop-scheduled.invariant.2,
+)

@@ -1,0 +1,211 @@
+-- Which events are due by a clock, and what renewing their floors makes of a timetable.
+use Rattle.std.proofs.Common.{◌≡◌, ◌≢◌, ℕ, ◌+◌, ◌<◌, ◌≤◌, true, List, length, map, take, Option, Some, None, refl, sym, ap, subst, ◌∙◌, ◌⊎◌, inl, inr, arith, slice_index, get_or-set_same, get_or-set_other}
+use Rattle.std.specs.Prelude.{unwrap_or, max, slice_set, All, slice_index_or}
+use Rattle.std.specs.List.{range_with_len, Contains}
+use Rattle.std.proofs.lemmas.Bool.{cases_eq, cases_lt}
+use Rattle.std.proofs.lemmas.List.{get_or-take, get_or_default}
+use Rattle.std.proofs.lemmas.List.Elements.{All-take, All-from_get_or}
+use Rattle.std.proofs.lemmas.List.FromFn.{length-map-range_with_len, get_or-map-range_with_len}
+use Rattle.std.proofs.lemmas.List.Sorted.{All-permutation, Contains-permutation}
+use Rattle.dm_network.specs.Net.{Net, event_at}
+use Rattle.dm_rows.specs.Rows.{RowsValue, passed_at}
+use Rattle.dm_rows.specs.Timetable.{planned_time, floor_of}
+use Rattle.dm_settle.specs.Constraints.{ConstraintsValue}
+use Rattle.dm_settle.specs.Marked.{is_marked}
+use Rattle.dm_settle.proofs.Marking.{marked_if}
+use Rattle.dm_order.specs.Value.{OrderValue}
+use Rattle.dm_live.specs.Live.{LiveValue, with_floor, with_mark}
+use Rattle.dm_propagate.specs.Schedule.{IsScheduleOf, scheduled_at}
+use Rattle.dm_propagate.specs.declared.schedule.Scheduled.{Scheduled}
+use Rattle.dm_propagate.specs.Inside.Changing.{AreFloorsAt, HaveFloorsFrom, HasFloors, IsOffFloor}
+use Rattle.dm_propagate.specs.Inside.Raising.{IsDue, HaveFloorsBut, RaisesFloors}
+
+-- what is planned at the later clock or after it has one floor at both
+same_floor : (passed : Option ℕ) (planned earlier clock : ℕ) → earlier ≤ clock → clock ≤ planned →
+    unwrap_or passed (max planned earlier) ≡ unwrap_or passed (max planned clock)
+same_floor None planned earlier clock up late = omega arith
+same_floor (Some t) planned earlier clock up late = refl
+
+module _ (net : Net) (schedule : List Scheduled) (is : IsScheduleOf net schedule) where
+  abbrev in_order : List Scheduled
+  in_order = map (scheduled_at net) (range_with_len 0 (length net.events))
+
+  ordered_events : All (λ s. s.event < length net.events) in_order
+  ordered_events =
+      let many = length-map-range_with_len (scheduled_at net) 0 (length net.events) in
+      All-from_get_or (λ s. s.event < length net.events) in_order (scheduled_at net 0)
+      (λ i lt. let below : i < length net.events = omega arith in
+      let at = ap (λ (s : Scheduled). s.event) (get_or-map-range_with_len (scheduled_at net) 0 (length net.events) i i (scheduled_at net 0) below (omega arith)) in
+      omega arith)
+
+  -- those in front are events
+  pub front_events : (n : ℕ) → All (λ s. s.event < length net.events) (take n schedule)
+  front_events n =
+      All-take (λ s. s.event < length net.events) n schedule
+      (All-permutation (λ s. s.event < length net.events) in_order schedule is.all ordered_events)
+
+  stands : (i : ℕ) → i < length net.events → Contains schedule (scheduled_at net i)
+  stands i lt =
+      let many = length-map-range_with_len (scheduled_at net) 0 (length net.events) in
+      Contains-permutation in_order schedule (scheduled_at net i) is.all
+      (i, omega arith, get_or-map-range_with_len (scheduled_at net) 0 (length net.events) i i (scheduled_at net i) lt (omega arith))
+
+  -- an event that does not stand in front is scheduled at the clock or later, and keeps its floor
+  pub floors_but : (rows : RowsValue) (earlier : ℕ) (given : ConstraintsValue) (due : List Scheduled) → earlier ≤ rows.clock →
+      AreFloorsAt net rows earlier given → due ≡ take (length due) schedule →
+      ((k : ℕ) (d : Scheduled) → length due ≤ k → k < length schedule → rows.clock ≤ (slice_index_or schedule k d).time) →
+      HaveFloorsBut net rows due given
+  floors_but rows earlier given due up at front rest i lt =
+      let place = stands i lt in
+      let k : ℕ = place.0 in
+      let here : slice_index_or schedule k (scheduled_at net i) ≡ scheduled_at net i = place.2 in
+      elim (cases_lt k (length due)) [
+        | inl before ↦ inl (
+          k,
+          before,
+          λ d. ap (λ (s : Scheduled). s.event)
+              (ap (λ xs. slice_index_or xs k d) front ∙ get_or-take (length due) schedule k d before ∙ get_or_default schedule k d (scheduled_at net i) place.1 ∙ here),
+        )
+        | inr past ↦
+            let late : rows.clock ≤ (event_at net i).time =
+            subst (λ (s : Scheduled). rows.clock ≤ s.time) here (rest k (scheduled_at net i) past place.1) in
+            let planned : rows.clock ≤ planned_time net rows i = omega arith in
+            inr (at i lt ∙ same_floor (passed_at rows i) (planned_time net rows i) earlier rows.clock up planned)
+      ]
+
+module _ (net : Net) (rows : RowsValue) (due : List Scheduled) where
+  pub none_raised : (live : LiveValue) → RaisesFloors net rows due 0 live live
+  none_raised live = record {
+    held = refl;
+    spans = refl;
+    times = refl;
+    cycle = refl;
+    floors = λ i (k, lt, is). absurd (omega arith);
+    others = λ i. inl refl;
+    marked = λ e m. inl m;
+  }
+
+  -- an event among the first n and one more
+  due_next : (n i j : ℕ) → ((d : Scheduled) → (slice_index_or due n d).event ≡ i) → IsDue due (n + 1) j → IsDue due n j ⊎ (j ≡ i)
+  due_next n i j here (k, lt, is) =
+      elim (cases_lt k n) [
+        | inl earlier ↦ inl (k, earlier, is)
+        | inr past ↦
+            let same : k ≡ n = omega arith in
+            let d : Scheduled = record { time = 0; event = 0 } in
+            inr (sym (is d) ∙ ap (λ m. (slice_index_or due m d).event) same ∙ here d)
+      ]
+
+  -- an event that has its floor already
+  pub stays_raised : (n i : ℕ) (before after : LiveValue) → ((d : Scheduled) → (slice_index_or due n d).event ≡ i) →
+      slice_index after.given.floors i ≡ floor_of net rows i → RaisesFloors net rows due n before after → RaisesFloors net rows due (n + 1) before after
+  stays_raised n i before after here right so = record {
+    held = so.held;
+    spans = so.spans;
+    times = so.times;
+    cycle = so.cycle;
+    floors = λ j among. elim (due_next n i j here among) [
+      | inl earlier ↦ so.floors j earlier
+      | inr is ↦ subst (λ m. slice_index after.given.floors m ≡ floor_of net rows m) (sym is) right
+    ];
+    others = so.others;
+    marked = so.marked;
+  }
+
+  -- a floor from the clock on is right where it stands, since those of before were
+  pub right_from : (n i clock : ℕ) (before after : LiveValue) → i < length net.events → HaveFloorsFrom net rows clock before.given →
+      RaisesFloors net rows due n before after → clock ≤ slice_index after.given.floors i → slice_index after.given.floors i ≡ floor_of net rows i
+  right_from n i clock before after lt from so above =
+      elim (so.others i) [
+        | inl same ↦ same ∙ from i lt (subst (λ f. clock ≤ f) same above)
+        | inr right ↦ right.1
+      ]
+
+  -- one that is off now was off before
+  was_off : (n i : ℕ) (before old : LiveValue) → RaisesFloors net rows due n before old → IsOffFloor net rows old i → IsOffFloor net rows before i
+  was_off n i before old so off =
+      elim off [
+        | inl below ↦ elim (so.others i) [
+          | inl same ↦ inl (subst (λ f. floor_of net rows i < f) same below)
+          | inr right ↦ let e = right.1 in absurd (omega arith)
+        ]
+        | inr above ↦ inr (subst (λ ts. slice_index ts i < floor_of net rows i) so.times above)
+      ]
+
+  module _ (n i : ℕ) (before old now : LiveValue) (is_event : i < length net.events) (many : length old.given.floors ≡ length net.events)
+      (here : (d : Scheduled) → (slice_index_or due n d).event ≡ i) (so : RaisesFloors net rows due n before old)
+      (given : now.given ≡ with_floor old.given i (floor_of net rows i))
+      (marked : IsOffFloor net rows old i → now.marks ≡ with_mark old.marks i)
+      (unmarked : slice_index old.given.floors i ≤ floor_of net rows i → floor_of net rows i ≤ slice_index old.times i → now.marks ≡ old.marks)
+      (order : now.order ≡ old.order) (times : now.times ≡ old.times) where
+    floor_now : (j : ℕ) → slice_index now.given.floors j ≡ slice_index (slice_set old.given.floors i (floor_of net rows i)) j
+    floor_now j = ap (λ (g : ConstraintsValue). slice_index g.floors j) given
+
+    floor_here : slice_index now.given.floors i ≡ floor_of net rows i
+    floor_here = floor_now i ∙ get_or-set_same old.given.floors i (floor_of net rows i) 0 (omega arith)
+
+    floor_there : (j : ℕ) → j ≢ i → slice_index now.given.floors j ≡ slice_index old.given.floors j
+    floor_there j other = floor_now j ∙ get_or-set_other old.given.floors i j (floor_of net rows i) 0 other
+
+    off_marked : (e : ℕ) → IsOffFloor net rows old i → is_marked now.marks e ≡ true →
+        (is_marked before.marks e ≡ true) ⊎ ((e < length net.events) × IsOffFloor net rows before e)
+    off_marked e off m =
+        elim (marked_if old.marks i e (subst (λ ms. is_marked ms e ≡ true) (marked off) m)) [
+          | inl was ↦ so.marked e was
+          | inr is ↦ inr (subst (λ j. (j < length net.events) × IsOffFloor net rows before j) (sym is) (is_event, was_off n i before old so off))
+        ]
+
+    one_marked : (e : ℕ) → is_marked now.marks e ≡ true → (is_marked before.marks e ≡ true) ⊎ ((e < length net.events) × IsOffFloor net rows before e)
+    one_marked e m =
+        elim (cases_lt (floor_of net rows i) (slice_index old.given.floors i)) [
+          | inl below ↦ off_marked e (inl below) m
+          | inr up ↦ elim (cases_lt (slice_index old.times i) (floor_of net rows i)) [
+            | inl above ↦ off_marked e (inr above) m
+            | inr in' ↦ so.marked e (subst (λ ms. is_marked ms e ≡ true) (unmarked (omega arith) (omega arith)) m)
+          ]
+        ]
+
+    pub one_raised : RaisesFloors net rows due (n + 1) before now
+    one_raised = record {
+      held = ap (λ (g : ConstraintsValue). g.held) given ∙ so.held;
+      spans = ap (λ (g : ConstraintsValue). g.spans) given ∙ so.spans;
+      times = times ∙ so.times;
+      cycle = ap (λ (o : OrderValue). o.cycle) order ∙ so.cycle;
+      floors = λ j among. elim (cases_eq j i) [
+        | inl is ↦ subst (λ m. slice_index now.given.floors m ≡ floor_of net rows m) (sym is) floor_here
+        | inr other ↦ elim (due_next n i j here among) [
+          | inl earlier ↦ floor_there j other ∙ so.floors j earlier
+          | inr is ↦ absurd (other is)
+        ]
+      ];
+      others = λ j. elim (cases_eq j i) [
+        | inl is ↦ inr (subst (λ m. (m < length net.events) × (slice_index now.given.floors m ≡ floor_of net rows m)) (sym is) (is_event, floor_here))
+        | inr other ↦ elim (so.others j) [
+          | inl same ↦ inl (floor_there j other ∙ same)
+          | inr right ↦ inr (right.0, floor_there j other ∙ right.1)
+        ]
+      ];
+      marked = one_marked;
+    }
+
+  -- once all that are due have their floors, each event has its own
+  pub all_raised : (before after : LiveValue) → HaveFloorsBut net rows due before.given → RaisesFloors net rows due (length due) before after →
+      HasFloors net rows (length net.events) before after
+  all_raised before after but so = record {
+    held = so.held;
+    spans = so.spans;
+    times = so.times;
+    cycle = so.cycle;
+    floors = λ i lt. elim (but i lt) [
+      | inl among ↦ so.floors i among
+      | inr right ↦ elim (so.others i) [
+        | inl same ↦ same ∙ right
+        | inr now ↦ now.1
+      ]
+    ];
+    others = λ i past. elim (so.others i) [
+      | inl same ↦ same
+      | inr now ↦ let lt = now.0 in absurd (omega arith)
+    ];
+    marked = so.marked;
+  }
