@@ -1,0 +1,571 @@
+#!/usr/bin/env python3
+"""Judges texts of runs by a second reading of the rules, which shares no code with the program:
+
+    python3 bench/judge.py DIR TEXT [--penalty=T] [--event-delays=NAME] [--activity-delays=NAME]
+    python3 bench/judge.py --cases FOLDER
+
+The first prints what `dispatcher check` prints of the same words: `good ENTRIES PLANS`, with status 0, or `bad LINE KIND`, with
+status 1. The second judges every case of FOLDER, which is laid out as the data of dm_check_cases, and says which stored verdict
+differs; the status is then 1. docs/FORMATS.md says how a text is written, and docs/MODEL.md what is true.
+
+Left out: the refusals of words, files and networks (railway.py takes the files to be good), the options for the order of columns,
+and the refusal of a text that is too long.
+"""
+import argparse
+import os
+import re
+import sys
+from typing import NamedTuple, Optional
+
+from railway import (
+    MOST_ENTRIES, Network, Plan, Rows, admit, choice_of, cost_of, is_cycle, is_true_plan, read_delays, read_network, times_of,
+    ways_of,
+)
+
+# The largest ids (and lines and entries), values of feed lines, and other numbers in print.
+ID = 2 ** 32 - 1
+VALUE = 2 ** 64 - 1
+NUMBER = 2 ** 128 - 1
+
+MOST_FEEDS = 64
+MOST_BOARDS = 64
+MOST_PLANS = 16
+MOST_NODES = {1: 4096, 2: 16384}
+
+# What stands behind the words of each kind.
+DECISIONS = {'keep': [ID], 'drop': [ID], 'first': [ID, ID]}
+MESSAGES = {
+    'delay event': [ID, VALUE], 'delay activity': [ID, VALUE], 'pass': [ID, VALUE], 'recall': [ID], 'now': [VALUE], **DECISIONS,
+}
+LINES = {**MESSAGES, 'time': [ID], 'cost': [], 'read': [], 'plan': [VALUE], 'adopt': []}
+REASONS = {
+    'range': [NUMBER], 'unknown-event': [ID], 'unknown-activity': [ID], 'unknown-change': [ID], 'unknown-pair': [ID, ID],
+    'passed': [ID, NUMBER], 'not-passed': [ID], 'back': [NUMBER], 'full': [],
+}
+ANSWERS = {'ok': [], 'read': [], 'old': [], 'time': [NUMBER], 'cost': [NUMBER]}
+ANSWERS_WITHOUT_ENTRY = {'noplan': [], 'plans': [], 'range': [NUMBER]}
+NODES = {'cycle': [], 'bound': [NUMBER], 'open': [NUMBER], 'inner change': [ID], 'inner pair': [ID, ID]}
+
+# What replaces each byte where every byte of a text is judged.
+BYTES = [b'\n', b' ', b'0', b'7', b'z']
+
+
+class Bad(Exception):
+    """A record breaks its rule; the arguments are the line and the kind of the verdict."""
+
+
+class Answer(NamedTuple):
+    """An answer, the entry at which it was given, where it tells one, and what else it says: a number, a refusal or a plan."""
+    kind: str
+    entry: Optional[int] = None
+    value: object = None
+
+
+class Item(NamedTuple):
+    """A log item: what the line said and its answer, or neither where the line is malformed."""
+    line: int
+    said: Optional[tuple]
+    answer: Optional[Answer]
+
+
+class PlanHead(NamedTuple):
+    """What the first line of a plan tells."""
+    mark: str
+    cost: int
+    bound: int
+    choices: int
+    nodes: int
+
+
+# ---- Words and lines
+
+
+def number_of(word, largest):
+    """The number that a word spells, without zeros in front and not above the largest, or None."""
+    if not re.fullmatch('0|[1-9][0-9]{0,38}', word) or int(word) > largest:
+        return None
+    return int(word)
+
+
+def fits(words, pattern):
+    """The numbers in words that fit a pattern of words and of largest numbers, or None where they do not."""
+    if len(words) != len(pattern):
+        return None
+    numbers = []
+    for word, part in zip(words, pattern):
+        if isinstance(part, int):
+            numbers.append(number_of(word, part))
+            if numbers[-1] is None:
+                return None
+        elif word != part:
+            return None
+    return tuple(numbers)
+
+
+def read_form(forms, words):
+    """The kind of the words with its numbers, or None where they are of none of these forms."""
+    for kind, largest in forms.items():
+        numbers = fits(words, [*kind.split(), *largest])
+        if numbers is not None:
+            return (kind, *numbers)
+    return None
+
+
+def read_decisions(words):
+    """The decisions that stand in words one after the other, or None."""
+    decisions = []
+    place = 0
+    while place < len(words):
+        end = place + (3 if words[place] == 'first' else 2)
+        decision = read_form(DECISIONS, words[place:end])
+        if decision is None:
+            return None
+        decisions.append(decision)
+        place = end
+    return tuple(decisions)
+
+
+def read_message(words):
+    """The message that words spell, or None."""
+    if words[:1] != ['adopt']:
+        return read_form(MESSAGES, words)
+    decisions = read_decisions(words[1:])
+    return None if decisions is None else ('adopt', decisions)
+
+
+def read_reason(words):
+    """The refusal that words spell, or None; that of a cycle is ('cycle', ids)."""
+    if words[:1] != ['cycle']:
+        return read_form(REASONS, words)
+    ids = fits(words[1:], [ID] * (len(words) - 1))
+    return ('cycle', ids) if ids else None
+
+
+def read_plan_head(words, version):
+    """What the words of a plan's first line tell, or None."""
+    for mark in ('optimal', 'open'):
+        numbers = fits(words, [
+            'plan', mark, 'cost', NUMBER, 'bound', NUMBER, 'choices', NUMBER, 'leaves' if version == 1 else 'nodes', NUMBER,
+        ])
+        if numbers is not None:
+            return PlanHead(mark, *numbers)
+    return None
+
+
+def read_answer(words, version):
+    """The answer that words spell, or None; of a plan its first line alone."""
+    form = read_form(ANSWERS_WITHOUT_ENTRY, words)
+    if form is not None:
+        return Answer(form[0], None, *form[1:])
+    entry = number_of(words[0], ID) if len(words) > 1 else None
+    if entry is None:
+        return None
+    if words[1] == 'refused':
+        reason = read_reason(words[2:])
+        return None if reason is None else Answer('refused', entry, reason)
+    if words[1] == 'plan':
+        head = read_plan_head(words[1:], version)
+        return None if head is None else Answer('plan', entry, head)
+    form = read_form(ANSWERS, words[1:])
+    return None if form is None else Answer(form[0], entry, *form[1:])
+
+
+def read_item(words, version):
+    """The log item that words spell, or None; of a plan its first line alone."""
+    line = number_of(words[0], ID)
+    if line is None:
+        return None
+    if words[1:] == ['malformed']:
+        return Item(line, None, None)
+    if '->' not in words:
+        return None
+    arrow = words.index('->')
+    said, answer = read_form(LINES, words[1:arrow]), read_answer(words[arrow + 1:], version)
+    return None if said is None or answer is None else Item(line, said, answer)
+
+
+class Text:
+    """The lines of a text, read one after the other."""
+
+    def __init__(self, text):
+        *self.lines, self.rest = text.split(b'\n')
+        self.number = 0
+
+    def words(self):
+        """The words of the next line, with one space between; Bad where the line is cut or is no such words."""
+        self.number += 1
+        if self.number > len(self.lines):
+            raise Bad(self.number, 'truncated')
+        words = self.lines[self.number - 1].split(b' ')
+        self.demand(all(re.fullmatch(b'[!-~]+', word) for word in words), 'form')
+        return [word.decode() for word in words]
+
+    def read(self, *pattern):
+        """The numbers in the next line, which has to fit the pattern."""
+        numbers = fits(self.words(), pattern)
+        self.demand(numbers is not None, 'form')
+        return numbers
+
+    def demand(self, holds, kind):
+        """Bad of this kind at the line read last unless this holds."""
+        if not holds:
+            raise Bad(self.number, kind)
+
+    def has_more(self):
+        """Whether anything stands behind the line read last."""
+        return self.number < len(self.lines) or self.rest != b''
+
+
+# ---- Plans in print
+
+
+def read_node(words):
+    """The node of a line in version 2, or None."""
+    form = read_form(NODES, words)
+    if form is None or not form[0].startswith('inner'):
+        return form
+    if form[0] == 'inner pair' and form[1] >= form[2]:
+        return None
+    return ('inner', (form[0].split()[1], *form[1:]))
+
+
+def read_leaf(words):
+    """The leaf of a line in version 1, which is a node with its path, or None."""
+    size = 2 if words[:2] == ['leaf', 'cycle'] else 3
+    node = read_form({'leaf cycle': [], 'leaf bound': [NUMBER], 'leaf open': [NUMBER]}, words[:size])
+    path = read_decisions(words[size:])
+    return None if node is None or path is None else ((node[0].split()[1], *node[1:]), path)
+
+
+def nodes_of(leaves):
+    """The nodes in preorder of the least tree that has these leaves in order, or None where there is none."""
+    nodes, paths = [], [()]
+    for leaf, path in leaves:
+        if not paths:
+            return None
+        above = paths.pop()
+        if path[:len(above)] != above:
+            return None
+        for length in range(len(above), len(path)):
+            choice = choice_of(path[length])
+            first, second = ways_of(choice)
+            if first == second or path[length] != first:
+                return None
+            nodes.append(('inner', choice))
+            paths.append(path[:length] + (second,))
+        nodes.append(leaf)
+    return None if paths else nodes
+
+
+def read_plan(text, version, answer):
+    """The plan whose first line was read last, from its other lines."""
+    head = answer.value
+    choices, nodes = [], []
+    for _ in range(head.choices):
+        words = text.words()
+        decision = read_form(DECISIONS, words[1:])
+        text.demand(words[0] == 'choice' and decision is not None, 'form')
+        choices.append(decision)
+    for _ in range(head.nodes):
+        node = read_leaf(text.words()) if version == 1 else read_node(text.words())
+        text.demand(node is not None, 'form')
+        nodes.append(node)
+    return Plan(answer.entry, tuple(choices), head.cost, head.bound, head.mark, nodes_of(nodes) if version == 1 else nodes)
+
+
+# ---- Verdicts
+
+
+class Log:
+    """The items of a feed so far, with the last line and entry that they tell, the latest plan, and how many there were."""
+
+    def __init__(self, feed):
+        self.feed = feed
+        self.items = []
+        self.stop = None
+        self.line = 0
+        self.entry = 0
+        self.plan = None
+        self.plans = 0
+
+    def add(self, item):
+        self.items.append(item)
+        self.line = item.line
+        if item.answer and item.answer.entry is not None:
+            self.entry = item.answer.entry
+        if item.answer and item.answer.kind == 'plan':
+            self.plan = item.answer.value
+            self.plans += 1
+
+
+class Judge:
+    """Judges one text of a run over a network from rows at the start, and keeps what it has read and found true."""
+
+    def __init__(self, network, start, penalty):
+        self.network = network
+        self.penalty = penalty
+        self.version = None
+        self.history = []
+        self.rows = [start]
+        self.logs = []
+        self.named = set()
+        self.times = {}
+
+    def judge(self, text):
+        """('good', ENTRIES, PLANS) or ('bad', LINE, KIND)."""
+        lines = Text(text)
+        try:
+            self.read_run(lines)
+        except Bad as bad:
+            return ('bad', *bad.args)
+        return ('good', len(self.history), sum(log.plans for log in self.logs))
+
+    def read_run(self, text):
+        """Reads the whole text; Bad at the first record that breaks its rule."""
+        self.version, = text.read('dm-run', 2)
+        text.demand(self.version > 0, 'form')
+        text.demand(text.read('penalty', NUMBER) == (self.penalty,), 'form')
+        feeds, = text.read('feeds', NUMBER)
+        text.demand(1 <= feeds <= MOST_FEEDS, 'form')
+        entries, = text.read('entries', MOST_ENTRIES)
+        for _ in range(entries):
+            self.read_entry(text, feeds)
+        for feed in range(1, feeds + 1):
+            self.read_log(text, feed)
+        self.read_boards(text)
+        self.read_timetable(text)
+        text.read('done')
+        if text.has_more():
+            raise Bad(text.number + 1, 'form')
+
+    def read_entry(self, text, feeds):
+        words = text.words()
+        numbers = fits(words[:6], ['entry', ID, 'feed', NUMBER, 'line', ID])
+        message = read_message(words[6:])
+        text.demand(numbers is not None and message is not None, 'form')
+        number, feed, line = numbers
+        count = len(self.history)
+        text.demand(number == count + 1 and feed <= feeds and line >= 1, 'entry')
+        refusal, after = admit(self.network, self.rows[-1], count, message)
+        text.demand(refusal is None, 'entry')
+        self.history.append((feed, line, message))
+        self.rows.append(after)
+
+    def read_log(self, text, feed):
+        number, count = text.read('feed', NUMBER, NUMBER)
+        text.demand(number == feed, 'form')
+        log = Log(feed)
+        for _ in range(count):
+            self.read_item(text, log)
+        words = text.words()
+        text.demand(words in (['end'], ['fault'], ['long']), 'form')
+        log.stop = words[0]
+        self.logs.append(log)
+
+    def read_item(self, text, log):
+        item = read_item(text.words(), self.version)
+        record = text.number
+        text.demand(item is not None, 'form')
+        has_plan = item.answer is not None and item.answer.kind == 'plan'
+        if has_plan:
+            plan = read_plan(text, self.version, item.answer)
+            item = item._replace(answer=item.answer._replace(value=plan))
+        if not self.is_true_item(log, item):
+            raise Bad(record, 'plan' if has_plan else 'reply')
+        log.add(item)
+        if item.answer and item.answer.kind == 'ok':
+            self.named.add(item.answer.entry)
+
+    def read_boards(self, text):
+        boards, = text.read('boards', MOST_BOARDS)
+        text.demand(len(self.named) == len(self.history), 'unnamed')
+        places, last = set(), 0
+        for _ in range(boards):
+            place, stop, entry = text.read('board', NUMBER, 'stop', NUMBER, 'dropped', ID)
+            text.demand(1 <= place <= MOST_BOARDS and place not in places and stop <= ID, 'board')
+            text.demand(last <= entry <= len(self.history), 'board')
+            places.add(place)
+            last = entry
+
+    def read_timetable(self, text):
+        entries = len(self.history)
+        text.demand(text.read('times', NUMBER) == (entries,), 'form')
+        for event, time in zip(self.network.events, self.times_at(entries)):
+            words = text.words()
+            numbers = fits([words[0][:-1], *words[1:]], [ID, NUMBER])
+            text.demand(words[0].endswith(';') and numbers is not None, 'form')
+            text.demand(numbers == (event.id, time), 'time')
+        text.demand(text.read('cost', NUMBER) == (self.cost_at(entries),), 'cost')
+
+    def times_at(self, entry):
+        """The least timetable after so many entries."""
+        if entry not in self.times:
+            self.times[entry] = times_of(self.network, self.rows[entry])
+        return self.times[entry]
+
+    def cost_at(self, entry):
+        return cost_of(self.network, self.rows[entry], self.times_at(entry), self.penalty)
+
+    def is_true_item(self, log, item):
+        """Whether an item is true and in order behind the items of its log."""
+        if item.line <= log.line:
+            return False
+        answer = item.answer
+        if answer is None:
+            return True
+        if answer.entry is None:
+            return self.is_true_without_entry(log, item.said, answer)
+        if not log.entry <= answer.entry <= len(self.history):
+            return False
+        if answer.kind == 'ok':
+            return self.is_entered(log, item)
+        if answer.kind == 'refused':
+            return self.is_refused(log, item.said, answer)
+        if answer.kind == 'plan':
+            return self.is_planned(log, item.said, answer)
+        return self.is_told(log, item.said, answer)
+
+    def may_have(self, nodes):
+        return 1 <= nodes <= MOST_NODES[self.version]
+
+    def is_true_without_entry(self, log, said, answer):
+        if answer.kind == 'noplan':
+            return said == ('adopt',) and log.plan is None
+        if said[0] != 'plan':
+            return False
+        if answer.kind == 'plans':
+            return self.may_have(said[1]) and log.plans == MOST_PLANS
+        return said[1] == answer.value and not self.may_have(said[1])
+
+    def is_entered(self, log, item):
+        """Whether the line became the entry that its answer tells."""
+        entry = item.answer.entry
+        if entry <= log.entry:
+            return False
+        feed, line, message = self.history[entry - 1]
+        if (feed, line) != (log.feed, item.line):
+            return False
+        if item.said == ('adopt',):
+            return log.plan is not None and message == ('adopt', log.plan.choices) and entry == log.plan.entry + 1
+        return message == item.said
+
+    def is_told(self, log, said, answer):
+        """Whether a question is answered as the rows at that entry have it, or an adoption by entries behind those of the plan."""
+        if answer.kind == 'old':
+            return said == ('adopt',) and log.plan is not None and answer.entry > log.plan.entry
+        if said[0] != answer.kind:
+            return False
+        if answer.kind == 'cost':
+            return answer.value == self.cost_at(answer.entry)
+        if answer.kind == 'time':
+            place = self.network.event_place.get(said[1])
+            return place is not None and answer.value == self.times_at(answer.entry)[place]
+        return True
+
+    def is_refused(self, log, said, answer):
+        """Whether a message, a question for a time or an adoption is refused so."""
+        if said == ('adopt',):
+            is_last = log.plan is not None and answer.entry == log.plan.entry == MOST_ENTRIES
+            return answer.value == ('full',) and is_last
+        if said[0] == 'time':
+            return answer.value == ('unknown-event', said[1]) and said[1] not in self.network.event_place
+        if said[0] not in MESSAGES:
+            return False
+        refusal, after = admit(self.network, self.rows[answer.entry], answer.entry, said)
+        if refusal == ('cycle',):
+            return answer.value[0] == 'cycle' and is_cycle(self.network, after, answer.value[1])
+        return answer.value == refusal
+
+    def is_planned(self, log, said, answer):
+        """Whether a request for a plan may have one, and is answered by one that is true."""
+        if said[0] != 'plan' or not self.may_have(said[1]) or log.plans >= MOST_PLANS:
+            return False
+        return is_true_plan(self.network, self.rows[answer.entry], self.penalty, said[1], answer.value)
+
+
+def verdict_on(network, start, penalty, text):
+    """What is told of a text: ('good', ENTRIES, PLANS) or ('bad', LINE, KIND)."""
+    return Judge(network, start, penalty).judge(text)
+
+
+def in_print(verdict):
+    return ' '.join(map(str, verdict))
+
+
+# ---- Cases
+
+
+def read_bytes(*names):
+    with open(os.path.join(*names), 'rb') as file:
+        return file.read()
+
+
+def written_out(text):
+    """The text of a file, in which a line `*N LINE` stands for N lines."""
+    return re.sub(rb'^\*([0-9]+) (.*\n)', lambda found: int(found[1]) * found[2], text, flags=re.MULTILINE)
+
+
+class Case(NamedTuple):
+    """A line of the list of cases."""
+    name: str
+    due: str
+    network: Network
+    penalty: int
+
+    def told(self, text):
+        return in_print(verdict_on(self.network, Rows(self.network), self.penalty, text))
+
+
+def differences(folder, case):
+    """A line for each text of a case (itself, its fronts, or with a byte replaced) of which something else is told than is due."""
+    text = written_out(read_bytes(folder, 'texts', case.name))
+    if case.due == 'every front truncated':
+        fronts = [text[:k] for k in range(len(text))]
+        pairs = [(in_print(('bad', len(front.split(b'\n')), 'truncated')), case.told(front)) for front in fronts]
+    elif case.due == 'every byte judged':
+        due = read_bytes(folder, 'bytes', case.name).decode().splitlines()
+        told = [''.join(case.told(text[:k] + byte + text[k + 1:]) + ',' for byte in BYTES) for k in range(len(text))]
+        pairs = list(zip(due, told)) if len(due) == len(told) else [(f'{len(due)} bytes', f'{len(told)} bytes')]
+    else:
+        pairs = [(case.due, case.told(text))]
+    return [f'{case.name} {k}: stored {due}, judged {told}' for k, (due, told) in enumerate(pairs) if due != told]
+
+
+def judge_cases(folder):
+    """Prints each stored verdict that differs; whether all agree."""
+    count, differing = 0, 0
+    for line in read_bytes(folder, 'cases').decode().splitlines():
+        if line.startswith('#') or not line.strip():
+            continue
+        name, *due, network, penalty = line.split()
+        case = Case(name, ' '.join(due), read_network(os.path.join(folder, 'networks', network, 'net')), int(penalty))
+        found = differences(folder, case)
+        print(*found, sep='\n', end='\n' if found else '')
+        count += 1
+        differing += bool(found)
+    print(f'{count} cases, of which {differing} differ')
+    return differing == 0
+
+
+def main():
+    words = argparse.ArgumentParser(description='Judges texts of runs.', allow_abbrev=False)
+    words.add_argument('--cases', metavar='FOLDER')
+    words.add_argument('--penalty', type=int, default=3600)
+    words.add_argument('--event-delays')
+    words.add_argument('--activity-delays')
+    words.add_argument('names', nargs='*', metavar='DIR TEXT')
+    given = words.parse_intermixed_args()
+    if given.cases is not None:
+        sys.exit(0 if judge_cases(given.cases) else 1)
+    if len(given.names) != 2:
+        words.error('there are to be a folder and a text')
+    folder, text = given.names
+    network = read_network(folder)
+    start = Rows(network, read_delays(folder, given.event_delays), read_delays(folder, given.activity_delays))
+    verdict = verdict_on(network, start, given.penalty, read_bytes(text))
+    print(in_print(verdict))
+    sys.exit(0 if verdict[0] == 'good' else 1)
+
+
+if __name__ == '__main__':
+    main()
