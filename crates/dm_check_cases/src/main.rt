@@ -6,8 +6,8 @@
 //! for each byte in a file under `bytes`. For each case it prints `NAME ok`, or what is told of the
 //! text instead.
 //!
-//! What is due comes from the rules of run texts, worked out by hand; the files under `bytes` come from a reading of these
-//! rules in another language.
+//! What is due comes from the rules of run texts, worked out by hand; the files under `bytes` come from `bench/judge.py`, a
+//! reading of these rules in another language.
 #![tactic(auto)]
 
 mod case;
