@@ -113,11 +113,8 @@ fn lacks(
     requires is_stop { stop ≡ record { 0 = place board.now } }
     ensures { LacksTime net.now last.now (place board.now) (times board.now) i time result }
 {
-    if is_last(last, i, time) {
-        return false;
-    }
     let event = net.event(i);
-    if event.stop.0 != stop.0 {
+    if event.stop.0 != stop.0 || is_last(last, i, time) {
         return false;
     }
     !shows(board, event.id.0, time)
