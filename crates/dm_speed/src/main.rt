@@ -1,0 +1,113 @@
+//! The time of an update: a million changes of one kind on a generated day of two thousand trains.
+//!
+//! `dm_speed [COUNT [KIND]]` makes so many changes of a kind, or of each kind in turn, and then two more that stay, and prints
+//! what the day costs then. The kind `decision` moves an evaluator in place of an engine. The time is taken from outside. At the
+//! end the times are compared with those from scratch. It stands on dm_propagate and dm_evaluate for what it times and on
+//! dm_samples for the day, and promises nothing.
+//!
+//! The costs in `stdout` are worked out by hand, from what the generator makes. The last train starts 600 seconds late. Each leg
+//! has 30 seconds to spare under way and 30 at the stop behind it, so it arrives 570, 510, .. 30 seconds late, 3,000 seconds over
+//! ten legs, with ten passengers each time: 30,000 passenger seconds. Five passengers miss the dropped change, at 3,600 seconds
+//! each: 18,000 passenger seconds, which is all that the decisions leave. In thousandths that is 48,000,000 and 18,000,000.
+#![tactic(auto)]
+
+mod deciding;
+mod kinds;
+mod updating;
+
+use deciding::cost_after_moves;
+use dm_base::Cost;
+use dm_samples::{Failure, generated_day};
+use kinds::Kind;
+use std::alloc::Global;
+use std::rt::Env;
+use std::{env, io};
+use updating::cost_after_changes;
+
+/// How many changes are made where no number is given.
+const CHANGES: u32 = 24_000;
+
+const TRAINS: u32 = 2_000;
+
+/// What is timed.
+#[derive(Clone, Copy)]
+enum Timed {
+    /// Changes of this kind, or of each kind in turn.
+    Changes(Option<Kind>),
+    Decisions,
+}
+
+impl Timed {
+    fn named(word: &str) -> Option<Timed> {
+        if word == "decision" {
+            return Some(Timed::Decisions);
+        }
+        let kind = Kind::named(word)?;
+        Some(Timed::Changes(Some(kind)))
+    }
+
+    fn name(self) -> &'static str {
+        match self {
+            Timed::Changes(_kind) => "changes",
+            Timed::Decisions => "decisions",
+        }
+    }
+}
+
+/// How many changes, and what alone is timed.
+#[derive(Clone, Copy)]
+struct Asked {
+    count: u32,
+    timed: Option<Timed>,
+}
+
+fn main(rt: HostRuntime) -> io::Result<()> {
+    let asked = read_words(&rt)?;
+    match asked.timed {
+        Some(timed) => print_cost(&rt, timed, asked.count),
+        None => print_both(&rt, asked.count),
+    }
+}
+
+/// What the words of the command line ask for.
+fn read_words<R: Env + AllocGlobal>(rt: &R) -> io::Result<Asked> {
+    let mut args = env::args(rt)?;
+    let _program = args.next();
+    let count = match args.next() {
+        Some(word) => count_of(&word),
+        None => CHANGES,
+    };
+    let timed = match args.next() {
+        Some(word) => Timed::named(&word),
+        None => None,
+    };
+    Ok(Asked { count, timed })
+}
+
+fn count_of(word: &str) -> u32 {
+    word.parse().unwrap_or(CHANGES)
+}
+
+fn print_both<R: Print + AllocGlobal>(rt: &R, count: u32) -> io::Result<()> {
+    print_cost(rt, Timed::Changes(None), count)?;
+    print_cost(rt, Timed::Decisions, count)
+}
+
+/// Prints what the day then costs.
+fn print_cost<R: Print + AllocGlobal>(rt: &R, timed: Timed, count: u32) -> io::Result<()> {
+    let name = timed.name();
+    match run(rt.alloc(), timed, count) {
+        Ok(cost) => println!(rt; "{name}: cost {cost}"),
+        Err(Failure::Differs(turn)) => println!(rt; "{name}: differ at {turn}"),
+        Err(_failure) => println!(rt; "{name}: no day"),
+    }
+}
+
+/// What the day costs after so many of what is timed.
+fn run(alloc: Global, timed: Timed, count: u32) -> Result<Cost, Failure> {
+    let net = generated_day(alloc, TRAINS)?;
+    match timed {
+        Timed::Changes(kind) => cost_after_changes(alloc, &net, count, kind),
+        Timed::Decisions => cost_after_moves(alloc, &net, count),
+    }
+}

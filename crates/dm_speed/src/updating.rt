@@ -1,0 +1,124 @@
+//! Changes of an engine.
+ghost use Rattle.std.specs.Prelude.{◌≡◌, ◌<◌};
+ghost use Rattle.dm_propagate.specs.Engine.{IsEngineOf};
+ghost use Rattle.dm_rows.specs.Reach.{Reaches};
+
+use crate::kinds::Kind;
+use dm_base::{Cost, Steps};
+use dm_graph::search::Cyclic;
+use dm_network::Network;
+use dm_propagate::Engine;
+use dm_rows::{Change, Message, admit};
+use dm_samples::{Failure, rows_on_time};
+use dm_times::{cost, least};
+use std::alloc::Global;
+use std::marker::{Brand, Model};
+use std::sync::ledger::{Blank, Ledger};
+
+/// Seconds for each passenger.
+const PENALTY: u64 = 3_600;
+
+/// An engine with its network.
+#[derive(Drop)]
+struct Day<'n> {
+    net: &'n Network,
+    engine: Engine,
+}
+
+impl<'n> Model for Day<'n> {
+    ghost use Rattle.dm_propagate.specs.Engine.{EngineValue, IsEngineOf};
+
+    ghost Value = { EngineValue };
+
+    ghost view = { λ day. day.engine };
+
+    ghost invariant = { λ day. IsEngineOf day.net.now day.engine };
+}
+
+impl<'n> Day<'n> {
+    /// The day on time.
+    fn new(alloc: Global, net: &'n Network) -> Result<Day<'n>, Failure> {
+        let rows = rows_on_time(alloc, net)?;
+        match Engine::new(alloc, net, rows) {
+            Ok(engine) => Ok(Day { net, engine }),
+            Err(_) => Err(Failure::NoDay),
+        }
+    }
+
+    /// Makes a change, and says whether it was made.
+    fn change(&mut self, alloc: Global, message: &Message) -> bool {
+        match admit(alloc, self.net, self.engine.rows(), message) {
+            Ok(change) => {
+                update::<Brand>(&mut self.engine, self.net, &change, Blank::new(1)).is_ok()
+            }
+            Err(_) => false,
+        }
+    }
+
+    /// The cost, which is that from scratch.
+    fn cost(&self, alloc: Global) -> Result<Cost, Failure> {
+        let rows = self.engine.rows();
+        let Ok(times) = least(alloc, self.net, rows) else {
+            return Err(Failure::OutOfMemory);
+        };
+        let kept = self.engine.cost(self.net, PENALTY);
+        let due = cost(self.net, rows, &times, PENALTY);
+        if times.as_slice() == self.engine.times().as_slice() && due == kept {
+            Ok(kept)
+        } else {
+            Err(Failure::Differs(0))
+        }
+    }
+}
+
+/// Makes a change, for a ledger that nothing reads.
+fn update<L: Ledger>(
+    engine: &mut Engine,
+    net: &Network,
+    change: &Change,
+    blank: Blank,
+) -> Result<(), Cyclic>
+    requires engine { IsEngineOf net.now engine.old }
+    requires reaches { Reaches engine.old.rows change.now }
+    requires name { blank.name ≡ L.name }
+    requires parts { blank.parts ≡ L.parts }
+    requires has_a_part { 0 < blank.parts }
+    ensures { IsEngineOf net.now engine.new }
+{
+    let mut steps = Steps::<L>::new(blank);
+    engine.update(net, change, &mut steps)
+}
+
+/// What the day costs after so many changes of a kind, or of each kind in turn, there and back, and after the last train is late
+/// and the last change dropped.
+pub fn cost_after_changes(
+    alloc: Global,
+    net: &Network,
+    count: u32,
+    kind: Option<Kind>,
+) -> Result<Cost, Failure> {
+    let mut day = Day::new(alloc, net)?;
+    make_changes(alloc, &mut day, count, kind)?;
+    day.cost(alloc)
+}
+
+fn make_changes(
+    alloc: Global,
+    day: &mut Day<'_>,
+    count: u32,
+    kind: Option<Kind>,
+) -> Result<(), Failure> {
+    for turn in 0..count {
+        let kind = kind.unwrap_or(Kind::in_turn(turn / 2));
+        if !day.change(alloc, &kind.message(turn % 2 == 1)) {
+            return Err(Failure::Differs(turn));
+        }
+    }
+    let late = day.change(alloc, &Kind::Train.message(false));
+    let dropped = day.change(alloc, &Kind::Choice.message(false));
+    if late && dropped {
+        Ok(())
+    } else {
+        Err(Failure::Differs(count))
+    }
+}
