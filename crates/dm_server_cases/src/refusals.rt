@@ -1,0 +1,82 @@
+//! Messages that are refused.
+ghost use Rattle.std.specs.Prelude.{◌≡◌, false};
+ghost use Rattle.dm_server_cases.specs.Passes.{IsOpened, IsSame};
+
+use crate::calls::{opened, post};
+use dm_base::{ActId, EventId};
+use dm_network::Network;
+use dm_rows::{At, Message, Refusal};
+use dm_samples::{Failure, Sample};
+use dm_server::{Kept, Server};
+use dm_turn::Pass;
+use std::sync::Wait;
+
+/// How many messages there are.
+const CASES: u32 = 6;
+
+/// Each is refused at once, and no entry is made.
+pub fn refusals_enter_nothing<R: Wait + AllocGlobal>(rt: &R) -> Result<(), Failure> {
+    let net = Sample::Connection.network(rt.alloc())?;
+    on_connection(rt, &net)
+}
+
+fn on_connection<R: Wait + AllocGlobal>(rt: &R, net: &Network) -> Result<(), Failure> {
+    let (server, pass) = opened(rt.alloc(), net, 1)?;
+    try_all(rt, net, server, pass)
+}
+
+fn try_all<'n, R: Wait>(
+    rt: &R,
+    _net: &'n Network,
+    server: Server<'n>,
+    mut pass: Pass<Kept<'n>>,
+) -> Result<(), Failure>
+    requires seats { server.seats ≡ 1 }
+    requires pass { IsOpened server.id _net.now 1 pass }
+{
+    let count = refused(rt, &server, &mut pass);
+    let entries = server.close(pass).len();
+    if count == CASES && entries == 0 {
+        Ok(())
+    } else {
+        Err(Failure::Differs(count))
+    }
+}
+
+/// How many messages are refused as is due.
+fn refused<'n, R: Wait>(rt: &R, server: &Server<'n>, pass: &mut Pass<Kept<'n>>) -> u32
+    requires turn { pass.old.turn ≡ server.now.id }
+    requires idle { pass.old.holds ≡ false }
+    ensures { IsSame pass.old pass.new }
+{
+    let mut refused: u32 = 0;
+    for number in 0..CASES {
+        let (message, why) = case(number);
+        if post(rt, server, pass, message) == Err(At { entry: 0, why }) {
+            refused = refused.saturating_add(1);
+        }
+    }
+    refused
+}
+
+/// A message and why it is refused.
+fn case(number: u32) -> (Message, Refusal) {
+    let nine = EventId(9);
+    match number {
+        0 => (Message::DelayEvent(nine, 1), Refusal::UnknownEvent(nine)),
+        1 => (
+            Message::DelayEvent(EventId(1), 1_000_001),
+            Refusal::Range(1_000_001),
+        ),
+        2 => (
+            Message::DelayEvent(nine, 1_000_001),
+            Refusal::Range(1_000_001),
+        ),
+        3 => (Message::Keep(ActId(4)), Refusal::UnknownChange(ActId(4))),
+        4 => (Message::Keep(ActId(9)), Refusal::UnknownActivity(ActId(9))),
+        _ => (
+            Message::First(EventId(1), EventId(2)),
+            Refusal::UnknownPair(EventId(1), EventId(2)),
+        ),
+    }
+}
