@@ -1,0 +1,258 @@
+//! An evaluator whose every move is compared.
+ghost use Rattle.std.specs.Prelude.{◌≡◌, ◌++◌, ◌<◌, [], ◌∷◌, true, IfOk};
+ghost use Rattle.dm_rows.specs.Decide.{choice_of};
+ghost use Rattle.dm_rows.specs.Relax.{is_decided};
+ghost use Rattle.dm_rows.specs.Rows.{IsSized};
+ghost use Rattle.dm_evaluate.specs.Evaluator.{IsEvaluatorOf};
+ghost use Rattle.dm_paths.specs.Decisions.{IsOpen};
+
+use dm_base::{Cost, Steps};
+use dm_evaluate::Evaluator;
+use dm_graph::search::Cyclic;
+use dm_network::Network;
+use dm_relax::{Relaxed, relax};
+use dm_rows::{Choice, Decision, Rows};
+use dm_samples::Failure;
+use dm_settle::{NoTimes, Times};
+use std::alloc::{AllocError, Global};
+use std::marker::{Brand, Model};
+use std::sync::ledger::{Blank, Ledger};
+
+/// Seconds for each passenger.
+const PENALTY: u64 = 10;
+
+/// What came of a decision.
+#[derive(Clone, Copy, PartialEq, Eq)]
+pub enum Decided {
+    Made,
+
+    /// What then binds has a cycle, and so says the relaxed problem from scratch.
+    Cyclic,
+
+    /// One of both says that there is a cycle.
+    Differs,
+
+    /// The choice is not open.
+    NotOpen,
+}
+
+/// An evaluator with its network.
+#[derive(Drop)]
+pub struct Trial<'n> {
+    net: &'n Network,
+    evaluator: Evaluator,
+}
+
+impl<'n> Model for Trial<'n> {
+    ghost use Rattle.dm_evaluate.specs.Evaluator.{EvaluatorValue, IsEvaluatorOf};
+
+    ghost Value = { EvaluatorValue };
+
+    ghost view = { λ trial. trial.evaluator };
+
+    ghost invariant = { λ trial. IsEvaluatorOf trial.net.now trial.evaluator };
+}
+
+impl<'n> Trial<'n> {
+    /// The evaluator of these rows.
+    pub fn new(alloc: Global, net: &'n Network, rows: Rows) -> Result<Trial<'n>, Failure>
+        requires { IsSized net.now rows }
+    {
+        match Evaluator::new(alloc, net, rows) {
+            Ok(evaluator) => Ok(Trial { net, evaluator }),
+            Err(NoTimes::OutOfMemory) => Err(Failure::OutOfMemory),
+            Err(NoTimes::Cycle(_)) => Err(Failure::NoDay),
+        }
+    }
+
+    /// Decides a choice, and says whether the longer path has a cycle.
+    pub fn decide(&mut self, alloc: Global, decision: Decision) -> Result<Decided, Failure> {
+        if !self
+            .evaluator
+            .is_open(self.net, choice_decided_by(decision))
+        {
+            return Ok(Decided::NotOpen);
+        }
+        let due = closes_cycle(alloc, self.net, &self.evaluator, decision)?;
+        let made = decide::<Brand>(&mut self.evaluator, self.net, decision, Blank::new(1)).is_ok();
+        Ok(match (made, due) {
+            (true, false) => Decided::Made,
+            (false, true) => Decided::Cyclic,
+            _ => Decided::Differs,
+        })
+    }
+
+    /// Takes the decision of a choice back, and says whether there was one.
+    pub fn take_back(&mut self, choice: Choice) -> bool {
+        if !self.evaluator.has_decided(choice) {
+            return false;
+        }
+        undecide::<Brand>(&mut self.evaluator, self.net, choice, Blank::new(1));
+        true
+    }
+
+    /// What the path costs, and the first choice that it leaves undecided and violates.
+    pub fn found(&mut self) -> (Cost, Option<Choice>) {
+        let cost = self.evaluator.cost(self.net, PENALTY);
+        let violated = violated::<Brand>(&mut self.evaluator, self.net, Blank::new(1));
+        (cost, violated)
+    }
+
+    /// How many activities the cycle has for which a decision was refused last.
+    pub fn cycle_size(&self) -> usize {
+        self.evaluator.last_cycle().len()
+    }
+
+    /// Whether times, cost and the first violated choice are those of the path's relaxed problem, computed from scratch.
+    pub fn agrees(&mut self, alloc: Global) -> Result<bool, Failure> {
+        match due(alloc, self.net, &self.evaluator) {
+            Ok(Some(due)) => Ok(self.is(due)),
+            Ok(None) => Ok(false),
+            Err(failure) => Err(failure),
+        }
+    }
+
+    /// Whether this is what the path costs and violates first.
+    pub fn is(&mut self, found: Found) -> bool {
+        let (cost, violated) = self.found();
+        cost == found.cost && violated == found.violated
+    }
+}
+
+/// What a path costs, and the first choice that it leaves undecided and violates.
+#[derive(Clone, Copy)]
+pub struct Found {
+    pub cost: Cost,
+    pub violated: Option<Choice>,
+}
+
+/// What is found from scratch for an evaluator's path, or None where it has a cycle or other times.
+fn due(alloc: Global, net: &Network, evaluator: &Evaluator) -> Result<Option<Found>, Failure>
+    requires { IsEvaluatorOf net.now evaluator.now }
+{
+    match relax(alloc, net, PENALTY, evaluator.rows(), evaluator.path()) {
+        Ok(relaxed) => Ok(found_at(&relaxed, evaluator.times())),
+        Err(NoTimes::Cycle(_)) => Ok(None),
+        Err(NoTimes::OutOfMemory) => Err(Failure::OutOfMemory),
+    }
+}
+
+/// What a relaxed problem with these times gives, or None where its times are others.
+fn found_at(relaxed: &Relaxed, times: &Times) -> Option<Found> {
+    if relaxed.times.as_slice() == times.as_slice() {
+        Some(Found {
+            cost: relaxed.cost,
+            violated: relaxed.violated,
+        })
+    } else {
+        None
+    }
+}
+
+/// The choice that a decision decides.
+fn choice_decided_by(decision: Decision) -> Choice
+    ensures { result ≡ choice_of decision }
+{
+    match decision {
+        Decision::Keep(act) | Decision::Drop(act) => Choice::Change(act),
+        Decision::First(i, j) => {
+            if i.0 < j.0 {
+                Choice::Pair(i, j)
+            } else {
+                Choice::Pair(j, i)
+            }
+        }
+    }
+}
+
+/// Whether the path with one more decision has a cycle, computed from scratch.
+fn closes_cycle(
+    alloc: Global,
+    net: &Network,
+    evaluator: &Evaluator,
+    decision: Decision,
+) -> Result<bool, Failure>
+    requires evaluator { IsEvaluatorOf net.now evaluator.now }
+    requires open { IsOpen net.now evaluator.now.rows evaluator.now.path (choice_of decision) }
+{
+    match longer(alloc, evaluator, decision) {
+        Ok(path) => has_cycle(alloc, net, evaluator, decision, &path),
+        Err(AllocError) => Err(Failure::OutOfMemory),
+    }
+}
+
+/// The path with one more decision.
+fn longer(
+    alloc: Global,
+    evaluator: &Evaluator,
+    decision: Decision,
+) -> Result<Vec<Decision>, AllocError>
+    ensures { IfOk result (λ longer. longer.items ≡ evaluator.now.path ++ decision ∷ []) }
+{
+    let mut longer = Vec::from_slice(alloc, evaluator.path())?;
+    longer.push(decision)?;
+    Ok(longer)
+}
+
+/// Whether the path that is longer by this decision has a cycle, computed from scratch.
+fn has_cycle(
+    alloc: Global,
+    net: &Network,
+    evaluator: &Evaluator,
+    decision: Decision,
+    longer: &[Decision],
+) -> Result<bool, Failure>
+    requires evaluator { IsEvaluatorOf net.now evaluator.now }
+    requires open { IsOpen net.now evaluator.now.rows evaluator.now.path (choice_of decision) }
+    requires longer { longer.now ≡ evaluator.now.path ++ decision ∷ [] }
+{
+    let _decision = decision;
+    match relax(alloc, net, PENALTY, evaluator.rows(), longer) {
+        Ok(_relaxed) => Ok(false),
+        Err(NoTimes::Cycle(_)) => Ok(true),
+        Err(NoTimes::OutOfMemory) => Err(Failure::OutOfMemory),
+    }
+}
+
+/// Decides a choice, for a ledger that nothing reads.
+fn decide<L: Ledger>(
+    evaluator: &mut Evaluator,
+    net: &Network,
+    decision: Decision,
+    blank: Blank,
+) -> Result<(), Cyclic>
+    requires evaluator { IsEvaluatorOf net.now evaluator.old }
+    requires open { IsOpen net.now evaluator.old.rows evaluator.old.path (choice_of decision) }
+    requires name { blank.name ≡ L.name }
+    requires parts { blank.parts ≡ L.parts }
+    requires has_a_part { 0 < blank.parts }
+    ensures { IsEvaluatorOf net.now evaluator.new }
+{
+    let mut steps = Steps::<L>::new(blank);
+    evaluator.decide(net, decision, &mut steps)
+}
+
+/// Takes a decision back, for a ledger that nothing reads.
+fn undecide<L: Ledger>(evaluator: &mut Evaluator, net: &Network, choice: Choice, blank: Blank)
+    requires evaluator { IsEvaluatorOf net.now evaluator.old }
+    requires decided { is_decided evaluator.old.path choice ≡ true }
+    requires name { blank.name ≡ L.name }
+    requires parts { blank.parts ≡ L.parts }
+    requires has_a_part { 0 < blank.parts }
+    ensures { IsEvaluatorOf net.now evaluator.new }
+{
+    let mut steps = Steps::<L>::new(blank);
+    evaluator.undecide(net, choice, &mut steps);
+}
+
+/// The first choice that is violated, for a ledger that nothing reads.
+fn violated<L: Ledger>(evaluator: &mut Evaluator, net: &Network, blank: Blank) -> Option<Choice>
+    requires evaluator { IsEvaluatorOf net.now evaluator.old }
+    requires name { blank.name ≡ L.name }
+    requires parts { blank.parts ≡ L.parts }
+    requires has_a_part { 0 < blank.parts }
+    ensures { IsEvaluatorOf net.now evaluator.new }
+{
+    let mut steps = Steps::<L>::new(blank);
+    evaluator.violated(net, &mut steps)
+}
