@@ -1,0 +1,2 @@
+-- States of loops: checked, and not to be believed.
+pub mod Inside
