@@ -13,7 +13,7 @@ use Rattle.dm_rows.specs.declared.messages.Entry.{Entry}
 use Rattle.dm_turn.specs.Passes.{times, AreEntriesOf, AreAllAbove}
 use Rattle.dm_turn.specs.declared.view.Numbered.{Numbered}
 use Rattle.dm_turn.specs.Rule.{is_served, is_queued, has_ticket, spent, served, rooms, owned, IsAtTurn, IsLive, Fits, IsHome, SlotIs, Stands, Rule}
-use Rattle.dm_turn.specs.Inside.Steps.{Sat, Drew, Looked, Added, Gave, Settled, ticket_of, gained, left_over, cut_off, joined, opening_view}
+use Rattle.dm_turn.specs.Inside.Steps.{Sat, Glanced, Drew, Looked, Added, Gave, Settled, ticket_of, gained, left_over, cut_off, joined, opening_view}
 use Rattle.dm_turn.specs.declared.view.View.{View}
 use Rattle.dm_turn.specs.declared.view.Phase.{Phase}
 use Rattle.dm_turn.specs.declared.view.Phase.TheVariants.{Idle, Waiting, Served}
@@ -152,6 +152,30 @@ module _ {S B : Type 0} (history : S → List Entry) (base : S → B) (opened : 
       },
       record { own = λ e. absurd (ne e); other = λ _. refl },
     )
+
+  pub glances : (slots id word : ℕ) (me : Sat S B) → word < 3 → Allows Holds slots id me word (λ n. n) (Glanced (step slots word 0 0 none) me)
+  glances slots id word me is_word s r len at small = (
+    me.0,
+    keeps,
+    tt,
+    record {
+      log = r.log;
+      serving = r.serving;
+      next = r.next;
+      words = same_words word is_word s.words (length r.log) (r.next % 2 ^ 64) (r.serving % 2 ^ 64) r.words;
+      slot = subst (λ (vs : List (View B)). SlotIs history base opened seats s.homes r.log (served vs)) (sym (set_again s.views id me.0 at)) r.slot;
+      views = subst (Stands history base opened seats r.log r.serving r.next) (sym (set_again s.views id me.0 at)) r.views;
+      short = r.short;
+      opened_before = r.opened_before;
+      few = r.few;
+    },
+    refl,
+  ) where
+    same_words : (word : ℕ) → word < 3 → (ws : List ℕ) (a b c : ℕ) → ws ≡ a ∷ b ∷ c ∷ [] → set ws word (slice_index ws word) ≡ a ∷ b ∷ c ∷ []
+    same_words zero is_word ws a b c e = ap (λ (xs : List ℕ). set xs 0 (slice_index xs 0)) e
+    same_words (suc zero) is_word ws a b c e = ap (λ (xs : List ℕ). set xs 1 (slice_index xs 1)) e
+    same_words (suc (suc zero)) is_word ws a b c e = ap (λ (xs : List ℕ). set xs 2 (slice_index xs 2)) e
+    same_words (suc (suc (suc n))) is_word ws a b c e = absurd (omega (arith, is_word))
 
   one_of_served : (views : List (View B)) (i : ℕ) (v : View B) (t : ℕ) → get_elem? views i ≡ some v → v.phase ≡ Served t → 1 ≤ served views
   one_of_served views i v t at serves =

@@ -45,6 +45,15 @@ impl<S: HasHistory> Play<Option<S>, View<S::Base>> for Look {
     ghost then = { Looked S.history S.base };
 }
 
+/// A look at a word that tells its number and nothing else.
+pub struct Glance;
+
+impl<S: HasHistory> Play<Option<S>, View<S::Base>> for Glance {
+    ghost use Rattle.dm_turn.specs.Inside.Steps.{Glanced};
+
+    ghost then = { Glanced };
+}
+
 /// The history that an addition leaves. Each call picks it.
 pub trait Told {
     ghost history: { List AnEntry };

@@ -4,9 +4,10 @@ ghost use Rattle.dm_rows.specs.declared.messages.Entry.{Entry as AnEntry};
 ghost use Rattle.dm_turn.specs.Inside.Steps.{IsSeatOf, IsSameSeat, Took, gained};
 ghost use Rattle.dm_turn.specs.declared.view.Phase.TheVariants.{Idle, Waiting, Served};
 
-use crate::rule::{Add, Desk, Draw, Look, Place, Serve, Told};
+use crate::rule::{Add, Desk, Draw, Glance, Look, Place, Serve, Told};
 use crate::state::HasHistory;
 use std::sync::Wait;
+use std::time::Duration;
 
 // The words: how many entries there are, the next ticket, and the ticket that is served.
 pub const COUNT: usize = 0;
@@ -17,6 +18,38 @@ pub const SERVING: usize = 2;
 
 // A sleep compares the low 32 bits of a word.
 const LOW_BITS: u64 = 0xffff_ffff;
+
+// How often a caller stands back at most, and for how many microseconds each time.
+const PATIENCE: usize = 16;
+
+const SHORT_WHILE: u64 = 50;
+
+/// Looks at a word.
+fn glance<S: HasHistory>(desk: &Desk<S>, seat: &mut Place<S>, word: usize) -> u64
+    requires seat { IsSeatOf desk.now.table_id seat.old }
+    requires word { word < 3 }
+    ensures same { IsSameSeat seat.old seat.new }
+    ensures me { seat.new.me ≡ seat.old.me }
+{
+    desk.load::<Glance>(seat, word)
+}
+
+/// Stands back for some short whiles, as long as there is a queue. Who draws a ticket behind others must be woken for it, which
+/// takes longer than what most callers do with the state.
+pub fn stand_back<S: HasHistory, R: Wait>(rt: &R, desk: &Desk<S>, seat: &mut Place<S>)
+    requires seat { IsSeatOf desk.now.table_id seat.old }
+    ensures same { IsSameSeat seat.old seat.new }
+    ensures me { seat.new.me ≡ seat.old.me }
+{
+    for _ in 0..PATIENCE {
+        let served = glance(desk, seat, SERVING);
+        if glance(desk, seat, TICKET) == served {
+            return;
+        }
+        let seen = (served & LOW_BITS) as u32;
+        desk.park_timeout(rt, SERVING, seen, Duration::from_micros(SHORT_WHILE));
+    }
+}
 
 /// Draws a ticket.
 pub fn draw<S: HasHistory>(desk: &Desk<S>, seat: &mut Place<S>) -> u64
@@ -81,7 +114,7 @@ pub fn put_back<S: HasHistory>(desk: &Desk<S>, seat: &mut Place<S>, state: S)
     let None = out else { unreachable!() };
 }
 
-/// Serves the next ticket, and wakes those that wait for theirs.
+/// Serves the next ticket, and wakes those that wait for theirs, where there are any.
 pub fn serve<S: HasHistory>(desk: &Desk<S>, seat: &mut Place<S>)
     requires seat { IsSeatOf desk.now.table_id seat.old × (1 ≤ seat.old.me.0.room) }
     requires served { (t : ℕ) × (seat.old.me.0.phase ≡ Served t) }
@@ -89,6 +122,8 @@ pub fn serve<S: HasHistory>(desk: &Desk<S>, seat: &mut Place<S>)
     ensures same { IsSameSeat seat.old seat.new }
     ensures idle { seat.new.me ≡ (record seat.old.me.0 { phase = Idle }, []) }
 {
-    desk.fetch_add::<Serve>(seat, SERVING, 1);
-    desk.wake_all(SERVING);
+    let served = desk.fetch_add::<Serve>(seat, SERVING, 1);
+    if glance(desk, seat, TICKET) != served.wrapping_add(1) {
+        desk.wake_all(SERVING);
+    }
 }

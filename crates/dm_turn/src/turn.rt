@@ -6,7 +6,7 @@ ghost use Rattle.dm_turn.specs.Passes.{numbered, longer, AreEntriesOf, AreAllAbo
 
 use crate::rule::{About, Cut, Glue, Lock, Settle};
 use crate::state::HasHistory;
-use crate::steps::{COUNT, await_turn, count, draw, put_back, serve, take_out};
+use crate::steps::{COUNT, await_turn, count, draw, put_back, serve, stand_back, take_out};
 use crate::view::View;
 use atomic_table::{Refused, Seat, Table};
 use std::alloc::{AllocError, Global};
@@ -118,6 +118,7 @@ impl<S: HasHistory> Turn<S> {
         ensures base { pass.old.base ≡ Some (S.base result.state) }
     {
         let desk = &self.table.shared;
+        stand_back(rt, desk, &mut pass.seat);
         let ticket = draw(desk, &mut pass.seat);
         await_turn(rt, desk, &mut pass.seat, ticket);
         Held {

@@ -64,6 +64,10 @@ module _ {S : Type 0} where
   carries (Served t) = (0, None) ∷ []
 
 module _ {S B : Type 0} where
+  -- the seat looked at a word, and knows what it knew
+  abbrev pub Glanced : Step (Option S) → Sat S B → ℕ → Sat S B → Type 0
+  Glanced step me found me' = me' ≡ me
+
   -- the seat drew a ticket
   abbrev pub Drew : Step (Option S) → Sat S B → ℕ → Sat S B → Type 0
   Drew step me found me' = (t : ℕ) × (me' ≡ (record me.0 { phase = Waiting t }, me.1)) × (t % 2 ^ 64 ≡ found)
