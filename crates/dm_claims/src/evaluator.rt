@@ -9,8 +9,9 @@ ghost use Rattle.dm_relaxation.specs.Binding.{AreBelowLimit};
 ghost use Rattle.dm_claims.specs.Claims.{IsRoomFor, Tells};
 
 use dm_base::{Cost, Secs};
+use dm_marks::Marks;
 use dm_network::Network;
-use dm_relaxation::{Cyclic, Marks, cost_charging, flag_active, flag_dropped, least_holding};
+use dm_relaxation::{Cyclic, cost_charging, flag_active, flag_dropped, least_holding};
 use dm_rows::Rows;
 use std::alloc::{AllocError, Global};
 use std::marker::Model;

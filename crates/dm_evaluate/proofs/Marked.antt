@@ -5,9 +5,9 @@ use Rattle.std.proofs.lemmas.Bool.{cases_lt, cases_eq, and_parts, both_ways, fal
 use Rattle.dm_network.specs.Net.{Net, activity_at, pair_at, is_change, places_into, places_out_of}
 use Rattle.dm_network.specs.Start.{IsNetwork}
 use Rattle.dm_paths.proofs.Agreeing.{pair_joins}
-use Rattle.dm_settle.specs.Marked.{is_marked, IsFirstFrom, NoneFrom}
+use Rattle.dm_marks.specs.Marked.{is_marked, IsFirstFrom, NoneFrom}
 use Rattle.dm_network.proofs.EventRows.{stands_into}
-use Rattle.dm_settle.proofs.Marking.{marked_here, marked_still}
+use Rattle.dm_marks.proofs.Marking.{mark_here, mark_still}
 use Rattle.dm_network.proofs.EventRows.{stands_out}
 use Rattle.dm_priced.specs.Priced.{is_flagged, comes_too_early}
 use Rattle.dm_evaluate.specs.Marks.{MarksUnkept, IsUnmetHeadway, IsUnmetPair}
@@ -34,8 +34,8 @@ pub marks_one : (some : ℕ → Type 0) (marks : List Bool) (place : ℕ) → pl
     MarksWhere some marks (slice_set marks place true)
 marks_one some marks place below only = record {
   as_many = length-set marks place true;
-  kept = λ k was. marked_still marks place k below was;
-  marked = λ k is. subst (λ (j : ℕ). is_marked (slice_set marks place true) j ≡ true) (sym (only k is)) (marked_here marks place below);
+  kept = λ k was. mark_still marks place k below was;
+  marked = λ k is. subst (λ (j : ℕ). is_marked (slice_set marks place true) j ≡ true) (sym (only k is)) (mark_here marks place true below);
 }
 
 -- the changes of a row

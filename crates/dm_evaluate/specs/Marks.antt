@@ -1,7 +1,7 @@
 -- Marks of the choices that times do not keep, whether a path decides them or not.
 use Rattle.std.specs.Prelude.{ℕ, ◌≡◌, ◌<◌, Bool, true, List, length, Some}
 use Rattle.dm_network.specs.Net.{Net, activity_at, pair_at, is_change}
-use Rattle.dm_settle.specs.Marked.{is_marked}
+use Rattle.dm_marks.specs.Marked.{is_marked}
 use Rattle.dm_priced.specs.Priced.{comes_too_early}
 
 -- which activities that are changes, and which pairs, are marked

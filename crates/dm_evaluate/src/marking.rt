@@ -7,8 +7,9 @@ ghost use Rattle.dm_evaluate.specs.Inside.Marking.{MarksWhere, IsEarlyAt, IsEarl
 
 use crate::headways::is_headway_of;
 use dm_base::{ActKind, Secs};
+use dm_marks::Marks;
 use dm_network::Network;
-use dm_settle::{Constraints, Marks, Times};
+use dm_settle::{Constraints, Times};
 
 /// Marks those of these activities that are changes whose head comes too early where an event has another time.
 #[tactic(auto, using(crate::proofs::Marked::none_early, crate::proofs::Marked::next_early))]

@@ -1,13 +1,14 @@
 //! Marks of the choices that times do not keep.
 ghost use Rattle.std.specs.Prelude.{ℕ, ◌≡◌, ◌<◌, true, List, All, length, IfOk};
 ghost use Rattle.dm_network.specs.Net.{activity_at, is_change};
-ghost use Rattle.dm_settle.specs.Marked.{is_marked};
+ghost use Rattle.dm_marks.specs.Marked.{is_marked};
 ghost use Rattle.dm_evaluate.specs.Marks.{MarksUnkept};
 
 use crate::marking::{mark_early, mark_unmet};
 use dm_base::{ActKind, Secs};
+use dm_marks::Marks;
 use dm_network::Network;
-use dm_settle::{Constraints, Marks, Times, Watcher};
+use dm_settle::{Constraints, Times, Watcher};
 use std::alloc::{AllocError, Global};
 
 /// Marks at the changes whose head comes too early and at the pairs of which neither direction has all its headways met,

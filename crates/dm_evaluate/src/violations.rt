@@ -15,10 +15,11 @@ ghost use Rattle.dm_tree.specs.Relaxed.{IsViolated};
 use crate::headways::is_headway_of;
 use crate::marks::ViolationMarks;
 use dm_base::Steps;
+use dm_marks::Marks;
 use dm_network::Network;
 use dm_paths::{Place, Undecided, place_of_choice};
 use dm_rows::{Choice, Rows};
-use dm_settle::{Marks, Times};
+use dm_settle::Times;
 use dm_times::comes_too_early;
 use std::sync::ledger::Ledger;
 

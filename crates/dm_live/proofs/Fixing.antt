@@ -5,7 +5,7 @@ use Rattle.std.proofs.lemmas.Bool.{cases_eq, cases_Bool}
 use Rattle.dm_graph.specs.Arcs.{Binds}
 use Rattle.dm_network.specs.Net.{Net, activity_at}
 use Rattle.dm_settle.specs.Constraints.{ConstraintsValue, arcs_given, graph_given}
-use Rattle.dm_settle.specs.Marked.{is_marked}
+use Rattle.dm_marks.specs.Marked.{is_marked}
 use Rattle.dm_settle.specs.Settling.{IsSettled}
 use Rattle.dm_live.specs.Live.{IsLive, LiveValue, AreMarked, MarksHeads, IsEnteredByNone, with_floor}
 

@@ -4,8 +4,8 @@ use Rattle.std.specs.Prelude.{slice_set}
 use Rattle.std.proofs.lemmas.Bool.{cases_lt}
 use Rattle.dm_network.specs.Net.{Net, activity_at, places_out_of, EndsAreKnown}
 use Rattle.dm_network.specs.Held.{arcs_of}
-use Rattle.dm_settle.specs.Marked.{is_marked}
-use Rattle.dm_settle.proofs.Marking.{marked_here, marked_still, marked_if}
+use Rattle.dm_marks.specs.Marked.{is_marked}
+use Rattle.dm_marks.proofs.Marking.{mark_here, mark_still, marked_if}
 use Rattle.dm_network.proofs.EventRows.{leads_out, stands_out}
 use Rattle.dm_live.specs.Live.{MarksHeads}
 use Rattle.dm_live.specs.Inside.Marking.{HasMarked}
@@ -20,12 +20,12 @@ module _ (net : Net) (held : ℕ → Bool) (event : ℕ) (row : List ℕ) (n : �
       let leads = leads_out net event n row is in' in
       record {
         as_many = length-set now head true ∙ had.as_many;
-        kept = λ k was. marked_still now head k below (had.kept k was);
+        kept = λ k was. mark_still now head k below (had.kept k was);
         heads = λ k lt holds. elim (cases_lt k n) [
-          | inl earlier ↦ marked_still now head _ below (had.heads k earlier holds)
+          | inl earlier ↦ mark_still now head _ below (had.heads k earlier holds)
           | inr past ↦
               let here : n ≡ k = omega arith in
-              subst (λ (j : ℕ). is_marked (slice_set now head true) (activity_at net (slice_index row j)).head ≡ true) here (marked_here now head below)
+              subst (λ (j : ℕ). is_marked (slice_set now head true) (activity_at net (slice_index row j)).head ≡ true) here (mark_here now head true below)
         ];
         only = λ k is_now. elim (marked_if now head k is_now) [
           | inl was ↦ had.only k was

@@ -6,9 +6,9 @@ use Rattle.dm_graph.specs.Arcs.{Binds}
 use Rattle.dm_network.specs.Net.{Net, activity_at}
 use Rattle.dm_network.specs.Held.{is_held}
 use Rattle.dm_settle.specs.Constraints.{ConstraintsValue, arcs_given, graph_given}
-use Rattle.dm_settle.specs.Marked.{is_marked}
+use Rattle.dm_marks.specs.Marked.{is_marked}
 use Rattle.dm_settle.specs.Settling.{IsSettled}
-use Rattle.dm_settle.proofs.Marking.{marked_here}
+use Rattle.dm_marks.proofs.Marking.{mark_here}
 use Rattle.dm_live.specs.Live.{AreMarked}
 
 -- constraints ask the same of one event: its floor, and the activities into it
@@ -61,7 +61,7 @@ floor_of_one net given i floor e ne = record {
 marked_before : (marks : List Bool) (place k : ℕ) → place < length marks → is_marked (slice_set marks place true) k ≡ false → is_marked marks k ≡ false
 marked_before marks place k below clear =
     elim (cases_eq k place) [
-      | inl is ↦ let here : is_marked (slice_set marks place true) k ≡ true = subst (λ (j : ℕ). is_marked (slice_set marks place true) j ≡ true) (sym is) (marked_here marks place below) in absurd cc
+      | inl is ↦ let here : is_marked (slice_set marks place true) k ≡ true = subst (λ (j : ℕ). is_marked (slice_set marks place true) j ≡ true) (sym is) (mark_here marks place true below) in absurd cc
       | inr ne ↦ sym (get_or-set_other marks place k true false ne) ∙ clear
     ]
 
@@ -78,7 +78,7 @@ marked_for_one net given then marks times i is_event others was =
       settled = λ e lt clear.
           let other : e ≢ i = λ is.
           let here : is_marked (slice_set marks i true) e ≡ true =
-          subst (λ (j : ℕ). is_marked (slice_set marks i true) j ≡ true) (sym is) (marked_here marks i below) in
+          subst (λ (j : ℕ). is_marked (slice_set marks i true) j ≡ true) (sym is) (mark_here marks i true below) in
           absurd cc in
           still_settled net given then e (others e other) times (was.settled e lt (marked_before marks i e below clear));
     }

@@ -11,7 +11,7 @@ use Rattle.dm_order.specs.Value.{OrderValue}
 use Rattle.dm_order.specs.Orders.{IsOrderOf}
 use Rattle.dm_settle.specs.Constraints.{ConstraintsValue, IsSizedFor, graph_given}
 use Rattle.dm_settle.specs.Settling.{IsSettled, LeadsOn, Follows}
-use Rattle.dm_settle.specs.Marked.{is_marked, NoneFrom}
+use Rattle.dm_marks.specs.Marked.{is_marked, NoneFrom}
 
 -- what the events are held to, an order of the held activities, the times of the events, and which events are marked
 pub record LiveValue : Type 0 where

@@ -4,8 +4,9 @@ ghost use Rattle.dm_settle.specs.Constraints.{IsSizedFor, arcs_given};
 ghost use Rattle.dm_live.specs.Live.{MarksHeads};
 
 use dm_base::Steps;
+use dm_marks::Marks;
 use dm_network::Network;
-use dm_settle::{Constraints, Marks};
+use dm_settle::Constraints;
 use std::sync::ledger::Ledger;
 
 /// Marks the heads of the held activities out of an event. It reads one row.

@@ -1,10 +1,10 @@
 //! Marks of events, brought to the places of the events in an order.
 ghost use Rattle.std.specs.Prelude.{ℕ, ◌≡◌, ◌<◌, length, slice_index};
-ghost use Rattle.dm_settle.specs.Marked.{NoneFrom};
+ghost use Rattle.dm_marks.specs.Marked.{NoneFrom};
 ghost use Rattle.dm_live.specs.Inside.Placing.{ArePlaced, IsClear};
 ghost use Rattle.dm_graph.specs.Arrays.{AreRanks};
 
-use dm_settle::Marks;
+use dm_marks::Marks;
 
 /// Brings the marks of the events to their places in the order. It looks at the marked events alone.
 pub fn place_marks(marks: &mut Marks, order: &[usize], ranks: &[usize], placed: &mut Marks)

@@ -12,9 +12,10 @@ use crate::marking::mark_heads;
 use crate::placing::place_marks;
 use dm_base::{Secs, Steps};
 use dm_graph::search::Cyclic;
+use dm_marks::Marks;
 use dm_network::Network;
 use dm_order::{Order, OrderFault};
-use dm_settle::{Constraints, Marks, Times, Unwatched, Watcher};
+use dm_settle::{Constraints, Times, Unwatched, Watcher, settle_watched};
 use std::alloc::Global;
 use std::marker::Model;
 use std::sync::ledger::Ledger;
@@ -124,7 +125,8 @@ impl LiveTimetable {
             self.order.ranks(),
             &mut self.placed,
         );
-        self.placed.settle_watched(
+        settle_watched(
+            &mut self.placed,
             net,
             &self.constraints,
             self.order.order(),

@@ -13,7 +13,7 @@ use Rattle.dm_rows.specs.Touch.{IsDelayPassOrClock, IsTouched, IsChanged, MayMov
 use Rattle.dm_rows.specs.declared.messages.Change.{Change}
 use Rattle.dm_rows.specs.declared.messages.Change.TheVariants.{EventDelay, ActDelay, Passed, Recalled, Flipped, Adopted, Clock}
 use Rattle.dm_settle.specs.Constraints.{arcs_given}
-use Rattle.dm_settle.specs.Marked.{is_marked}
+use Rattle.dm_marks.specs.Marked.{is_marked}
 use Rattle.dm_live.specs.Live.{LiveValue, IsAtRest, ReadsFew as LiveReadsFew}
 use Rattle.dm_propagate.specs.Engine.{FollowsRows}
 use Rattle.dm_propagate.specs.Reading.{KeepsClock, ReadsFew}

@@ -7,8 +7,8 @@ use Rattle.dm_network.specs.Held.{is_held, IsCycleOf}
 use Rattle.dm_rows.specs.Active.{is_active}
 use Rattle.dm_rows.specs.Rows.{RowsValue}
 use Rattle.dm_settle.specs.Constraints.{ConstraintsValue}
-use Rattle.dm_settle.specs.Marked.{is_marked}
-use Rattle.dm_settle.proofs.Marking.{marked_if}
+use Rattle.dm_marks.specs.Marked.{is_marked}
+use Rattle.dm_marks.proofs.Marking.{marked_if}
 use Rattle.dm_live.specs.Live.{LiveValue, with_held, with_head}
 use Rattle.dm_propagate.specs.Inside.Turning.{IsAmong, IsBelow, IsOnly, KeepsNumbers, LetsGo, HoldsMore, TakesUp, IsRefused}
 

@@ -11,8 +11,8 @@ use Rattle.dm_network.specs.Net.{Net, event_at}
 use Rattle.dm_rows.specs.Rows.{RowsValue, passed_at}
 use Rattle.dm_rows.specs.Timetable.{planned_time, floor_of}
 use Rattle.dm_settle.specs.Constraints.{ConstraintsValue}
-use Rattle.dm_settle.specs.Marked.{is_marked}
-use Rattle.dm_settle.proofs.Marking.{marked_if}
+use Rattle.dm_marks.specs.Marked.{is_marked}
+use Rattle.dm_marks.proofs.Marking.{marked_if}
 use Rattle.dm_order.specs.Value.{OrderValue}
 use Rattle.dm_live.specs.Live.{LiveValue, with_floor, with_mark}
 use Rattle.dm_propagate.specs.Schedule.{IsScheduleOf, scheduled_at}

@@ -9,7 +9,7 @@ use Rattle.dm_rows.specs.Active.{is_active, active_arcs, IsCycle}
 use Rattle.dm_rows.specs.Rows.{RowsValue, passed_at}
 use Rattle.dm_rows.specs.Touch.{IsActiveBetween}
 use Rattle.dm_rows.proofs.AsGraph.{head_is_free}
-use Rattle.dm_settle.specs.Marked.{is_marked}
+use Rattle.dm_marks.specs.Marked.{is_marked}
 use Rattle.dm_live.specs.Live.{LiveValue, IsEnteredByNone}
 use Rattle.dm_propagate.specs.Inside.Concern.{LeadsAt}
 use Rattle.dm_propagate.specs.Inside.Turning.{IsBelow, Within, LetsGo, IsLetGoAt, HoldsMore, TakesUp, IsTakenUpAt, IsRefused}

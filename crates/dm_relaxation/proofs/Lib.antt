@@ -1,4 +1,3 @@
-pub mod Marking
 pub mod Rising
 pub mod Rounding
 pub mod OfRows

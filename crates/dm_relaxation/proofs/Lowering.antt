@@ -7,7 +7,7 @@ use Rattle.dm_graph.specs.Graph.{Meets}
 use Rattle.dm_network.specs.Net.{Net, activity_at}
 use Rattle.dm_network.specs.Held.{arcs_of, is_held}
 use Rattle.dm_relaxation.specs.Binding.{graph_with, is_due, MayBegin}
-use Rattle.dm_relaxation.specs.Marked.{is_marked}
+use Rattle.dm_marks.specs.Marked.{is_marked}
 use Rattle.dm_relaxation.specs.Following.{Follows}
 use Rattle.dm_relaxation.specs.Inside.Rising.{AreWithin}
 use Rattle.dm_relaxation.specs.Inside.Spreading.{IsClosed, HasReset}

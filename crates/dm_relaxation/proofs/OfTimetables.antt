@@ -13,7 +13,7 @@ use Rattle.dm_rows.specs.Timetable.{IsLeast, floor_of}
 use Rattle.dm_rows.proofs.AsGraph.{active_enter_no_passed}
 use Rattle.dm_relaxation.specs.Binding.{graph_with, AreBindings, AreFlags, AreSpansOf, AreFloorsOf, AreBelowLimit}
 use Rattle.dm_relaxation.specs.Timetables.{TimetableValue, IsRoomOf, IsTimetableOf, IsSettledFor, IsLeastNow, AgreesWith, AreAtMost}
-use Rattle.dm_relaxation.specs.Marked.{is_marked}
+use Rattle.dm_marks.specs.Marked.{is_marked}
 use Rattle.dm_relaxation.proofs.Renewing.{least_follows}
 use Rattle.dm_relaxation.proofs.Spreading.{true_false}
 use Rattle.dm_relaxation.proofs.OfRows.{least_holding_rows, no_cycle_of_rows, cycle_of_rows, times_are_below}

@@ -8,7 +8,7 @@ use Rattle.dm_graph.specs.Graph.{IsLeast}
 use Rattle.dm_network.specs.Net.{Net, activity_at}
 use Rattle.dm_network.specs.Held.{is_held}
 use Rattle.dm_relaxation.specs.Binding.{graph_with, is_due, AreBindings, MayBegin}
-use Rattle.dm_relaxation.specs.Marked.{is_marked}
+use Rattle.dm_marks.specs.Marked.{is_marked}
 use Rattle.dm_relaxation.specs.Following.{Follows}
 use Rattle.dm_relaxation.specs.Inside.Spreading.{Spreads}
 use Rattle.dm_relaxation.specs.Inside.Renewing.{IsKeptAt, IsMetAt}

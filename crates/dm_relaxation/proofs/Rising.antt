@@ -1,6 +1,6 @@
 -- How times rise: one event, the heads out of an event, and a round.
 use Rattle.std.proofs.Common.{◌≡◌, ℕ, ◌+◌, ◌<◌, ◌≤◌, Bool, true, false, IsTrue, List, length, sym, ap, subst, ◌∙◌, inl, inr, refl, arith, slice_index, length-set, get_or-set_same, get_or-set_other}
-use Rattle.std.specs.Prelude.{slice_set, ◌==◌}
+use Rattle.std.specs.Prelude.{slice_set}
 use Rattle.std.proofs.lemmas.Bool.{cases_lt, cases_eq}
 use Rattle.dm_base.specs.declared.limits.TheConstants.{BOUND, DELAY}
 use Rattle.dm_graph.specs.Arcs.{Binds}
@@ -8,7 +8,7 @@ use Rattle.dm_graph.specs.Graph.{Graph}
 use Rattle.dm_network.specs.Net.{Net, activity_at, places_out_of, EndsAreKnown}
 use Rattle.dm_network.specs.Held.{is_held}
 use Rattle.dm_relaxation.specs.Binding.{graph_with, IsEarly, is_due}
-use Rattle.dm_relaxation.specs.Marked.{IsFirstFrom, NoneFrom}
+use Rattle.dm_marks.specs.Marked.{IsFirstFrom, NoneFrom}
 use Rattle.dm_relaxation.specs.Inside.Rising.{AreWithin, HaveRisen, Raises, HasRelaxed, Relaxes, AreMet, HasSwept}
 use Rattle.dm_network.proofs.EventRows.{LeadsOut, leads_out, stands_out}
 

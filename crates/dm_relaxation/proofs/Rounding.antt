@@ -5,7 +5,8 @@ use Rattle.dm_graph.specs.Arcs.{HasNoCycle}
 use Rattle.dm_graph.specs.Graph.{Graph, IsLeast}
 use Rattle.dm_graph.proofs.Rounds.{round, round_is_below, least_from_rounds}
 use Rattle.dm_relaxation.specs.Binding.{IsEarly, is_due, MayBegin}
-use Rattle.dm_relaxation.specs.Inside.Rising.{HasSwept, SomeDue}
+use Rattle.dm_relaxation.specs.Inside.Rising.{HasSwept}
+use Rattle.dm_marks.specs.Marked.{HasMark}
 
 -- So many rounds have been made. One more than there are events come only where there is a cycle.
 pub record HaveRounds (g : Graph) (rounds : ℕ) (times : List ℕ) (due : List Bool) : Type 0 where
@@ -38,7 +39,7 @@ module _ (g : Graph) (rounds : ℕ) (old new : List ℕ) (before after : List Bo
     earliest = early;
   }
 
-  still : SomeDue after g.shape.events → g.shape.events ≤ rounds → HasNoCycle g.shape → ⊥
+  still : HasMark after g.shape.events → g.shape.events ≤ rounds → HasNoCycle g.shape → ⊥
   still some all none =
       elim (cases_lt g.shape.events rounds) [
         | inl past ↦ had.cyclic past none
@@ -47,15 +48,15 @@ module _ (g : Graph) (rounds : ℕ) (old new : List ℕ) (before after : List Bo
             let late : (e : ℕ) → e < g.shape.events → round g g.shape.events e ≤ slice_index old e =
             subst (λ (k : ℕ). (e : ℕ) → e < g.shape.events → round g k e ≤ slice_index old e) is had.late in
             let least : IsLeast g (slice_index old) = least_from_rounds g none (slice_index old) late had.begins.early in
-            let rose = swept.cause some.event some.is_event some.due_there in
-            let e = early (slice_index old) least.meets some.event some.is_event in
+            let rose = swept.cause some.place some.below some.marked in
+            let e = early (slice_index old) least.meets some.place some.below in
             omega arith
       ]
 
   next : suc rounds ≡ rounds + 1
   next = omega arith
 
-  pub one_more : SomeDue after g.shape.events → HaveRounds g (rounds + 1) new after
+  pub one_more : HasMark after g.shape.events → HaveRounds g (rounds + 1) new after
   one_more some = record {
     begins = record { above = above; early = early; met = swept.met };
     late = λ e lt. subst (λ (k : ℕ). round g k e ≤ slice_index new e) next

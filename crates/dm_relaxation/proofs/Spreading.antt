@@ -1,14 +1,14 @@
 -- Stale events found, one behind the other, and their times begun anew.
 use Rattle.std.proofs.Common.{◌≡◌, ℕ, ◌+◌, ◌<◌, ◌≤◌, Bool, true, false, IsTrue, List, length, sym, ap, subst, ◌∙◌, inl, inr, refl, arith, slice_index, length-set, get_or-set_same, get_or-set_other}
-use Rattle.std.specs.Prelude.{slice_set, ◌==◌}
+use Rattle.std.specs.Prelude.{slice_set}
 use Rattle.std.proofs.lemmas.Bool.{cases_Bool, cases_lt, cases_eq}
 use Rattle.std.proofs.lemmas.List.{get_or_past}
 use Rattle.dm_network.specs.Net.{Net, activity_at, places_out_of, places_into}
 use Rattle.dm_network.specs.Held.{is_held}
 use Rattle.dm_relaxation.specs.Binding.{is_due}
-use Rattle.dm_relaxation.specs.Marked.{is_marked, IsFirstFrom, NoneFrom}
+use Rattle.dm_marks.specs.Marked.{is_marked, IsFirstFrom, NoneFrom}
 use Rattle.dm_relaxation.specs.Inside.Spreading.{IsClosed, HasSpread, Spreads, SpreadsTo, SpreadsAlong, HasSpreadTo, SpreadsFrom, MarksTail, HasMarkedTailsTo, HasMarkedTails, HasReset, IsResetting}
-use Rattle.dm_relaxation.proofs.Marking.{mark_here, mark_there, mark_still}
+use Rattle.dm_marks.proofs.Marking.{mark_here, mark_there, mark_still}
 use Rattle.dm_network.proofs.EventRows.{stands_out}
 use Rattle.dm_network.proofs.EventRows.{stands_into}
 

@@ -5,7 +5,7 @@ use Rattle.dm_graph.specs.Graph.{IsLeast}
 use Rattle.dm_network.specs.Net.{Net, activity_at}
 use Rattle.dm_network.specs.Held.{arcs_of, is_held}
 use Rattle.dm_relaxation.specs.Binding.{graph_with}
-use Rattle.dm_relaxation.specs.Marked.{is_marked}
+use Rattle.dm_marks.specs.Marked.{is_marked}
 
 -- The times are least for what bound before. At an event that is not stale the floor has not fallen, or did not bind; the time
 -- is above the floor now; what held it to its time holds it still, with a span that is no shorter; and the activities into it

@@ -1,6 +1,5 @@
--- States of rounds, and of marks.
+-- States of rounds.
 pub mod Rising
-pub mod Blocks
 pub mod Spreading
 pub mod Renewing
 pub mod Agreeing

@@ -4,8 +4,6 @@ pub mod Binding
 pub mod Following
 -- The least timetable of rows, as these change.
 pub mod Timetables
--- Marks at events.
-pub mod Marked
 -- What a timetable costs, kept while its times change.
 pub mod KeptCosts
 -- How far a round has come: checked, and not to be believed.

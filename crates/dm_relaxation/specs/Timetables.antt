@@ -11,7 +11,7 @@ use Rattle.dm_rows.specs.declared.messages.Change.{Change}
 use Rattle.dm_rows.specs.declared.messages.Change.TheVariants.{EventDelay, ActDelay, Passed, Recalled, Flipped, Adopted, Clock}
 use Rattle.dm_relaxation.specs.Binding.{graph_with, is_due, AreBindings, AreFlags, AreSpansOf, AreFloorsOf, AreBelowLimit}
 use Rattle.dm_relaxation.specs.Following.{Follows}
-use Rattle.dm_relaxation.specs.Marked.{is_marked}
+use Rattle.dm_marks.specs.Marked.{is_marked}
 
 -- what is held, the spans, the floors, times, which events are stale and due, and the clock of the floors
 pub record TimetableValue : Type 0 where

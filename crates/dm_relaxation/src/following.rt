@@ -4,15 +4,15 @@ ghost use Rattle.dm_network.specs.Held.{arcs_of, is_held};
 ghost use Rattle.dm_graph.specs.Arcs.{HasNoCycle};
 ghost use Rattle.dm_graph.specs.Graph.{IsLeast};
 ghost use Rattle.dm_relaxation.specs.Binding.{graph_with, is_due, AreBindings, MayBegin};
-ghost use Rattle.dm_relaxation.specs.Marked.{is_marked};
+ghost use Rattle.dm_marks.specs.Marked.{is_marked};
 ghost use Rattle.dm_relaxation.specs.Following.{Follows};
 ghost use Rattle.dm_relaxation.specs.Inside.Rising.{AreWithin};
 ghost use Rattle.dm_relaxation.specs.Inside.Spreading.{HasSpread, SpreadsFrom, SpreadsTo, SpreadsAlong, IsClosed, HasReset, HasMarkedTails, MarksTail};
 
-use crate::marks::Marks;
 use crate::rounds::{Cyclic, raise};
 use crate::row::{row_into, row_out_of};
 use dm_base::Secs;
+use dm_marks::Marks;
 use dm_network::Network;
 
 /// Makes times that were least before what binds has changed the least ones again. Events are stale whose time may have become

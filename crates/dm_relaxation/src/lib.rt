@@ -8,14 +8,13 @@
 //! changes ([`follow`]): the events that this may concern begin anew from their floors, and rounds from there. A [`Timetable`] is
 //! kept so with rows ([`keep_up`]). What a timetable costs is added up place by place, or
 //! kept while its times change ([`KeptCost`]), which costs what has changed and a look at each change. Memory is taken once, for a timetable and
-//! for [`Marks`]. Every time is below 2^38 seconds, and every cost below 2^100 thousandths of passenger seconds.
+//! for marks. Every time is below 2^38 seconds, and every cost below 2^100 thousandths of passenger seconds.
 #![tactic(auto)]
 
 mod costing;
 mod following;
 mod keeping;
 mod kept_cost;
-mod marks;
 mod rounds;
 mod row;
 mod rows;
@@ -25,7 +24,6 @@ pub use costing::{comes_too_early, cost_charging, cost_of, flag_dropped, is_drop
 pub use following::follow;
 pub use keeping::keep_up;
 pub use kept_cost::KeptCost;
-pub use marks::Marks;
 pub use rounds::{Cyclic, raise};
 pub use row::{row_into, row_out_of};
 pub use rows::{fill_floors, fill_spans, flag_active, floor_of, least_holding, span_of};

@@ -6,8 +6,8 @@ ghost use Rattle.dm_graph.specs.Graph.{IsLeast};
 ghost use Rattle.dm_relaxation.specs.Binding.{graph_with, is_due, AreBindings, MayBegin};
 ghost use Rattle.dm_relaxation.specs.Inside.Rising.{latest, AreWithin, AreMet, Raises, Relaxes, HasSwept};
 
-use crate::marks::Marks;
 use dm_base::{Secs, Steps};
+use dm_marks::Marks;
 use dm_network::Network;
 use std::marker::Brand;
 use std::sync::ledger::{Blank, Ledger};

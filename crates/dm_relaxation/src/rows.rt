@@ -8,9 +8,9 @@ ghost use Rattle.dm_rows.specs.Laws.{EntersNoPassed};
 ghost use Rattle.dm_rows.specs.Timetable.{floor_of, span_of, IsLeastHolding};
 ghost use Rattle.dm_relaxation.specs.Binding.{AreFlags, AreSpansOf, AreFloorsOf, AreBelowLimit};
 
-use crate::marks::Marks;
 use crate::rounds::{Cyclic, raise};
 use dm_base::Secs;
+use dm_marks::Marks;
 use dm_network::Network;
 use dm_rows::{Rows, is_active};
 

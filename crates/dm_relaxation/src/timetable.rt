@@ -7,13 +7,13 @@ ghost use Rattle.dm_rows.specs.Active.{HasNoCycle};
 ghost use Rattle.dm_relaxation.specs.Timetables.{IsRoomOf, IsTimetableOf, IsSettledFor, AgreesWith, RenewsEvent, RenewsActivity, TakesClock};
 ghost use Rattle.dm_relaxation.specs.Inside.Renewing.{IsKeptAt, IsMetAt};
 ghost use Rattle.dm_relaxation.specs.Inside.Spreading.{Spreads};
-ghost use Rattle.dm_relaxation.specs.Marked.{is_marked};
+ghost use Rattle.dm_marks.specs.Marked.{is_marked};
 
 use crate::following::{follow, make_stale};
-use crate::marks::Marks;
 use crate::rounds::{Cyclic, raise};
 use crate::rows::{fill_floors, fill_spans, flag_active, floor_of, span_of};
 use dm_base::Secs;
+use dm_marks::Marks;
 use dm_network::Network;
 use dm_rows::{Rows, is_active};
 use std::alloc::{AllocError, Global};

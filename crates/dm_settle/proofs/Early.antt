@@ -9,7 +9,7 @@ use Rattle.dm_graph.specs.Graph.{Graph, IsJoin}
 use Rattle.dm_graph.proofs.Chains.{Rises}
 use Rattle.dm_graph.proofs.Rounds.{least_is_bounded}
 use Rattle.dm_settle.specs.Constraints.{IsBounded}
-use Rattle.dm_settle.specs.Marked.{is_marked}
+use Rattle.dm_marks.specs.Marked.{is_marked}
 use Rattle.dm_settle.specs.Settling.{AreLeast, AreEarly, IsSettled, IsEntered, MayMove, GoesForward}
 use Rattle.dm_settle.specs.Inside.Pass.{IsPassing, TailsAreEarly, latest}
 

@@ -8,7 +8,7 @@ use Rattle.dm_graph.proofs.Ranks.{ranks_rise}
 use Rattle.dm_network.specs.Net.{Net, IsWithinLimits}
 use Rattle.dm_network.specs.Held.{arcs_of, ids_of, ShowsCycleOf}
 use Rattle.dm_settle.specs.Constraints.{ConstraintsValue, AreWithinLimits, IsBounded, graph_given}
-use Rattle.dm_settle.specs.Marked.{is_marked}
+use Rattle.dm_marks.specs.Marked.{is_marked}
 use Rattle.dm_settle.specs.Settling.{MarksUnsettled, GoesForward}
 
 pub given_is_bounded : (net : Net) (given : ConstraintsValue) → IsWithinLimits net → AreWithinLimits given.floors given.spans → IsBounded (graph_given net given)

@@ -3,7 +3,7 @@ use Rattle.std.proofs.Common.{◌≡◌, ℕ, ◌+◌, ◌<◌, ◌≤◌, Bool,
 use Rattle.dm_graph.specs.Arrays.{AreRanks}
 use Rattle.dm_graph.specs.Graph.{Graph}
 use Rattle.dm_settle.specs.Constraints.{IsBounded}
-use Rattle.dm_settle.specs.Marked.{is_marked, IsFirstFrom}
+use Rattle.dm_marks.specs.Marked.{is_marked, IsFirstFrom}
 use Rattle.dm_settle.specs.Settling.{GoesForward, State}
 use Rattle.dm_settle.specs.Inside.Pass.{IsPassing, HasRead, Renews, TailsAreEarly}
 use Rattle.dm_settle.proofs.Early.{tails_are_early}

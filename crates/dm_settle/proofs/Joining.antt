@@ -1,6 +1,5 @@
 -- The time of an event, joined along its row.
-use Rattle.std.proofs.Common.{◌∙◌, ◌≡◌, ℕ, ◌+◌, ◌<◌, ◌≤◌, Bool, false, IsTrue, List, length, max, sym, ap, subst, inl, inr, arith, slice_index}
-use Rattle.std.specs.Prelude.{◌==◌}
+use Rattle.std.proofs.Common.{◌∙◌, ◌≡◌, ℕ, ◌+◌, ◌≤◌, Bool, false, IsTrue, List, length, max, sym, ap, subst, inl, inr, arith, slice_index}
 use Rattle.std.proofs.lemmas.Bool.{cases_lt}
 use Rattle.dm_graph.specs.Graph.{Graph, IsJoin}
 use Rattle.dm_network.specs.Net.{Net, EndsAreKnown, activity_at, places_into}

@@ -1,4 +1,3 @@
-pub mod Between
 pub mod Early
 pub mod Given
 pub mod Going

@@ -1,30 +1,13 @@
 -- Marks at the heads of the activities out of an event, set along its row.
-use Rattle.std.proofs.Common.{◌≡◌, ℕ, ◌+◌, ◌<◌, Bool, true, false, IsTrue, List, length, sym, ap, subst, ◌∙◌, ◌⊎◌, inl, inr, arith, slice_index, length-set, get_or-set_same, get_or-set_other}
-use Rattle.std.specs.Prelude.{◌==◌, slice_set}
-use Rattle.std.proofs.lemmas.Bool.{cases_lt, cases_eq}
+use Rattle.std.proofs.Common.{◌≡◌, ℕ, ◌+◌, ◌<◌, Bool, true, false, IsTrue, List, length, sym, ap, subst, ◌∙◌, inl, inr, arith, slice_index, length-set}
+use Rattle.std.specs.Prelude.{slice_set}
+use Rattle.std.proofs.lemmas.Bool.{cases_lt}
 use Rattle.dm_network.specs.Net.{Net, activity_at, places_out_of, EndsAreKnown}
 use Rattle.dm_network.specs.Held.{arcs_of}
-use Rattle.dm_settle.specs.Marked.{is_marked}
+use Rattle.dm_marks.specs.Marked.{is_marked}
 use Rattle.dm_settle.specs.Inside.Pass.{HasMarked, MarksHeads}
+use Rattle.dm_marks.proofs.Marking.{mark_here, mark_still, marked_if}
 use Rattle.dm_network.proofs.EventRows.{leads_out, stands_out}
-
--- a place that is marked, and every one that was
-pub marked_here : (marks : List Bool) (place : ℕ) → place < length marks → is_marked (slice_set marks place true) place ≡ true
-marked_here marks place below = get_or-set_same marks place true false below
-
-pub marked_still : (marks : List Bool) (place k : ℕ) → place < length marks → is_marked marks k ≡ true → is_marked (slice_set marks place true) k ≡ true
-marked_still marks place k below was =
-    elim (cases_eq k place) [
-      | inl is ↦ subst (λ (j : ℕ). is_marked (slice_set marks place true) j ≡ true) (sym is) (marked_here marks place below)
-      | inr ne ↦ get_or-set_other marks place k true false ne ∙ was
-    ]
-
-pub marked_if : (marks : List Bool) (place k : ℕ) → is_marked (slice_set marks place true) k ≡ true → (is_marked marks k ≡ true) ⊎ (k ≡ place)
-marked_if marks place k now =
-    elim (cases_eq k place) [
-      | inl is ↦ inr is
-      | inr ne ↦ inl (sym (get_or-set_other marks place k true false ne) ∙ now)
-    ]
 
 module _ (net : Net) (held : ℕ → Bool) (ranks : List ℕ) (event : ℕ) (row : List ℕ) (n : ℕ) (before now : List Bool)
     (had : HasMarked (arcs_of net held) ranks event row n before now) where
@@ -36,12 +19,12 @@ module _ (net : Net) (held : ℕ → Bool) (ranks : List ℕ) (event : ℕ) (row
       let leads = leads_out net event n row is in' in
       record {
         as_many = length-set now head true ∙ had.as_many;
-        kept = λ k was. marked_still now head k below (had.kept k was);
+        kept = λ k was. mark_still now head k below (had.kept k was);
         heads = λ k lt holds. elim (cases_lt k n) [
-          | inl earlier ↦ marked_still now head _ below (had.heads k earlier holds)
+          | inl earlier ↦ mark_still now head _ below (had.heads k earlier holds)
           | inr past ↦
               let here : n ≡ k = omega arith in
-              subst (λ (j : ℕ). is_marked (slice_set now head true) (slice_index ranks (activity_at net (slice_index row j)).head) ≡ true) here (marked_here now head below)
+              subst (λ (j : ℕ). is_marked (slice_set now head true) (slice_index ranks (activity_at net (slice_index row j)).head) ≡ true) here (mark_here now head true below)
         ];
         only = λ k is_now. elim (marked_if now head k is_now) [
           | inl was ↦ had.only k was

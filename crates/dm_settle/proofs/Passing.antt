@@ -6,7 +6,7 @@ use Rattle.dm_graph.specs.Arcs.{Binds}
 use Rattle.dm_graph.specs.Arrays.{AreRanks}
 use Rattle.dm_graph.specs.Graph.{Graph, IsJoin}
 use Rattle.dm_graph.proofs.Joins.{IsJoin-congr, joins_are_least}
-use Rattle.dm_settle.specs.Marked.{is_marked, IsFirstFrom, NoneFrom}
+use Rattle.dm_marks.specs.Marked.{is_marked, IsFirstFrom, NoneFrom}
 use Rattle.dm_settle.specs.Settling.{AreLeast, IsSettled, MayMove, GoesForward, State}
 use Rattle.dm_settle.specs.Inside.Pass.{IsPassing, MarksHeads, Stays, Moves}
 use Rattle.dm_settle.proofs.Early.{moving_rank, moving_rank-rises}

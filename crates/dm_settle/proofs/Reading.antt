@@ -7,7 +7,7 @@ use Rattle.std.proofs.lemmas.Map.Keys.{IsDistinct-cons}
 use Rattle.dm_graph.specs.Arrays.{AreRanks}
 use Rattle.dm_graph.specs.Arcs.{Arcs}
 use Rattle.dm_graph.specs.Graph.{Graph}
-use Rattle.dm_settle.specs.Marked.{is_marked}
+use Rattle.dm_marks.specs.Marked.{is_marked}
 use Rattle.dm_settle.specs.Settling.{State, Follows}
 use Rattle.dm_settle.specs.Inside.Pass.{Stays, Moves, HasRead}
 use Rattle.dm_settle.proofs.Passing.{one_of_rank, marked_else}

@@ -1,3 +1,2 @@
--- States of loops, of the pass and of the marks. Who believes what a pass promises need not read them.
-pub mod Blocks
+-- States of loops and of the pass. Who believes what a pass promises need not read them.
 pub mod Pass

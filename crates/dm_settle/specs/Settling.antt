@@ -3,7 +3,7 @@ use Rattle.std.specs.Prelude.{ℕ, ◌≡◌, ◌≢◌, nat_eq, ◌+◌, ◌^�
 use Rattle.std.specs.List.{Contains, IsDistinct}
 use Rattle.dm_graph.specs.Arcs.{Arcs, Binds}
 use Rattle.dm_graph.specs.Graph.{Graph, IsJoin, IsLeast}
-use Rattle.dm_settle.specs.Marked.{is_marked}
+use Rattle.dm_marks.specs.Marked.{is_marked}
 
 -- the times, one for each event, are the least timetable of the graph
 pub record AreLeast (g : Graph) (times : List ℕ) : Type 0 where

@@ -8,10 +8,11 @@ ghost use Rattle.dm_settle.specs.Settling.{AreLeast, AreEarly};
 
 use crate::constraints::Constraints;
 use crate::faults::NoTimes;
-use crate::marks::Marks;
+use crate::pass::settle;
 use crate::times::Times;
 use dm_base::{ActId, Items, Steps};
 use dm_graph::search::{Cyclic, Search};
+use dm_marks::Marks;
 use dm_network::Network;
 use std::alloc::{AllocError, Global};
 use std::marker::Brand;
@@ -54,7 +55,8 @@ fn least_times_with<L: Ledger>(
     let search = search_order(alloc, net, constraints)?;
     let mut times = Times::room(alloc, net)?;
     let mut marks = Marks::all(alloc, net.events())?;
-    marks.settle(
+    settle(
+        &mut marks,
         net,
         constraints,
         search.order(),

@@ -20,7 +20,7 @@ use Rattle.dm_paths.specs.Decisions.{AddsDecision, IsOpen, IsFlipOf}
 use Rattle.dm_verify.specs.Inside.Timetables.{KnownValue, TimetableValue, IsKnown, IsGrownTo, MakesDue, AreWithinFlags}
 use Rattle.dm_network.specs.Held.{is_held}
 use Rattle.dm_relaxation.specs.Binding.{is_due, AreSpansOf}
-use Rattle.dm_relaxation.proofs.Marking.{mark_still}
+use Rattle.dm_marks.proofs.Marking.{mark_still}
 use Rattle.dm_relaxation.specs.KeptCosts.{KeptCostValue}
 use Rattle.dm_verify.specs.Inside.Relaxations.{RelaxationValue, IsRelaxationOf}
 use Rattle.dm_paths.proofs.Apart.{Apart, choice_list_from}

@@ -5,7 +5,7 @@ ghost use Rattle.dm_network.specs.Net.{activity_at};
 ghost use Rattle.dm_relaxation.specs.Binding.{is_due};
 
 use dm_network::Network;
-use dm_relaxation::Marks;
+use dm_marks::Marks;
 
 /// Whether each flag of the one list is set in the other.
 pub fn is_within(some: &[bool], all: &[bool]) -> bool

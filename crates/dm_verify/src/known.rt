@@ -8,8 +8,9 @@ ghost use Rattle.dm_verify.specs.Inside.Timetables.{IsKnown, AreWithinFlags, Are
 
 use crate::beginning::{clear, is_within, mark_added};
 use dm_base::Secs;
+use dm_marks::Marks;
 use dm_network::Network;
-use dm_relaxation::{Cyclic, Marks, fill_floors, raise};
+use dm_relaxation::{Cyclic, fill_floors, raise};
 use dm_rows::Rows;
 use std::alloc::{AllocError, Global};
 use std::marker::Model;

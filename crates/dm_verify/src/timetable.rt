@@ -10,8 +10,9 @@ ghost use Rattle.dm_verify.specs.Inside.Timetables.{IsTimetableOf, IsGrownTo, Ma
 
 use crate::known::Known;
 use dm_base::Secs;
+use dm_marks::Marks;
 use dm_network::Network;
-use dm_relaxation::{Cyclic, Marks, fill_spans};
+use dm_relaxation::{Cyclic, fill_spans};
 use dm_rows::Rows;
 use std::alloc::{AllocError, Global};
 use std::marker::Model;

@@ -1,7 +1,7 @@
 -- What is marked where an event moves, and what is looked at and cleared where a violated choice is looked for.
 use Rattle.std.specs.Prelude.{ℕ, ◌≡◌, ◌&&◌, ◌<◌, ◌≤◌, Bool, true, false, List, length, Option, Some, None}
 use Rattle.dm_network.specs.Net.{Net, activity_at, is_change}
-use Rattle.dm_settle.specs.Marked.{is_marked}
+use Rattle.dm_marks.specs.Marked.{is_marked}
 use Rattle.dm_priced.specs.Priced.{is_flagged, comes_too_early}
 use Rattle.dm_evaluate.specs.Inside.Moves.{IsAmong}
 

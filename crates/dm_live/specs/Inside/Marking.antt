@@ -1,7 +1,7 @@
 -- Heads that are marked one after another.
 use Rattle.std.specs.Prelude.{ℕ, ◌≡◌, ◌<◌, ◌⊎◌, Bool, true, IsTrue, List, length, slice_index}
 use Rattle.dm_graph.specs.Arcs.{Arcs}
-use Rattle.dm_settle.specs.Marked.{is_marked}
+use Rattle.dm_marks.specs.Marked.{is_marked}
 use Rattle.dm_settle.specs.Settling.{LeadsOn}
 
 -- beside the marks before, the heads of the arcs held among the first n of the row out of the event are marked

@@ -1,6 +1,6 @@
 -- Marks of events that are brought to their places in the order.
 use Rattle.std.specs.Prelude.{ℕ, ◌≡◌, ◌<◌, ◌≤◌, ◌⊎◌, Bool, true, false, List, length, slice_index}
-use Rattle.dm_settle.specs.Marked.{is_marked, NoneFrom}
+use Rattle.dm_marks.specs.Marked.{is_marked, NoneFrom}
 
 -- the marks at the places of the order are those of the events
 pub record ArePlaced (events : ℕ) (ranks : List ℕ) (marks placed : List Bool) : Type 0 where

@@ -9,7 +9,7 @@ use Rattle.dm_rows.specs.Touch.{IsActiveBetween}
 use Rattle.dm_rows.specs.declared.messages.Change.{Change}
 use Rattle.dm_rows.specs.declared.messages.Change.TheVariants.{EventDelay, ActDelay, Passed, Recalled, Flipped, Adopted, Clock}
 use Rattle.dm_settle.specs.Constraints.{ConstraintsValue, arcs_given}
-use Rattle.dm_settle.specs.Marked.{is_marked}
+use Rattle.dm_marks.specs.Marked.{is_marked}
 use Rattle.dm_live.specs.Live.{LiveValue, IsFixed}
 use Rattle.dm_propagate.specs.Inside.Turning.{IsLetGoAt, IsTakenUpAt}
 

@@ -4,7 +4,7 @@ use Rattle.dm_network.specs.Net.{Net}
 use Rattle.dm_rows.specs.Rows.{RowsValue}
 use Rattle.dm_rows.specs.Timetable.{floor_of}
 use Rattle.dm_settle.specs.Constraints.{ConstraintsValue}
-use Rattle.dm_settle.specs.Marked.{is_marked}
+use Rattle.dm_marks.specs.Marked.{is_marked}
 use Rattle.dm_live.specs.Live.{LiveValue}
 use Rattle.dm_propagate.specs.Inside.Changing.{IsOffFloor}
 use Rattle.dm_propagate.specs.declared.schedule.Scheduled.{Scheduled}

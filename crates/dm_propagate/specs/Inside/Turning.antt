@@ -4,7 +4,7 @@ use Rattle.dm_network.specs.Net.{Net, activity_at}
 use Rattle.dm_network.specs.Held.{is_held, IsCycleOf}
 use Rattle.dm_rows.specs.Active.{is_active}
 use Rattle.dm_rows.specs.Rows.{RowsValue}
-use Rattle.dm_settle.specs.Marked.{is_marked}
+use Rattle.dm_marks.specs.Marked.{is_marked}
 use Rattle.dm_live.specs.Live.{LiveValue}
 
 -- the activity is one of the first n

@@ -61,9 +61,3 @@ pub record HasSwept (g : Graph) (n : ℕ) (old new : List ℕ) (after : List Boo
   pub early : StayEarly g old new
   pub along : (a : ℕ) → Binds g.shape a → g.shape.tail a < n → slice_index old (g.shape.tail a) + g.span a ≤ slice_index new (g.shape.head a)
   pub cause : (e : ℕ) → e < n → is_due after e ≡ true → slice_index old e < slice_index new e
-
--- some event is due
-pub record SomeDue (due : List Bool) (events : ℕ) : Type 0 where
-  pub event : ℕ
-  pub is_event : event < events
-  pub due_there : is_due due event ≡ true

@@ -4,7 +4,7 @@ use Rattle.dm_graph.specs.Arcs.{Binds}
 use Rattle.dm_network.specs.Net.{Net, activity_at}
 use Rattle.dm_network.specs.Held.{arcs_of, is_held}
 use Rattle.dm_relaxation.specs.Binding.{is_due}
-use Rattle.dm_relaxation.specs.Marked.{is_marked}
+use Rattle.dm_marks.specs.Marked.{is_marked}
 
 -- each head that a stale tail holds to its time is stale
 abbrev pub IsClosed : Net → List Bool → List ℕ → List ℕ → List Bool → Type 0

@@ -4,7 +4,7 @@ use Rattle.std.specs.List.{Contains}
 use Rattle.dm_base.specs.declared.limits.TheConstants.{PASSED_TIME, BOUND, DELAY}
 use Rattle.dm_graph.specs.Arcs.{Arcs, Binds}
 use Rattle.dm_graph.specs.Graph.{Graph, IsJoin}
-use Rattle.dm_settle.specs.Marked.{is_marked}
+use Rattle.dm_marks.specs.Marked.{is_marked}
 use Rattle.dm_settle.specs.Settling.{IsSettled, MayMove, MarksUnsettled, State, Follows, AreReadFor}
 
 -- no event of n can be later than this

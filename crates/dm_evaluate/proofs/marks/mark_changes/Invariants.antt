@@ -1,6 +1,6 @@
 use Rattle.std.proofs.Common.{ℕ, ◌≡◌, ◌<◌, true, length}
 use Rattle.dm_network.specs.Net.{activity_at, is_change}
-use Rattle.dm_settle.specs.Marked.{is_marked}
+use Rattle.dm_marks.specs.Marked.{is_marked}
 use Rattle.dm_evaluate.proofs.marks.mark_changes.Given as goal
 
 abbrev pub invariant-loop-a : goal.invariant-loop-a

@@ -1,6 +1,6 @@
 use Rattle.std.proofs.Common.{List, Bool, ◌+◌, length, refl, sym, ap, ◌∙◌, subst, arith, rules}
 use Rattle.dm_relaxation.specs.Binding.{graph_with}
-use Rattle.dm_relaxation.specs.Inside.Rising.{SomeDue}
+use Rattle.dm_marks.specs.Marked.{HasMark}
 use Rattle.dm_relaxation.proofs.Rounding.{HaveRounds, no_rounds, settled, one_more}
 use Rattle.dm_relaxation.proofs.rounds.raise_with.Goals as goal
 
@@ -25,7 +25,7 @@ loop-round-preserved g c = record {
       subst (λ (due : List Bool). HaveRounds (graph_with c.args.net.now c.args.held.now c.args.spans.now floor) (c.loop-round.round + 1) c.sweep.new.times due) (sym c.is_any.ensures.same)
       (one_more (graph_with c.args.net.now c.args.held.now c.args.spans.now floor) c.loop-round.round c.loop-round.times c.sweep.new.times c.loop-round.due c.sweep.new.due
       had (c.sweep.ensures.swept floor had.begins.met)
-      (subst (λ n. SomeDue c.sweep.new.due n) (c.sweep.ensures.as_many_due ∙ (c.loop-round.invariant.as_many_flags ∙ c.requires.as_many_flags)) (c.is_any.ensures.some (search rules))));
+      (subst (λ n. HasMark c.sweep.new.due n) (c.sweep.ensures.as_many_due ∙ (c.loop-round.invariant.as_many_flags ∙ c.requires.as_many_flags)) (c.is_any.ensures.some (search rules))));
   within = c.sweep.ensures.within;
   as_many_times = c.sweep.ensures.as_many ∙ c.loop-round.invariant.as_many_times;
   as_many_flags = ap (λ (due : List Bool). length due) c.is_any.ensures.same ∙ (c.sweep.ensures.as_many_due ∙ c.loop-round.invariant.as_many_flags);

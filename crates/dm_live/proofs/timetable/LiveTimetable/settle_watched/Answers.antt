@@ -19,5 +19,5 @@ returns-clause-few_reads g c =
     subst (λ (r : List ℕ). ArePlaced (length c.self.inside.marks) r c.self.inside.marks c.place_marks.new.placed) (c.ranks.ensures ∙ sym c.ranks-2.ensures) c.place_marks.ensures.placed in
     subst (λ (v : LiveValue). ReadsFew (arcs_given c.args.net.now v.given) v after c.args.steps.now c.settle_watched.new.steps) c.self.view_is
     (reads_few (arcs_given c.args.net.now c.self.inside.constraints) c.ranks-2.result.now (record { given = c.self.inside.constraints; order = c.self.inside.order; times = c.self.inside.times; marks = c.self.inside.marks }) after
-    c.place_marks.new.placed c.settle_watched.new.self c.self.inside.times c.settle_watched.new.times c.args.steps.now c.settle_watched.new.steps
+    c.place_marks.new.placed c.settle_watched.new.marks c.self.inside.times c.settle_watched.new.times c.args.steps.now c.settle_watched.new.steps
     was.marked.as_many_marks placed refl refl c.settle_watched.ensures.few_reads)

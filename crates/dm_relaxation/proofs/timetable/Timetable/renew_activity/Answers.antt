@@ -2,7 +2,7 @@ use Rattle.std.proofs.Common.{Bool, ℕ, false, ◌≡◌, sym, subst, ◌∙◌
 use Rattle.dm_network.specs.declared.parts.Activity.{Activity}
 use Rattle.dm_network.specs.Held.{is_held}
 use Rattle.dm_relaxation.specs.Inside.Renewing.{IsMetAt}
-use Rattle.dm_relaxation.specs.Marked.{is_marked}
+use Rattle.dm_marks.specs.Marked.{is_marked}
 use Rattle.dm_relaxation.specs.Timetables.{TimetableValue, IsTimetableOf}
 use Rattle.dm_relaxation.proofs.OfTimetables.{value}
 use Rattle.dm_relaxation.proofs.Renewing.{bindings_set, still_due, activity_renewed}

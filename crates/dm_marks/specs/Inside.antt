@@ -1,0 +1,2 @@
+-- Blocks of marks.
+pub mod Blocks

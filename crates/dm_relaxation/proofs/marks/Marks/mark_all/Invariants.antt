@@ -1,9 +1,0 @@
-use Rattle.std.proofs.Common.{ℕ, ◌≡◌, ◌<◌, true, length}
-use Rattle.dm_relaxation.specs.Marked.{is_marked}
-use Rattle.dm_relaxation.proofs.marks.Marks.mark_all.Given as goal
-
-abbrev pub invariant-loop-event : goal.invariant-loop-event
-invariant-loop-event l = record {
-  marked : (k : ℕ) → k < l.event → is_marked l.self k ≡ true;
-  as_many : length l.self ≡ length l.initial.self;
-}
