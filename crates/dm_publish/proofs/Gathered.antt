@@ -1,92 +1,30 @@
 -- The changes of one board.
-use Rattle.std.proofs.Common.{◌≡◌, ℕ, zero, suc, ◌+◌, ◌<◌, ◌≤◌, Bool, true, false, cond, eqb, List, [], ◌∷◌, ◌++◌, length, Option, Some, None, Result, Ok, Err, refl, sym, ap, subst, ◌∙◌, inl, inr, arith, length-append, slice_index}
-use Rattle.std.specs.Prelude.{◌⊎◌, ⊤, not, All, IfSome, IsSome, OnOk, ◌==◌, unwrap_or, if◌then◌else◌}
+use Rattle.std.proofs.Common.{◌≡◌, ℕ, zero, suc, ◌+◌, ◌<◌, Bool, true, false, cond, eqb, List, [], ◌∷◌, ◌++◌, length, Option, Some, None, Result, Ok, Err, refl, sym, ap, subst, ◌∙◌, inl, inr, arith, length-append}
+use Rattle.std.specs.Prelude.{⊤, not, All, IfSome, IsSome, OnOk, ◌==◌, unwrap_or, if◌then◌else◌}
 use Rattle.std.proofs.lemmas.Bool.{cases_lt, cases_eq, eqb-true, eq-eqb, ne_eqb}
-use Rattle.std.proofs.lemmas.List.{get_or_default}
 use Rattle.std.proofs.lemmas.List.Elements.{All-push}
-use Rattle.std.proofs.lemmas.List.Sums.{length-filter, count_by-le-length}
-use Rattle.std.proofs.lemmas.List.FromFn.{length-range_with_len}
-use Rattle.std.specs.List.{range_with_len}
-use Rattle.dm_base.specs.declared.ids.StopId.{StopId}
-use Rattle.dm_graph.proofs.Windows.{kept_at, StandsAt, stands_in}
-use Rattle.dm_network.specs.Net.{Net, event_at, event_place, no_event, places_at}
+use Rattle.dm_network.specs.Net.{Net, event_at, event_place, no_event}
 use Rattle.dm_network.specs.Start.{IsNetwork}
 use Rattle.dm_network.proofs.Keys.{key_is_found}
 use Rattle.dm_rows.specs.Timetable.{time_at}
 use Rattle.dm_outside.specs.Board.{times_after, Sets}
 use Rattle.dm_publish.specs.Shown.{IsAtStop, AllStand, ShowsTimes, ShowsLast, KeepsOthers, IsSoundFor}
-use Rattle.dm_publish.specs.Inside.Changes.{StandsIn, ListsChanges}
+use Rattle.dm_publish.specs.declared.changes.Listed.{Listed}
+use Rattle.dm_publish.specs.Inside.Changes.{no_listed, place_at}
 use Rattle.dm_publish.specs.Inside.Refreshing.{TellsTime, LacksTime, IsDue, Covers, Gathers, HasGathered, TakesChanges, Refreshes}
-
--- ---- the events at a stop
-
-stop_of : ℕ → StopId
-stop_of stop = record { 0 = stop }
-
--- each place in the row of a stop is that of an event there
-pub at_stop : (net : Net) (stop k : ℕ) (row : List ℕ) → row ≡ places_at net (record { 0 = stop }) → k < length row → IsAtStop net stop (slice_index row k)
-at_stop net stop k row is below =
-    let kept = kept_at (λ i. (event_at net i).stop.0 == stop) 0 (length net.events) k (subst (λ (xs : List ℕ). k < length xs) is below) in
-    let there : IsAtStop net stop (slice_index (places_at net (record { 0 = stop })) k) =
-    record { is_event = let b = kept.below in omega arith; at_stop = eqb-true _ stop kept.passes } in
-    subst (λ (xs : List ℕ). IsAtStop net stop (slice_index xs k)) (sym is) there
-
--- each event there stands in the row
-stands_there : (net : Net) (stop i : ℕ) → IsAtStop net stop i → StandsAt (places_at net (record { 0 = stop })) i
-stands_there net stop i at =
-    let b = at.is_event in
-    stands_in (λ j. (event_at net j).stop.0 == stop) 0 (length net.events) i (eq-eqb _ stop at.at_stop) (omega arith) (omega arith)
-
-pub row_is_short : (net : Net) (stop : ℕ) (row : List ℕ) → row ≡ places_at net (record { 0 = stop }) → length row ≤ length net.events
-row_is_short net stop row is =
-    let p : ℕ → Bool = λ i. (event_at net i).stop.0 == stop in
-    let a = length-filter p (range_with_len 0 (length net.events)) in
-    let b = count_by-le-length p (range_with_len 0 (length net.events)) in
-    let c = length-range_with_len 0 (length net.events) in
-    let d = ap length is in
-    omega arith
-
--- the row of a stop has each event there
-pub row_covers : (net : Net) (last x : List ℕ) (stop : ℕ) (row : List ℕ) → row ≡ places_at net (record { 0 = stop }) → Covers net last x stop row
-row_covers net last x stop row is =
-    record {
-      each = λ i at.
-          let there = stands_there net stop i at in
-          let from : 0 ≤ there.place = omega arith in
-          inl (subst (λ (xs : List ℕ). StandsIn xs i) (sym is) (record { at = there.place; from = from; within = there.within; is = there.is }));
-      within = All-places;
-      few = row_is_short net stop row is;
-    }
-  where
-    All-places : All (λ (i : ℕ). i < length net.events) row
-    All-places k d lt = subst (λ (i : ℕ). i < length net.events) (get_or_default row k 0 d lt) (at_stop net stop k row is lt).is_event
-
--- so has a list of all places whose times are not the last ones
-pub listed_cover : (net : Net) (last x : List ℕ) (stop : ℕ) (places : List ℕ) → length x ≡ length net.events → ListsChanges last x (length x) places → Covers net last x stop places
-listed_cover net last x stop places size h =
-    record {
-      each = λ i at. let lt = at.is_event in h.each i (omega arith);
-      within = λ k d lt. let low = h.within k d lt in omega arith;
-      few = let f = h.few in omega arith;
-    }
-
-pub either_covers : (net : Net) (last x : List ℕ) (stop : ℕ) (listed places : List ℕ) → length x ≡ length net.events → ListsChanges last x (length x) listed →
-    (places ≡ listed) ⊎ (places ≡ places_at net (record { 0 = stop })) → Covers net last x stop places
-either_covers net last x stop listed places size h (inl same) = subst (λ (xs : List ℕ). Covers net last x stop xs) (sym same) (listed_cover net last x stop listed size h)
-either_covers net last x stop listed places size h (inr row) = row_covers net last x stop places row
 
 -- ---- whether a board lacks a time
 
-pub lacks_not_last : (net : Net) (last : List ℕ) (stop : ℕ) (told : Option (ℕ → Option ℕ)) (i time : ℕ) → (i < length last) × (time_at last i ≡ time) → LacksTime net last stop told i time false
-lacks_not_last net last stop None i time same at = tt
-lacks_not_last net last stop (Some shown) i time same at = λ showed. showed i at same.0 ∙ ap Some same.1
+pub lacks_not_last : (net : Net) (last : List ℕ) (stop : ℕ) (told : Option (ℕ → Option ℕ)) (i time : ℕ) → IsAtStop net stop i → (i < length last) × (time_at last i ≡ time) → LacksTime net last stop told i time false
+lacks_not_last net last stop None i time at same = tt
+lacks_not_last net last stop (Some shown) i time at same = λ showed. showed i at same.0 ∙ ap Some same.1
 
 -- what a board answers
-pub lacks_shown : (net : Net) (last : List ℕ) (stop : ℕ) (told : Option (ℕ → Option ℕ)) (i time : ℕ) → IsAtStop net stop i → (answer : Bool) → TellsTime ⊤ told (event_at net i).id.0 time answer →
+pub lacks_shown : (net : Net) (last : List ℕ) (stop : ℕ) (told : Option (ℕ → Option ℕ)) (i time : ℕ) → (answer : Bool) → TellsTime ⊤ told (event_at net i).id.0 time answer →
     LacksTime net last stop told i time (not answer)
-lacks_shown net last stop told i time at false tells = (at, tells)
-lacks_shown net last stop None i time at true tells = λ _. tt
-lacks_shown net last stop (Some shown) i time at true tells = λ _ showed. tells tt
+lacks_shown net last stop told i time false tells = tells
+lacks_shown net last stop None i time true tells = tt
+lacks_shown net last stop (Some shown) i time true tells = λ showed. tells tt
 
 -- ---- changes made in turn
 
@@ -139,8 +77,8 @@ module _ (net : Net) (last x : List ℕ) (network : IsNetwork net) where
         due.time ∙ (sym (time_of due.place due.at_stop.is_event) ∙ ap time_named (sym due.event))
 
     -- nothing is gathered yet
-    pub gathered_none : (told : Option (ℕ → Option ℕ)) (places : List ℕ) (changes : List (ℕ × ℕ)) → changes ≡ [] → Gathers net last x stop told places 0 changes
-    gathered_none told places changes empty =
+    pub gathered_none : (told : Option (ℕ → Option ℕ)) (part : List Listed) (changes : List (ℕ × ℕ)) → changes ≡ [] → Gathers net last x stop told part 0 changes
+    gathered_none told part changes empty =
         let l : length changes ≡ 0 = ap length empty in
         record {
           due = λ k d lt. absurd (omega arith);
@@ -149,105 +87,111 @@ module _ (net : Net) (last x : List ℕ) (network : IsNetwork net) where
           few = omega arith;
         }
       where
-        no_shows : (told : Option (ℕ → Option ℕ)) → IfSome told (λ shown. (j : ℕ) → j < 0 → IsAtStop net stop (slice_index places j) →
-            times_after shown changes (event_at net (slice_index places j)).id.0 ≡ Some (time_at x (slice_index places j)))
+        no_shows : (told : Option (ℕ → Option ℕ)) → IfSome told (λ shown. (j : ℕ) → j < 0 →
+            times_after shown changes (event_at net (place_at part j)).id.0 ≡ Some (time_at x (place_at part j)))
         no_shows None = tt
-        no_shows (Some shown) = λ j lt at. absurd (omega arith)
+        no_shows (Some shown) = λ j lt. absurd (omega arith)
 
         no_none : (told : Option (ℕ → Option ℕ)) → IfSome told (λ shown. AllStand net x stop shown → changes ≡ [])
         no_none None = tt
         no_none (Some shown) = λ all. empty
 
-    module _ (places : List ℕ) (k : ℕ) (below : k < length places) where
+    module _ (part : List Listed) (k : ℕ) (here : IsAtStop net stop (place_at part k)) (before : (j : ℕ) → j < k → IsAtStop net stop (place_at part j)) where
       id_at : ℕ → ℕ
-      id_at j = (event_at net (slice_index places j)).id.0
+      id_at j = (event_at net (place_at part j)).id.0
 
-      -- an event that stands with its time, or is of another stop
-      pub gathered_standing : (told : Option (ℕ → Option ℕ)) (changes : List (ℕ × ℕ)) → Gathers net last x stop told places k changes →
-          LacksTime net last stop told (slice_index places k) (time_at x (slice_index places k)) false → Gathers net last x stop told places (k + 1) changes
+      -- an event that stands with its time
+      pub gathered_standing : (told : Option (ℕ → Option ℕ)) (changes : List (ℕ × ℕ)) → Gathers net last x stop told part k changes →
+          LacksTime net last stop told (place_at part k) (time_at x (place_at part k)) false → Gathers net last x stop told part (k + 1) changes
       gathered_standing None changes g tells = record { due = g.due; shows = λ showed. tt; none = tt; few = let f = g.few in omega arith }
       gathered_standing (Some shown) changes g tells =
           record {
             due = g.due;
-            shows = λ showed j lt at. elim (cases_lt j k) [
-              | inl before ↦ g.shows showed j before at
+            shows = λ showed j lt. elim (cases_lt j k) [
+              | inl earlier ↦ g.shows showed j earlier
               | inr past ↦
                   let same : k ≡ j = omega arith in
-                  let here : IsAtStop net stop (slice_index places k) = subst (λ (i : ℕ). IsAtStop net stop (slice_index places i)) (sym same) at in
-                  let time : time_named (event_at net (slice_index places k)).id.0 ≡ time_at x (slice_index places k) = time_of (slice_index places k) here.is_event in
-                  let there : times_after shown changes (event_at net (slice_index places k)).id.0 ≡ Some (time_at x (slice_index places k)) =
-                  stays time_named changes shown (event_at net (slice_index places k)).id.0 (due_times changes g.due) (tells here showed ∙ ap Some (sym time)) ∙ ap Some time in
-                  subst (λ (i : ℕ). times_after shown changes (event_at net (slice_index places i)).id.0 ≡ Some (time_at x (slice_index places i))) same there
+                  let time : time_named (event_at net (place_at part k)).id.0 ≡ time_at x (place_at part k) = time_of (place_at part k) here.is_event in
+                  let there : times_after shown changes (event_at net (place_at part k)).id.0 ≡ Some (time_at x (place_at part k)) =
+                  stays time_named changes shown (event_at net (place_at part k)).id.0 (due_times changes g.due) (tells showed ∙ ap Some (sym time)) ∙ ap Some time in
+                  subst (λ (i : ℕ). times_after shown changes (event_at net (place_at part i)).id.0 ≡ Some (time_at x (place_at part i))) same there
             ];
             none = g.none;
             few = let f = g.few in omega arith;
           }
 
       -- an event that does not
-      pub gathered_change : (told : Option (ℕ → Option ℕ)) (changes : List (ℕ × ℕ)) → Gathers net last x stop told places k changes →
-          LacksTime net last stop told (slice_index places k) (time_at x (slice_index places k)) true →
-          Gathers net last x stop told places (k + 1) (changes ++ ((event_at net (slice_index places k)).id.0, time_at x (slice_index places k)) ∷ [])
+      pub gathered_change : (told : Option (ℕ → Option ℕ)) (changes : List (ℕ × ℕ)) → Gathers net last x stop told part k changes →
+          LacksTime net last stop told (place_at part k) (time_at x (place_at part k)) true →
+          Gathers net last x stop told part (k + 1) (changes ++ ((event_at net (place_at part k)).id.0, time_at x (place_at part k)) ∷ [])
       gathered_change told changes g lacks =
-          let c : ℕ × ℕ = ((event_at net (slice_index places k)).id.0, time_at x (slice_index places k)) in
+          let c : ℕ × ℕ = ((event_at net (place_at part k)).id.0, time_at x (place_at part k)) in
           record {
-            due = All-push (IsDue net x stop) changes c g.due (record { place = slice_index places k; at_stop = lacks.0; event = refl; time = refl });
+            due = All-push (IsDue net x stop) changes c g.due (record { place = place_at part k; at_stop = here; event = refl; time = refl });
             shows = λ showed. all_show told (g.shows showed);
-            none = not_all told lacks.1;
+            none = not_all told lacks;
             few = let f = g.few in let l = length-append changes (c ∷ []) in omega arith;
           }
         where
           all_show : (told : Option (ℕ → Option ℕ)) →
-              IfSome told (λ shown. (j : ℕ) → j < k → IsAtStop net stop (slice_index places j) → times_after shown changes (event_at net (slice_index places j)).id.0 ≡ Some (time_at x (slice_index places j))) →
-              IfSome told (λ shown. (j : ℕ) → j < k + 1 → IsAtStop net stop (slice_index places j) →
-              times_after shown (changes ++ ((event_at net (slice_index places k)).id.0, time_at x (slice_index places k)) ∷ []) (event_at net (slice_index places j)).id.0 ≡ Some (time_at x (slice_index places j)))
+              IfSome told (λ shown. (j : ℕ) → j < k → times_after shown changes (event_at net (place_at part j)).id.0 ≡ Some (time_at x (place_at part j))) →
+              IfSome told (λ shown. (j : ℕ) → j < k + 1 →
+              times_after shown (changes ++ ((event_at net (place_at part k)).id.0, time_at x (place_at part k)) ∷ []) (event_at net (place_at part j)).id.0 ≡ Some (time_at x (place_at part j)))
           all_show None h = tt
-          all_show (Some shown) h = λ j lt at.
-              let c : ℕ × ℕ = ((event_at net (slice_index places k)).id.0, time_at x (slice_index places k)) in
-              let e : ℕ = (event_at net (slice_index places j)).id.0 in
-              let time_k : time_named c.0 ≡ c.1 = time_of (slice_index places k) lacks.0.is_event in
-              let time_j : time_named e ≡ time_at x (slice_index places j) = time_of (slice_index places j) at.is_event in
+          all_show (Some shown) h = λ j lt.
+              let c : ℕ × ℕ = ((event_at net (place_at part k)).id.0, time_at x (place_at part k)) in
+              let e : ℕ = (event_at net (place_at part j)).id.0 in
+              let time_k : time_named c.0 ≡ c.1 = time_of (place_at part k) here.is_event in
               after_push shown changes c e ∙ elim (cases_eq e c.0) [
-                | inl same ↦ rw (eq-eqb e c.0 same) (ap Some (sym time_k ∙ (ap time_named (sym same) ∙ time_j)))
-                | inr ne ↦ rw (ne_eqb e c.0 ne) (h j (earlier j lt ne) at)
+                | inl same ↦ rw (eq-eqb e c.0 same) (ap Some (sym time_k ∙ (ap time_named (sym same) ∙ time_here j lt)))
+                | inr ne ↦ rw (ne_eqb e c.0 ne) (h j (earlier j lt ne))
               ]
             where
-              earlier : (j : ℕ) → j < k + 1 → ((event_at net (slice_index places j)).id.0 ≡ (event_at net (slice_index places k)).id.0 → ⊥) → j < k
-              earlier j lt ne = elim (cases_lt j k) [
-                | inl before ↦ before
-                | inr past ↦ let same : j ≡ k = omega arith in absurd (ne (ap (λ (i : ℕ). (event_at net (slice_index places i)).id.0) same))
+              time_here : (j : ℕ) → j < k + 1 → time_named (event_at net (place_at part j)).id.0 ≡ time_at x (place_at part j)
+              time_here j lt = elim (cases_lt j k) [
+                | inl low ↦ let at = before j low in time_of (place_at part j) at.is_event
+                | inr past ↦ let same : k ≡ j = omega arith in
+                    subst (λ (i : ℕ). time_named (event_at net (place_at part i)).id.0 ≡ time_at x (place_at part i)) same (time_of (place_at part k) here.is_event)
               ]
 
-          not_all : (told : Option (ℕ → Option ℕ)) → TellsTime ⊤ told (event_at net (slice_index places k)).id.0 (time_at x (slice_index places k)) false →
-              IfSome told (λ shown. AllStand net x stop shown → changes ++ ((event_at net (slice_index places k)).id.0, time_at x (slice_index places k)) ∷ [] ≡ [])
-          not_all None t = tt
-          not_all (Some shown) t = λ all. absurd (t (all (slice_index places k) lacks.0))
+              earlier : (j : ℕ) → j < k + 1 → ((event_at net (place_at part j)).id.0 ≡ (event_at net (place_at part k)).id.0 → ⊥) → j < k
+              earlier j lt ne = elim (cases_lt j k) [
+                | inl low ↦ low
+                | inr past ↦ let same : j ≡ k = omega arith in absurd (ne (ap (λ (i : ℕ). (event_at net (place_at part i)).id.0) same))
+              ]
 
-    -- one place more, with the changes that stand after it
-    pub gathered_next : (told : Option (ℕ → Option ℕ)) (places : List ℕ) (k : ℕ) (below : k < length places)
-        (changes : List (ℕ × ℕ)) (t : ℕ) → Gathers net last x stop told places k changes → t ≡ time_at x (slice_index places k) →
-        (answer : Bool) → LacksTime net last stop told (slice_index places k) t answer → (after : List (ℕ × ℕ)) →
-        after ≡ (if answer then changes ++ ((event_at net (slice_index places k)).id.0, t) ∷ [] else changes) → Gathers net last x stop told places (k + 1) after
-    gathered_next told places k below changes t g t-is answer lacks after is =
-        rw is (elim answer as (λ (b : Bool). LacksTime net last stop told (slice_index places k) t b →
-        Gathers net last x stop told places (k + 1) (if b then changes ++ ((event_at net (slice_index places k)).id.0, t) ∷ [] else changes)) [
-          | true ↦ λ h. rw t-is (gathered_change places k below told changes g (subst (λ (u : ℕ). LacksTime net last stop told (slice_index places k) u true) t-is h))
-          | false ↦ λ h. gathered_standing places k below told changes g (subst (λ (u : ℕ). LacksTime net last stop told (slice_index places k) u false) t-is h)
+          not_all : (told : Option (ℕ → Option ℕ)) → TellsTime ⊤ told (event_at net (place_at part k)).id.0 (time_at x (place_at part k)) false →
+              IfSome told (λ shown. AllStand net x stop shown → changes ++ ((event_at net (place_at part k)).id.0, time_at x (place_at part k)) ∷ [] ≡ [])
+          not_all None t = tt
+          not_all (Some shown) t = λ all. absurd (t (all (place_at part k) here))
+
+    -- one event more, with the changes that stand after it
+    pub gathered_next : (told : Option (ℕ → Option ℕ)) (part : List Listed) (k : ℕ) (covers : Covers net last x stop part) (below : k < length part)
+        (changes : List (ℕ × ℕ)) (t : ℕ) → Gathers net last x stop told part k changes → t ≡ time_at x (place_at part k) →
+        (answer : Bool) → LacksTime net last stop told (place_at part k) t answer → (after : List (ℕ × ℕ)) →
+        after ≡ (if answer then changes ++ ((event_at net (place_at part k)).id.0, t) ∷ [] else changes) → Gathers net last x stop told part (k + 1) after
+    gathered_next told part k covers below changes t g t-is answer lacks after is =
+        let here = covers.within k no_listed below in
+        let before : (j : ℕ) → j < k → IsAtStop net stop (place_at part j) = λ j lt. covers.within j no_listed (omega arith) in
+        rw is (elim answer as (λ (b : Bool). LacksTime net last stop told (place_at part k) t b →
+        Gathers net last x stop told part (k + 1) (if b then changes ++ ((event_at net (place_at part k)).id.0, t) ∷ [] else changes)) [
+          | true ↦ λ h. rw t-is (gathered_change part k here before told changes g (subst (λ (u : ℕ). LacksTime net last stop told (place_at part k) u true) t-is h))
+          | false ↦ λ h. gathered_standing part k here before told changes g (subst (λ (u : ℕ). LacksTime net last stop told (place_at part k) u false) t-is h)
         ] lacks)
 
-    -- all places are looked at
-    pub gathered_all : (told : Option (ℕ → Option ℕ)) (places : List ℕ) → Covers net last x stop places → (k : ℕ) → k ≡ length places → (changes : List (ℕ × ℕ)) →
-        Gathers net last x stop told places k changes → HasGathered net last x stop told changes
-    gathered_all told places covers k over changes g = record { due = g.due; shows = λ showed. all_stand told showed (g.shows showed); none = g.none }
+    -- all events are looked at
+    pub gathered_all : (told : Option (ℕ → Option ℕ)) (part : List Listed) → Covers net last x stop part → (k : ℕ) → k ≡ length part → (changes : List (ℕ × ℕ)) →
+        Gathers net last x stop told part k changes → HasGathered net last x stop told changes
+    gathered_all told part covers k over changes g = record { due = g.due; shows = λ showed. all_stand told showed (g.shows showed); none = g.none }
       where
         all_stand : (told : Option (ℕ → Option ℕ)) → ShowsLast net last stop told →
-            IfSome told (λ shown. (j : ℕ) → j < k → IsAtStop net stop (slice_index places j) → times_after shown changes (event_at net (slice_index places j)).id.0 ≡ Some (time_at x (slice_index places j))) →
+            IfSome told (λ shown. (j : ℕ) → j < k → times_after shown changes (event_at net (place_at part j)).id.0 ≡ Some (time_at x (place_at part j))) →
             IfSome told (λ shown. AllStand net x stop (times_after shown changes))
         all_stand None showed h = tt
         all_stand (Some shown) showed h = λ i at. elim (covers.each i at) [
           | inl s ↦
               let w = s.within in
-              subst (λ (v : ℕ). times_after shown changes (event_at net v).id.0 ≡ Some (time_at x v)) s.is
-              (h s.at (omega arith) (subst (λ (v : ℕ). IsAtStop net stop v) (sym s.is) at))
+              subst (λ (v : ℕ). times_after shown changes (event_at net v).id.0 ≡ Some (time_at x v)) s.is (h s.at (omega arith))
           | inr l ↦
               let time : time_named (event_at net i).id.0 ≡ time_at x i = time_of i at.is_event in
               stays time_named changes shown (event_at net i).id.0 (due_times changes g.due) (showed i at l.within ∙ ap Some (l.same ∙ sym time)) ∙ ap Some time

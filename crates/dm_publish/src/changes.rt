@@ -1,61 +1,88 @@
-//! The places whose times are not those that were published last.
+//! The events whose times are not those that were published last.
 ghost use Rattle.std.specs.Prelude.{◌≡◌, ◌<◌, ◌≤◌, true, length, slice_index, vec_len, vec_capacity};
-ghost use Rattle.dm_publish.specs.Inside.Changes.{ListsChanges};
+ghost use Rattle.dm_publish.specs.Inside.Changes.{AreAtStops, ListsChanges};
 
-use dm_base::Secs;
+use dm_base::{Secs, StopId};
+use dm_compare::are_equal;
+use dm_network::Network;
 
 /// How many places are compared at once.
 const BLOCK: usize = 64;
 
-/// Lists the places of a timetable whose times are not the last ones, ascending, in a list that has room for all.
-pub(crate) fn list_changes(last: &[Secs], times: &[Secs], places: &mut Vec<usize>)
-    requires { length times.now ≤ vec_capacity places.old }
-    ensures listed { ListsChanges last.now times.now (length times.now) places.new.items }
-    ensures room { vec_capacity places.old ≤ vec_capacity places.new }
+/// The place of an event whose time is not the last one, and its stop.
+#[derive(Clone, Copy)]
+pub(crate) struct Listed {
+    pub stop: StopId,
+    pub place: usize,
+}
+
+/// Lists the events of a timetable whose times are not the last ones, by ascending places, in a list that has room for all.
+pub(crate) fn list_changes(net: &Network, last: &[Secs], times: &[Secs], listed: &mut Vec<Listed>)
+    requires size { length times.now ≡ length net.now.events }
+    requires room { length times.now ≤ vec_capacity listed.old }
+    ensures listed { ListsChanges last.now times.now (length times.now) listed.new.items }
+    ensures stops { AreAtStops net.now listed.new.items }
+    ensures room { vec_capacity listed.old ≤ vec_capacity listed.new }
 {
-    places.clear();
+    listed.clear();
     for block in 0..times.len() / BLOCK {
         let from = block * BLOCK;
-        list_in_block(last, times, from, from + BLOCK, places);
+        list_in_block(net, last, times, from, from + BLOCK, listed);
     }
     let from = times.len() / BLOCK * BLOCK;
-    list_in_block(last, times, from, times.len(), places);
+    list_in_block(net, last, times, from, times.len(), listed);
 }
 
 /// Lists those of a block behind those before it. Equal blocks are passed over.
-fn list_in_block(last: &[Secs], times: &[Secs], from: usize, to: usize, places: &mut Vec<usize>)
+fn list_in_block(
+    net: &Network,
+    last: &[Secs],
+    times: &[Secs],
+    from: usize,
+    to: usize,
+    listed: &mut Vec<Listed>,
+)
+    requires size { length times.now ≡ length net.now.events }
     requires block { from ≤ to }
     requires within { to ≤ length times.now }
-    requires listed { ListsChanges last.now times.now from places.old.items }
-    requires room { length times.now ≤ vec_capacity places.old }
-    ensures listed { ListsChanges last.now times.now to places.new.items }
-    ensures room { vec_capacity places.old ≤ vec_capacity places.new }
+    requires listed { ListsChanges last.now times.now from listed.old.items }
+    requires stops { AreAtStops net.now listed.old.items }
+    requires room { length times.now ≤ vec_capacity listed.old }
+    ensures listed { ListsChanges last.now times.now to listed.new.items }
+    ensures stops { AreAtStops net.now listed.new.items }
+    ensures room { vec_capacity listed.old ≤ vec_capacity listed.new }
 {
-    if to <= last.len() && equal(&last[from..to], &times[from..to]) {
+    if to <= last.len() && are_equal(&last[from..to], &times[from..to]) {
         return;
     }
-    list_each(last, times, from, to, places);
-}
-
-/// Whether two lists of times are equal.
-fn equal(a: &[Secs], b: &[Secs]) -> bool
-    ensures { result ≡ true → a.now ≡ b.now }
-{
-    a == b
+    list_each(net, last, times, from, to, listed);
 }
 
 /// Lists those of a block, each looked at.
-fn list_each(last: &[Secs], times: &[Secs], from: usize, to: usize, places: &mut Vec<usize>)
+fn list_each(
+    net: &Network,
+    last: &[Secs],
+    times: &[Secs],
+    from: usize,
+    to: usize,
+    listed: &mut Vec<Listed>,
+)
+    requires size { length times.now ≡ length net.now.events }
     requires block { from ≤ to }
     requires within { to ≤ length times.now }
-    requires listed { ListsChanges last.now times.now from places.old.items }
-    requires room { length times.now ≤ vec_capacity places.old }
-    ensures listed { ListsChanges last.now times.now to places.new.items }
-    ensures room { vec_capacity places.old ≤ vec_capacity places.new }
+    requires listed { ListsChanges last.now times.now from listed.old.items }
+    requires stops { AreAtStops net.now listed.old.items }
+    requires room { length times.now ≤ vec_capacity listed.old }
+    ensures listed { ListsChanges last.now times.now to listed.new.items }
+    ensures stops { AreAtStops net.now listed.new.items }
+    ensures room { vec_capacity listed.old ≤ vec_capacity listed.new }
 {
     for i in from..to {
         if !is_last(last, i, times[i]) {
-            places.push_reserved(i);
+            listed.push_reserved(Listed {
+                stop: net.event(i).stop,
+                place: i,
+            });
         }
     }
 }
@@ -67,15 +94,15 @@ pub(crate) fn is_last(last: &[Secs], i: usize, time: Secs) -> bool
     i < last.len() && last[i] == time
 }
 
-/// Keeps the times of a timetable in a list that has room for them and has the last ones, which differ at these places.
-pub(crate) fn keep(last: &mut Vec<Secs>, times: &[Secs], places: &[usize])
+/// Keeps the times of a timetable in a list that has room for them and has the last ones, which differ at the listed events.
+pub(crate) fn keep(last: &mut Vec<Secs>, times: &[Secs], listed: &[Listed])
     requires room { length times.now ≤ vec_capacity last.old }
-    requires listed { ListsChanges last.old.items times.now (length times.now) places.now }
+    requires listed { ListsChanges last.old.items times.now (length times.now) listed.now }
     ensures times { last.new.items ≡ times.now }
     ensures room { vec_capacity last.old ≤ vec_capacity last.new }
 {
     if last.len() == times.len() {
-        put_times(last, times, places);
+        put_times(last, times, listed);
         return;
     }
     last.clear();
@@ -84,14 +111,14 @@ pub(crate) fn keep(last: &mut Vec<Secs>, times: &[Secs], places: &[usize])
     };
 }
 
-/// Puts the times of a timetable at these places of a list of as many.
-fn put_times(last: &mut Vec<Secs>, times: &[Secs], places: &[usize])
+/// Puts the times of the listed events into a list of as many.
+fn put_times(last: &mut Vec<Secs>, times: &[Secs], listed: &[Listed])
     requires as_many { vec_len last.old ≡ length times.now }
-    requires listed { ListsChanges last.old.items times.now (length times.now) places.now }
+    requires listed { ListsChanges last.old.items times.now (length times.now) listed.now }
     ensures times { last.new.items ≡ times.now }
     ensures room { vec_capacity last.old ≤ vec_capacity last.new }
 {
-    for i in places {
-        last[*i] = times[*i];
+    for event in listed {
+        last[event.place] = times[event.place];
     }
 }

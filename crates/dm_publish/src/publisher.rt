@@ -6,7 +6,8 @@ ghost use Rattle.dm_publish.specs.Value.{PublisherValue};
 ghost use Rattle.dm_publish.specs.Publishing.{Publishes};
 ghost use Rattle.dm_publish.specs.Since.{KeepsUp, KeepsUpLast};
 
-use crate::changes::list_changes;
+use crate::changes::Listed;
+use crate::grouping::list_by_stop;
 use crate::showing::Showing;
 use dm_cert::Note;
 use dm_network::Network;
@@ -20,8 +21,8 @@ use std::marker::Model;
 pub struct Publisher {
     showing: Showing,
 
-    /// Room for the places whose times differ from those published last.
-    listed: Vec<usize>,
+    /// Room for the events whose times differ from those published last.
+    listed: Vec<Listed>,
 }
 
 impl Model for Publisher {
@@ -107,7 +108,12 @@ impl Publisher {
         ensures same_boards { self.new.boards ≡ self.old.boards }
         ensures same_events { self.new.events ≡ self.old.events }
     {
-        list_changes(self.showing.last(), timetable.as_slice(), &mut self.listed);
+        list_by_stop(
+            net,
+            self.showing.last(),
+            timetable.as_slice(),
+            &mut self.listed,
+        );
         self.showing
             .show_listed(net, timetable, entry, &self.listed, boards)
     }

@@ -1,54 +1,45 @@
 //! One board.
-ghost use Rattle.std.specs.Prelude.{◌≡◌, ◌<◌, ◌≤◌, ◌⊎◌, ℕ, [], length, vec_capacity, All, IsOk, OnOk, ⊤};
-ghost use Rattle.dm_network.specs.Net.{places_at};
+ghost use Rattle.std.specs.Prelude.{◌≡◌, ◌<◌, ◌≤◌, ℕ, [], length, vec_capacity, All, IsOk, OnOk, ⊤};
 ghost use Rattle.dm_outside.specs.Board.{Sets};
 ghost use Rattle.dm_outside.specs.Faults.{Counts};
 ghost use Rattle.dm_publish.specs.Inside.Changes.{ListsChanges};
+ghost use Rattle.dm_publish.specs.Inside.Grouping.{AreGrouped};
 ghost use Rattle.dm_publish.specs.Inside.Refreshing.{Covers, HasGathered, LacksTime, Refreshes, TellsTime};
+ghost use Rattle.dm_publish.specs.Shown.{IsAtStop};
 
-use crate::changes::is_last;
+use crate::changes::{Listed, is_last};
+use crate::grouping::part_at;
 use dm_base::{Secs, StopId};
 use dm_network::Network;
 use dm_outside::{Board, Failed};
 use dm_times::Times;
 
 /// Shows a board that shows the last times the events of its stop whose times differ, and shows it nothing where there are none.
-/// The places whose times are not the last ones are listed. The changes are written to a list that has room for one of each
-/// event.
+/// The events whose times are not the last ones are listed, stop by stop. The changes are written to a list that has room for one
+/// of each event.
 pub(crate) fn refresh(
     net: &Network,
     last: &[Secs],
     timetable: &Times,
-    listed: &[usize],
+    listed: &[Listed],
     board: &mut Box<dyn Board>,
     changes: &mut Vec<(u32, Secs)>,
 ) -> Result<(), Failed>
     requires size { length timetable.now ≡ length net.now.events }
     requires listed { ListsChanges last.now timetable.now (length timetable.now) listed.now }
+    requires grouped { AreGrouped net.now listed.now }
     requires room { length net.now.events ≤ vec_capacity changes.old }
     ensures refreshed { Refreshes place times faults is_sound net.now last.now timetable.now board.old board.new result }
     ensures room { vec_capacity changes.old ≤ vec_capacity changes.new }
 {
     net.sound();
     changes.clear();
-    let places = places_to_see(net, listed, stop_of(board));
-    gather(net, last, timetable, places, board, changes);
+    let part = part_at(listed, stop_of(board));
+    gather(net, last, timetable, part, board, changes);
     if changes.is_empty() {
         return Ok(());
     }
     show_on(board, changes)
-}
-
-/// The shorter of two lists: the listed places, or those of the events at a stop.
-fn places_to_see<'a>(net: &'a Network, listed: &'a [usize], stop: StopId) -> &'a [usize]
-    ensures { (result.now ≡ listed.now) ⊎ (result.now ≡ places_at net.now stop) }
-{
-    let row = net.at_stop(stop);
-    if listed.len() < row.len() {
-        listed
-    } else {
-        row
-    }
 }
 
 /// Shows a board these changes.
@@ -62,31 +53,29 @@ fn show_on(board: &mut Box<dyn Board>, changes: &[(u32, Secs)]) -> Result<(), Fa
     board.show(changes)
 }
 
-/// Lists the events of the board's stop whose times differ from those that it shows. These places are looked at, and it is asked
-/// where the last time differs.
+/// Lists the events of a part that has those of the board's stop whose times are not the last ones, where the board does not show
+/// their times.
 fn gather(
     net: &Network,
     last: &[Secs],
     timetable: &Times,
-    places: &[usize],
+    part: &[Listed],
     board: &Box<dyn Board>,
     changes: &mut Vec<(u32, Secs)>,
 )
     requires size { length timetable.now ≡ length net.now.events }
-    requires covers { Covers net.now last.now timetable.now (place board.now) places.now }
+    requires covers { Covers net.now last.now timetable.now (place board.now) part.now }
     requires empty { changes.old.items ≡ [] }
     requires room { length net.now.events ≤ vec_capacity changes.old }
     ensures gathered { HasGathered net.now last.now timetable.now (place board.now) (times board.now) changes.new.items }
     ensures room { vec_capacity changes.old ≤ vec_capacity changes.new }
 {
     net.sound();
-    let stop = stop_of(board);
-    for i in places {
-        let time = timetable.time(*i);
-        if lacks(net, last, board, stop, *i, time) {
-            let Ok(()) = changes.push((net.event(*i).id.0, time)) else {
-                unreachable!();
-            };
+    for listed in part {
+        let i = listed.place;
+        let time = timetable.time(i);
+        if lacks(net, last, board, i, time) {
+            changes.push_reserved((net.event(i).id.0, time));
         }
     }
 }
@@ -99,25 +88,16 @@ pub(crate) fn stop_of(board: &Box<dyn Board>) -> StopId
     StopId(board.stop())
 }
 
-/// Whether an event is of the board's stop, and a board that shows the last times does not show this time for it. It is asked
-/// where the last time differs.
-fn lacks(
-    net: &Network,
-    last: &[Secs],
-    board: &Box<dyn Board>,
-    stop: StopId,
-    i: usize,
-    time: Secs,
-) -> bool
-    requires is_event { i < length net.now.events }
-    requires is_stop { stop ≡ record { 0 = place board.now } }
+/// Whether a board that shows the last times does not show this time for an event at its stop. It is asked where the last time
+/// differs.
+fn lacks(net: &Network, last: &[Secs], board: &Box<dyn Board>, i: usize, time: Secs) -> bool
+    requires at_stop { IsAtStop net.now (place board.now) i }
     ensures { LacksTime net.now last.now (place board.now) (times board.now) i time result }
 {
-    let event = net.event(i);
-    if event.stop.0 != stop.0 || is_last(last, i, time) {
+    if is_last(last, i, time) {
         return false;
     }
-    !shows(board, event.id.0, time)
+    !shows(board, net.event(i).id.0, time)
 }
 
 /// Whether a board shows this time for an event.

@@ -6,9 +6,10 @@ ghost use Rattle.dm_publish.specs.Value.{PublisherValue};
 ghost use Rattle.dm_publish.specs.Publishing.{has_note, Publishes};
 ghost use Rattle.dm_publish.specs.Since.{KeepsUpLast};
 ghost use Rattle.dm_publish.specs.Inside.Changes.{ListsChanges};
+ghost use Rattle.dm_publish.specs.Inside.Grouping.{AreGrouped};
 ghost use Rattle.dm_publish.specs.Inside.Turns.{TakesTurn};
 
-use crate::changes::keep;
+use crate::changes::{Listed, keep};
 use crate::refreshing::{refresh, stop_of};
 use dm_base::Secs;
 use dm_cert::Note;
@@ -83,20 +84,21 @@ impl Showing {
         self.last.clear();
     }
 
-    /// Shows each board that no note names the events of its stop whose times differ, and keeps the times. The places whose times
-    /// are not those published last are listed. A board whose show fails is dropped, and it answers how many were.
+    /// Shows each board that no note names the events of its stop whose times differ, and keeps the times. The events whose times
+    /// are not those published last are listed, stop by stop. A board whose show fails is dropped, and it answers how many were.
     pub(crate) fn show_listed(
         &mut self,
         net: &Network,
         timetable: &Times,
         entry: u32,
-        listed: &[usize],
+        listed: &[Listed],
         boards: &mut Vec<Box<dyn Board>>,
     ) -> usize
         requires events { length net.now.events ≡ self.old.events }
         requires times { length timetable.now ≡ length net.now.events }
         requires boards { vec_len boards.old ≡ self.old.boards }
         requires listed { ListsChanges self.old.last timetable.now (length timetable.now) listed.now }
+        requires grouped { AreGrouped net.now listed.now }
         ensures published { Publishes place times faults is_sound net.now self.old.last timetable.now entry boards.old.items boards.new.items self.old.notes self.new.notes result }
 
         // Boards that were kept up since some first list, and show the times published last, are so after the call, and show
@@ -123,7 +125,7 @@ impl Showing {
         net: &Network,
         timetable: &Times,
         entry: u32,
-        listed: &[usize],
+        listed: &[Listed],
         index: usize,
         board: &mut Box<dyn Board>,
     )
@@ -131,6 +133,7 @@ impl Showing {
         requires times { length timetable.now ≡ length net.now.events }
         requires is_board { index < self.old.boards }
         requires listed { ListsChanges self.old.last timetable.now (length timetable.now) listed.now }
+        requires grouped { AreGrouped net.now listed.now }
         ensures turn { TakesTurn place times faults is_sound net.now self.old.last timetable.now entry index self.old.notes self.new.notes board.old board.new }
         ensures same_last { self.new.last ≡ self.old.last }
         ensures same_boards { self.new.boards ≡ self.old.boards }

@@ -1,30 +1,43 @@
--- Places whose times are not those that were published last.
-use Rattle.std.specs.Prelude.{ℕ, ◌≡◌, ◌<◌, ◌≤◌, ◌⊎◌, List, length, slice_index, All}
+-- Events whose times are not those that were published last.
+use Rattle.std.specs.Prelude.{ℕ, ◌≡◌, ◌<◌, ◌≤◌, ◌⊎◌, List, length, slice_index_or, All}
+use Rattle.dm_network.specs.Net.{Net, event_at}
 use Rattle.dm_rows.specs.Timetable.{time_at}
+use Rattle.dm_publish.specs.declared.changes.Listed.{Listed}
 
--- from its k-th place on a list has this one
-pub record StandsFrom (places : List ℕ) (k i : ℕ) : Type 0 where
+-- the place of the event that stands at a place of a list, and 0 past its end
+abbrev pub no_listed : Listed
+no_listed = record { stop = record { 0 = 0 }; place = 0 }
+
+abbrev pub place_at : List Listed → ℕ → ℕ
+place_at listed k = (slice_index_or listed k no_listed).place
+
+-- from its k-th place on a list has this event
+pub record StandsFrom (listed : List Listed) (k i : ℕ) : Type 0 where
   pub at : ℕ
   pub from : k ≤ at
-  pub within : at < length places
-  pub is : slice_index places at ≡ i
+  pub within : at < length listed
+  pub is : place_at listed at ≡ i
 
--- a list of places has this one
-abbrev pub StandsIn : List ℕ → ℕ → Type 0
-StandsIn places i = StandsFrom places 0 i
+-- a list has this event
+abbrev pub StandsIn : List Listed → ℕ → Type 0
+StandsIn listed i = StandsFrom listed 0 i
 
 -- the time at this place is the last one
 pub record HasLast (last x : List ℕ) (i : ℕ) : Type 0 where
   pub within : i < length last
   pub same : time_at last i ≡ time_at x i
 
--- Of the first k places of a timetable, the list has each whose time is not the last one.
-pub record ListsChanges (last x : List ℕ) (k : ℕ) (places : List ℕ) : Type 0 where
-  pub each : (i : ℕ) → i < k → StandsIn places i ⊎ HasLast last x i
-  pub within : All (λ i. i < k) places
-  pub few : length places ≤ k
+-- Of the first k events of a timetable, the list has each whose time is not the last one.
+pub record ListsChanges (last x : List ℕ) (k : ℕ) (listed : List Listed) : Type 0 where
+  pub each : (i : ℕ) → i < k → StandsIn listed i ⊎ HasLast last x i
+  pub within : All (λ l. l.place < k) listed
+  pub few : length listed ≤ k
 
--- with the times at the first k of these places written, each other that is not the timetable's is still to be written
-pub record AreWritten (now x : List ℕ) (places : List ℕ) (k : ℕ) : Type 0 where
+-- each event is listed with its stop
+abbrev pub AreAtStops : Net → List Listed → Type 0
+AreAtStops net listed = All (λ l. l.stop.0 ≡ (event_at net l.place).stop.0) listed
+
+-- with the times of the first k of these events written, each other that is not the timetable's is still to be written
+pub record AreWritten (now x : List ℕ) (listed : List Listed) (k : ℕ) : Type 0 where
   pub size : length now ≡ length x
-  pub each : (i : ℕ) → i < length x → StandsFrom places k i ⊎ (time_at now i ≡ time_at x i)
+  pub each : (i : ℕ) → i < length x → StandsFrom listed k i ⊎ (time_at now i ≡ time_at x i)

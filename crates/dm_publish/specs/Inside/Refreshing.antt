@@ -1,10 +1,11 @@
 -- What one board is shown.
-use Rattle.std.specs.Prelude.{ℕ, ◌≡◌, ◌<◌, ◌≤◌, ◌⊎◌, Bool, true, false, List, [], length, Option, None, Some, IfSome, IsSome, Result, IsOk, OnOk, OnErr, ⊤, All, slice_index}
+use Rattle.std.specs.Prelude.{ℕ, ◌≡◌, ◌<◌, ◌≤◌, ◌⊎◌, Bool, true, false, List, [], length, Option, None, Some, IfSome, IsSome, Result, IsOk, OnOk, OnErr, ⊤, All}
 use Rattle.dm_network.specs.Net.{Net, event_at}
 use Rattle.dm_rows.specs.Timetable.{time_at}
 use Rattle.dm_outside.specs.Faults.{Counts, HasRisen}
 use Rattle.dm_outside.specs.Board.{times_after, Sets}
-use Rattle.dm_publish.specs.Inside.Changes.{StandsIn, HasLast}
+use Rattle.dm_publish.specs.declared.changes.Listed.{Listed}
+use Rattle.dm_publish.specs.Inside.Changes.{StandsIn, HasLast, place_at}
 use Rattle.dm_publish.specs.Shown.{IsAtStop, AllStand, ShowsTimes, ShowsLast, KeepsOthers, IsSoundFor}
 
 -- whether this time stands there for the event, where the board tells that: known where it showed the last times
@@ -20,23 +21,22 @@ pub record IsDue (net : Net) (x : List ℕ) (stop : ℕ) (change : ℕ × ℕ) :
   pub event : change.0 ≡ (event_at net place).id.0
   pub time : change.1 ≡ time_at x place
 
--- whether the event at a place is of the stop, and does not have this time there, where the board tells that
+-- whether the event at a place does not have this time there, where the board tells that: known where it showed the last times
 abbrev pub LacksTime : Net → List ℕ → ℕ → Option (ℕ → Option ℕ) → ℕ → ℕ → Bool → Type 0
-LacksTime net last stop told i time true = IsAtStop net stop i × TellsTime ⊤ told (event_at net i).id.0 time false
-LacksTime net last stop told i time false = IsAtStop net stop i → TellsTime (ShowsLast net last stop told) told (event_at net i).id.0 time true
+LacksTime net last stop told i time true = TellsTime ⊤ told (event_at net i).id.0 time false
+LacksTime net last stop told i time false = TellsTime (ShowsLast net last stop told) told (event_at net i).id.0 time true
 
--- places of events, among which stands each event at the stop whose time is not the last one
-pub record Covers (net : Net) (last x : List ℕ) (stop : ℕ) (places : List ℕ) : Type 0 where
-  pub each : (i : ℕ) → IsAtStop net stop i → StandsIn places i ⊎ HasLast last x i
-  pub within : All (λ i. i < length net.events) places
-  pub few : length places ≤ length net.events
+-- events at the stop, among which stands each whose time is not the last one
+pub record Covers (net : Net) (last x : List ℕ) (stop : ℕ) (part : List Listed) : Type 0 where
+  pub each : (i : ℕ) → IsAtStop net stop i → StandsIn part i ⊎ HasLast last x i
+  pub within : All (λ l. IsAtStop net stop l.place) part
+  pub few : length part ≤ length net.events
 
--- The changes that a board needs for those of the first k of these places that are at its stop: with them each has its time,
--- where it showed the last times.
-pub record Gathers (net : Net) (last x : List ℕ) (stop : ℕ) (told : Option (ℕ → Option ℕ)) (places : List ℕ) (k : ℕ) (changes : List (ℕ × ℕ)) : Type 0 where
+-- The changes that a board needs for the first k of these events: with them each has its time, where it showed the last times.
+pub record Gathers (net : Net) (last x : List ℕ) (stop : ℕ) (told : Option (ℕ → Option ℕ)) (part : List Listed) (k : ℕ) (changes : List (ℕ × ℕ)) : Type 0 where
   pub due : All (IsDue net x stop) changes
-  pub shows : ShowsLast net last stop told → IfSome told (λ shown. (j : ℕ) → j < k → IsAtStop net stop (slice_index places j) →
-      times_after shown changes (event_at net (slice_index places j)).id.0 ≡ Some (time_at x (slice_index places j)))
+  pub shows : ShowsLast net last stop told → IfSome told (λ shown. (j : ℕ) → j < k →
+      times_after shown changes (event_at net (place_at part j)).id.0 ≡ Some (time_at x (place_at part j)))
   pub none : IfSome told (λ shown. AllStand net x stop shown → changes ≡ [])
   pub few : length changes ≤ k
 

@@ -2,8 +2,8 @@ use Rattle.std.proofs.Common.{◌≤◌, vec_capacity}
 use Rattle.dm_publish.specs.Inside.Refreshing.{Gathers}
 use Rattle.dm_publish.proofs.refreshing.gather.Given as goal
 
-abbrev pub invariant-loop-i : goal.invariant-loop-i
-invariant-loop-i g l =
+abbrev pub invariant-loop-listed : goal.invariant-loop-listed
+invariant-loop-listed g l =
     Gathers l.net l.last l.timetable ((goal.Board-dyn g (l.board.vtable, l.board.value)).place l.board.value)
-    ((goal.Board-dyn g (l.board.vtable, l.board.value)).times l.board.value) l.places l.i-index l.changes.items
+    ((goal.Board-dyn g (l.board.vtable, l.board.value)).times l.board.value) l.part l.listed-index l.changes.items
     × (vec_capacity l.initial.changes ≤ vec_capacity l.changes)

@@ -1,13 +1,14 @@
-use Rattle.std.proofs.Common.{inl, inr, ◌≡◌, [], length, arith, vec_len, ap, sym, eqb-true, eq-eqb, false, true, ◌∙◌}
+use Rattle.std.proofs.Common.{◌≡◌, ℕ, [], length, arith, vec_len, ap, subst, sym, eqb-true, eq-eqb, false, true, ◌∙◌}
 use Rattle.std.proofs.lemmas.List.{nil_from_length}
-use Rattle.dm_network.specs.Net.{places_at}
-use Rattle.dm_publish.proofs.Gathered.{either_covers, refreshed_quietly, refreshed_by_show}
+use Rattle.dm_publish.specs.Inside.Grouping.{IsPartOf}
+use Rattle.dm_publish.proofs.Gathered.{refreshed_quietly, refreshed_by_show}
+use Rattle.dm_publish.proofs.Grouped.{part_covers}
 use Rattle.dm_publish.proofs.refreshing.refresh.Goals as goal
 
 pub gather-requires-clause-covers : goal.gather-requires-clause-covers
 gather-requires-clause-covers g c =
-    either_covers c.args.net.now c.args.last.now c.args.timetable.now _ c.args.listed.now c.places_to_see-places.result.now c.requires.size c.requires.listed
-    (elim c.places_to_see-places.ensures [ inl same ↦ inl same | inr row ↦ inr (row ∙ ap (places_at c.args.net.now) c.stop_of.ensures.stop) ])
+    part_covers c.args.net.now c.args.last.now c.args.timetable.now _ c.args.listed.now c.part_at-part.result.now c.requires.size c.requires.listed c.requires.grouped
+    (subst (λ (stop : ℕ). IsPartOf c.args.listed.now stop c.part_at-part.result.now) (ap (λ (s : _). s.0) c.stop_of.ensures.stop) c.part_at-part.ensures)
 
 pub returns-then-is_empty-clause-refreshed : goal.returns-then-is_empty-clause-refreshed
 returns-then-is_empty-clause-refreshed g c =
