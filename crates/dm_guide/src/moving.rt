@@ -1,13 +1,13 @@
 //! An evaluator with the network of which it is.
 ghost use Rattle.std.specs.Prelude.{◌≡◌, ◌≤◌};
 ghost use Rattle.dm_base.specs.declared.limits.TheConstants.{PENALTY};
-ghost use Rattle.dm_rows.specs.Decide.{choice_of};
 ghost use Rattle.dm_rows.specs.Rows.{IsSized};
 
 use crate::choices::Side;
 use dm_base::{Cost, Secs, Steps};
 use dm_evaluate::Evaluator;
 use dm_network::Network;
+use dm_paths::choice_of;
 use dm_rows::{Choice, Decision, Rows};
 use dm_times::{comes_too_early, span_of};
 use std::alloc::{AllocError, Global};
@@ -80,7 +80,7 @@ impl<'a, L: Ledger> Mover<'a, L> {
 
     /// Makes a decision, if its choice is open and it makes no cycle.
     pub fn decide(&mut self, decision: Decision) -> bool {
-        if !self.evaluator.is_open(self.net, decided(decision)) {
+        if !self.evaluator.is_open(self.net, choice_of(decision)) {
             return false;
         }
         let decided = self.evaluator.decide(self.net, decision, &mut self.steps);
@@ -151,22 +151,6 @@ impl<'a, L: Ledger> Mover<'a, L> {
             self.net.in_row(event, &mut self.steps)
         } else {
             &[]
-        }
-    }
-}
-
-/// The choice that a decision decides. Of a pair the smaller id stands first.
-fn decided(decision: Decision) -> Choice
-    ensures { result ≡ choice_of decision }
-{
-    match decision {
-        Decision::Keep(a) | Decision::Drop(a) => Choice::Change(a),
-        Decision::First(first, second) => {
-            if first.0 < second.0 {
-                Choice::Pair(first, second)
-            } else {
-                Choice::Pair(second, first)
-            }
         }
     }
 }

@@ -1,0 +1,1 @@
+-- Nothing is defined: the contracts are in the words of the crates below.
