@@ -1,5 +1,5 @@
 -- Whether a message is accepted.
-use Rattle.std.proofs.Common.{◌≡◌, ℕ, Bool, true, false, Some, refl, sym, ap, subst, ◌∙◌, inl, inr, Result, Ok, Err}
+use Rattle.std.proofs.Common.{◌≡◌, ℕ, Bool, true, false, List, Some, refl, sym, ap, subst, ◌∙◌, inl, inr, Result, Ok, Err}
 use Rattle.std.specs.Prelude.{IfOk, OnOk}
 use Rattle.dm_network.specs.Net.{Net}
 use Rattle.dm_network.specs.Held.{ids_of}
@@ -12,6 +12,8 @@ use Rattle.dm_rows.specs.Active.{HasNoCycle}
 use Rattle.dm_rows.specs.Resolve.{after, after_change, after_named, change_named}
 use Rattle.dm_rows.specs.Refuse.{RefusesAdmission, PassesAtOnce, IsNow}
 use Rattle.dm_claims.specs.Claims.{IsAccepted, IsKnownFree, IsKept, IsDispositionOf, TellsAcceptance}
+use Rattle.dm_schedule.specs.Schedule.{IsScheduleOf}
+use Rattle.dm_schedule.specs.declared.schedule.Scheduled.{Scheduled}
 use Rattle.dm_relaxation.specs.KeptCosts.{KeptCostValue, IsKeptCostOf}
 use Rattle.dm_relaxation.specs.Timetables.{TimetableValue, IsRoomOf, IsSettledFor}
 use Rattle.dm_rows.specs.Harmless.{IsHarmless}
@@ -40,13 +42,14 @@ pub stays_known : (net : Net) (rows : RowsValue) (m : Message) (known : Bool) �
 stays_known net rows m known harmless free is_known = never_make_cycles net rows m harmless (free is_known)
 
 -- the rows after a message, with what is known of them
-pub entered : (net : Net) (m : Message) (change : Change) (was now : RowsValue) (known stays kept still : Bool) (t new : TimetableValue) (cost : KeptCostValue) (settled : Bool) →
-    IsDispositionOf net (record { rows = was; is_free = known; is_kept = kept; is_settled = settled; timetable = t; kept_cost = cost }) → change_named net m ≡ Some change → now ≡ after_change was change →
+pub entered : (net : Net) (m : Message) (change : Change) (was now : RowsValue) (known stays kept still : Bool) (t new : TimetableValue) (cost : KeptCostValue) (settled : Bool) (schedule : List Scheduled) →
+    IsDispositionOf net (record { rows = was; is_free = known; is_kept = kept; is_settled = settled; schedule = schedule; timetable = t; kept_cost = cost }) → change_named net m ≡ Some change → now ≡ after_change was change →
     ((rows : RowsValue) → IsKnownFree net rows known → IsKnownFree net (after net rows m) stays) → (IsSized net was → IsSized net now) → IsRoomOf net new →
-    ((before : RowsValue) → now ≡ after_change before change → IsKept net before t kept → IsKept net now new still) → IsDispositionOf net (record { rows = now; is_free = stays; is_kept = still; is_settled = false; timetable = new; kept_cost = cost })
-entered net m change was now known stays kept still t new cost settled stands named is free sized room keeps = record {
+    ((before : RowsValue) → now ≡ after_change before change → IsKept net before t kept → IsKept net now new still) → IsDispositionOf net (record { rows = now; is_free = stays; is_kept = still; is_settled = false; schedule = schedule; timetable = new; kept_cost = cost })
+entered net m change was now known stays kept still t new cost settled schedule stands named is free sized room keeps = record {
   sized = sized stands.sized;
   free = subst (λ (rows : RowsValue). IsKnownFree net rows stays) (sym (after_is net was now m change named is)) (free was stands.free);
+  schedule = stands.schedule;
   room = room;
   kept = keeps was is stands.kept;
   cost = stands.cost;
@@ -54,10 +57,11 @@ entered net m change was now known stays kept still t new cost settled stands na
 }
 
 -- rows whose least timetable is computed
-pub settles : (net : Net) (rows : RowsValue) (t : TimetableValue) (cost : KeptCostValue) → IsSized net rows → IsKeptCostOf net cost → IsSettledFor net rows t → IsDispositionOf net (record { rows = rows; is_free = true; is_kept = true; is_settled = false; timetable = t; kept_cost = cost })
-settles net rows t cost sized is_cost settled = record {
+pub settles : (net : Net) (rows : RowsValue) (t : TimetableValue) (cost : KeptCostValue) (schedule : List Scheduled) → IsSized net rows → IsScheduleOf net schedule → IsKeptCostOf net cost → IsSettledFor net rows t → IsDispositionOf net (record { rows = rows; is_free = true; is_kept = true; is_settled = false; schedule = schedule; timetable = t; kept_cost = cost })
+settles net rows t cost schedule sized scheduled is_cost settled = record {
   sized = sized;
   free = λ _. settled.no_cycle;
+  schedule = scheduled;
   room = settled.timetable.room;
   kept = λ _. record { timetable = settled.timetable; agrees = settled.agrees };
   cost = is_cost;

@@ -9,6 +9,8 @@ use Rattle.dm_rows.specs.Active.{HasNoCycle}
 use Rattle.dm_rows.specs.Refuse.{Refuses}
 use Rattle.dm_rows.specs.Resolve.{after}
 use Rattle.dm_rows.specs.Timetable.{IsLeast, time_at}
+use Rattle.dm_schedule.specs.Schedule.{IsScheduleOf}
+use Rattle.dm_schedule.specs.declared.schedule.Scheduled.{Scheduled}
 use Rattle.dm_relaxation.specs.Binding.{AreBelowLimit}
 use Rattle.dm_relaxation.specs.KeptCosts.{KeptCostValue, IsKeptCostOf}
 use Rattle.dm_relaxation.specs.Timetables.{TimetableValue, IsRoomOf, IsTimetableOf, AgreesWith}
@@ -61,13 +63,14 @@ pub record IsRoomFor (net : Net) (room : Room) : Type 0 where
 
 -- ---- rows as messages come
 
--- rows, whether they are known to have no cycle, whether the timetable is kept with them, whether it is settled, the timetable,
--- and what its times cost
+-- rows, whether they are known to have no cycle, whether the timetable is kept with them, whether it is settled, the events by
+-- their scheduled times, the timetable, and what its times cost
 pub record DispositionValue : Type 0 where
   pub rows : RowsValue
   pub is_free : Bool
   pub is_kept : Bool
   pub is_settled : Bool
+  pub schedule : List Scheduled
   pub timetable : TimetableValue
   pub kept_cost : KeptCostValue
 
@@ -101,6 +104,7 @@ IsSettledIf net rows t kept settled = IsTrue settled → IsCosted net rows t kep
 pub record IsDispositionOf (net : Net) (d : DispositionValue) : Type 0 where
   pub sized : IsSized net d.rows
   pub free : IsKnownFree net d.rows d.is_free
+  pub schedule : IsScheduleOf net d.schedule
   pub room : IsRoomOf net d.timetable
   pub kept : IsKept net d.rows d.timetable d.is_kept
   pub cost : IsKeptCostOf net d.kept_cost

@@ -9,6 +9,7 @@ ghost use Rattle.dm_rows.specs.Refuse.{PassesAtOnce, RefusesAdmission, IsNow};
 ghost use Rattle.dm_rows.specs.Timetable.{IsLeast, time_at};
 ghost use Rattle.dm_rows.specs.Cost.{Costs, cost_of};
 ghost use Rattle.dm_rows.specs.declared.messages.Refusal.TheVariants.{OutOfMemory};
+ghost use Rattle.dm_schedule.specs.Schedule.{IsScheduleOf};
 ghost use Rattle.dm_relaxation.specs.Binding.{AreBelowLimit};
 ghost use Rattle.dm_relaxation.specs.Timetables.{IsRoomOf, IsTimetableOf, IsSettledFor, ChangesNet};
 ghost use Rattle.dm_claims.specs.Claims.{IsDispositionOf, IsTimeOf, IsKnownFree, IsKept, Tells, TellsAcceptance, times_of};
@@ -18,6 +19,7 @@ use dm_base::Cost;
 use dm_network::Network;
 use dm_relaxation::{Cyclic, KeptCost, Timetable, cost_of, keep_up};
 use dm_rows::{Change, Message, Refusal, Rows, admit};
+use dm_schedule::{Scheduled, schedule_of};
 use std::alloc::{AllocError, Global};
 use std::marker::Model;
 
@@ -35,6 +37,9 @@ pub struct Disposition {
 
     /// Whether the timetable is that of the rows, and the cost is kept of its times.
     is_settled: bool,
+
+    /// The events by their scheduled times, which tell those that a clock may move.
+    schedule: Vec<Scheduled>,
     timetable: Timetable,
     kept_cost: KeptCost,
 }
@@ -44,7 +49,7 @@ impl Model for Disposition {
 
     ghost Value = { DispositionValue };
 
-    ghost view = { λ d. record { rows = d.rows; is_free = d.is_free; is_kept = d.is_kept; is_settled = d.is_settled; timetable = d.timetable; kept_cost = d.kept_cost } };
+    ghost view = { λ d. record { rows = d.rows; is_free = d.is_free; is_kept = d.is_kept; is_settled = d.is_settled; schedule = d.schedule.items; timetable = d.timetable; kept_cost = d.kept_cost } };
 
     ghost invariant = { λ d. Unit {0} };
 }
@@ -61,6 +66,7 @@ impl Disposition {
             is_free: false,
             is_kept: false,
             is_settled: false,
+            schedule: schedule_of(alloc, net)?,
             timetable: Timetable::new(alloc, net)?,
             kept_cost: KeptCost::new(alloc, net)?,
         })
@@ -138,7 +144,14 @@ impl Disposition {
         self.is_settled = false;
         self.is_free = stays_free(self.is_free, message);
         self.rows.apply(&change);
-        self.is_kept = keep_if(self.is_kept, &mut self.timetable, net, &self.rows, &change);
+        self.is_kept = keep_if(
+            self.is_kept,
+            &mut self.timetable,
+            net,
+            &self.schedule,
+            &self.rows,
+            &change,
+        );
         Ok(())
     }
 
@@ -243,10 +256,12 @@ fn keep_if(
     is_kept: bool,
     timetable: &mut Timetable,
     net: &Network,
+    schedule: &[Scheduled],
     rows: &Rows,
     change: &Change,
 ) -> bool
     requires sized { IsSized net.now rows.now }
+    requires schedule { IsScheduleOf net.now schedule.now }
     requires within { ChangesNet net.now change.now }
     requires room { IsRoomOf net.now timetable.old }
     requires timetable { IsTrue is_kept → IsTimetableOf net.now timetable.old }
@@ -256,7 +271,7 @@ fn keep_if(
     if !is_kept {
         return false;
     }
-    keep_up(timetable, net, rows, change)
+    keep_up(timetable, net, schedule, rows, change)
 }
 
 /// The least timetable of rows, from that of before where it is kept with them.

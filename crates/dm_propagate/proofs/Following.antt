@@ -13,8 +13,8 @@ use Rattle.dm_times.specs.Inside.Filling.{AreConstraintsOf}
 use Rattle.dm_times.proofs.Filled.{least_for_rows, no_cycle_of_rows}
 use Rattle.dm_priced.specs.Priced.{PricedValue, IsPriced, FollowsPrice}
 use Rattle.dm_propagate.specs.Inside.Flags.{flags_of, AreFlagsOf}
-use Rattle.dm_propagate.specs.Schedule.{IsScheduleOf}
-use Rattle.dm_propagate.specs.declared.schedule.Scheduled.{Scheduled}
+use Rattle.dm_schedule.specs.Schedule.{IsScheduleOf}
+use Rattle.dm_schedule.specs.declared.schedule.Scheduled.{Scheduled}
 use Rattle.dm_propagate.specs.Engine.{EngineValue, FollowsRows, IsEngineOf, times_of}
 
 constraints_of_rows : (net : Net) (rows : RowsValue) (given : ConstraintsValue) → IsSizedFor net given → FollowsRows net rows given →

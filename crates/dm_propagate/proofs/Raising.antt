@@ -15,10 +15,11 @@ use Rattle.dm_marks.specs.Marked.{is_marked}
 use Rattle.dm_marks.proofs.Marking.{marked_if}
 use Rattle.dm_order.specs.Value.{OrderValue}
 use Rattle.dm_live.specs.Live.{LiveValue, with_floor, with_mark}
-use Rattle.dm_propagate.specs.Schedule.{IsScheduleOf, scheduled_at}
-use Rattle.dm_propagate.specs.declared.schedule.Scheduled.{Scheduled}
+use Rattle.dm_schedule.specs.Schedule.{IsScheduleOf, IsInFront}
+use Rattle.dm_schedule.specs.declared.schedule.Scheduled.{Scheduled}
 use Rattle.dm_propagate.specs.Inside.Changing.{AreFloorsAt, HaveFloorsFrom, HasFloors, IsOffFloor}
-use Rattle.dm_propagate.specs.Inside.Raising.{IsDue, HaveFloorsBut, RaisesFloors}
+use Rattle.dm_propagate.specs.Inside.Raising.{HaveFloorsBut, RaisesFloors}
+use Rattle.dm_schedule.proofs.Standing.{in_front_or_late, front_next}
 
 -- what is planned at the later clock or after it has one floor at both
 same_floor : (passed : Option ℕ) (planned earlier clock : ℕ) → earlier ≤ clock → clock ≤ planned →
@@ -26,52 +27,18 @@ same_floor : (passed : Option ℕ) (planned earlier clock : ℕ) → earlier ≤
 same_floor None planned earlier clock up late = omega arith
 same_floor (Some t) planned earlier clock up late = refl
 
-module _ (net : Net) (schedule : List Scheduled) (is : IsScheduleOf net schedule) where
-  abbrev in_order : List Scheduled
-  in_order = map (scheduled_at net) (range_with_len 0 (length net.events))
-
-  ordered_events : All (λ s. s.event < length net.events) in_order
-  ordered_events =
-      let many = length-map-range_with_len (scheduled_at net) 0 (length net.events) in
-      All-from_get_or (λ s. s.event < length net.events) in_order (scheduled_at net 0)
-      (λ i lt. let below : i < length net.events = omega arith in
-      let at = ap (λ (s : Scheduled). s.event) (get_or-map-range_with_len (scheduled_at net) 0 (length net.events) i i (scheduled_at net 0) below (omega arith)) in
-      omega arith)
-
-  -- those in front are events
-  pub front_events : (n : ℕ) → All (λ s. s.event < length net.events) (take n schedule)
-  front_events n =
-      All-take (λ s. s.event < length net.events) n schedule
-      (All-permutation (λ s. s.event < length net.events) in_order schedule is.all ordered_events)
-
-  stands : (i : ℕ) → i < length net.events → Contains schedule (scheduled_at net i)
-  stands i lt =
-      let many = length-map-range_with_len (scheduled_at net) 0 (length net.events) in
-      Contains-permutation in_order schedule (scheduled_at net i) is.all
-      (i, omega arith, get_or-map-range_with_len (scheduled_at net) 0 (length net.events) i i (scheduled_at net i) lt (omega arith))
-
-  -- an event that does not stand in front is scheduled at the clock or later, and keeps its floor
-  pub floors_but : (rows : RowsValue) (earlier : ℕ) (given : ConstraintsValue) (due : List Scheduled) → earlier ≤ rows.clock →
-      AreFloorsAt net rows earlier given → due ≡ take (length due) schedule →
-      ((k : ℕ) (d : Scheduled) → length due ≤ k → k < length schedule → rows.clock ≤ (slice_index_or schedule k d).time) →
-      HaveFloorsBut net rows due given
-  floors_but rows earlier given due up at front rest i lt =
-      let place = stands i lt in
-      let k : ℕ = place.0 in
-      let here : slice_index_or schedule k (scheduled_at net i) ≡ scheduled_at net i = place.2 in
-      elim (cases_lt k (length due)) [
-        | inl before ↦ inl (
-          k,
-          before,
-          λ d. ap (λ (s : Scheduled). s.event)
-              (ap (λ xs. slice_index_or xs k d) front ∙ get_or-take (length due) schedule k d before ∙ get_or_default schedule k d (scheduled_at net i) place.1 ∙ here),
-        )
-        | inr past ↦
-            let late : rows.clock ≤ (event_at net i).time =
-            subst (λ (s : Scheduled). rows.clock ≤ s.time) here (rest k (scheduled_at net i) past place.1) in
-            let planned : rows.clock ≤ planned_time net rows i = omega arith in
-            inr (at i lt ∙ same_floor (passed_at rows i) (planned_time net rows i) earlier rows.clock up planned)
-      ]
+-- an event that does not stand in front is scheduled at the clock or later, and keeps its floor
+pub floors_but : (net : Net) (schedule : List Scheduled) → IsScheduleOf net schedule → (rows : RowsValue) (earlier : ℕ) (given : ConstraintsValue) (due : List Scheduled) → earlier ≤ rows.clock →
+    AreFloorsAt net rows earlier given → due ≡ take (length due) schedule →
+    ((k : ℕ) (d : Scheduled) → length due ≤ k → k < length schedule → rows.clock ≤ (slice_index_or schedule k d).time) →
+    HaveFloorsBut net rows due given
+floors_but net schedule is rows earlier given due up at front rest i lt =
+    elim (in_front_or_late net schedule is rows.clock due front rest i lt) [
+      | inl among ↦ inl among
+      | inr late ↦
+          let planned : rows.clock ≤ planned_time net rows i = omega arith in
+          inr (at i lt ∙ same_floor (passed_at rows i) (planned_time net rows i) earlier rows.clock up planned)
+    ]
 
 module _ (net : Net) (rows : RowsValue) (due : List Scheduled) where
   pub none_raised : (live : LiveValue) → RaisesFloors net rows due 0 live live
@@ -85,17 +52,6 @@ module _ (net : Net) (rows : RowsValue) (due : List Scheduled) where
     marked = λ e m. inl m;
   }
 
-  -- an event among the first n and one more
-  due_next : (n i j : ℕ) → ((d : Scheduled) → (slice_index_or due n d).event ≡ i) → IsDue due (n + 1) j → IsDue due n j ⊎ (j ≡ i)
-  due_next n i j here (k, lt, is) =
-      elim (cases_lt k n) [
-        | inl earlier ↦ inl (k, earlier, is)
-        | inr past ↦
-            let same : k ≡ n = omega arith in
-            let d : Scheduled = record { time = 0; event = 0 } in
-            inr (sym (is d) ∙ ap (λ m. (slice_index_or due m d).event) same ∙ here d)
-      ]
-
   -- an event that has its floor already
   pub stays_raised : (n i : ℕ) (before after : LiveValue) → ((d : Scheduled) → (slice_index_or due n d).event ≡ i) →
       slice_index after.given.floors i ≡ floor_of net rows i → RaisesFloors net rows due n before after → RaisesFloors net rows due (n + 1) before after
@@ -104,7 +60,7 @@ module _ (net : Net) (rows : RowsValue) (due : List Scheduled) where
     spans = so.spans;
     times = so.times;
     cycle = so.cycle;
-    floors = λ j among. elim (due_next n i j here among) [
+    floors = λ j among. elim (front_next due n i j here among) [
       | inl earlier ↦ so.floors j earlier
       | inr is ↦ subst (λ m. slice_index after.given.floors m ≡ floor_of net rows m) (sym is) right
     ];
@@ -173,7 +129,7 @@ module _ (net : Net) (rows : RowsValue) (due : List Scheduled) where
       cycle = ap (λ (o : OrderValue). o.cycle) order ∙ so.cycle;
       floors = λ j among. elim (cases_eq j i) [
         | inl is ↦ subst (λ m. slice_index now.given.floors m ≡ floor_of net rows m) (sym is) floor_here
-        | inr other ↦ elim (due_next n i j here among) [
+        | inr other ↦ elim (front_next due n i j here among) [
           | inl earlier ↦ floor_there j other ∙ so.floors j earlier
           | inr is ↦ absurd (other is)
         ]

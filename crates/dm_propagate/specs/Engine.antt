@@ -9,8 +9,8 @@ use Rattle.dm_rows.specs.Rows.{RowsValue, IsSized}
 use Rattle.dm_rows.specs.Timetable.{floor_of, span_of}
 use Rattle.dm_priced.specs.Priced.{PricedValue, IsPriced, FollowsPrice}
 use Rattle.dm_settle.specs.Constraints.{ConstraintsValue}
-use Rattle.dm_propagate.specs.Schedule.{IsScheduleOf}
-use Rattle.dm_propagate.specs.declared.schedule.Scheduled.{Scheduled}
+use Rattle.dm_schedule.specs.Schedule.{IsScheduleOf}
+use Rattle.dm_schedule.specs.declared.schedule.Scheduled.{Scheduled}
 
 -- rows, the timetable that is kept for them, with its price, and the events by their scheduled times
 pub record EngineValue : Type 0 where

@@ -8,18 +8,18 @@ ghost use Rattle.dm_priced.specs.Priced.{IsPriced};
 ghost use Rattle.dm_propagate.specs.Engine.{FollowsRows};
 ghost use Rattle.dm_propagate.specs.Inside.Concern.{FollowsBut, LeadsAt, IsDecidedBefore};
 ghost use Rattle.dm_propagate.specs.Inside.Flags.{flags_of, AreFlagsOf, AreFlagsBut, SetsFlagsAt, SetsFlagsBy};
-ghost use Rattle.dm_propagate.specs.Schedule.{IsScheduleOf};
+ghost use Rattle.dm_schedule.specs.Schedule.{IsScheduleOf};
 ghost use Rattle.dm_propagate.specs.Inside.Changing.{FollowsAt, Turns, IsTurnRefused, HasPassed, MarksFor};
 
 use crate::charging::{charge_by_flips, set_flags_at};
 use crate::clock::move_clock;
-use crate::schedule::Scheduled;
 use crate::turning::{let_go_around, let_go_by_flips, set_place, take_up_around, take_up_by_flips};
 use dm_base::{Secs, Steps};
 use dm_graph::search::Cyclic;
 use dm_network::Network;
 use dm_priced::PricedTimetable;
 use dm_rows::{Change, Flip, Rows};
+use dm_schedule::Scheduled;
 use dm_times::{floor_of, span_of};
 use std::sync::ledger::Ledger;
 

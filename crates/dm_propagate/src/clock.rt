@@ -6,14 +6,14 @@ ghost use Rattle.dm_priced.specs.Priced.{IsPriced};
 ghost use Rattle.dm_propagate.specs.Inside.Flags.{flags_of};
 ghost use Rattle.dm_propagate.specs.Inside.Changing.{AreFloorsAt, HaveFloorsFrom, HasFloors};
 ghost use Rattle.dm_propagate.specs.Inside.Raising.{HaveFloorsBut, RaisesFloors};
-ghost use Rattle.dm_propagate.specs.Schedule.{IsScheduleOf};
+ghost use Rattle.dm_schedule.specs.Schedule.{IsScheduleOf};
 
-use crate::schedule::{Scheduled, scheduled_before};
 use crate::sweeping::set_floors;
 use dm_base::Secs;
 use dm_network::Network;
 use dm_priced::PricedTimetable;
 use dm_rows::Rows;
+use dm_schedule::{Scheduled, scheduled_before};
 use dm_times::floor_of;
 
 /// Gives each event its floor by the rows, where each had it by the same rows at an earlier clock. Unless the clock is taken

@@ -13,7 +13,6 @@ ghost use Rattle.dm_propagate.specs.Engine.{IsEngineOf, times_of, cycle_of};
 ghost use Rattle.dm_propagate.specs.Reading.{KeepsClock, ReadsFew};
 
 use crate::moving::{Alteration, move_to, try_rows};
-use crate::schedule::{Scheduled, schedule_of};
 use crate::setting::set_flips;
 use crate::starting::priced_for;
 use dm_base::{Cost, Steps};
@@ -21,6 +20,7 @@ use dm_graph::search::Cyclic;
 use dm_network::Network;
 use dm_priced::PricedTimetable;
 use dm_rows::{Change, Flip, Rows};
+use dm_schedule::{Scheduled, schedule_of};
 use dm_settle::{NoTimes, Times};
 use std::alloc::Global;
 use std::marker::Model;

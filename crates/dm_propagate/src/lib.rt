@@ -16,7 +16,6 @@ mod engine;
 mod held;
 pub mod laws;
 mod moving;
-mod schedule;
 mod setting;
 mod starting;
 mod sweeping;

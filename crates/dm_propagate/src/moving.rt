@@ -9,7 +9,7 @@ ghost use Rattle.dm_rows.specs.Resolve.{after_change};
 ghost use Rattle.dm_rows.specs.Timetable.{IsLeast};
 ghost use Rattle.dm_rows.specs.Touch.{IsDelayPassOrClock};
 ghost use Rattle.dm_propagate.specs.Engine.{FollowsRows};
-ghost use Rattle.dm_propagate.specs.Schedule.{IsScheduleOf};
+ghost use Rattle.dm_schedule.specs.Schedule.{IsScheduleOf};
 ghost use Rattle.dm_propagate.specs.Reading.{KeepsClock, ReadsFew};
 ghost use Rattle.dm_propagate.specs.Inside.Concern.{FollowsBut};
 ghost use Rattle.dm_propagate.specs.Inside.Altering.{change_in};
@@ -17,12 +17,12 @@ ghost use Rattle.dm_propagate.specs.Inside.Flags.{flags_of, AreFlagsOf, AreFlags
 ghost use Rattle.dm_propagate.specs.Inside.Changing.{FollowsAt, MarksFor};
 
 use crate::changing::{turn, turn_adopted};
-use crate::schedule::Scheduled;
 use dm_base::{Secs, Steps};
 use dm_graph::search::Cyclic;
 use dm_network::Network;
 use dm_priced::PricedTimetable;
 use dm_rows::{Change, Flip, Rows};
+use dm_schedule::Scheduled;
 use std::sync::ledger::Ledger;
 
 /// A change, or a list of decisions that are adopted as one.

@@ -1,6 +1,6 @@
 -- A timetable kept with rows, one place after the other.
-use Rattle.std.proofs.Common.{◌≡◌, ℕ, ◌+◌, ◌<◌, ◌≤◌, ◌⊎◌, Bool, true, false, List, length, Option, Some, None, sym, ap, subst, ◌∙◌, inl, inr, refl, arith, slice_index, length-set, get_or-set_same, get_or-set_other}
-use Rattle.std.specs.Prelude.{slice_set, is_some, unwrap_or, max}
+use Rattle.std.proofs.Common.{◌≡◌, ℕ, ◌+◌, ◌<◌, ◌≤◌, ◌⊎◌, Bool, true, false, List, length, take, Option, Some, None, sym, ap, subst, ◌∙◌, inl, inr, refl, arith, slice_index, length-set, get_or-set_same, get_or-set_other}
+use Rattle.std.specs.Prelude.{slice_set, slice_index_or, is_some, unwrap_or, max}
 use Rattle.std.proofs.lemmas.Bool.{cases_eq, cases_lt}
 use Rattle.dm_network.specs.Net.{Net, event_at, activity_at, pair_at, places_into, places_out_of}
 use Rattle.dm_network.specs.Held.{is_held}
@@ -14,8 +14,11 @@ use Rattle.dm_rows.specs.declared.messages.Flip.{Flip}
 use Rattle.dm_rows.specs.declared.messages.Flip.TheVariants.{Keep, Drop, First}
 use Rattle.dm_rows.specs.declared.messages.Change.{Change}
 use Rattle.dm_rows.specs.declared.messages.Change.TheVariants.{EventDelay, ActDelay, Passed, Recalled, Flipped, Adopted, Clock}
+use Rattle.dm_schedule.specs.Schedule.{IsScheduleOf}
+use Rattle.dm_schedule.specs.declared.schedule.Scheduled.{Scheduled}
+use Rattle.dm_schedule.proofs.Standing.{in_front_or_late, front_next}
 use Rattle.dm_relaxation.specs.Timetables.{TimetableValue, AgreesWith, RenewsEvent, RenewsActivity, TakesClock, ChangesNet}
-use Rattle.dm_relaxation.specs.Inside.Agreeing.{FloorAgrees, ActivityAgrees, Renews, MovesAt, Nowhere, Here, IsMoved, MovedBefore, InRow, IsInto, IsOutOf, LeadsAt, IsDecided}
+use Rattle.dm_relaxation.specs.Inside.Agreeing.{FloorAgrees, ActivityAgrees, Renews, MovesAt, MovesAmong, Nowhere, Here, Below, IsMoved, MovedAmong, InRow, IsInto, IsOutOf, LeadsAt, IsDecided}
 use Rattle.dm_network.proofs.EventRows.{stands_out}
 use Rattle.dm_network.proofs.EventRows.{stands_into}
 use Rattle.dm_relaxation.proofs.OfTimetables.{agrees_same}
@@ -33,6 +36,23 @@ renews_none net rows t = record {
   events_kept = λ e is. is;
   activities_there = λ a nowhere. absurd nowhere;
   activities_kept = λ a is. is;
+}
+
+-- where fewer places have to agree
+pub renews_less : (net : Net) (rows : RowsValue) (e1 events a1 activities : ℕ → Type 0) (old new : TimetableValue) → ((e : ℕ) → events e → e1 e ⊎ FloorAgrees net rows new e) → ((a : ℕ) → activities a → a1 a) →
+    Renews net rows e1 a1 old new → Renews net rows events activities old new
+renews_less net rows e1 events a1 activities old new of_events of_activities had = record {
+  held_size = had.held_size;
+  spans_size = had.spans_size;
+  floors_size = had.floors_size;
+  clock_kept = had.clock_kept;
+  events_there = λ e is. elim (of_events e is) [
+    | inl among ↦ had.events_there e among
+    | inr agrees ↦ agrees
+  ];
+  events_kept = had.events_kept;
+  activities_there = λ a is. had.activities_there a (of_activities a is);
+  activities_kept = had.activities_kept;
 }
 
 pub renews_then : (net : Net) (rows : RowsValue) (e1 e2 events a1 a2 activities : ℕ → Type 0) (old mid new : TimetableValue) → ((e : ℕ) → events e → e1 e ⊎ e2 e) → ((a : ℕ) → activities a → a1 a ⊎ a2 a) →
@@ -97,16 +117,8 @@ activity_renews net rows a old new inside inside_spans renews = record {
     )
 
 pub row_none : (net : Net) (rows : RowsValue) (row : List ℕ) (t : TimetableValue) → Renews net rows Nowhere (InRow row 0) t t
-row_none net rows row t = let none = renews_none net rows t in record {
-  held_size = none.held_size;
-  spans_size = none.spans_size;
-  floors_size = none.floors_size;
-  clock_kept = none.clock_kept;
-  events_there = none.events_there;
-  events_kept = none.events_kept;
-  activities_there = λ a inside. absurd (let b = inside.before in omega arith);
-  activities_kept = none.activities_kept;
-}
+row_none net rows row t =
+    renews_less net rows Nowhere Nowhere Nowhere (InRow row 0) t t (λ e is. inl is) (λ a inside. absurd (let b = inside.before in omega arith)) (renews_none net rows t)
 
 pub row_more : (net : Net) (rows : RowsValue) (row : List ℕ) (n : ℕ) (old mid new : TimetableValue) → Renews net rows Nowhere (InRow row n) old mid → Renews net rows Nowhere (Here (slice_index row n)) mid new →
     Renews net rows Nowhere (InRow row (n + 1)) old new
@@ -118,65 +130,87 @@ row_more net rows row n old mid new had more =
     ])
     had more
 
-pub moved_none : (net : Net) (rows : RowsValue) (t : TimetableValue) → Renews net rows (MovedBefore t rows.clock 0) Nowhere t t
-moved_none net rows t = let none = renews_none net rows t in record {
-  held_size = none.held_size;
-  spans_size = none.spans_size;
-  floors_size = none.floors_size;
-  clock_kept = none.clock_kept;
-  events_there = λ e moved. absurd (let b = moved.0 in omega arith);
-  events_kept = none.events_kept;
-  activities_there = none.activities_there;
-  activities_kept = none.activities_kept;
-}
+pub below_none : (net : Net) (rows : RowsValue) (t : TimetableValue) → Renews net rows (Below 0) Nowhere t t
+below_none net rows t = renews_less net rows Nowhere (Below 0) Nowhere Nowhere t t (λ e below. absurd (omega arith)) (λ a is. is) (renews_none net rows t)
 
-pub moved_more : (net : Net) (rows : RowsValue) (n : ℕ) (old mid new : TimetableValue) → Renews net rows (MovedBefore old rows.clock n) Nowhere old mid → slice_index mid.floors n ≡ slice_index old.floors n →
-    MovesAt net rows n mid new → Renews net rows (MovedBefore old rows.clock (n + 1)) Nowhere old new
-moved_more net rows n old mid new had same more =
-    renews_then net rows (MovedBefore old rows.clock n) (λ k. (k ≡ n) × IsMoved mid rows.clock n) (MovedBefore old rows.clock (n + 1)) Nowhere Nowhere Nowhere old mid new
-    (λ e moved. elim (cases_lt e n) [
-      | inl less ↦ inl (less, moved.1)
-      | inr past ↦
-          let b = moved.0 in
-          let is : e ≡ n = omega arith in
-          inr (is, still (subst (λ (k : ℕ). IsMoved old rows.clock k) is moved.1))
+pub below_more : (net : Net) (rows : RowsValue) (n : ℕ) (old mid new : TimetableValue) → n < length mid.floors → Renews net rows (Below n) Nowhere old mid → RenewsEvent net rows n mid new → Renews net rows (Below (n + 1)) Nowhere old new
+below_more net rows n old mid new inside had more =
+    renews_then net rows (Below n) (Here n) (Below (n + 1)) Nowhere Nowhere Nowhere old mid new
+    (λ e below. elim (cases_lt e n) [
+      | inl less ↦ inl less
+      | inr past ↦ inr (let is : e ≡ n = omega arith in is)
     ])
-    (λ a is. inl is) had more.renews
-  where
-    still : IsMoved old rows.clock n → IsMoved mid rows.clock n
-    still (inl back) = inl (let c = had.clock_kept in omega arith)
-    still (inr early) = inr (omega arith)
+    (λ a is. inl is) had (event_renews net rows n mid new inside more)
 
--- an event that the clock does not move, and one that is renewed
-pub moves_not : (net : Net) (rows : RowsValue) (event : ℕ) (t : TimetableValue) → (IsMoved t rows.clock event → ⊥) → MovesAt net rows event t t
-moves_not net rows event t not = let none = renews_none net rows t in record {
-  renews = record {
-    held_size = none.held_size;
-    spans_size = none.spans_size;
-    floors_size = none.floors_size;
-    clock_kept = none.clock_kept;
-    events_there = λ e moved. absurd (not moved.1);
-    events_kept = none.events_kept;
-    activities_there = none.activities_there;
-    activities_kept = none.activities_kept;
-  };
-  elsewhere = λ k ne. refl;
+-- an event whose floor is at the clock or later, and one that is renewed
+pub moves_not : (net : Net) (rows : RowsValue) (event : ℕ) (t : TimetableValue) → rows.clock ≤ slice_index t.floors event → MovesAt net rows event t t
+moves_not net rows event t late = record {
+  renews = renews_less net rows Nowhere (λ k. (k ≡ event) × (slice_index t.floors event < rows.clock)) Nowhere Nowhere t t
+      (λ e moved. absurd (let early = moved.1 in omega arith)) (λ a is. is) (renews_none net rows t);
+  others = λ k. inl refl;
 }
 
 pub moves_event : (net : Net) (rows : RowsValue) (event : ℕ) (old new : TimetableValue) → event < length old.floors → RenewsEvent net rows event old new → MovesAt net rows event old new
-moves_event net rows event old new inside renews = let all = event_renews net rows event old new inside renews in record {
-  renews = record {
-    held_size = all.held_size;
-    spans_size = all.spans_size;
-    floors_size = all.floors_size;
-    clock_kept = all.clock_kept;
-    events_there = λ e moved. all.events_there e moved.0;
-    events_kept = all.events_kept;
-    activities_there = all.activities_there;
-    activities_kept = all.activities_kept;
-  };
-  elsewhere = λ k ne. ap (λ (xs : List ℕ). slice_index xs k) renews.floors ∙ get_or-set_other old.floors event k (floor_of net rows event) 0 ne;
+moves_event net rows event old new inside renews =
+    let all = event_renews net rows event old new inside renews in
+    record {
+      renews = renews_less net rows (Here event) (λ k. (k ≡ event) × (slice_index old.floors event < rows.clock)) Nowhere Nowhere old new
+          (λ e moved. inl moved.0) (λ a is. is) all;
+      others = λ k. elim (cases_eq k event) [
+        | inl here ↦ inr (all.events_there k here)
+        | inr ne ↦ inl (ap (λ (xs : List ℕ). slice_index xs k) renews.floors ∙ get_or-set_other old.floors event k (floor_of net rows event) 0 ne)
+      ];
+    }
+
+-- ---- one event of a schedule after the other
+
+pub among_none : (net : Net) (rows : RowsValue) (due : List Scheduled) (t : TimetableValue) → MovesAmong net rows due 0 t t
+among_none net rows due t = record {
+  renews = renews_less net rows Nowhere (MovedAmong t rows.clock due 0) Nowhere Nowhere t t
+      (λ e moved. absurd (let none = moved.0.1 in omega arith)) (λ a is. is) (renews_none net rows t);
+  others = λ k. inl refl;
 }
+
+pub among_more : (net : Net) (rows : RowsValue) (due : List Scheduled) (n event : ℕ) (old mid new : TimetableValue) → ((d : Scheduled) → (slice_index_or due n d).event ≡ event) →
+    MovesAmong net rows due n old mid → MovesAt net rows event mid new → MovesAmong net rows due (n + 1) old new
+among_more net rows due n event old mid new here had more = record {
+  renews = renews_then net rows (λ k. MovedAmong old rows.clock due n k ⊎ FloorAgrees net rows mid k) (λ k. (k ≡ event) × (slice_index mid.floors event < rows.clock))
+      (MovedAmong old rows.clock due (n + 1)) Nowhere Nowhere Nowhere old mid new
+      (λ e moved. elim (front_next due n event e here moved.0) [
+        | inl earlier ↦ inl (inl (earlier, moved.1))
+        | inr is ↦ elim (had.others e) [
+          | inl same ↦ inr (is, subst (λ (k : ℕ). slice_index mid.floors k < rows.clock) is (let early = moved.1 in omega arith))
+          | inr agrees ↦ inl (inr agrees)
+        ]
+      ])
+      (λ a is. inl is)
+      (renews_less net rows (MovedAmong old rows.clock due n) (λ k. MovedAmong old rows.clock due n k ⊎ FloorAgrees net rows mid k) Nowhere Nowhere old mid (λ e is. is) (λ a is. is) had.renews)
+      more.renews;
+  others = λ k. elim (more.others k) [
+    | inl same ↦ elim (had.others k) [
+      | inl was ↦ inl (same ∙ was)
+      | inr agrees ↦ inr (more.renews.events_kept k agrees)
+    ]
+    | inr agrees ↦ inr agrees
+  ];
+}
+
+-- those that a clock moves are among all, or among those in front of it where it has not gone back
+pub moved_all : (net : Net) (rows : RowsValue) (old new : TimetableValue) → Renews net rows (Below (length net.events)) Nowhere old new → Renews net rows (IsMoved net old rows.clock) Nowhere old new
+moved_all net rows old new had = renews_less net rows (Below (length net.events)) (IsMoved net old rows.clock) Nowhere Nowhere old new (λ e moved. inl moved.0) (λ a is. is) had
+
+pub moved_front : (net : Net) (rows : RowsValue) (schedule due : List Scheduled) (old new : TimetableValue) → IsScheduleOf net schedule → old.clock ≤ rows.clock → due ≡ take (length due) schedule →
+    ((k : ℕ) (d : Scheduled) → length due ≤ k → k < length schedule → rows.clock ≤ (slice_index_or schedule k d).time) →
+    MovesAmong net rows due (length due) old new → Renews net rows (IsMoved net old rows.clock) Nowhere old new
+moved_front net rows schedule due old new is on front rest had =
+    renews_less net rows (MovedAmong old rows.clock due (length due)) (IsMoved net old rows.clock) Nowhere Nowhere old new (λ e moved. inl (among e moved.0 moved.1)) (λ a is. is) had.renews
+  where
+    among : (e : ℕ) → e < length net.events → (rows.clock < old.clock) ⊎ (((event_at net e).time < rows.clock) × (slice_index old.floors e < rows.clock)) → MovedAmong old rows.clock due (length due) e
+    among e below (inl back) = absurd (omega arith)
+    among e below (inr early) = elim (in_front_or_late net schedule is rows.clock due front rest e below) [
+      | inl stands ↦ (stands, early.1)
+      | inr late ↦ absurd (let before = early.0 in omega arith)
+    ]
 
 -- ---- whole rows of activities
 
@@ -283,6 +317,16 @@ floor_stays net before rows e t is =
     subst (λ (r : RowsValue). before.clock ≤ r.clock → r.clock ≤ floor_of net before e → floor_of net r e ≡ floor_of net before e) (sym is)
     (late_stays (passed_at before e) (planned_time net before e) before.clock t)
 
+-- and so is that of an event that is scheduled at it or later
+scheduled_stays : (o : Option ℕ) (planned was clock : ℕ) → was ≤ clock → clock ≤ planned → unwrap_or o (max planned clock) ≡ unwrap_or o (max planned was)
+scheduled_stays (Some t) planned was clock on late = refl
+scheduled_stays None planned was clock on late = omega arith
+
+late_floor_stays : (net : Net) (before rows : RowsValue) (e t : ℕ) → rows ≡ after_change before (Clock t) → before.clock ≤ rows.clock → rows.clock ≤ (event_at net e).time → floor_of net rows e ≡ floor_of net before e
+late_floor_stays net before rows e t is =
+    subst (λ (r : RowsValue). before.clock ≤ r.clock → r.clock ≤ (event_at net e).time → floor_of net r e ≡ floor_of net before e) (sym is)
+    (λ on late. scheduled_stays (passed_at before e) (planned_time net before e) before.clock t on (let planned : t ≤ planned_time net before e = omega arith in planned))
+
 -- ---- where all that a change does not leave is taken from the rows after it, all agrees with them
 
 module _ (net : Net) (before rows : RowsValue) (events activities : ℕ → Type 0) (old new : TimetableValue) (renews : Renews net rows events activities old new) (agrees : AgreesWith net before old)
@@ -362,22 +406,25 @@ module _ (net : Net) (before rows : RowsValue) (old new : TimetableValue) (agree
       ]))
       (rw is (flip_keeps_clock before flip))
 
-  pub agrees_timed : (last : TimetableValue) (t : ℕ) → rows ≡ after_change before (Clock t) → Renews net rows (MovedBefore old rows.clock (length net.events)) Nowhere old new → TakesClock rows new last → AgreesWith net rows last
+  pub agrees_timed : (last : TimetableValue) (t : ℕ) → rows ≡ after_change before (Clock t) → Renews net rows (IsMoved net old rows.clock) Nowhere old new → TakesClock rows new last → AgreesWith net rows last
   agrees_timed last t is renews takes =
       agrees_same net rows (record new { clock = rows.clock }) last takes.held takes.spans takes.floors takes.clock
-      (timed_agrees net before rows (MovedBefore old rows.clock (length net.events)) Nowhere old new renews agrees
+      (timed_agrees net before rows (IsMoved net old rows.clock) Nowhere old new renews agrees
       (λ e below. moved_or_not e below)
       (λ a below. rw is (inl (refl, refl))))
     where
-      moved_or_not : (e : ℕ) → e < length net.events → (floor_of net rows e ≡ floor_of net before e) ⊎ MovedBefore old rows.clock (length net.events) e
+      moved_or_not : (e : ℕ) → e < length net.events → (floor_of net rows e ≡ floor_of net before e) ⊎ IsMoved net old rows.clock e
       moved_or_not e below =
           let clock = agrees.clock in
           let floor = agrees.floors.each e below in
           elim (cases_lt rows.clock old.clock) [
             | inl back ↦ inr (below, inl back)
-            | inr on ↦ elim (cases_lt (slice_index old.floors e) rows.clock) [
-              | inl early ↦ inr (below, inr early)
-              | inr late ↦ inl (floor_stays net before rows e t is (omega arith) (omega arith))
+            | inr on ↦ elim (cases_lt (event_at net e).time rows.clock) [
+              | inl scheduled ↦ elim (cases_lt (slice_index old.floors e) rows.clock) [
+                | inl early ↦ inr (below, inr (scheduled, early))
+                | inr late ↦ inl (floor_stays net before rows e t is (omega arith) (omega arith))
+              ]
+              | inr late ↦ inl (late_floor_stays net before rows e t is (omega arith) (omega arith))
             ]
           ]
 

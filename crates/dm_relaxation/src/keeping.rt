@@ -1,21 +1,30 @@
 //! A timetable kept with rows as they change.
-ghost use Rattle.std.specs.Prelude.{◌≡◌, ◌<◌, Bool, true, length};
+ghost use Rattle.std.specs.Prelude.{◌≡◌, ◌<◌, All, Bool, true, length};
 ghost use Rattle.dm_rows.specs.Rows.{RowsValue, IsSized};
 ghost use Rattle.dm_rows.specs.Resolve.{after_change};
 ghost use Rattle.dm_rows.specs.declared.messages.Flip.TheVariants.{First};
+ghost use Rattle.dm_schedule.specs.Schedule.{IsScheduleOf};
 ghost use Rattle.dm_relaxation.specs.Timetables.{IsTimetableOf, AgreesWith, ChangesNet, FlipsNet};
-ghost use Rattle.dm_relaxation.specs.Inside.Agreeing.{Renews, MovesAt, MovesClock, Nowhere, Here, MovedBefore, IsInto, IsOutOf, LeadsAt, IsDecided};
+ghost use Rattle.dm_relaxation.specs.Inside.Agreeing.{Renews, MovesAt, MovesAmong, MovesClock, Nowhere, Here, Below, IsMoved, IsInto, IsOutOf, LeadsAt, IsDecided};
 
 use crate::row::{row_into, row_out_of};
 use crate::timetable::Timetable;
 use dm_network::Network;
 use dm_rows::{Change, Flip, Rows};
+use dm_schedule::{Scheduled, scheduled_before};
 
 /// Keeps a timetable with rows that have just changed so, and answers yes; or answers no, for an adopted list, which is not
-/// followed. It takes no memory. It looks at what is around the change. Where the clock
-/// has changed it compares each floor with it, and looks at the events that the clock may move.
-pub fn keep_up(timetable: &mut Timetable, net: &Network, rows: &Rows, change: &Change) -> bool
+/// followed. It takes no memory. It looks at what is around the change, and where the clock goes on at the events that are
+/// scheduled before it.
+pub fn keep_up(
+    timetable: &mut Timetable,
+    net: &Network,
+    schedule: &[Scheduled],
+    rows: &Rows,
+    change: &Change,
+) -> bool
     requires sized { IsSized net.now rows.now }
+    requires schedule { IsScheduleOf net.now schedule.now }
     requires timetable { IsTimetableOf net.now timetable.old }
     requires within { ChangesNet net.now change.now }
     ensures timetable { IsTimetableOf net.now timetable.new }
@@ -45,7 +54,7 @@ pub fn keep_up(timetable: &mut Timetable, net: &Network, rows: &Rows, change: &C
         }
         Change::Adopted(_) => false,
         Change::Clock { .. } => {
-            renew_clock(timetable, net, rows);
+            renew_clock(timetable, net, schedule, rows);
             true
         }
     }
@@ -123,29 +132,59 @@ fn renew_out_of(timetable: &mut Timetable, net: &Network, rows: &Rows, event: us
 }
 
 /// Renews what a clock may move, and the clock.
-fn renew_clock(timetable: &mut Timetable, net: &Network, rows: &Rows)
+fn renew_clock(timetable: &mut Timetable, net: &Network, schedule: &[Scheduled], rows: &Rows)
     requires sized { IsSized net.now rows.now }
+    requires schedule { IsScheduleOf net.now schedule.now }
     requires timetable { IsTimetableOf net.now timetable.old }
     ensures timetable { IsTimetableOf net.now timetable.new }
     ensures moves { MovesClock net.now rows.now timetable.old timetable.new }
 {
-    renew_moved(timetable, net, rows);
+    renew_moved(timetable, net, schedule, rows);
     timetable.take_clock(net, rows);
 }
 
-/// Renews the events whose floors are before the clock, or every event where the clock has gone back.
-fn renew_moved(timetable: &mut Timetable, net: &Network, rows: &Rows)
+/// Renews the events that the clock may move: those that are scheduled before it, or all where it has gone back.
+fn renew_moved(timetable: &mut Timetable, net: &Network, schedule: &[Scheduled], rows: &Rows)
     requires sized { IsSized net.now rows.now }
+    requires schedule { IsScheduleOf net.now schedule.now }
     requires timetable { IsTimetableOf net.now timetable.old }
     ensures timetable { IsTimetableOf net.now timetable.new }
-    ensures renews { Renews net.now rows.now (MovedBefore timetable.old rows.now.clock (length net.now.events)) Nowhere timetable.old timetable.new }
+    ensures renews { Renews net.now rows.now (IsMoved net.now timetable.old rows.now.clock) Nowhere timetable.old timetable.new }
 {
-    for event in 0..net.events() {
-        renew_if_moved(timetable, net, rows, event);
+    let clock = rows.clock();
+    if clock < timetable.clock() {
+        renew_all(timetable, net, rows);
+    } else {
+        renew_due(timetable, net, scheduled_before(schedule, clock), rows);
     }
 }
 
-/// Renews an event if its floor is before the clock, or the clock has gone back.
+/// Renews every event.
+fn renew_all(timetable: &mut Timetable, net: &Network, rows: &Rows)
+    requires sized { IsSized net.now rows.now }
+    requires timetable { IsTimetableOf net.now timetable.old }
+    ensures timetable { IsTimetableOf net.now timetable.new }
+    ensures renews { Renews net.now rows.now (Below (length net.now.events)) Nowhere timetable.old timetable.new }
+{
+    for event in 0..net.events() {
+        timetable.renew_event(net, rows, event);
+    }
+}
+
+/// Renews those of some events whose floors are before the clock.
+fn renew_due(timetable: &mut Timetable, net: &Network, due: &[Scheduled], rows: &Rows)
+    requires sized { IsSized net.now rows.now }
+    requires are_events { All (λ s. s.event < length net.now.events) due.now }
+    requires timetable { IsTimetableOf net.now timetable.old }
+    ensures timetable { IsTimetableOf net.now timetable.new }
+    ensures moves { MovesAmong net.now rows.now due.now (length due.now) timetable.old timetable.new }
+{
+    for scheduled in due {
+        renew_if_moved(timetable, net, rows, scheduled.event);
+    }
+}
+
+/// Renews an event if its floor is before the clock.
 fn renew_if_moved(timetable: &mut Timetable, net: &Network, rows: &Rows, event: usize)
     requires sized { IsSized net.now rows.now }
     requires timetable { IsTimetableOf net.now timetable.old }
@@ -153,9 +192,7 @@ fn renew_if_moved(timetable: &mut Timetable, net: &Network, rows: &Rows, event: 
     ensures timetable { IsTimetableOf net.now timetable.new }
     ensures moves { MovesAt net.now rows.now event timetable.old timetable.new }
 {
-    let (clock, was) = (rows.clock(), timetable.clock());
-    let floor = timetable.floor(event);
-    if was <= clock && clock <= floor {
+    if rows.clock() <= timetable.floor(event) {
         return;
     }
     timetable.renew_event(net, rows, event);

@@ -1,5 +1,5 @@
 //! What a timetable costs, kept while its times change.
-ghost use Rattle.std.specs.Prelude.{ℕ, ◌≡◌, ◌+◌, ◌*◌, ◌^◌, ◌<◌, ◌≤◌, ◌++◌, [], ◌∷◌, false, Bool, List, length, slice_index, slice_set, sum_by, IfOk};
+ghost use Rattle.std.specs.Prelude.{ℕ, ◌≡◌, ◌+◌, ◌*◌, ◌^◌, ◌<◌, ◌≤◌, ◌++◌, [], ◌∷◌, true, false, Bool, List, length, slice_index, slice_set, sum_by, IfOk};
 ghost use Rattle.dm_base.specs.declared.limits.TheConstants.{ACTIVITIES, WEIGHT, PENALTY};
 ghost use Rattle.dm_network.specs.Held.{is_held};
 ghost use Rattle.dm_network.specs.Net.{activity_at, is_change};
@@ -7,13 +7,18 @@ ghost use Rattle.dm_rows.specs.Rows.{IsSized};
 ghost use Rattle.dm_rows.specs.Cost.{cost_charging, cost_of, charged_weight, dropped_weight, missed_weight};
 ghost use Rattle.dm_relaxation.specs.Binding.{AreFlags, AreBelowLimit};
 ghost use Rattle.dm_relaxation.specs.KeptCosts.{IsKeptCostOf, AreChangesTo, AreWithin};
+ghost use Rattle.dm_relaxation.specs.Inside.Taking.{HasTaken};
 
 use crate::costing::{charged_weight, dropped_weight, event_cost, lateness_cost, missed_weight};
 use dm_base::{ActKind, Cost, Secs};
+use dm_compare::are_equal;
 use dm_network::Network;
 use dm_rows::Rows;
 use std::alloc::{AllocError, Global};
 use std::marker::Model;
+
+/// How many times are compared at once.
+const BLOCK: usize = 64;
 
 /// Times of a network's events, with what their lateness costs, and the network's changes. What these times cost is added up
 /// over the changes alone.
@@ -49,7 +54,8 @@ impl KeptCost {
         })
     }
 
-    /// Takes other times, in seconds. It takes no memory, and compares each time with that of before.
+    /// Takes other times, in seconds. It takes no memory, compares them with those of before many at once, and looks at the single
+    /// times where some differ.
     pub fn follow(&mut self, net: &Network, times: &[Secs])
         requires kept { IsKeptCostOf net.now self.old }
         requires as_many { length times.now ≡ length net.now.events }
@@ -57,7 +63,53 @@ impl KeptCost {
         ensures kept { IsKeptCostOf net.now self.new }
         ensures times { self.new.times ≡ times.now }
     {
-        for i in 0..net.events() {
+        for block in 0..times.len() / BLOCK {
+            let from = block * BLOCK;
+            self.follow_block(net, times, from, from + BLOCK);
+        }
+        let from = times.len() / BLOCK * BLOCK;
+        self.follow_block(net, times, from, times.len());
+    }
+
+    /// Takes those of a block, where those before it are taken. Equal blocks are passed over.
+    fn follow_block(&mut self, net: &Network, times: &[Secs], from: usize, to: usize)
+        requires kept { IsKeptCostOf net.now self.old }
+        requires as_many { length times.now ≡ length net.now.events }
+        requires early { AreBelowLimit times.now }
+        requires block { from ≤ to }
+        requires within { to ≤ length times.now }
+        requires taken { HasTaken times.now self.old.times from }
+        ensures kept { IsKeptCostOf net.now self.new }
+        ensures taken { HasTaken times.now self.new.times to }
+    {
+        if self.has(times, from, to) {
+            return;
+        }
+        self.follow_each(net, times, from, to);
+    }
+
+    /// Whether these are the times of a block already.
+    fn has(&self, times: &[Secs], from: usize, to: usize) -> bool
+        requires block { from ≤ to }
+        requires within { to ≤ length times.now }
+        requires as_many { length times.now ≡ length self.now.times }
+        ensures { result ≡ true → (k : ℕ) → from ≤ k → k < to → slice_index self.now.times k ≡ slice_index times.now k }
+    {
+        are_same_between(&self.times, times, from, to)
+    }
+
+    /// Takes those of a block, each looked at.
+    fn follow_each(&mut self, net: &Network, times: &[Secs], from: usize, to: usize)
+        requires kept { IsKeptCostOf net.now self.old }
+        requires as_many { length times.now ≡ length net.now.events }
+        requires early { AreBelowLimit times.now }
+        requires block { from ≤ to }
+        requires within { to ≤ length times.now }
+        requires taken { HasTaken times.now self.old.times from }
+        ensures kept { IsKeptCostOf net.now self.new }
+        ensures taken { HasTaken times.now self.new.times to }
+    {
+        for i in from..to {
             self.follow_at(net, i, times[i]);
         }
     }
@@ -120,6 +172,23 @@ impl KeptCost {
             + penalty * charged_among(net, charged, &self.changes)
             + penalty * missed_among(net, rows, &self.times, &self.changes)
     }
+}
+
+/// Whether two lists of times are the same from a place up to another.
+fn are_same_between(kept: &[Secs], times: &[Secs], from: usize, to: usize) -> bool
+    requires block { from ≤ to }
+    requires within { to ≤ length times.now }
+    requires kept { to ≤ length kept.now }
+    ensures { result ≡ true → (k : ℕ) → from ≤ k → k < to → slice_index kept.now k ≡ slice_index times.now k }
+{
+    equal(&kept[from..to], &times[from..to])
+}
+
+/// Whether two lists of times are equal.
+fn equal(a: &[Secs], b: &[Secs]) -> bool
+    ensures { result ≡ true → a.now ≡ b.now }
+{
+    are_equal(a, b)
 }
 
 /// The places of a network's changes.

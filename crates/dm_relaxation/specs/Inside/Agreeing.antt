@@ -1,12 +1,14 @@
 -- A timetable kept with rows, place by place.
 use Rattle.std.specs.Prelude.{ℕ, ◌≡◌, ◌<◌, ◌⊎◌, List, length, slice_index}
-use Rattle.dm_network.specs.Net.{Net, activity_at, pair_at}
+use Rattle.dm_network.specs.Net.{Net, event_at, activity_at, pair_at}
 use Rattle.dm_network.specs.Held.{is_held}
 use Rattle.dm_rows.specs.Active.{is_active}
 use Rattle.dm_rows.specs.Rows.{RowsValue}
 use Rattle.dm_rows.specs.Timetable.{floor_of, span_of}
 use Rattle.dm_rows.specs.declared.messages.Flip.{Flip}
 use Rattle.dm_rows.specs.declared.messages.Flip.TheVariants.{Keep, Drop, First}
+use Rattle.dm_schedule.specs.Schedule.{IsInFront}
+use Rattle.dm_schedule.specs.declared.schedule.Scheduled.{Scheduled}
 use Rattle.dm_relaxation.specs.Timetables.{TimetableValue, TakesClock}
 
 -- the floor of the event, and what binds and the span of the activity, are those of the rows
@@ -27,19 +29,24 @@ pub record Renews (net : Net) (rows : RowsValue) (events activities : ℕ → Ty
   pub activities_there : (a : ℕ) → activities a → ActivityAgrees net rows new a
   pub activities_kept : (a : ℕ) → ActivityAgrees net rows old a → ActivityAgrees net rows new a
 
--- the clock has gone back, or the floor of this event is before it
-abbrev pub IsMoved : TimetableValue → ℕ → ℕ → Type 0
-IsMoved old clock e = (clock < old.clock) ⊎ (slice_index old.floors e < clock)
+-- the clock has gone back, or the event is scheduled before it and its floor is too
+abbrev pub IsMoved : Net → TimetableValue → ℕ → ℕ → Type 0
+IsMoved net old clock e =
+    (e < length net.events) × ((clock < old.clock) ⊎ (((event_at net e).time < clock) × (slice_index old.floors e < clock)))
 
--- no place, this one, one of the first n that a clock moves, and one that stands among the first n of a row
+-- no place, this one, one of the first n, one of the first n of these events that was before a clock, and one that stands among
+-- the first n of a row
 abbrev pub Nowhere : ℕ → Type 0
 Nowhere k = ⊥
 
 abbrev pub Here : ℕ → ℕ → Type 0
 Here place k = k ≡ place
 
-abbrev pub MovedBefore : TimetableValue → ℕ → ℕ → ℕ → Type 0
-MovedBefore old clock n k = (k < n) × IsMoved old clock k
+abbrev pub Below : ℕ → ℕ → Type 0
+Below n k = k < n
+
+abbrev pub MovedAmong : TimetableValue → ℕ → List Scheduled → ℕ → ℕ → Type 0
+MovedAmong old clock due n k = IsInFront due n k × (slice_index old.floors k < clock)
 
 pub record InRow (row : List ℕ) (n : ℕ) (a : ℕ) : Type 0 where
   pub place : ℕ
@@ -62,13 +69,18 @@ IsDecided net (Keep a) b = b ≡ a
 IsDecided net (Drop a) b = b ≡ a
 IsDecided net (First p small) b = (b < length net.activities) × (((activity_at net b).tail ≡ (pair_at net p).small) ⊎ ((activity_at net b).tail ≡ (pair_at net p).large))
 
--- the event agrees with the rows now, if the clock moves it, and no other floor has changed
+-- the event agrees with the rows now, if its floor was before the clock, and so does each whose floor has changed
 pub record MovesAt (net : Net) (rows : RowsValue) (event : ℕ) (old new : TimetableValue) : Type 0 where
-  pub renews : Renews net rows (λ k. (k ≡ event) × IsMoved old rows.clock event) Nowhere old new
-  pub elsewhere : (k : ℕ) → (k ≡ event → ⊥) → slice_index new.floors k ≡ slice_index old.floors k
+  pub renews : Renews net rows (λ k. (k ≡ event) × (slice_index old.floors event < rows.clock)) Nowhere old new
+  pub others : (k : ℕ) → (slice_index new.floors k ≡ slice_index old.floors k) ⊎ FloorAgrees net rows new k
+
+-- those of the first n events whose floors were before the clock agree with the rows now, and so does each whose floor has changed
+pub record MovesAmong (net : Net) (rows : RowsValue) (due : List Scheduled) (n : ℕ) (old new : TimetableValue) : Type 0 where
+  pub renews : Renews net rows (MovedAmong old rows.clock due n) Nowhere old new
+  pub others : (k : ℕ) → (slice_index new.floors k ≡ slice_index old.floors k) ⊎ FloorAgrees net rows new k
 
 -- the events that the clock moves agree with the rows now, and the clock is theirs
 pub record MovesClock (net : Net) (rows : RowsValue) (old new : TimetableValue) : Type 0 where
   pub mid : TimetableValue
-  pub renews : Renews net rows (MovedBefore old rows.clock (length net.events)) Nowhere old mid
+  pub renews : Renews net rows (IsMoved net old rows.clock) Nowhere old mid
   pub takes : TakesClock rows mid new

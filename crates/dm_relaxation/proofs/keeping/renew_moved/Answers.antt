@@ -1,22 +1,19 @@
-use Rattle.std.proofs.Common.{arith, subst, refl, ◌∙◌, ℕ, ◌≡◌, length}
-use Rattle.dm_relaxation.specs.Inside.Agreeing.{Renews, Nowhere, MovedBefore}
-use Rattle.dm_relaxation.proofs.Agreeing.{moved_none, moved_more}
+use Rattle.std.proofs.Common.{◌<◌, length, All, arith, subst, sym}
+use Rattle.dm_schedule.proofs.Standing.{front_events}
+use Rattle.dm_relaxation.proofs.Agreeing.{moved_all, moved_front}
 use Rattle.dm_relaxation.proofs.keeping.renew_moved.Goals as goal
 
-pub loop-event-init : goal.loop-event-init
-loop-event-init c = record { timetable = c.requires.timetable; renews = moved_none c.args.net.now c.args.rows.now c.args.timetable.now; rest = λ k from. refl }
+pub renew_due-requires-clause-are_events : goal.renew_due-requires-clause-are_events
+renew_due-requires-clause-are_events c =
+    let due = c.scheduled_before.result.now in
+    subst (All (λ s. s.event < length c.args.net.now.events)) (sym c.scheduled_before.ensures.front)
+    (front_events c.args.net.now c.args.schedule.now c.requires.schedule (length due))
 
-pub loop-event-preserved : goal.loop-event-preserved
-loop-event-preserved c =
-    let had = c.loop-event.invariant in
-    let moves = c.renew_if_moved.ensures.moves in
-    record {
-      timetable = c.renew_if_moved.ensures.timetable;
-      renews = moved_more c.args.net.now c.args.rows.now c.loop-event.event c.args.timetable.now c.loop-event.timetable c.renew_if_moved.new.timetable had.renews (had.rest c.loop-event.event (omega arith)) moves;
-      rest = λ k from. moves.elsewhere k (λ is. absurd (omega arith)) ∙ had.rest k (omega arith);
-    }
+pub returns-then-clock-clause-renews : goal.returns-then-clock-clause-renews
+returns-then-clock-clause-renews c = moved_all c.args.net.now c.args.rows.now c.args.timetable.now c.renew_all.new.timetable c.renew_all.ensures.renews
 
-pub returns-clause-renews : goal.returns-clause-renews
-returns-clause-renews c =
-    let over : c.loop-event.event ≡ length c.args.net.now.events = omega (arith, c.events-event-end.ensures.count) in
-    subst (λ (n : ℕ). Renews c.args.net.now c.args.rows.now (MovedBefore c.args.timetable.now c.args.rows.now.clock n) Nowhere c.args.timetable.now c.loop-event.timetable) over c.loop-event.invariant.renews
+pub returns-else-clock-clause-renews : goal.returns-else-clock-clause-renews
+returns-else-clock-clause-renews c =
+    let value = c.clock-clock.ensures.value in
+    moved_front c.args.net.now c.args.rows.now c.args.schedule.now c.scheduled_before.result.now c.args.timetable.now c.renew_due.new.timetable c.requires.schedule (omega arith)
+    c.scheduled_before.ensures.front (rw (sym value) c.scheduled_before.ensures.rest) c.renew_due.ensures.moves

@@ -12,6 +12,6 @@ keep_if-self-inside-requires-clause-within c =
 pub returns-clause-stands : goal.returns-clause-stands
 returns-clause-stands c =
     entered c.args.net.now c.args.message.now c.in-Ok.change c.self.inside.rows c.apply.new.self c.self.inside.is_free c.stays_free-self-inside.result c.self.inside.is_kept c.keep_if-self-inside.result
-    c.self.inside.timetable c.keep_if-self-inside.new.timetable c.self.inside.kept_cost c.self.inside.is_settled
+    c.self.inside.timetable c.keep_if-self-inside.new.timetable c.self.inside.kept_cost c.self.inside.is_settled c.self.inside.schedule.items
     (subst (λ (d : DispositionValue). IsDispositionOf c.args.net.now d) (sym c.self.view_is) c.requires.stands) c.in-Ok.ensures.named c.apply.ensures.rows (c.stays_free-self-inside.ensures c.args.net.now) (c.apply.ensures.sizes c.args.net.now)
     c.keep_if-self-inside.ensures.room c.keep_if-self-inside.ensures.kept

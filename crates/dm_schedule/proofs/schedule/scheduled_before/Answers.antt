@@ -1,8 +1,8 @@
 use Rattle.std.proofs.Common.{ltb, ltb-false, arith, rules}
 use Rattle.std.proofs.lemmas.List.Sorted.{IsPartitionPoint-from_clause, IsPartitionedBy-ltb}
 use Rattle.std.proofs.lemmas.List.{length-take-le}
-use Rattle.dm_propagate.specs.declared.schedule.Scheduled.{Scheduled}
-use Rattle.dm_propagate.proofs.schedule.scheduled_before.Goals as goal
+use Rattle.dm_schedule.specs.declared.schedule.Scheduled.{Scheduled}
+use Rattle.dm_schedule.proofs.schedule.scheduled_before.Goals as goal
 
 pub returns-clause-rest : goal.returns-clause-rest
 returns-clause-rest c =

@@ -1,8 +1,8 @@
 use Rattle.std.proofs.Common.{rules, subst}
 use Rattle.std.specs.List.Sorted.{IsPermutation}
 use Rattle.std.proofs.lemmas.List.Sorted.{IsNonDecreasingBy-from_sort_by_key}
-use Rattle.dm_propagate.specs.declared.schedule.Scheduled.{Scheduled}
-use Rattle.dm_propagate.proofs.schedule.schedule_of.Goals as goal
+use Rattle.dm_schedule.specs.declared.schedule.Scheduled.{Scheduled}
+use Rattle.dm_schedule.proofs.schedule.schedule_of.Goals as goal
 
 pub returns : goal.returns
 returns c = record {

@@ -1,7 +1,7 @@
 use Rattle.std.proofs.Common.{sym, ap, ◌∙◌, ◌++◌, ◌∷◌, [], arith}
 use Rattle.std.proofs.lemmas.List.FromFn.{map-range_with_len_more}
-use Rattle.dm_propagate.specs.Schedule.{scheduled_at}
-use Rattle.dm_propagate.proofs.schedule.scheduled_events.Goals as goal
+use Rattle.dm_schedule.specs.Schedule.{scheduled_at}
+use Rattle.dm_schedule.proofs.schedule.scheduled_events.Goals as goal
 
 pub loop-i-preserved : goal.loop-i-preserved
 loop-i-preserved c =

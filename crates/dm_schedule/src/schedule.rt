@@ -2,14 +2,14 @@
 ghost use Rattle.std.specs.Prelude.{ℕ, ◌≡◌, ◌<◌, ◌≤◌, length, map, take, slice_index_or, IfOk};
 ghost use Rattle.std.specs.List.{range_with_len};
 ghost use Rattle.std.specs.List.Sorted.{IsNonDecreasingBy};
-ghost use Rattle.dm_propagate.specs.Schedule.{IsScheduleOf, scheduled_at};
+ghost use Rattle.dm_schedule.specs.Schedule.{IsScheduleOf, scheduled_at};
 
 use dm_base::Secs;
 use dm_network::Network;
 use std::alloc::{AllocError, Global};
 
 /// An event by its place, with its scheduled time in seconds.
-#[derive(Clone, Copy)]
+#[derive(Clone, Copy, Debug)]
 pub struct Scheduled {
     pub time: Secs,
     pub event: usize,

@@ -1,0 +1,2 @@
+-- The events of a network by their scheduled times.
+pub mod Schedule
