@@ -98,7 +98,7 @@ fn is_time_at(
         Err(AllocError) => return Err(AllocError),
     }
     journal.net.sound();
-    match replay.disposition.settle(journal.net) {
+    match replay.disposition.settle_times(journal.net) {
         Ok(()) => Ok(replay.disposition.is_time(place, time)),
         Err(Cyclic) => Ok(false),
     }

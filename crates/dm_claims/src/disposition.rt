@@ -169,7 +169,7 @@ impl Disposition {
         if self.is_settled {
             return Ok(());
         }
-        match self.settle_times(net) {
+        match self.compute_times(net) {
             Ok(()) => {
                 self.follow_cost(net);
                 Ok(())
@@ -178,8 +178,24 @@ impl Disposition {
         }
     }
 
-    /// The same, with no cost kept.
-    fn settle_times(&mut self, net: &Network) -> Result<(), Cyclic>
+    /// The same, with no cost kept of the times.
+    pub fn settle_times(&mut self, net: &Network) -> Result<(), Cyclic>
+        requires stands { IsDispositionOf net.now self.old }
+        ensures stands { IsDispositionOf net.now self.new }
+        ensures rows { self.new.rows ≡ self.old.rows }
+        ensures least { OnOk result (IsLeast net.now self.new.rows (times_of self.new)) }
+        ensures early { OnOk result (AreBelowLimit (times_of self.new)) }
+        ensures no_cycle { OnOk result (HasNoCycle net.now self.new.rows) }
+        ensures cyclic { OnErr result (HasNoCycle net.now self.new.rows → ⊥) }
+    {
+        if self.is_settled {
+            return Ok(());
+        }
+        self.compute_times(net)
+    }
+
+    /// The same, whether the rows have changed or not.
+    fn compute_times(&mut self, net: &Network) -> Result<(), Cyclic>
         requires stands { IsDispositionOf net.now self.old }
         ensures stands { IsDispositionOf net.now self.new }
         ensures rows { self.new.rows ≡ self.old.rows }

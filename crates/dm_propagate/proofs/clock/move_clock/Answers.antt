@@ -1,6 +1,7 @@
 use Rattle.std.proofs.Common.{◌<◌, length, All, arith, subst, sym}
 use Rattle.dm_propagate.proofs.AtClock.{floors_from}
-use Rattle.dm_propagate.proofs.Raising.{front_events, floors_but}
+use Rattle.dm_schedule.proofs.Standing.{front_events}
+use Rattle.dm_propagate.proofs.Raising.{floors_but}
 use Rattle.dm_propagate.proofs.clock.move_clock.Goals as goal
 
 pub raise_floors-requires-clause-stand : goal.raise_floors-requires-clause-stand
