@@ -4,6 +4,7 @@ ghost use Rattle.dm_outside.specs.Faults.{HasRisen};
 
 use dm_outside::{Board, Failed};
 use std::alloc::Global;
+use std::collections::HashMap;
 use std::fmt::Write as _;
 use std::fs::{File, OpenOptions};
 use std::io::Write as _;
@@ -11,8 +12,7 @@ use std::marker::Model;
 use std::rt::Files;
 
 /// A board that appends a line `event; time` to a file for each change. The file is opened at the first show, and made where
-/// it is not there; what it holds stays. It tells nothing of what it shows, and keeps nothing of it: asked, it answers that it shows
-/// no time.
+/// it is not there; what it holds stays. It tells nothing of what it shows.
 #[derive(Drop)]
 pub struct FileBoard<R: Files<File = File> + Drop> {
     files: R,
@@ -21,6 +21,9 @@ pub struct FileBoard<R: Files<File = File> + Drop> {
 
     /// The file, once it is open.
     file: Option<File>,
+
+    /// The time in seconds that stands there of each event id.
+    times: HashMap<u32, u64>,
 
     /// The lines of one show.
     lines: String,
@@ -53,18 +56,20 @@ impl<R: Files<File = File> + Drop> FileBoard<R> {
             path,
             stop,
             file: None,
+            times: HashMap::new(alloc),
             lines: String::new(alloc),
             faults: 0,
         }
     }
 
-    /// Appends the changes to the file.
+    /// Appends the changes to the file, and keeps them.
     fn write_down(&mut self, changes: &[(u32, u64)]) -> Result<(), Failed>
         ensures { self.new ≡ self.old }
     {
         self.lines.clear();
         put_lines(&mut self.lines, changes)?;
-        append(&self.files, &self.path, &mut self.file, &self.lines)
+        append(&self.files, &self.path, &mut self.file, &self.lines)?;
+        keep(&mut self.times, changes)
     }
 }
 
@@ -72,6 +77,16 @@ impl<R: Files<File = File> + Drop> FileBoard<R> {
 fn put_lines(lines: &mut String, changes: &[(u32, u64)]) -> Result<(), Failed> {
     for (event, time) in changes {
         let Ok(()) = write!(lines, "{event}; {time}\n") else {
+            return Err(Failed);
+        };
+    }
+    Ok(())
+}
+
+/// Keeps the changes in the map of what is shown.
+fn keep(times: &mut HashMap<u32, u64>, changes: &[(u32, u64)]) -> Result<(), Failed> {
+    for (event, time) in changes {
+        let Ok(_) = times.insert(*event, *time) else {
             return Err(Failed);
         };
     }
@@ -135,7 +150,7 @@ impl<R: Files<File = File> + Drop> Board for FileBoard<R> {
         Ok(())
     }
 
-    fn shown(&self, _event: u32) -> Option<u64> {
-        None
+    fn shown(&self, event: u32) -> Option<u64> {
+        self.times.get(&event).copied()
     }
 }

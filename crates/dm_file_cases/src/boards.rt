@@ -12,7 +12,8 @@ fn file_board_appends_what_changes(rt: HostRuntime) -> Result<(), Fail> {
     let mut board = FileBoard::new(rt.alloc(), rt, path, 2);
     assert!(rt; board.show(&[(2, 200), (3, 220)]).is_ok());
     assert!(rt; board.show(&[(2, 260)]).is_ok());
-    assert_eq!(rt; board.shown(2), None);
+    assert_eq!(rt; board.shown(2), Some(260));
+    assert_eq!(rt; board.shown(1), None);
     let bytes = fs::read(&rt, "board-2.txt")?;
     assert_eq!(rt;
         bytes.as_slice(),
