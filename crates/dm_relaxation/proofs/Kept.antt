@@ -10,6 +10,7 @@ use Rattle.std.proofs.Math.ListN.{get_or-append}
 use Rattle.std.proofs.Math.Seq.{get_or-append_seam}
 use Rattle.std.proofs.lemmas.List.Sums.{sum_by-cons, sum_by_push, sum_by_more}
 use native.Mathlib.Nat.{mul-le-mul}
+use Rattle.std.proofs.Math.Nat.{mul-add}
 use Rattle.dm_base.specs.declared.limits.TheConstants.{EVENTS, WEIGHT}
 use Rattle.dm_network.proofs.Filling.{range_more}
 use Rattle.dm_network.specs.Net.{Net, event_at, activity_at, is_change, IsWithinLimits}
@@ -19,7 +20,7 @@ use Rattle.dm_rows.specs.Active.{has_passed}
 use Rattle.dm_rows.specs.Cost.{event_cost, charged_weight, dropped_weight, missed_weight, comes_too_early, cost_of, cost_charging, is_arrival}
 use Rattle.dm_relaxation.specs.Binding.{AreFlags, AreBelowLimit}
 use Rattle.dm_relaxation.specs.Inside.Taking.{HasTaken}
-use Rattle.dm_relaxation.specs.KeptCosts.{KeptCostValue, AreWithin, AreChangesTo, IsKeptCostOf}
+use Rattle.dm_relaxation.specs.KeptCosts.{KeptCostValue, AreWithin, AreChangesTo, IsKeptCostOf, penalized_weight}
 use Rattle.dm_relaxation.proofs.OfRows.{cost_of_flags}
 use Rattle.dm_rows.proofs.Totals.{sum_alike, sum_within}
 
@@ -133,16 +134,44 @@ none_missed net rows times a other = ap (λ (b : Bool). cond (b && has_passed ro
 none_charged : (net : Net) (charged : List Bool) (a : ℕ) → is_held charged a ≡ false → charged_weight net (is_held charged) a ≡ 0
 none_charged net charged a other = ap (λ (b : Bool). cond b (activity_at net a).weight 0) other
 
+-- a sum in two parts
+sum_parts : (f g h : ℕ → ℕ) (xs : List ℕ) → ((k : ℕ) → f k ≡ g k + h k) → sum_by f xs ≡ sum_by g xs + sum_by h xs
+sum_parts f g h [] each = refl
+sum_parts f g h (x ∷ xs) each =
+    let one : f x ≡ g x + h x = each x in
+    let rest : sum_by f xs ≡ sum_by g xs + sum_by h xs = sum_parts f g h xs each in
+    let all : sum_by f (x ∷ xs) ≡ f x + sum_by f xs = sum_by-cons f x xs in
+    let left : sum_by g (x ∷ xs) ≡ g x + sum_by g xs = sum_by-cons g x xs in
+    let right : sum_by h (x ∷ xs) ≡ h x + sum_by h xs = sum_by-cons h x xs in
+    omega (arith, one, rest, all, left, right)
+
+-- a change costs the penalty where it is dropped or missed, and it is not both
+in_parts : (change kept passed early : Bool) (w : ℕ) →
+    cond (change && (if passed then early else not kept)) w 0 ≡ cond (change && not kept && not passed) w 0 + cond (change && passed && early) w 0
+in_parts false kept passed early w = refl
+in_parts true true true true w = let e : w ≡ 0 + w = omega arith in e
+in_parts true true true false w = refl
+in_parts true true false early w = refl
+in_parts true false true true w = let e : w ≡ 0 + w = omega arith in e
+in_parts true false true false w = refl
+in_parts true false false early w = let e : w ≡ w + 0 = omega arith in e
+
+module _ (net : Net) (rows : RowsValue) (kept : KeptCostValue) (is_kept : IsKeptCostOf net kept) (penalty : ℕ) where
+  pub kept_cost : (total cost : ℕ) → total ≡ sum_by (penalized_weight net rows kept.times) kept.changes → cost ≡ kept.lateness + penalty * total → cost ≡ cost_of net rows kept.times penalty
+  kept_cost total cost total_is is =
+      let dropped = is_kept.changes.add_up (dropped_weight net rows) (λ a below other. none_dropped net rows a other) in
+      let missed = is_kept.changes.add_up (missed_weight net rows kept.times) (λ a below other. none_missed net rows kept.times a other) in
+      let parts = sum_parts (penalized_weight net rows kept.times) (dropped_weight net rows) (missed_weight net rows kept.times) kept.changes
+      (λ a. in_parts (is_change (activity_at net a).kind) (kept_at rows a) (has_passed rows (activity_at net a).head) (comes_too_early net rows kept.times a) (activity_at net a).weight) in
+      let all : total ≡ sum_by (dropped_weight net rows) (range_with_len 0 (length net.activities)) + sum_by (missed_weight net rows kept.times) (range_with_len 0 (length net.activities)) = omega (arith, total_is, parts, dropped, missed) in
+      let each = mul-add penalty (sum_by (dropped_weight net rows) (range_with_len 0 (length net.activities))) (sum_by (missed_weight net rows kept.times) (range_with_len 0 (length net.activities))) in
+      let product = ap (λ (n : ℕ). penalty * n) all in
+      let late = is_kept.lateness in
+      omega (arith, is, late, product, each)
+
 module _ (net : Net) (rows : RowsValue) (kept : KeptCostValue) (is_kept : IsKeptCostOf net kept) (penalty missed : ℕ) (missed_is : missed ≡ sum_by (missed_weight net rows kept.times) kept.changes) where
   missed_all : missed ≡ sum_by (missed_weight net rows kept.times) (range_with_len 0 (length net.activities))
   missed_all = missed_is ∙ is_kept.changes.add_up (missed_weight net rows kept.times) (λ a below other. none_missed net rows kept.times a other)
-
-  pub kept_cost : (dropped cost : ℕ) → dropped ≡ sum_by (dropped_weight net rows) kept.changes → cost ≡ kept.lateness + penalty * dropped + penalty * missed → cost ≡ cost_of net rows kept.times penalty
-  kept_cost dropped cost dropped_is is =
-      let all = dropped_is ∙ is_kept.changes.add_up (dropped_weight net rows) (λ a below other. none_dropped net rows a other) in
-      let late = is_kept.lateness in
-      let m = missed_all in
-      is ∙ rw (late, all, m) refl
 
   pub kept_charging : (charges : ℕ → Bool) (charged : List Bool) (weights cost : ℕ) → ((a : ℕ) → a < length net.activities → is_change (activity_at net a).kind ≡ false → is_held charged a ≡ false) → AreFlags net charges charged →
       weights ≡ sum_by (charged_weight net (is_held charged)) kept.changes → cost ≡ kept.lateness + penalty * weights + penalty * missed → cost ≡ cost_charging net rows charges kept.times penalty

@@ -1,9 +1,11 @@
 -- What a timetable costs, kept while its times change.
-use Rattle.std.specs.Prelude.{ℕ, ◌≡◌, ◌*◌, ◌^◌, ◌<◌, ◌≤◌, false, List, length, slice_index, sum_by}
+use Rattle.std.specs.Prelude.{ℕ, ◌≡◌, ◌*◌, ◌^◌, ◌<◌, ◌≤◌, ◌&&◌, Bool, not, false, List, length, slice_index, if◌then◌else◌, sum_by}
 use Rattle.std.specs.List.{range_with_len}
 use Rattle.dm_base.specs.declared.limits.TheConstants.{EVENTS, WEIGHT}
 use Rattle.dm_network.specs.Net.{Net, activity_at, is_change}
-use Rattle.dm_rows.specs.Cost.{event_cost}
+use Rattle.dm_rows.specs.Active.{has_passed}
+use Rattle.dm_rows.specs.Cost.{event_cost, comes_too_early}
+use Rattle.dm_rows.specs.Rows.{RowsValue, kept_at}
 use Rattle.dm_relaxation.specs.Binding.{AreBelowLimit}
 
 -- the places of changes, times, and what their lateness costs
@@ -35,3 +37,12 @@ pub record IsKeptCostOf (net : Net) (kept : KeptCostValue) : Type 0 where
   pub early : AreBelowLimit kept.times
   pub lateness : kept.lateness ≡ sum_by (event_cost net kept.times) (range_with_len 0 (length net.events))
   pub limit : kept.lateness ≤ EVENTS * (WEIGHT * 2 ^ 38)
+
+-- a change that its passed head has missed, or that is dropped and whose head has not passed
+abbrev pub is_penalized : Net → RowsValue → List ℕ → ℕ → Bool
+is_penalized net rows x a =
+    is_change (activity_at net a).kind && (if has_passed rows (activity_at net a).head then comes_too_early net rows x a else not (kept_at rows a))
+
+-- the weight of such a change
+abbrev pub penalized_weight : Net → RowsValue → List ℕ → ℕ → ℕ
+penalized_weight net rows x a = if is_penalized net rows x a then (activity_at net a).weight else 0

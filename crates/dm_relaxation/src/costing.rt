@@ -6,6 +6,7 @@ ghost use Rattle.dm_network.specs.Held.{is_held};
 ghost use Rattle.dm_rows.specs.Rows.{IsSized};
 ghost use Rattle.dm_rows.specs.Cost.{cost_charging, cost_of, event_cost, charged_weight, dropped_weight, missed_weight, comes_too_early, is_dropped_change};
 ghost use Rattle.dm_relaxation.specs.Binding.{AreFlags, AreBelowLimit};
+ghost use Rattle.dm_relaxation.specs.KeptCosts.{is_penalized, penalized_weight};
 
 use crate::rows::span_of;
 use dm_base::{ActKind, Cost, EventKind, Milli, Secs};
@@ -138,7 +139,7 @@ pub(crate) fn charged_weight(net: &Network, charged: &[bool], a: usize) -> Milli
 }
 
 /// The weight of a dropped change whose head has not passed.
-pub(crate) fn dropped_weight(net: &Network, rows: &Rows, a: usize) -> Milli
+fn dropped_weight(net: &Network, rows: &Rows, a: usize) -> Milli
     requires sized { IsSized net.now rows.now }
     requires is_activity { a < length net.now.activities }
     ensures weight { result ≡ dropped_weight net.now rows.now a }
@@ -170,6 +171,43 @@ pub(crate) fn missed_weight(net: &Network, rows: &Rows, times: &[Secs], a: usize
         activity.weight
     } else {
         0
+    }
+}
+
+/// The weight of a change that costs the penalty.
+pub(crate) fn penalized_weight(net: &Network, rows: &Rows, times: &[Secs], a: usize) -> Milli
+    requires sized { IsSized net.now rows.now }
+    requires as_many { length times.now ≡ length net.now.events }
+    requires early { AreBelowLimit times.now }
+    requires is_activity { a < length net.now.activities }
+    ensures weight { result ≡ penalized_weight net.now rows.now times.now a }
+    ensures limit { result ≤ WEIGHT }
+{
+    net.sound();
+    if is_penalized(net, rows, times, a) {
+        net.activity(a).weight
+    } else {
+        0
+    }
+}
+
+/// Whether an activity is a change that its passed head has missed, or one that is dropped and whose head has not passed.
+fn is_penalized(net: &Network, rows: &Rows, times: &[Secs], a: usize) -> bool
+    requires sized { IsSized net.now rows.now }
+    requires as_many { length times.now ≡ length net.now.events }
+    requires early { AreBelowLimit times.now }
+    requires is_activity { a < length net.now.activities }
+    ensures { result ≡ is_penalized net.now rows.now times.now a }
+{
+    net.sound();
+    let activity = net.activity(a);
+    if !matches!(activity.kind, ActKind::Change) {
+        return false;
+    }
+    if rows.passed(activity.head).is_some() {
+        comes_too_early(net, rows, times, a)
+    } else {
+        !rows.kept(a)
     }
 }
 

@@ -4,12 +4,12 @@ ghost use Rattle.dm_base.specs.declared.limits.TheConstants.{ACTIVITIES, WEIGHT,
 ghost use Rattle.dm_network.specs.Held.{is_held};
 ghost use Rattle.dm_network.specs.Net.{activity_at, is_change};
 ghost use Rattle.dm_rows.specs.Rows.{IsSized};
-ghost use Rattle.dm_rows.specs.Cost.{cost_charging, cost_of, charged_weight, dropped_weight, missed_weight};
+ghost use Rattle.dm_rows.specs.Cost.{cost_charging, cost_of, charged_weight, missed_weight};
 ghost use Rattle.dm_relaxation.specs.Binding.{AreFlags, AreBelowLimit};
-ghost use Rattle.dm_relaxation.specs.KeptCosts.{IsKeptCostOf, AreChangesTo, AreWithin};
+ghost use Rattle.dm_relaxation.specs.KeptCosts.{IsKeptCostOf, AreChangesTo, AreWithin, penalized_weight};
 ghost use Rattle.dm_relaxation.specs.Inside.Taking.{HasTaken};
 
-use crate::costing::{charged_weight, dropped_weight, event_cost, lateness_cost, missed_weight};
+use crate::costing::{charged_weight, event_cost, lateness_cost, missed_weight, penalized_weight};
 use dm_base::{ActKind, Cost, Secs};
 use dm_compare::are_equal;
 use dm_network::Network;
@@ -151,9 +151,7 @@ impl KeptCost {
     {
         net.sound();
         let penalty = penalty as u128;
-        self.lateness
-            + penalty * dropped_among(net, rows, &self.changes)
-            + penalty * missed_among(net, rows, &self.times, &self.changes)
+        self.lateness + penalty * penalized_among(net, rows, &self.times, &self.changes)
     }
 
     /// What the times cost where the penalty is charged for the flagged activities, which are changes, and for each change that
@@ -248,17 +246,19 @@ fn charged_among(net: &Network, charged: &[bool], places: &[usize]) -> Cost
     total
 }
 
-/// The weight of the dropped changes among these whose heads have not passed.
-fn dropped_among(net: &Network, rows: &Rows, places: &[usize]) -> Cost
+/// The weight of the changes among these that cost the penalty.
+fn penalized_among(net: &Network, rows: &Rows, times: &[Secs], places: &[usize]) -> Cost
     requires sized { IsSized net.now rows.now }
+    requires as_many { length times.now ≡ length net.now.events }
+    requires early { AreBelowLimit times.now }
     requires within { AreWithin net.now places.now }
-    ensures weight { result ≡ sum_by (dropped_weight net.now rows.now) places.now }
+    ensures weight { result ≡ sum_by (penalized_weight net.now rows.now times.now) places.now }
     ensures limit { result ≤ ACTIVITIES * WEIGHT }
 {
     net.sound();
     let mut total = 0;
     for a in places {
-        total += dropped_weight(net, rows, *a) as u128;
+        total += penalized_weight(net, rows, times, *a) as u128;
     }
     total
 }
