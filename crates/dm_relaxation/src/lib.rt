@@ -6,9 +6,10 @@
 //! exactly where the held activities have a cycle. Rounds may begin from any times that are not too late ([`raise`]), and
 //! from scratch they give the least timetable of rows ([`least_holding`]). Times that were least may also follow what binds as it
 //! changes ([`follow`]): the events that this may concern begin anew from their floors, and rounds from there. A [`Timetable`] is
-//! kept so with rows ([`keep_up`]). What a timetable costs is added up place by place, or
-//! kept while its times change ([`KeptCost`]), which costs what has changed and a look at each change. Memory is taken once, for a timetable and
-//! for marks. Every time is below 2^38 seconds, and every cost below 2^100 thousandths of passenger seconds.
+//! kept so with rows ([`keep_up`]), where a clock looks at the events that are scheduled before it. What a timetable costs is added
+//! up place by place, or kept while its times change ([`KeptCost`]): the times are compared with those of before by blocks, and
+//! each change of trains is looked at. Memory is taken once, for a timetable and for marks. Every time is
+//! below 2^38 seconds, and every cost below 2^100 thousandths of passenger seconds.
 #![tactic(auto)]
 
 mod costing;
