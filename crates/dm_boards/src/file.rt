@@ -3,9 +3,8 @@ ghost use Rattle.std.specs.Prelude.{◌≡◌, ◌≤◌};
 ghost use Rattle.dm_outside.specs.Faults.{HasRisen};
 
 use dm_outside::{Board, Failed};
-use std::alloc::Global;
-use std::collections::HashMap;
-use std::fmt::Write as _;
+use itoa::Buffer;
+use std::alloc::{AllocError, Global};
 use std::fs::{File, OpenOptions};
 use std::io::Write as _;
 use std::marker::Model;
@@ -22,11 +21,11 @@ pub struct FileBoard<R: Files<File = File> + Drop> {
     /// The file, once it is open.
     file: Option<File>,
 
-    /// The time in seconds that stands there of each event id.
-    times: HashMap<u32, u64>,
+    /// The event ids that stand there, ascending, each with its time in seconds.
+    times: Vec<(u32, u64)>,
 
     /// The lines of one show.
-    lines: String,
+    lines: Vec<u8>,
     faults: u64,
 }
 
@@ -56,8 +55,8 @@ impl<R: Files<File = File> + Drop> FileBoard<R> {
             path,
             stop,
             file: None,
-            times: HashMap::new(alloc),
-            lines: String::new(alloc),
+            times: Vec::new(alloc),
+            lines: Vec::new(alloc),
             faults: 0,
         }
     }
@@ -67,28 +66,42 @@ impl<R: Files<File = File> + Drop> FileBoard<R> {
         ensures { self.new ≡ self.old }
     {
         self.lines.clear();
-        put_lines(&mut self.lines, changes)?;
+        let Ok(()) = put_lines(&mut self.lines, changes) else {
+            return Err(Failed);
+        };
         append(&self.files, &self.path, &mut self.file, &self.lines)?;
-        keep(&mut self.times, changes)
+        let Ok(()) = keep(&mut self.times, changes) else {
+            return Err(Failed);
+        };
+        Ok(())
     }
 }
 
-/// The lines of the changes.
-fn put_lines(lines: &mut String, changes: &[(u32, u64)]) -> Result<(), Failed> {
+/// Puts the lines of the changes behind others.
+fn put_lines(lines: &mut Vec<u8>, changes: &[(u32, u64)]) -> Result<(), AllocError> {
+    let mut digits = Buffer::new();
     for (event, time) in changes {
-        let Ok(()) = write!(lines, "{event}; {time}\n") else {
-            return Err(Failed);
-        };
+        lines.extend_from_slice(digits.format(*event).as_bytes())?;
+        lines.extend_from_slice(b"; ")?;
+        lines.extend_from_slice(digits.format(*time).as_bytes())?;
+        lines.push(b'\n')?;
     }
     Ok(())
 }
 
-/// Keeps the changes in the map of what is shown.
-fn keep(times: &mut HashMap<u32, u64>, changes: &[(u32, u64)]) -> Result<(), Failed> {
+/// Keeps the changes among what is shown.
+fn keep(times: &mut Vec<(u32, u64)>, changes: &[(u32, u64)]) -> Result<(), AllocError> {
     for (event, time) in changes {
-        let Ok(_) = times.insert(*event, *time) else {
-            return Err(Failed);
-        };
+        keep_time(times, *event, *time)?;
+    }
+    Ok(())
+}
+
+/// Keeps the time of an event among those that are shown.
+fn keep_time(times: &mut Vec<(u32, u64)>, event: u32, time: u64) -> Result<(), AllocError> {
+    match times.binary_search_by_key(&event, |shown| shown.0) {
+        Ok(at) => times[at].1 = time,
+        Err(at) => times.insert(at, (event, time))?,
     }
     Ok(())
 }
@@ -105,12 +118,12 @@ fn open<R: Files<File = File>>(files: &R, path: &str) -> Result<File, Failed> {
     Ok(file)
 }
 
-/// Appends a text to the file, which is opened where it is not open yet.
+/// Appends bytes to the file, which is opened where it is not open yet.
 fn append<R: Files<File = File>>(
     files: &R,
     path: &str,
     file: &mut Option<File>,
-    text: &str,
+    bytes: &[u8],
 ) -> Result<(), Failed> {
     if file.is_none() {
         *file = Some(open(files, path)?);
@@ -118,7 +131,7 @@ fn append<R: Files<File = File>>(
     let Some(file) = file else {
         return Err(Failed);
     };
-    let Ok(()) = file.write_all(text.as_bytes()) else {
+    let Ok(()) = file.write_all(bytes) else {
         return Err(Failed);
     };
     Ok(())
@@ -151,6 +164,10 @@ impl<R: Files<File = File> + Drop> Board for FileBoard<R> {
     }
 
     fn shown(&self, event: u32) -> Option<u64> {
-        self.times.get(&event).copied()
+        let at = self
+            .times
+            .binary_search_by_key(&event, |shown| shown.0)
+            .ok()?;
+        Some(self.times[at].1)
     }
 }
