@@ -46,21 +46,45 @@ pub struct Choices {
 }
 
 impl Choices {
-    /// The choices that are open.
-    pub fn of<L: Ledger>(alloc: Global, mover: &mut Mover<'_, L>) -> Result<Choices, AllocError> {
-        let net = mover.net();
-        let mut choices = Choices {
+    /// No choices yet.
+    pub fn new(alloc: Global) -> Choices {
+        Choices {
             sides: Vec::new(alloc),
             acts: Vec::new(alloc),
-            numbers: vec![in alloc; None; net.activities()]?,
-        };
+            numbers: Vec::new(alloc),
+        }
+    }
+
+    /// Takes up the choices that are open, where there were none.
+    pub fn fill<L: Ledger>(&mut self, mover: &mut Mover<'_, L>) -> Result<(), AllocError> {
+        let net = mover.net();
+        for _ in 0..net.activities() {
+            self.numbers.push(None)?;
+        }
+        self.add_changes(mover, net)?;
+        self.add_pairs(mover, net)
+    }
+
+    fn add_changes<L: Ledger>(
+        &mut self,
+        mover: &Mover<'_, L>,
+        net: &Network,
+    ) -> Result<(), AllocError> {
         for a in 0..net.activities() {
-            choices.add_change(mover, net, a)?;
+            self.add_change(mover, net, a)?;
         }
+        Ok(())
+    }
+
+    fn add_pairs<L: Ledger>(
+        &mut self,
+        mover: &mut Mover<'_, L>,
+        net: &Network,
+    ) -> Result<(), AllocError> {
         for p in 0..net.pairs() {
-            choices.add_pair(mover, net, p)?;
+            self.add_pair(mover, net, p)?;
         }
-        Ok(choices)
+        Ok(())
     }
 
     fn add_change<L: Ledger>(

@@ -1,4 +1,5 @@
 //! A tree that grows where its bound is least.
+ghost use Rattle.std.specs.Prelude.{◌≤◌, length};
 
 use crate::choices::Side;
 use crate::diving::Found;
@@ -42,9 +43,8 @@ struct Gains {
 }
 
 #[derive(Drop)]
-struct Tree<'a, L: Ledger> {
+struct Tree {
     alloc: Global,
-    scout: Scout<'a, L>,
     nodes: Vec<Grown>,
     waiting: BinaryHeap<Waiting>,
     gains: Vec<Option<Gains>>,
@@ -61,20 +61,20 @@ struct Tree<'a, L: Ledger> {
 /// stands at the root.
 pub fn grow<L: Ledger>(
     alloc: Global,
-    scout: Scout<'_, L>,
+    scout: &mut Scout<'_, L>,
     best: Found,
     budget: u64,
 ) -> Result<Guide, AllocError> {
-    let mut tree = Tree::new(alloc, scout, best);
-    tree.guide(budget)
+    let mut tree = Tree::new(alloc, scout.cost(), best);
+    tree.guide(scout, budget)
 }
 
-impl<'a, L: Ledger> Tree<'a, L> {
-    fn new(alloc: Global, scout: Scout<'a, L>, best: Found) -> Tree<'a, L> {
-        let gap = best.cost.saturating_sub(scout.cost());
+impl Tree {
+    /// No node yet. The root costs this much.
+    fn new(alloc: Global, root: Cost, best: Found) -> Tree {
+        let gap = best.cost.saturating_sub(root);
         Tree {
             alloc,
-            scout,
             nodes: Vec::new(alloc),
             waiting: BinaryHeap::new(alloc),
             gains: Vec::new(alloc),
@@ -85,16 +85,20 @@ impl<'a, L: Ledger> Tree<'a, L> {
     }
 
     /// Grows from the root, and says what the tree says.
-    fn guide(&mut self, budget: u64) -> Result<Guide, AllocError> {
-        for _ in 0..self.scout.choices().len() {
+    fn guide<L: Ledger>(
+        &mut self,
+        scout: &mut Scout<'_, L>,
+        budget: u64,
+    ) -> Result<Guide, AllocError> {
+        for _ in 0..scout.choices().len() {
             self.gains.push(None)?;
         }
-        self.add(0, 0, 0, Side::First)?;
-        self.grow(budget)?;
-        self.told()
+        self.add(scout, 0, 0, 0, Side::First)?;
+        self.grow(scout, budget)?;
+        self.told(scout)
     }
 
-    fn grow(&mut self, budget: u64) -> Result<(), AllocError> {
+    fn grow<L: Ledger>(&mut self, scout: &mut Scout<'_, L>, budget: u64) -> Result<(), AllocError> {
         for _ in 0..budget {
             let Some(next) = self.waiting.pop() else {
                 return Ok(());
@@ -103,28 +107,43 @@ impl<'a, L: Ledger> Tree<'a, L> {
             if !room {
                 return Ok(());
             }
-            self.expand(next.node)?;
+            self.expand(scout, next.node)?;
         }
         Ok(())
     }
 
     /// Branches at a leaf, if it costs less than the best choices.
-    fn expand(&mut self, node: usize) -> Result<(), AllocError> {
+    fn expand<L: Ledger>(
+        &mut self,
+        scout: &mut Scout<'_, L>,
+        node: usize,
+    ) -> Result<(), AllocError> {
         let Some(at) = self.nodes.get(node).copied() else {
             return Ok(());
         };
         if at.cost >= self.best.cost {
             return Ok(());
         }
-        self.go_to(node)?;
-        let violated = Vec::from_slice(self.alloc, self.scout.violated())?;
-        self.try_new(&violated, at.cost)?;
-        let Some(number) = self.choice_of(&violated, at.cost) else {
+        self.go_to(scout, node)?;
+        let violated = Vec::from_slice(self.alloc, scout.violated())?;
+        self.expand_here(scout, node, at, &violated)
+    }
+
+    /// Branches at the leaf where the scout stands, on one of these choices that are violated there.
+    fn expand_here<L: Ledger>(
+        &mut self,
+        scout: &mut Scout<'_, L>,
+        node: usize,
+        at: Grown,
+        violated: &[usize],
+    ) -> Result<(), AllocError> {
+        self.try_new(scout, violated, at.cost)?;
+        let Some(number) = self.choice_of(violated, at.cost) else {
             return Ok(());
         };
         let below = self.nodes.len();
-        let first = self.child(node, at, number, Side::First)?;
-        let second = self.child(node, at, number, Side::Second)?;
+        let first = self.child(scout, node, at, number, Side::First)?;
+        let second = self.child(scout, node, at, number, Side::Second)?;
         self.set_gains(number, first, second);
         if let Some(grown) = self.nodes.get_mut(node) {
             grown.choice = Some(number);
@@ -134,11 +153,16 @@ impl<'a, L: Ledger> Tree<'a, L> {
     }
 
     /// Tries both sides of each choice that was never violated before.
-    fn try_new(&mut self, violated: &[usize], cost: Cost) -> Result<(), AllocError> {
+    fn try_new<L: Ledger>(
+        &mut self,
+        scout: &mut Scout<'_, L>,
+        violated: &[usize],
+        cost: Cost,
+    ) -> Result<(), AllocError> {
         for i in violated {
             if let Some(None) = self.gains.get(*i) {
-                let first = self.scout.cost_with(*i, Side::First)?;
-                let second = self.scout.cost_with(*i, Side::Second)?;
+                let first = scout.cost_with(*i, Side::First)?;
+                let second = scout.cost_with(*i, Side::Second)?;
                 self.set_gains(*i, first.saturating_sub(cost), second.saturating_sub(cost));
             }
         }
@@ -179,17 +203,18 @@ impl<'a, L: Ledger> Tree<'a, L> {
     }
 
     /// Adds a child below the node where the scout stands, and says what it adds to the cost.
-    fn child(
+    fn child<L: Ledger>(
         &mut self,
+        scout: &mut Scout<'_, L>,
         parent: usize,
         at: Grown,
         number: usize,
         side: Side,
     ) -> Result<Cost, AllocError> {
-        let gain = if self.scout.decide(number, side)? {
-            self.add(parent, at.depth.saturating_add(1), number, side)?;
-            let cost = self.scout.cost();
-            self.scout.undecide(number)?;
+        let gain = if scout.decide(number, side)? {
+            self.add(scout, parent, at.depth.saturating_add(1), number, side)?;
+            let cost = scout.cost();
+            scout.undecide(number)?;
             cost.saturating_sub(at.cost)
         } else {
             self.nodes.push(Grown {
@@ -207,15 +232,16 @@ impl<'a, L: Ledger> Tree<'a, L> {
     }
 
     /// Adds the node where the scout stands: where nothing is violated it may be the best, else it may be branched on.
-    fn add(
+    fn add<L: Ledger>(
         &mut self,
+        scout: &Scout<'_, L>,
         parent: usize,
         depth: usize,
         number: usize,
         side: Side,
     ) -> Result<(), AllocError> {
-        let cost = self.scout.cost();
-        let choice = self.scout.violated().first().copied();
+        let cost = scout.cost();
+        let choice = scout.violated().first().copied();
         let node = self.nodes.len();
         self.nodes.push(Grown {
             parent,
@@ -230,7 +256,7 @@ impl<'a, L: Ledger> Tree<'a, L> {
             return Ok(());
         }
         if choice.is_none() {
-            let path = Vec::from_slice(self.alloc, self.scout.path())?;
+            let path = Vec::from_slice(self.alloc, scout.path())?;
             self.best = Found { path, cost };
         } else {
             let bands_above = Cost::MAX - self.band(cost);
@@ -245,14 +271,36 @@ impl<'a, L: Ledger> Tree<'a, L> {
     }
 
     /// Brings the scout to a node, through what both places have in common.
-    fn go_to(&mut self, node: usize) -> Result<(), AllocError> {
+    fn go_to<L: Ledger>(
+        &mut self,
+        scout: &mut Scout<'_, L>,
+        node: usize,
+    ) -> Result<(), AllocError> {
         let way = self.way_to(node)?;
         let common = common_front(&self.here, &way);
-        for _ in common..self.here.len() {
-            self.go_up()?;
+        self.go_back_to(scout, common)?;
+        self.go_along(scout, &way[common..])
+    }
+
+    /// Goes up until the scout stands so far below the root.
+    fn go_back_to<L: Ledger>(
+        &mut self,
+        scout: &mut Scout<'_, L>,
+        depth: usize,
+    ) -> Result<(), AllocError> {
+        for _ in depth..self.here.len() {
+            self.go_up(scout)?;
         }
-        for next in way.iter().skip(common) {
-            self.go_down(*next)?;
+        Ok(())
+    }
+
+    fn go_along<L: Ledger>(
+        &mut self,
+        scout: &mut Scout<'_, L>,
+        way: &[usize],
+    ) -> Result<(), AllocError> {
+        for next in way {
+            self.go_down(scout, *next)?;
         }
         Ok(())
     }
@@ -275,31 +323,35 @@ impl<'a, L: Ledger> Tree<'a, L> {
         Ok(way)
     }
 
-    fn go_up(&mut self) -> Result<(), AllocError> {
+    fn go_up<L: Ledger>(&mut self, scout: &mut Scout<'_, L>) -> Result<(), AllocError> {
         let Some(node) = self.here.pop() else {
             return Ok(());
         };
         match self.nodes.get(node) {
-            Some(grown) => self.scout.undecide(grown.number),
+            Some(grown) => scout.undecide(grown.number),
             None => Ok(()),
         }
     }
 
-    fn go_down(&mut self, node: usize) -> Result<(), AllocError> {
+    fn go_down<L: Ledger>(
+        &mut self,
+        scout: &mut Scout<'_, L>,
+        node: usize,
+    ) -> Result<(), AllocError> {
         let Some(grown) = self.nodes.get(node).copied() else {
             return Ok(());
         };
-        let _decided = self.scout.decide(grown.number, grown.side)?;
+        let _decided = scout.decide(grown.number, grown.side)?;
         self.here.push(node)?;
         Ok(())
     }
 
     /// What the tree says.
-    fn told(&self) -> Result<Guide, AllocError> {
+    fn told<L: Ledger>(&self, scout: &Scout<'_, L>) -> Result<Guide, AllocError> {
         let mut hints = Vec::new(self.alloc);
         for grown in &self.nodes {
             let choice = match grown.choice {
-                Some(i) => self.scout.choice(i),
+                Some(i) => scout.choice(i),
                 None => None,
             };
             hints.push(Hint {
@@ -315,7 +367,9 @@ impl<'a, L: Ledger> Tree<'a, L> {
 }
 
 /// How many nodes two ways have in common at the front.
-fn common_front(one: &[usize], other: &[usize]) -> usize {
+fn common_front(one: &[usize], other: &[usize]) -> usize
+    ensures { result ≤ length other.now }
+{
     let shorter = one.len().min(other.len());
     for k in 0..shorter {
         if one[k] != other[k] {

@@ -3,7 +3,6 @@ ghost use Rattle.std.specs.Prelude.{◌≡◌, ◌<◌, ◌≤◌};
 ghost use Rattle.dm_base.specs.declared.limits.TheConstants.{PENALTY};
 ghost use Rattle.dm_rows.specs.Rows.{IsSized};
 
-use crate::choices::Choices;
 use crate::diving::{Found, dive};
 use crate::growing::grow;
 use crate::moving::Mover;
@@ -58,19 +57,17 @@ fn on_mover<L: Ledger>(
     best: Cost,
     budget: u64,
 ) -> Result<Guide, AllocError> {
-    let mut mover = mover;
-    let choices = Choices::of(alloc, &mut mover)?;
-    on_scout(alloc, Scout::new(alloc, mover, choices), best, budget)
+    let mut scout = Scout::new(alloc, mover);
+    on_scout(alloc, &mut scout, best, budget)
 }
 
 fn on_scout<L: Ledger>(
     alloc: Global,
-    scout: Scout<'_, L>,
+    scout: &mut Scout<'_, L>,
     best: Cost,
     budget: u64,
 ) -> Result<Guide, AllocError> {
-    let mut scout = scout;
-    let found = found_by(alloc, &mut scout, best, budget)?;
+    let found = found_by(alloc, scout, best, budget)?;
     grow(alloc, scout, found, budget)
 }
 

@@ -34,10 +34,10 @@ pub struct Scout<'a, L: Ledger> {
 
 impl<'a, L: Ledger> Scout<'a, L> {
     /// A scout at the root, which has looked at nothing.
-    pub fn new(alloc: Global, mover: Mover<'a, L>, choices: Choices) -> Scout<'a, L> {
+    pub fn new(alloc: Global, mover: Mover<'a, L>) -> Scout<'a, L> {
         Scout {
             mover,
-            choices,
+            choices: Choices::new(alloc),
             sides: Vec::new(alloc),
             seen: Vec::new(alloc),
             violated: Vec::new(alloc),
@@ -47,16 +47,27 @@ impl<'a, L: Ledger> Scout<'a, L> {
         }
     }
 
-    /// Looks at all events and choices for the first time.
+    /// Takes up the choices, and looks at all of them and all events for the first time.
     pub fn look_at_all(&mut self) -> Result<(), AllocError> {
+        self.choices.fill(&mut self.mover)?;
+        self.see_events()?;
+        self.leave_undecided()?;
+        self.judge_all()
+    }
+
+    fn see_events(&mut self) -> Result<(), AllocError> {
         for event in 0..self.mover.net().events() {
             self.seen.push(self.mover.time(event))?;
         }
+        Ok(())
+    }
+
+    fn leave_undecided(&mut self) -> Result<(), AllocError> {
         for _ in 0..self.choices.len() {
             self.sides.push(None)?;
             self.places.push(None)?;
         }
-        self.judge_all()
+        Ok(())
     }
 
     fn judge_all(&mut self) -> Result<(), AllocError> {

@@ -194,16 +194,32 @@ impl Windows {
     /// Searches depth first, the cheaper side first, below the best cost.
     fn search<L: Ledger>(&mut self, scout: &mut Scout<'_, L>) -> Result<(), AllocError> {
         let mut branchings = Vec::new(self.alloc);
+        self.search_along(scout, &mut branchings)
+    }
+
+    fn search_along<L: Ledger>(
+        &mut self,
+        scout: &mut Scout<'_, L>,
+        branchings: &mut Vec<Branching>,
+    ) -> Result<(), AllocError> {
         for _ in 0..BRANCHINGS {
-            let branched = self.branch(scout, &mut branchings)?;
-            if !branched && !self.turn(scout, &mut branchings)? {
+            if !self.goes_on(scout, branchings)? {
                 return Ok(());
             }
         }
-        for branching in branchings.iter().rev() {
-            undo(scout, *branching)?;
+        undo_all(scout, branchings)
+    }
+
+    /// Branches, or turns where that brings nothing. It is false where no side is left.
+    fn goes_on<L: Ledger>(
+        &mut self,
+        scout: &mut Scout<'_, L>,
+        branchings: &mut Vec<Branching>,
+    ) -> Result<bool, AllocError> {
+        if self.branch(scout, branchings)? {
+            return Ok(true);
         }
-        Ok(())
+        self.turn(scout, branchings)
     }
 
     /// Branches where the scout stands, or takes what stands there where nothing is violated.
@@ -304,6 +320,17 @@ impl Windows {
         }
         self.note_sides(scout)
     }
+}
+
+/// Undoes branchings, the last one first.
+fn undo_all<L: Ledger>(
+    scout: &mut Scout<'_, L>,
+    branchings: &[Branching],
+) -> Result<(), AllocError> {
+    for branching in branchings.iter().rev() {
+        undo(scout, *branching)?;
+    }
+    Ok(())
 }
 
 fn undo<L: Ledger>(scout: &mut Scout<'_, L>, branching: Branching) -> Result<(), AllocError> {

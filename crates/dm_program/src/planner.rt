@@ -6,8 +6,8 @@ ghost use Rattle.dm_base.specs.declared.limits.TheConstants.{PENALTY};
 use dm_desk::Planner;
 use dm_network::Network;
 use dm_rows::Snapshot;
-use dm_search::finish;
-use dm_tree::{Plan, assemble};
+use dm_search::plan;
+use dm_tree::Plan;
 use std::alloc::{AllocError, Global};
 
 /// Searches in the thread that asks for a plan.
@@ -26,20 +26,6 @@ impl Planner for OwnThread<'_> {
     ghost value = { λ p. record { net = p.net.now; penalty = p.penalty } };
 
     fn plan(&self, snapshot: &Snapshot, budget: u64) -> Result<Plan, AllocError> {
-        self.net.sound();
-        // No leaves are those of a tree, so that only memory may be missing.
-        let Ok(unsearched) = assemble(self.alloc, Vec::new(self.alloc)) else {
-            return Err(AllocError);
-        };
-        let choices = Vec::new(self.alloc);
-        finish(
-            self.alloc,
-            self.net,
-            self.penalty,
-            snapshot,
-            unsearched,
-            choices,
-            budget,
-        )
+        plan(self.alloc, self.net, self.penalty, snapshot, budget)
     }
 }

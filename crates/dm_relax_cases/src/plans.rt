@@ -6,10 +6,9 @@ ghost use Rattle.dm_rows.specs.Rows.{IsSized};
 use crate::relaxed::{CHANGE, DROP, TURNED, connection, late_rows};
 use dm_network::Network;
 use dm_rows::{Decision, Snapshot};
-use dm_search::finish;
-use dm_search::laws::a_hole_is_a_start;
+use dm_search::plan;
 use dm_times::least;
-use dm_tree::{Mark, Node, Plan, assemble};
+use dm_tree::{Mark, Node, Plan};
 use std::alloc::Global;
 use std::test::Fail;
 
@@ -25,20 +24,8 @@ fn planned(
     requires penalty { penalty ≤ PENALTY }
     requires budget { (1 ≤ budget) × (budget ≤ BUDGET) }
 {
-    net.sound();
-    a_hole_is_a_start();
     let _times = least(alloc, net, &snapshot.rows)?;
-    let partial = assemble(alloc, Vec::new(alloc))?;
-    let plan = finish(
-        alloc,
-        net,
-        penalty,
-        snapshot,
-        partial,
-        Vec::new(alloc),
-        budget,
-    )?;
-    Ok(plan)
+    Ok(plan(alloc, net, penalty, snapshot, budget)?)
 }
 
 /// What a plan says beside its choices and its tree.

@@ -7,6 +7,7 @@ ghost use Rattle.dm_relax_cases.specs.Records.{AreSmallEvents, AreSmallActivitie
 use dm_base::limits::{BOUND, TIME, WEIGHT};
 use dm_base::{ActId, ActKind, ActRow, EventId, EventKind, EventRow, StopId};
 use dm_network::{NetFault, Network};
+use dm_paths::choice_of;
 use dm_relax::{complete, relax};
 use dm_rows::{Choice, Decision, Message, Rows, admit, free_choices, start_rows};
 use std::alloc::{AllocError, Global};
@@ -109,17 +110,7 @@ pub(crate) fn late_rows(alloc: Global, net: &Network) -> Result<Rows, Fail>
 fn decides_one_of(free: &[Choice], decision: Decision) -> bool
     ensures { IsTrue result → Contains free.now (choice_of decision) }
 {
-    let choice = match decision {
-        Decision::Keep(act) | Decision::Drop(act) => Choice::Change(act),
-        Decision::First(i, j) => {
-            if i.0 < j.0 {
-                Choice::Pair(i, j)
-            } else {
-                Choice::Pair(j, i)
-            }
-        }
-    };
-    is_one_of(free, choice)
+    is_one_of(free, choice_of(decision))
 }
 
 fn is_one_of(free: &[Choice], choice: Choice) -> bool

@@ -3,6 +3,7 @@ ghost use Rattle.std.specs.Prelude.{ℕ, ◌≡◌, ◌≤◌, List, length, Con
 ghost use Rattle.std.specs.List.{list_any};
 ghost use Rattle.dm_base.specs.declared.limits.TheConstants.{PENALTY, BUDGET};
 ghost use Rattle.dm_rows.specs.Rows.{IsSized};
+ghost use Rattle.dm_rows.specs.Active.{HasNoCycle};
 ghost use Rattle.dm_rows.specs.Cost.{Costs};
 ghost use Rattle.dm_rows.specs.Decide.{IsChoiceList, with_decisions};
 ghost use Rattle.dm_tree.specs.declared.forms.Node.TheVariants.{Open as OpenNode};
@@ -22,11 +23,35 @@ use dm_network::Network;
 use dm_relax::with_decisions;
 use dm_rows::{Decision, Rows, Snapshot};
 use dm_times::{cost, least};
-use dm_tree::{Mark, Node, Partial, Plan, Tree};
+use dm_tree::{Mark, Node, Partial, Plan, Tree, assemble};
 use std::alloc::{AllocError, Global};
 
 /// How often a tree is gone through before the limit is lifted.
 const PASSES: usize = 256;
+
+/// A true plan for the rows of a snapshot, which have no cycle: what [`finish`] makes of a tree of one hole and no choices.
+pub fn plan(
+    alloc: Global,
+    net: &Network,
+    penalty: u64,
+    snapshot: &Snapshot,
+    budget: u64,
+) -> Result<Plan, AllocError>
+    requires sized { IsSized net.now snapshot.now.rows }
+    requires no_cycle { HasNoCycle net.now snapshot.now.rows }
+    requires penalty { penalty ≤ PENALTY }
+    requires budget { (1 ≤ budget) × (budget ≤ BUDGET) }
+    ensures plan { IfOk result (IsTruePlan (whole_task net.now snapshot.now.rows penalty budget)) }
+    ensures entry { IfOk result (λ plan. plan.entry ≡ snapshot.now.entry) }
+{
+    net.sound();
+    // No leaves are those of a tree, so that only memory may be missing.
+    let Ok(unsearched) = assemble(alloc, Vec::new(alloc)) else {
+        return Err(AllocError);
+    };
+    let choices = Vec::new(alloc);
+    finish(alloc, net, penalty, snapshot, unsearched, choices, budget)
+}
 
 /// A true plan for the rows of a snapshot, with the snapshot's entry and a tree of at most `budget` nodes, of which there are
 /// 1 to 16,384. It searches each hole of the tree that it is given, and each open leaf while there is room for two nodes more:

@@ -14,6 +14,7 @@ use dm_base::{Cost, Steps};
 use dm_evaluate::Evaluator;
 use dm_graph::search::Cyclic;
 use dm_network::Network;
+use dm_paths::choice_of;
 use dm_rows::{Choice, Decision, Snapshot};
 use std::alloc::{AllocError, Global};
 use std::marker::Brand;
@@ -192,7 +193,7 @@ fn undecide_with<L: Ledger>(net: &Network, evaluator: &mut Evaluator, last: Deci
     ensures path { evaluator.new.path ≡ take (length evaluator.old.path - 1) evaluator.old.path }
 {
     let mut steps = Steps::<L>::new(blank);
-    evaluator.undecide(net, decided(last), &mut steps);
+    evaluator.undecide(net, choice_of(last), &mut steps);
 }
 
 /// Makes the decisions of a path of which the evaluator's is a front.
@@ -222,7 +223,7 @@ pub(crate) fn make(net: &Network, evaluator: &mut Evaluator, decision: Decision)
     ensures evaluator { IsEvaluatorOf net.now evaluator.new }
     ensures rows { evaluator.new.rows ≡ evaluator.old.rows }
 {
-    if !evaluator.is_open(net, decided(decision)) {
+    if !evaluator.is_open(net, choice_of(decision)) {
         return false;
     }
     make_open::<Brand>(net, evaluator, decision, Blank::new(1))
@@ -267,21 +268,5 @@ fn decide_with<L: Ledger>(
     match evaluator.decide(net, decision, &mut steps) {
         Ok(()) => Ok(()),
         Err(Cyclic) => Err(Cyclic),
-    }
-}
-
-/// The choice that a decision decides. Of a pair the smaller id stands first.
-fn decided(decision: Decision) -> Choice
-    ensures { result ≡ choice_of decision }
-{
-    match decision {
-        Decision::Keep(a) | Decision::Drop(a) => Choice::Change(a),
-        Decision::First(first, second) => {
-            if first.0 < second.0 {
-                Choice::Pair(first, second)
-            } else {
-                Choice::Pair(second, first)
-            }
-        }
     }
 }
