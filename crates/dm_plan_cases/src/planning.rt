@@ -10,10 +10,9 @@ use dm_base::limits::{BUDGET, PENALTY};
 use dm_network::Network;
 use dm_rows::{Message, Refusal, Rows, Snapshot, admit};
 use dm_samples::rows_on_time;
-use dm_search::finish;
-use dm_search::laws::a_hole_is_a_start;
+use dm_search::plan;
 use dm_times::least;
-use dm_tree::{Plan, assemble};
+use dm_tree::Plan;
 use std::alloc::Global;
 use std::marker::Model;
 
@@ -93,18 +92,6 @@ fn planned(
     requires penalty { penalty ≤ PENALTY }
     requires budget { (1 ≤ budget) × (budget ≤ BUDGET) }
 {
-    net.sound();
-    a_hole_is_a_start();
     let _times = least(alloc, net, &snapshot.rows)?;
-    let partial = assemble(alloc, Vec::new(alloc))?;
-    let plan = finish(
-        alloc,
-        net,
-        penalty,
-        snapshot,
-        partial,
-        Vec::new(alloc),
-        budget,
-    )?;
-    Ok(plan)
+    Ok(plan(alloc, net, penalty, snapshot, budget)?)
 }
