@@ -170,6 +170,13 @@ impl KeptCost {
             + penalty * charged_among(net, charged, &self.changes)
             + penalty * missed_among(net, rows, &self.times, &self.changes)
     }
+
+    /// The places of the network's changes.
+    pub fn changes(&self) -> &[usize]
+        ensures { result.now ≡ self.now.changes }
+    {
+        &self.changes
+    }
 }
 
 /// Whether two lists of times are the same from a place up to another.

@@ -5,7 +5,7 @@
 //! not risen; rounds are made until nothing changes. That more rounds than there are events have changed something comes
 //! exactly where the held activities have a cycle. Rounds may begin from any times that are not too late ([`raise`]), and
 //! from scratch they give the least timetable of rows ([`least_holding`]). Times that were least may also follow what binds as it
-//! changes ([`follow`]): the events that this may concern begin anew from their floors, and rounds from there. A [`Timetable`] is
+//! changes ([`follow`], after [`hold`]): the events that this may concern begin anew from their floors, and rounds from there. A [`Timetable`] is
 //! kept so with rows ([`keep_up`]), where a clock looks at the events that are scheduled before it. What a timetable costs is added
 //! up place by place, or kept while its times change ([`KeptCost`]): the times are compared with those of before by blocks, and
 //! each change of trains is looked at. Memory is taken once, for a timetable and for marks. Every time is
@@ -14,6 +14,7 @@
 
 mod costing;
 mod following;
+mod holding;
 mod keeping;
 mod kept_cost;
 mod rounds;
@@ -23,6 +24,7 @@ mod timetable;
 
 pub use costing::{comes_too_early, cost_charging, cost_of, flag_dropped, is_dropped_change};
 pub use following::follow;
+pub use holding::hold;
 pub use keeping::keep_up;
 pub use kept_cost::KeptCost;
 pub use rounds::{Cyclic, raise};

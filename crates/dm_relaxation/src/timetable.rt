@@ -200,7 +200,7 @@ impl Timetable {
 }
 
 /// Makes an event stale and due, unless it may keep its time.
-fn make_stale_unless(stays: bool, event: usize, stale: &mut Marks, due: &mut Marks)
+pub(crate) fn make_stale_unless(stays: bool, event: usize, stale: &mut Marks, due: &mut Marks)
     requires stale { event < length stale.old }
     requires due { event < length due.old }
     ensures spreads { Spreads stale.old stale.new due.old due.new }
@@ -223,7 +223,14 @@ fn stays_at(was: Secs, floor: Secs, time: Secs) -> bool
 }
 
 /// Whether the head of an activity may keep its time when this comes to bind or no longer does, or its span changes.
-fn stays_along(was_held: bool, was: Secs, held: bool, span: Secs, from: Secs, to: Secs) -> bool
+pub(crate) fn stays_along(
+    was_held: bool,
+    was: Secs,
+    held: bool,
+    span: Secs,
+    from: Secs,
+    to: Secs,
+) -> bool
     requires short { span ≤ BOUND + DELAY }
     requires was_short { was ≤ BOUND + DELAY }
     requires early { from ≤ 2 ^ 38 }

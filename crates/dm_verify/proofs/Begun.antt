@@ -1,95 +1,107 @@
--- Rounds that begin from times which are least for fewer activities.
-use Rattle.std.proofs.Common.{◌≡◌, ℕ, ◌-◌, ◌^◌, ◌<◌, ◌≤◌, Bool, true, false, List, length, slice_index, refl, sym, subst, inl, inr, arith}
-use Rattle.std.proofs.lemmas.Bool.{cases_Bool, both_ways}
-use Rattle.dm_graph.specs.Graph.{IsLeast, AsksNoMore}
-use Rattle.dm_graph.proofs.Timetables.{less_is_no_later}
-use Rattle.dm_network.specs.Net.{Net, IsWithinLimits, activity_at}
-use Rattle.dm_network.specs.Held.{is_held}
-use Rattle.dm_network.specs.Start.{IsNetwork}
-use Rattle.dm_rows.specs.Rows.{RowsValue, RowsAreWithinLimits}
-use Rattle.dm_rows.specs.Timetable.{floor_of}
-use Rattle.dm_relaxation.specs.Binding.{graph_with, is_due, MayBegin, AreSpansOf, AreFloorsOf}
-use Rattle.dm_relaxation.specs.Inside.Rising.{AreWithin}
-use Rattle.dm_rows.specs.Laws.{EntersNoPassed}
-use Rattle.dm_rows.specs.Timetable.{IsLeastHolding}
+-- Times that follow what is held: how they begin from others, and what is known of rows where they are least.
+use Rattle.std.proofs.Common.{◌≡◌, ℕ, ◌^◌, ◌<◌, ◌⊎◌, Bool, true, false, List, length, slice_index, refl, sym, subst, ◌∙◌, inl, inr, arith, ap, replicate}
+use Rattle.std.proofs.lemmas.Bool.{both_ways, cases_lt}
+use Rattle.std.proofs.lemmas.List.{length-replicate, get_or-replicate, get_or_past}
 use Rattle.dm_graph.specs.Arcs.{HasNoCycle}
-use Rattle.dm_network.specs.Held.{arcs_of, HasNoCycleOf}
-use Rattle.dm_relaxation.specs.Binding.{AreFlags}
-use Rattle.dm_relaxation.proofs.OfRows.{floor_is_within, times_are_below, least_holding_rows, no_cycle_of_rows, cycle_of_rows}
-use Rattle.dm_verify.specs.Inside.Timetables.{KnownValue, IsKnown, AreWithinFlags}
-use Rattle.dm_relaxation.proofs.OfRows.{all_within}
+use Rattle.dm_graph.specs.Graph.{IsLeast}
+use Rattle.dm_graph.proofs.Timetables.{same_is_least_alike}
+use Rattle.dm_network.specs.Net.{Net, IsWithinLimits, activity_at}
+use Rattle.dm_network.specs.Held.{arcs_of, is_held, HasNoCycleOf}
+use Rattle.dm_network.specs.Start.{IsNetwork}
+use Rattle.dm_rows.specs.Laws.{EntersNoPassed}
+use Rattle.dm_rows.specs.Rows.{RowsValue, RowsAreWithinLimits}
+use Rattle.dm_rows.specs.Timetable.{floor_of, IsLeastHolding}
+use Rattle.dm_relaxation.specs.Binding.{graph_with, AreFlags, AreSpansOf, AreFloorsOf, AreBelowLimit}
+use Rattle.dm_relaxation.specs.Timetables.{AreAtMost}
+use Rattle.dm_relaxation.specs.Following.{Follows}
+use Rattle.dm_marks.specs.Marked.{is_marked}
+use Rattle.dm_relaxation.proofs.OfRows.{times_are_below, least_holding_rows, no_cycle_of_rows, cycle_of_rows}
+use Rattle.dm_relaxation.proofs.Renewing.{least_follows}
+use Rattle.dm_relaxation.proofs.Spreading.{true_false}
+use Rattle.dm_verify.specs.Inside.Timetables.{KnownValue, IsKnown, TimetableValue, IsTimetableOf, IsRoomOf, IsLeastNow, AreOfRows, KeepsSpans}
 
-module _ (net : Net) (rows : RowsValue) (spans : List ℕ) where
-  -- for more activities, where the tails of those that were added are due
-  pub may_begin : (known : KnownValue) (held due : List Bool) → IsKnown net rows spans known → AreWithinFlags known.held held →
-      ((a : ℕ) → a < length net.activities → is_held held a ≡ true → is_held known.held a ≡ false → is_due due (activity_at net a).tail ≡ true) →
-      MayBegin (graph_with net held spans (floor_of net rows)) known.times due
-  may_begin known held due is within added =
-      let flags = is.flags in
-      let asks : AsksNoMore (graph_with net known.held spans (floor_of net rows)) (graph_with net held spans (floor_of net rows)) =
-      record {
-        same_events = refl;
-        floors = λ e below. omega arith;
-        binds = λ a b. record {
-          binds = record { is_arc = b.is_arc; is_held = within a (let l = b.is_arc in omega (arith, l, flags)) b.is_held; from_event = b.from_event; to_event = b.to_event };
-          same_tail = refl;
-          same_head = refl;
-        };
-        spans = λ a b. omega arith;
-      } in
-      record {
-        above = λ e below. is.least.meets.above e below;
-        early = λ y meets e below. less_is_no_later (graph_with net known.held spans (floor_of net rows)) (graph_with net held spans (floor_of net rows)) asks (slice_index known.times) y is.least meets e below;
-        met = λ a binds no_due. elim (cases_Bool (is_held known.held a)) [
-          | inl before ↦ is.least.meets.along a (record { is_arc = binds.is_arc; is_held = before; from_event = binds.from_event; to_event = binds.to_event })
-          | inr new ↦ absurd (both_ways (is_due due (activity_at net a).tail) no_due (added a binds.is_arc binds.is_held new))
-        ];
-      }
+-- times that are least for other activities follow what is held, where the heads of what differs are stale
+pub begins_again : (net : Net) (before held : List Bool) (spans floors times : List ℕ) (stale : List Bool) →
+    IsLeast (graph_with net before spans (slice_index floors)) (slice_index times) →
+    ((a : ℕ) → a < length net.activities → (is_held held a ≡ is_held before a) ⊎ (is_marked stale (activity_at net a).head ≡ true)) →
+    Follows net held spans floors times stale
+begins_again net before held spans floors times stale least heads = record {
+  held_before = before;
+  spans_before = spans;
+  floor_before = slice_index floors;
+  least = least;
+  floors_kept = λ e below fresh. inl (omega arith);
+  above = λ e below fresh. least.meets.above e below;
+  held_kept = λ a binds fresh tight. (same a binds.is_arc fresh ∙ binds.is_held, omega arith);
+  met = λ a binds fresh. least.meets.along a (record { is_arc = binds.is_arc; is_held = sym (same a binds.is_arc fresh) ∙ binds.is_held; from_event = binds.from_event; to_event = binds.to_event });
+}
+  where
+    same : (a : ℕ) → a < length net.activities → is_marked stale (activity_at net a).head ≡ false → is_held held a ≡ is_held before a
+    same a below fresh = elim (heads a below) [
+      | inl s ↦ s
+      | inr m ↦ true_false m fresh
+    ]
 
-  pub early_enough : (known : KnownValue) → IsKnown net rows spans known → AreWithin known.times (2 ^ 38)
-  early_enough known is i = let b = is.below i in omega arith
+-- the floors are least where nothing is held
+pub floors_least : (net : Net) (held : List Bool) (spans floors : List ℕ) → ((a : ℕ) → is_held held a ≡ false) → IsLeast (graph_with net held spans (slice_index floors)) (slice_index floors)
+floors_least net held spans floors none = record {
+  meets = record {
+    above = λ e below. omega arith;
+    along = λ a binds. absurd (both_ways (is_held held a) (none a) binds.is_held);
+  };
+  earliest = λ y meets e below. meets.above e below;
+}
 
-  -- what the rounds end with
-  pub now_known : IsNetwork net → IsWithinLimits net → RowsAreWithinLimits rows → AreSpansOf net rows spans → (held : List Bool) (times : List ℕ) →
-      length held ≡ length net.activities → length times ≡ length net.events → IsLeast (graph_with net held spans (floor_of net rows)) (slice_index times) →
-      IsKnown net rows spans (record { held = held; times = times })
-  now_known network few within are held times flags size least = record {
-    flags = flags;
-    as_many = size;
-    least = least;
-    below = times_are_below net rows (is_held held) held spans (λ a below. refl) are network few within times size least;
-  }
+-- the spans and the floors are still those of the rows
+pub still_of_rows : (net : Net) (rows : RowsValue) (old timetable : TimetableValue) → AreOfRows net rows old → KeepsSpans old timetable → AreOfRows net rows timetable
+still_of_rows net rows old timetable are keeps = record {
+  spans = subst (λ (x : List ℕ). AreSpansOf net rows x) (sym keeps.spans) are.spans;
+  floors = subst (λ (x : List ℕ). AreFloorsOf net rows x) (sym keeps.floors) are.floors;
+}
 
-  -- the floors, where nothing is held
-  pub floors_known : IsWithinLimits net → RowsAreWithinLimits rows → (held : List Bool) (times : List ℕ) → length held ≡ length net.activities →
-      ((a : ℕ) → is_held held a ≡ false) → AreFloorsOf net rows times → IsKnown net rows spans (record { held = held; times = times })
-  floors_known few within held times flags none are = record {
-    flags = flags;
-    as_many = are.as_many;
-    least = record {
-      meets = record {
-        above = λ e below. let f = are.each e below in omega arith;
-        along = λ a binds. absurd (both_ways (is_held held a) (none a) binds.is_held);
-      };
-      earliest = λ y meets e below. let f = are.each e below in let a = meets.above e below in omega arith;
-    };
-    below = λ i. let w = all_within times (length net.events) (2 ^ 38 - 1) are.as_many
-        (λ e below. let f = are.each e below in let l = floor_is_within net rows few within e in omega (arith, f, l)) i in omega arith;
-  }
+none_held : (n a : ℕ) → is_held (replicate n false) a ≡ false
+none_held n a = elim (cases_lt a n) [
+  | inl lt ↦ get_or-replicate n a false false lt
+  | inr past ↦ get_or_past (replicate n false) a false (let l = length-replicate n false in omega arith)
+]
 
-  -- what is known of rows that hold the flagged activities
-  module _ (network : IsNetwork net) (are : AreSpansOf net rows spans) (known last : KnownValue) (held : List Bool) (is : IsKnown net rows spans known) (held_is : known.held ≡ held)
-      (last_is : last ≡ known) (holds : ℕ → Bool) (flags : AreFlags net holds held) where
-    its_flags : AreFlags net holds known.held
-    its_flags = subst (AreFlags net holds) (sym held_is) flags
+-- the floors are known where nothing is held
+pub floors_known : (net : Net) (spans floors : List ℕ) (known : KnownValue) (n : ℕ) → n ≡ length net.activities → known.held ≡ replicate n false → known.times ≡ floors →
+    length floors ≡ length net.events → AreAtMost floors (2 ^ 38) → IsKnown net spans floors known
+floors_known net spans floors known n count held times size early = record {
+  flags = ap (λ (f : List Bool). length f) held ∙ (length-replicate n false ∙ count);
+  as_many = ap (λ (x : List ℕ). length x) times ∙ size;
+  least = subst (λ (x : List ℕ). IsLeast (graph_with net known.held spans (slice_index floors)) (slice_index x)) (sym times)
+      (floors_least net known.held spans floors (λ a. ap (λ (f : List Bool). is_held f a) held ∙ none_held n a));
+  early = subst (λ (x : List ℕ). AreAtMost x (2 ^ 38)) (sym times) early;
+}
 
-    pub known_least : EntersNoPassed net rows holds → IsLeastHolding net rows holds last.times
-    known_least enters =
-        subst (λ (k : KnownValue). IsLeastHolding net rows holds k.times) (sym last_is)
-        (least_holding_rows net rows holds known.held spans its_flags are known.times network.formed.ends_are_known is.as_many enters is.least)
+module _ (net : Net) (rows : RowsValue) (t : TimetableValue) (are : AreOfRows net rows t) where
+  over_floors : IsLeastNow net t → IsLeast (graph_with net t.held t.spans (floor_of net rows)) (slice_index t.times)
+  over_floors now =
+      same_is_least_alike (graph_with net t.held t.spans (slice_index t.floors)) (graph_with net t.held t.spans (floor_of net rows)) (slice_index t.times)
+      (record { same_events = refl; floors = λ e below. let f = are.floors.each e below in omega arith; binds = λ a b. record { binds = b; same_tail = refl; same_head = refl }; spans = λ a b. omega arith })
+      (record { same_events = refl; floors = λ e below. let f = are.floors.each e below in omega arith; binds = λ a b. record { binds = b; same_tail = refl; same_head = refl }; spans = λ a b. omega arith })
+      now
 
-    pub known_acyclic : HasNoCycleOf net holds
-    known_acyclic = no_cycle_of_rows net rows holds known.held spans its_flags are network (slice_index known.times) is.least
+  module _ (network : IsNetwork net) where
+    pub now_below : IsWithinLimits net → RowsAreWithinLimits rows → length t.times ≡ length net.events → IsLeastNow net t → AreBelowLimit t.times
+    now_below few within size now = times_are_below net rows (is_held t.held) t.held t.spans (λ a below. refl) are.spans network few within t.times size (over_floors now)
 
-  pub known_cyclic : AreSpansOf net rows spans → (held : List Bool) (holds : ℕ → Bool) → AreFlags net holds held → (HasNoCycle (arcs_of net (is_held held)) → ⊥) → HasNoCycleOf net holds → ⊥
-  known_cyclic are held holds flags some = cycle_of_rows net rows holds held spans flags are some
+    pub now_settled : IsWithinLimits net → RowsAreWithinLimits rows → IsRoomOf net t → IsLeastNow net t → ((e : ℕ) → is_marked t.stale e ≡ false) → IsTimetableOf net t
+    now_settled few within room now none = record {
+      room = room;
+      early = λ i. let b = now_below few within room.times now i in omega arith;
+      follows = least_follows net t.held t.spans t.floors t.times t.stale now;
+      all_due = λ e is. true_false is (none e);
+    }
+
+    module _ (holds : ℕ → Bool) (flags : AreFlags net holds t.held) where
+      pub now_least : EntersNoPassed net rows holds → length t.times ≡ length net.events → IsLeastNow net t → IsLeastHolding net rows holds t.times
+      now_least enters size now = least_holding_rows net rows holds t.held t.spans flags are.spans t.times network.formed.ends_are_known size enters (over_floors now)
+
+      pub now_acyclic : IsLeastNow net t → HasNoCycleOf net holds
+      now_acyclic now = no_cycle_of_rows net rows holds t.held t.spans flags are.spans network (slice_index t.times) (over_floors now)
+
+  pub now_cyclic : (holds : ℕ → Bool) → AreFlags net holds t.held → (HasNoCycle (arcs_of net (is_held t.held)) → ⊥) → HasNoCycleOf net holds → ⊥
+  now_cyclic holds flags some = cycle_of_rows net rows holds t.held t.spans flags are.spans some

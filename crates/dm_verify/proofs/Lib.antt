@@ -3,10 +3,10 @@ pub mod Violating
 pub mod Open
 pub mod Cycles
 pub mod Relaxed
+pub mod Begun
 pub mod Turned
 pub mod Visited
 pub mod Chosen
 pub mod Told
 pub mod Whole
 pub mod Walking
-pub mod Begun

@@ -1,36 +1,28 @@
 -- Choices that are listed, by place; and what is open.
-use Rattle.std.proofs.Common.{◌≡◌, ℕ, Bool, true, false, not, ◌&&◌, List, [], ◌∷◌, ◌++◌, length, map, refl, sym, ap, subst, ◌∙◌, inl, inr, arith}
-use Rattle.std.specs.Prelude.{Contains, filter}
+use Rattle.std.proofs.Common.{◌≡◌, ℕ, Bool, true, false, not, ◌&&◌, List, length, map, refl, ap, subst, ◌∙◌, inl, inr}
+use Rattle.std.specs.Prelude.{filter}
 use Rattle.std.specs.List.{range_with_len}
-use Rattle.std.proofs.lemmas.Bool.{and_parts, and_from, not-true, not_from_false, both_ways}
-use Rattle.std.proofs.lemmas.List.{map-append}
-use Rattle.std.proofs.lemmas.List.Elements.{All-contains, Contains-append_left, Contains-append_right, Contains-append_cases, Contains-push_cases}
-use Rattle.dm_network.specs.Net.{Net, pair_at}
-use Rattle.dm_network.specs.Start.{IsNetwork}
-use Rattle.dm_rows.specs.declared.messages.Choice.{Choice}
+use Rattle.std.proofs.lemmas.Bool.{both_ways}
+use Rattle.std.proofs.lemmas.List.Elements.{Contains-append_cases}
+use Rattle.dm_network.specs.Net.{Net, activity_at, is_change}
+use Rattle.dm_rows.specs.Active.{has_passed}
 use Rattle.dm_rows.specs.declared.messages.Decision.{Decision}
 use Rattle.dm_rows.specs.Cost.{comes_too_early}
-use Rattle.dm_rows.specs.Decide.{IsChoiceList, choice_of, free_choices_of, is_free_change, is_free_pair, change_choice, pair_choice}
-use Rattle.dm_rows.specs.Relax.{is_same_choice, is_decided, is_undecided_change, is_undecided_pair, is_violated_change, is_violated_pair, has_unmet_from}
+use Rattle.dm_rows.specs.Decide.{change_choice, pair_choice}
+use Rattle.dm_rows.specs.Relax.{is_decided, is_undecided_change, is_undecided_pair, is_violated_change, is_violated_pair}
 use Rattle.dm_rows.specs.Rows.{RowsValue}
-use Rattle.dm_paths.proofs.Naming.{from_place, one_change, one_pair, same_itself}
-use Rattle.dm_paths.proofs.Apart.{Apart, listed, apart_append, choice_list_from}
-use Rattle.dm_paths.proofs.Setting.{in_front}
+use Rattle.dm_paths.proofs.Naming.{from_place}
 use Rattle.dm_claims.specs.Claims.{Tells}
-use Rattle.dm_paths.specs.Flags.{is_flagged}
-use Rattle.dm_paths.specs.declared.places.Place.{Place}
 use Rattle.dm_paths.specs.declared.places.Place.TheVariants.{Change, Pair}
 use Rattle.dm_paths.specs.Flags.{AreFlags}
-use Rattle.dm_paths.specs.Decisions.{IsOpen}
-use Rattle.dm_paths.specs.Places.{IsPlaceOf, HasNoPlace, IsWithin, at_place}
-use Rattle.dm_paths.specs.Places.{HasFlagFor}
-use Rattle.dm_paths.proofs.Lists.{mapped, apart_from_once}
 use Rattle.dm_verify.specs.Inside.Violations.{SomeFlagged, NoneFlagged, IsSomeViolated}
 use Rattle.dm_paths.specs.Decisions.{is_unmet_pair}
-use Rattle.dm_paths.proofs.Paths.{one_passes}
 use Rattle.dm_paths.proofs.Violating.{violated_change_by, violated_pair_by}
-use Rattle.dm_tree.specs.Relaxed.{IsViolated}
 use Rattle.dm_paths.proofs.Open.{place_is_listed}
+
+-- what is no change is no undecided one
+pub no_free_change : (net : Net) (rows : RowsValue) (path : List Decision) (a : ℕ) → is_change (activity_at net a).kind ≡ false → is_undecided_change net rows path a ≡ false
+no_free_change net rows path a other = ap (λ (b : Bool). (b && not (has_passed rows (activity_at net a).head)) && not (is_decided path (change_choice net a))) other
 
 -- some choice is violated where a flagged change or a flagged pair is, and none where none is
 module _ (net : Net) (rows : RowsValue) (path : List Decision) (x : List ℕ) (changes pairs : List Bool)

@@ -1,19 +1,19 @@
 -- Which choices a timetable violates, by flags of what is undecided and by rows.
-use Rattle.std.proofs.Common.{◌≡◌, ℕ, ◌+◌, ◌<◌, Bool, true, false, ◌&&◌, List, length, refl, sym, ap, subst, ◌∙◌, inl, inr, arith, slice_index}
-use Rattle.std.specs.Prelude.{◌==◌, Contains}
+use Rattle.std.proofs.Common.{◌≡◌, ℕ, suc, ◌+◌, ◌<◌, Bool, true, false, ◌&&◌, List, [], ◌∷◌, length, get_or, refl, sym, ap, subst, ◌∙◌, inl, inr, arith, slice_index}
+use Rattle.std.specs.Prelude.{◌==◌, sum_by, if◌then◌else◌}
 use Rattle.std.specs.List.{range_with_len}
-use Rattle.std.proofs.lemmas.Bool.{cases_lt, and_parts, and_from, eq-eqb, eqb-true, both_ways, false_from_ne_true}
+use Rattle.std.proofs.lemmas.Bool.{cases_lt, and_parts, and_from, eq-eqb, eqb-true, both_ways, false_from_ne_true, cond-true, cond-false}
+use Rattle.std.proofs.lemmas.List.Sums.{sum_by-cons, get_or-le-sum_by}
 use Rattle.std.proofs.lemmas.List.FromFn.{length-range_with_len, get_or-range_with_len}
-use Rattle.dm_network.specs.Net.{Net, activity_at, pair_at, places_out_of}
-use Rattle.dm_rows.specs.declared.messages.Decision.{Decision}
+use Rattle.dm_network.specs.Net.{Net, activity_at, places_out_of, is_change}
+use Rattle.dm_relaxation.specs.KeptCosts.{AreChangesTo}
 use Rattle.dm_rows.specs.Cost.{comes_too_early}
-use Rattle.dm_rows.specs.Relax.{is_of_pair, is_unmet_from, has_unmet_from, is_undecided_change, is_undecided_pair, is_violated_change, is_violated_pair}
+use Rattle.dm_rows.specs.Relax.{is_of_pair, is_unmet_from, has_unmet_from}
 use Rattle.dm_rows.specs.Rows.{RowsValue}
 use Rattle.dm_paths.proofs.Agreeing.{passes_one}
 use Rattle.dm_network.proofs.EventRows.{leads_out, stands_out}
 use Rattle.dm_paths.specs.Flags.{is_flagged}
-use Rattle.dm_paths.specs.Flags.{AreFlags}
-use Rattle.dm_verify.specs.Inside.Violations.{NoneUnmet, NoneFlagged}
+use Rattle.dm_verify.specs.Inside.Violations.{NoneUnmet, NoneFlagged, NoneFlaggedAmong, AreFlagsOfChanges}
 use Rattle.dm_paths.proofs.Paths.{one_passes}
 use Rattle.dm_paths.proofs.Violating.{in_range, range_below}
 
@@ -50,3 +50,38 @@ next_flagged flags test n none here k lt =
       | inl early ↦ none k early
       | inr past ↦ let is : k ≡ n = omega arith in subst (λ (j : ℕ). (is_flagged flags j && test j) ≡ false) (sym is) here
     ]
+
+sum_by_none : (f : ℕ → ℕ) (xs : List ℕ) → ((k : ℕ) → k < length xs → f (slice_index xs k) ≡ 0) → sum_by f xs ≡ 0
+sum_by_none f [] none = refl
+sum_by_none f (x ∷ xs) none =
+    let here = none 0 (omega arith) in
+    let rest = sum_by_none f xs (λ k lt. none (suc k) (omega arith)) in
+    let all = sum_by-cons f x xs in
+    all ∙ omega (arith, here, rest)
+
+-- changes alone are flagged, and of these none passes: so no place does
+module _ (net : Net) (flags : List Bool) (test : ℕ → Bool) (places : List ℕ) (are : AreChangesTo net (length net.activities) places) (changes : AreFlagsOfChanges net flags) where
+  abbrev passing : ℕ → ℕ
+  passing a = if is_flagged flags a && test a then 1 else 0
+
+  passing_none : (a : ℕ) → (is_flagged flags a && test a) ≡ false → passing a ≡ 0
+  passing_none a off = cond-false (is_flagged flags a && test a) 1 0 off
+
+  none_adds_up : NoneFlaggedAmong flags test places (length places) → sum_by passing places ≡ 0
+  none_adds_up none = sum_by_none passing places (λ k lt. passing_none (slice_index places k) (none k lt))
+
+  other_none : (a : ℕ) → a < length net.activities → is_change (activity_at net a).kind ≡ false → passing a ≡ 0
+  other_none a lt other = passing_none a (ap (λ (b : Bool). b && test a) (changes a lt other))
+
+  pub none_flagged : NoneFlaggedAmong flags test places (length places) → NoneFlagged flags test (length net.activities)
+  none_flagged none a lt = false_from_ne_true (is_flagged flags a && test a) (λ h.
+      let range : List ℕ = range_with_len 0 (length net.activities) in
+      let whole = are.add_up passing other_none in
+      let zero = none_adds_up none in
+      let size = length-range_with_len 0 (length net.activities) in
+      let here = get_or-le-sum_by passing range a 0 (omega arith) in
+      let place = get_or-range_with_len 0 (length net.activities) a 0 lt in
+      let at : get_or range a 0 ≡ a = omega (arith, place) in
+      let one : passing a ≡ 1 = cond-true (is_flagged flags a && test a) 1 0 h in
+      let one_there : passing (get_or range a 0) ≡ 1 = ap passing at ∙ one in
+      absurd (omega (arith, here, one_there, whole, zero)))

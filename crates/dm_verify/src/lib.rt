@@ -13,7 +13,6 @@ mod leaves;
 mod nodes;
 mod plans;
 mod relaxation;
-mod rows;
 mod timetable;
 mod turning;
 mod violations;

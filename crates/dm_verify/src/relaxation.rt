@@ -10,7 +10,7 @@ ghost use Rattle.dm_verify.specs.Inside.Relaxations.{IsRelaxationOf, IsSolved, H
 ghost use Rattle.dm_verify.specs.Inside.Violations.{IsSomeViolated};
 
 use crate::timetable::Timetable;
-use crate::turning::{tail_of, turn};
+use crate::turning::turn;
 use crate::violations::{is_any_violated, is_violated};
 use dm_base::Cost;
 use dm_network::Network;
@@ -26,11 +26,7 @@ use std::marker::Model;
 pub struct Relaxation {
     path: Vec<Decision>,
     undecided: Undecided,
-    held: Vec<bool>,
     charged: Vec<bool>,
-
-    /// Whether only more has been held since the times were computed.
-    is_grown: bool,
     timetable: Timetable,
     kept_cost: KeptCost,
 }
@@ -40,7 +36,7 @@ impl Model for Relaxation {
 
     ghost Value = { RelaxationValue };
 
-    ghost view = { λ r. record { path = r.path.items; changes = r.undecided.changes.items; pairs = r.undecided.pairs.items; held = r.held.items; charged = r.charged.items; is_grown = r.is_grown; timetable = r.timetable; kept_cost = r.kept_cost } };
+    ghost view = { λ r. record { path = r.path.items; changes = r.undecided.changes.items; pairs = r.undecided.pairs.items; charged = r.charged.items; timetable = r.timetable; kept_cost = r.kept_cost } };
 
     ghost invariant = { λ r. Unit {0} };
 }
@@ -52,13 +48,12 @@ impl Relaxation {
         ensures relaxation { IfOk result (IsRelaxationOf net.now rows.now) }
         ensures path { IfOk result (λ relaxation. relaxation.path ≡ []) }
     {
+        let held = bound_flags(alloc, net, rows)?;
         Ok(Relaxation {
             path: Vec::new(alloc),
             undecided: all_undecided(alloc, net, rows)?,
-            held: bound_flags(alloc, net, rows)?,
             charged: vec![in alloc; false; net.activities()]?,
-            is_grown: false,
-            timetable: Timetable::new(alloc, net, rows)?,
+            timetable: Timetable::new(alloc, net, rows, held)?,
             kept_cost: KeptCost::new(alloc, net)?,
         })
     }
@@ -72,11 +67,8 @@ impl Relaxation {
         ensures solved { OnOk result (IsSolved net.now rows.now self.new) }
         ensures cyclic { OnErr result (HasRelaxedCycle net.now rows.now self.old.path) }
     {
-        let is_grown = self.is_grown;
-        self.is_grown = false;
-        match self.timetable.settle(net, rows, &self.held, is_grown) {
+        match self.timetable.settle(net, rows) {
             Ok(()) => {
-                self.is_grown = true;
                 self.kept_cost.follow(net, self.timetable.times());
                 Ok(())
             }
@@ -99,8 +91,7 @@ impl Relaxation {
     {
         net.sound();
         let flip = flip_of(net, rows, decision);
-        self.timetable.make_due(tail_of(net, flip));
-        turn(net, flip, true, &mut self.held, &mut self.charged);
+        turn(net, flip, true, &mut self.timetable, &mut self.charged);
         self.undecided.set(flip, false);
         let Ok(()) = self.path.push(decision) else {
             return Err(AllocError);
@@ -122,8 +113,7 @@ impl Relaxation {
         match self.path.pop() {
             Some(decision) => {
                 let flip = flip_of(net, rows, decision);
-                self.is_grown = false;
-                turn(net, flip, false, &mut self.held, &mut self.charged);
+                turn(net, flip, false, &mut self.timetable, &mut self.charged);
                 self.undecided.set(flip, true);
                 Some(decision)
             }
@@ -160,6 +150,12 @@ impl Relaxation {
         requires solved { IsSolved net.now rows.now self.now }
         ensures { Tells (IsSomeViolated net.now rows.now self.now.path (times_of self.now)) result }
     {
-        is_any_violated(net, rows, &self.undecided, self.timetable.times())
+        is_any_violated(
+            net,
+            rows,
+            &self.undecided,
+            self.kept_cost.changes(),
+            self.timetable.times(),
+        )
     }
 }

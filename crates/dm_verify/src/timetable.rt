@@ -1,31 +1,36 @@
 //! The least times of what is held, as it grows and shrinks.
-ghost use Rattle.std.specs.Prelude.{ℕ, ◌≡◌, ◌<◌, Bool, IsTrue, length, IfOk, OnOk, OnErr};
-ghost use Rattle.dm_network.specs.Held.{HasNoCycleOf};
+ghost use Rattle.std.specs.Prelude.{ℕ, ◌≡◌, ◌<◌, Bool, false, length, slice_set, IfOk, OnOk, OnErr};
+ghost use Rattle.dm_graph.specs.Arcs.{HasNoCycle};
+ghost use Rattle.dm_network.specs.Held.{HasNoCycleOf, arcs_of, is_held};
 ghost use Rattle.dm_rows.specs.Laws.{EntersNoPassed};
-ghost use Rattle.dm_network.specs.Net.{Net};
-ghost use Rattle.dm_rows.specs.Rows.{RowsValue, IsSized};
+ghost use Rattle.dm_rows.specs.Rows.{IsSized};
 ghost use Rattle.dm_rows.specs.Timetable.{IsLeastHolding};
 ghost use Rattle.dm_relaxation.specs.Binding.{AreFlags, AreBelowLimit};
-ghost use Rattle.dm_verify.specs.Inside.Timetables.{IsTimetableOf, IsGrownTo, MakesDue, AreWithinFlags};
+ghost use Rattle.dm_marks.specs.Marked.{is_marked};
+ghost use Rattle.dm_verify.specs.Inside.Timetables.{IsTimetableOf, IsRoomOf, IsLeastNow, AreOfRows, KeepsSpans};
 
+use crate::beginning::mark_changed;
 use crate::known::Known;
 use dm_base::Secs;
 use dm_marks::Marks;
 use dm_network::Network;
-use dm_relaxation::{Cyclic, fill_spans};
+use dm_relaxation::{Cyclic, fill_floors, fill_spans, follow, hold};
 use dm_rows::Rows;
 use std::alloc::{AllocError, Global};
 use std::marker::Model;
 
-/// Times of what was held last and of what was held first. Where only more is held, rounds begin from the
-/// last times; else from those of what was held first, or from the floors.
+/// What is held, and times that follow it: what has changed since they were computed last is marked, so that the next ones cost
+/// what has changed. After a cycle nothing is known of them, and they begin again from those of what was held first.
 #[derive(Drop)]
 pub struct Timetable {
+    held: Vec<bool>,
     spans: Vec<Secs>,
-    last: Known,
+    floors: Vec<Secs>,
+    times: Vec<Secs>,
+    stale: Marks,
+    due: Marks,
     first: Known,
     has_first: bool,
-    due: Marks,
 }
 
 impl Model for Timetable {
@@ -33,119 +38,154 @@ impl Model for Timetable {
 
     ghost Value = { TimetableValue };
 
-    ghost view = { λ t. record { spans = t.spans.items; last = t.last; first = t.first; due = t.due } };
+    ghost view = { λ t. record { held = t.held.items; spans = t.spans.items; floors = t.floors.items; times = t.times.items; stale = t.stale; due = t.due; first = t.first } };
 
     ghost invariant = { λ t. Unit {0} };
 }
 
 impl Timetable {
-    /// The floors of the events.
-    pub fn new(alloc: Global, net: &Network, rows: &Rows) -> Result<Timetable, AllocError>
-        requires { IsSized net.now rows.now }
-        ensures { IfOk result (IsTimetableOf net.now rows.now) }
+    /// The floors of the events, which are to follow what is held.
+    pub fn new(
+        alloc: Global,
+        net: &Network,
+        rows: &Rows,
+        held: Vec<bool>,
+    ) -> Result<Timetable, AllocError>
+        requires sized { IsSized net.now rows.now }
+        requires flags { length held.items ≡ length net.now.activities }
+        ensures timetable { IfOk result (IsTimetableOf net.now) }
+        ensures rows { IfOk result (AreOfRows net.now rows.now) }
+        ensures held { IfOk result (λ t. t.held ≡ held.items) }
     {
+        net.sound();
+        rows.is_within_limits();
         let mut spans = vec![in alloc; 0; net.activities()]?;
         fill_spans(net, rows, &mut spans);
-        Ok(Timetable {
+        let mut floors = vec![in alloc; 0; net.events()]?;
+        fill_floors(net, rows, &mut floors);
+        let first = Known::new(alloc, net.activities(), &floors)?;
+        let mut timetable = Timetable {
+            held,
             spans,
-            last: Known::new(alloc, net, rows)?,
-            first: Known::new(alloc, net, rows)?,
-            has_first: false,
+            floors,
+            times: vec![in alloc; 0; net.events()]?,
+            stale: Marks::new(alloc, net.events())?,
             due: Marks::new(alloc, net.events())?,
-        })
+            first,
+            has_first: false,
+        };
+        timetable.begin_again(net);
+        Ok(timetable)
     }
 
     /// The times that were computed last, in seconds.
     pub fn times(&self) -> &[Secs]
-        ensures { result.now ≡ self.now.last.times }
+        ensures { result.now ≡ self.now.times }
     {
-        self.last.times()
+        &self.times
     }
 
-    /// Computes the least times for what is held, which may be known to be all that the last times are for, and more. `Err`
-    /// comes exactly where it has a cycle. It takes no memory.
-    pub fn settle(
-        &mut self,
-        net: &Network,
-        rows: &Rows,
-        held: &[bool],
-        is_grown: bool,
-    ) -> Result<(), Cyclic>
+    /// Makes an activity held, or no longer. It takes no memory.
+    pub fn hold(&mut self, net: &Network, a: usize, value: bool)
+        requires timetable { IsTimetableOf net.now self.old }
+        requires is_activity { a < length net.now.activities }
+        ensures timetable { IsTimetableOf net.now self.new }
+        ensures held { self.new.held ≡ slice_set self.old.held a value }
+        ensures keeps { KeepsSpans self.old self.new }
+    {
+        hold(
+            net,
+            a,
+            value,
+            &mut self.held,
+            &self.spans,
+            &self.times,
+            &mut self.stale,
+            &mut self.due,
+        );
+    }
+
+    /// Computes the least times for what is held. `Err` comes exactly where it has a cycle. It takes no memory, and costs what has
+    /// changed since the last ones, or since the first ones after a cycle.
+    pub fn settle(&mut self, net: &Network, rows: &Rows) -> Result<(), Cyclic>
         requires sized { IsSized net.now rows.now }
-        requires timetable { IsTimetableOf net.now rows.now self.old }
-        requires flags { length held.now ≡ length net.now.activities }
-        requires grown { IsTrue is_grown → IsGrownTo net.now self.old held.now }
-        ensures timetable { IsTimetableOf net.now rows.now self.new }
-        ensures held { OnOk result (self.new.last.held ≡ held.now) }
-        ensures least { (holds : ℕ → Bool) → AreFlags net.now holds held.now → EntersNoPassed net.now rows.now holds → OnOk result (IsLeastHolding net.now rows.now holds self.new.last.times) }
-        ensures none { (holds : ℕ → Bool) → AreFlags net.now holds held.now → OnOk result (HasNoCycleOf net.now holds) }
-        ensures cyclic { (holds : ℕ → Bool) → AreFlags net.now holds held.now → OnErr result (HasNoCycleOf net.now holds → ⊥) }
-        ensures early { OnOk result (AreBelowLimit self.new.last.times) }
+        requires timetable { IsTimetableOf net.now self.old }
+        requires rows { AreOfRows net.now rows.now self.old }
+        ensures timetable { IsTimetableOf net.now self.new }
+        ensures held { self.new.held ≡ self.old.held }
+        ensures keeps { KeepsSpans self.old self.new }
+        ensures least { (holds : ℕ → Bool) → AreFlags net.now holds self.old.held → EntersNoPassed net.now rows.now holds → OnOk result (IsLeastHolding net.now rows.now holds self.new.times) }
+        ensures none { (holds : ℕ → Bool) → AreFlags net.now holds self.old.held → OnOk result (HasNoCycleOf net.now holds) }
+        ensures cyclic { (holds : ℕ → Bool) → AreFlags net.now holds self.old.held → OnErr result (HasNoCycleOf net.now holds → ⊥) }
+        ensures early { OnOk result (AreBelowLimit self.new.times) }
     {
         net.sound();
-        self.begin(net, rows, held, is_grown);
-        match self.last.raise(net, rows, &self.spans, held, &mut self.due) {
+        rows.is_within_limits();
+        match self.follow(net) {
             Ok(()) => {
-                self.keep_first();
+                self.keep_first(net);
                 Ok(())
             }
             Err(Cyclic) => {
-                self.last.copy_from(&self.first);
+                self.begin_again(net);
                 Err(Cyclic)
             }
         }
     }
 
-    /// Makes an event due.
-    pub fn make_due(&mut self, event: usize)
-        requires { event < length self.old.due }
-        ensures { MakesDue event self.old self.new }
+    /// Makes the times follow what is held. Nothing is known of them after `Err`, which comes exactly where it has a cycle.
+    fn follow(&mut self, net: &Network) -> Result<(), Cyclic>
+        requires { IsTimetableOf net.now self.old }
+        ensures room { IsRoomOf net.now self.new }
+        ensures held { self.new.held ≡ self.old.held }
+        ensures keeps { KeepsSpans self.old self.new }
+        ensures least { OnOk result (IsLeastNow net.now self.new) }
+        ensures cyclic { OnErr result (HasNoCycle (arcs_of net.now (is_held self.old.held)) → ⊥) }
+        ensures none_stale { (e : ℕ) → is_marked self.new.stale e ≡ false }
     {
-        self.due.mark(event);
+        follow(
+            net,
+            &self.held,
+            &self.spans,
+            &self.floors,
+            &mut self.times,
+            &mut self.stale,
+            &mut self.due,
+        )
     }
 
-    /// Takes the times of before that are for some of what is held, and makes the tails of what is held more due.
-    fn begin(&mut self, net: &Network, rows: &Rows, held: &[bool], is_grown: bool)
-        requires sized { IsSized net.now rows.now }
-        requires timetable { IsTimetableOf net.now rows.now self.old }
-        requires flags { length held.now ≡ length net.now.activities }
-        requires grown { IsTrue is_grown → IsGrownTo net.now self.old held.now }
-        ensures timetable { IsTimetableOf net.now rows.now self.new }
-        ensures grown { IsGrownTo net.now self.new held.now }
-    {
-        if is_grown {
-            return;
-        }
-        self.take_first(net, rows, held);
-        self.last.mark_added(net, held, &mut self.due);
-    }
-
-    /// Takes the first times, or the floors where the first times are for more than what is held.
-    fn take_first(&mut self, net: &Network, rows: &Rows, held: &[bool])
-        requires sized { IsSized net.now rows.now }
-        requires timetable { IsTimetableOf net.now rows.now self.old }
-        requires flags { length held.now ≡ length net.now.activities }
-        ensures timetable { IsTimetableOf net.now rows.now self.new }
-        ensures within { AreWithinFlags self.new.last.held held.now }
-    {
-        self.last.copy_from(&self.first);
-        if self.last.is_for_some_of(held) {
-            return;
-        }
-        self.last.reset(net, rows);
-    }
-
-    /// Keeps the times as the first ones, where there are none yet.
-    fn keep_first(&mut self)
-        requires held { length self.old.first.held ≡ length self.old.last.held }
-        requires times { length self.old.first.times ≡ length self.old.last.times }
-        ensures timetable { (net : Net) (rows : RowsValue) → IsTimetableOf net rows self.old → IsTimetableOf net rows self.new }
-        ensures last { self.new.last ≡ self.old.last }
+    /// Keeps what is held and its times as the first, where there are none yet.
+    fn keep_first(&mut self, net: &Network)
+        requires timetable { IsTimetableOf net.now self.old }
+        requires least { IsLeastNow net.now self.old }
+        ensures timetable { IsTimetableOf net.now self.new }
+        ensures held { self.new.held ≡ self.old.held }
+        ensures times { self.new.times ≡ self.old.times }
+        ensures keeps { KeepsSpans self.old self.new }
     {
         if self.has_first {
             return;
         }
         self.has_first = true;
-        self.first.copy_from(&self.last);
+        self.first.take(&self.held, &self.times);
+    }
+
+    /// Takes the times of what was held first, which are to follow what is held.
+    fn begin_again(&mut self, net: &Network)
+        requires { IsRoomOf net.now self.old }
+        ensures timetable { IsTimetableOf net.now self.new }
+        ensures held { self.new.held ≡ self.old.held }
+        ensures keeps { KeepsSpans self.old self.new }
+    {
+        self.times.copy_from_slice(self.first.times());
+        self.stale.clear_all();
+        self.due.clear_all();
+        mark_changed(
+            net,
+            self.first.held(),
+            &self.held,
+            &mut self.stale,
+            &mut self.due,
+        );
     }
 }

@@ -4,50 +4,58 @@ ghost use Rattle.dm_network.specs.Net.{activity_at};
 ghost use Rattle.dm_network.specs.Start.{first_event};
 ghost use Rattle.dm_rows.specs.Relax.{is_of_pair};
 ghost use Rattle.dm_verify.specs.Inside.Flags.{AreSetWhere};
+ghost use Rattle.dm_verify.specs.Inside.Timetables.{IsTimetableOf, KeepsSpans};
 ghost use Rattle.dm_paths.specs.Decisions.{is_directed, is_bound_by, is_charged_by, ReachesNet};
 
-use crate::rows::row_out_of;
+use crate::timetable::Timetable;
 use dm_network::Network;
+use dm_relaxation::row_out_of;
 use dm_rows::Flip;
 
-/// Flags what a decision holds and what it charges for, or takes the flags away.
-pub fn turn(net: &Network, flip: Flip, value: bool, held: &mut [bool], charged: &mut [bool])
+/// Makes held and flags what a decision holds and charges for, or lets it go and takes the flags away.
+pub fn turn(net: &Network, flip: Flip, value: bool, timetable: &mut Timetable, charged: &mut [bool])
     requires reaches { ReachesNet net.now flip }
-    requires held { length held.old ≡ length net.now.activities }
+    requires timetable { IsTimetableOf net.now timetable.old }
     requires charged { length charged.old ≡ length net.now.activities }
-    ensures held { AreSetWhere (is_bound_by net.now flip) value (length net.now.activities) held.old held.new }
+    ensures timetable { IsTimetableOf net.now timetable.new }
+    ensures keeps { KeepsSpans timetable.old timetable.new }
+    ensures held { AreSetWhere (is_bound_by net.now flip) value (length net.now.activities) timetable.old.held timetable.new.held }
     ensures charged { AreSetWhere (is_charged_by flip) value (length net.now.activities) charged.old charged.new }
 {
     match flip {
-        Flip::Keep { act } => held[act] = value,
+        Flip::Keep { act } => timetable.hold(net, act, value),
         Flip::Drop { act } => charged[act] = value,
         Flip::First { pair, small } => {
             let first = first_event(net, pair, small);
-            turn_direction(net, pair, first, value, held);
+            turn_direction(net, pair, first, value, timetable);
         }
     }
 }
 
-/// Flags the headways of a pair out of one of its events, or takes their flags away.
-fn turn_direction(net: &Network, pair: usize, tail: usize, value: bool, held: &mut [bool])
+/// Makes the headways of a pair out of one of its events held, or lets them go.
+fn turn_direction(net: &Network, pair: usize, tail: usize, value: bool, timetable: &mut Timetable)
     requires is_event { tail < length net.now.events }
-    requires held { length held.old ≡ length net.now.activities }
-    ensures { AreSetWhere (is_directed net.now pair tail) value (length net.now.activities) held.old held.new }
+    requires timetable { IsTimetableOf net.now timetable.old }
+    ensures timetable { IsTimetableOf net.now timetable.new }
+    ensures keeps { KeepsSpans timetable.old timetable.new }
+    ensures held { AreSetWhere (is_directed net.now pair tail) value (length net.now.activities) timetable.old.held timetable.new.held }
 {
     let row = row_out_of(net, tail);
     for a in row {
-        turn_one(net, pair, *a, value, held);
+        turn_one(net, pair, *a, value, timetable);
     }
 }
 
-/// Flags an activity, or takes its flag away, where it is a headway of a pair.
-fn turn_one(net: &Network, pair: usize, a: usize, value: bool, held: &mut [bool])
+/// Makes an activity held, or lets it go, where it is a headway of a pair.
+fn turn_one(net: &Network, pair: usize, a: usize, value: bool, timetable: &mut Timetable)
     requires is_activity { a < length net.now.activities }
-    requires held { length held.old ≡ length net.now.activities }
-    ensures { MatchBool (is_of_pair pair (activity_at net.now a).pair) (held.new ≡ slice_set held.old a value) (held.new ≡ held.old) }
+    requires timetable { IsTimetableOf net.now timetable.old }
+    ensures timetable { IsTimetableOf net.now timetable.new }
+    ensures keeps { KeepsSpans timetable.old timetable.new }
+    ensures held { MatchBool (is_of_pair pair (activity_at net.now a).pair) (timetable.new.held ≡ slice_set timetable.old.held a value) (timetable.new.held ≡ timetable.old.held) }
 {
     if is_headway_of(net, a, pair) {
-        held[a] = value;
+        timetable.hold(net, a, value);
     }
 }
 
@@ -59,20 +67,6 @@ pub fn is_headway_of(net: &Network, a: usize, pair: usize) -> bool
     match net.activity(a).pair {
         None => false,
         Some(its) => its == pair,
-    }
-}
-
-/// An event that is the tail of all that a decision holds.
-pub fn tail_of(net: &Network, flip: Flip) -> usize
-    requires { ReachesNet net.now flip }
-    ensures tail { (b : ℕ) → is_bound_by net.now flip b ≡ true → (activity_at net.now b).tail ≡ result }
-    ensures is_event { result < length net.now.events }
-{
-    net.sound();
-    match flip {
-        Flip::Keep { act } => net.activity(act).tail,
-        Flip::Drop { act } => net.activity(act).tail,
-        Flip::First { pair, small } => first_event(net, pair, small),
     }
 }
 

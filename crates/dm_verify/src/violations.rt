@@ -9,43 +9,58 @@ ghost use Rattle.dm_tree.specs.Relaxed.{IsViolated};
 ghost use Rattle.dm_claims.specs.Claims.{Tells};
 ghost use Rattle.dm_paths.specs.Flags.{AreFlags};
 ghost use Rattle.dm_paths.specs.Places.{at_place, IsWithin};
-ghost use Rattle.dm_verify.specs.Inside.Violations.{SomeFlagged, NoneFlagged, IsSomeViolated};
+ghost use Rattle.dm_relaxation.specs.KeptCosts.{AreChangesTo};
+ghost use Rattle.dm_verify.specs.Inside.Violations.{SomeFlagged, NoneFlagged, AreFlagsOfChanges, IsSomeViolated};
 ghost use Rattle.dm_paths.specs.Decisions.{is_unmet_pair};
 
-use crate::rows::row_out_of;
 use crate::turning::is_headway_of;
 use dm_base::Secs;
 use dm_network::Network;
 use dm_paths::{Place, Undecided, place_of_choice};
-use dm_relaxation::comes_too_early;
+use dm_relaxation::{comes_too_early, row_out_of};
 use dm_rows::{Choice, Rows};
 
-/// Whether some choice is undecided and violated. The flags are of the undecided changes and pairs.
-pub fn is_any_violated(net: &Network, rows: &Rows, undecided: &Undecided, times: &[Secs]) -> bool
+/// Whether some choice is undecided and violated. The flags are of the undecided changes and pairs, and the places are of the
+/// network's changes.
+pub fn is_any_violated(
+    net: &Network,
+    rows: &Rows,
+    undecided: &Undecided,
+    places: &[usize],
+    times: &[Secs],
+) -> bool
     requires sized { IsSized net.now rows.now }
+    requires places { AreChangesTo net.now (length net.now.activities) places.now }
     requires changes { length undecided.now.changes.items ≡ length net.now.activities }
     requires pairs { length undecided.now.pairs.items ≡ length net.now.pairs }
     requires size { length times.now ≡ length net.now.events }
     requires early { AreBelowLimit times.now }
     ensures { (path : List Decision) → AreFlags (is_undecided_change net.now rows.now path) (length net.now.activities) undecided.now.changes.items → AreFlags (is_undecided_pair net.now rows.now path) (length net.now.pairs) undecided.now.pairs.items → Tells (IsSomeViolated net.now rows.now path times.now) result }
 {
-    if is_any_change_early(net, rows, &undecided.changes, times) {
+    if is_any_change_early(net, rows, &undecided.changes, places, times) {
         return true;
     }
     is_any_pair_unmet(net, rows, &undecided.pairs, times)
 }
 
-/// Whether the head of some flagged change comes too early.
-fn is_any_change_early(net: &Network, rows: &Rows, changes: &[bool], times: &[Secs]) -> bool
+/// Whether the head of some flagged change comes too early, where nothing but changes is flagged.
+fn is_any_change_early(
+    net: &Network,
+    rows: &Rows,
+    changes: &[bool],
+    places: &[usize],
+    times: &[Secs],
+) -> bool
     requires sized { IsSized net.now rows.now }
     requires flags { length changes.now ≡ length net.now.activities }
+    requires places { AreChangesTo net.now (length net.now.activities) places.now }
     requires size { length times.now ≡ length net.now.events }
     requires early { AreBelowLimit times.now }
     ensures some { result ≡ true → SomeFlagged changes.now (comes_too_early net.now rows.now times.now) (length net.now.activities) }
-    ensures none { result ≡ false → NoneFlagged changes.now (comes_too_early net.now rows.now times.now) (length net.now.activities) }
+    ensures none { result ≡ false → AreFlagsOfChanges net.now changes.now → NoneFlagged changes.now (comes_too_early net.now rows.now times.now) (length net.now.activities) }
 {
-    for a in 0..net.activities() {
-        if changes[a] && comes_too_early(net, rows, times, a) {
+    for a in places {
+        if changes[*a] && comes_too_early(net, rows, times, *a) {
             return true;
         }
     }

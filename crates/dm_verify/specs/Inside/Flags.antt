@@ -1,7 +1,5 @@
 -- Flags that answer a test of places.
-use Rattle.std.specs.Prelude.{ℕ, ◌≡◌, ◌<◌, Bool, false, List, length, slice_index_or, slice_set, if◌then◌else◌}
-use Rattle.dm_rows.specs.declared.messages.Flip.{Flip}
-use Rattle.dm_rows.specs.declared.messages.Flip.TheVariants.{Keep, Drop, First}
+use Rattle.std.specs.Prelude.{ℕ, ◌≡◌, ◌<◌, Bool, List, length, if◌then◌else◌}
 use Rattle.dm_paths.specs.Flags.{is_flagged}
 
 -- the test with these places set to a value

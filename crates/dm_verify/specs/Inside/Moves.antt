@@ -1,10 +1,6 @@
 -- What a decision holds and charges for.
-use Rattle.std.specs.Prelude.{ℕ, ◌≡◌, ◌==◌, ◌&&◌, ◌<◌, ◌⊎◌, Bool, false, List, length, Some, slice_index}
+use Rattle.std.specs.Prelude.{ℕ, ◌≡◌, ◌<◌, ◌⊎◌, Bool, List, length, Some, slice_index}
 use Rattle.dm_network.specs.Net.{Net, activity_at}
-use Rattle.dm_network.specs.Start.{first_event}
-use Rattle.dm_rows.specs.declared.messages.Flip.{Flip}
-use Rattle.dm_rows.specs.declared.messages.Flip.TheVariants.{Keep, Drop, First}
-use Rattle.dm_rows.specs.Relax.{is_of_pair}
 use Rattle.dm_paths.specs.Flags.{is_flagged}
 
 -- the activity is one of the first n of a row

@@ -1,16 +1,12 @@
 -- Decisions of free choices by place, and two paths of which the second has one decision more.
-use Rattle.std.specs.Prelude.{ℕ, ◌≡◌, ◌<◌, ◌≤◌, ◌⊎◌, drop, Bool, true, false, List, length, Option, Some, None, Contains, All, map, not, slice_get}
-use Rattle.dm_network.specs.Net.{Net, event_at, activity_at, pair_at}
+use Rattle.std.specs.Prelude.{ℕ, ◌≤◌, drop, Bool, false, List, length, Option, Some, None, Contains, All, map, slice_get}
+use Rattle.dm_network.specs.Net.{Net}
 use Rattle.dm_rows.specs.declared.messages.Decision.{Decision}
 use Rattle.dm_rows.specs.declared.messages.Choice.{Choice}
-use Rattle.dm_rows.specs.declared.messages.Flip.{Flip}
-use Rattle.dm_rows.specs.declared.messages.Flip.TheVariants.{Keep, Drop, First}
-use Rattle.dm_rows.specs.declared.messages.Decision.TheVariants.{Keep as KeepIt, Drop as DropIt, First as FirstOf}
-use Rattle.dm_rows.specs.Decide.{is_free_change, is_free_pair, change_choice, pair_choice, choice_of, free_choices_of}
-use Rattle.dm_rows.specs.Relax.{is_same_choice, is_decided}
-use Rattle.dm_rows.specs.Resolve.{flip_named}
+use Rattle.dm_rows.specs.Decide.{choice_of, free_choices_of}
+use Rattle.dm_rows.specs.Relax.{is_same_choice}
 use Rattle.dm_rows.specs.Rows.{RowsValue}
-use Rattle.dm_tree.specs.Plans.{Task, AreSomeOf, DiffersFrom, CostsWith, is_set}
+use Rattle.dm_tree.specs.Plans.{Task, AreSomeOf, DiffersFrom, CostsWith}
 
 -- ---- the choices of a plan
 

@@ -1,5 +1,5 @@
 -- The relaxed problem of a path, kept by flags.
-use Rattle.std.specs.Prelude.{ℕ, ◌≡◌, Bool, IsTrue, List, length}
+use Rattle.std.specs.Prelude.{ℕ, ◌≡◌, Bool, List, length}
 use Rattle.dm_network.specs.Net.{Net}
 use Rattle.dm_rows.specs.declared.messages.Decision.{Decision}
 use Rattle.dm_rows.specs.Decide.{IsChoiceList}
@@ -9,32 +9,30 @@ use Rattle.dm_tree.specs.Relaxed.{IsRelaxedLeast, IsRelaxedCycle, HasNoRelaxedCy
 use Rattle.dm_relaxation.specs.Binding.{AreBelowLimit}
 use Rattle.dm_relaxation.specs.KeptCosts.{KeptCostValue, IsKeptCostOf}
 use Rattle.dm_paths.specs.Flags.{AreFlags}
-use Rattle.dm_verify.specs.Inside.Timetables.{TimetableValue, IsTimetableOf, IsGrownTo}
+use Rattle.dm_verify.specs.Inside.Timetables.{TimetableValue, IsTimetableOf, AreOfRows}
 
--- a path, which changes and which pairs it leaves undecided, what its relaxed problem holds and charges for, whether
--- only more has been held since its times were computed last, its timetable, and what the times cost that it had last
+-- a path, which changes and which pairs it leaves undecided, what its relaxed problem charges for, its timetable with what it
+-- holds, and what the times cost that it had last
 pub record RelaxationValue : Type 0 where
   pub path : List Decision
   pub changes : List Bool
   pub pairs : List Bool
-  pub held : List Bool
   pub charged : List Bool
-  pub is_grown : Bool
   pub timetable : TimetableValue
   pub kept_cost : KeptCostValue
 
 abbrev pub times_of : RelaxationValue → List ℕ
-times_of relaxation = relaxation.timetable.last.times
+times_of relaxation = relaxation.timetable.times
 
 -- the path decides free choices, none twice, and the flags are those of its relaxed problem
 pub record IsRelaxationOf (net : Net) (rows : RowsValue) (relaxation : RelaxationValue) : Type 0 where
   pub is_path : IsChoiceList net rows relaxation.path
   pub changes : AreFlags (is_undecided_change net rows relaxation.path) (length net.activities) relaxation.changes
   pub pairs : AreFlags (is_undecided_pair net rows relaxation.path) (length net.pairs) relaxation.pairs
-  pub held : AreFlags (is_relaxed_active net rows relaxation.path) (length net.activities) relaxation.held
+  pub held : AreFlags (is_relaxed_active net rows relaxation.path) (length net.activities) relaxation.timetable.held
   pub charged : AreFlags (is_relaxed_dropped net rows relaxation.path) (length net.activities) relaxation.charged
-  pub grown : IsTrue relaxation.is_grown → IsGrownTo net relaxation.timetable relaxation.held
-  pub timetable : IsTimetableOf net rows relaxation.timetable
+  pub timetable : IsTimetableOf net relaxation.timetable
+  pub of_rows : AreOfRows net rows relaxation.timetable
   pub cost : IsKeptCostOf net relaxation.kept_cost
 
 -- the times are the least of the relaxed problem, which has no cycle, and what they cost is kept

@@ -1,54 +1,78 @@
--- Times that are least for some activities, from which rounds may begin for more.
-use Rattle.std.specs.Prelude.{ℕ, ◌≡◌, ◌<◌, Bool, true, false, List, length, slice_index, slice_set}
+-- Times that follow what is held.
+use Rattle.std.specs.Prelude.{ℕ, ◌≡◌, ◌^◌, ◌<◌, ◌⊎◌, Bool, true, List, length, slice_index}
 use Rattle.dm_graph.specs.Graph.{IsLeast}
 use Rattle.dm_network.specs.Net.{Net, activity_at}
 use Rattle.dm_network.specs.Held.{is_held}
 use Rattle.dm_rows.specs.Rows.{RowsValue}
-use Rattle.dm_rows.specs.Timetable.{floor_of}
-use Rattle.dm_relaxation.specs.Binding.{graph_with, is_due, AreSpansOf, AreBelowLimit}
+use Rattle.dm_relaxation.specs.Binding.{graph_with, is_due, AreBindings, AreSpansOf, AreFloorsOf}
+use Rattle.dm_relaxation.specs.Following.{Follows}
+use Rattle.dm_marks.specs.Marked.{is_marked}
+use Rattle.dm_relaxation.specs.Timetables.{AreAtMost}
 
 -- flags of activities, and times for these
 pub record KnownValue : Type 0 where
   pub held : List Bool
   pub times : List ℕ
 
--- the times are the least of the rows where the flagged activities are held, with these spans
-pub record IsKnown (net : Net) (rows : RowsValue) (spans : List ℕ) (known : KnownValue) : Type 0 where
+-- the times are the least where the flagged activities are held, with these spans over these floors
+pub record IsKnown (net : Net) (spans floors : List ℕ) (known : KnownValue) : Type 0 where
   pub flags : length known.held ≡ length net.activities
   pub as_many : length known.times ≡ length net.events
-  pub least : IsLeast (graph_with net known.held spans (floor_of net rows)) (slice_index known.times)
-  pub below : AreBelowLimit known.times
+  pub least : IsLeast (graph_with net known.held spans (slice_index floors)) (slice_index known.times)
+  pub early : AreAtMost known.times (2 ^ 38)
 
--- each activity that is flagged in the one list is flagged in the other
-abbrev pub AreWithinFlags : List Bool → List Bool → Type 0
-AreWithinFlags some all = (a : ℕ) → a < length some → is_held some a ≡ true → is_held all a ≡ true
-
--- the spans of the activities, times of what was held last and of what was held first, and room for who is due
+-- what is held, the spans, the floors, times, which events are stale and due, and times of what was held first
 pub record TimetableValue : Type 0 where
+  pub held : List Bool
   pub spans : List ℕ
-  pub last : KnownValue
-  pub first : KnownValue
+  pub floors : List ℕ
+  pub times : List ℕ
+  pub stale : List Bool
   pub due : List Bool
+  pub first : KnownValue
 
-pub record IsTimetableOf (net : Net) (rows : RowsValue) (timetable : TimetableValue) : Type 0 where
-  pub spans : AreSpansOf net rows timetable.spans
-  pub last : IsKnown net rows timetable.spans timetable.last
-  pub first : IsKnown net rows timetable.spans timetable.first
-  pub due : length timetable.due ≡ length net.events
+-- the lists are as long as the network's, and the first times are least for what was held first
+pub record IsRoomOf (net : Net) (t : TimetableValue) : Type 0 where
+  pub bindings : AreBindings net t.held t.spans
+  pub floors : length t.floors ≡ length net.events
+  pub times : length t.times ≡ length net.events
+  pub stale : length t.stale ≡ length net.events
+  pub due : length t.due ≡ length net.events
+  pub early_floors : AreAtMost t.floors (2 ^ 38)
+  pub first : IsKnown net t.spans t.floors t.first
 
--- the tail of each activity that is held now and was not is due
-abbrev pub AreAddedDue : Net → List Bool → List Bool → List Bool → Type 0
-AreAddedDue net before now due =
-    (a : ℕ) → a < length net.activities → is_held now a ≡ true → is_held before a ≡ false → is_due due (activity_at net a).tail ≡ true
+-- the times are least for what is held
+abbrev pub IsLeastNow : Net → TimetableValue → Type 0
+IsLeastNow net t = IsLeast (graph_with net t.held t.spans (slice_index t.floors)) (slice_index t.times)
 
--- all that the last times are for is held, and the tails of what is held more are due
-pub record IsGrownTo (net : Net) (timetable : TimetableValue) (held : List Bool) : Type 0 where
-  pub within : AreWithinFlags timetable.last.held held
-  pub added : AreAddedDue net timetable.last.held held timetable.due
+-- the times were least for what was held before, and what has changed since then is stale and due
+pub record IsTimetableOf (net : Net) (t : TimetableValue) : Type 0 where
+  pub room : IsRoomOf net t
+  pub early : AreAtMost t.times (2 ^ 38)
+  pub follows : Follows net t.held t.spans t.floors t.times t.stale
+  pub all_due : (e : ℕ) → is_marked t.stale e ≡ true → is_due t.due e ≡ true
 
--- an event is due, and nothing else has changed
-pub record MakesDue (event : ℕ) (old new : TimetableValue) : Type 0 where
+-- the spans and the floors are those of the rows
+pub record AreOfRows (net : Net) (rows : RowsValue) (t : TimetableValue) : Type 0 where
+  pub spans : AreSpansOf net rows t.spans
+  pub floors : AreFloorsOf net rows t.floors
+
+-- the spans and the floors are those of before
+pub record KeepsSpans (old new : TimetableValue) : Type 0 where
   pub spans : new.spans ≡ old.spans
-  pub last : new.last ≡ old.last
-  pub first : new.first ≡ old.first
-  pub due : new.due ≡ slice_set old.due event true
+  pub floors : new.floors ≡ old.floors
+
+-- the head of an activity is stale and due where this is held in one of two lists alone, and what is stale newly is due
+pub record MarksHead (net : Net) (before now : List Bool) (a : ℕ) (stale stale_after due due_after : List Bool) : Type 0 where
+  pub as_many : length stale_after ≡ length stale
+  pub as_many_due : length due_after ≡ length due
+  pub grows : (e : ℕ) → is_marked stale e ≡ true → is_marked stale_after e ≡ true
+  pub head : (is_held now a ≡ is_held before a) ⊎ (is_marked stale_after (activity_at net a).head ≡ true)
+  pub all_due : ((e : ℕ) → is_marked stale e ≡ true → is_due due e ≡ true) → (e : ℕ) → is_marked stale_after e ≡ true → is_due due_after e ≡ true
+
+-- the same of the first n activities
+pub record HasMarkedHeads (net : Net) (before now : List Bool) (n : ℕ) (stale stale_after due due_after : List Bool) : Type 0 where
+  pub as_many : length stale_after ≡ length stale
+  pub as_many_due : length due_after ≡ length due
+  pub heads : (a : ℕ) → a < n → (is_held now a ≡ is_held before a) ⊎ (is_marked stale_after (activity_at net a).head ≡ true)
+  pub all_due : ((e : ℕ) → is_marked stale e ≡ true → is_due due e ≡ true) → (e : ℕ) → is_marked stale_after e ≡ true → is_due due_after e ≡ true

@@ -1,8 +1,8 @@
 -- What a timetable does not keep, and what a row has shown so far.
-use Rattle.std.specs.Prelude.{ℕ, ◌≡◌, ◌&&◌, ◌<◌, Bool, true, false, List, slice_index}
-use Rattle.dm_network.specs.Net.{Net, activity_at, pair_at}
+use Rattle.std.specs.Prelude.{ℕ, ◌≡◌, ◌&&◌, ◌<◌, Bool, true, false, List, length, slice_index}
+use Rattle.dm_network.specs.Net.{Net, activity_at, is_change}
 use Rattle.dm_rows.specs.Cost.{comes_too_early}
-use Rattle.dm_rows.specs.Relax.{is_of_pair, has_unmet_from}
+use Rattle.dm_rows.specs.Relax.{is_of_pair}
 use Rattle.dm_rows.specs.Rows.{RowsValue}
 use Rattle.dm_rows.specs.declared.messages.Choice.{Choice}
 use Rattle.dm_rows.specs.declared.messages.Decision.{Decision}
@@ -17,6 +17,14 @@ NoneUnmet net rows x p row n =
 -- none of the first n places is flagged and passes the test
 abbrev pub NoneFlagged : List Bool → (ℕ → Bool) → ℕ → Type 0
 NoneFlagged flags test n = (k : ℕ) → k < n → (is_flagged flags k && test k) ≡ false
+
+-- none of the first n places of a list is flagged and passes the test
+abbrev pub NoneFlaggedAmong : List Bool → (ℕ → Bool) → List ℕ → ℕ → Type 0
+NoneFlaggedAmong flags test places n = (k : ℕ) → k < n → (is_flagged flags (slice_index places k) && test (slice_index places k)) ≡ false
+
+-- nothing but changes is flagged
+abbrev pub AreFlagsOfChanges : Net → List Bool → Type 0
+AreFlagsOfChanges net flags = (a : ℕ) → a < length net.activities → is_change (activity_at net a).kind ≡ false → is_flagged flags a ≡ false
 
 -- some place is flagged and passes the test
 pub record SomeFlagged (flags : List Bool) (test : ℕ → Bool) (n : ℕ) : Type 0 where

@@ -10,12 +10,12 @@ returns-in_default c = λ budget t.
 
 pub returns-then-own-cost : goal.returns-then-own-cost
 returns-then-own-cost c = λ budget.
-    inner_dear c.args.net.now c.args.rows.now c.args.penalty budget c.args.relaxation.now.path c.args.relaxation.now.timetable.last.times c.requires.solved.least
+    inner_dear c.args.net.now c.args.rows.now c.args.penalty budget c.args.relaxation.now.path c.args.relaxation.now.timetable.times c.requires.solved.least
     c.in-Some.own c.cost.result c.args.choice
     (subst (λ (o : Option ℕ). IsOwnCost c.args.net.now c.args.rows.now c.args.penalty o) c.in-Some.is c.requires.own) c.cost.ensures (omega arith)
 
 pub returns : goal.returns
 returns c = λ budget.
-    inner_told c.args.net.now c.args.rows.now c.args.penalty budget c.args.relaxation.now.path c.args.relaxation.now.timetable.last.times c.requires.solved.least
+    inner_told c.args.net.now c.args.rows.now c.args.penalty budget c.args.relaxation.now.path c.args.relaxation.now.timetable.times c.requires.solved.least
     c.sound.ensures.network c.requires.solved.no_cycle c.in-Some.own c.cost.result c.args.choice c.is_violated.result
     (subst (λ (o : Option ℕ). IsOwnCost c.args.net.now c.args.rows.now c.args.penalty o) c.in-Some.is c.requires.own) c.cost.ensures (omega arith) c.is_violated.ensures

@@ -4,22 +4,30 @@ use Rattle.dm_verify.proofs.Headways.{none_turned, next_turned, all_turned}
 use Rattle.dm_verify.proofs.turning.turn_direction.Goals as goal
 
 pub loop-a-init : goal.loop-a-init
-loop-a-init c = none_turned c.args.net.now c.args.pair c.row_out_of-row.result.now c.args.value c.args.held.now
+loop-a-init c = record {
+  turned = none_turned c.args.net.now c.args.pair c.row_out_of-row.result.now c.args.value c.args.timetable.now.held;
+  timetable = c.requires.timetable;
+  keeps = record { spans = refl; floors = refl };
+}
 
 pub turn_one-requires-clause-is_activity : goal.turn_one-requires-clause-is_activity
 turn_one-requires-clause-is_activity c =
     row_below c.args.net.now c.args.tail c.row_out_of-row.result.now c.row_out_of-row.ensures c.loop-a.a-index 0 (omega arith)
 
-pub turn_one-requires-clause-held : goal.turn_one-requires-clause-held
-turn_one-requires-clause-held c = c.loop-a.invariant.size ∙ c.requires.held
-
 pub loop-a-preserved : goal.loop-a-preserved
 loop-a-preserved c =
     let below = row_below c.args.net.now c.args.tail c.row_out_of-row.result.now c.row_out_of-row.ensures c.loop-a.a-index 0 (omega arith) in
-    next_turned c.args.net.now c.args.pair c.row_out_of-row.result.now c.args.value c.loop-a.a-index c.args.held.now c.loop-a.held c.loop-a.invariant _ _ refl
-    (omega (arith, below, c.loop-a.invariant.size, c.requires.held)) c.turn_one.ensures
+    let had = c.loop-a.invariant in
+    let flags = had.timetable.room.bindings.flags in
+    let keeps = c.turn_one.ensures.keeps in
+    record {
+      turned = next_turned c.args.net.now c.args.pair c.row_out_of-row.result.now c.args.value c.loop-a.a-index c.args.timetable.now.held c.loop-a.timetable.held had.turned _ _ refl
+          (omega (arith, below, flags)) c.turn_one.ensures.held;
+      timetable = c.turn_one.ensures.timetable;
+      keeps = record { spans = keeps.spans ∙ had.keeps.spans; floors = keeps.floors ∙ had.keeps.floors };
+    }
 
-pub returns : goal.returns
-returns c =
+pub returns-clause-held : goal.returns-clause-held
+returns-clause-held c =
     all_turned c.args.net.now c.args.pair c.row_out_of-row.result.now c.args.value c.args.tail c.loop-a.a-index c.row_out_of-row.ensures (omega arith)
-    c.args.held.now c.loop-a.held c.loop-a.invariant
+    c.args.timetable.now.held c.loop-a.timetable.held c.loop-a.invariant.turned

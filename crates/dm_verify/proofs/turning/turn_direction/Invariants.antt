@@ -1,5 +1,10 @@
 use Rattle.dm_verify.specs.Inside.Moves.{HasTurned}
+use Rattle.dm_verify.specs.Inside.Timetables.{IsTimetableOf, KeepsSpans}
 use Rattle.dm_verify.proofs.turning.turn_direction.Given as goal
 
 abbrev pub invariant-loop-a : goal.invariant-loop-a
-invariant-loop-a l = HasTurned l.net l.pair l.row l.a-index l.value l.initial.held l.held
+invariant-loop-a l = record {
+  turned : HasTurned l.net l.pair l.row l.a-index l.value l.initial.timetable.held l.timetable.held;
+  timetable : IsTimetableOf l.net l.timetable;
+  keeps : KeepsSpans l.initial.timetable l.timetable;
+}

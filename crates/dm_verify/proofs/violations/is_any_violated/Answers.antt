@@ -1,7 +1,7 @@
-use Rattle.std.proofs.Common.{List, Bool, length, subst}
+use Rattle.std.proofs.Common.{List, Bool, length, subst, sym, ◌∙◌}
 use Rattle.dm_rows.specs.Cost.{comes_too_early}
-use Rattle.dm_verify.specs.Inside.Violations.{SomeFlagged, NoneFlagged}
-use Rattle.dm_verify.proofs.Open.{change_violated, violated_told}
+use Rattle.dm_verify.specs.Inside.Violations.{SomeFlagged, NoneFlagged, AreFlagsOfChanges}
+use Rattle.dm_verify.proofs.Open.{change_violated, violated_told, no_free_change}
 use Rattle.dm_verify.proofs.violations.is_any_violated.Goals as goal
 
 pub returns-then-is_any_change_early : goal.returns-then-is_any_change_early
@@ -21,5 +21,6 @@ returns c path are_changes are_pairs =
     violated_told net rows path x c.args.undecided.now.changes.items c.args.undecided.now.pairs.items are_changes are_pairs
     c.deref-2.result.now c.deref-2.ensures.value
     (subst (λ (f : List Bool). NoneFlagged f (comes_too_early net rows x) (length net.activities)) c.deref.ensures.value
-    (c.is_any_change_early.ensures.none c.if-is_any_change_early.false))
+    (c.is_any_change_early.ensures.none c.if-is_any_change_early.false
+    (subst (λ (f : List Bool). AreFlagsOfChanges net f) (sym c.deref.ensures.value) (λ a below other. are_changes.each a below ∙ no_free_change net rows path a other))))
     c.is_any_pair_unmet.result c.is_any_pair_unmet.ensures.some c.is_any_pair_unmet.ensures.none

@@ -1,6 +1,4 @@
-use Rattle.std.proofs.Common.{ℕ, ◌≡◌, ◌<◌, List, Bool, false, length, sym, ap, subst, ◌∙◌}
-use Rattle.dm_network.specs.Net.{activity_at, is_change}
-use Rattle.dm_network.specs.Held.{is_held}
+use Rattle.std.proofs.Common.{ℕ, ◌≡◌, List, Bool, sym, ap, subst, ◌∙◌}
 use Rattle.dm_rows.specs.Cost.{cost_charging}
 use Rattle.dm_rows.specs.Relax.{is_relaxed_dropped}
 use Rattle.dm_relaxation.specs.Binding.{AreFlags}
@@ -26,7 +24,7 @@ returns c =
     let was = subst (IsRelaxationOf net rows) (sym c.self.view_is) c.requires.relaxation in
     let solved = subst (IsSolved net rows) (sym c.self.view_is) c.requires.solved in
     let path = c.self.inside.path.items in
-    let times = c.self.inside.timetable.last.times in
+    let times = c.self.inside.timetable.times in
     let flags : AreFlags net (is_relaxed_dropped net rows path) c.deref.result.now =
     λ a below. ap (λ (f : List Bool). is_flagged f a) c.deref.ensures.value ∙ was.charged.each a below in
     subst (λ (r : RelaxationValue). c.cost_charging.result ≡ relaxed_cost_of net rows r.path (times_of r) penalty) c.self.view_is

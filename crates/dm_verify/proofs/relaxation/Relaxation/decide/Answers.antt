@@ -2,7 +2,7 @@ use Rattle.std.proofs.Common.{[], ◌∷◌, ◌++◌, true, false, length, sym,
 use Rattle.std.specs.Vec.{with_items}
 use Rattle.dm_rows.specs.Decide.{choice_of}
 use Rattle.dm_paths.specs.Flags.{with_change, with_pair}
-use Rattle.dm_paths.specs.Decisions.{is_bound_by, is_charged_by}
+use Rattle.dm_paths.specs.Decisions.{is_charged_by}
 use Rattle.dm_paths.specs.Decisions.{IsOpen}
 use Rattle.dm_verify.specs.Inside.Relaxations.{RelaxationValue, IsRelaxationOf}
 use Rattle.dm_verify.proofs.Turned.{decided, over_vec, moved}
@@ -14,15 +14,12 @@ returns-clause-relaxation c =
     let rows = c.args.rows.now in
     let d = c.args.decision in
     let flip = c.flip_of-flip.result in
-    let n = length net.activities in
-    let old : RelaxationValue = record { path = c.self.inside.path.items; changes = c.self.inside.undecided.changes.items; pairs = c.self.inside.undecided.pairs.items; held = c.self.inside.held.items; charged = c.self.inside.charged.items; is_grown = c.self.inside.is_grown; timetable = c.self.inside.timetable; kept_cost = c.self.inside.kept_cost } in
+    let old : RelaxationValue = record { path = c.self.inside.path.items; changes = c.self.inside.undecided.changes.items; pairs = c.self.inside.undecided.pairs.items; charged = c.self.inside.charged.items; timetable = c.self.inside.timetable; kept_cost = c.self.inside.kept_cost } in
     let was : IsRelaxationOf net rows old = subst (IsRelaxationOf net rows) (sym c.self.view_is) c.requires.relaxation in
     let opened : IsOpen net rows old.path (choice_of d) = subst (λ (r : RelaxationValue). IsOpen net rows r.path (choice_of d)) (sym c.self.view_is) c.requires.open in
-    let held = (with_items c.self.inside.held c.turn.new.held).items in
     let charged = (with_items c.self.inside.charged c.turn.new.charged).items in
-    let now = decided net c.sound.ensures.network rows c.requires.sized old was d flip c.flip_of-flip.ensures.flip held charged c.tail_of.result c.make_due.new.self c.make_due.ensures c.tail_of.ensures.is_event c.tail_of.ensures.tail opened
-    (over_vec (is_bound_by net flip) true n c.self.inside.held c.deref_mut.result.now c.turn.new.held c.deref_mut.ensures.value c.turn.ensures.held)
-    (over_vec (is_charged_by flip) true n c.self.inside.charged c.deref_mut-2.result.now c.turn.new.charged c.deref_mut-2.ensures.value c.turn.ensures.charged) in
-    moved net rows old.path (with_change flip false old.changes) (with_pair flip false old.pairs) held charged old.is_grown c.make_due.new.self old.kept_cost
+    let now = decided net c.sound.ensures.network rows c.requires.sized old was d flip c.flip_of-flip.ensures.flip c.turn.new.timetable c.turn.ensures.timetable c.turn.ensures.keeps charged opened c.turn.ensures.held
+    (over_vec (is_charged_by flip) true (length net.activities) c.self.inside.charged c.deref_mut.result.now c.turn.new.charged c.deref_mut.ensures.value c.turn.ensures.charged) in
+    moved net rows old.path (with_change flip false old.changes) (with_pair flip false old.pairs) charged c.turn.new.timetable old.kept_cost
     (old.path ++ d ∷ []) c.push.new.self.items c.set.new.self.changes.items c.set.new.self.pairs.items
     c.in-Ok.ensures.items c.set.ensures.changes c.set.ensures.pairs now

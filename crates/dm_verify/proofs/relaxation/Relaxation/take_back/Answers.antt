@@ -2,7 +2,7 @@ use Rattle.std.proofs.Common.{[], ◌∷◌, ◌++◌, ◌≡◌, true, false, l
 use Rattle.std.specs.Vec.{with_items}
 use Rattle.dm_rows.specs.Decide.{IsChoiceList}
 use Rattle.dm_paths.specs.Flags.{with_change, with_pair}
-use Rattle.dm_paths.specs.Decisions.{is_bound_by, is_charged_by}
+use Rattle.dm_paths.specs.Decisions.{is_charged_by}
 use Rattle.dm_verify.specs.Inside.Relaxations.{RelaxationValue, IsRelaxationOf}
 use Rattle.dm_verify.proofs.Turned.{taken_back, last_is_open, over_vec, moved}
 use Rattle.dm_verify.proofs.relaxation.Relaxation.take_back.Goals as goal
@@ -29,14 +29,11 @@ returns-in-Some-clause-relaxation c =
     let rows = c.args.rows.now in
     let d = c.in-Some.decision in
     let flip = c.flip_of-flip.result in
-    let n = length net.activities in
-    let old : RelaxationValue = record { path = c.self.inside.path.items; changes = c.self.inside.undecided.changes.items; pairs = c.self.inside.undecided.pairs.items; held = c.self.inside.held.items; charged = c.self.inside.charged.items; is_grown = c.self.inside.is_grown; timetable = c.self.inside.timetable; kept_cost = c.self.inside.kept_cost } in
+    let old : RelaxationValue = record { path = c.self.inside.path.items; changes = c.self.inside.undecided.changes.items; pairs = c.self.inside.undecided.pairs.items; charged = c.self.inside.charged.items; timetable = c.self.inside.timetable; kept_cost = c.self.inside.kept_cost } in
     let was : IsRelaxationOf net rows old = subst (IsRelaxationOf net rows) (sym c.self.view_is) c.requires.relaxation in
     let e : c.self.inside.path.items ≡ c.pop.new.self.items ++ c.in-Some.decision ∷ [] = search rules in
-    let held = (with_items c.self.inside.held c.turn.new.held).items in
     let charged = (with_items c.self.inside.charged c.turn.new.charged).items in
-    moved net rows old.path (with_change flip true old.changes) (with_pair flip true old.pairs) held charged false old.timetable old.kept_cost
+    moved net rows old.path (with_change flip true old.changes) (with_pair flip true old.pairs) charged c.turn.new.timetable old.kept_cost
     c.pop.new.self.items c.pop.new.self.items c.set.new.self.changes.items c.set.new.self.pairs.items refl c.set.ensures.changes c.set.ensures.pairs
-    (taken_back net c.sound.ensures.network rows c.requires.sized old was d flip c.flip_of-flip.ensures.flip held charged c.pop.new.self.items e
-    (over_vec (is_bound_by net flip) false n c.self.inside.held c.deref_mut.result.now c.turn.new.held c.deref_mut.ensures.value c.turn.ensures.held)
-    (over_vec (is_charged_by flip) false n c.self.inside.charged c.deref_mut-in-Some.result.now c.turn.new.charged c.deref_mut-in-Some.ensures.value c.turn.ensures.charged))
+    (taken_back net c.sound.ensures.network rows c.requires.sized old was d flip c.flip_of-flip.ensures.flip c.turn.new.timetable c.turn.ensures.timetable c.turn.ensures.keeps charged c.pop.new.self.items e c.turn.ensures.held
+    (over_vec (is_charged_by flip) false (length net.activities) c.self.inside.charged c.deref_mut.result.now c.turn.new.charged c.deref_mut.ensures.value c.turn.ensures.charged))
