@@ -3,6 +3,7 @@ use Rattle.std.proofs.Common.{◌≡◌, ℕ, ◌+◌, ◌-◌, ◌<◌, inl, in
 use Rattle.std.specs.Prelude.{IsOk}
 use Rattle.std.proofs.lemmas.List.{map-append, nil_from_length}
 use Rattle.std.proofs.lemmas.List.Elements.{All-push}
+use Rattle.std.proofs.lemmas.Option.{slice_get_within}
 use Rattle.std.proofs.Math.Seq.{get_or-append_seam}
 use Rattle.dm_rounds.proofs.Places.{behind_push}
 use Rattle.dm_server.specs.declared.kept.Base.{Base}
@@ -46,3 +47,20 @@ all_here P yielded rest next whole x is all h =
 
 pub is_ok_of : {T E : Type 0} (answer : Result T E) (x : T) → answer ≡ Ok x → IsOk answer
 is_ok_of answer x is = subst (λ (a : Result _ _). IsOk a) (sym is) refl
+
+-- two lists of as many elements that are related each to each, with one more at each end
+pub paired_more : {X Y : Type 0} (R : X → Y → Type 0) (xs : List X) (ys now : List Y) (x : X) (y : Y) → now ≡ ys ++ y ∷ [] → length ys ≡ length xs
+    → ((k : ℕ) (w : X) (v : Y) → slice_get xs k ≡ Some w → slice_get ys k ≡ Some v → R w v) → R x y
+    → (k : ℕ) (w : X) (v : Y) → slice_get (xs ++ x ∷ []) k ≡ Some w → slice_get now k ≡ Some v → R w v
+paired_more R xs ys now x y is many each last k w v at there =
+    let behind = behind_push ys y k v (ap (λ (l : List _). slice_get l k) (sym is) ∙ there) in
+    elim (behind_push xs x k w at) [
+      | inl old ↦ elim behind [
+        | inl kept ↦ each k w v old kept
+        | inr new ↦ absurd (omega (arith, slice_get_within xs k w old, new.0, many))
+      ]
+      | inr last_x ↦ elim behind [
+        | inl kept ↦ absurd (omega (arith, slice_get_within ys k v kept, last_x.0, many))
+        | inr last_y ↦ subst (λ (a : _). R a v) (sym last_x.1) (subst (λ (b : _). R x b) (sym last_y.1) last)
+      ]
+    ]

@@ -108,7 +108,7 @@ fn answer_round<
     ensures round { IfOk result (λ after. AnswersRound S.left S.is_sound batch (desk_of P.base main.old) jobs.items (desk_of P.base main.new) after.items) }
 {
     let works = share_out(alloc, server, main, jobs)?;
-    let works = work_all::<P, R, S, L, H>(rt, server, works, planner, gate, batch)?;
+    let works = work_all::<P, R, S, L, H>(rt, alloc, server, works, planner, gate, batch)?;
     gather::<P, S>(alloc, server, main, works)
 }
 

@@ -1,17 +1,17 @@
 //! One feed's part of a round.
 
-ghost use Rattle.std.specs.Prelude.{◌≡◌, ℕ, false, Some, All, slice_get, vec_len, IfOk};
+ghost use Rattle.std.specs.Prelude.{◌≡◌, false, Some, All, vec_len, IfOk, count_by};
 ghost use Rattle.dm_desk.specs.Planning.{PlansUnder};
 ghost use Rattle.dm_crew.specs.Passes.{setting_of, desk_of};
-ghost use Rattle.dm_crew.specs.Inside.Works.{IsReady, IsWorked};
+ghost use Rattle.dm_crew.specs.Inside.Works.{IsReady, IsWorked, AreWorkedEach, is_read};
 
 use crate::desk::{Seat, ServerDesk};
 use dm_desk::{Hold, Planner};
 use dm_outside::Source;
-use dm_rounds::{Job, answer_job};
+use dm_rounds::{Job, Progress, answer_job};
 use dm_server::{Kept, Server};
 use dm_turn::Pass;
-use std::alloc::AllocError;
+use std::alloc::{AllocError, Global};
 use std::marker::{Brand, PhantomData};
 use std::sync::Wait;
 use std::thread;
@@ -85,7 +85,8 @@ fn answer_seated<'n, P: Seat, R: Wait, S: Source + Drop, L: Planner, H: Hold>(
     (desk.pass, answer)
 }
 
-/// Answers the next lines of feeds, each in a thread of its own where one can be made.
+/// Answers the next lines of feeds. Where two or more are still read, each has a thread of its own if one can be made; else the
+/// caller does all the work.
 pub fn work_all<
     'n,
     P: Seat + Send + Sync,
@@ -95,6 +96,7 @@ pub fn work_all<
     H: Hold + Sync,
 >(
     rt: &R,
+    alloc: Global,
     server: &Server<'n>,
     works: Vec<Work<'n, S>>,
     planner: &L,
@@ -104,11 +106,53 @@ pub fn work_all<
     requires ready { All (λ w. IsReady server.now.id P.base w.feed w.pass w.job) works.items }
     requires plans { PlansUnder (L.value planner.now) (setting_of P.base) }
     ensures len { IfOk result (λ after. vec_len after ≡ vec_len works.entry) }
-    ensures each { IfOk result (λ after. (k : ℕ) (w v : _) → slice_get works.entry.items k ≡ Some w → slice_get after.items k ≡ Some v → (v.feed ≡ w.feed) × IsWorked S.left S.is_sound P.base batch w.feed w.pass w.job v.pass v.job v.answer) }
+    ensures each { IfOk result (λ after. AreWorkedEach S.left S.is_sound P.base batch works.entry.items after.items) }
 {
+    if count_read(&works) < 2 {
+        return work_in_turn::<P, R, S, L, H>(rt, alloc, server, works, planner, gate, batch);
+    }
     thread::map_vec(
         rt,
         works,
         &|work: Work<'_, S>| work.worked::<P, R, L, H>(rt, server, planner, gate, batch),
     )
+}
+
+/// Answers the next lines of feeds, one after another.
+fn work_in_turn<'n, P: Seat, R: Wait, S: Source + Drop, L: Planner, H: Hold>(
+    rt: &R,
+    alloc: Global,
+    server: &Server<'n>,
+    works: Vec<Work<'n, S>>,
+    planner: &L,
+    gate: &H,
+    batch: u32,
+) -> Result<Vec<Work<'n, S>>, AllocError>
+    requires ready { All (λ w. IsReady server.now.id P.base w.feed w.pass w.job) works.items }
+    requires plans { PlansUnder (L.value planner.now) (setting_of P.base) }
+    ensures len { IfOk result (λ after. vec_len after ≡ vec_len works.entry) }
+    ensures each { IfOk result (λ after. AreWorkedEach S.left S.is_sound P.base batch works.entry.items after.items) }
+{
+    let mut done = Vec::with_capacity(alloc, works.len())?;
+    for work in works {
+        done.push(work.worked::<P, R, L, H>(rt, server, planner, gate, batch))?;
+    }
+    Ok(done)
+}
+
+/// How many of the feeds are still read.
+fn count_read<S>(works: &[Work<'_, S>]) -> usize
+    ensures { result ≡ count_by (λ w. is_read w.job.progress) works.now }
+{
+    works
+        .iter()
+        .filter(|work| is_read(&work.job.progress))
+        .count()
+}
+
+/// Whether a feed is still read.
+fn is_read<S>(progress: &Progress<S>) -> bool
+    ensures { result ≡ is_read progress.now }
+{
+    matches!(progress, Progress::Reading(_))
 }
