@@ -1,22 +1,21 @@
 //! An evaluator whose every move is compared.
 ghost use Rattle.std.specs.Prelude.{◌≡◌, ◌++◌, ◌<◌, [], ◌∷◌, true, IfOk};
 ghost use Rattle.dm_rows.specs.Decide.{choice_of};
-ghost use Rattle.dm_rows.specs.Relax.{is_decided};
 ghost use Rattle.dm_rows.specs.Rows.{IsSized};
 ghost use Rattle.dm_evaluate.specs.Evaluator.{IsEvaluatorOf};
 ghost use Rattle.dm_paths.specs.Decisions.{IsOpen};
 
-use dm_base::{Cost, Steps};
+use dm_base::Cost;
+use dm_deciding::{decide, undecide, violated};
 use dm_evaluate::Evaluator;
-use dm_graph::search::Cyclic;
 use dm_network::Network;
+use dm_paths::choice_of;
 use dm_relax::{Relaxed, relax};
 use dm_rows::{Choice, Decision, Rows};
 use dm_samples::Failure;
 use dm_settle::{NoTimes, Times};
 use std::alloc::{AllocError, Global};
-use std::marker::{Brand, Model};
-use std::sync::ledger::{Blank, Ledger};
+use std::marker::Model;
 
 /// Seconds for each passenger.
 const PENALTY: u64 = 10;
@@ -67,14 +66,11 @@ impl<'n> Trial<'n> {
 
     /// Decides a choice, and says whether the longer path has a cycle.
     pub fn decide(&mut self, alloc: Global, decision: Decision) -> Result<Decided, Failure> {
-        if !self
-            .evaluator
-            .is_open(self.net, choice_decided_by(decision))
-        {
+        if !self.evaluator.is_open(self.net, choice_of(decision)) {
             return Ok(Decided::NotOpen);
         }
         let due = closes_cycle(alloc, self.net, &self.evaluator, decision)?;
-        let made = decide::<Brand>(&mut self.evaluator, self.net, decision, Blank::new(1)).is_ok();
+        let made = decide(&mut self.evaluator, self.net, decision).is_ok();
         Ok(match (made, due) {
             (true, false) => Decided::Made,
             (false, true) => Decided::Cyclic,
@@ -87,14 +83,14 @@ impl<'n> Trial<'n> {
         if !self.evaluator.has_decided(choice) {
             return false;
         }
-        undecide::<Brand>(&mut self.evaluator, self.net, choice, Blank::new(1));
+        undecide(&mut self.evaluator, self.net, choice);
         true
     }
 
     /// What the path costs, and the first choice that it leaves undecided and violates.
     pub fn found(&mut self) -> (Cost, Option<Choice>) {
         let cost = self.evaluator.cost(self.net, PENALTY);
-        let violated = violated::<Brand>(&mut self.evaluator, self.net, Blank::new(1));
+        let violated = violated(&mut self.evaluator, self.net);
         (cost, violated)
     }
 
@@ -149,22 +145,6 @@ fn found_at(relaxed: &Relaxed, times: &Times) -> Option<Found> {
     }
 }
 
-/// The choice that a decision decides.
-fn choice_decided_by(decision: Decision) -> Choice
-    ensures { result ≡ choice_of decision }
-{
-    match decision {
-        Decision::Keep(act) | Decision::Drop(act) => Choice::Change(act),
-        Decision::First(i, j) => {
-            if i.0 < j.0 {
-                Choice::Pair(i, j)
-            } else {
-                Choice::Pair(j, i)
-            }
-        }
-    }
-}
-
 /// Whether the path with one more decision has a cycle, computed from scratch.
 fn closes_cycle(
     alloc: Global,
@@ -212,47 +192,4 @@ fn has_cycle(
         Err(NoTimes::Cycle(_)) => Ok(true),
         Err(NoTimes::OutOfMemory) => Err(Failure::OutOfMemory),
     }
-}
-
-/// Decides a choice, for a ledger that nothing reads.
-fn decide<L: Ledger>(
-    evaluator: &mut Evaluator,
-    net: &Network,
-    decision: Decision,
-    blank: Blank,
-) -> Result<(), Cyclic>
-    requires evaluator { IsEvaluatorOf net.now evaluator.old }
-    requires open { IsOpen net.now evaluator.old.rows evaluator.old.path (choice_of decision) }
-    requires name { blank.name ≡ L.name }
-    requires parts { blank.parts ≡ L.parts }
-    requires has_a_part { 0 < blank.parts }
-    ensures { IsEvaluatorOf net.now evaluator.new }
-{
-    let mut steps = Steps::<L>::new(blank);
-    evaluator.decide(net, decision, &mut steps)
-}
-
-/// Takes a decision back, for a ledger that nothing reads.
-fn undecide<L: Ledger>(evaluator: &mut Evaluator, net: &Network, choice: Choice, blank: Blank)
-    requires evaluator { IsEvaluatorOf net.now evaluator.old }
-    requires decided { is_decided evaluator.old.path choice ≡ true }
-    requires name { blank.name ≡ L.name }
-    requires parts { blank.parts ≡ L.parts }
-    requires has_a_part { 0 < blank.parts }
-    ensures { IsEvaluatorOf net.now evaluator.new }
-{
-    let mut steps = Steps::<L>::new(blank);
-    evaluator.undecide(net, choice, &mut steps);
-}
-
-/// The first choice that is violated, for a ledger that nothing reads.
-fn violated<L: Ledger>(evaluator: &mut Evaluator, net: &Network, blank: Blank) -> Option<Choice>
-    requires evaluator { IsEvaluatorOf net.now evaluator.old }
-    requires name { blank.name ≡ L.name }
-    requires parts { blank.parts ≡ L.parts }
-    requires has_a_part { 0 < blank.parts }
-    ensures { IsEvaluatorOf net.now evaluator.new }
-{
-    let mut steps = Steps::<L>::new(blank);
-    evaluator.violated(net, &mut steps)
 }
