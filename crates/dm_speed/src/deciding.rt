@@ -1,19 +1,14 @@
 //! Moves of an evaluator.
-ghost use Rattle.std.specs.Prelude.{◌≡◌, ◌<◌, true};
-ghost use Rattle.dm_rows.specs.Decide.{choice_of};
-ghost use Rattle.dm_rows.specs.Relax.{is_decided};
-ghost use Rattle.dm_evaluate.specs.Evaluator.{IsEvaluatorOf};
-ghost use Rattle.dm_paths.specs.Decisions.{IsOpen};
 
-use dm_base::{ActId, Cost, EventId, Steps};
+use dm_base::{ActId, Cost, EventId};
+use dm_deciding::{decide, undecide};
 use dm_evaluate::Evaluator;
-use dm_graph::search::Cyclic;
 use dm_network::Network;
+use dm_paths::choice_of;
 use dm_rows::{Choice, Decision};
 use dm_samples::{Failure, rows_on_time};
 use std::alloc::Global;
-use std::marker::{Brand, Model};
-use std::sync::ledger::{Blank, Ledger};
+use std::marker::Model;
 
 /// Seconds for each passenger.
 const PENALTY: u64 = 3_600;
@@ -57,9 +52,8 @@ impl<'n> Root<'n> {
 
     /// Decides a choice, and says whether that could be done.
     fn decide(&mut self, decision: Decision) -> bool {
-        self.evaluator
-            .is_open(self.net, choice_decided_by(decision))
-            && decide::<Brand>(&mut self.evaluator, self.net, decision, Blank::new(1)).is_ok()
+        self.evaluator.is_open(self.net, choice_of(decision))
+            && decide(&mut self.evaluator, self.net, decision).is_ok()
     }
 
     /// Takes the decision of a choice back, and says whether there was one.
@@ -67,60 +61,13 @@ impl<'n> Root<'n> {
         if !self.evaluator.has_decided(choice) {
             return false;
         }
-        undecide::<Brand>(&mut self.evaluator, self.net, choice, Blank::new(1));
+        undecide(&mut self.evaluator, self.net, choice);
         true
     }
 
     fn cost(&self) -> Cost {
         self.evaluator.cost(self.net, PENALTY)
     }
-}
-
-/// The choice that a decision decides.
-fn choice_decided_by(decision: Decision) -> Choice
-    ensures { result ≡ choice_of decision }
-{
-    match decision {
-        Decision::Keep(act) | Decision::Drop(act) => Choice::Change(act),
-        Decision::First(i, j) => {
-            if i.0 < j.0 {
-                Choice::Pair(i, j)
-            } else {
-                Choice::Pair(j, i)
-            }
-        }
-    }
-}
-
-/// Decides a choice, for a ledger that nothing reads.
-fn decide<L: Ledger>(
-    evaluator: &mut Evaluator,
-    net: &Network,
-    decision: Decision,
-    blank: Blank,
-) -> Result<(), Cyclic>
-    requires evaluator { IsEvaluatorOf net.now evaluator.old }
-    requires open { IsOpen net.now evaluator.old.rows evaluator.old.path (choice_of decision) }
-    requires name { blank.name ≡ L.name }
-    requires parts { blank.parts ≡ L.parts }
-    requires has_a_part { 0 < blank.parts }
-    ensures { IsEvaluatorOf net.now evaluator.new }
-{
-    let mut steps = Steps::<L>::new(blank);
-    evaluator.decide(net, decision, &mut steps)
-}
-
-/// Takes a decision back, for a ledger that nothing reads.
-fn undecide<L: Ledger>(evaluator: &mut Evaluator, net: &Network, choice: Choice, blank: Blank)
-    requires evaluator { IsEvaluatorOf net.now evaluator.old }
-    requires decided { is_decided evaluator.old.path choice ≡ true }
-    requires name { blank.name ≡ L.name }
-    requires parts { blank.parts ≡ L.parts }
-    requires has_a_part { 0 < blank.parts }
-    ensures { IsEvaluatorOf net.now evaluator.new }
-{
-    let mut steps = Steps::<L>::new(blank);
-    evaluator.undecide(net, choice, &mut steps);
 }
 
 /// What the day costs after the pair was turned and left undecided so often, and the last change dropped.

@@ -1,4 +1,0 @@
-use Rattle.dm_speed.proofs.deciding.Root.take_back.Given as goal
-
-abbrev pub ghosts-undecide : goal.ghosts-undecide
-ghosts-undecide a = record { name = a.blank.name; parts = a.blank.parts }
