@@ -2,7 +2,7 @@
 """Times the checking of runs of a generated day: python3 bench/check.py FOLDER DISPATCHER
 
 FOLDER is a day that day.py wrote, and DISPATCHER a built dispatcher. Each row runs a feed, checks the text that the run printed,
-and gives the least processor time of both and the ratio, which is bounded (the last row is over its bound today):
+and gives the least processor time of both and the ratio, which is bounded:
 
     delays     a full feed of delays              2.0
     mixed      a full feed of mixed lines         2.0

@@ -9,6 +9,7 @@ empty feed. Then come the ratios that are bounded, each with its bound:
     mixed      a full feed of mixed lines against an empty one     2.5
     few        500 delays against an empty feed                    1.3
     four       four feeds of as many lines in all against one      1.3
+    four-1000  the same in rounds of 1,000 lines a feed            1.3
     boards     boards of 64 of the stops against none              1.5
     rounds     with --batch=1000, against BEFORE                   1.1
     default    with the default batch, against BEFORE              1.5
@@ -26,6 +27,9 @@ REPEATS = 5
 # As many boards as a run may have.
 BOARDS = range(1, 65)
 
+# The full feed, split into four.
+QUARTERS = ['quarter-1', 'quarter-2', 'quarter-3', 'quarter-4']
+
 # Name, feeds, further words.
 RUNS = [
     ('empty', ['empty'], []),
@@ -35,7 +39,8 @@ RUNS = [
     ('questions', ['questions'], []),
     ('boards', ['full'], ['--boards=' + ','.join(str(stop) for stop in BOARDS)]),
     ('rounds', ['full'], ['--batch=1000']),
-    ('four', ['quarter-1', 'quarter-2', 'quarter-3', 'quarter-4'], []),
+    ('four', QUARTERS, []),
+    ('four-1000', QUARTERS, ['--batch=1000']),
 ]
 
 
@@ -43,9 +48,9 @@ def quarters(folder):
     """Splits the full feed into four feeds of as many lines in all."""
     with open(os.path.join(folder, 'full')) as file:
         lines = file.readlines()
-    for number in range(4):
-        with open(os.path.join(folder, f'quarter-{number + 1}'), 'w') as file:
-            file.writelines(lines[number::4])
+    for number, name in enumerate(QUARTERS):
+        with open(os.path.join(folder, name), 'w') as file:
+            file.writelines(lines[number::len(QUARTERS)])
 
 
 def clear_boards(folder):
@@ -94,6 +99,7 @@ def main():
         ('mixed', now['mixed'] / now['empty'], 2.5),
         ('few', now['few'] / now['empty'], 1.3),
         ('four', now['four'] / now['delays'], 1.3),
+        ('four-1000', now['four-1000'] / now['rounds'], 1.3),
         ('boards', now['boards'] / now['delays'], 1.5),
     ]
     if len(sys.argv) > 3:
