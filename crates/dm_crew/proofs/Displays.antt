@@ -26,11 +26,12 @@ use Rattle.dm_server.specs.Answers.{base_of, rows_after, AreTimesAfter, HasLooke
 use Rattle.dm_table.specs.Value.{TableValue, IsTable}
 use Rattle.dm_turn.specs.declared.view.Numbered.{Numbered}
 use Rattle.dm_turn.specs.Passes.{PassValue}
+use Rattle.dm_turn.proofs.Fronts.{prefix_trans, prefix_whole}
 use Rattle.dm_crew.specs.declared.display.Display.{Display}
 use Rattle.dm_crew.specs.Boards.{AreShown}
 use Rattle.dm_crew.specs.Passes.{numbers_in, desk_of, IsSamePass}
 use Rattle.dm_crew.specs.Inside.Works.{IsGathered}
-use Rattle.dm_crew.specs.Inside.Displays.{IsFor, HasShownNothing, AreUp, Shows}
+use Rattle.dm_crew.specs.Inside.Displays.{IsFor, HasShownNothing, AreUp, Shows, ShowsOn}
 
 none_yet : AreTrueNotes 0 []
 none_yet = record {
@@ -60,6 +61,13 @@ looked_same first before now same looked =
     looked.same
     ∙ (ap (λ (p : PassValue Base). record p { seen = now.seen }) same
     ∙ ap (λ (m : List Numbered). record first { seen = now.seen; mine = m }) (sym mine))
+
+-- a pass that has looked twice
+pub looked_again : (before between now : PassValue Base) → HasLooked before between → HasLooked between now → HasLooked before now
+looked_again before between now first second = record {
+  later = prefix_trans before.seen between.seen now.seen first.later second.later;
+  same = second.same ∙ ap (λ (p : PassValue Base). record p { seen = now.seen }) first.same;
+}
 
 -- rounds that were answered to a history are so over a longer one, of which nothing is one's own
 pub rounds_look : {S : Type 0} (left : S → Option (List ℕ)) (is_sound : S → Type 0) (feeds : List (Option S)) (first : DeskValue) (batch : ℕ) (base : Base) (before now : PassValue Base) (jobs : List (Job S)) → HasLooked before now → IsLegal base.network base.start now.seen
@@ -112,11 +120,11 @@ module _ {B : Type 0} (place : B → ℕ) (times_on : B → Option (ℕ → Opti
   as_many : (old new : List B) → map place new ≡ map place old → length new ≡ length old
   as_many old new stops = sym (length-map new place) ∙ (ap length stops ∙ length-map old place)
 
-  pub shows_history : (base : Base) (seen : List Entry) (display now : Display) (net : Net) (entry : ℕ) (old new : List B) → IsFor base.network (length old) display → net ≡ base.network → now.net.now ≡ base.network → entry ≡ length seen → AreTimesAfter base seen now.times
+  pub shows_history : (base : Base) (seen : List Entry) (display now : Display) (net : Net) (entry : ℕ) (old new : List B) → IsFor base.network (length old) display → net ≡ base.network → now.net.now ≡ base.network → entry ≡ length seen → now.entries ≡ entry → AreTimesAfter base seen now.times
       → map place new ≡ map place old → KeepsUpLast place times_on faults is_sound net display.publisher.last now.times old new display.publisher.notes now.publisher.notes
       → ((entries : ℕ) → entries ≤ entry → AreTrueNotes entries display.publisher.notes → AreTrueNotes entry now.publisher.notes)
       → now.publisher.last ≡ now.times → now.publisher.boards ≡ display.publisher.boards → now.publisher.events ≡ display.publisher.events → Shows place times_on faults is_sound base seen display now old new
-  shows_history base seen display now net entry old new fits is network here least stops keeps noted last boards events = λ first entries low k.
+  shows_history base seen display now net entry old new fits is network here entries_are least stops keeps noted last boards events = λ first entries low k.
       let notes = now.publisher.notes in
       let keeps_up : KeepsUpLast place times_on faults is_sound base.network display.publisher.last now.times old new display.publisher.notes notes =
       subst (λ (n : Net). KeepsUpLast place times_on faults is_sound n display.publisher.last now.times old new display.publisher.notes notes) is keeps in
@@ -129,6 +137,7 @@ module _ {B : Type 0} (place : B → ℕ) (times_on : B → Option (ℕ → Opti
           events = events ∙ fits.events;
           size = least.meets.size;
         };
+        entries = entries_are ∙ here;
         kept = record {
           kept = up.kept;
           noted = true_now;
@@ -143,11 +152,13 @@ module _ {B : Type 0} (place : B → ℕ) (times_on : B → Option (ℕ → Opti
       }
 
   -- no boards are up, whatever the times are
-  pub shows_none : (base : Base) (seen : List Entry) (display : Display) (none : List B) → length none ≡ 0 → IsFor base.network (length none) display → Shows place times_on faults is_sound base seen display display none none
-  shows_none base seen display none empty fits = λ first entries low k.
+  pub shows_none : (base : Base) (seen : List Entry) (display : Display) (entry : ℕ) (none : List B) → length none ≡ 0 → entry ≡ length seen → IsFor base.network (length none) display
+      → Shows place times_on faults is_sound base seen display (record display { entries = entry }) none none
+  shows_none base seen display entry none empty here fits = λ first entries low k.
       let noted = true_later entries (length seen) display.publisher.notes low k.noted in
       record {
-        is_for = fits;
+        is_for = record { network = fits.network; boards = fits.boards; events = fits.events; size = fits.size };
+        entries = here;
         kept = record { kept = k.kept; noted = noted; last = k.last };
         shown = λ x least. record {
           up = record { kept = k.kept; shown = λ at before after b n free told. absurd (omega (arith, empty, slice_get_within none at after n)) };
@@ -165,9 +176,15 @@ module _ {B : Type 0} (place : B → ℕ) (times_on : B → Option (ℕ → Opti
         last = subst (λ (last : List ℕ). AllShowLast place times_on base.network last display.publisher.notes boards boards) (sym none.1) (all_show_none place times_on faults is_sound base.network display.publisher.notes boards boards);
       })
 
-  pub shown_next : (base : Base) (seen later : List Entry) (display now : Display) (first old new : List B) → length seen ≤ length later → AreUp place times_on faults is_sound base seen display first old → Shows place times_on faults is_sound base later display now old new
-      → AreUp place times_on faults is_sound base later now first new
-  shown_next base seen later display now first old new low up shows = shows first (length seen) low up.kept
+  -- boards are shown the times after a history, whatever they have shown before
+  pub shown_on : (base : Base) (seen : List Entry) (display now : Display) (old new : List B) → Shows place times_on faults is_sound base seen display now old new → ShowsOn place times_on faults is_sound base seen display now old new
+  shown_on base seen display now old new shows = λ first before on up. shows first (length before) (no_shorter before seen on) up.kept
+
+  -- a history that has not grown is the one whose times they show
+  pub shown_still : (base : Base) (seen : List Entry) (display : Display) (boards : List B) → length seen ≡ display.entries → ShowsOn place times_on faults is_sound base seen display display boards boards
+  shown_still base seen display boards many = λ first before on up.
+      let same : before ≡ seen = prefix_whole before seen on (omega (arith, many, up.entries)) in
+      subst (λ (s : List Entry). AreUp place times_on faults is_sound base s display first boards) same up
 
   -- what is shown after a server's history is what its table has in the end
   pub shown_at_end : (base : Base) (seen : List Entry) (display : Display) (first now : List B) (table : TableValue) → base_of table ≡ base → table.history ≡ seen → IsTable table → AreUp place times_on faults is_sound base seen display first now

@@ -4,7 +4,7 @@ ghost use Rattle.std.specs.Prelude.{◌≡◌, ◌≤◌, false, Some, map, vec_
 ghost use Rattle.dm_base.specs.declared.limits.TheConstants.{BOARDS};
 ghost use Rattle.dm_rows.specs.History.{IsLegal};
 ghost use Rattle.dm_server.specs.Answers.{HasLooked};
-ghost use Rattle.dm_crew.specs.Inside.Displays.{IsFor, HasShownNothing, Shows};
+ghost use Rattle.dm_crew.specs.Inside.Displays.{IsFor, HasShownNothing, Shows, ShowsOn};
 
 use crate::desk::Seat;
 use dm_network::Network;
@@ -22,6 +22,9 @@ pub struct Display<'n> {
     pub net: &'n Network,
     pub publisher: Publisher,
     pub times: Times,
+
+    /// How many entries there were when boards were shown times last.
+    pub entries: u32,
 }
 
 impl<'n> Display<'n> {
@@ -35,6 +38,7 @@ impl<'n> Display<'n> {
             net,
             publisher: Publisher::new(alloc, net, boards)?,
             times: Times::room(alloc, net)?,
+            entries: 0,
         })
     }
 
@@ -57,12 +61,38 @@ impl<'n> Display<'n> {
         ensures stops { map place boards.new.items ≡ map place boards.old.items }
     {
         if boards.is_empty() {
-            server.length(rt, main);
+            let entry = server.length(rt, main);
+            self.entries = entry;
             return;
         }
         let entry = server.copy_times(rt, main, &mut self.times);
+        self.entries = entry;
         let _dropped = self
             .publisher
             .publish_changes(self.net, &self.times, entry, boards);
+    }
+
+    /// The same where the history has grown since boards were shown times last. Else the times have not changed, and no board is
+    /// called.
+    pub fn show_growth<P: Seat, R: Wait>(
+        &mut self,
+        rt: &R,
+        server: &Server<'n>,
+        main: &mut Pass<Kept<'n>>,
+        boards: &mut Vec<Box<dyn Board>>,
+    )
+        requires here { main.old.turn ≡ server.now.id }
+        requires idle { main.old.holds ≡ false }
+        requires base { main.old.base ≡ Some P.base }
+        requires fits { IsFor P.base.network (vec_len boards.old) self.old }
+        ensures looked { HasLooked main.old main.new }
+        ensures legal { IsLegal P.base.network P.base.start main.new.seen }
+        ensures up { ShowsOn place times faults is_sound P.base main.new.seen self.old self.new boards.old.items boards.new.items }
+        ensures stops { map place boards.new.items ≡ map place boards.old.items }
+    {
+        if server.length(rt, main) == self.entries {
+            return;
+        }
+        self.show::<P, R>(rt, server, main, boards);
     }
 }

@@ -26,8 +26,8 @@ use std::sync::Wait;
 use std::thread::Threads;
 
 /// Answers feeds over a server until each has ended, in rounds of so many lines a feed, each round's feeds at once. Boards are
-/// shown the times before the first round and after each. It may answer want of memory at any point up to the end of the last
-/// round, and then says nothing of the passes.
+/// shown the times before the first round and after each that has entered something. It may answer want of memory at any point
+/// up to the end of the last round, and then says nothing of the passes.
 pub fn answer_feeds<
     'n,
     P: Seat + Send + Sync,
@@ -70,7 +70,7 @@ pub fn answer_feeds<
             break;
         }
         jobs = answer_round::<P, R, S, L, H>(rt, alloc, server, main, jobs, planner, gate, batch)?;
-        display.show::<P, R>(rt, server, main, boards);
+        display.show_growth::<P, R>(rt, server, main, boards);
     }
     Ok(logs_of(jobs, logs))
 }

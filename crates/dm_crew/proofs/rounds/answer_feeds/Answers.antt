@@ -1,13 +1,14 @@
-use Rattle.std.proofs.Common.{◌+◌, ◌≤◌, List, length, map, refl, sym, ap, subst, ◌∙◌, arith}
+use Rattle.std.proofs.Common.{◌+◌, List, length, map, refl, sym, ap, subst, ◌∙◌, arith}
+use mathlib.Core.List.{IsPrefix}
 use Rattle.dm_cert.specs.declared.replies.FeedLog.{FeedLog}
-use Rattle.dm_desk.proofs.Answering.{no_shorter}
 use Rattle.dm_rounds.specs.Rounds.{AnswersFeeds}
 use Rattle.dm_rounds.specs.Inside.Jobs.{log_in}
 use Rattle.dm_rounds.proofs.Closing.{first_round, can_read_all, are_true_all, ends_rounds, is_some_none, ended_all}
 use Rattle.dm_server.specs.declared.kept.Base.{Base}
 use Rattle.dm_turn.specs.Passes.{PassValue}
+use Rattle.dm_turn.proofs.Fronts.{prefix_trans}
 use Rattle.dm_crew.specs.Passes.{desk_of, IsSamePass}
-use Rattle.dm_crew.proofs.Displays.{looked_same, rounds_look, shown_first, shown_next}
+use Rattle.dm_crew.proofs.Displays.{looked_same, rounds_look, shown_first}
 use Rattle.dm_crew.proofs.rounds.answer_feeds.Goals as goal
 use Rattle.dm_crew.proofs.rounds.answer_feeds.Goals.{in-None, in-Some+then-have_ended}
 
@@ -58,14 +59,14 @@ loop-preserved g c =
     let rounds = c.loop.invariant.1 in
     let round = c.in_ok-jobs-2.ensures.round c.args.feeds.items (desk_of g.P.Seat.base c.args.main.now) rounds.rounds rounds.low rounds.state in
     let before = c.answer_round.new.main in
-    let now = c.show-in-loop.new.main in
-    let looked = c.show-in-loop.ensures.looked in
-    let legal = c.show-in-loop.ensures.legal in
-    let low : length c.loop.main.seen ≤ length now.seen = omega (arith, no_shorter c.loop.main.seen before.seen c.in_ok-jobs-2.ensures.later, no_shorter before.seen now.seen looked.later) in
+    let now = c.show_growth.new.main in
+    let looked = c.show_growth.ensures.looked in
+    let legal = c.show_growth.ensures.legal in
+    let on : IsPrefix c.loop.main.seen now.seen = prefix_trans c.loop.main.seen before.seen now.seen c.in_ok-jobs-2.ensures.later looked.later in
     let same : IsSamePass c.args.main.now before = c.in_ok-jobs-2.ensures.same ∙ ap (λ (p : PassValue Base). record p { seen = before.seen; mine = before.mine }) c.loop.invariant.0 in (
       looked_same c.args.main.now before now same looked,
       rounds_look g.S.Source.left g.S.Source.is_sound c.args.feeds.items (desk_of g.P.Seat.base c.args.main.now) c.args.batch g.P.Seat.base before now c.in_ok-jobs-2.jobs.items looked legal (record { rounds = rounds.rounds + 1; low = length before.seen; state = round }),
-      shown_next _ _ _ _ g.P.Seat.base c.loop.main.seen now.seen c.loop.display c.show-in-loop.new.self c.args.boards.now.items c.loop.boards.items c.show-in-loop.new.boards.items low c.loop.invariant.2 c.show-in-loop.ensures.up,
+      c.show_growth.ensures.up c.args.boards.now.items c.loop.main.seen on c.loop.invariant.2,
     )
 
 pub logs_of-requires-clause-room : goal.logs_of-requires-clause-room

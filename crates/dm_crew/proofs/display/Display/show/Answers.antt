@@ -1,4 +1,4 @@
-use Rattle.std.proofs.Common.{◌≡◌, ℕ, length, vec_len, eqb-true, sym, ap, subst, ◌∙◌, arith}
+use Rattle.std.proofs.Common.{◌≡◌, ℕ, length, vec_len, eqb-true, refl, sym, ap, subst, ◌∙◌, arith}
 use Rattle.dm_network.specs.Net.{Net}
 use Rattle.dm_server.specs.declared.kept.Base.{Base}
 use Rattle.dm_server.specs.Answers.{AreTimesAfter}
@@ -24,13 +24,13 @@ publish_changes-dropped-requires-clause-boards g c = sym c.requires.fits.boards
 
 pub returns-then-is_empty-clause-legal : goal.returns-then-is_empty-clause-legal
 returns-then-is_empty-clause-legal g c =
-    holds_at IsLegalAfter g.P.Seat.base c.args.main.now c.length.new.pass c.requires.base (base_looked c.args.main.now c.length.new.pass c.length.ensures.looked) c.length.ensures.legal
+    holds_at IsLegalAfter g.P.Seat.base c.args.main.now c.length-entry.new.pass c.requires.base (base_looked c.args.main.now c.length-entry.new.pass c.length-entry.ensures.looked) c.length-entry.ensures.legal
 
 pub returns-then-is_empty-clause-up : goal.returns-then-is_empty-clause-up
 returns-then-is_empty-clause-up g c =
     let none : vec_len c.args.boards.now ≡ 0 = eqb-true _ 0 (sym c.if-is_empty.ensures) in
     let fits = subst (λ (n : ℕ). IsFor g.P.Seat.base.network n c.args.self.now) c.args.boards.now.ok.0 c.requires.fits in
-    shows_none _ _ _ _ g.P.Seat.base c.length.new.pass.seen c.args.self.now c.args.boards.now.items (omega arith) fits
+    shows_none _ _ _ _ g.P.Seat.base c.length-entry.new.pass.seen c.args.self.now c.length-entry.result c.args.boards.now.items (omega arith) c.length-entry.ensures.number fits
 
 pub returns-clause-legal : goal.returns-clause-legal
 returns-clause-legal g c =
@@ -42,7 +42,7 @@ returns-clause-up g c =
     let p = c.publish_changes-dropped.ensures in
     let fits = subst (λ (n : ℕ). IsFor g.P.Seat.base.network n c.args.self.now) c.args.boards.now.ok.0 c.requires.fits in
     shows_history _ _ _ _ g.P.Seat.base c.copy_times-entry.new.pass.seen c.args.self.now _ c.args.self.now.net.now c.copy_times-entry.result c.args.boards.now.items c.publish_changes-dropped.new.boards.items
-    fits c.requires.fits.network c.requires.fits.network c.copy_times-entry.ensures.number least p.published.stops p.keeps_up p.true_notes p.last p.same_boards p.same_events
+    fits c.requires.fits.network c.requires.fits.network c.copy_times-entry.ensures.number refl least p.published.stops p.keeps_up p.true_notes p.last p.same_boards p.same_events
 
 pub returns-clause-stops : goal.returns-clause-stops
 returns-clause-stops g c = c.publish_changes-dropped.ensures.published.stops
