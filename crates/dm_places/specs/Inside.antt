@@ -1,0 +1,2 @@
+-- How many places are listed.
+pub mod Listing
