@@ -53,17 +53,27 @@ def quarters(folder):
             file.writelines(lines[number::len(QUARTERS)])
 
 
-def clear_boards(folder):
-    """Takes away the files of boards, which a run goes on in."""
-    for stop in BOARDS:
-        path = os.path.join(folder, 'net', f'board-{stop}.txt')
+def board_files(folder):
+    return [os.path.join(folder, 'net', f'board-{stop}.txt') for stop in BOARDS]
+
+
+def empty_boards(folder):
+    """Empties the files of boards, which a run goes on in. They are not taken away: to make a file where one was
+    just taken away costs a file system far more than to go on in one."""
+    for path in board_files(folder):
+        open(path, 'w').close()
+
+
+def remove_boards(folder):
+    """Takes the files of boards away."""
+    for path in board_files(folder):
         if os.path.exists(path):
             os.remove(path)
 
 
 def timed(program, folder, feeds, words):
     """The processor and wall seconds of a run."""
-    clear_boards(folder)
+    empty_boards(folder)
     command = [program, 'run', 'net', '--penalty=3600'] + words + feeds
     before = resource.getrusage(resource.RUSAGE_CHILDREN)
     start = time.monotonic()
@@ -86,7 +96,7 @@ def table(title, program, folder):
         used, wall = least(program, folder, feeds, words)
         seconds[name] = used
         print(f'  {name:<16}{used:>10.3f} s{wall:>7.3f} s{used / seconds["empty"]:>8.2f}')
-    clear_boards(folder)
+    remove_boards(folder)
     return seconds
 
 
