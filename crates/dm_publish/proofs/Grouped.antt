@@ -1,19 +1,19 @@
--- Listed events, brought together by stops.
+-- Events listed stop by stop.
 use Rattle.std.proofs.Common.{◌≡◌, ℕ, ◌+◌, ◌-◌, ◌<◌, ◌≤◌, true, false, List, length, get_or, sym, ap, subst, ◌∙◌, inl, inr, arith, take, drop}
-use Rattle.std.specs.Prelude.{All, Contains, IsPermutation, slice_index_or}
+use Rattle.std.specs.Prelude.{All, Contains, slice_index_or}
 use Rattle.std.specs.List.Sorted.{IsNonDecreasingBy, IsSortedByKey, IsPartitionPoint}
 use Rattle.std.specs.Ordering.{nat_cmp, is_lt, ordering_then}
-use lib.Dec.{ltb, leb}
-use Rattle.std.proofs.lemmas.Bool.{cases_lt, ltb-true, ltb-false, leb-true, leb-false}
+use lib.Dec.{ltb}
+use Rattle.std.proofs.lemmas.Bool.{cases_lt, ltb-true, ltb-false}
 use Rattle.std.proofs.lemmas.Bool.Decides.{nat_tests}
 use Rattle.std.proofs.lemmas.List.{get_or_default, get_or-take, get_or-drop, length-take-le, length-drop}
 use Rattle.std.proofs.lemmas.List.Elements.{Contains-get_or}
-use Rattle.std.proofs.lemmas.List.Sorted.{All-permutation, Contains-permutation, length_permutation, IsNonDecreasingBy-from_all_adjacent}
+use Rattle.std.proofs.lemmas.List.Sorted.{IsNonDecreasingBy-from_all_adjacent}
 use Rattle.dm_network.specs.Net.{Net, event_at}
 use Rattle.dm_publish.specs.declared.changes.Listed.{Listed}
 use Rattle.dm_publish.specs.Shown.{IsAtStop}
-use Rattle.dm_publish.specs.Inside.Changes.{no_listed, place_at, StandsIn, ListsChanges, AreAtStops}
-use Rattle.dm_publish.specs.Inside.Grouping.{AreGrouped, IsPartOf}
+use Rattle.dm_publish.specs.Inside.Changes.{no_listed, StandsIn, ListsChanges}
+use Rattle.dm_publish.specs.Inside.Grouping.{AreGrouped, EndsAt, IsPartOf}
 use Rattle.dm_publish.specs.Inside.Refreshing.{Covers}
 
 -- ---- a list that is sorted
@@ -27,33 +27,12 @@ stops_rise listed sorted =
     IsNonDecreasingBy-from_all_adjacent (λ (l : Listed). l.stop.0) listed
     (λ k d lt. stop_first (slice_index_or listed k d).stop.0 (slice_index_or listed (k + 1) d).stop.0 (slice_index_or listed k d).place (slice_index_or listed (k + 1) d).place (sorted k d (omega arith) lt))
 
--- ---- the same events in another order
-
-stands_still : (listed other : List Listed) (i : ℕ) → IsPermutation listed other → StandsIn listed i → StandsIn other i
-stands_still listed other i same s =
-    let there = Contains-permutation listed other (get_or listed s.at no_listed) same (Contains-get_or listed s.at no_listed s.within) in
-    let at : place_at other there.0 ≡ i = ap (λ (l : Listed). l.place) (get_or_default other there.0 no_listed (get_or listed s.at no_listed) there.1 ∙ there.2) ∙ s.is in
-    let from : 0 ≤ there.0 = omega arith in
-    record { at = there.0; from = from; within = there.1; is = at }
-
-pub listed_still : (last x : List ℕ) (k : ℕ) (listed other : List Listed) → IsPermutation listed other → ListsChanges last x k listed → ListsChanges last x k other
-listed_still last x k listed other same h =
-    let few = h.few in
-    let long = length_permutation listed other same in
-    record {
-      each = λ i lt. elim (h.each i lt) [ inl s ↦ inl (stands_still listed other i same s) | inr l ↦ inr l ];
-      within = All-permutation (λ (l : Listed). l.place < k) listed other same h.within;
-      few = omega arith;
-    }
-
-pub stops_still : (net : Net) (listed other : List Listed) → IsPermutation listed other → AreAtStops net listed → AreAtStops net other
-stops_still net listed other same h = All-permutation (λ (l : Listed). l.stop.0 ≡ (event_at net l.place).stop.0) listed other same h
-
 -- ---- the part of a stop
 
-module _ (listed behind : List Listed) (stop from many : ℕ) (is : behind ≡ drop from listed) (below : from ≤ length listed) (few : many ≤ length behind)
+module _ (listed behind : List Listed) (stop from many : ℕ) (is : behind ≡ drop from listed) (below : from ≤ length listed)
+    (rise : IsNonDecreasingBy (λ (l : Listed). l.stop.0) listed)
     (low : IsPartitionPoint (λ (l : Listed). ltb l.stop.0 stop ≡ true) (λ (l : Listed). ltb l.stop.0 stop ≡ false) listed from)
-    (high : IsPartitionPoint (λ (l : Listed). leb l.stop.0 stop ≡ true) (λ (l : Listed). leb l.stop.0 stop ≡ false) behind many) where
+    (ends : EndsAt behind stop many) where
   abbrev part : List Listed
   part = take many behind
 
@@ -61,7 +40,7 @@ module _ (listed behind : List Listed) (stop from many : ℕ) (is : behind ≡ d
   behind_length = ap length is ∙ length-drop from listed
 
   part_length : length part ≡ many
-  part_length = length-take-le many behind few
+  part_length = length-take-le many behind ends.within
 
   behind_at : (j : ℕ) (d : Listed) → get_or behind j d ≡ get_or listed (from + j) d
   behind_at j d = ap (λ (xs : List Listed). get_or xs j d) is ∙ get_or-drop from listed j d
@@ -82,9 +61,10 @@ module _ (listed behind : List Listed) (stop from many : ℕ) (is : behind ≡ d
       let before : k - from < many = elim (cases_lt (k - from) many) [
         | inl within ↦ within
         | inr past ↦
-            let more = leb-false (get_or behind (k - from) d).stop.0 stop (high.1 (k - from) d past (omega arith)) in
-            let same_stop = ap (λ (l : Listed). l.stop.0) same_behind in
-            absurd (omega arith)
+            let rises = rise (from + many) k d (omega arith) lt in
+            let least = ltb-false (get_or listed (from + many) d).stop.0 stop (low.1 (from + many) d (omega arith) (omega arith)) in
+            let here = ap (λ (l : Listed). l.stop.0) (get_or_default behind many no_listed d (omega arith) ∙ behind_at many d) in
+            absurd (ends.next (omega arith) (omega arith))
       ] in
       let size = part_length in
       let same : get_or part (k - from) no_listed ≡ get_or listed k d =
@@ -96,26 +76,24 @@ module _ (listed behind : List Listed) (stop from many : ℕ) (is : behind ≡ d
   part_within j d lt =
       let size = part_length in
       let long = behind_length in
+      let w = ends.within in
       subst (λ (l : Listed). Contains listed l) (sym (stands_at j d (omega arith))) (Contains-get_or listed (from + j) d (omega arith))
 
   part_of_stop : All (λ (l : Listed). l.stop.0 ≡ stop) part
   part_of_stop j d lt =
       let size = part_length in
-      let long = behind_length in
-      let more = ltb-false (get_or listed (from + j) d).stop.0 stop (low.1 (from + j) d (omega arith) (omega arith)) in
-      let less = leb-true (get_or behind j d).stop.0 stop (high.0 j d (omega arith) (omega arith)) in
-      let same_stop = ap (λ (l : Listed). l.stop.0) (behind_at j d) in
-      let here : (get_or listed (from + j) d).stop.0 ≡ stop = omega arith in
-      subst (λ (l : Listed). l.stop.0 ≡ stop) (sym (stands_at j d (omega arith))) here
+      let within = ends.within in
+      let here = ap (λ (l : Listed). l.stop.0) (get_or-take many behind j d (omega arith) ∙ get_or_default behind j d no_listed (omega arith)) in
+      here ∙ ends.of_stop j (omega arith)
 
   pub is_part : IsPartOf listed stop part
-  is_part = record { each = part_each; within = part_within; of_stop = part_of_stop; few = let size = part_length in let long = behind_length in omega arith }
+  is_part = record { each = part_each; within = part_within; of_stop = part_of_stop; few = let size = part_length in let long = behind_length in let w = ends.within in omega arith }
 
 of_contained : (P : Listed → Type 0) (listed : List Listed) (l : Listed) → All P listed → Contains listed l → P l
 of_contained P listed l all c = subst P c.2 (all c.0 l c.1)
 
 -- the part of a board's stop
-pub part_covers : (net : Net) (last x : List ℕ) (stop : ℕ) (listed part : List Listed) → length x ≡ length net.events → ListsChanges last x (length x) listed → AreGrouped net listed →
+pub part_covers : (net : Net) (last x : List ℕ) (stop : ℕ) (listed part : List Listed) → length x ≡ length net.events → ListsChanges last x listed → AreGrouped net listed →
     IsPartOf listed stop part → Covers net last x stop part
 part_covers net last x stop listed part size h grouped p =
     record {

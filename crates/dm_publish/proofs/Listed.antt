@@ -1,85 +1,86 @@
--- Events whose times are not those that were published last.
-use Rattle.std.proofs.Common.{◌≡◌, ℕ, ◌+◌, ◌-◌, ◌<◌, ◌≤◌, ◌⊎◌, List, [], ◌∷◌, ◌++◌, length, set, refl, sym, ap, subst, ◌∙◌, inl, inr, arith, length-append, slice_range}
-use Rattle.std.proofs.lemmas.Bool.{cases_lt, cases_eq}
+-- Listed events, and times that were published last.
+use Rattle.std.proofs.Common.{◌≡◌, ℕ, ◌+◌, ◌<◌, ◌≤◌, ◌⊎◌, List, [], ◌∷◌, ◌++◌, length, get_or, set, refl, sym, ap, subst, ◌∙◌, inl, inr, arith}
+use Rattle.std.specs.Prelude.{All, Contains}
+use Rattle.std.specs.List.{range_with_len}
+use Rattle.std.proofs.lemmas.Bool.{cases_eq}
 use Rattle.std.proofs.lemmas.Grind.{same_number_lists}
-use Rattle.std.proofs.lemmas.List.{get_or_append_left, get_or_push, length-set, get_or-set_same, get_or-set_other}
-use Rattle.std.proofs.lemmas.List.Edits.{get_or-between}
-use Rattle.std.proofs.lemmas.List.Elements.{All-push}
+use Rattle.std.proofs.lemmas.List.{get_or-map, get_or_default, length-map, length-set, get_or-set_same, get_or-set_other}
+use Rattle.std.proofs.lemmas.List.Elements.{All-map, Contains-get_or}
+use Rattle.std.proofs.lemmas.List.FromFn.{length-range_with_len, get_or-range_with_len, length-map-range_with_len, map-range_with_len_more}
+use Rattle.std.proofs.lemmas.List.Sorted.{All-permutation, Contains-permutation, length_permutation}
 use Rattle.dm_rows.specs.Timetable.{time_at}
 use Rattle.dm_network.specs.Net.{Net, event_at}
+use Rattle.dm_places.specs.Moved.{ListsMoved}
 use Rattle.dm_publish.specs.declared.changes.Listed.{Listed}
-use Rattle.dm_publish.specs.Inside.Changes.{no_listed, place_at, StandsFrom, StandsIn, HasLast, ListsChanges, AreAtStops, AreWritten}
+use Rattle.dm_publish.specs.Inside.Changes.{no_listed, place_at, StandsFrom, StandsIn, ListsChanges, AreWritten}
+use Rattle.dm_publish.specs.Inside.Grouping.{listed_at, lists, AreListed, AreGrouped}
 
-pub lists_none : (last x : List ℕ) (listed : List Listed) → listed ≡ [] → ListsChanges last x 0 listed
-lists_none last x listed empty =
-    let l : length listed ≡ 0 = ap length empty in
-    record {
-      each = λ i lt. absurd (omega arith);
-      within = λ k d lt. absurd (omega arith);
-      few = omega arith;
-    }
+-- ---- events that are listed
 
--- events behind these, all with their last times
-pub lists_equal : (last x : List ℕ) (listed : List Listed) (from to : ℕ) → from ≤ to → ListsChanges last x from listed → ((i : ℕ) → from ≤ i → i < to → HasLast last x i) → ListsChanges last x to listed
-lists_equal last x listed from to le h same =
-    record {
-      each = λ i lt. elim (cases_lt i from) [
-        | inl before ↦ h.each i before
-        | inr past ↦ inr (same i (omega arith) lt)
-      ];
-      within = λ k d lt. let low = h.within k d lt in omega arith;
-      few = let f = h.few in omega arith;
-    }
+-- the first k of a network
+module _ (net : Net) (k : ℕ) (listed : List Listed) (are : listed ≡ lists net (range_with_len 0 k)) where
+  pub first_many : length listed ≡ k
+  first_many = ap length are ∙ length-map-range_with_len (listed_at net) 0 k
 
--- a block that is equal
-pub equal_block : (last x : List ℕ) (from to : ℕ) → to ≤ length last → to ≤ length x → slice_range last from to ≡ slice_range x from to → (i : ℕ) → from ≤ i → i < to → HasLast last x i
-equal_block last x from to in_last in_x same i ge lt =
-    let at : from + (i - from) ≡ i = omega arith in
-    let left = get_or-between last from to (i - from) 0 (omega arith) in
-    let right = get_or-between x from to (i - from) 0 (omega arith) in
-    let both : time_at last (from + (i - from)) ≡ time_at x (from + (i - from)) = sym left ∙ (ap (λ (l : List ℕ). time_at l (i - from)) same ∙ right) in
-    record {
-      within = omega arith;
-      same = subst (λ (j : ℕ). time_at last j ≡ time_at x j) at both;
-    }
+  pub first_next : lists net (range_with_len 0 (k + 1)) ≡ listed ++ listed_at net k ∷ []
+  first_next = map-range_with_len_more (listed_at net) 0 k k (omega arith) ∙ ap (λ (ls : List Listed). ls ++ listed_at net k ∷ []) (sym are)
 
-stands_still : (listed : List Listed) (i : ℕ) (p : Listed) → StandsIn listed i → StandsIn (listed ++ p ∷ []) i
-stands_still listed i p s =
-    let w = s.within in
-    let l = length-append listed (p ∷ []) in
-    record { at = s.at; from = omega arith; within = omega arith; is = ap (λ (l : Listed). l.place) (get_or_append_left listed (p ∷ []) no_listed s.at w) ∙ s.is }
+module _ (net : Net) (places : List ℕ) (listed : List Listed) (h : AreListed net places listed) where
+  pub listed_grouped : AreGrouped net listed
+  listed_grouped =
+      record {
+        stops = All-permutation (λ (l : Listed). l.stop.0 ≡ (event_at net l.place).stop.0) (lists net places) listed h.same
+            (All-map (λ (l : Listed). l.stop.0 ≡ (event_at net l.place).stop.0) (listed_at net) places (λ k d lt. refl));
+        ascend = h.ascend;
+      }
 
-stands_last : (listed : List Listed) (p : Listed) → StandsIn (listed ++ p ∷ []) p.place
-stands_last listed p =
-    let l = length-append listed (p ∷ []) in
-    record { at = length listed; from = omega arith; within = omega arith; is = ap (λ (l : Listed). l.place) (get_or_push listed p no_listed (length listed) refl) }
+  stands_listed : (i : ℕ) → Contains places i → StandsIn listed i
+  stands_listed i c =
+      let made : get_or (lists net places) c.0 (listed_at net i) ≡ listed_at net i =
+      get_or-map (listed_at net) places c.0 i (listed_at net i) c.1 ∙ ap (listed_at net) c.2 in
+      let long = length-map places (listed_at net) in
+      let in_range = c.1 in
+      let there = Contains-permutation (lists net places) listed (listed_at net i) h.same
+      (subst (Contains (lists net places)) made (Contains-get_or (lists net places) c.0 (listed_at net i) (omega arith))) in
+      let from : 0 ≤ there.0 = omega arith in
+      record { at = there.0; from = from; within = there.1; is = ap (λ (l : Listed). l.place) (get_or_default listed there.0 no_listed (listed_at net i) there.1 ∙ there.2) }
 
--- one event more
-pub lists_push : (last x : List ℕ) (listed : List Listed) (k : ℕ) (p : Listed) → p.place ≡ k → ListsChanges last x k listed → ListsChanges last x (k + 1) (listed ++ p ∷ [])
-lists_push last x listed k p is h =
-    let l = length-append listed (p ∷ []) in
-    record {
-      each = λ i lt. elim (cases_lt i k) [
-        | inl before ↦ elim (h.each i before) [ inl s ↦ inl (stands_still listed i p s) | inr same ↦ inr same ]
-        | inr past ↦ let here : p.place ≡ i = omega arith in inl (subst (λ (j : ℕ). StandsIn (listed ++ p ∷ []) j) here (stands_last listed p))
-      ];
-      within = All-push (λ (l : Listed). l.place < k + 1) listed p (λ j d lt. let low = h.within j d lt in omega arith) (omega arith);
-      few = let f = h.few in omega arith;
-    }
+  below_listed : (k : ℕ) → All (λ i. i < k) places → All (λ (l : Listed). l.place < k) listed
+  below_listed k low =
+      All-permutation (λ (l : Listed). l.place < k) (lists net places) listed h.same (All-map (λ (l : Listed). l.place < k) (listed_at net) places low)
 
-pub stops_push : (net : Net) (listed : List Listed) (p : Listed) → p.stop.0 ≡ (event_at net p.place).stop.0 → AreAtStops net listed → AreAtStops net (listed ++ p ∷ [])
-stops_push net listed p is h = All-push (λ (l : Listed). l.stop.0 ≡ (event_at net l.place).stop.0) listed p h is
+  many_listed : length listed ≡ length places
+  many_listed = length_permutation (lists net places) listed h.same ∙ length-map places (listed_at net)
 
-pub stops_none : (net : Net) (listed : List Listed) → listed ≡ [] → AreAtStops net listed
-stops_none net listed empty = let l : length listed ≡ 0 = ap length empty in λ k d lt. absurd (omega arith)
+  -- the places where times have moved
+  pub lists_moved : (last x : List ℕ) → ListsMoved last x places → ListsChanges last x listed
+  lists_moved last x moved =
+      let long = moved.as_many in
+      record {
+        each = λ i lt. elim (moved.each i lt) [
+          | inl c ↦ inl (stands_listed i c)
+          | inr same ↦ inr (record { within = omega arith; same = same })
+        ];
+        within = below_listed (length x) moved.within;
+        few = let many = many_listed in let few = moved.few in omega arith;
+      }
 
-pub lists_stay : (last x : List ℕ) (listed : List Listed) (k : ℕ) → ListsChanges last x k listed → HasLast last x k → ListsChanges last x (k + 1) listed
-lists_stay last x listed k h same =
-    lists_equal last x listed k (k + 1) (omega arith) h (λ i ge lt. let here : k ≡ i = omega arith in subst (λ (j : ℕ). HasLast last x j) here same)
+  -- all places
+  pub lists_all : (last x : List ℕ) → places ≡ range_with_len 0 (length x) → ListsChanges last x listed
+  lists_all last x all =
+      let long : length places ≡ length x = ap length all ∙ length-range_with_len 0 (length x) in
+      record {
+        each = λ i lt. inl (stands_listed i (i, omega arith, at i i lt));
+        within = below_listed (length x) (λ k d lt. let is = at k d (omega arith) in omega arith);
+        few = let many = many_listed in omega arith;
+      }
+    where
+      at : (i d : ℕ) → i < length x → get_or places i d ≡ i
+      at i d lt = let is = ap (λ (ps : List ℕ). get_or ps i d) all ∙ get_or-range_with_len 0 (length x) i d lt in omega arith
 
 -- ---- times that are written
 
-pub written_none : (last x : List ℕ) (listed : List Listed) → length last ≡ length x → ListsChanges last x (length x) listed → AreWritten last x listed 0
+pub written_none : (last x : List ℕ) (listed : List Listed) → length last ≡ length x → ListsChanges last x listed → AreWritten last x listed 0
 written_none last x listed size h =
     record { size = size; each = λ i lt. elim (h.each i lt) [ inl s ↦ inl s | inr l ↦ inr l.same ] }
 

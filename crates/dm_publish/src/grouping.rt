@@ -1,24 +1,63 @@
-//! Listed events, brought together by stops.
-ghost use Rattle.std.specs.Prelude.{◌≡◌, ◌≤◌, IsPermutation, length, vec_capacity};
+//! Events listed stop by stop.
+ghost use Rattle.std.specs.Prelude.{◌≡◌, ◌<◌, ◌≤◌, All, IsPermutation, length, vec_capacity};
+ghost use Rattle.std.specs.List.{range_with_len};
 ghost use Rattle.std.specs.List.Sorted.{IsNonDecreasingBy};
-ghost use Rattle.dm_publish.specs.Inside.Changes.{AreAtStops, ListsChanges};
-ghost use Rattle.dm_publish.specs.Inside.Grouping.{AreGrouped, IsPartOf};
+ghost use Rattle.dm_publish.specs.Inside.Grouping.{AreListed, EndsAt, IsPartOf, lists};
 
-use crate::changes::{Listed, list_changes};
-use dm_base::{Secs, StopId};
+use crate::changes::Listed;
+use dm_base::StopId;
 use dm_network::Network;
 
-/// Lists the events of a timetable whose times are not the last ones, in a list that has room for all: stop by stop, and those of
-/// a stop by ascending places.
-pub(crate) fn list_by_stop(net: &Network, last: &[Secs], times: &[Secs], listed: &mut Vec<Listed>)
-    requires size { length times.now ≡ length net.now.events }
-    requires room { length times.now ≤ vec_capacity listed.old }
-    ensures listed { ListsChanges last.now times.now (length times.now) listed.new.items }
-    ensures grouped { AreGrouped net.now listed.new.items }
+/// Lists all events in a list that has room for them, stop by stop.
+pub(crate) fn list_all(net: &Network, listed: &mut Vec<Listed>)
+    requires room { length net.now.events ≤ vec_capacity listed.old }
+    ensures listed { AreListed net.now (range_with_len 0 (length net.now.events)) listed.new.items }
     ensures room { vec_capacity listed.old ≤ vec_capacity listed.new }
 {
-    list_changes(net, last, times, listed);
+    put_all(net, listed);
     sort(listed);
+}
+
+/// Lists the events at these places in a list that has room for them, stop by stop.
+pub(crate) fn list_places(net: &Network, places: &[usize], listed: &mut Vec<Listed>)
+    requires events { All (λ i. i < length net.now.events) places.now }
+    requires room { length places.now ≤ vec_capacity listed.old }
+    ensures listed { AreListed net.now places.now listed.new.items }
+    ensures room { vec_capacity listed.old ≤ vec_capacity listed.new }
+{
+    put_places(net, places, listed);
+    sort(listed);
+}
+
+/// Lists all events by ascending places.
+fn put_all(net: &Network, listed: &mut Vec<Listed>)
+    requires room { length net.now.events ≤ vec_capacity listed.old }
+    ensures listed { listed.new.items ≡ lists net.now (range_with_len 0 (length net.now.events)) }
+    ensures room { vec_capacity listed.old ≤ vec_capacity listed.new }
+{
+    listed.clear();
+    for place in 0..net.events() {
+        listed.push_reserved(Listed {
+            stop: net.event(place).stop,
+            place,
+        });
+    }
+}
+
+/// Lists the events at these places in their order.
+fn put_places(net: &Network, places: &[usize], listed: &mut Vec<Listed>)
+    requires events { All (λ i. i < length net.now.events) places.now }
+    requires room { length places.now ≤ vec_capacity listed.old }
+    ensures listed { listed.new.items ≡ lists net.now places.now }
+    ensures room { vec_capacity listed.old ≤ vec_capacity listed.new }
+{
+    listed.clear();
+    for place in places {
+        listed.push_reserved(Listed {
+            stop: net.event(*place).stop,
+            place: *place,
+        });
+    }
 }
 
 /// Sorts a list by stops, and by places in each.
@@ -37,6 +76,17 @@ pub(crate) fn part_at(listed: &[Listed], stop: StopId) -> &[Listed]
 {
     let from = listed.partition_point(|event| event.stop.0 < stop.0);
     let behind = &listed[from..];
-    let many = behind.partition_point(|event| event.stop.0 <= stop.0);
-    &behind[..many]
+    &behind[..leading(behind, stop)]
+}
+
+/// How many events in front of a list are of this stop.
+fn leading(listed: &[Listed], stop: StopId) -> usize
+    ensures { EndsAt listed.now stop.0 result }
+{
+    for (i, event) in listed.iter().enumerate() {
+        if event.stop.0 != stop.0 {
+            return i;
+        }
+    }
+    listed.len()
 }

@@ -2,12 +2,13 @@
 ghost use Rattle.std.specs.Prelude.{ℕ, ◌≡◌, ◌≤◌, [], length, vec_len, IfOk};
 ghost use Rattle.dm_base.specs.declared.limits.TheConstants.{BOARDS};
 ghost use Rattle.dm_cert.specs.Runs.{AreTrueNotes};
+ghost use Rattle.dm_places.specs.Moved.{ListsMoved};
 ghost use Rattle.dm_publish.specs.Value.{PublisherValue};
 ghost use Rattle.dm_publish.specs.Publishing.{Publishes};
 ghost use Rattle.dm_publish.specs.Since.{KeepsUp, KeepsUpLast};
 
 use crate::changes::Listed;
-use crate::grouping::list_by_stop;
+use crate::grouping::{list_all, list_places};
 use crate::showing::Showing;
 use dm_cert::Note;
 use dm_network::Network;
@@ -21,7 +22,7 @@ use std::marker::Model;
 pub struct Publisher {
     showing: Showing,
 
-    /// Room for the events whose times differ from those published last.
+    /// Room for the events that are looked at.
     listed: Vec<Listed>,
 }
 
@@ -81,7 +82,9 @@ impl Publisher {
         ensures same_events { self.new.events ≡ self.old.events }
     {
         self.showing.forget();
-        self.publish_changes(net, timetable, entry, boards)
+        list_all(net, &mut self.listed);
+        self.showing
+            .show_listed(net, timetable, entry, &self.listed, boards)
     }
 
     /// Publishes on boards that nobody else has shown anything since the last publishing. It asks a board only for the events of
@@ -108,12 +111,39 @@ impl Publisher {
         ensures same_boards { self.new.boards ≡ self.old.boards }
         ensures same_events { self.new.events ≡ self.old.events }
     {
-        list_by_stop(
-            net,
-            self.showing.last(),
-            timetable.as_slice(),
-            &mut self.listed,
-        );
+        list_all(net, &mut self.listed);
+        self.showing
+            .show_listed(net, timetable, entry, &self.listed, boards)
+    }
+
+    /// Publishes on boards that nobody else has shown anything since the last publishing, given the places of the events whose times
+    /// differ from those published last. It asks a board only for such events of its stop, and is in all else as
+    /// [`Publisher::publish`].
+    pub fn publish_listed(
+        &mut self,
+        net: &Network,
+        timetable: &Times,
+        places: &[usize],
+        entry: u32,
+        boards: &mut Vec<Box<dyn Board>>,
+    ) -> usize
+        requires events { length net.now.events ≡ self.old.events }
+        requires times { length timetable.now ≡ length net.now.events }
+        requires boards { vec_len boards.old ≡ self.old.boards }
+        requires listed { ListsMoved self.old.last timetable.now places.now }
+        ensures published { Publishes place times faults is_sound net.now self.old.last timetable.now entry boards.old.items boards.new.items self.old.notes self.new.notes result }
+
+        // Boards that were kept up since some first list, and show the times published last, are so after the call, and show
+        // the timetable.
+        ensures keeps_up { KeepsUpLast place times faults is_sound net.now self.old.last timetable.now boards.old.items boards.new.items self.old.notes self.new.notes }
+
+        // Notes that are true at an earlier entry are so with the new ones.
+        ensures true_notes { (entries : ℕ) → entries ≤ entry → AreTrueNotes entries self.old.notes → AreTrueNotes entry self.new.notes }
+        ensures last { self.new.last ≡ timetable.now }
+        ensures same_boards { self.new.boards ≡ self.old.boards }
+        ensures same_events { self.new.events ≡ self.old.events }
+    {
+        list_places(net, places, &mut self.listed);
         self.showing
             .show_listed(net, timetable, entry, &self.listed, boards)
     }

@@ -26,7 +26,7 @@ pub(crate) fn refresh(
     changes: &mut Vec<(u32, Secs)>,
 ) -> Result<(), Failed>
     requires size { length timetable.now ≡ length net.now.events }
-    requires listed { ListsChanges last.now timetable.now (length timetable.now) listed.now }
+    requires listed { ListsChanges last.now timetable.now listed.now }
     requires grouped { AreGrouped net.now listed.now }
     requires room { length net.now.events ≤ vec_capacity changes.old }
     ensures refreshed { Refreshes place times faults is_sound net.now last.now timetable.now board.old board.new result }

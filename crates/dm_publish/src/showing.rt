@@ -67,13 +67,6 @@ impl Showing {
         self.notes.as_slice()
     }
 
-    /// The times that were published last, by place.
-    pub(crate) fn last(&self) -> &[Secs]
-        ensures { result.now ≡ self.now.last }
-    {
-        self.last.as_slice()
-    }
-
     /// Forgets what was published last.
     pub(crate) fn forget(&mut self)
         ensures last { self.new.last ≡ [] }
@@ -97,7 +90,7 @@ impl Showing {
         requires events { length net.now.events ≡ self.old.events }
         requires times { length timetable.now ≡ length net.now.events }
         requires boards { vec_len boards.old ≡ self.old.boards }
-        requires listed { ListsChanges self.old.last timetable.now (length timetable.now) listed.now }
+        requires listed { ListsChanges self.old.last timetable.now listed.now }
         requires grouped { AreGrouped net.now listed.now }
         ensures published { Publishes place times faults is_sound net.now self.old.last timetable.now entry boards.old.items boards.new.items self.old.notes self.new.notes result }
 
@@ -132,7 +125,7 @@ impl Showing {
         requires events { length net.now.events ≡ self.old.events }
         requires times { length timetable.now ≡ length net.now.events }
         requires is_board { index < self.old.boards }
-        requires listed { ListsChanges self.old.last timetable.now (length timetable.now) listed.now }
+        requires listed { ListsChanges self.old.last timetable.now listed.now }
         requires grouped { AreGrouped net.now listed.now }
         ensures turn { TakesTurn place times faults is_sound net.now self.old.last timetable.now entry index self.old.notes self.new.notes board.old board.new }
         ensures same_last { self.new.last ≡ self.old.last }

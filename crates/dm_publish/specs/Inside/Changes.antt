@@ -1,4 +1,4 @@
--- Events whose times are not those that were published last.
+-- Listed events, and times that were published last.
 use Rattle.std.specs.Prelude.{ℕ, ◌≡◌, ◌<◌, ◌≤◌, ◌⊎◌, List, length, slice_index_or, All}
 use Rattle.dm_network.specs.Net.{Net, event_at}
 use Rattle.dm_rows.specs.Timetable.{time_at}
@@ -27,11 +27,11 @@ pub record HasLast (last x : List ℕ) (i : ℕ) : Type 0 where
   pub within : i < length last
   pub same : time_at last i ≡ time_at x i
 
--- Of the first k events of a timetable, the list has each whose time is not the last one.
-pub record ListsChanges (last x : List ℕ) (k : ℕ) (listed : List Listed) : Type 0 where
-  pub each : (i : ℕ) → i < k → StandsIn listed i ⊎ HasLast last x i
-  pub within : All (λ l. l.place < k) listed
-  pub few : length listed ≤ k
+-- Of the events of a timetable, the list has each whose time is not the last one.
+pub record ListsChanges (last x : List ℕ) (listed : List Listed) : Type 0 where
+  pub each : (i : ℕ) → i < length x → StandsIn listed i ⊎ HasLast last x i
+  pub within : All (λ l. l.place < length x) listed
+  pub few : length listed ≤ length x
 
 -- each event is listed with its stop
 abbrev pub AreAtStops : Net → List Listed → Type 0

@@ -1,8 +1,8 @@
-use Rattle.std.proofs.Common.{rules, ◌≡◌, ◌-◌, true, false, List, length, take, drop, sym, subst, arith}
-use Rattle.std.specs.List.Sorted.{IsPartitionPoint, IsNonDecreasingBy}
+use Rattle.std.proofs.Common.{rules, ◌≡◌, ◌-◌, true, false, List, length, take, drop, arith}
+use Rattle.std.specs.List.Sorted.{IsPartitionPoint}
 use Rattle.std.proofs.lemmas.List.{take_all, length-drop}
-use Rattle.std.proofs.lemmas.List.Sorted.{IsPartitionPoint-from_clause, IsPartitionedBy-ltb, IsPartitionedBy-leb, IsNonDecreasingBy-drop}
-use lib.Dec.{ltb, leb}
+use Rattle.std.proofs.lemmas.List.Sorted.{IsPartitionPoint-from_clause, IsPartitionedBy-ltb}
+use lib.Dec.{ltb}
 use Rattle.dm_publish.specs.declared.changes.Listed.{Listed}
 use Rattle.dm_publish.proofs.Grouped.{is_part}
 use Rattle.dm_publish.proofs.grouping.part_at.Goals as goal
@@ -17,9 +17,4 @@ returns c =
     (IsPartitionedBy-ltb (λ (l : Listed). l.stop.0) listed c.args.stop.0 c.requires) (λ a r q k. search rules) in
     let long = length-drop from listed in
     let is : behind ≡ drop from listed = take_all (length listed - from) (drop from listed) (omega arith) in
-    let rest : IsNonDecreasingBy (λ (l : Listed). l.stop.0) behind =
-    subst (λ (xs : List Listed). IsNonDecreasingBy (λ (l : Listed). l.stop.0) xs) (sym is) (IsNonDecreasingBy-drop (λ (l : Listed). l.stop.0) from listed c.requires) in
-    let high : IsPartitionPoint (λ (l : Listed). leb l.stop.0 c.args.stop.0 ≡ true) (λ (l : Listed). leb l.stop.0 c.args.stop.0 ≡ false) behind c.partition_point-many.result =
-    IsPartitionPoint-from_clause (λ (l : Listed). leb l.stop.0 c.args.stop.0) behind c.partition_point-many.result c.partition_point-many.ensures.partitioned
-    (IsPartitionedBy-leb (λ (l : Listed). l.stop.0) behind c.args.stop.0 rest) (λ a r q k. search rules) in
-    is_part listed behind c.args.stop.0 from c.partition_point-many.result is c.partition_point-from.ensures.bound c.partition_point-many.ensures.bound low high
+    is_part listed behind c.args.stop.0 from c.leading.result is c.partition_point-from.ensures.bound c.requires low c.leading.ensures

@@ -1,20 +1,31 @@
-use Rattle.std.proofs.Common.{◌≤◌, ℕ, List, [], ap, subst, ◌∙◌}
+use Rattle.std.proofs.Common.{◌≤◌, ℕ, List, [], ap, subst, sym, ◌∙◌}
+use Rattle.std.specs.List.{range_with_len}
 use Rattle.dm_cert.specs.declared.notes.Note.{Note}
 use Rattle.dm_cert.specs.Runs.{AreTrueNotes}
 use Rattle.dm_publish.proofs.Carried.{publishes_by, keeps_up_by}
+use Rattle.dm_publish.proofs.Listed.{listed_grouped, lists_all}
 use Rattle.dm_publish.proofs.publisher.Publisher.publish.Goals as goal
+
+pub show_listed-requires-clause-listed : goal.show_listed-requires-clause-listed
+show_listed-requires-clause-listed g c =
+    rw c.deref.ensures.value
+    (lists_all c.args.net.now _ c.list_all.new.listed.items c.list_all.ensures.listed c.forget.new.self.last c.args.timetable.now (ap (range_with_len 0) (sym c.requires.times)))
+
+pub show_listed-requires-clause-grouped : goal.show_listed-requires-clause-grouped
+show_listed-requires-clause-grouped g c =
+    rw c.deref.ensures.value (listed_grouped c.args.net.now _ c.list_all.new.listed.items c.list_all.ensures.listed)
 
 pub returns-clause-published : goal.returns-clause-published
 returns-clause-published g c =
-    publishes_by _ _ _ _ c.args.net.now _ [] c.args.timetable.now c.forget.ensures.last c.args.entry c.args.boards.now.items c.publish_changes.new.boards.items
-    _ c.args.self.now.notes c.publish_changes.new.self.notes _ (c.forget.ensures.same_notes ∙ ap (λ (v : _). v.notes) c.self.view_is) c.publish_changes.ensures.published
+    publishes_by _ _ _ _ c.args.net.now _ [] c.args.timetable.now c.forget.ensures.last c.args.entry c.args.boards.now.items c.show_listed.new.boards.items
+    _ c.args.self.now.notes c.show_listed.new.self.notes _ (c.forget.ensures.same_notes ∙ ap (λ (v : _). v.notes) c.self.view_is) c.show_listed.ensures.published
 
 pub returns-clause-keeps_up : goal.returns-clause-keeps_up
 returns-clause-keeps_up g c =
-    keeps_up_by _ _ _ _ c.args.net.now _ c.args.timetable.now c.args.boards.now.items c.publish_changes.new.boards.items _ c.args.self.now.notes c.publish_changes.new.self.notes
-    c.forget.ensures.last (c.forget.ensures.same_notes ∙ ap (λ (v : _). v.notes) c.self.view_is) c.publish_changes.ensures.keeps_up
+    keeps_up_by _ _ _ _ c.args.net.now _ c.args.timetable.now c.args.boards.now.items c.show_listed.new.boards.items _ c.args.self.now.notes c.show_listed.new.self.notes
+    c.forget.ensures.last (c.forget.ensures.same_notes ∙ ap (λ (v : _). v.notes) c.self.view_is) c.show_listed.ensures.keeps_up
 
 pub returns-clause-true_notes : goal.returns-clause-true_notes
 returns-clause-true_notes g c =
-    let P : List Note → Type 0 = λ n. (entries : ℕ) → entries ≤ c.args.entry → AreTrueNotes entries n → AreTrueNotes c.args.entry c.publish_changes.new.self.notes in
-    subst P (c.forget.ensures.same_notes ∙ ap (λ (v : _). v.notes) c.self.view_is) c.publish_changes.ensures.true_notes
+    let P : List Note → Type 0 = λ n. (entries : ℕ) → entries ≤ c.args.entry → AreTrueNotes entries n → AreTrueNotes c.args.entry c.show_listed.new.self.notes in
+    subst P (c.forget.ensures.same_notes ∙ ap (λ (v : _). v.notes) c.self.view_is) c.show_listed.ensures.true_notes

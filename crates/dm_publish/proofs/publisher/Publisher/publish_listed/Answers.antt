@@ -1,0 +1,32 @@
+use Rattle.std.proofs.Common.{◌≤◌, ℕ, List, ap, subst, sym}
+use Rattle.dm_cert.specs.declared.notes.Note.{Note}
+use Rattle.dm_cert.specs.Runs.{AreTrueNotes}
+use Rattle.dm_places.specs.Moved.{ListsMoved}
+use Rattle.dm_publish.proofs.Carried.{publishes_by, keeps_last_by}
+use Rattle.dm_publish.proofs.Listed.{listed_grouped, lists_moved}
+use Rattle.dm_publish.proofs.publisher.Publisher.publish_listed.Goals as goal
+
+pub show_listed-requires-clause-listed : goal.show_listed-requires-clause-listed
+show_listed-requires-clause-listed g c =
+    let P : List ℕ → Type 0 = λ last. ListsMoved last c.args.timetable.now c.args.places.now in
+    let moved = subst P (sym (ap (λ (v : _). v.last) c.self.view_is)) c.requires.listed in
+    rw c.deref.ensures.value (lists_moved c.args.net.now c.args.places.now c.list_places.new.listed.items c.list_places.ensures.listed _ c.args.timetable.now moved)
+
+pub show_listed-requires-clause-grouped : goal.show_listed-requires-clause-grouped
+show_listed-requires-clause-grouped g c =
+    rw c.deref.ensures.value (listed_grouped c.args.net.now c.args.places.now c.list_places.new.listed.items c.list_places.ensures.listed)
+
+pub returns-clause-published : goal.returns-clause-published
+returns-clause-published g c =
+    publishes_by _ _ _ _ c.args.net.now _ c.args.self.now.last c.args.timetable.now (ap (λ (v : _). v.last) c.self.view_is) c.args.entry c.args.boards.now.items c.show_listed.new.boards.items
+    _ c.args.self.now.notes c.show_listed.new.self.notes _ (ap (λ (v : _). v.notes) c.self.view_is) c.show_listed.ensures.published
+
+pub returns-clause-keeps_up : goal.returns-clause-keeps_up
+returns-clause-keeps_up g c =
+    keeps_last_by _ _ _ _ c.args.net.now _ c.args.self.now.last c.args.timetable.now (ap (λ (v : _). v.last) c.self.view_is) c.args.boards.now.items c.show_listed.new.boards.items
+    _ c.args.self.now.notes c.show_listed.new.self.notes (ap (λ (v : _). v.notes) c.self.view_is) c.show_listed.ensures.keeps_up
+
+pub returns-clause-true_notes : goal.returns-clause-true_notes
+returns-clause-true_notes g c =
+    let P : List Note → Type 0 = λ n. (entries : ℕ) → entries ≤ c.args.entry → AreTrueNotes entries n → AreTrueNotes c.args.entry c.show_listed.new.self.notes in
+    subst P (ap (λ (v : _). v.notes) c.self.view_is) c.show_listed.ensures.true_notes
