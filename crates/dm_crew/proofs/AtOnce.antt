@@ -11,8 +11,8 @@ use Rattle.dm_desk.specs.Answered.{times, IsBetween, HasSeenLegal}
 use Rattle.dm_desk.proofs.Answering.{no_shorter, on_and_on}
 use Rattle.dm_rounds.specs.declared.jobs.Job.{Job}
 use Rattle.dm_rounds.specs.Inside.Jobs.{IsJob, StepsFrom, NumberIn, job_names, IsPaced, RoundState, AnswersRound}
-use Rattle.dm_rounds.proofs.Places.{append_cases, behind_one}
-use Rattle.dm_rounds.proofs.Rounding.{job_grows, number_between, more_rounds, some_is, Grown, IsNew, few_items, not_later, earlier_round, grown_at}
+use Rattle.dm_rounds.proofs.Places.{append_cases, behind_one, mapped_at}
+use Rattle.dm_rounds.proofs.Rounding.{job_grows, number_between, more_rounds, Grown, IsNew, few_items, not_later, earlier_round, grown_at}
 use Rattle.dm_rounds.proofs.Closing.{next_round}
 
 -- as much is seen, and nothing was made
@@ -37,11 +37,6 @@ module _ {S W : Type 0} (left : S → Option (List ℕ)) (is_sound : S → Type 
     pub onward : (k : ℕ) (w : W) → slice_get works k ≡ Some w → GoesOn (then w) now
     pub mine : (n : ℕ) → times n now.mine ≡ times n before.mine + sum_by (λ w. times n (then w).mine) works
 
-  made_at : (works : List W) (k : ℕ) (v : Job S) → slice_get (map job works) k ≡ Some v → (w : W) × (slice_get works k ≡ Some w) × (v ≡ job w)
-  made_at [] k v e = absurd (omega (arith, slice_get_within [] k v e))
-  made_at (w ∷ works) zero v e = (w, slice_get-get_or (w ∷ works) 0 w (omega arith), some_is e (slice_get-get_or (job w ∷ map job works) 0 v (omega arith)))
-  made_at (w ∷ works) (suc k) v e = let r = made_at works k v e in (r.0, r.1, r.2)
-
   names_summed : (n : ℕ) (jobs : List (Job S)) (works : List W) → length works ≡ length jobs → ((k : ℕ) (j : Job S) (w : W) → slice_get jobs k ≡ Some j → slice_get works k ≡ Some w → job_names n (job w) ≡ job_names n j + times n (then w).mine)
       → sum_by (job_names n) (map job works) ≡ sum_by (job_names n) jobs + sum_by (λ w. times n (then w).mine) works
   names_summed n [] [] same each = refl
@@ -63,7 +58,7 @@ module _ {S W : Type 0} (left : S → Option (List ℕ)) (is_sound : S → Type 
 
     new_or_old : (k a n : ℕ) → NumberIn (map job works) k a n → NumberIn jobs k a n ⊎ IsNew left is_sound feeds first batch some rounds before now a n
     new_or_old k a n x =
-        let made = made_at works k x.job x.stands in
+        let made = mapped_at job works k x.job x.stands in
         let w = made.0 in
         let was = other_at jobs works k w r.as_many made.1 in
         let j = was.0 in
@@ -102,14 +97,14 @@ module _ {S W : Type 0} (left : S → Option (List ℕ)) (is_sound : S → Type 
           goes_on = on_and_on first before now s.goes_on r.goes_on;
           as_many = length-map works job ∙ (r.as_many ∙ s.as_many);
           each = λ k feed v f e.
-              let made = made_at works k v e in
+              let made = mapped_at job works k v e in
               let was = other_at jobs works k made.0 r.as_many made.1 in
               let g = grown k was.0 made.0 was.1 made.1 in
               let P : Job S → Type 0 = λ i. IsJob left is_sound feed now (k + 1) i.progress i.log.items in
               subst P (sym made.2) (job_grows left is_sound feed (then made.0) now (k + 1) (job made.0).progress (job made.0).log.items (r.onward k made.0 made.1) (g.is_job feed f));
           named = λ n. omega (arith, names_summed n jobs works r.as_many (λ k j w at in_works. one_named n k j w at in_works), r.mine n, s.named n);
           done = λ k v low_place e.
-              let made = made_at works k v e in
+              let made = mapped_at job works k v e in
               let was = other_at jobs works k made.0 r.as_many made.1 in
               let g = grown k was.0 made.0 was.1 made.1 in
               let P : Job S → Type 0 = λ i. IsPaced batch (rounds + 1) i.progress i.log.items in

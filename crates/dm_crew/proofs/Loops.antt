@@ -3,6 +3,7 @@ use Rattle.std.proofs.Common.{◌≡◌, ℕ, ◌+◌, ◌-◌, ◌<◌, inl, in
 use Rattle.std.specs.Prelude.{IsOk}
 use Rattle.std.proofs.lemmas.List.{map-append, nil_from_length}
 use Rattle.std.proofs.lemmas.List.Elements.{All-push}
+use Rattle.std.proofs.lemmas.Simd.{map-map}
 use Rattle.std.proofs.lemmas.Option.{slice_get_within}
 use Rattle.std.proofs.Math.Seq.{get_or-append_seam}
 use Rattle.dm_rounds.proofs.Places.{behind_push}
@@ -64,3 +65,7 @@ paired_more R xs ys now x y is many each last k w v at there =
         | inr last_y ↦ subst (λ (a : _). R a v) (sym last_x.1) (subst (λ (b : _). R x b) (sym last_y.1) last)
       ]
     ]
+
+-- what is mapped twice is mapped by the one after the other
+pub both_mapped : {X Y Z : Type 0} (f : X → Y) (g : Y → Z) (xs : List X) (ys : List Y) → map f xs ≡ ys → map (λ x. g (f x)) xs ≡ map g ys
+both_mapped f g xs ys is = sym (map-map g f xs) ∙ ap (map g) is

@@ -14,7 +14,7 @@ use Rattle.dm_rows.specs.History.{IsLegal}
 use Rattle.dm_desk.specs.Answered.{times, HasSeenLegal, AreTrueOf}
 use Rattle.dm_rounds.specs.declared.jobs.Job.{Job}
 use Rattle.dm_rounds.specs.Inside.Jobs.{StepsFrom, CanReadAll, AllAreTrue, AnswersRound}
-use Rattle.dm_rounds.proofs.Rounding.{some_is}
+use Rattle.dm_rounds.proofs.Places.{some_is}
 use Rattle.dm_rounds.proofs.Closing.{stays_legal}
 use Rattle.dm_server.specs.declared.kept.Base.{Base}
 use Rattle.dm_turn.specs.declared.view.Numbered.{Numbered}

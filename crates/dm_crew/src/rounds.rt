@@ -88,24 +88,24 @@ fn answer_round<
     alloc: Global,
     server: &Server<'n>,
     main: &mut Pass<Kept<'n>>,
-    jobs: Vec<Job<S>>,
+    jobs: Vec<Box<Job<S>>>,
     planner: &L,
     gate: &H,
     batch: u32,
-) -> Result<Vec<Job<S>>, AllocError>
+) -> Result<Vec<Box<Job<S>>>, AllocError>
     requires here { main.old.turn ≡ server.now.id }
     requires idle { main.old.holds ≡ false }
     requires base { main.old.base ≡ Some P.base }
     requires legal { HasSeenLegal (desk_of P.base main.old) }
     requires plans { PlansUnder (L.value planner.now) (setting_of P.base) }
-    requires can_read { CanReadAll jobs.items }
-    requires are_true { AllAreTrue (desk_of P.base main.old) jobs.items }
+    requires can_read { CanReadAll (map (λ b. b.value) jobs.items) }
+    requires are_true { AllAreTrue (desk_of P.base main.old) (map (λ b. b.value) jobs.items) }
     requires few { vec_len jobs ≤ FEEDS }
     requires rooms { vec_len jobs < main.old.room }
     requires some { 0 < batch }
     ensures same { OnOk result (IsSamePass main.old main.new) }
     ensures later { OnOk result (IsPrefix main.old.seen main.new.seen) }
-    ensures round { IfOk result (λ after. AnswersRound S.left S.is_sound batch (desk_of P.base main.old) jobs.items (desk_of P.base main.new) after.items) }
+    ensures round { IfOk result (λ after. AnswersRound S.left S.is_sound batch (desk_of P.base main.old) (map (λ b. b.value) jobs.items) (desk_of P.base main.new) (map (λ b. b.value) after.items)) }
 {
     let works = share_out(alloc, server, main, jobs)?;
     let works = work_all::<P, R, S, L, H>(rt, alloc, server, works, planner, gate, batch)?;
@@ -117,13 +117,13 @@ fn share_out<'n, S: Drop>(
     alloc: Global,
     server: &Server<'n>,
     main: &mut Pass<Kept<'n>>,
-    jobs: Vec<Job<S>>,
+    jobs: Vec<Box<Job<S>>>,
 ) -> Result<Vec<Work<'n, S>>, AllocError>
     requires here { main.old.turn ≡ server.now.id }
     requires few { vec_len jobs ≤ FEEDS }
     requires rooms { vec_len jobs < main.old.room }
     ensures main { OnOk result (main.new ≡ record main.old { room = main.old.room - vec_len jobs }) }
-    ensures jobs { IfOk result (λ works. map (λ w. w.job) works.items ≡ jobs.items) }
+    ensures jobs { IfOk result (λ works. map (λ w. w.job.value) works.items ≡ map (λ b. b.value) jobs.items) }
     ensures passes { IfOk result (λ works. All (λ w. w.pass ≡ split_of main.old) works.items) }
     ensures feeds { IfOk result (λ works. (k : ℕ) (w : _) → slice_get works.items k ≡ Some w → w.feed ≡ k + 1) }
 {
@@ -147,13 +147,13 @@ fn gather<'n, P: Seat, S: Drop>(
     server: &Server<'n>,
     main: &mut Pass<Kept<'n>>,
     works: Vec<Work<'n, S>>,
-) -> Result<Vec<Job<S>>, AllocError>
+) -> Result<Vec<Box<Job<S>>>, AllocError>
     requires here { main.old.turn ≡ server.now.id }
     requires idle { main.old.holds ≡ false }
     requires legal { IsLegal P.base.network P.base.start main.old.seen }
     requires passes { All (λ w. (w.pass.turn ≡ server.now.id) × (w.pass.holds ≡ false) × (w.pass.room ≡ 1)) works.items }
     requires legal_all { All (λ w. OnOk w.answer (IsLegal P.base.network P.base.start w.pass.seen)) works.items }
-    ensures jobs { IfOk result (λ jobs. jobs.items ≡ map (λ w. w.job) works.entry.items) }
+    ensures jobs { IfOk result (λ jobs. map (λ b. b.value) jobs.items ≡ map (λ w. w.job.value) works.entry.items) }
     ensures all_ok { OnOk result (All (λ w. IsOk w.answer) works.entry.items) }
     ensures gathered { OnOk result (IsGathered P.base main.old main.new (map (λ w. w.pass) works.entry.items)) }
 {

@@ -21,7 +21,10 @@ use std::thread::Threads;
 #[derive(Drop)]
 pub struct Work<'n, S> {
     pub pass: Pass<Kept<'n>>,
-    pub job: Job<S>,
+
+    /// In a box, since its reader's buffer is in it.
+    pub job: Box<Job<S>>,
+
     pub feed: u32,
     pub answer: Result<(), AllocError>,
 }
@@ -36,10 +39,10 @@ impl<'n, S: Source + Drop> Work<'n, S> {
         gate: &H,
         batch: u32,
     ) -> Work<'n, S>
-        requires ready { IsReady server.now.id P.base self.feed self.pass self.job }
+        requires ready { IsReady server.now.id P.base self.feed self.pass self.job.value }
         requires plans { PlansUnder (L.value planner.now) (setting_of P.base) }
         ensures feed { result.feed ≡ self.entry.feed }
-        ensures worked { IsWorked S.left S.is_sound P.base batch self.entry.feed self.entry.pass self.entry.job result.pass result.job result.answer }
+        ensures worked { IsWorked S.left S.is_sound P.base batch self.entry.feed self.entry.pass self.entry.job.value result.pass result.job.value result.answer }
     {
         let Work {
             pass,
@@ -103,7 +106,7 @@ pub fn work_all<
     gate: &H,
     batch: u32,
 ) -> Result<Vec<Work<'n, S>>, AllocError>
-    requires ready { All (λ w. IsReady server.now.id P.base w.feed w.pass w.job) works.items }
+    requires ready { All (λ w. IsReady server.now.id P.base w.feed w.pass w.job.value) works.items }
     requires plans { PlansUnder (L.value planner.now) (setting_of P.base) }
     ensures len { IfOk result (λ after. vec_len after ≡ vec_len works.entry) }
     ensures each { IfOk result (λ after. AreWorkedEach S.left S.is_sound P.base batch works.entry.items after.items) }
@@ -128,7 +131,7 @@ fn work_in_turn<'n, P: Seat, R: Wait, S: Source + Drop, L: Planner, H: Hold>(
     gate: &H,
     batch: u32,
 ) -> Result<Vec<Work<'n, S>>, AllocError>
-    requires ready { All (λ w. IsReady server.now.id P.base w.feed w.pass w.job) works.items }
+    requires ready { All (λ w. IsReady server.now.id P.base w.feed w.pass w.job.value) works.items }
     requires plans { PlansUnder (L.value planner.now) (setting_of P.base) }
     ensures len { IfOk result (λ after. vec_len after ≡ vec_len works.entry) }
     ensures each { IfOk result (λ after. AreWorkedEach S.left S.is_sound P.base batch works.entry.items after.items) }
@@ -142,7 +145,7 @@ fn work_in_turn<'n, P: Seat, R: Wait, S: Source + Drop, L: Planner, H: Hold>(
 
 /// How many of the feeds are still read.
 fn count_read<S>(works: &[Work<'_, S>]) -> usize
-    ensures { result ≡ count_by (λ w. is_read w.job.progress) works.now }
+    ensures { result ≡ count_by (λ w. is_read w.job.value.progress) works.now }
 {
     works
         .iter()

@@ -1,7 +1,7 @@
 -- How rounds begin, follow each other and end.
-use Rattle.std.proofs.Common.{◌≡◌, ℕ, zero, suc, ◌+◌, ◌<◌, ◌≤◌, inl, inr, cond, List, [], ◌∷◌, ◌++◌, length, map, Option, Some, None, IsSome, refl, sym, ap, subst, ◌∙◌, arith, length-append, get_or, slice_get, All}
+use Rattle.std.proofs.Common.{◌≡◌, ℕ, ◌+◌, ◌<◌, ◌≤◌, inl, inr, cond, List, [], ◌∷◌, ◌++◌, length, map, Option, Some, None, IsSome, refl, sym, ap, subst, ◌∙◌, arith, length-append, get_or, slice_get, All}
 use Rattle.std.specs.Prelude.{count_by, sum_by}
-use Rattle.std.proofs.lemmas.List.{length-map}
+use Rattle.std.proofs.lemmas.List.{length-map, map-append}
 use Rattle.std.proofs.lemmas.List.Elements.{All-nil}
 use Rattle.std.proofs.lemmas.List.Sums.{sum_by-append, sum_by-cons}
 use Rattle.std.proofs.lemmas.Option.{slice_get_within, slice_get-get_or}
@@ -18,8 +18,8 @@ use Rattle.dm_rounds.specs.declared.jobs.Progress.TheVariants.{Reading, Ended}
 use Rattle.dm_rounds.specs.declared.jobs.Job.{Job}
 use Rattle.dm_rounds.specs.Rounds.{IsLogFor, AnswersFeeds}
 use Rattle.dm_rounds.specs.Inside.Jobs.{new_reader, IsJob, CanRead, StepsFrom, NumberIn, job_names, IsPaced, RoundState, CanReadAll, AllAreTrue, Begins, BeginAll, HasEnded, stop_in, log_in}
-use Rattle.dm_rounds.proofs.Places.{behind_one, behind_push}
-use Rattle.dm_rounds.proofs.Rounding.{some_is, number_within}
+use Rattle.dm_rounds.proofs.Places.{behind_one, behind_push, mapped_at}
+use Rattle.dm_rounds.proofs.Rounding.{number_within}
 
 -- ---- the next round
 
@@ -55,11 +55,13 @@ pub is_some_none : {X : Type 0} (o : Option X) → IsSome o → o ≡ None → �
 is_some_none None some none = absurd cc
 is_some_none (Some x) some none = absurd cc
 
-pub ended_all : {S : Type 0} (seen jobs : List (Job S)) → seen ≡ jobs → ((k : ℕ) (job : Job S) → slice_get seen k ≡ Some job → HasEnded job.progress) → (k : ℕ) (job : Job S) → slice_get jobs k ≡ Some job → HasEnded job.progress
-ended_all seen jobs same all = λ k job e. all k job (ap (λ (l : List (Job _)). slice_get l k) same ∙ e)
+-- where all of the boxes seen hold jobs that have ended, all jobs have
+pub ended_all : {S B : Type 0} (value : B → Job S) (seen boxes : List B) → seen ≡ boxes → ((k : ℕ) (b : B) → slice_get seen k ≡ Some b → HasEnded (value b).progress) → (k : ℕ) (job : Job S) → slice_get (map value boxes) k ≡ Some job → HasEnded job.progress
+ended_all value seen boxes same all = λ k job e.
+    let at = mapped_at value boxes k job e in
+    subst (λ (j : Job _). HasEnded j.progress) (sym at.2) (all k at.0 (ap (λ (l : List _). slice_get l k) same ∙ at.1))
 
--- one job more begins
-pub begin_more : {S : Type 0} (feeds : List (Option S)) (jobs now : List (Job S)) (feed : Option S) (job : Job S) → BeginAll feeds jobs → now ≡ jobs ++ job ∷ [] → Begins feed job → BeginAll (feeds ++ feed ∷ []) now
+begin_more : {S : Type 0} (feeds : List (Option S)) (jobs now : List (Job S)) (feed : Option S) (job : Job S) → BeginAll feeds jobs → now ≡ jobs ++ job ∷ [] → Begins feed job → BeginAll (feeds ++ feed ∷ []) now
 begin_more feeds jobs now feed job b is begins =
     let P : List (Job _) → Type 0 = λ l. BeginAll (feeds ++ feed ∷ []) l in
     subst P (sym is)
@@ -82,6 +84,11 @@ begin_more feeds jobs now feed job b is begins =
                 ]
           ];
     })
+
+-- one job more begins, in a box
+pub begin_boxed : {S B : Type 0} (value : B → Job S) (feeds : List (Option S)) (boxes now : List B) (feed : Option S) (b : B) (job : Job S) → BeginAll feeds (map value boxes) → now ≡ boxes ++ b ∷ [] → value b ≡ job → Begins feed job → BeginAll (feeds ++ feed ∷ []) (map value now)
+begin_boxed value feeds boxes now feed b job begun is holds begins =
+    begin_more feeds (map value boxes) (map value now) feed (value b) begun (ap (map value) is ∙ map-append value boxes (b ∷ [])) (subst (λ (j : Job _). Begins feed j) (sym holds) begins)
 
 module _ {S : Type 0} (left : S → Option (List ℕ)) (is_sound : S → Type 0) (batch : ℕ) (some : 0 < batch) where
   feed_at : (feeds : List (Option S)) (jobs : List (Job S)) (k : ℕ) (job : Job S) → length jobs ≡ length feeds → slice_get jobs k ≡ Some job → slice_get feeds k ≡ Some (get_or feeds k None)
@@ -165,12 +172,6 @@ module _ {S : Type 0} (left : S → Option (List ℕ)) (is_sound : S → Type 0)
 
   -- ---- the end
 
-  log_at : (jobs : List (Job S)) (k : ℕ) (log : FeedLog) → slice_get (map log_in jobs) k ≡ Some log → (job : Job S) × (slice_get jobs k ≡ Some job) × (log ≡ log_in job)
-  log_at [] k log e = absurd (omega (arith, slice_get_within [] k log e))
-  log_at (job ∷ jobs) zero log e =
-      (job, slice_get-get_or (job ∷ jobs) 0 job (omega arith), some_is e (slice_get-get_or (log_in job ∷ map log_in jobs) 0 log (omega arith)))
-  log_at (job ∷ jobs) (suc k) log e = let r = log_at jobs k log e in (r.0, r.1, r.2)
-
   names_in_logs : (n : ℕ) (jobs : List (Job S)) → count_by (names n) (all_items (map log_in jobs)) ≡ sum_by (job_names n) jobs
   names_in_logs n [] = refl
   names_in_logs n (job ∷ jobs) =
@@ -179,7 +180,7 @@ module _ {S : Type 0} (left : S → Option (List ℕ)) (is_sound : S → Type 0)
 
   number_at : (jobs : List (Job S)) (k a n : ℕ) → HasNumberAt (map log_in jobs) k a n → NumberIn jobs k a n
   number_at jobs k a n x =
-      let at = log_at jobs k x.log x.stands in
+      let at = mapped_at log_in jobs k x.log x.stands in
       record {
         job = at.0;
         stands = at.1;
@@ -197,11 +198,11 @@ module _ {S : Type 0} (left : S → Option (List ℕ)) (is_sound : S → Type 0)
         goes_on = s.goes_on;
         as_many = length-map jobs log_in ∙ s.as_many;
         logs_for = λ k feed log f e.
-            let at = log_at jobs k log e in
+            let at = mapped_at log_in jobs k log e in
             let Q : FeedLog → Type 0 = λ l. IsLogFor left is_sound feed l in
             subst Q (sym at.2) (job_log left is_sound feed desk (k + 1) at.0.progress at.0.log.items (ended k at.0 at.1) (s.each k feed at.0 f at.1));
         are_true = λ k log e.
-            let at = log_at jobs k log e in
+            let at = mapped_at log_in jobs k log e in
             let feed = get_or feeds k None in
             let j = s.each k feed at.0 (feed_at feeds jobs k at.0 s.as_many at.1) at.1 in
             let Q : FeedLog → Type 0 = λ l. IsTrueLog desk.setting desk.seen k l.items in
@@ -211,7 +212,7 @@ module _ {S : Type 0} (left : S → Option (List ℕ)) (is_sound : S → Type 0)
               in_order = job_in_order left is_sound feed desk (k + 1) at.0.progress at.0.log.items j;
             });
         spelled = λ k log e.
-            let at = log_at jobs k log e in
+            let at = mapped_at log_in jobs k log e in
             let feed = get_or feeds k None in
             let j = s.each k feed at.0 (feed_at feeds jobs k at.0 s.as_many at.1) at.1 in
             let Q : FeedLog → Type 0 = λ l. All IsSpelledItem l.items in

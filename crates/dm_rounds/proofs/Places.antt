@@ -1,5 +1,5 @@
 -- Places of a list of which one element is replaced, and of two lists together.
-use Rattle.std.proofs.Common.{◌≡◌, ℕ, ◌+◌, ◌-◌, ◌<◌, ◌≤◌, ◌⊎◌, inl, inr, List, ◌++◌, length, Some, refl, sym, ap, ◌∙◌, arith, get_or, slice_get, [], ◌∷◌, add-one, length-append}
+use Rattle.std.proofs.Common.{◌≡◌, ℕ, zero, suc, ◌+◌, ◌-◌, ◌<◌, ◌≤◌, ◌⊎◌, inl, inr, List, ◌++◌, length, map, Option, Some, refl, sym, ap, ◌∙◌, arith, get_or, slice_get, [], ◌∷◌, add-one, length-append}
 use Rattle.std.proofs.lemmas.List.{get_or_append_left, get_or-append_right}
 use Rattle.std.proofs.lemmas.Option.{slice_get_within, slice_get-get_or, get_or_from_slice_get}
 use Rattle.std.proofs.lemmas.Bool.{cases_lt}
@@ -30,3 +30,12 @@ behind_push xs x k y e =
           let none : k - length xs ≡ 0 = omega arith in
           inr (at, sym new.2 ∙ ap (λ (i : ℕ). get_or (x ∷ []) i y) none)
     ]
+
+pub some_is : {X : Type 0} {o : Option X} {x y : X} → o ≡ Some x → o ≡ Some y → x ≡ y
+some_is p q = cc
+
+-- an element of a mapped list is what one of the list is mapped to
+pub mapped_at : {X Y : Type 0} (f : X → Y) (xs : List X) (k : ℕ) (y : Y) → slice_get (map f xs) k ≡ Some y → (x : X) × (slice_get xs k ≡ Some x) × (y ≡ f x)
+mapped_at f [] k y e = absurd (omega (arith, slice_get_within [] k y e))
+mapped_at f (x ∷ xs) zero y e = (x, slice_get-get_or (x ∷ xs) 0 x (omega arith), some_is e (slice_get-get_or (f x ∷ map f xs) 0 (f x) (omega arith)))
+mapped_at f (x ∷ xs) (suc k) y e = let r = mapped_at f xs k y e in (r.0, r.1, r.2)

@@ -22,6 +22,7 @@ use Rattle.dm_rounds.specs.declared.jobs.Progress.TheVariants.{Reading, Ended}
 use Rattle.dm_rounds.specs.declared.jobs.Job.{Job}
 use Rattle.dm_rounds.specs.Inside.Jobs.{new_reader, IsReading, IsJob, progress_after, StepsFrom, IsPaced}
 use Rattle.dm_rounds.specs.Rounds.{IsLogFrom}
+use Rattle.dm_rounds.proofs.Places.{some_is}
 
 -- ---- a job while others are answered
 
@@ -57,9 +58,6 @@ within_number : (last n : ℕ) (k : Kind) → IsWithin last k → number_in k �
 within_number last n free within e = absurd cc
 within_number last n (told m) within e = let same : m ≡ n = cc in omega (arith, within)
 within_number last n (entered m) within e = let same : m ≡ n = cc in omega (arith, within)
-
-pub some_is : {X : Type 0} {o : Option X} {x y : X} → o ≡ Some x → o ≡ Some y → x ≡ y
-some_is p q = cc
 
 pub low_round : (a batch rounds : ℕ) → 0 < batch → a / batch < rounds → a < rounds * batch
 low_round a batch rounds some low = (div-lt_iff_lt-mul some).0 low

@@ -1,19 +1,19 @@
 //! Feeds before their first line.
 
-ghost use Rattle.std.specs.Prelude.{IfOk};
+ghost use Rattle.std.specs.Prelude.{map, IfOk};
 ghost use Rattle.dm_rounds.specs.Inside.Jobs.{Begins, BeginAll};
 
 use crate::jobs::{Job, Progress};
 use dm_feed::{FeedStop, LineReader};
 use std::alloc::{AllocError, Global};
 
-/// A job for each feed.
-pub fn begin<S: Drop>(alloc: Global, feeds: Vec<Option<S>>) -> Result<Vec<Job<S>>, AllocError>
-    ensures { IfOk result (λ jobs. BeginAll feeds.items jobs.items) }
+/// A job for each feed. Its reader's buffer is in it, and it is moved often, so it is in a box.
+pub fn begin<S: Drop>(alloc: Global, feeds: Vec<Option<S>>) -> Result<Vec<Box<Job<S>>>, AllocError>
+    ensures { IfOk result (λ jobs. BeginAll feeds.items (map (λ b. b.value) jobs.items)) }
 {
     let mut jobs = Vec::new(alloc);
     for feed in feeds {
-        jobs.push(job_of(alloc, feed))?;
+        jobs.push(Box::new(alloc, job_of(alloc, feed))?)?;
     }
     Ok(jobs)
 }

@@ -2,7 +2,6 @@
 
 ghost use Rattle.std.specs.Prelude.{◌≡◌, ◌≤◌, [], ℕ, true, Some, slice_get, length, map, vec_capacity};
 ghost use Rattle.dm_rounds.specs.Inside.Jobs.{HasEnded, stop_in, log_in};
-ghost use Rattle.dm_rounds.specs.declared.jobs.Job.{Job as AJob};
 
 use crate::jobs::{Job, Progress};
 use dm_base::Items;
@@ -10,8 +9,8 @@ use dm_cert::FeedLog;
 use dm_feed::FeedStop;
 
 /// Whether all feeds have ended.
-pub fn have_ended<S>(jobs: &[Job<S>]) -> bool
-    ensures { result ≡ true → (k : ℕ) (job : AJob S) → slice_get jobs.now k ≡ Some job → HasEnded job.progress }
+pub fn have_ended<S>(jobs: &[Box<Job<S>>]) -> bool
+    ensures { result ≡ true → (k : ℕ) (job : _) → slice_get jobs.now k ≡ Some job → HasEnded job.value.progress }
 {
     for job in jobs {
         if let Progress::Reading(_) = job.progress {
@@ -22,13 +21,13 @@ pub fn have_ended<S>(jobs: &[Job<S>]) -> bool
 }
 
 /// The logs of feeds that are read no further, in room for as many. It takes no memory.
-pub fn logs_of<S: Drop>(jobs: Vec<Job<S>>, mut logs: Vec<FeedLog>) -> Vec<FeedLog>
+pub fn logs_of<S: Drop>(jobs: Vec<Box<Job<S>>>, mut logs: Vec<FeedLog>) -> Vec<FeedLog>
     requires none { logs.items ≡ [] }
     requires room { length jobs.items ≤ vec_capacity logs }
-    ensures { result.items ≡ map log_in jobs.items }
+    ensures { result.items ≡ map log_in (map (λ b. b.value) jobs.items) }
 {
     for job in jobs {
-        logs.push_reserved(log_of(job));
+        logs.push_reserved(log_of(Box::into_inner(job)));
     }
     logs
 }

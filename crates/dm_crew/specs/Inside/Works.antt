@@ -34,7 +34,7 @@ pub record IsWorked {S E : Type 0} (left : S → Option (List ℕ)) (is_sound : 
 -- the next lines of each feed were answered over its pass, or memory was wanting
 abbrev pub AreWorkedEach : {S : Type 0} → (S → Option (List ℕ)) → (S → Type 0) → Base → ℕ → List (Work S) → List (Work S) → Type 0
 AreWorkedEach {S} left is_sound base batch works after =
-    (k : ℕ) (w v : Work S) → slice_get works k ≡ Some w → slice_get after k ≡ Some v → (v.feed ≡ w.feed) × IsWorked left is_sound base batch w.feed w.pass w.job v.pass v.job v.answer
+    (k : ℕ) (w v : Work S) → slice_get works k ≡ Some w → slice_get after k ≡ Some v → (v.feed ≡ w.feed) × IsWorked left is_sound base batch w.feed w.pass w.job.value v.pass v.job.value v.answer
 
 -- a feed that is still read
 abbrev pub is_read : {S : Type 0} → Progress S → Bool

@@ -1,4 +1,5 @@
-use Rattle.std.proofs.Common.{◌≡◌, ℕ, ◌-◌, ◌<◌, length, sym, subst, ◌∙◌, arith}
+use Rattle.std.proofs.Common.{◌≡◌, ℕ, ◌-◌, ◌<◌, length, map, sym, subst, ◌∙◌, arith}
+use Rattle.std.proofs.lemmas.List.{length-map}
 use Rattle.dm_crew.specs.declared.work.Work.{Work}
 use Rattle.dm_crew.proofs.Sharing.{IsShared, AreWorked, all_ready, all_idle, all_legal, told_same, told_round}
 use Rattle.dm_crew.proofs.Displays.{gathered_later}
@@ -6,7 +7,7 @@ use Rattle.dm_crew.proofs.rounds.answer_round.Goals as goal
 
 pub work_all-requires-clause-ready : goal.work_all-requires-clause-ready
 work_all-requires-clause-ready g c = λ lifetimes bounds.
-    let shared : IsShared g.S.Source.left g.S.Source.is_sound g.P.Seat.base c.args.batch c.requires.some c.args.server.now.id c.in_ok-works.works.items c.in_ok-works.works.items c.args.jobs.items c.args.main.now (λ (w : Work _). w.job) (λ (w : Work _). w.pass) (λ (w : Work _). w.feed) (λ (w : Work _). w.answer) = record {
+    let shared : IsShared g.S.Source.left g.S.Source.is_sound g.P.Seat.base c.args.batch c.requires.some c.args.server.now.id c.in_ok-works.works.items c.in_ok-works.works.items (map (λ b. b.value) c.args.jobs.items) c.args.main.now (λ (w : Work _). w.job.value) (λ (w : Work _). w.pass) (λ (w : Work _). w.feed) (λ (w : Work _). w.answer) = record {
       here = c.requires.here;
       idle = c.requires.idle;
       based = c.requires.base;
@@ -17,11 +18,11 @@ work_all-requires-clause-ready g c = λ lifetimes bounds.
       split = c.in_ok-works.ensures.passes;
       numbered = c.in_ok-works.ensures.feeds;
     } in
-    all_ready g.S.Source.left g.S.Source.is_sound g.P.Seat.base c.args.batch c.requires.some c.args.server.now.id c.in_ok-works.works.items c.in_ok-works.works.items c.args.jobs.items c.args.main.now (λ (w : Work _). w.job) (λ (w : Work _). w.pass) (λ (w : Work _). w.feed) (λ (w : Work _). w.answer) shared
+    all_ready g.S.Source.left g.S.Source.is_sound g.P.Seat.base c.args.batch c.requires.some c.args.server.now.id c.in_ok-works.works.items c.in_ok-works.works.items (map (λ b. b.value) c.args.jobs.items) c.args.main.now (λ (w : Work _). w.job.value) (λ (w : Work _). w.pass) (λ (w : Work _). w.feed) (λ (w : Work _). w.answer) shared
 
 pub gather-requires-clause-passes : goal.gather-requires-clause-passes
 gather-requires-clause-passes g c =
-    let shared : IsShared g.S.Source.left g.S.Source.is_sound g.P.Seat.base c.args.batch c.requires.some c.args.server.now.id c.in_ok-works.works.items c.in_ok-works-2.works.items c.args.jobs.items c.args.main.now (λ (w : Work _). w.job) (λ (w : Work _). w.pass) (λ (w : Work _). w.feed) (λ (w : Work _). w.answer) = record {
+    let shared : IsShared g.S.Source.left g.S.Source.is_sound g.P.Seat.base c.args.batch c.requires.some c.args.server.now.id c.in_ok-works.works.items c.in_ok-works-2.works.items (map (λ b. b.value) c.args.jobs.items) c.args.main.now (λ (w : Work _). w.job.value) (λ (w : Work _). w.pass) (λ (w : Work _). w.feed) (λ (w : Work _). w.answer) = record {
       here = c.requires.here;
       idle = c.requires.idle;
       based = c.requires.base;
@@ -32,15 +33,15 @@ gather-requires-clause-passes g c =
       split = c.in_ok-works.ensures.passes;
       numbered = c.in_ok-works.ensures.feeds;
     } in
-    let worked : AreWorked g.S.Source.left g.S.Source.is_sound g.P.Seat.base c.args.batch c.requires.some c.args.server.now.id c.in_ok-works.works.items c.in_ok-works-2.works.items c.args.jobs.items c.args.main.now (λ (w : Work _). w.job) (λ (w : Work _). w.pass) (λ (w : Work _). w.feed) (λ (w : Work _). w.answer) = record {
+    let worked : AreWorked g.S.Source.left g.S.Source.is_sound g.P.Seat.base c.args.batch c.requires.some c.args.server.now.id c.in_ok-works.works.items c.in_ok-works-2.works.items (map (λ b. b.value) c.args.jobs.items) c.args.main.now (λ (w : Work _). w.job.value) (λ (w : Work _). w.pass) (λ (w : Work _). w.feed) (λ (w : Work _). w.answer) = record {
       as_many = sym c.in_ok-works-2.works.ok.0 ∙ (c.in_ok-works-2.ensures.len ∙ c.in_ok-works.works.ok.0);
       each = c.in_ok-works-2.ensures.each;
     } in
-    all_idle g.S.Source.left g.S.Source.is_sound g.P.Seat.base c.args.batch c.requires.some c.args.server.now.id c.in_ok-works.works.items c.in_ok-works-2.works.items c.args.jobs.items c.args.main.now (λ (w : Work _). w.job) (λ (w : Work _). w.pass) (λ (w : Work _). w.feed) (λ (w : Work _). w.answer) shared worked
+    all_idle g.S.Source.left g.S.Source.is_sound g.P.Seat.base c.args.batch c.requires.some c.args.server.now.id c.in_ok-works.works.items c.in_ok-works-2.works.items (map (λ b. b.value) c.args.jobs.items) c.args.main.now (λ (w : Work _). w.job.value) (λ (w : Work _). w.pass) (λ (w : Work _). w.feed) (λ (w : Work _). w.answer) shared worked
 
 pub gather-requires-clause-legal_all : goal.gather-requires-clause-legal_all
 gather-requires-clause-legal_all g c =
-    let shared : IsShared g.S.Source.left g.S.Source.is_sound g.P.Seat.base c.args.batch c.requires.some c.args.server.now.id c.in_ok-works.works.items c.in_ok-works-2.works.items c.args.jobs.items c.args.main.now (λ (w : Work _). w.job) (λ (w : Work _). w.pass) (λ (w : Work _). w.feed) (λ (w : Work _). w.answer) = record {
+    let shared : IsShared g.S.Source.left g.S.Source.is_sound g.P.Seat.base c.args.batch c.requires.some c.args.server.now.id c.in_ok-works.works.items c.in_ok-works-2.works.items (map (λ b. b.value) c.args.jobs.items) c.args.main.now (λ (w : Work _). w.job.value) (λ (w : Work _). w.pass) (λ (w : Work _). w.feed) (λ (w : Work _). w.answer) = record {
       here = c.requires.here;
       idle = c.requires.idle;
       based = c.requires.base;
@@ -51,15 +52,15 @@ gather-requires-clause-legal_all g c =
       split = c.in_ok-works.ensures.passes;
       numbered = c.in_ok-works.ensures.feeds;
     } in
-    let worked : AreWorked g.S.Source.left g.S.Source.is_sound g.P.Seat.base c.args.batch c.requires.some c.args.server.now.id c.in_ok-works.works.items c.in_ok-works-2.works.items c.args.jobs.items c.args.main.now (λ (w : Work _). w.job) (λ (w : Work _). w.pass) (λ (w : Work _). w.feed) (λ (w : Work _). w.answer) = record {
+    let worked : AreWorked g.S.Source.left g.S.Source.is_sound g.P.Seat.base c.args.batch c.requires.some c.args.server.now.id c.in_ok-works.works.items c.in_ok-works-2.works.items (map (λ b. b.value) c.args.jobs.items) c.args.main.now (λ (w : Work _). w.job.value) (λ (w : Work _). w.pass) (λ (w : Work _). w.feed) (λ (w : Work _). w.answer) = record {
       as_many = sym c.in_ok-works-2.works.ok.0 ∙ (c.in_ok-works-2.ensures.len ∙ c.in_ok-works.works.ok.0);
       each = c.in_ok-works-2.ensures.each;
     } in
-    all_legal g.S.Source.left g.S.Source.is_sound g.P.Seat.base c.args.batch c.requires.some c.args.server.now.id c.in_ok-works.works.items c.in_ok-works-2.works.items c.args.jobs.items c.args.main.now (λ (w : Work _). w.job) (λ (w : Work _). w.pass) (λ (w : Work _). w.feed) (λ (w : Work _). w.answer) shared worked
+    all_legal g.S.Source.left g.S.Source.is_sound g.P.Seat.base c.args.batch c.requires.some c.args.server.now.id c.in_ok-works.works.items c.in_ok-works-2.works.items (map (λ b. b.value) c.args.jobs.items) c.args.main.now (λ (w : Work _). w.job.value) (λ (w : Work _). w.pass) (λ (w : Work _). w.feed) (λ (w : Work _). w.answer) shared worked
 
 pub returns-clause-same : goal.returns-clause-same
 returns-clause-same g c =
-    let shared : IsShared g.S.Source.left g.S.Source.is_sound g.P.Seat.base c.args.batch c.requires.some c.args.server.now.id c.in_ok-works.works.items c.in_ok-works-2.works.items c.args.jobs.items c.args.main.now (λ (w : Work _). w.job) (λ (w : Work _). w.pass) (λ (w : Work _). w.feed) (λ (w : Work _). w.answer) = record {
+    let shared : IsShared g.S.Source.left g.S.Source.is_sound g.P.Seat.base c.args.batch c.requires.some c.args.server.now.id c.in_ok-works.works.items c.in_ok-works-2.works.items (map (λ b. b.value) c.args.jobs.items) c.args.main.now (λ (w : Work _). w.job.value) (λ (w : Work _). w.pass) (λ (w : Work _). w.feed) (λ (w : Work _). w.answer) = record {
       here = c.requires.here;
       idle = c.requires.idle;
       based = c.requires.base;
@@ -70,17 +71,17 @@ returns-clause-same g c =
       split = c.in_ok-works.ensures.passes;
       numbered = c.in_ok-works.ensures.feeds;
     } in
-    let worked : AreWorked g.S.Source.left g.S.Source.is_sound g.P.Seat.base c.args.batch c.requires.some c.args.server.now.id c.in_ok-works.works.items c.in_ok-works-2.works.items c.args.jobs.items c.args.main.now (λ (w : Work _). w.job) (λ (w : Work _). w.pass) (λ (w : Work _). w.feed) (λ (w : Work _). w.answer) = record {
+    let worked : AreWorked g.S.Source.left g.S.Source.is_sound g.P.Seat.base c.args.batch c.requires.some c.args.server.now.id c.in_ok-works.works.items c.in_ok-works-2.works.items (map (λ b. b.value) c.args.jobs.items) c.args.main.now (λ (w : Work _). w.job.value) (λ (w : Work _). w.pass) (λ (w : Work _). w.feed) (λ (w : Work _). w.answer) = record {
       as_many = sym c.in_ok-works-2.works.ok.0 ∙ (c.in_ok-works-2.ensures.len ∙ c.in_ok-works.works.ok.0);
       each = c.in_ok-works-2.ensures.each;
     } in
-    let apart = subst (λ (n : ℕ). c.share_out.new.main ≡ record c.args.main.now { room = c.args.main.now.room - n }) c.args.jobs.ok.0 c.in_ok-works.ensures.main in
-    let enough : length c.args.jobs.items < c.args.main.now.room = omega (arith, c.args.jobs.ok.0, c.requires.rooms) in
-    told_same g.S.Source.left g.S.Source.is_sound g.P.Seat.base c.args.batch c.requires.some c.args.server.now.id c.in_ok-works.works.items c.in_ok-works-2.works.items c.args.jobs.items c.args.main.now (λ (w : Work _). w.job) (λ (w : Work _). w.pass) (λ (w : Work _). w.feed) (λ (w : Work _). w.answer) c.share_out.new.main c.gather.new.main shared worked apart enough c.gather.result c.gather.ensures.gathered
+    let apart = subst (λ (n : ℕ). c.share_out.new.main ≡ record c.args.main.now { room = c.args.main.now.room - n }) (c.args.jobs.ok.0 ∙ sym (length-map c.args.jobs.items (λ b. b.value))) c.in_ok-works.ensures.main in
+    let enough : length (map (λ b. b.value) c.args.jobs.items) < c.args.main.now.room = omega (arith, length-map c.args.jobs.items (λ b. b.value), c.args.jobs.ok.0, c.requires.rooms) in
+    told_same g.S.Source.left g.S.Source.is_sound g.P.Seat.base c.args.batch c.requires.some c.args.server.now.id c.in_ok-works.works.items c.in_ok-works-2.works.items (map (λ b. b.value) c.args.jobs.items) c.args.main.now (λ (w : Work _). w.job.value) (λ (w : Work _). w.pass) (λ (w : Work _). w.feed) (λ (w : Work _). w.answer) c.share_out.new.main c.gather.new.main shared worked apart enough c.gather.result c.gather.ensures.gathered
 
 pub returns-clause-round : goal.returns-clause-round
 returns-clause-round g c =
-    let shared : IsShared g.S.Source.left g.S.Source.is_sound g.P.Seat.base c.args.batch c.requires.some c.args.server.now.id c.in_ok-works.works.items c.in_ok-works-2.works.items c.args.jobs.items c.args.main.now (λ (w : Work _). w.job) (λ (w : Work _). w.pass) (λ (w : Work _). w.feed) (λ (w : Work _). w.answer) = record {
+    let shared : IsShared g.S.Source.left g.S.Source.is_sound g.P.Seat.base c.args.batch c.requires.some c.args.server.now.id c.in_ok-works.works.items c.in_ok-works-2.works.items (map (λ b. b.value) c.args.jobs.items) c.args.main.now (λ (w : Work _). w.job.value) (λ (w : Work _). w.pass) (λ (w : Work _). w.feed) (λ (w : Work _). w.answer) = record {
       here = c.requires.here;
       idle = c.requires.idle;
       based = c.requires.base;
@@ -91,13 +92,13 @@ returns-clause-round g c =
       split = c.in_ok-works.ensures.passes;
       numbered = c.in_ok-works.ensures.feeds;
     } in
-    let worked : AreWorked g.S.Source.left g.S.Source.is_sound g.P.Seat.base c.args.batch c.requires.some c.args.server.now.id c.in_ok-works.works.items c.in_ok-works-2.works.items c.args.jobs.items c.args.main.now (λ (w : Work _). w.job) (λ (w : Work _). w.pass) (λ (w : Work _). w.feed) (λ (w : Work _). w.answer) = record {
+    let worked : AreWorked g.S.Source.left g.S.Source.is_sound g.P.Seat.base c.args.batch c.requires.some c.args.server.now.id c.in_ok-works.works.items c.in_ok-works-2.works.items (map (λ b. b.value) c.args.jobs.items) c.args.main.now (λ (w : Work _). w.job.value) (λ (w : Work _). w.pass) (λ (w : Work _). w.feed) (λ (w : Work _). w.answer) = record {
       as_many = sym c.in_ok-works-2.works.ok.0 ∙ (c.in_ok-works-2.ensures.len ∙ c.in_ok-works.works.ok.0);
       each = c.in_ok-works-2.ensures.each;
     } in
-    let apart = subst (λ (n : ℕ). c.share_out.new.main ≡ record c.args.main.now { room = c.args.main.now.room - n }) c.args.jobs.ok.0 c.in_ok-works.ensures.main in
-    let enough : length c.args.jobs.items < c.args.main.now.room = omega (arith, c.args.jobs.ok.0, c.requires.rooms) in
-    told_round g.S.Source.left g.S.Source.is_sound g.P.Seat.base c.args.batch c.requires.some c.args.server.now.id c.in_ok-works.works.items c.in_ok-works-2.works.items c.args.jobs.items c.args.main.now (λ (w : Work _). w.job) (λ (w : Work _). w.pass) (λ (w : Work _). w.feed) (λ (w : Work _). w.answer) c.share_out.new.main c.gather.new.main shared worked apart enough (λ after. after.items) c.gather.result c.gather.ensures.jobs c.gather.ensures.all_ok c.gather.ensures.gathered
+    let apart = subst (λ (n : ℕ). c.share_out.new.main ≡ record c.args.main.now { room = c.args.main.now.room - n }) (c.args.jobs.ok.0 ∙ sym (length-map c.args.jobs.items (λ b. b.value))) c.in_ok-works.ensures.main in
+    let enough : length (map (λ b. b.value) c.args.jobs.items) < c.args.main.now.room = omega (arith, length-map c.args.jobs.items (λ b. b.value), c.args.jobs.ok.0, c.requires.rooms) in
+    told_round g.S.Source.left g.S.Source.is_sound g.P.Seat.base c.args.batch c.requires.some c.args.server.now.id c.in_ok-works.works.items c.in_ok-works-2.works.items (map (λ b. b.value) c.args.jobs.items) c.args.main.now (λ (w : Work _). w.job.value) (λ (w : Work _). w.pass) (λ (w : Work _). w.feed) (λ (w : Work _). w.answer) c.share_out.new.main c.gather.new.main shared worked apart enough (λ after. map (λ b. b.value) after.items) c.gather.result c.gather.ensures.jobs c.gather.ensures.all_ok c.gather.ensures.gathered
 
 pub returns-clause-later : goal.returns-clause-later
 returns-clause-later g c =

@@ -8,7 +8,7 @@ use Rattle.dm_turn.specs.Passes.{PassValue}
 use Rattle.dm_crew.specs.declared.work.Work.{Work}
 use Rattle.dm_crew.specs.Inside.Works.{IsGathered}
 use Rattle.dm_crew.proofs.Gathering.{none_gathered, one_gathered}
-use Rattle.dm_crew.proofs.Loops.{one_yielded, all_yielded, mapped_push, all_here, is_ok_of}
+use Rattle.dm_crew.proofs.Loops.{one_yielded, all_yielded, mapped_push, all_here, is_ok_of, both_mapped}
 use Rattle.dm_crew.proofs.Sharing.{ok_holds}
 use Rattle.dm_crew.proofs.rounds.gather.Goals as goal
 
@@ -42,7 +42,7 @@ loop-work-preserved g c =
 pub returns-clause-jobs : goal.returns-clause-jobs
 returns-clause-jobs g c =
     let all = all_yielded c.loop-work.yielded c.loop-work.work-iterator.rest.items c.args.works.items (sym c.loop-work.work-iterator.rest.ok.0 ∙ c.in-None.ensures.steps.0) c.loop-work.invariant.whole in
-    subst (λ (l : List (Work _)). c.loop-work.jobs.items ≡ map (λ w. w.job) l) all c.loop-work.invariant.jobs
+    sym (both_mapped (λ (w : Work _). w.job) (λ b. b.value) c.args.works.items c.loop-work.jobs.items (sym (subst (λ (l : List (Work _)). c.loop-work.jobs.items ≡ map (λ w. w.job) l) all c.loop-work.invariant.jobs)))
 
 pub returns-clause-all_ok : goal.returns-clause-all_ok
 returns-clause-all_ok g c =

@@ -2,8 +2,9 @@ use Rattle.std.proofs.Common.{◌≡◌, ℕ, ◌-◌, [], ◌∷◌, length, sy
 use Rattle.std.proofs.lemmas.List.{length-map}
 use Rattle.dm_server.specs.declared.kept.Base.{Base}
 use Rattle.dm_turn.specs.Passes.{PassValue}
+use Rattle.dm_crew.specs.declared.work.Work.{Work}
 use Rattle.dm_crew.specs.Inside.Works.{split_of}
-use Rattle.dm_crew.proofs.Loops.{one_yielded, all_yielded, some_left, mapped_more, all_more, numbered_more, one_split}
+use Rattle.dm_crew.proofs.Loops.{one_yielded, all_yielded, some_left, mapped_more, all_more, numbered_more, one_split, both_mapped}
 use Rattle.dm_crew.proofs.rounds.share_out.Goals as goal
 
 pub split-pass-requires-clause-turn : goal.split-pass-requires-clause-turn
@@ -43,5 +44,6 @@ returns-clause-main g c =
 
 pub returns-clause-jobs : goal.returns-clause-jobs
 returns-clause-jobs g c =
-    c.loop-job.invariant.jobs
-    ∙ all_yielded c.loop-job.yielded c.loop-job.job-iterator.rest.items c.args.jobs.items (sym c.loop-job.job-iterator.rest.ok.0 ∙ c.in-None.ensures.steps.0) c.loop-job.invariant.whole
+    both_mapped (λ (w : Work _). w.job) (λ b. b.value) c.loop-job.works.items c.args.jobs.items
+    (c.loop-job.invariant.jobs
+    ∙ all_yielded c.loop-job.yielded c.loop-job.job-iterator.rest.items c.args.jobs.items (sym c.loop-job.job-iterator.rest.ok.0 ∙ c.in-None.ensures.steps.0) c.loop-job.invariant.whole)

@@ -1,8 +1,8 @@
-use Rattle.std.proofs.Common.{◌≡◌, ap, ◌∙◌}
+use Rattle.std.proofs.Common.{ap, ◌∙◌}
 use Rattle.dm_server.specs.declared.kept.Base.{Base}
 use Rattle.dm_turn.specs.Passes.{PassValue}
 use Rattle.dm_crew.proofs.Desks.{base_looked}
-use Rattle.dm_crew.proofs.Displays.{looked_again, shown_on, shown_still}
+use Rattle.dm_crew.proofs.Displays.{shown_on}
 use Rattle.dm_crew.proofs.display.Display.show_growth.Goals as goal
 
 pub show-requires-clause-here : goal.show-requires-clause-here
