@@ -3,10 +3,12 @@
 //! It stands on dm_evaluate. Each call is the evaluator's own, with a ledger that nothing reads.
 #![tactic(auto)]
 
-ghost use Rattle.std.specs.Prelude.{◌≡◌, ◌<◌, true};
+ghost use Rattle.std.specs.Prelude.{◌≡◌, ◌<◌, ◌++◌, [], ◌∷◌, true, OnOk, OnErr};
 ghost use Rattle.dm_rows.specs.Decide.{choice_of};
 ghost use Rattle.dm_rows.specs.Relax.{is_decided};
-ghost use Rattle.dm_evaluate.specs.Evaluator.{IsEvaluatorOf};
+ghost use Rattle.dm_tree.specs.Relaxed.{IsRelaxedCycle};
+ghost use Rattle.dm_relax.specs.Relaxed.{first_violated};
+ghost use Rattle.dm_evaluate.specs.Evaluator.{IsEvaluatorOf, times_of, cycle_of, path_without};
 ghost use Rattle.dm_paths.specs.Decisions.{IsOpen};
 
 use dm_base::Steps;
@@ -17,11 +19,15 @@ use dm_rows::{Choice, Decision};
 use std::marker::Brand;
 use std::sync::ledger::{Blank, Ledger};
 
-/// Decides an open choice.
+/// Decides an open choice, or shows a cycle of what then binds: then the path is as before.
 pub fn decide(evaluator: &mut Evaluator, net: &Network, decision: Decision) -> Result<(), Cyclic>
     requires evaluator { IsEvaluatorOf net.now evaluator.old }
     requires open { IsOpen net.now evaluator.old.rows evaluator.old.path (choice_of decision) }
-    ensures { IsEvaluatorOf net.now evaluator.new }
+    ensures evaluator { IsEvaluatorOf net.now evaluator.new }
+    ensures rows { evaluator.new.rows ≡ evaluator.old.rows }
+    ensures path { OnOk result (evaluator.new.path ≡ evaluator.old.path ++ decision ∷ []) }
+    ensures unchanged { OnErr result (evaluator.new.path ≡ evaluator.old.path) }
+    ensures cycle { OnErr result (IsRelaxedCycle net.now evaluator.old.rows (evaluator.old.path ++ decision ∷ []) (cycle_of evaluator.new)) }
 {
     decide_with::<Brand>(evaluator, net, decision, Blank::new(1))
 }
@@ -37,7 +43,11 @@ fn decide_with<L: Ledger>(
     requires name { blank.name ≡ L.name }
     requires parts { blank.parts ≡ L.parts }
     requires has_a_part { 0 < blank.parts }
-    ensures { IsEvaluatorOf net.now evaluator.new }
+    ensures evaluator { IsEvaluatorOf net.now evaluator.new }
+    ensures rows { evaluator.new.rows ≡ evaluator.old.rows }
+    ensures path { OnOk result (evaluator.new.path ≡ evaluator.old.path ++ decision ∷ []) }
+    ensures unchanged { OnErr result (evaluator.new.path ≡ evaluator.old.path) }
+    ensures cycle { OnErr result (IsRelaxedCycle net.now evaluator.old.rows (evaluator.old.path ++ decision ∷ []) (cycle_of evaluator.new)) }
 {
     let mut steps = Steps::<L>::new(blank);
     evaluator.decide(net, decision, &mut steps)
@@ -47,7 +57,9 @@ fn decide_with<L: Ledger>(
 pub fn undecide(evaluator: &mut Evaluator, net: &Network, choice: Choice)
     requires evaluator { IsEvaluatorOf net.now evaluator.old }
     requires decided { is_decided evaluator.old.path choice ≡ true }
-    ensures { IsEvaluatorOf net.now evaluator.new }
+    ensures evaluator { IsEvaluatorOf net.now evaluator.new }
+    ensures rows { evaluator.new.rows ≡ evaluator.old.rows }
+    ensures path { evaluator.new.path ≡ path_without choice evaluator.old.path }
 {
     undecide_with::<Brand>(evaluator, net, choice, Blank::new(1));
 }
@@ -58,7 +70,9 @@ fn undecide_with<L: Ledger>(evaluator: &mut Evaluator, net: &Network, choice: Ch
     requires name { blank.name ≡ L.name }
     requires parts { blank.parts ≡ L.parts }
     requires has_a_part { 0 < blank.parts }
-    ensures { IsEvaluatorOf net.now evaluator.new }
+    ensures evaluator { IsEvaluatorOf net.now evaluator.new }
+    ensures rows { evaluator.new.rows ≡ evaluator.old.rows }
+    ensures path { evaluator.new.path ≡ path_without choice evaluator.old.path }
 {
     let mut steps = Steps::<L>::new(blank);
     evaluator.undecide(net, choice, &mut steps);
@@ -67,7 +81,9 @@ fn undecide_with<L: Ledger>(evaluator: &mut Evaluator, net: &Network, choice: Ch
 /// The first choice that is violated and left undecided.
 pub fn violated(evaluator: &mut Evaluator, net: &Network) -> Option<Choice>
     requires { IsEvaluatorOf net.now evaluator.old }
-    ensures { IsEvaluatorOf net.now evaluator.new }
+    ensures evaluator { IsEvaluatorOf net.now evaluator.new }
+    ensures others { evaluator.new ≡ record evaluator.old { marks = evaluator.new.marks } }
+    ensures first { result ≡ first_violated net.now evaluator.old.rows evaluator.old.path (times_of evaluator.old) }
 {
     violated_with::<Brand>(evaluator, net, Blank::new(1))
 }
@@ -81,7 +97,9 @@ fn violated_with<L: Ledger>(
     requires name { blank.name ≡ L.name }
     requires parts { blank.parts ≡ L.parts }
     requires has_a_part { 0 < blank.parts }
-    ensures { IsEvaluatorOf net.now evaluator.new }
+    ensures evaluator { IsEvaluatorOf net.now evaluator.new }
+    ensures others { evaluator.new ≡ record evaluator.old { marks = evaluator.new.marks } }
+    ensures first { result ≡ first_violated net.now evaluator.old.rows evaluator.old.path (times_of evaluator.old) }
 {
     let mut steps = Steps::<L>::new(blank);
     evaluator.violated(net, &mut steps)
