@@ -5,6 +5,7 @@ pub mod FewRows
 pub mod Flagging
 pub mod Following
 pub mod HeldLemmas
+pub mod Noted
 pub mod Passing
 pub mod Raising
 pub mod Reaching

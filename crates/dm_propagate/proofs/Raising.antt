@@ -1,13 +1,8 @@
 -- Which events are due by a clock, and what renewing their floors makes of a timetable.
-use Rattle.std.proofs.Common.{◌≡◌, ◌≢◌, ℕ, ◌+◌, ◌<◌, ◌≤◌, true, List, length, map, take, Option, Some, None, refl, sym, ap, subst, ◌∙◌, ◌⊎◌, inl, inr, arith, slice_index, get_or-set_same, get_or-set_other}
-use Rattle.std.specs.Prelude.{unwrap_or, max, slice_set, All, slice_index_or}
-use Rattle.std.specs.List.{range_with_len, Contains}
+use Rattle.std.proofs.Common.{◌≡◌, ◌≢◌, ℕ, ◌+◌, ◌<◌, ◌≤◌, true, List, length, take, Option, Some, None, refl, sym, ap, subst, ◌∙◌, ◌⊎◌, inl, inr, arith, slice_index, get_or-set_same, get_or-set_other}
+use Rattle.std.specs.Prelude.{unwrap_or, max, slice_set, slice_index_or}
 use Rattle.std.proofs.lemmas.Bool.{cases_eq, cases_lt}
-use Rattle.std.proofs.lemmas.List.{get_or-take, get_or_default}
-use Rattle.std.proofs.lemmas.List.Elements.{All-take, All-from_get_or}
-use Rattle.std.proofs.lemmas.List.FromFn.{length-map-range_with_len, get_or-map-range_with_len}
-use Rattle.std.proofs.lemmas.List.Sorted.{All-permutation, Contains-permutation}
-use Rattle.dm_network.specs.Net.{Net, event_at}
+use Rattle.dm_network.specs.Net.{Net}
 use Rattle.dm_rows.specs.Rows.{RowsValue, passed_at}
 use Rattle.dm_rows.specs.Timetable.{planned_time, floor_of}
 use Rattle.dm_settle.specs.Constraints.{ConstraintsValue}
@@ -15,7 +10,7 @@ use Rattle.dm_marks.specs.Marked.{is_marked}
 use Rattle.dm_marks.proofs.Marking.{marked_if}
 use Rattle.dm_order.specs.Value.{OrderValue}
 use Rattle.dm_live.specs.Live.{LiveValue, with_floor, with_mark}
-use Rattle.dm_schedule.specs.Schedule.{IsScheduleOf, IsInFront}
+use Rattle.dm_schedule.specs.Schedule.{IsScheduleOf}
 use Rattle.dm_schedule.specs.declared.schedule.Scheduled.{Scheduled}
 use Rattle.dm_propagate.specs.Inside.Changing.{AreFloorsAt, HaveFloorsFrom, HasFloors, IsOffFloor}
 use Rattle.dm_propagate.specs.Inside.Raising.{HaveFloorsBut, RaisesFloors}

@@ -7,6 +7,7 @@ use Rattle.dm_rows.specs.declared.messages.Flip.{Flip}
 use Rattle.dm_rows.specs.declared.messages.Flip.TheVariants.{Keep, Drop, First}
 use Rattle.dm_rows.specs.declared.messages.Change.{Change}
 use Rattle.dm_rows.specs.declared.messages.Change.TheVariants.{EventDelay, ActDelay, Passed, Recalled, Flipped, Adopted, Clock}
+use Rattle.dm_propagate.specs.Inside.Flags.{MovesPass}
 
 module _ (net : Net) (rows other : RowsValue) (sized : IsSized net rows) (alike : IsSized net other) where
   flip_reaches : (flip : Flip) → ReachesFlip rows flip → ReachesFlip other flip
@@ -28,3 +29,12 @@ event_is_reached rows change reaches i t is = let h : Reaches rows (Passed i t) 
 
 pub recall_is_reached : (rows : RowsValue) (change : Change) → Reaches rows change → (i : ℕ) → change ≡ Recalled i → i < length rows.passed
 recall_is_reached rows change reaches i is = subst (Reaches rows) is reaches
+
+pub pass_is_reached : (rows : RowsValue) (change : Change) → Reaches rows change → (i : ℕ) → MovesPass change i → i < length rows.passed
+pass_is_reached rows (EventDelay e d) h i moves = absurd moves
+pass_is_reached rows (ActDelay a d) h i moves = absurd moves
+pass_is_reached rows (Passed e t) h i moves = let below = h.0 in omega arith
+pass_is_reached rows (Recalled e) h i moves = omega arith
+pass_is_reached rows (Flipped flip) h i moves = absurd moves
+pass_is_reached rows (Adopted flips) h i moves = absurd moves
+pass_is_reached rows (Clock t) h i moves = absurd moves

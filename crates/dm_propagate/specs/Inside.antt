@@ -8,3 +8,4 @@ pub mod Changing
 pub mod Raising
 pub mod Altering
 pub mod Flags
+pub mod Noting

@@ -7,9 +7,10 @@ ghost use Rattle.dm_rows.specs.Timetable.{floor_of};
 ghost use Rattle.dm_priced.specs.Priced.{IsPriced};
 ghost use Rattle.dm_propagate.specs.Engine.{FollowsRows};
 ghost use Rattle.dm_propagate.specs.Inside.Concern.{FollowsBut, LeadsAt, IsDecidedBefore};
-ghost use Rattle.dm_propagate.specs.Inside.Flags.{flags_of, AreFlagsOf, AreFlagsBut, SetsFlagsAt, SetsFlagsBy};
+ghost use Rattle.dm_propagate.specs.Inside.Flags.{flags_of, AreFlagsOf, AreFlagsBut, MovesPass, SetsFlagsAt, SetsFlagsBy};
 ghost use Rattle.dm_schedule.specs.Schedule.{IsScheduleOf};
 ghost use Rattle.dm_propagate.specs.Inside.Changing.{FollowsAt, Turns, IsTurnRefused, HasPassed, MarksFor};
+ghost use Rattle.dm_propagate.specs.Inside.Noting.{KeepsTimesBut};
 
 use crate::charging::{charge_by_flips, set_flags_at};
 use crate::clock::move_clock;
@@ -41,6 +42,7 @@ fn turn_event<L: Ledger>(
     ensures refused { OnErr result (IsTurnRefused net.now rows.now (LeadsAt net.now event) priced.old.live priced.new.live) }
     ensures flags { SetsFlagsAt net.now rows.now event (flags_of priced.old) (flags_of priced.new) }
     ensures floors { priced.new.live.given.floors ≡ slice_set priced.old.live.given.floors event (floor_of net.now rows.now event) }
+    ensures times { OnOk result (KeepsTimesBut (λ e. e ≡ event) priced.old.live.times priced.new.live.times) }
     ensures passed { OnOk result ((t : ℕ) → passed_at rows.now event ≡ Some t → HasPassed net.now rows.now event t priced.old.live priced.new.live steps.old steps.new) }
 {
     let into = net.in_row(event, steps);
@@ -70,6 +72,7 @@ fn turn_by_flips<L: Ledger>(
     ensures refused { OnErr result (IsTurnRefused net.now rows.now (IsDecidedBefore net.now flips.now (length flips.now)) priced.old.live priced.new.live) }
     ensures flags { SetsFlagsBy net.now rows.now flips.now (flags_of priced.old) (flags_of priced.new) }
     ensures floors { priced.new.live.given.floors ≡ priced.old.live.given.floors }
+    ensures times { OnOk result (priced.new.live.times ≡ priced.old.live.times) }
 {
     charge_by_flips(priced, net, rows, flips);
     let_go_by_flips(priced, net, rows, flips, steps);
@@ -99,6 +102,7 @@ pub fn turn_adopted<L: Ledger>(
     ensures cycle_stays { OnOk result (priced.new.live.order.cycle ≡ priced.old.live.order.cycle) }
     ensures followed { OnErr result (FollowsBut net.now rows.now (Change.Adopted flips.now) priced.new.live.given) }
     ensures cycle { OnErr result (IsCycle net.now rows.now priced.new.live.order.cycle) }
+    ensures times { OnOk result (priced.new.live.times ≡ priced.old.live.times) }
 {
     turn_by_flips(priced, net, rows, flips, steps)
 }
@@ -129,6 +133,7 @@ pub fn turn<L: Ledger>(
     ensures cycle { OnErr result (IsCycle net.now rows.now priced.new.live.order.cycle) }
     ensures clock { FollowsAt net.now rows.now change.now rows.now.clock priced.new.live.given }
     ensures marks { OnOk result (MarksFor net.now rows.now change.now priced.old.live priced.new.live steps.old steps.new) }
+    ensures times { OnOk result (KeepsTimesBut (MovesPass change.now) priced.old.live.times priced.new.live.times) }
 {
     match change {
         Change::EventDelay { event, .. } => {

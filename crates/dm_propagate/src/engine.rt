@@ -1,5 +1,5 @@
 //! The engine, its changes and its readers.
-ghost use Rattle.std.specs.Prelude.{◌≡◌, ◌^◌, ◌<◌, ◌≤◌, All, fold, IfOk, IfErr, OnOk, OnErr};
+ghost use Rattle.std.specs.Prelude.{◌≡◌, ◌^◌, ◌<◌, ◌≤◌, length, All, fold, IfOk, IfErr, OnOk, OnErr};
 ghost use Rattle.dm_base.specs.declared.limits.TheConstants.{PENALTY};
 ghost use Rattle.dm_rows.specs.Rows.{IsSized};
 ghost use Rattle.dm_rows.specs.Active.{IsCycle, HasNoCycle};
@@ -10,6 +10,7 @@ ghost use Rattle.dm_rows.specs.Timetable.{IsLeast};
 ghost use Rattle.dm_rows.specs.Touch.{IsDelayPassOrClock};
 ghost use Rattle.dm_times.specs.Faults.{RefusesTimes};
 ghost use Rattle.dm_propagate.specs.Engine.{IsEngineOf, times_of, cycle_of};
+ghost use Rattle.dm_propagate.specs.Moved.{TakesInMoved};
 ghost use Rattle.dm_propagate.specs.Reading.{KeepsClock, ReadsFew};
 
 use crate::moving::{Alteration, move_to, try_rows};
@@ -18,6 +19,7 @@ use crate::starting::priced_for;
 use dm_base::{Cost, Steps};
 use dm_graph::search::Cyclic;
 use dm_network::Network;
+use dm_places::PlaceSet;
 use dm_priced::PricedTimetable;
 use dm_rows::{Change, Flip, Rows};
 use dm_schedule::{Scheduled, schedule_of};
@@ -83,22 +85,26 @@ impl Engine {
 
     /// Makes a change, and computes the times that it moves. [`Cyclic`] comes exactly where the changed rows have a cycle:
     /// then the engine is as before, and [`Engine::last_cycle`] is such a cycle. For a delay, a pass or a clock that is not
-    /// taken back, it reads the rows of the events that this can move, and not of the others.
+    /// taken back, it reads the rows of the events that this can move, and not of the others. Each event whose time is not what
+    /// it was before is put into `moved`.
     #[tactic(auto, using(crate::proofs::Following::is_engine, crate::proofs::Following::engine_flags))]
     pub fn update<L: Ledger>(
         &mut self,
         net: &Network,
         change: &Change,
+        moved: &mut PlaceSet,
         steps: &mut Steps<L>,
     ) -> Result<(), Cyclic>
         requires engine { IsEngineOf net.now self.old }
         requires reaches { Reaches self.old.rows change.now }
+        requires noted { length moved.old.flags ≡ length net.now.events }
         ensures engine { IsEngineOf net.now self.new }
         ensures rows { OnOk result (self.new.rows ≡ after_change self.old.rows change.now) }
         ensures least { IsLeast net.now self.new.rows (times_of self.new) }
         ensures no_cycle { OnOk result (HasNoCycle net.now self.new.rows) }
         ensures unchanged { OnErr result ((self.new.rows ≡ self.old.rows) × (times_of self.new ≡ times_of self.old)) }
         ensures cycle { OnErr result (IsCycle net.now (after_change self.old.rows change.now) (cycle_of self.new)) }
+        ensures moved { TakesInMoved moved.old.flags moved.new.flags (times_of self.old) (times_of self.new) }
         ensures few_reads { IsDelayPassOrClock change.now → KeepsClock self.old.rows change.now → ReadsFew net.now (after_change self.old.rows change.now) change.now (times_of self.old) (times_of self.new) steps.old steps.new }
     {
         net.sound();
@@ -111,6 +117,7 @@ impl Engine {
             &self.twin,
             &what,
             self.schedule.as_slice(),
+            moved,
             steps,
         ) {
             Ok(()) => {
@@ -130,16 +137,19 @@ impl Engine {
         &mut self,
         net: &Network,
         flips: &[Flip],
+        moved: &mut PlaceSet,
         steps: &mut Steps<L>,
     ) -> Result<(), Cyclic>
         requires engine { IsEngineOf net.now self.old }
         requires reach { All (ReachesFlip self.old.rows) flips.now }
+        requires noted { length moved.old.flags ≡ length net.now.events }
         ensures engine { IsEngineOf net.now self.new }
         ensures rows { OnOk result (self.new.rows ≡ fold after_flip self.old.rows flips.now) }
         ensures least { IsLeast net.now self.new.rows (times_of self.new) }
         ensures no_cycle { OnOk result (HasNoCycle net.now self.new.rows) }
         ensures unchanged { OnErr result ((self.new.rows ≡ self.old.rows) × (times_of self.new ≡ times_of self.old)) }
         ensures cycle { OnErr result (IsCycle net.now (fold after_flip self.old.rows flips.now) (cycle_of self.new)) }
+        ensures moved { TakesInMoved moved.old.flags moved.new.flags (times_of self.old) (times_of self.new) }
     {
         net.sound();
         set_flips(&mut self.twin, flips);
@@ -151,6 +161,7 @@ impl Engine {
             &self.twin,
             &what,
             self.schedule.as_slice(),
+            moved,
             steps,
         ) {
             Ok(()) => {

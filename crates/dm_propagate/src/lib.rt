@@ -16,6 +16,7 @@ mod engine;
 mod held;
 pub mod laws;
 mod moving;
+mod noting;
 mod setting;
 mod starting;
 mod sweeping;

@@ -1,5 +1,5 @@
 //! A timetable that is moved from rows to those after a change, or only tried on them.
-ghost use Rattle.std.specs.Prelude.{◌≡◌, OnOk, OnErr};
+ghost use Rattle.std.specs.Prelude.{◌≡◌, length, OnOk, OnErr};
 ghost use Rattle.dm_live.specs.Live.{IsAtRest};
 ghost use Rattle.dm_priced.specs.Priced.{IsPriced};
 ghost use Rattle.dm_rows.specs.Rows.{IsSized};
@@ -10,16 +10,20 @@ ghost use Rattle.dm_rows.specs.Timetable.{IsLeast};
 ghost use Rattle.dm_rows.specs.Touch.{IsDelayPassOrClock};
 ghost use Rattle.dm_propagate.specs.Engine.{FollowsRows};
 ghost use Rattle.dm_schedule.specs.Schedule.{IsScheduleOf};
+ghost use Rattle.dm_propagate.specs.Moved.{TakesInMoved};
 ghost use Rattle.dm_propagate.specs.Reading.{KeepsClock, ReadsFew};
 ghost use Rattle.dm_propagate.specs.Inside.Concern.{FollowsBut};
 ghost use Rattle.dm_propagate.specs.Inside.Altering.{change_in};
-ghost use Rattle.dm_propagate.specs.Inside.Flags.{flags_of, AreFlagsOf, AreFlagsBut};
+ghost use Rattle.dm_propagate.specs.Inside.Flags.{flags_of, AreFlagsOf, AreFlagsBut, MovesPass};
 ghost use Rattle.dm_propagate.specs.Inside.Changing.{FollowsAt, MarksFor};
+ghost use Rattle.dm_propagate.specs.Inside.Noting.{KeepsTimesBut};
 
 use crate::changing::{turn, turn_adopted};
+use crate::noting::{note_passed, settle_noted};
 use dm_base::{Secs, Steps};
 use dm_graph::search::Cyclic;
 use dm_network::Network;
+use dm_places::PlaceSet;
 use dm_priced::PricedTimetable;
 use dm_rows::{Change, Flip, Rows};
 use dm_schedule::Scheduled;
@@ -34,6 +38,7 @@ pub enum Alteration<'a> {
 
 /// Brings a timetable that follows rows to follow the others, which are those after a change, and settles it. Where the
 /// others have a cycle, it follows the rows that it followed before, its times are the same, and such a cycle is its last.
+/// The events whose times move are noted.
 pub fn move_to<L: Ledger>(
     priced: &mut PricedTimetable,
     net: &Network,
@@ -41,6 +46,7 @@ pub fn move_to<L: Ledger>(
     other: &Rows,
     what: &Alteration<'_>,
     schedule: &[Scheduled],
+    moved: &mut PlaceSet,
     steps: &mut Steps<L>,
 ) -> Result<(), Cyclic>
     requires sized { IsSized net.now rows.now }
@@ -52,6 +58,7 @@ pub fn move_to<L: Ledger>(
     requires follows { FollowsRows net.now rows.now priced.old.live.given }
     requires flags { AreFlagsOf net.now rows.now (flags_of priced.old) }
     requires schedule { IsScheduleOf net.now schedule.now }
+    requires noted { length moved.old.flags ≡ length net.now.events }
     ensures priced { IsPriced net.now priced.new }
     ensures at_rest { IsAtRest priced.new.live }
     ensures follows { OnOk result (FollowsRows net.now other.now priced.new.live.given) }
@@ -61,11 +68,13 @@ pub fn move_to<L: Ledger>(
     ensures times { OnErr result (priced.new.live.times ≡ priced.old.live.times) }
     ensures cycle { OnErr result (IsCycle net.now other.now priced.new.live.order.cycle) }
     ensures few_reads { IsDelayPassOrClock (change_in what.now) → KeepsClock rows.now (change_in what.now) → ReadsFew net.now other.now (change_in what.now) priced.old.live.times priced.new.live.times steps.old steps.new }
+    ensures moved { TakesInMoved moved.old.flags moved.new.flags priced.old.live.times priced.new.live.times }
 {
     net.sound();
     match turn_to(priced, net, other, what, schedule, rows.clock(), steps) {
         Ok(()) => {
-            priced.settle(net, steps);
+            note_passed(moved, what);
+            settle_noted(priced, net, moved, steps);
             Ok(())
         }
         Err(Cyclic) => {
@@ -168,6 +177,7 @@ fn turn_to<L: Ledger>(
     ensures cycle { OnErr result (IsCycle net.now rows.now priced.new.live.order.cycle) }
     ensures clock { FollowsAt net.now rows.now (change_in what.now) rows.now.clock priced.new.live.given }
     ensures marks { OnOk result (MarksFor net.now rows.now (change_in what.now) priced.old.live priced.new.live steps.old steps.new) }
+    ensures times { OnOk result (KeepsTimesBut (MovesPass (change_in what.now)) priced.old.live.times priced.new.live.times) }
 {
     let outcome = match what {
         Alteration::Change(change) => turn(priced, net, rows, change, schedule, earlier, steps),

@@ -76,6 +76,7 @@ pub fn take_up_around(
 
 /// Gives an event its floor by the rows, and where it has passed its time too. Nothing that is held enters it then. The rows
 /// are those of the activities into it and out of it.
+#[tactic(auto, using(crate::proofs::Noted::keeps_but_one, crate::proofs::Noted::keeps_all))]
 pub fn set_place<L: Ledger>(
     priced: &mut PricedTimetable,
     net: &Network,

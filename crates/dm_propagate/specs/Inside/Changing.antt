@@ -11,6 +11,7 @@ use Rattle.dm_rows.specs.declared.messages.Change.TheVariants.{EventDelay, ActDe
 use Rattle.dm_settle.specs.Constraints.{ConstraintsValue, arcs_given}
 use Rattle.dm_marks.specs.Marked.{is_marked}
 use Rattle.dm_live.specs.Live.{LiveValue, IsFixed}
+use Rattle.dm_propagate.specs.Inside.Noting.{KeepsTimesBut}
 use Rattle.dm_propagate.specs.Inside.Turning.{IsLetGoAt, IsTakenUpAt}
 
 -- the event's floor by the rows lies below the one that it has, or above its time
@@ -55,6 +56,7 @@ pub record HasPlace (net : Net) (rows : RowsValue) (i : ℕ) (before after : Liv
   pub spans : after.given.spans ≡ before.given.spans
   pub cycle : after.order.cycle ≡ before.order.cycle
   pub floors : after.given.floors ≡ slice_set before.given.floors i (floor_of net rows i)
+  pub times : KeepsTimesBut (λ e. e ≡ i) before.times after.times
   pub fixed : (t : ℕ) → passed_at rows i ≡ Some t → IsFixed (arcs_given net before.given) i t before after first last
 
 -- The event has passed and has its time. Marked are heads of active activities out of it, heads of activities that were

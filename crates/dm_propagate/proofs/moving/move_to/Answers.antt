@@ -1,4 +1,4 @@
-use Rattle.std.proofs.Common.{sym, ap, subst}
+use Rattle.std.proofs.Common.{sym, ap, subst, arith}
 use Rattle.dm_priced.specs.Priced.{PricedValue}
 use Rattle.dm_settle.specs.Constraints.{ConstraintsValue}
 use Rattle.dm_rows.specs.Active.{HasNoCycle}
@@ -10,11 +10,12 @@ use Rattle.dm_propagate.specs.Inside.Changing.{FollowsAt}
 use Rattle.dm_propagate.proofs.AtClock.{at_clock_before, at_clock_after}
 use Rattle.dm_propagate.proofs.Concerning.{follows_but_after, follows_but_before}
 use Rattle.dm_propagate.proofs.FewRows.{few_read_for}
-use Rattle.dm_propagate.specs.Inside.Flags.{flags_of, AreFlagsOf, AreFlagsBut}
+use Rattle.dm_propagate.specs.Inside.Flags.{flags_of, AreFlagsOf, AreFlagsBut, MovesPass}
+use Rattle.dm_propagate.proofs.Noted.{takes_in_both, takes_in_each, takes_in_none}
 use Rattle.dm_propagate.proofs.Flagging.{but_where_right, flags_but_after, flags_but_before}
 use Rattle.dm_propagate.proofs.Following.{follows_least, follows_no_cycle, one_least}
 use Rattle.dm_propagate.proofs.Passing.{harmless}
-use Rattle.dm_propagate.proofs.Reaching.{reaches_alike, event_is_reached}
+use Rattle.dm_propagate.proofs.Reaching.{reaches_alike, event_is_reached, pass_is_reached}
 use Rattle.dm_propagate.proofs.moving.move_to.Goals as goal
 
 pub turn_to-requires-clause-reaches : goal.turn_to-requires-clause-reaches
@@ -44,15 +45,15 @@ pub returns-in-Ok-clause-few_reads : goal.returns-in-Ok-clause-few_reads
 returns-in-Ok-clause-few_reads g c = λ kind on.
     let net = c.args.net.now in
     let known = c.sound.ensures.network.formed.ends_are_known in
-    let settled : FollowsRows net c.args.other.now c.settle.new.self.live.given =
-    subst (λ (given : ConstraintsValue). FollowsRows net c.args.other.now given) (sym (ap (λ (p : PricedValue). p.live.given) c.settle.ensures.unchanged)) c.in-Ok.ensures.follows in
-    few_read_for net c.args.rows.now c.args.priced.now.live c.turn_to.new.priced.live c.settle.new.self.live c.args.steps.now c.turn_to.new.steps c.settle.new.steps
+    let settled : FollowsRows net c.args.other.now c.settle_noted.new.priced.live.given =
+    subst (λ (given : ConstraintsValue). FollowsRows net c.args.other.now given) (sym (ap (λ (p : PricedValue). p.live.given) c.settle_noted.ensures.unchanged)) c.in-Ok.ensures.follows in
+    few_read_for net c.args.rows.now c.args.priced.now.live c.turn_to.new.priced.live c.settle_noted.new.priced.live c.args.steps.now c.turn_to.new.steps c.settle_noted.new.steps
     c.requires.at_rest c.requires.follows
     (follows_least net c.args.rows.now c.args.priced.now.live known c.requires.priced.live c.requires.at_rest c.requires.follows)
     (change_in c.args.what.now) c.args.other.now c.requires.other c.requires.sized.passed
     (event_is_reached c.args.rows.now (change_in c.args.what.now) c.requires.reaches)
-    c.requires.priced.live.marked.as_many_times c.in-Ok.ensures.follows c.settle.ensures.few_reads
-    (follows_least net c.args.other.now c.settle.new.self.live known c.settle.ensures.priced.live c.settle.ensures.at_rest settled)
+    c.requires.priced.live.marked.as_many_times c.in-Ok.ensures.follows c.settle_noted.ensures.few_reads
+    (follows_least net c.args.other.now c.settle_noted.new.priced.live known c.settle_noted.ensures.priced.live c.settle_noted.ensures.at_rest settled)
     c.in-Ok.ensures.marks kind on
 
 pub returns-in-Err-clause-few_reads : goal.returns-in-Err-clause-few_reads
@@ -76,7 +77,7 @@ come_back-requires-clause-flags g c =
 
 pub returns-in-Ok-clause-flags : goal.returns-in-Ok-clause-flags
 returns-in-Ok-clause-flags g c =
-    subst (AreFlagsOf c.args.net.now c.args.other.now) (sym (ap flags_of c.settle.ensures.unchanged)) c.turn_to.ensures.flags
+    subst (AreFlagsOf c.args.net.now c.args.other.now) (sym (ap flags_of c.settle_noted.ensures.unchanged)) c.turn_to.ensures.flags
 
 pub turn_to-requires-clause-clock : goal.turn_to-requires-clause-clock
 turn_to-requires-clause-clock g c =
@@ -89,3 +90,22 @@ come_back-requires-clause-clock g c =
     let what = change_in c.args.what.now in
     rw c.clock-in-Err.ensures.value (at_clock_after c.args.net.now c.args.rows.now what c.args.other.now.clock c.turn_to.new.priced.live.given
     (subst (λ (rows : RowsValue). FollowsAt c.args.net.now rows what c.args.other.now.clock c.turn_to.new.priced.live.given) c.requires.other c.turn_to.ensures.clock))
+
+pub note_passed-requires : goal.note_passed-requires
+note_passed-requires g c = λ i moves.
+    let below = pass_is_reached c.args.rows.now (change_in c.args.what.now) c.requires.reaches i moves in
+    let size = c.requires.sized.passed in
+    let many = c.requires.noted in
+    omega arith
+
+pub returns-in-Ok-clause-moved : goal.returns-in-Ok-clause-moved
+returns-in-Ok-clause-moved g c =
+    takes_in_both c.args.moved.now.flags c.note_passed.new.moved.flags c.settle_noted.new.moved.flags
+    c.args.priced.now.live.times c.turn_to.new.priced.live.times c.settle_noted.new.priced.live.times
+    (takes_in_each (MovesPass (change_in c.args.what.now)) c.args.moved.now.flags c.note_passed.new.moved.flags c.args.priced.now.live.times c.turn_to.new.priced.live.times
+    c.note_passed.ensures c.in-Ok.ensures.times)
+    c.settle_noted.ensures.moved
+
+pub returns-in-Err-clause-moved : goal.returns-in-Err-clause-moved
+returns-in-Err-clause-moved g c =
+    takes_in_none c.args.moved.now.flags c.args.priced.now.live.times c.come_back.new.priced.live.times (returns-in-Err-clause-times g c)
