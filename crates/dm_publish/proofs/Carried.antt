@@ -1,17 +1,13 @@
 -- What was done over some lists was done over equal ones.
-use Rattle.std.proofs.Common.{◌≡◌, ℕ, List, [], Option, Result, subst}
+use Rattle.std.proofs.Common.{◌≡◌, ℕ, List, [], Option, subst}
 use Rattle.dm_network.specs.Net.{Net}
 use Rattle.dm_cert.specs.declared.notes.Note.{Note}
 use Rattle.dm_publish.specs.Publishing.{Publishes}
 use Rattle.dm_publish.specs.Since.{KeepsUp, KeepsUpLast}
-use Rattle.dm_publish.specs.Inside.Refreshing.{Refreshes}
 use Rattle.dm_publish.specs.Inside.Turns.{TakesTurn, IsPublishedTo}
 use Rattle.dm_publish.proofs.Repeated.{all_show_none}
 
 module _ {B : Type 0} (place : B → ℕ) (times : B → Option (ℕ → Option ℕ)) (faults : B → ℕ) (is_sound : B → ℕ → Type 0) (net : Net) (last other x : List ℕ) (same : last ≡ other) where
-  pub refreshes_by : {T E : Type 0} (before now : B) (result : Result T E) → Refreshes place times faults is_sound net last x before now result → Refreshes place times faults is_sound net other x before now result
-  refreshes_by before now result h = let P : List ℕ → Type 0 = λ l. Refreshes place times faults is_sound net l x before now result in subst P same h
-
   pub turn_by : (entry at : ℕ) (noted noted_now : List Note) (before now : B) → TakesTurn place times faults is_sound net last x entry at noted noted_now before now → TakesTurn place times faults is_sound net other x entry at noted noted_now before now
   turn_by entry at noted noted_now before now h = let P : List ℕ → Type 0 = λ l. TakesTurn place times faults is_sound net l x entry at noted noted_now before now in subst P same h
 

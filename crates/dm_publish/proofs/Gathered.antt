@@ -1,6 +1,6 @@
 -- The changes of one board.
 use Rattle.std.proofs.Common.{◌≡◌, ℕ, zero, suc, ◌+◌, ◌<◌, Bool, true, false, cond, eqb, List, [], ◌∷◌, ◌++◌, length, Option, Some, None, Result, Ok, Err, refl, sym, ap, subst, ◌∙◌, inl, inr, arith, length-append}
-use Rattle.std.specs.Prelude.{⊤, not, All, IfSome, IsSome, OnOk, ◌==◌, unwrap_or, if◌then◌else◌}
+use Rattle.std.specs.Prelude.{All, IfSome, IsSome, OnOk, ◌==◌, unwrap_or, if◌then◌else◌}
 use Rattle.std.proofs.lemmas.Bool.{cases_lt, cases_eq, eqb-true, eq-eqb, ne_eqb}
 use Rattle.std.proofs.lemmas.List.Elements.{All-push}
 use Rattle.dm_network.specs.Net.{Net, event_at, event_place, no_event}
@@ -11,20 +11,7 @@ use Rattle.dm_outside.specs.Board.{times_after, Sets}
 use Rattle.dm_publish.specs.Shown.{IsAtStop, AllStand, ShowsTimes, ShowsLast, KeepsOthers, IsSoundFor}
 use Rattle.dm_publish.specs.declared.changes.Listed.{Listed}
 use Rattle.dm_publish.specs.Inside.Changes.{no_listed, place_at}
-use Rattle.dm_publish.specs.Inside.Refreshing.{TellsTime, LacksTime, IsDue, Covers, Gathers, HasGathered, TakesChanges, Refreshes}
-
--- ---- whether a board lacks a time
-
-pub lacks_not_last : (net : Net) (last : List ℕ) (stop : ℕ) (told : Option (ℕ → Option ℕ)) (i time : ℕ) → IsAtStop net stop i → (i < length last) × (time_at last i ≡ time) → LacksTime net last stop told i time false
-lacks_not_last net last stop None i time at same = tt
-lacks_not_last net last stop (Some shown) i time at same = λ showed. showed i at same.0 ∙ ap Some same.1
-
--- what a board answers
-pub lacks_shown : (net : Net) (last : List ℕ) (stop : ℕ) (told : Option (ℕ → Option ℕ)) (i time : ℕ) → (answer : Bool) → TellsTime ⊤ told (event_at net i).id.0 time answer →
-    LacksTime net last stop told i time (not answer)
-lacks_shown net last stop told i time false tells = tells
-lacks_shown net last stop None i time true tells = tt
-lacks_shown net last stop (Some shown) i time true tells = λ showed. tells tt
+use Rattle.dm_publish.specs.Inside.Refreshing.{TellsTime, IsDue, AreAtStop, Covers, Gathers, HasGathered, TakesChanges, Refreshes}
 
 -- ---- changes made in turn
 
@@ -57,7 +44,7 @@ not_named (c ∷ changes) shown e h =
     not_named changes (λ other. if other == c.0 then Some c.1 else shown other) e (λ k d lt. h (suc k) d (omega arith))
     ∙ given e c.0 c.1 (shown e) (shown e) (λ same. absurd (h zero c (omega arith) same)) refl
 
-module _ (net : Net) (last x : List ℕ) (network : IsNetwork net) where
+module _ (net : Net) (x : List ℕ) (network : IsNetwork net) where
   -- the time of the event with this id
   time_named : ℕ → ℕ
   time_named e = time_at x (unwrap_or (event_place net (record { 0 = e })) 0)
@@ -77,12 +64,12 @@ module _ (net : Net) (last x : List ℕ) (network : IsNetwork net) where
         due.time ∙ (sym (time_of due.place due.at_stop.is_event) ∙ ap time_named (sym due.event))
 
     -- nothing is gathered yet
-    pub gathered_none : (told : Option (ℕ → Option ℕ)) (part : List Listed) (changes : List (ℕ × ℕ)) → changes ≡ [] → Gathers net last x stop told part 0 changes
+    pub gathered_none : (told : Option (ℕ → Option ℕ)) (part : List Listed) (changes : List (ℕ × ℕ)) → changes ≡ [] → Gathers net x stop told part 0 changes
     gathered_none told part changes empty =
         let l : length changes ≡ 0 = ap length empty in
         record {
           due = λ k d lt. absurd (omega arith);
-          shows = λ showed. no_shows told;
+          shows = no_shows told;
           none = no_none told;
           few = omega arith;
         }
@@ -101,19 +88,19 @@ module _ (net : Net) (last x : List ℕ) (network : IsNetwork net) where
       id_at j = (event_at net (place_at part j)).id.0
 
       -- an event that stands with its time
-      pub gathered_standing : (told : Option (ℕ → Option ℕ)) (changes : List (ℕ × ℕ)) → Gathers net last x stop told part k changes →
-          LacksTime net last stop told (place_at part k) (time_at x (place_at part k)) false → Gathers net last x stop told part (k + 1) changes
-      gathered_standing None changes g tells = record { due = g.due; shows = λ showed. tt; none = tt; few = let f = g.few in omega arith }
+      pub gathered_standing : (told : Option (ℕ → Option ℕ)) (changes : List (ℕ × ℕ)) → Gathers net x stop told part k changes →
+          TellsTime told (event_at net (place_at part k)).id.0 (time_at x (place_at part k)) true → Gathers net x stop told part (k + 1) changes
+      gathered_standing None changes g tells = record { due = g.due; shows = tt; none = tt; few = let f = g.few in omega arith }
       gathered_standing (Some shown) changes g tells =
           record {
             due = g.due;
-            shows = λ showed j lt. elim (cases_lt j k) [
-              | inl earlier ↦ g.shows showed j earlier
+            shows = λ j lt. elim (cases_lt j k) [
+              | inl earlier ↦ g.shows j earlier
               | inr past ↦
                   let same : k ≡ j = omega arith in
                   let time : time_named (event_at net (place_at part k)).id.0 ≡ time_at x (place_at part k) = time_of (place_at part k) here.is_event in
                   let there : times_after shown changes (event_at net (place_at part k)).id.0 ≡ Some (time_at x (place_at part k)) =
-                  stays time_named changes shown (event_at net (place_at part k)).id.0 (due_times changes g.due) (tells showed ∙ ap Some (sym time)) ∙ ap Some time in
+                  stays time_named changes shown (event_at net (place_at part k)).id.0 (due_times changes g.due) (tells ∙ ap Some (sym time)) ∙ ap Some time in
                   subst (λ (i : ℕ). times_after shown changes (event_at net (place_at part i)).id.0 ≡ Some (time_at x (place_at part i))) same there
             ];
             none = g.none;
@@ -121,14 +108,14 @@ module _ (net : Net) (last x : List ℕ) (network : IsNetwork net) where
           }
 
       -- an event that does not
-      pub gathered_change : (told : Option (ℕ → Option ℕ)) (changes : List (ℕ × ℕ)) → Gathers net last x stop told part k changes →
-          LacksTime net last stop told (place_at part k) (time_at x (place_at part k)) true →
-          Gathers net last x stop told part (k + 1) (changes ++ ((event_at net (place_at part k)).id.0, time_at x (place_at part k)) ∷ [])
+      pub gathered_change : (told : Option (ℕ → Option ℕ)) (changes : List (ℕ × ℕ)) → Gathers net x stop told part k changes →
+          TellsTime told (event_at net (place_at part k)).id.0 (time_at x (place_at part k)) false →
+          Gathers net x stop told part (k + 1) (changes ++ ((event_at net (place_at part k)).id.0, time_at x (place_at part k)) ∷ [])
       gathered_change told changes g lacks =
           let c : ℕ × ℕ = ((event_at net (place_at part k)).id.0, time_at x (place_at part k)) in
           record {
             due = All-push (IsDue net x stop) changes c g.due (record { place = place_at part k; at_stop = here; event = refl; time = refl });
-            shows = λ showed. all_show told (g.shows showed);
+            shows = all_show told g.shows;
             none = not_all told lacks;
             few = let f = g.few in let l = length-append changes (c ∷ []) in omega arith;
           }
@@ -160,44 +147,46 @@ module _ (net : Net) (last x : List ℕ) (network : IsNetwork net) where
                 | inr past ↦ let same : j ≡ k = omega arith in absurd (ne (ap (λ (i : ℕ). (event_at net (place_at part i)).id.0) same))
               ]
 
-          not_all : (told : Option (ℕ → Option ℕ)) → TellsTime ⊤ told (event_at net (place_at part k)).id.0 (time_at x (place_at part k)) false →
+          not_all : (told : Option (ℕ → Option ℕ)) → TellsTime told (event_at net (place_at part k)).id.0 (time_at x (place_at part k)) false →
               IfSome told (λ shown. AllStand net x stop shown → changes ++ ((event_at net (place_at part k)).id.0, time_at x (place_at part k)) ∷ [] ≡ [])
           not_all None t = tt
           not_all (Some shown) t = λ all. absurd (t (all (place_at part k) here))
 
     -- one event more, with the changes that stand after it
-    pub gathered_next : (told : Option (ℕ → Option ℕ)) (part : List Listed) (k : ℕ) (covers : Covers net last x stop part) (below : k < length part)
-        (changes : List (ℕ × ℕ)) (t : ℕ) → Gathers net last x stop told part k changes → t ≡ time_at x (place_at part k) →
-        (answer : Bool) → LacksTime net last stop told (place_at part k) t answer → (after : List (ℕ × ℕ)) →
-        after ≡ (if answer then changes ++ ((event_at net (place_at part k)).id.0, t) ∷ [] else changes) → Gathers net last x stop told part (k + 1) after
-    gathered_next told part k covers below changes t g t-is answer lacks after is =
-        let here = covers.within k no_listed below in
-        let before : (j : ℕ) → j < k → IsAtStop net stop (place_at part j) = λ j lt. covers.within j no_listed (omega arith) in
-        rw is (elim answer as (λ (b : Bool). LacksTime net last stop told (place_at part k) t b →
-        Gathers net last x stop told part (k + 1) (if b then changes ++ ((event_at net (place_at part k)).id.0, t) ∷ [] else changes)) [
-          | true ↦ λ h. rw t-is (gathered_change part k here before told changes g (subst (λ (u : ℕ). LacksTime net last stop told (place_at part k) u true) t-is h))
-          | false ↦ λ h. gathered_standing part k here before told changes g (subst (λ (u : ℕ). LacksTime net last stop told (place_at part k) u false) t-is h)
-        ] lacks)
+    pub gathered_next : (told : Option (ℕ → Option ℕ)) (part : List Listed) (k : ℕ) (all : AreAtStop net stop part) (below : k < length part)
+        (changes : List (ℕ × ℕ)) (id t : ℕ) → Gathers net x stop told part k changes → id ≡ (event_at net (place_at part k)).id.0 → t ≡ time_at x (place_at part k) →
+        (answer : Bool) → TellsTime told id t answer → (after : List (ℕ × ℕ)) →
+        after ≡ (if answer then changes else changes ++ (id, t) ∷ []) → Gathers net x stop told part (k + 1) after
+    gathered_next told part k all below changes id t g id-is t-is answer tells after is =
+        let here = all k no_listed below in
+        let before : (j : ℕ) → j < k → IsAtStop net stop (place_at part j) = λ j lt. all j no_listed (omega arith) in
+        let e : ℕ = (event_at net (place_at part k)).id.0 in
+        let u : ℕ = time_at x (place_at part k) in
+        let told_so : TellsTime told e u answer = subst (λ (n : ℕ). TellsTime told n u answer) id-is (subst (λ (v : ℕ). TellsTime told id v answer) t-is tells) in
+        let is_so : after ≡ (if answer then changes else changes ++ (e, u) ∷ []) =
+        is ∙ (ap (λ (n : ℕ). if answer then changes else changes ++ (n, t) ∷ []) id-is ∙ ap (λ (v : ℕ). if answer then changes else changes ++ (e, v) ∷ []) t-is) in
+        rw is_so (elim answer as (λ (b : Bool). TellsTime told e u b → Gathers net x stop told part (k + 1) (if b then changes else changes ++ (e, u) ∷ [])) [
+          | true ↦ λ h. gathered_standing part k here before told changes g h
+          | false ↦ λ h. gathered_change part k here before told changes g h
+        ] told_so)
 
     -- all events are looked at
-    pub gathered_all : (told : Option (ℕ → Option ℕ)) (part : List Listed) → Covers net last x stop part → (k : ℕ) → k ≡ length part → (changes : List (ℕ × ℕ)) →
-        Gathers net last x stop told part k changes → HasGathered net last x stop told changes
-    gathered_all told part covers k over changes g = record { due = g.due; shows = λ showed. all_stand told showed (g.shows showed); none = g.none }
+    pub gathered_all : (last : List ℕ) (told : Option (ℕ → Option ℕ)) (part : List Listed) → Covers net last x stop part → (changes : List (ℕ × ℕ)) →
+        Gathers net x stop told part (length part) changes → HasGathered net last x stop told changes
+    gathered_all last told part covers changes g = record { due = g.due; shows = λ showed. all_stand told showed g.shows; none = g.none }
       where
         all_stand : (told : Option (ℕ → Option ℕ)) → ShowsLast net last stop told →
-            IfSome told (λ shown. (j : ℕ) → j < k → times_after shown changes (event_at net (place_at part j)).id.0 ≡ Some (time_at x (place_at part j))) →
+            IfSome told (λ shown. (j : ℕ) → j < length part → times_after shown changes (event_at net (place_at part j)).id.0 ≡ Some (time_at x (place_at part j))) →
             IfSome told (λ shown. AllStand net x stop (times_after shown changes))
         all_stand None showed h = tt
         all_stand (Some shown) showed h = λ i at. elim (covers.each i at) [
-          | inl s ↦
-              let w = s.within in
-              subst (λ (v : ℕ). times_after shown changes (event_at net v).id.0 ≡ Some (time_at x v)) s.is (h s.at (omega arith))
+          | inl s ↦ subst (λ (v : ℕ). times_after shown changes (event_at net v).id.0 ≡ Some (time_at x v)) s.is (h s.at s.within)
           | inr l ↦
               let time : time_named (event_at net i).id.0 ≡ time_at x i = time_of i at.is_event in
               stays time_named changes shown (event_at net i).id.0 (due_times changes g.due) (showed i at l.within ∙ ap Some (l.same ∙ sym time)) ∙ ap Some time
         ]
 
-    module _ (changes : List (ℕ × ℕ)) where
+    module _ (last : List ℕ) (changes : List (ℕ × ℕ)) where
       others_stand : (shown : ℕ → Option ℕ) → All (IsDue net x stop) changes → (event : ℕ) →
           ((i : ℕ) → IsAtStop net stop i → (event_at net i).id.0 ≡ event → ⊥) → times_after shown changes event ≡ shown event
       others_stand shown due event none =
@@ -250,8 +239,8 @@ module _ {B : Type 0} (place : B → ℕ) (times : B → Option (ℕ → Option 
         stays_sound = λ h. h;
         succeeds = λ h. refl;
         risen = tt;
-        shows = shows_by_sets net last x network (place before) changes (times before) (times before) g (quiet_sets net last x network (place before) changes (times before) empty);
-        others = others_by_sets net last x network (place before) changes (times before) (times before) g (quiet_sets net last x network (place before) changes (times before) empty);
+        shows = shows_by_sets net x network (place before) last changes (times before) (times before) g (quiet_sets net x network (place before) last changes (times before) empty);
+        others = others_by_sets net x network (place before) last changes (times before) (times before) g (quiet_sets net x network (place before) last changes (times before) empty);
         quiet = same_quiet (times before);
       }
 
@@ -262,10 +251,10 @@ module _ {B : Type 0} (place : B → ℕ) (times : B → Option (ℕ → Option 
         same_stop = takes.same_stop;
         later = takes.cause.later;
         stays_sound = λ h i at. let here : IsAtStop net (place before) i = subst (λ (s : ℕ). IsAtStop net s i) takes.same_stop at in
-            takes.stays_sound (all_sound net last x network (place before) changes (is_sound before) g.due h) (event_at net i).id.0 (h i here);
-        succeeds = λ h. takes.sound (all_sound net last x network (place before) changes (is_sound before) g.due h);
+            takes.stays_sound (all_sound net x network (place before) last changes (is_sound before) g.due h) (event_at net i).id.0 (h i here);
+        succeeds = λ h. takes.sound (all_sound net x network (place before) last changes (is_sound before) g.due h);
         risen = takes.cause.failed;
-        shows = on_ok result (shows_by_sets net last x network (place before) changes (times before) (times now) g) takes.sets;
-        others = on_ok result (others_by_sets net last x network (place before) changes (times before) (times now) g) takes.sets;
-        quiet = not_quiet net last x network (place before) changes (now ≡ before) (times before) g some;
+        shows = on_ok result (shows_by_sets net x network (place before) last changes (times before) (times now) g) takes.sets;
+        others = on_ok result (others_by_sets net x network (place before) last changes (times before) (times now) g) takes.sets;
+        quiet = not_quiet net x network (place before) last changes (now ≡ before) (times before) g some;
       }

@@ -14,7 +14,7 @@ use Rattle.dm_publish.specs.declared.changes.Listed.{Listed}
 use Rattle.dm_publish.specs.Shown.{IsAtStop}
 use Rattle.dm_publish.specs.Inside.Changes.{no_listed, StandsIn, ListsChanges}
 use Rattle.dm_publish.specs.Inside.Grouping.{AreGrouped, EndsAt, IsPartOf}
-use Rattle.dm_publish.specs.Inside.Refreshing.{Covers}
+use Rattle.dm_publish.specs.Inside.Refreshing.{AreAtStop, Covers}
 
 -- ---- a list that is sorted
 
@@ -93,22 +93,26 @@ of_contained : (P : Listed → Type 0) (listed : List Listed) (l : Listed) → A
 of_contained P listed l all c = subst P c.2 (all c.0 l c.1)
 
 -- the part of a board's stop
-pub part_covers : (net : Net) (last x : List ℕ) (stop : ℕ) (listed part : List Listed) → length x ≡ length net.events → ListsChanges last x listed → AreGrouped net listed →
-    IsPartOf listed stop part → Covers net last x stop part
-part_covers net last x stop listed part size h grouped p =
-    record {
-      each = λ i at. let lt = at.is_event in elim (h.each i (omega arith)) [
-        | inl s ↦ inl (found i at s)
-        | inr l ↦ inr l
-      ];
-      within = λ k d lt.
-          let low = of_contained (λ (l : Listed). l.place < length x) listed _ h.within (p.within k d lt) in
-          let stop_is = of_contained (λ (l : Listed). l.stop.0 ≡ (event_at net l.place).stop.0) listed _ grouped.stops (p.within k d lt) in
-          record { is_event = omega arith; at_stop = sym stop_is ∙ p.of_stop k d lt };
-      few = let many = p.few in let f = h.few in omega arith;
-    }
-  where
-    found : (i : ℕ) → IsAtStop net stop i → StandsIn listed i → StandsIn part i
-    found i at s =
-        let stop_is : (get_or listed s.at no_listed).stop.0 ≡ stop = grouped.stops s.at no_listed s.within ∙ (ap (λ (j : ℕ). (event_at net j).stop.0) s.is ∙ at.at_stop) in
-        subst (λ (j : ℕ). StandsIn part j) s.is (p.each s.at no_listed s.within stop_is)
+module _ (net : Net) (stop : ℕ) (listed part : List Listed) (grouped : AreGrouped net listed) (p : IsPartOf listed stop part) where
+  pub part_at_stop : AreAtStop net stop part
+  part_at_stop k d lt =
+      let low = of_contained (λ (l : Listed). l.place < length net.events) listed _ grouped.within (p.within k d lt) in
+      let stop_is = of_contained (λ (l : Listed). l.stop.0 ≡ (event_at net l.place).stop.0) listed _ grouped.stops (p.within k d lt) in
+      record { is_event = low; at_stop = sym stop_is ∙ p.of_stop k d lt }
+
+  pub part_few : length part ≤ length net.events
+  part_few = let many = p.few in let f = grouped.few in omega arith
+
+  pub part_covers : (last x : List ℕ) → length x ≡ length net.events → ListsChanges last x listed → Covers net last x stop part
+  part_covers last x size h =
+      record {
+        each = λ i at. let lt = at.is_event in elim (h.each i (omega arith)) [
+          | inl s ↦ inl (found i at s)
+          | inr l ↦ inr l
+        ];
+      }
+    where
+      found : (i : ℕ) → IsAtStop net stop i → StandsIn listed i → StandsIn part i
+      found i at s =
+          let stop_is : (get_or listed s.at no_listed).stop.0 ≡ stop = grouped.stops s.at no_listed s.within ∙ (ap (λ (j : ℕ). (event_at net j).stop.0) s.is ∙ at.at_stop) in
+          subst (λ (j : ℕ). StandsIn part j) s.is (p.each s.at no_listed s.within stop_is)

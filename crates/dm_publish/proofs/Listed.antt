@@ -26,9 +26,18 @@ module _ (net : Net) (k : ℕ) (listed : List Listed) (are : listed ≡ lists ne
   first_next = map-range_with_len_more (listed_at net) 0 k k (omega arith) ∙ ap (λ (ls : List Listed). ls ++ listed_at net k ∷ []) (sym are)
 
 module _ (net : Net) (places : List ℕ) (listed : List Listed) (h : AreListed net places listed) where
-  pub listed_grouped : AreGrouped net listed
-  listed_grouped =
+  below_listed : (k : ℕ) → All (λ i. i < k) places → All (λ (l : Listed). l.place < k) listed
+  below_listed k low =
+      All-permutation (λ (l : Listed). l.place < k) (lists net places) listed h.same (All-map (λ (l : Listed). l.place < k) (listed_at net) places low)
+
+  many_listed : length listed ≡ length places
+  many_listed = length_permutation (lists net places) listed h.same ∙ length-map places (listed_at net)
+
+  pub listed_grouped : All (λ i. i < length net.events) places → length places ≤ length net.events → AreGrouped net listed
+  listed_grouped low few =
       record {
+        within = below_listed (length net.events) low;
+        few = let many = many_listed in omega arith;
         stops = All-permutation (λ (l : Listed). l.stop.0 ≡ (event_at net l.place).stop.0) (lists net places) listed h.same
             (All-map (λ (l : Listed). l.stop.0 ≡ (event_at net l.place).stop.0) (listed_at net) places (λ k d lt. refl));
         ascend = h.ascend;
@@ -45,13 +54,6 @@ module _ (net : Net) (places : List ℕ) (listed : List Listed) (h : AreListed n
       let from : 0 ≤ there.0 = omega arith in
       record { at = there.0; from = from; within = there.1; is = ap (λ (l : Listed). l.place) (get_or_default listed there.0 no_listed (listed_at net i) there.1 ∙ there.2) }
 
-  below_listed : (k : ℕ) → All (λ i. i < k) places → All (λ (l : Listed). l.place < k) listed
-  below_listed k low =
-      All-permutation (λ (l : Listed). l.place < k) (lists net places) listed h.same (All-map (λ (l : Listed). l.place < k) (listed_at net) places low)
-
-  many_listed : length listed ≡ length places
-  many_listed = length_permutation (lists net places) listed h.same ∙ length-map places (listed_at net)
-
   -- the places where times have moved
   pub lists_moved : (last x : List ℕ) → ListsMoved last x places → ListsChanges last x listed
   lists_moved last x moved =
@@ -62,21 +64,28 @@ module _ (net : Net) (places : List ℕ) (listed : List Listed) (h : AreListed n
           | inr same ↦ inr (record { within = omega arith; same = same })
         ];
         within = below_listed (length x) moved.within;
-        few = let many = many_listed in let few = moved.few in omega arith;
       }
 
   -- all places
-  pub lists_all : (last x : List ℕ) → places ≡ range_with_len 0 (length x) → ListsChanges last x listed
-  lists_all last x all =
-      let long : length places ≡ length x = ap length all ∙ length-range_with_len 0 (length x) in
-      record {
-        each = λ i lt. inl (stands_listed i (i, omega arith, at i i lt));
-        within = below_listed (length x) (λ k d lt. let is = at k d (omega arith) in omega arith);
-        few = let many = many_listed in omega arith;
-      }
-    where
-      at : (i d : ℕ) → i < length x → get_or places i d ≡ i
-      at i d lt = let is = ap (λ (ps : List ℕ). get_or ps i d) all ∙ get_or-range_with_len 0 (length x) i d lt in omega arith
+  module _ (k : ℕ) (all : places ≡ range_with_len 0 k) where
+    all_long : length places ≡ k
+    all_long = ap length all ∙ length-range_with_len 0 k
+
+    all_at : (i d : ℕ) → i < k → get_or places i d ≡ i
+    all_at i d lt = let is = ap (λ (ps : List ℕ). get_or ps i d) all ∙ get_or-range_with_len 0 k i d lt in omega arith
+
+    all_low : All (λ i. i < k) places
+    all_low i d lt = let long = all_long in let is = all_at i d (omega arith) in omega arith
+
+    pub grouped_all : k ≡ length net.events → AreGrouped net listed
+    grouped_all is = listed_grouped (subst (λ (n : ℕ). All (λ i. i < n) places) is all_low) (let long = all_long in omega arith)
+
+    pub lists_all : (last x : List ℕ) → k ≡ length x → ListsChanges last x listed
+    lists_all last x is =
+        record {
+          each = λ i lt. let long = all_long in inl (stands_listed i (i, omega arith, all_at i i (omega arith)));
+          within = below_listed (length x) (subst (λ (n : ℕ). All (λ i. i < n) places) is all_low);
+        }
 
 -- ---- times that are written
 

@@ -1,5 +1,5 @@
 //! Listed events, and the times that were published last.
-ghost use Rattle.std.specs.Prelude.{◌≡◌, ◌<◌, ◌≤◌, true, length, slice_index, vec_len, vec_capacity};
+ghost use Rattle.std.specs.Prelude.{◌≡◌, ◌≤◌, length, vec_len, vec_capacity};
 ghost use Rattle.dm_publish.specs.Inside.Changes.{ListsChanges};
 
 use dm_base::{Secs, StopId};
@@ -9,13 +9,6 @@ use dm_base::{Secs, StopId};
 pub(crate) struct Listed {
     pub stop: StopId,
     pub place: usize,
-}
-
-/// Whether this is the last time at a place.
-pub(crate) fn is_last(last: &[Secs], i: usize, time: Secs) -> bool
-    ensures { result ≡ true → (i < length last.now) × (slice_index last.now i ≡ time) }
-{
-    i < last.len() && last[i] == time
 }
 
 /// Keeps the times of a timetable in a list that has room for them and has the last ones, which differ at the listed events alone.

@@ -135,7 +135,7 @@ impl Showing {
         if has_note(&self.notes, index) {
             return;
         }
-        if let Err(Failed) = refresh(net, &self.last, timetable, listed, board, &mut self.changes) {
+        if let Err(Failed) = refresh(net, timetable, listed, board, &mut self.changes) {
             let note = Note {
                 board: index as u32 + 1,
                 stop: stop_of(board).0,

@@ -31,7 +31,6 @@ pub record HasLast (last x : List ℕ) (i : ℕ) : Type 0 where
 pub record ListsChanges (last x : List ℕ) (listed : List Listed) : Type 0 where
   pub each : (i : ℕ) → i < length x → StandsIn listed i ⊎ HasLast last x i
   pub within : All (λ l. l.place < length x) listed
-  pub few : length listed ≤ length x
 
 -- each event is listed with its stop
 abbrev pub AreAtStops : Net → List Listed → Type 0

@@ -18,8 +18,10 @@ pub record AreListed (net : Net) (places : List ℕ) (listed : List Listed) : Ty
   pub same : IsPermutation (lists net places) listed
   pub ascend : IsNonDecreasingBy (λ l. l.stop.0) listed
 
--- each event is listed with its stop, and the stops ascend
+-- events of the network are listed, at most as many as it has, each with its stop, and the stops ascend
 pub record AreGrouped (net : Net) (listed : List Listed) : Type 0 where
+  pub within : All (λ l. l.place < length net.events) listed
+  pub few : length listed ≤ length net.events
   pub stops : AreAtStops net listed
   pub ascend : IsNonDecreasingBy (λ l. l.stop.0) listed
 

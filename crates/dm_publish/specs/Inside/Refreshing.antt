@@ -8,11 +8,11 @@ use Rattle.dm_publish.specs.declared.changes.Listed.{Listed}
 use Rattle.dm_publish.specs.Inside.Changes.{StandsIn, HasLast, place_at}
 use Rattle.dm_publish.specs.Shown.{IsAtStop, AllStand, ShowsTimes, ShowsLast, KeepsOthers, IsSoundFor}
 
--- whether this time stands there for the event, where the board tells that: known where it showed the last times
-abbrev pub TellsTime : Type 0 → Option (ℕ → Option ℕ) → ℕ → ℕ → Bool → Type 0
-TellsTime Showed None event time answer = ⊤
-TellsTime Showed (Some shown) event time true = Showed → shown event ≡ Some time
-TellsTime Showed (Some shown) event time false = shown event ≡ Some time → ⊥
+-- whether this time stands there for the event, where the board tells that
+abbrev pub TellsTime : Option (ℕ → Option ℕ) → ℕ → ℕ → Bool → Type 0
+TellsTime None event time answer = ⊤
+TellsTime (Some shown) event time true = shown event ≡ Some time
+TellsTime (Some shown) event time false = shown event ≡ Some time → ⊥
 
 -- an event at the stop with its time
 pub record IsDue (net : Net) (x : List ℕ) (stop : ℕ) (change : ℕ × ℕ) : Type 0 where
@@ -21,22 +21,18 @@ pub record IsDue (net : Net) (x : List ℕ) (stop : ℕ) (change : ℕ × ℕ) :
   pub event : change.0 ≡ (event_at net place).id.0
   pub time : change.1 ≡ time_at x place
 
--- whether the event at a place does not have this time there, where the board tells that: known where it showed the last times
-abbrev pub LacksTime : Net → List ℕ → ℕ → Option (ℕ → Option ℕ) → ℕ → ℕ → Bool → Type 0
-LacksTime net last stop told i time true = TellsTime ⊤ told (event_at net i).id.0 time false
-LacksTime net last stop told i time false = TellsTime (ShowsLast net last stop told) told (event_at net i).id.0 time true
+-- these events are at the stop
+abbrev pub AreAtStop : Net → ℕ → List Listed → Type 0
+AreAtStop net stop part = All (λ l. IsAtStop net stop l.place) part
 
--- events at the stop, among which stands each whose time is not the last one
+-- among these stands each event at the stop whose time is not the last one
 pub record Covers (net : Net) (last x : List ℕ) (stop : ℕ) (part : List Listed) : Type 0 where
   pub each : (i : ℕ) → IsAtStop net stop i → StandsIn part i ⊎ HasLast last x i
-  pub within : All (λ l. IsAtStop net stop l.place) part
-  pub few : length part ≤ length net.events
 
--- The changes that a board needs for the first k of these events: with them each has its time, where it showed the last times.
-pub record Gathers (net : Net) (last x : List ℕ) (stop : ℕ) (told : Option (ℕ → Option ℕ)) (part : List Listed) (k : ℕ) (changes : List (ℕ × ℕ)) : Type 0 where
+-- the changes that a board needs for the first k of these events: with them each has its time
+pub record Gathers (net : Net) (x : List ℕ) (stop : ℕ) (told : Option (ℕ → Option ℕ)) (part : List Listed) (k : ℕ) (changes : List (ℕ × ℕ)) : Type 0 where
   pub due : All (IsDue net x stop) changes
-  pub shows : ShowsLast net last stop told → IfSome told (λ shown. (j : ℕ) → j < k →
-      times_after shown changes (event_at net (place_at part j)).id.0 ≡ Some (time_at x (place_at part j)))
+  pub shows : IfSome told (λ shown. (j : ℕ) → j < k → times_after shown changes (event_at net (place_at part j)).id.0 ≡ Some (time_at x (place_at part j)))
   pub none : IfSome told (λ shown. AllStand net x stop shown → changes ≡ [])
   pub few : length changes ≤ k
 

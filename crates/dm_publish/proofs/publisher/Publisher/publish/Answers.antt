@@ -1,19 +1,17 @@
-use Rattle.std.proofs.Common.{◌≤◌, ℕ, List, [], ap, subst, sym, ◌∙◌}
-use Rattle.std.specs.List.{range_with_len}
+use Rattle.std.proofs.Common.{◌≤◌, ℕ, List, [], ap, subst, refl, sym, ◌∙◌}
 use Rattle.dm_cert.specs.declared.notes.Note.{Note}
 use Rattle.dm_cert.specs.Runs.{AreTrueNotes}
 use Rattle.dm_publish.proofs.Carried.{publishes_by, keeps_up_by}
-use Rattle.dm_publish.proofs.Listed.{listed_grouped, lists_all}
+use Rattle.dm_publish.proofs.Listed.{grouped_all, lists_all}
 use Rattle.dm_publish.proofs.publisher.Publisher.publish.Goals as goal
 
 pub show_listed-requires-clause-listed : goal.show_listed-requires-clause-listed
 show_listed-requires-clause-listed g c =
-    rw c.deref.ensures.value
-    (lists_all c.args.net.now _ c.list_all.new.listed.items c.list_all.ensures.listed c.forget.new.self.last c.args.timetable.now (ap (range_with_len 0) (sym c.requires.times)))
+    rw c.deref.ensures.value (lists_all c.args.net.now _ c.list_all.new.listed.items c.list_all.ensures.listed _ refl c.forget.new.self.last c.args.timetable.now (sym c.requires.times))
 
 pub show_listed-requires-clause-grouped : goal.show_listed-requires-clause-grouped
 show_listed-requires-clause-grouped g c =
-    rw c.deref.ensures.value (listed_grouped c.args.net.now _ c.list_all.new.listed.items c.list_all.ensures.listed)
+    rw c.deref.ensures.value (grouped_all c.args.net.now _ c.list_all.new.listed.items c.list_all.ensures.listed _ refl refl)
 
 pub returns-clause-published : goal.returns-clause-published
 returns-clause-published g c =

@@ -1,4 +1,5 @@
-use Rattle.std.proofs.Common.{◌≤◌, ℕ, List, ap, subst, sym}
+use Rattle.std.proofs.Common.{◌<◌, ◌≤◌, ℕ, List, length, ap, subst, sym, arith}
+use Rattle.std.specs.Prelude.{All}
 use Rattle.dm_cert.specs.declared.notes.Note.{Note}
 use Rattle.dm_cert.specs.Runs.{AreTrueNotes}
 use Rattle.dm_places.specs.Moved.{ListsMoved}
@@ -14,7 +15,10 @@ show_listed-requires-clause-listed g c =
 
 pub show_listed-requires-clause-grouped : goal.show_listed-requires-clause-grouped
 show_listed-requires-clause-grouped g c =
-    rw c.deref.ensures.value (listed_grouped c.args.net.now c.args.places.now c.list_places.new.listed.items c.list_places.ensures.listed)
+    let times = c.requires.times in
+    let few = c.requires.listed.few in
+    let low : All (λ i. i < length c.args.net.now.events) c.args.places.now = λ k d lt. let low = c.requires.listed.within k d lt in omega arith in
+    rw c.deref.ensures.value (listed_grouped c.args.net.now c.args.places.now c.list_places.new.listed.items c.list_places.ensures.listed low (omega arith))
 
 pub returns-clause-published : goal.returns-clause-published
 returns-clause-published g c =

@@ -2,7 +2,6 @@ use Rattle.std.proofs.Common.{◌≡◌, ◌<◌, ◌∷◌, [], ◌++◌, ℕ, 
 use Rattle.dm_cert.specs.declared.notes.Note.{Note}
 use Rattle.dm_publish.specs.Publishing.{has_note}
 use Rattle.dm_publish.specs.Inside.Turns.{note_of, is_shown, is_dropped}
-use Rattle.dm_publish.proofs.Carried.{refreshes_by}
 use Rattle.dm_publish.proofs.Notes.{one_more, has_room}
 use Rattle.dm_publish.proofs.showing.Showing.keep_up.Goals as goal
 
@@ -28,19 +27,19 @@ unreachable-requires g c =
 
 pub returns-in-Ok-clause-turn : goal.returns-in-Ok-clause-turn
 returns-in-Ok-clause-turn g c =
+    let refreshed = c.refresh.ensures.refreshed c.args.self.now.last c.requires.listed in
     let notes : c.self.inside.notes.items ≡ c.args.self.now.notes = ap (λ (v : _). v.notes) c.self.view_is in
     let none : has_note c.args.self.now.notes c.args.index ≡ false =
     sym (c.if-has_note.ensures ∙ ap (λ (notes : List Note). has_note notes c.args.index) (c.deref.ensures.value ∙ notes)) in
-    let stop = ap (λ (s : _). s.0) c.stop_of.ensures.stop ∙ c.refresh.ensures.refreshed.same_stop in
+    let stop = ap (λ (s : _). s.0) c.stop_of.ensures.stop ∙ refreshed.same_stop in
     is_dropped none (c.in-Ok.ensures.items ∙ (ap (λ (ns : List Note). ns ++ note_of c.args.index c.stop_of.result.0 c.args.entry ∷ []) notes
     ∙ ap (λ (s : ℕ). c.args.self.now.notes ++ note_of c.args.index s c.args.entry ∷ []) stop))
-    (subst (λ (s : ℕ). s ≤ 4294967295) c.refresh.ensures.refreshed.same_stop c.stop_of.ensures.fits) c.refresh.result c.in-Err.field-0 c.in-Err.is
-    (refreshes_by _ _ _ _ c.args.net.now _ c.args.self.now.last c.args.timetable.now (c.deref-2.ensures.value ∙ ap (λ (v : _). v.last) c.self.view_is) _ _ c.refresh.result c.refresh.ensures.refreshed)
+    (subst (λ (s : ℕ). s ≤ 4294967295) refreshed.same_stop c.stop_of.ensures.fits) c.refresh.result c.in-Err.field-0 c.in-Err.is refreshed
 
 pub returns-in_default-clause-turn : goal.returns-in_default-clause-turn
 returns-in_default-clause-turn g c =
+    let refreshed = c.refresh.ensures.refreshed c.args.self.now.last c.requires.listed in
     let notes : c.self.inside.notes.items ≡ c.args.self.now.notes = ap (λ (v : _). v.notes) c.self.view_is in
     let none : has_note c.args.self.now.notes c.args.index ≡ false =
     sym (c.if-has_note.ensures ∙ ap (λ (notes : List Note). has_note notes c.args.index) (c.deref.ensures.value ∙ notes)) in
-    is_shown none notes c.refresh.result c.in_default.is
-    (refreshes_by _ _ _ _ c.args.net.now _ c.args.self.now.last c.args.timetable.now (c.deref-2.ensures.value ∙ ap (λ (v : _). v.last) c.self.view_is) _ _ c.refresh.result c.refresh.ensures.refreshed)
+    is_shown none notes c.refresh.result c.in_default.is refreshed
