@@ -89,21 +89,37 @@ fn put_lines(lines: &mut Vec<u8>, changes: &[(u32, u64)]) -> Result<(), AllocErr
     Ok(())
 }
 
-/// Keeps the changes among what is shown.
+/// Keeps the changes among what is shown. Each is looked for first behind the one before it, as a train's arrival and departure
+/// mostly stand there.
 fn keep(times: &mut Vec<(u32, u64)>, changes: &[(u32, u64)]) -> Result<(), AllocError> {
+    let mut first = 0;
     for (event, time) in changes {
-        keep_time(times, *event, *time)?;
+        first = keep_time(times, first, *event, *time)?;
     }
     Ok(())
 }
 
-/// Keeps the time of an event among those that are shown.
-fn keep_time(times: &mut Vec<(u32, u64)>, event: u32, time: u64) -> Result<(), AllocError> {
-    match times.binary_search_by_key(&event, |shown| shown.0) {
-        Ok(at) => times[at].1 = time,
-        Err(at) => times.insert(at, (event, time))?,
+/// Keeps the time of an event among those that are shown, and answers the place behind it. It looks at a place first.
+fn keep_time(
+    times: &mut Vec<(u32, u64)>,
+    first: usize,
+    event: u32,
+    time: u64,
+) -> Result<usize, AllocError> {
+    if first < times.len() && times[first].0 == event {
+        times[first].1 = time;
+        return Ok(first + 1);
     }
-    Ok(())
+    match times.binary_search_by_key(&event, |shown| shown.0) {
+        Ok(at) => {
+            times[at].1 = time;
+            Ok(at + 1)
+        }
+        Err(at) => {
+            times.insert(at, (event, time))?;
+            Ok(at + 1)
+        }
+    }
 }
 
 /// The file at a path, open behind what it holds.
