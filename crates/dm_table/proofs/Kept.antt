@@ -32,7 +32,7 @@ kept_is_table net start penalty history engine entries decisions known kept =
     }
 
 -- the rows at the entries before the last
-rows_before : (net : Net) (start : RowsValue) (history : List Entry) (entry : Entry) (n : ℕ) → n ≤ length history →
+pub rows_before : (net : Net) (start : RowsValue) (history : List Entry) (entry : Entry) (n : ℕ) → n ≤ length history →
     rows_at net start (history ++ entry ∷ []) n ≡ rows_at net start history n
 rows_before net start history entry n le =
     ap (fold (λ rows (e : Entry). after net rows e.message) start) (take-append-le n history (entry ∷ []) le)

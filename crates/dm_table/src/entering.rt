@@ -1,7 +1,8 @@
 //! One message that is entered, or refused.
 ghost use Rattle.std.specs.Prelude.{◌≡◌, ◌≤◌, [], All, fold, length, Some, OnOk, OnErr, IfErr, vec_capacity};
 ghost use Rattle.dm_base.specs.declared.limits.TheConstants.{ENTRIES as MOST};
-ghost use Rattle.dm_propagate.specs.Engine.{IsEngineOf};
+ghost use Rattle.dm_propagate.specs.Engine.{IsEngineOf, times_of};
+ghost use Rattle.dm_propagate.specs.Moved.{TakesInMoved};
 ghost use Rattle.dm_rows.specs.Reach.{Reaches, ReachesFlip};
 ghost use Rattle.dm_rows.specs.Refuse.{IsAdopt};
 ghost use Rattle.dm_rows.specs.Resolve.{after, after_change, after_flip};
@@ -15,23 +16,27 @@ use dm_base::Steps;
 use dm_base::limits::ENTRIES;
 use dm_graph::search::Cyclic;
 use dm_network::Network;
+use dm_places::PlaceSet;
 use dm_propagate::Engine;
 use dm_rows::{Change, Decision, Flip, Message, Refusal, admit};
 use std::alloc::Global;
 use std::sync::ledger::Ledger;
 
 /// Makes the change of a message that comes at a history of so many entries, or says why it is refused: then the engine's
-/// rows and times are as before. The flips of an adopted list stand meanwhile in room that was made for them.
+/// rows and times are as before. Events whose times move are noted. The flips of an adopted list stand meanwhile in room that was
+/// made for them.
 pub fn enter<L: Ledger>(
     alloc: Global,
     net: &Network,
     engine: &mut Engine,
+    moved: &mut PlaceSet,
     flips: &mut Vec<Flip>,
     entries: u32,
     message: &Message,
     steps: &mut Steps<L>,
 ) -> Result<(), Refusal>
     requires engine { IsEngineOf net.now engine.old }
+    requires noted { length moved.old.flags ≡ length net.now.events }
     requires few { entries ≤ MOST }
     requires empty { flips.old.items ≡ [] }
     requires room { decisions_in message.now ≤ vec_capacity flips.old }
@@ -42,18 +47,20 @@ pub fn enter<L: Ledger>(
     ensures accepted { OnOk result (IsAccepted net.now engine.old.rows entries message.now) }
     ensures unmoved { OnErr result (IsUnmoved engine.old engine.new) }
     ensures refused { IfErr result (RefusesPost net.now engine.old.rows entries message.now) }
+    ensures moved { TakesInMoved moved.old.flags moved.new.flags (times_of engine.old) (times_of engine.new) }
 {
     match message {
         Message::Adopt(decisions) => enter_list(
             alloc,
             net,
             engine,
+            moved,
             flips,
             entries,
             decisions.as_slice(),
             steps,
         ),
-        _ => enter_one(alloc, net, engine, entries, message, steps),
+        _ => enter_one(alloc, net, engine, moved, entries, message, steps),
     }
 }
 
@@ -62,11 +69,13 @@ fn enter_one<L: Ledger>(
     alloc: Global,
     net: &Network,
     engine: &mut Engine,
+    moved: &mut PlaceSet,
     entries: u32,
     message: &Message,
     steps: &mut Steps<L>,
 ) -> Result<(), Refusal>
     requires engine { IsEngineOf net.now engine.old }
+    requires noted { length moved.old.flags ≡ length net.now.events }
     requires few { entries ≤ MOST }
     requires no_list { IsAdopt message.now → ⊥ }
     ensures engine { IsEngineOf net.now engine.new }
@@ -74,12 +83,13 @@ fn enter_one<L: Ledger>(
     ensures accepted { OnOk result (IsAccepted net.now engine.old.rows entries message.now) }
     ensures unmoved { OnErr result (IsUnmoved engine.old engine.new) }
     ensures refused { IfErr result (RefusesPost net.now engine.old.rows entries message.now) }
+    ensures moved { TakesInMoved moved.old.flags moved.new.flags (times_of engine.old) (times_of engine.new) }
 {
     let change = match admit(alloc, net, engine.rows(), message) {
         Ok(change) => change,
         Err(refusal) => return Err(refusal),
     };
-    let outcome = try_change(net, engine, entries, &change, steps);
+    let outcome = try_change(net, engine, moved, entries, &change, steps);
     answer(alloc, net, engine.last_cycle(), outcome, entries)
 }
 
@@ -88,12 +98,14 @@ fn enter_list<L: Ledger>(
     alloc: Global,
     net: &Network,
     engine: &mut Engine,
+    moved: &mut PlaceSet,
     flips: &mut Vec<Flip>,
     entries: u32,
     decisions: &[Decision],
     steps: &mut Steps<L>,
 ) -> Result<(), Refusal>
     requires engine { IsEngineOf net.now engine.old }
+    requires noted { length moved.old.flags ≡ length net.now.events }
     requires few { entries ≤ MOST }
     requires empty { flips.old.items ≡ [] }
     requires room { length decisions.now ≤ vec_capacity flips.old }
@@ -104,10 +116,11 @@ fn enter_list<L: Ledger>(
     ensures accepted { OnOk result (IsAccepted net.now engine.old.rows entries (Message.Adopt decisions.now)) }
     ensures unmoved { OnErr result (IsUnmoved engine.old engine.new) }
     ensures refused { IfErr result (RefusesPost net.now engine.old.rows entries (Message.Adopt decisions.now)) }
+    ensures moved { TakesInMoved moved.old.flags moved.new.flags (times_of engine.old) (times_of engine.new) }
 {
     match resolve(net, engine.rows(), decisions, flips) {
         Ok(()) => {
-            let outcome = try_flips(net, engine, entries, flips, steps);
+            let outcome = try_flips(net, engine, moved, entries, flips, steps);
             flips.clear();
             answer(alloc, net, engine.last_cycle(), outcome, entries)
         }
@@ -122,16 +135,19 @@ fn enter_list<L: Ledger>(
 fn try_change<L: Ledger>(
     net: &Network,
     engine: &mut Engine,
+    moved: &mut PlaceSet,
     entries: u32,
     change: &Change,
     steps: &mut Steps<L>,
 ) -> Result<(), Cyclic>
     requires engine { IsEngineOf net.now engine.old }
+    requires noted { length moved.old.flags ≡ length net.now.events }
     requires reaches { Reaches engine.old.rows change.now }
-    ensures { HasTried net.now entries (after_change engine.old.rows change.now) engine.old engine.new result }
+    ensures tried { HasTried net.now entries (after_change engine.old.rows change.now) engine.old engine.new result }
+    ensures moved { TakesInMoved moved.old.flags moved.new.flags (times_of engine.old) (times_of engine.new) }
 {
     if entries < ENTRIES {
-        engine.update(net, change, steps)
+        engine.update(net, change, moved, steps)
     } else {
         engine.try_update(net, change, steps)
     }
@@ -141,16 +157,19 @@ fn try_change<L: Ledger>(
 fn try_flips<L: Ledger>(
     net: &Network,
     engine: &mut Engine,
+    moved: &mut PlaceSet,
     entries: u32,
     flips: &[Flip],
     steps: &mut Steps<L>,
 ) -> Result<(), Cyclic>
     requires engine { IsEngineOf net.now engine.old }
+    requires noted { length moved.old.flags ≡ length net.now.events }
     requires reach { All (ReachesFlip engine.old.rows) flips.now }
-    ensures { HasTried net.now entries (fold after_flip engine.old.rows flips.now) engine.old engine.new result }
+    ensures tried { HasTried net.now entries (fold after_flip engine.old.rows flips.now) engine.old engine.new result }
+    ensures moved { TakesInMoved moved.old.flags moved.new.flags (times_of engine.old) (times_of engine.new) }
 {
     if entries < ENTRIES {
-        engine.adopt(net, flips, steps)
+        engine.adopt(net, flips, moved, steps)
     } else {
         engine.try_adopt(net, flips, steps)
     }

@@ -7,6 +7,7 @@
 #![tactic(auto)]
 
 mod entering;
+mod following;
 mod resolving;
 mod showing;
 mod table;

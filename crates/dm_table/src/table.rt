@@ -1,9 +1,11 @@
 //! The table, its calls and its readers.
-ghost use Rattle.std.specs.Prelude.{◌≡◌, ◌+◌, ◌-◌, ◌^◌, ◌<◌, ◌≤◌, [], ◌∷◌, ◌++◌, max, length, Some, OnOk, OnErr, IfOk, IfErr};
+ghost use Rattle.std.specs.Prelude.{◌≡◌, ◌+◌, ◌-◌, ◌^◌, ◌<◌, ◌≤◌, [], ◌∷◌, ◌++◌, max, length, vec_capacity, Some, OnOk, OnErr, IfOk, IfErr};
 ghost use Rattle.dm_base.specs.declared.limits.TheConstants.{PENALTY, ENTRIES};
+ghost use Rattle.dm_places.specs.Moved.{ListsMoved};
 ghost use Rattle.dm_rows.specs.Rows.{IsSized};
 ghost use Rattle.dm_rows.specs.Active.{HasNoCycle};
 ghost use Rattle.dm_rows.specs.Cost.{cost_of};
+ghost use Rattle.dm_rows.specs.History.{rows_at};
 ghost use Rattle.dm_rows.specs.Refuse.{Refuses, RefusesNothing};
 ghost use Rattle.dm_rows.specs.Resolve.{after};
 ghost use Rattle.dm_rows.specs.Timetable.{IsLeast};
@@ -12,9 +14,11 @@ ghost use Rattle.dm_table.specs.Value.{IsTable, HasRoomFor, decisions_in};
 ghost use Rattle.dm_table.specs.Answers.{RefusesPost, RefusesTime, time_of};
 
 use crate::entering::enter;
+use crate::following::follow;
 use dm_base::{Cost, EventId, Secs, Steps};
 use dm_history::History;
 use dm_network::Network;
+use dm_places::PlaceSet;
 use dm_propagate::Engine;
 use dm_rows::{Entry, Flip, Message, Refusal, Rows, Snapshot};
 use dm_settle::{NoTimes, Times};
@@ -32,6 +36,10 @@ pub struct Table<'n> {
     history: History,
     engine: Engine,
 
+    /// The events whose times are not those after the first `since` entries, and maybe others.
+    moved: PlaceSet,
+    since: u32,
+
     /// Room for the decisions of an adopted list. Between calls it is empty.
     flips: Vec<Flip>,
 
@@ -44,6 +52,7 @@ impl<'n> Model for Table<'n> {
     ghost use Rattle.dm_propagate.specs.Engine.{times_of};
     ghost use Rattle.dm_table.specs.Value.{TableValue};
     ghost use Rattle.dm_table.specs.Inside.Keeping.{IsKept};
+    ghost use Rattle.dm_table.specs.Inside.Noted.{AreNoted};
 
     ghost Value = { TableValue };
 
@@ -59,6 +68,7 @@ impl<'n> Model for Table<'n> {
     } };
 
     ghost invariant = { λ t. IsKept t.net.now t.start t.penalty t.history.entries t.engine
+        × AreNoted t.net.now t.start t.history.entries t.since t.moved.flags (times_of t.engine)
         × (t.flips.items ≡ []) × (t.room ≤ vec_capacity t.flips) };
 }
 
@@ -87,6 +97,7 @@ impl<'n> Table<'n> {
             Ok(engine) => engine,
             Err(no_times) => return Err(no_times),
         };
+        let moved = PlaceSet::new(alloc, net.events())?;
         Ok(Table {
             alloc,
             net,
@@ -94,6 +105,8 @@ impl<'n> Table<'n> {
             penalty,
             history: History::new(alloc),
             engine,
+            moved,
+            since: 0,
             flips: Vec::new(alloc),
             room: 0,
         })
@@ -145,6 +158,7 @@ impl<'n> Table<'n> {
             self.alloc,
             self.net,
             &mut self.engine,
+            &mut self.moved,
             &mut self.flips,
             entries,
             &entry.message,
@@ -191,6 +205,32 @@ impl<'n> Table<'n> {
         ensures { result.now ≡ self.now.times }
     {
         self.engine.times()
+    }
+
+    /// Makes times that are the least timetable after the first `shown` entries the one after all entries, and lists the events
+    /// whose times were others, in room for all events. It takes no memory. Where times were followed last when there were so many
+    /// entries, it looks at the events whose times have moved since then, and at no others.
+    pub fn follow_times(&mut self, into: &mut Times, shown: u32, listed: &mut Vec<usize>)
+        requires shown { shown ≤ length self.old.history }
+        requires times { IsLeast self.old.network (rows_at self.old.network self.old.start self.old.history shown) into.old }
+        requires room { length self.old.network.events ≤ vec_capacity listed.old }
+        ensures same { self.new ≡ self.old }
+        ensures times { into.new ≡ self.old.times }
+        ensures listed { ListsMoved into.old into.new listed.new.items }
+        ensures room { vec_capacity listed.old ≤ vec_capacity listed.new }
+    {
+        self.net.sound();
+        self.moved.sound();
+        listed.clear();
+        follow(
+            self.engine.times(),
+            self.moved.places(),
+            shown == self.since,
+            into,
+            listed,
+        );
+        self.moved.clear();
+        self.since = self.history.len();
     }
 
     /// The rows after all entries.

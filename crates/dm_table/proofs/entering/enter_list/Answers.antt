@@ -17,7 +17,7 @@ answer-requires-clause-cycle g c =
     ap (λ (fs : List Flip). fold after_flip old.rows fs) c.deref.ensures.value
     ∙ sym (ap (λ (o : Option (List Flip)). after_named old.rows (option_map (λ fs. Adopted fs) o)) c.in-Ok.ensures.named) in
     let passes : PassesAtOnce net old.rows (Adopt c.args.decisions.now) = subst (λ (v : RowsValue). PassesAtOnce net v (Adopt c.args.decisions.now)) c.rows.ensures c.in-Ok.ensures.passes in
-    cycle_within net c.args.entries (fold after_flip old.rows c.deref.result.now) old c.try_flips-outcome.new.engine c.try_flips-outcome.result c.requires.engine c.try_flips-outcome.ensures (Adopt c.args.decisions.now) named passes
+    cycle_within net c.args.entries (fold after_flip old.rows c.deref.result.now) old c.try_flips-outcome.new.engine c.try_flips-outcome.result c.requires.engine c.try_flips-outcome.ensures.tried (Adopt c.args.decisions.now) named passes
     c.last_cycle.result.now c.last_cycle.ensures
 
 pub returns-in-Ok-clause-rows : goal.returns-in-Ok-clause-rows
@@ -28,7 +28,7 @@ returns-in-Ok-clause-rows g c =
     ap (λ (fs : List Flip). fold after_flip old.rows fs) c.deref.ensures.value
     ∙ sym (ap (λ (o : Option (List Flip)). after_named old.rows (option_map (λ fs. Adopted fs) o)) c.in-Ok.ensures.named) in
     let passes : PassesAtOnce net old.rows (Adopt c.args.decisions.now) = subst (λ (v : RowsValue). PassesAtOnce net v (Adopt c.args.decisions.now)) c.rows.ensures c.in-Ok.ensures.passes in
-    tried_rows net c.args.entries (fold after_flip old.rows c.deref.result.now) old c.try_flips-outcome.new.engine c.try_flips-outcome.result c.requires.engine c.try_flips-outcome.ensures (Adopt c.args.decisions.now) named passes
+    tried_rows net c.args.entries (fold after_flip old.rows c.deref.result.now) old c.try_flips-outcome.new.engine c.try_flips-outcome.result c.requires.engine c.try_flips-outcome.ensures.tried (Adopt c.args.decisions.now) named passes
     c.last_cycle.result.now c.last_cycle.ensures c.answer.result c.answer.ensures.accepted c.answer.ensures.made
 
 pub returns-in-Ok-clause-accepted : goal.returns-in-Ok-clause-accepted
@@ -39,7 +39,7 @@ returns-in-Ok-clause-accepted g c =
     ap (λ (fs : List Flip). fold after_flip old.rows fs) c.deref.ensures.value
     ∙ sym (ap (λ (o : Option (List Flip)). after_named old.rows (option_map (λ fs. Adopted fs) o)) c.in-Ok.ensures.named) in
     let passes : PassesAtOnce net old.rows (Adopt c.args.decisions.now) = subst (λ (v : RowsValue). PassesAtOnce net v (Adopt c.args.decisions.now)) c.rows.ensures c.in-Ok.ensures.passes in
-    tried_accepted net c.args.entries (fold after_flip old.rows c.deref.result.now) old c.try_flips-outcome.new.engine c.try_flips-outcome.result c.requires.engine c.try_flips-outcome.ensures (Adopt c.args.decisions.now) named passes
+    tried_accepted net c.args.entries (fold after_flip old.rows c.deref.result.now) old c.try_flips-outcome.new.engine c.try_flips-outcome.result c.requires.engine c.try_flips-outcome.ensures.tried (Adopt c.args.decisions.now) named passes
     c.last_cycle.result.now c.last_cycle.ensures c.answer.result c.answer.ensures.accepted
 
 pub returns-in-Ok-clause-refused : goal.returns-in-Ok-clause-refused
@@ -50,5 +50,5 @@ returns-in-Ok-clause-refused g c =
     ap (λ (fs : List Flip). fold after_flip old.rows fs) c.deref.ensures.value
     ∙ sym (ap (λ (o : Option (List Flip)). after_named old.rows (option_map (λ fs. Adopted fs) o)) c.in-Ok.ensures.named) in
     let passes : PassesAtOnce net old.rows (Adopt c.args.decisions.now) = subst (λ (v : RowsValue). PassesAtOnce net v (Adopt c.args.decisions.now)) c.rows.ensures c.in-Ok.ensures.passes in
-    tried_refused net c.args.entries (fold after_flip old.rows c.deref.result.now) old c.try_flips-outcome.new.engine c.try_flips-outcome.result c.requires.engine c.try_flips-outcome.ensures (Adopt c.args.decisions.now) named passes
+    tried_refused net c.args.entries (fold after_flip old.rows c.deref.result.now) old c.try_flips-outcome.new.engine c.try_flips-outcome.result c.requires.engine c.try_flips-outcome.ensures.tried (Adopt c.args.decisions.now) named passes
     c.last_cycle.result.now c.last_cycle.ensures c.answer.result c.answer.ensures.refused

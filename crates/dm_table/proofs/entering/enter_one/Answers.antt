@@ -12,7 +12,7 @@ answer-requires-clause-cycle g c =
     let named : after_change old.rows c.in-Ok.change ≡ after net old.rows c.args.message.now =
     sym (ap (after_named old.rows) c.in-Ok.ensures.named) in
     let passes : PassesAtOnce net old.rows c.args.message.now = subst (λ (v : RowsValue). PassesAtOnce net v c.args.message.now) c.rows.ensures c.in-Ok.ensures.passes in
-    cycle_within net c.args.entries (after_change old.rows c.in-Ok.change) old c.try_change-outcome.new.engine c.try_change-outcome.result c.requires.engine c.try_change-outcome.ensures c.args.message.now named passes
+    cycle_within net c.args.entries (after_change old.rows c.in-Ok.change) old c.try_change-outcome.new.engine c.try_change-outcome.result c.requires.engine c.try_change-outcome.ensures.tried c.args.message.now named passes
     c.last_cycle.result.now c.last_cycle.ensures
 
 pub returns-clause-rows : goal.returns-clause-rows
@@ -22,7 +22,7 @@ returns-clause-rows g c =
     let named : after_change old.rows c.in-Ok.change ≡ after net old.rows c.args.message.now =
     sym (ap (after_named old.rows) c.in-Ok.ensures.named) in
     let passes : PassesAtOnce net old.rows c.args.message.now = subst (λ (v : RowsValue). PassesAtOnce net v c.args.message.now) c.rows.ensures c.in-Ok.ensures.passes in
-    tried_rows net c.args.entries (after_change old.rows c.in-Ok.change) old c.try_change-outcome.new.engine c.try_change-outcome.result c.requires.engine c.try_change-outcome.ensures c.args.message.now named passes
+    tried_rows net c.args.entries (after_change old.rows c.in-Ok.change) old c.try_change-outcome.new.engine c.try_change-outcome.result c.requires.engine c.try_change-outcome.ensures.tried c.args.message.now named passes
     c.last_cycle.result.now c.last_cycle.ensures c.answer.result c.answer.ensures.accepted c.answer.ensures.made
 
 pub returns-clause-accepted : goal.returns-clause-accepted
@@ -32,7 +32,7 @@ returns-clause-accepted g c =
     let named : after_change old.rows c.in-Ok.change ≡ after net old.rows c.args.message.now =
     sym (ap (after_named old.rows) c.in-Ok.ensures.named) in
     let passes : PassesAtOnce net old.rows c.args.message.now = subst (λ (v : RowsValue). PassesAtOnce net v c.args.message.now) c.rows.ensures c.in-Ok.ensures.passes in
-    tried_accepted net c.args.entries (after_change old.rows c.in-Ok.change) old c.try_change-outcome.new.engine c.try_change-outcome.result c.requires.engine c.try_change-outcome.ensures c.args.message.now named passes
+    tried_accepted net c.args.entries (after_change old.rows c.in-Ok.change) old c.try_change-outcome.new.engine c.try_change-outcome.result c.requires.engine c.try_change-outcome.ensures.tried c.args.message.now named passes
     c.last_cycle.result.now c.last_cycle.ensures c.answer.result c.answer.ensures.accepted
 
 pub returns-clause-refused : goal.returns-clause-refused
@@ -42,5 +42,5 @@ returns-clause-refused g c =
     let named : after_change old.rows c.in-Ok.change ≡ after net old.rows c.args.message.now =
     sym (ap (after_named old.rows) c.in-Ok.ensures.named) in
     let passes : PassesAtOnce net old.rows c.args.message.now = subst (λ (v : RowsValue). PassesAtOnce net v c.args.message.now) c.rows.ensures c.in-Ok.ensures.passes in
-    tried_refused net c.args.entries (after_change old.rows c.in-Ok.change) old c.try_change-outcome.new.engine c.try_change-outcome.result c.requires.engine c.try_change-outcome.ensures c.args.message.now named passes
+    tried_refused net c.args.entries (after_change old.rows c.in-Ok.change) old c.try_change-outcome.new.engine c.try_change-outcome.result c.requires.engine c.try_change-outcome.ensures.tried c.args.message.now named passes
     c.last_cycle.result.now c.last_cycle.ensures c.answer.result c.answer.ensures.refused

@@ -1,12 +1,15 @@
 use Rattle.std.proofs.Common.{ℕ, List, length, sym, ap, subst, arith}
 use Rattle.dm_history.specs.Value.{HistoryValue}
+use Rattle.dm_propagate.specs.Engine.{times_of}
 use Rattle.dm_rows.specs.declared.messages.Entry.{Entry}
 use Rattle.dm_rows.specs.Refuse.{RefusesNothing, Refuses}
 use Rattle.dm_table.specs.Value.{TableValue}
 use Rattle.dm_table.specs.Answers.{RefusesPost}
 use Rattle.dm_table.specs.Inside.Keeping.{IsKept}
+use Rattle.dm_table.specs.Inside.Noted.{AreNoted}
 use Rattle.dm_table.specs.Inside.Trying.{IsAccepted}
 use Rattle.dm_table.proofs.Kept.{kept_is_table, kept_next}
+use Rattle.dm_table.proofs.Noting.{noted_next}
 use Rattle.dm_table.proofs.table.Table.post.Goals as goal
 
 pub invariant_of-self : goal.invariant_of-self
@@ -17,8 +20,12 @@ invariant_of-self g c =
       subst (λ (h : List Entry). IsKept t.net.now t.start t.penalty h c.enter-entered.new.engine) (sym (ap (λ (h : HistoryValue). h.entries) c.push.ensures))
           (kept_next t.net.now t.start t.penalty t.history.entries t.engine c.self.invariant.0 c.args.entry accepted c.enter-entered.new.engine
           c.in-Ok.ensures.engine c.in-Ok.ensures.rows),
+      subst (λ (h : List Entry). AreNoted t.net.now t.start h t.since c.enter-entered.new.moved.flags (times_of c.enter-entered.new.engine))
+          (sym (ap (λ (h : HistoryValue). h.entries) c.push.ensures))
+          (noted_next t.net.now t.start t.history.entries t.since t.moved.flags (times_of t.engine) c.self.invariant.1 c.args.entry
+          c.enter-entered.new.moved.flags (times_of c.enter-entered.new.engine) c.in-Ok.ensures.moved),
       c.in-Ok.ensures.empty,
-      omega (arith, c.self.invariant.2, c.in-Ok.ensures.room),
+      omega (arith, c.self.invariant.3, c.in-Ok.ensures.room),
     )
 
 pub returns-in-Ok-clause-accepted : goal.returns-in-Ok-clause-accepted

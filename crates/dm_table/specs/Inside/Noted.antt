@@ -1,0 +1,35 @@
+-- What is noted of the times that have moved, and how a copy of the times follows them.
+use Rattle.std.specs.Prelude.{ℕ, ◌≡◌, ◌<◌, ◌≤◌, ◌⊎◌, Bool, false, List, [], ◌∷◌, ◌++◌, length, slice_index, All, Contains}
+use Rattle.dm_network.specs.Net.{Net}
+use Rattle.dm_places.specs.Moved.{ListsMoved}
+use Rattle.dm_places.specs.Places.{has}
+use Rattle.dm_rows.specs.declared.messages.Entry.{Entry}
+use Rattle.dm_rows.specs.History.{rows_at}
+use Rattle.dm_rows.specs.Rows.{RowsValue}
+use Rattle.dm_rows.specs.Timetable.{IsLeast, time_at}
+
+-- each event whose time is not the one that it had after the first `since` entries is noted
+pub record AreNoted (net : Net) (start : RowsValue) (history : List Entry) (since : ℕ) (noted : List Bool) (times : List ℕ) : Type 0 where
+  pub within : since ≤ length history
+  pub as_many : length noted ≡ length net.events
+  pub others : (x : List ℕ) → IsLeast net (rows_at net start history since) x → (i : ℕ) → has noted i ≡ false → time_at times i ≡ time_at x i
+
+-- a copy is what the times are, and the places at which it was not are listed
+pub record IsUpToDate (times before after : List ℕ) (listed : List ℕ) : Type 0 where
+  pub same : after ≡ times
+  pub lists : ListsMoved before after listed
+
+-- the place is listed where its time has moved, and otherwise nothing more
+abbrev pub ListsWhereMoved : ℕ → List ℕ → List ℕ → List ℕ → List ℕ → Type 0
+ListsWhereMoved place before after listed listed_now =
+    (listed_now ≡ listed ++ place ∷ []) ⊎ ((listed_now ≡ listed) × (slice_index before place ≡ slice_index after place))
+
+-- So far a copy is what the times are but where it is still to be looked at, and the places at which it was not are listed: they
+-- are no more than were looked at.
+pub record IsRightBut (due : ℕ → Type 0) (times before now listed : List ℕ) (looked : ℕ) : Type 0 where
+  pub began : length before ≡ length times
+  pub as_many : length now ≡ length times
+  pub right : (i : ℕ) → (slice_index now i ≡ slice_index times i) ⊎ due i
+  pub each : (i : ℕ) → Contains listed i ⊎ (slice_index before i ≡ slice_index now i)
+  pub within : All (λ place. place < length times) listed
+  pub few : length listed ≤ looked
