@@ -16,6 +16,7 @@ use Rattle.dm_rows.specs.History.{rows_at, IsLegal}
 use Rattle.dm_rows.specs.Refuse.{Refuses, RefusesNothing}
 use Rattle.dm_rows.specs.Resolve.{after}
 use Rattle.dm_rows.specs.Rows.{RowsValue}
+use Rattle.dm_rows.specs.Timetable.{IsLeast}
 use Rattle.dm_rows.specs.declared.rows.Snapshot.{Snapshot}
 use Rattle.dm_table.specs.Value.{TableValue, IsTable}
 use Rattle.dm_table.specs.Answers.{RefusesPost}
@@ -54,6 +55,12 @@ rows_longer : (net : Net) (start : RowsValue) (seen history : List Entry) (n : �
 rows_longer net start seen history n prefix le =
     ap (fold (λ rows (e : Entry). after net rows e.message) start)
     (sym (take-append-le n seen prefix.0 le) ∙ ap (take n) prefix.1)
+
+-- times that are least after the first entries that were seen are so after the first ones of a longer history
+pub least_of_longer : (base : Base) (seen history : List Entry) (n : ℕ) (x : List ℕ) → IsPrefix seen history → n ≤ length seen →
+    IsLeast base.network (rows_at base.network base.start seen n) x → IsLeast base.network (rows_at base.network base.start history n) x
+least_of_longer base seen history n x prefix le least =
+    subst (λ (rows : RowsValue). IsLeast base.network rows x) (rows_longer base.network base.start seen history n prefix le) least
 
 -- a plan that is true of a history's rows is so of a longer one's
 pub true_of_longer : (base : Base) (seen history : List Entry) (plan : Plan) → IsPrefix seen history → IsTrueOf base seen plan → IsTrueOf base history plan

@@ -1,5 +1,8 @@
 //! The calls of a table that a pass holds.
-ghost use Rattle.std.specs.Prelude.{◌≡◌, ◌+◌, ◌<◌, ◌≤◌, length, IfOk, IfErr, OnErr};
+ghost use Rattle.std.specs.Prelude.{◌≡◌, ◌+◌, ◌<◌, ◌≤◌, length, vec_capacity, IfOk, IfErr, OnErr};
+ghost use Rattle.dm_places.specs.Moved.{ListsMoved};
+ghost use Rattle.dm_rows.specs.History.{rows_at};
+ghost use Rattle.dm_rows.specs.Timetable.{IsLeast};
 ghost use Rattle.dm_table.specs.Answers.{RefusesTime, RefusesPost};
 ghost use Rattle.dm_table.specs.Value.{HasRoomFor};
 ghost use Rattle.dm_server.specs.Answers.{base_of, rows_after, AreTimesAfter, ShowsTime, CostsAfter, RefusesAfter, RefusesAdopt, IsTrueOf, adopts};
@@ -121,4 +124,19 @@ pub fn copy_times(table: &Table<'_>, into: &mut Times)
 {
     table.sound();
     into.copy_from(table.times());
+}
+
+/// Makes times that are those after the first `shown` entries the times after the history, and lists the events whose times were
+/// others.
+pub fn follow_times(table: &mut Table<'_>, into: &mut Times, shown: u32, listed: &mut Vec<usize>)
+    requires shown { shown ≤ length table.old.history }
+    requires times { IsLeast table.old.network (rows_at table.old.network table.old.start table.old.history shown) into.old }
+    requires room { length table.old.network.events ≤ vec_capacity listed.old }
+    ensures same { table.new ≡ table.old }
+    ensures times { AreTimesAfter (base_of table.old) table.old.history into.new }
+    ensures listed { ListsMoved into.old into.new listed.new.items }
+    ensures room { vec_capacity listed.old ≤ vec_capacity listed.new }
+{
+    table.sound();
+    table.follow_times(into, shown, listed);
 }

@@ -1,18 +1,20 @@
 //! The server, its calls and its passes.
-ghost use Rattle.std.specs.Prelude.{◌≡◌, ◌+◌, ◌-◌, ◌<◌, ◌≤◌, false, [], ◌∷◌, ◌++◌, length, Some, IfOk, IfErr, OnErr, OnOk};
+ghost use Rattle.std.specs.Prelude.{◌≡◌, ◌+◌, ◌-◌, ◌<◌, ◌≤◌, false, [], ◌∷◌, ◌++◌, length, vec_capacity, Some, IfOk, IfErr, OnErr, OnOk};
 ghost use mathlib.Core.List.{IsPrefix};
 ghost use Rattle.std.specs.Option.{ForSome, IsSomeAnd};
 ghost use Rattle.dm_base.specs.declared.limits.TheConstants.{PENALTY};
+ghost use Rattle.dm_places.specs.Moved.{ListsMoved};
 ghost use Rattle.dm_rows.specs.Active.{HasNoCycle};
-ghost use Rattle.dm_rows.specs.History.{IsLegal};
+ghost use Rattle.dm_rows.specs.History.{rows_at, IsLegal};
 ghost use Rattle.dm_rows.specs.Rows.{IsSized};
+ghost use Rattle.dm_rows.specs.Timetable.{IsLeast};
 ghost use Rattle.dm_table.specs.Answers.{RefusesTime};
 ghost use Rattle.dm_table.specs.Value.{IsTable};
 ghost use Rattle.dm_times.specs.Faults.{RefusesTimes};
 ghost use Rattle.dm_turn.specs.Passes.{longer, AreEntriesOf, AreAllAbove};
 ghost use Rattle.dm_server.specs.Answers.{base_of, rows_after, AreTimesAfter, ShowsTime, CostsAfter, RefusesAfter, RefusesAdopt, IsTrueOf, adopts, HasLooked, HasEntered};
 
-use crate::holding::{adopt, copy_times, cost, enter, time};
+use crate::holding::{adopt, copy_times, cost, enter, follow_times, time};
 use crate::kept::Kept;
 use dm_base::{Cost, EventId, Secs};
 use dm_network::Network;
@@ -206,6 +208,37 @@ impl<'n> Server<'n> {
         held.state.table.sound();
         let entry = held.state.table.len();
         copy_times(&held.state.table, into);
+        self.turn.give(pass, held);
+        entry
+    }
+
+    /// Makes times that are the least timetable after the first `shown` entries the one after all entries, lists the events whose
+    /// times were others, in room for all events, and gives how many entries there are then. It takes no memory. Where times were
+    /// followed last when there were `shown` entries, it looks at the events alone whose times have moved since then.
+    pub fn follow_times<R: Wait>(
+        &self,
+        rt: &R,
+        pass: &mut Pass<Kept<'n>>,
+        into: &mut Times,
+        shown: u32,
+        listed: &mut Vec<usize>,
+    ) -> u32
+        requires turn { pass.old.turn ≡ self.now.id }
+        requires idle { pass.old.holds ≡ false }
+        requires shown { shown ≤ length pass.old.seen }
+        requires times { ForSome pass.old.base (λ base. IsLeast base.network (rows_at base.network base.start pass.old.seen shown) into.old) }
+        requires room { ForSome pass.old.base (λ base. length base.network.events ≤ vec_capacity listed.old) }
+        ensures looked { HasLooked pass.old pass.new }
+        ensures legal { IsSomeAnd pass.new.base (λ base. IsLegal base.network base.start pass.new.seen) }
+        ensures number { result ≡ length pass.new.seen }
+        ensures times { IsSomeAnd pass.new.base (λ base. AreTimesAfter base pass.new.seen into.new) }
+        ensures listed { ListsMoved into.old into.new listed.new.items }
+        ensures room { vec_capacity listed.old ≤ vec_capacity listed.new }
+    {
+        let mut held = self.turn.take(rt, pass);
+        held.state.table.sound();
+        let entry = held.state.table.len();
+        follow_times(&mut held.state.table, into, shown, listed);
         self.turn.give(pass, held);
         entry
     }

@@ -1,9 +1,9 @@
-use Rattle.std.proofs.Common.{◌≤◌, length, subst, arith}
+use Rattle.std.proofs.Common.{subst, arith}
 use mathlib.Core.List.{IsPrefix}
 use Rattle.dm_turn.specs.Passes.{PassValue}
 use Rattle.dm_turn.proofs.Fronts.{prefix_length}
 use Rattle.dm_server.specs.declared.kept.Base.{Base}
-use Rattle.dm_server.specs.Answers.{base_of, AreTimesAfter}
+use Rattle.dm_server.specs.Answers.{base_of}
 use Rattle.dm_server.proofs.After.{least_of_longer, holds_given, IsLegalAfter}
 use Rattle.dm_server.proofs.server.Server.follow_times.Goals as goal
 
