@@ -1,13 +1,14 @@
 -- Boards that are kept up over a server.
-use Rattle.std.proofs.Common.{◌≡◌, ℕ, ◌+◌, ◌-◌, ◌<◌, ◌≤◌, List, [], length, map, Option, Some, None, Result, Ok, Err, refl, sym, ap, subst, ◌∙◌, arith}
-use Rattle.std.specs.Prelude.{OnOk}
+use Rattle.std.proofs.Common.{◌≡◌, ℕ, false, inl, inr, ◌+◌, ◌-◌, ◌<◌, ◌≤◌, List, [], length, eqb, map, Option, Some, None, Result, Ok, Err, refl, sym, ap, subst, ◌∙◌, arith}
+use Rattle.std.specs.Prelude.{vec_capacity, OnOk}
 use mathlib.Core.List.{IsPrefix}
+use Rattle.std.proofs.lemmas.Bool.{cases_lt, eqb-false}
 use Rattle.std.proofs.lemmas.List.{length-map}
 use Rattle.std.proofs.lemmas.List.Elements.{All-nil, All-weaker}
 use Rattle.std.proofs.lemmas.Option.{slice_get_within}
 use Rattle.dm_network.specs.Net.{Net}
 use Rattle.dm_rows.specs.declared.messages.Entry.{Entry}
-use Rattle.dm_rows.specs.History.{IsLegal}
+use Rattle.dm_rows.specs.History.{rows_at, IsLegal}
 use Rattle.dm_rows.specs.Rows.{RowsValue}
 use Rattle.dm_rows.specs.Timetable.{IsLeast, time_at}
 use Rattle.dm_cert.specs.declared.notes.Note.{Note}
@@ -16,7 +17,7 @@ use Rattle.dm_desk.specs.Answered.{times}
 use Rattle.dm_desk.specs.Desks.{DeskValue, GoesOn}
 use Rattle.dm_desk.proofs.Answering.{no_shorter, on_and_on}
 use Rattle.dm_publish.specs.Shown.{ShowsTimes}
-use Rattle.dm_publish.specs.Since.{KeepsUpLast, AreKeptSince, AllShowLast}
+use Rattle.dm_publish.specs.Since.{KeepsUp, KeepsUpLast, AreKeptSince, AllShowLast}
 use Rattle.dm_publish.proofs.Repeated.{kept_at_first, all_show_last, all_show_none}
 use Rattle.dm_rounds.specs.declared.jobs.Job.{Job}
 use Rattle.dm_rounds.specs.Inside.Jobs.{InRounds}
@@ -26,12 +27,13 @@ use Rattle.dm_server.specs.Answers.{base_of, rows_after, AreTimesAfter, HasLooke
 use Rattle.dm_table.specs.Value.{TableValue, IsTable}
 use Rattle.dm_turn.specs.declared.view.Numbered.{Numbered}
 use Rattle.dm_turn.specs.Passes.{PassValue}
-use Rattle.dm_turn.proofs.Fronts.{prefix_trans, prefix_whole}
+use Rattle.dm_turn.proofs.Fronts.{prefix_self}
+use Rattle.dm_server.proofs.After.{least_of_longer}
 use Rattle.dm_crew.specs.declared.display.Display.{Display}
 use Rattle.dm_crew.specs.Boards.{AreShown}
 use Rattle.dm_crew.specs.Passes.{numbers_in, desk_of, IsSamePass}
 use Rattle.dm_crew.specs.Inside.Works.{IsGathered}
-use Rattle.dm_crew.specs.Inside.Displays.{IsFor, HasShownNothing, AreUp, Shows, ShowsOn}
+use Rattle.dm_crew.specs.Inside.Displays.{IsFor, HasShownNothing, HasEarlierTimes, AreKept, AreUp, Shows}
 
 none_yet : AreTrueNotes 0 []
 none_yet = record {
@@ -61,13 +63,6 @@ looked_same first before now same looked =
     looked.same
     ∙ (ap (λ (p : PassValue Base). record p { seen = now.seen }) same
     ∙ ap (λ (m : List Numbered). record first { seen = now.seen; mine = m }) (sym mine))
-
--- a pass that has looked twice
-pub looked_again : (before between now : PassValue Base) → HasLooked before between → HasLooked between now → HasLooked before now
-looked_again before between now first second = record {
-  later = prefix_trans before.seen between.seen now.seen first.later second.later;
-  same = second.same ∙ ap (λ (p : PassValue Base). record p { seen = now.seen }) first.same;
-}
 
 -- rounds that were answered to a history are so over a longer one, of which nothing is one's own
 pub rounds_look : {S : Type 0} (left : S → Option (List ℕ)) (is_sound : S → Type 0) (feeds : List (Option S)) (first : DeskValue) (batch : ℕ) (base : Base) (before now : PassValue Base) (jobs : List (Job S)) → HasLooked before now → IsLegal base.network base.start now.seen
@@ -114,17 +109,37 @@ shows_same net x y stop (Some f) same s = λ i at. s i at ∙ ap Some (same i at
 pub some_base : {a b : Base} → Some a ≡ Some b → a ≡ b
 some_base e = cc
 
+-- ---- a display's times
+
+pub not_none : (n : ℕ) → eqb n 0 ≡ false → 0 < n
+not_none n is = elim (cases_lt 0 n) [ inl some ↦ some | inr none ↦ absurd (eqb-false n 0 is (omega arith)) ]
+
+-- a longer history has the entries after which a display has the times
+pub earlier_entries : (base : Base) (seen : List Entry) (display : Display) → HasEarlierTimes base seen display → display.entries ≤ length seen
+earlier_entries base seen display e = omega (arith, e.times.entries, no_shorter e.history seen e.before)
+
+-- and these are the least timetable after them
+pub earlier_least : (base : Base) (seen : List Entry) (display : Display) → HasEarlierTimes base seen display → IsLeast base.network (rows_at base.network base.start seen display.entries) display.times
+earlier_least base seen display e =
+    subst (λ (n : ℕ). IsLeast base.network (rows_at base.network base.start seen n) display.times) (sym e.times.entries)
+    (least_of_longer base e.history seen (length e.history) display.times e.before (omega arith) e.times.least)
+
 -- ---- boards
 
 module _ {B : Type 0} (place : B → ℕ) (times_on : B → Option (ℕ → Option ℕ)) (faults : B → ℕ) (is_sound : B → ℕ → Type 0) where
   as_many : (old new : List B) → map place new ≡ map place old → length new ≡ length old
   as_many old new stops = sym (length-map new place) ∙ (ap length stops ∙ length-map old place)
 
-  pub shows_history : (base : Base) (seen : List Entry) (display now : Display) (net : Net) (entry : ℕ) (old new : List B) → IsFor base.network (length old) display → net ≡ base.network → now.net.now ≡ base.network → entry ≡ length seen → now.entries ≡ entry → AreTimesAfter base seen now.times
-      → map place new ≡ map place old → KeepsUpLast place times_on faults is_sound net display.publisher.last now.times old new display.publisher.notes now.publisher.notes
+  -- boards that were kept up to an earlier entry are up after this history
+  abbrev pub IsShownAfter : (base : Base) (seen : List Entry) (display now : Display) (old new : List B) → Type 0
+  IsShownAfter base seen display now old new =
+      (first : List B) (entries : ℕ) → entries ≤ length seen → AreKept place times_on faults is_sound base.network entries display first old → AreUp place times_on faults is_sound base seen now first new
+
+  pub shows_history : (base : Base) (seen : List Entry) (display now : Display) (net : Net) (entry : ℕ) (old new : List B) → IsFor base.network (length old) display → net ≡ base.network → now.net.now ≡ base.network → vec_capacity display.listed ≤ vec_capacity now.listed → entry ≡ length seen → now.entries ≡ entry
+      → AreTimesAfter base seen now.times → map place new ≡ map place old → KeepsUpLast place times_on faults is_sound net display.publisher.last now.times old new display.publisher.notes now.publisher.notes
       → ((entries : ℕ) → entries ≤ entry → AreTrueNotes entries display.publisher.notes → AreTrueNotes entry now.publisher.notes)
-      → now.publisher.last ≡ now.times → now.publisher.boards ≡ display.publisher.boards → now.publisher.events ≡ display.publisher.events → Shows place times_on faults is_sound base seen display now old new
-  shows_history base seen display now net entry old new fits is network here entries_are least stops keeps noted last boards events = λ first entries low k.
+      → now.publisher.last ≡ now.times → now.publisher.boards ≡ display.publisher.boards → now.publisher.events ≡ display.publisher.events → IsShownAfter base seen display now old new
+  shows_history base seen display now net entry old new fits is network room here entries_are least stops keeps noted last boards events = λ first entries low k.
       let notes = now.publisher.notes in
       let keeps_up : KeepsUpLast place times_on faults is_sound base.network display.publisher.last now.times old new display.publisher.notes notes =
       subst (λ (n : Net). KeepsUpLast place times_on faults is_sound n display.publisher.last now.times old new display.publisher.notes notes) is keeps in
@@ -136,8 +151,9 @@ module _ {B : Type 0} (place : B → ℕ) (times_on : B → Option (ℕ → Opti
           boards = boards ∙ (fits.boards ∙ sym (as_many old new stops));
           events = events ∙ fits.events;
           size = least.meets.size;
+          room = omega (arith, fits.room, room);
         };
-        entries = entries_are ∙ here;
+        has = λ some. record { entries = entries_are ∙ here; least = least; last = last };
         kept = record {
           kept = up.kept;
           noted = true_now;
@@ -151,22 +167,31 @@ module _ {B : Type 0} (place : B → ℕ) (times_on : B → Option (ℕ → Opti
             };
       }
 
-  -- no boards are up, whatever the times are
-  pub shows_none : (base : Base) (seen : List Entry) (display : Display) (entry : ℕ) (none : List B) → length none ≡ 0 → entry ≡ length seen → IsFor base.network (length none) display
-      → Shows place times_on faults is_sound base seen display (record display { entries = entry }) none none
-  shows_none base seen display entry none empty here fits = λ first entries low k.
-      let noted = true_later entries (length seen) display.publisher.notes low k.noted in
-      record {
-        is_for = record { network = fits.network; boards = fits.boards; events = fits.events; size = fits.size };
-        entries = here;
-        kept = record { kept = k.kept; noted = noted; last = k.last };
-        shown = λ x least. record {
-          up = record { kept = k.kept; shown = λ at before after b n free told. absurd (omega (arith, empty, slice_get_within none at after n)) };
-          noted = noted;
-        };
-      }
+  -- boards that are kept up whatever they show are so where they show the last times
+  pub keeps_last : (net : Net) (last x : List ℕ) (old new : List B) (notes notes_now : List Note) → KeepsUp place times_on faults is_sound net x old new notes notes_now → KeepsUpLast place times_on faults is_sound net last x old new notes notes_now
+  keeps_last net last x old new notes notes_now keeps = λ first kept shown. keeps first kept
 
-  pub shown_first : (base : Base) (seen : List Entry) (display now : Display) (boards new : List B) → HasShownNothing display → Shows place times_on faults is_sound base seen display now boards new
+  -- no boards are up, whatever the times are
+  pub shows_none : (base : Base) (pass : PassValue Base) (display : Display) (none : List B) → length none ≡ 0 → IsLegal base.network base.start pass.seen → IsFor base.network (length none) display
+      → Shows place times_on faults is_sound base pass pass display display none none
+  shows_none base pass display none empty legal fits = record {
+    looked = record { later = prefix_self pass.seen; same = refl };
+    legal = legal;
+    up = λ first entries low k.
+        let noted = true_later entries (length pass.seen) display.publisher.notes low k.noted in
+        record {
+          is_for = fits;
+          has = λ some. absurd (omega (arith, some, empty));
+          kept = record { kept = k.kept; noted = noted; last = k.last };
+          shown = λ x least. record {
+            up = record { kept = k.kept; shown = λ at before after b n free told. absurd (omega (arith, empty, slice_get_within none at after n)) };
+            noted = noted;
+          };
+        };
+    stops = refl;
+  }
+
+  pub shown_first : (base : Base) (seen : List Entry) (display now : Display) (boards new : List B) → HasShownNothing display → IsShownAfter base seen display now boards new
       → AreUp place times_on faults is_sound base seen now boards new
   shown_first base seen display now boards new none shows =
       shows boards 0 (omega arith)
@@ -176,15 +201,10 @@ module _ {B : Type 0} (place : B → ℕ) (times_on : B → Option (ℕ → Opti
         last = subst (λ (last : List ℕ). AllShowLast place times_on base.network last display.publisher.notes boards boards) (sym none.1) (all_show_none place times_on faults is_sound base.network display.publisher.notes boards boards);
       })
 
-  -- boards are shown the times after a history, whatever they have shown before
-  pub shown_on : (base : Base) (seen : List Entry) (display now : Display) (old new : List B) → Shows place times_on faults is_sound base seen display now old new → ShowsOn place times_on faults is_sound base seen display now old new
-  shown_on base seen display now old new shows = λ first before on up. shows first (length before) (no_shorter before seen on) up.kept
-
-  -- a history that has not grown is the one whose times they show
-  pub shown_still : (base : Base) (seen : List Entry) (display : Display) (boards : List B) → length seen ≡ display.entries → ShowsOn place times_on faults is_sound base seen display display boards boards
-  shown_still base seen display boards many = λ first before on up.
-      let same : before ≡ seen = prefix_whole before seen on (omega (arith, many, up.entries)) in
-      subst (λ (s : List Entry). AreUp place times_on faults is_sound base s display first boards) same up
+  -- boards that are up after the beginning of a history are so after the whole
+  pub shown_on : (base : Base) (before seen : List Entry) (display now : Display) (first old new : List B) → IsPrefix before seen → IsShownAfter base seen display now old new → AreUp place times_on faults is_sound base before display first old
+      → AreUp place times_on faults is_sound base seen now first new
+  shown_on base before seen display now first old new on shows up = shows first (length before) (no_shorter before seen on) up.kept
 
   -- what is shown after a server's history is what its table has in the end
   pub shown_at_end : (base : Base) (seen : List Entry) (display : Display) (first now : List B) (table : TableValue) → base_of table ≡ base → table.history ≡ seen → IsTable table → AreUp place times_on faults is_sound base seen display first now

@@ -1,10 +1,9 @@
 //! Boards that show the times of a server.
 
-ghost use Rattle.std.specs.Prelude.{◌≡◌, ◌≤◌, false, Some, map, vec_len, IfOk};
+ghost use Rattle.std.specs.Prelude.{◌≡◌, ◌<◌, ◌≤◌, false, Some, vec_len, IfOk};
 ghost use Rattle.dm_base.specs.declared.limits.TheConstants.{BOARDS};
 ghost use Rattle.dm_rows.specs.History.{IsLegal};
-ghost use Rattle.dm_server.specs.Answers.{HasLooked};
-ghost use Rattle.dm_crew.specs.Inside.Displays.{IsFor, HasShownNothing, Shows, ShowsOn};
+ghost use Rattle.dm_crew.specs.Inside.Displays.{IsFor, HasShownNothing, HasEarlierTimes, Shows};
 
 use crate::desk::Seat;
 use dm_network::Network;
@@ -16,15 +15,20 @@ use dm_turn::Pass;
 use std::alloc::{AllocError, Global};
 use std::sync::Wait;
 
-/// What boards are shown: the publisher, and room for the times of one moment.
+/// What boards are shown: the publisher, and the times of one moment.
 #[derive(Drop)]
 pub struct Display<'n> {
     pub net: &'n Network,
     pub publisher: Publisher,
+
+    /// The times that boards were shown last, where there are boards.
     pub times: Times,
 
-    /// How many entries there were when boards were shown times last.
+    /// How many entries there were then.
     pub entries: u32,
+
+    /// Room for the places of events whose times have moved since.
+    pub listed: Vec<usize>,
 }
 
 impl<'n> Display<'n> {
@@ -39,11 +43,12 @@ impl<'n> Display<'n> {
             publisher: Publisher::new(alloc, net, boards)?,
             times: Times::room(alloc, net)?,
             entries: 0,
+            listed: Vec::with_capacity(alloc, net.events())?,
         })
     }
 
-    /// Shows boards the times after the history that a pass then sees. Nobody else shows them anything in between, so they are
-    /// asked only for what has changed. Where there are no boards, no times are copied. It takes no memory.
+    /// Shows boards the times after the history that a pass then sees, whatever they have shown. Where there are none, nobody
+    /// waits for the server. It takes no memory.
     pub fn show<P: Seat, R: Wait>(
         &mut self,
         rt: &R,
@@ -54,26 +59,20 @@ impl<'n> Display<'n> {
         requires here { main.old.turn ≡ server.now.id }
         requires idle { main.old.holds ≡ false }
         requires base { main.old.base ≡ Some P.base }
+        requires legal { IsLegal P.base.network P.base.start main.old.seen }
         requires fits { IsFor P.base.network (vec_len boards.old) self.old }
-        ensures looked { HasLooked main.old main.new }
-        ensures legal { IsLegal P.base.network P.base.start main.new.seen }
-        ensures up { Shows place times faults is_sound P.base main.new.seen self.old self.new boards.old.items boards.new.items }
-        ensures stops { map place boards.new.items ≡ map place boards.old.items }
+        ensures { Shows place times faults is_sound P.base main.old main.new self.old self.new boards.old.items boards.new.items }
     {
         if boards.is_empty() {
-            let entry = server.length(rt, main);
-            self.entries = entry;
             return;
         }
         let entry = server.copy_times(rt, main, &mut self.times);
         self.entries = entry;
-        let _dropped = self
-            .publisher
-            .publish_changes(self.net, &self.times, entry, boards);
+        let _dropped = self.publisher.publish(self.net, &self.times, entry, boards);
     }
 
-    /// The same where the history has grown since boards were shown times last. Else the times have not changed, and no board is
-    /// called.
+    /// The same of boards that nobody else has shown anything since they were shown times last: they are asked only for
+    /// events whose times have moved.
     pub fn show_growth<P: Seat, R: Wait>(
         &mut self,
         rt: &R,
@@ -84,15 +83,18 @@ impl<'n> Display<'n> {
         requires here { main.old.turn ≡ server.now.id }
         requires idle { main.old.holds ≡ false }
         requires base { main.old.base ≡ Some P.base }
+        requires legal { IsLegal P.base.network P.base.start main.old.seen }
         requires fits { IsFor P.base.network (vec_len boards.old) self.old }
-        ensures looked { HasLooked main.old main.new }
-        ensures legal { IsLegal P.base.network P.base.start main.new.seen }
-        ensures up { ShowsOn place times faults is_sound P.base main.new.seen self.old self.new boards.old.items boards.new.items }
-        ensures stops { map place boards.new.items ≡ map place boards.old.items }
+        requires has { 0 < vec_len boards.old → HasEarlierTimes P.base main.old.seen self.old }
+        ensures { Shows place times faults is_sound P.base main.old main.new self.old self.new boards.old.items boards.new.items }
     {
-        if server.length(rt, main) == self.entries {
+        if boards.is_empty() {
             return;
         }
-        self.show::<P, R>(rt, server, main, boards);
+        let entry = server.follow_times(rt, main, &mut self.times, self.entries, &mut self.listed);
+        self.entries = entry;
+        let _dropped = self
+            .publisher
+            .publish_listed(self.net, &self.times, &self.listed, entry, boards);
     }
 }

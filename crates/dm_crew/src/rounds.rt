@@ -26,7 +26,7 @@ use std::sync::Wait;
 use std::thread::Threads;
 
 /// Answers feeds over a server until each has ended, in rounds of so many lines a feed, each round's feeds at once. Boards are
-/// shown the times before the first round and after each that has entered something. It may answer want of memory at any point
+/// shown the times before the first round, and after each round those that have moved. It may answer want of memory at any point
 /// up to the end of the last round, and then says nothing of the passes.
 pub fn answer_feeds<
     'n,

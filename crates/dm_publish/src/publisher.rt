@@ -87,35 +87,6 @@ impl Publisher {
             .show_listed(net, timetable, entry, &self.listed, boards)
     }
 
-    /// Publishes on boards that nobody else has shown anything since the last publishing. It asks a board only for the events of
-    /// its stop whose times differ from those published last, and is in all else as [`Publisher::publish`].
-    pub fn publish_changes(
-        &mut self,
-        net: &Network,
-        timetable: &Times,
-        entry: u32,
-        boards: &mut Vec<Box<dyn Board>>,
-    ) -> usize
-        requires events { length net.now.events ≡ self.old.events }
-        requires times { length timetable.now ≡ length net.now.events }
-        requires boards { vec_len boards.old ≡ self.old.boards }
-        ensures published { Publishes place times faults is_sound net.now self.old.last timetable.now entry boards.old.items boards.new.items self.old.notes self.new.notes result }
-
-        // Boards that were kept up since some first list, and show the times published last, are so after the call, and show
-        // the timetable.
-        ensures keeps_up { KeepsUpLast place times faults is_sound net.now self.old.last timetable.now boards.old.items boards.new.items self.old.notes self.new.notes }
-
-        // Notes that are true at an earlier entry are so with the new ones.
-        ensures true_notes { (entries : ℕ) → entries ≤ entry → AreTrueNotes entries self.old.notes → AreTrueNotes entry self.new.notes }
-        ensures last { self.new.last ≡ timetable.now }
-        ensures same_boards { self.new.boards ≡ self.old.boards }
-        ensures same_events { self.new.events ≡ self.old.events }
-    {
-        list_all(net, &mut self.listed);
-        self.showing
-            .show_listed(net, timetable, entry, &self.listed, boards)
-    }
-
     /// Publishes on boards that nobody else has shown anything since the last publishing, given the places of the events whose times
     /// differ from those published last. It asks a board only for such events of its stop, and is in all else as
     /// [`Publisher::publish`].

@@ -9,7 +9,7 @@ use Rattle.dm_server.specs.declared.kept.Base.{Base}
 use Rattle.dm_turn.specs.Passes.{PassValue}
 use Rattle.dm_turn.proofs.Fronts.{prefix_trans}
 use Rattle.dm_crew.specs.Passes.{desk_of, IsSamePass}
-use Rattle.dm_crew.proofs.Displays.{looked_same, rounds_look, shown_first}
+use Rattle.dm_crew.proofs.Displays.{looked_same, rounds_look, shown_first, shown_on}
 use Rattle.dm_crew.proofs.rounds.answer_feeds.Goals as goal
 use Rattle.dm_crew.proofs.rounds.answer_feeds.Goals.{in-None, in-Some+then-have_ended}
 
@@ -24,6 +24,19 @@ loop-init g c = (
       }),
   shown_first _ _ _ _ g.P.Seat.base c.show.new.main.seen c.args.display.now c.show.new.self c.args.boards.now.items c.show.new.boards.items c.requires.none c.show.ensures.up,
 )
+
+pub show-requires-clause-legal : goal.show-requires-clause-legal
+show-requires-clause-legal g c = c.requires.legal
+
+pub show_growth-requires-clause-legal : goal.show_growth-requires-clause-legal
+show_growth-requires-clause-legal g c =
+    let rounds = c.loop.invariant.1 in
+    let round = c.in_ok-jobs-2.ensures.round c.args.feeds.items (desk_of g.P.Seat.base c.args.main.now) rounds.rounds rounds.low rounds.state in
+    round.goes_on.legal
+
+pub show_growth-requires-clause-has : goal.show_growth-requires-clause-has
+show_growth-requires-clause-has g c = λ some.
+    record { history = c.loop.main.seen; before = c.in_ok-jobs-2.ensures.later; times = c.loop.invariant.2.has (omega (arith, some, c.loop.boards.ok.0)) }
 
 pub answer_round-requires-clause-here : goal.answer_round-requires-clause-here
 answer_round-requires-clause-here g c = λ lifetimes bounds. ap (λ (p : PassValue Base). p.turn) c.loop.invariant.0 ∙ c.requires.here
@@ -67,7 +80,7 @@ loop-preserved g c =
     let same : IsSamePass c.args.main.now before = c.in_ok-jobs-2.ensures.same ∙ ap (λ (p : PassValue Base). record p { seen = before.seen; mine = before.mine }) c.loop.invariant.0 in (
       looked_same c.args.main.now before now same looked,
       rounds_look g.S.Source.left g.S.Source.is_sound c.args.feeds.items (desk_of g.P.Seat.base c.args.main.now) c.args.batch g.P.Seat.base before now (map (λ b. b.value) c.in_ok-jobs-2.jobs.items) looked legal (record { rounds = rounds.rounds + 1; low = length before.seen; state = round }),
-      c.show_growth.ensures.up c.args.boards.now.items c.loop.main.seen on c.loop.invariant.2,
+      shown_on _ _ _ _ g.P.Seat.base c.loop.main.seen now.seen c.loop.display c.show_growth.new.self c.args.boards.now.items c.loop.boards.items c.show_growth.new.boards.items on c.show_growth.ensures.up c.loop.invariant.2,
     )
 
 pub logs_of-requires-clause-room : goal.logs_of-requires-clause-room

@@ -1,18 +1,64 @@
-use Rattle.std.proofs.Common.{ap, ◌∙◌}
+use Rattle.std.proofs.Common.{◌≡◌, ℕ, ◌≤◌, List, length, vec_len, vec_capacity, eqb-true, refl, sym, ap, subst, ◌∙◌, arith}
+use Rattle.dm_network.specs.Net.{Net}
+use Rattle.dm_places.specs.Moved.{ListsMoved}
+use Rattle.dm_rows.specs.History.{rows_at}
+use Rattle.dm_rows.specs.Timetable.{IsLeast}
 use Rattle.dm_server.specs.declared.kept.Base.{Base}
-use Rattle.dm_turn.specs.Passes.{PassValue}
-use Rattle.dm_crew.proofs.Desks.{base_looked}
-use Rattle.dm_crew.proofs.Displays.{shown_on}
+use Rattle.dm_server.specs.Answers.{AreTimesAfter}
+use Rattle.dm_crew.specs.Inside.Displays.{IsFor}
+use Rattle.dm_crew.proofs.Desks.{IsLegalAfter, holds_at, base_looked}
+use Rattle.dm_crew.proofs.Displays.{some_base, earlier_entries, earlier_least, not_none, shows_history, shows_none}
 use Rattle.dm_crew.proofs.display.Display.show_growth.Goals as goal
 
-pub show-requires-clause-here : goal.show-requires-clause-here
-show-requires-clause-here g c = ap (λ (p : PassValue Base). p.turn) c.length.ensures.looked.same ∙ c.requires.here
+pub follow_times-entry-requires-clause-shown : goal.follow_times-entry-requires-clause-shown
+follow_times-entry-requires-clause-shown g c =
+    earlier_entries g.P.Seat.base c.args.main.now.seen c.args.self.now (c.requires.has (not_none (vec_len c.args.boards.now) (sym c.if-is_empty.ensures)))
 
-pub show-requires-clause-idle : goal.show-requires-clause-idle
-show-requires-clause-idle g c = ap (λ (p : PassValue Base). p.holds) c.length.ensures.looked.same ∙ c.requires.idle
+pub follow_times-entry-requires-clause-times : goal.follow_times-entry-requires-clause-times
+follow_times-entry-requires-clause-times g c = λ base is.
+    subst (λ (b : Base). IsLeast b.network (rows_at b.network b.start c.args.main.now.seen c.args.self.now.entries) c.args.self.now.times) (some_base (sym c.requires.base ∙ is))
+    (earlier_least g.P.Seat.base c.args.main.now.seen c.args.self.now (c.requires.has (not_none (vec_len c.args.boards.now) (sym c.if-is_empty.ensures))))
 
-pub show-requires-clause-base : goal.show-requires-clause-base
-show-requires-clause-base g c = base_looked c.args.main.now c.length.new.pass c.length.ensures.looked ∙ c.requires.base
+pub follow_times-entry-requires-clause-room : goal.follow_times-entry-requires-clause-room
+follow_times-entry-requires-clause-room g c = λ base is.
+    subst (λ (b : Base). length b.network.events ≤ vec_capacity c.args.self.now.listed) (some_base (sym c.requires.base ∙ is)) c.requires.fits.room
 
-pub returns-clause-up : goal.returns-clause-up
-returns-clause-up g c = shown_on _ _ _ _ g.P.Seat.base c.show.new.main.seen c.args.self.now c.show.new.self c.args.boards.now.items c.show.new.boards.items c.show.ensures.up
+pub publish_listed-dropped-requires-clause-events : goal.publish_listed-dropped-requires-clause-events
+publish_listed-dropped-requires-clause-events g c = ap (λ (n : Net). length n.events) c.requires.fits.network ∙ sym c.requires.fits.events
+
+pub publish_listed-dropped-requires-clause-times : goal.publish_listed-dropped-requires-clause-times
+publish_listed-dropped-requires-clause-times g c =
+    let pass = c.follow_times-entry.new.pass in
+    let least = holds_at (λ base seen. AreTimesAfter base seen c.follow_times-entry.new.into) g.P.Seat.base c.args.main.now pass c.requires.base (base_looked c.args.main.now pass c.follow_times-entry.ensures.looked) c.follow_times-entry.ensures.times in
+    least.meets.size ∙ sym (ap (λ (n : Net). length n.events) c.requires.fits.network)
+
+pub publish_listed-dropped-requires-clause-boards : goal.publish_listed-dropped-requires-clause-boards
+publish_listed-dropped-requires-clause-boards g c = sym c.requires.fits.boards
+
+pub publish_listed-dropped-requires-clause-listed : goal.publish_listed-dropped-requires-clause-listed
+publish_listed-dropped-requires-clause-listed g c =
+    let has = c.requires.has (not_none (vec_len c.args.boards.now) (sym c.if-is_empty.ensures)) in
+    let now = c.follow_times-entry.new.into in
+    subst (λ (last : List ℕ). ListsMoved last now c.deref.result.now) (sym has.times.last)
+    (subst (λ (listed : List ℕ). ListsMoved c.args.self.now.times now listed) (sym c.deref.ensures.value) c.follow_times-entry.ensures.listed)
+
+pub returns-then-is_empty : goal.returns-then-is_empty
+returns-then-is_empty g c =
+    let none : vec_len c.args.boards.now ≡ 0 = eqb-true _ 0 (sym c.if-is_empty.ensures) in
+    let fits = subst (λ (n : ℕ). IsFor g.P.Seat.base.network n c.args.self.now) c.args.boards.now.ok.0 c.requires.fits in
+    shows_none _ _ _ _ g.P.Seat.base c.args.main.now c.args.self.now c.args.boards.now.items (omega arith) c.requires.legal fits
+
+pub returns : goal.returns
+returns g c =
+    let pass = c.follow_times-entry.new.pass in
+    let same = base_looked c.args.main.now pass c.follow_times-entry.ensures.looked in
+    let least = holds_at (λ base seen. AreTimesAfter base seen c.follow_times-entry.new.into) g.P.Seat.base c.args.main.now pass c.requires.base same c.follow_times-entry.ensures.times in
+    let p = c.publish_listed-dropped.ensures in
+    let fits = subst (λ (n : ℕ). IsFor g.P.Seat.base.network n c.args.self.now) c.args.boards.now.ok.0 c.requires.fits in
+    record {
+      looked = c.follow_times-entry.ensures.looked;
+      legal = holds_at IsLegalAfter g.P.Seat.base c.args.main.now pass c.requires.base same c.follow_times-entry.ensures.legal;
+      up = shows_history _ _ _ _ g.P.Seat.base pass.seen c.args.self.now _ c.args.self.now.net.now c.follow_times-entry.result c.args.boards.now.items c.publish_listed-dropped.new.boards.items
+          fits c.requires.fits.network c.requires.fits.network c.follow_times-entry.ensures.room c.follow_times-entry.ensures.number refl least p.published.stops p.keeps_up p.true_notes p.last p.same_boards p.same_events;
+      stops = p.published.stops;
+    }
