@@ -1,15 +1,16 @@
 //! An engine that hears messages.
-ghost use Rattle.std.specs.Prelude.{◌≡◌, ◌<◌};
+ghost use Rattle.std.specs.Prelude.{◌≡◌, ◌<◌, length};
 ghost use Rattle.dm_propagate.specs.Engine.{IsEngineOf};
 ghost use Rattle.dm_rows.specs.Reach.{Reaches};
 
 use dm_base::Steps;
 use dm_graph::search::Cyclic;
 use dm_network::Network;
+use dm_places::PlaceSet;
 use dm_propagate::Engine;
 use dm_rows::{Change, Message, Refusal, admit};
 use dm_samples::{Failure, rows_on_time};
-use dm_settle::NoTimes;
+use dm_settle::{NoTimes, Times};
 use dm_times::{cost, least};
 use std::alloc::Global;
 use std::marker::{Brand, Model};
@@ -30,31 +31,42 @@ pub enum Heard {
     Refused,
 }
 
-/// An engine with its network.
+/// An engine with its network, and a copy of its times that is brought up to date where they are noted to have moved.
 #[derive(Drop)]
 pub struct Trial<'n> {
     net: &'n Network,
     engine: Engine,
+    moved: PlaceSet,
+    shown: Times,
 }
 
 impl<'n> Model for Trial<'n> {
+    ghost use Rattle.std.specs.Prelude.{◌≡◌, length};
     ghost use Rattle.dm_propagate.specs.Engine.{EngineValue, IsEngineOf};
 
     ghost Value = { EngineValue };
 
     ghost view = { λ trial. trial.engine };
 
-    ghost invariant = { λ trial. IsEngineOf trial.net.now trial.engine };
+    ghost invariant = { λ trial. IsEngineOf trial.net.now trial.engine × (length trial.moved.flags ≡ length trial.net.now.events) × (length trial.shown ≡ length trial.net.now.events) };
 }
 
 impl<'n> Trial<'n> {
     /// The engine of the rows at the start.
     pub fn new(alloc: Global, net: &'n Network) -> Result<Trial<'n>, Failure> {
         let rows = rows_on_time(alloc, net)?;
-        match Engine::new(alloc, net, rows) {
-            Ok(engine) => Ok(Trial { net, engine }),
-            Err(_) => Err(Failure::NoDay),
-        }
+        let Ok(engine) = Engine::new(alloc, net, rows) else {
+            return Err(Failure::NoDay);
+        };
+        let moved = PlaceSet::new(alloc, net.events())?;
+        let mut shown = Times::room(alloc, net)?;
+        copy_times(net, &engine, &mut shown);
+        Ok(Trial {
+            net,
+            engine,
+            moved,
+            shown,
+        })
     }
 
     /// Makes the change of a message that nothing refuses at once.
@@ -64,14 +76,28 @@ impl<'n> Trial<'n> {
             Err(Refusal::OutOfMemory) => return Err(Failure::OutOfMemory),
             Err(_) => return Ok(Heard::Refused),
         };
-        match update::<Brand>(&mut self.engine, self.net, &change, Blank::new(1)) {
+        match update::<Brand>(
+            &mut self.engine,
+            self.net,
+            &change,
+            &mut self.moved,
+            Blank::new(1),
+        ) {
             Ok(()) => Ok(Heard::Made),
             Err(Cyclic) => Ok(Heard::Cyclic),
         }
     }
 
-    /// Whether times and cost are those of the rows, computed from scratch.
-    pub fn agrees(&self, alloc: Global) -> Result<bool, Failure> {
+    /// Whether times and cost are those of the rows, computed from scratch, and the copy is right that was brought up to date.
+    pub fn agrees(&mut self, alloc: Global) -> Result<bool, Failure> {
+        let right = self.is_right(alloc)?;
+        bring(&mut self.shown, self.engine.times(), &self.moved);
+        self.moved.clear();
+        Ok(right && self.shown.as_slice() == self.engine.times().as_slice())
+    }
+
+    /// Whether times and cost are those of the rows.
+    fn is_right(&self, alloc: Global) -> Result<bool, Failure> {
         let rows = self.engine.rows();
         match least(alloc, self.net, rows) {
             Ok(times) => {
@@ -106,6 +132,7 @@ fn update<L: Ledger>(
     engine: &mut Engine,
     net: &Network,
     change: &Change,
+    moved: &mut PlaceSet,
     blank: Blank,
 ) -> Result<(), Cyclic>
     requires engine { IsEngineOf net.now engine.old }
@@ -113,8 +140,31 @@ fn update<L: Ledger>(
     requires name { blank.name ≡ L.name }
     requires parts { blank.parts ≡ L.parts }
     requires has_a_part { 0 < blank.parts }
-    ensures { IsEngineOf net.now engine.new }
+    requires noted { length moved.old.flags ≡ length net.now.events }
+    ensures engine { IsEngineOf net.now engine.new }
+    ensures noted { length moved.new.flags ≡ length net.now.events }
 {
     let mut steps = Steps::<L>::new(blank);
-    engine.update(net, change, &mut steps)
+    engine.update(net, change, moved, &mut steps)
+}
+
+/// Copies the times of an engine.
+fn copy_times(net: &Network, engine: &Engine, shown: &mut Times)
+    requires engine { IsEngineOf net.now engine.now }
+    requires as_many { length shown.old ≡ length net.now.events }
+    ensures { length shown.new ≡ length net.now.events }
+{
+    shown.copy_from(engine.times());
+}
+
+/// Takes the times at the places that are in.
+fn bring(shown: &mut Times, times: &Times, moved: &PlaceSet)
+    requires as_many { length shown.old ≡ length times.now }
+    requires places { length moved.now.flags ≡ length times.now }
+    ensures { length shown.new ≡ length shown.old }
+{
+    moved.sound();
+    for place in moved.places() {
+        shown.set(*place, times.time(*place));
+    }
 }
