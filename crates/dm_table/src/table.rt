@@ -229,8 +229,9 @@ impl<'n> Table<'n> {
             into,
             listed,
         );
+        let now = self.history.len();
         self.moved.clear();
-        self.since = self.history.len();
+        self.since = now;
     }
 
     /// The rows after all entries.

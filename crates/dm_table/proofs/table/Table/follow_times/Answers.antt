@@ -11,9 +11,9 @@ invariant_of-self c =
     let t = c.self.inside in
     let kept = c.self.invariant.0 in (
       kept,
-      noted_anew t.net.now t.start t.engine.rows t.history.entries c.len-self-inside.result c.clear-2.new.self.flags (times_of t.engine)
-          (omega (arith, c.len-self-inside.ensures.count))
-          (kept.replayed ∙ ap (rows_at t.net.now t.start t.history.entries) (sym c.len-self-inside.ensures.count))
+      noted_anew t.net.now t.start t.engine.rows t.history.entries c.len-now.result c.clear-2.new.self.flags (times_of t.engine)
+          (omega (arith, c.len-now.ensures.count))
+          (kept.replayed ∙ ap (rows_at t.net.now t.start t.history.entries) (sym c.len-now.ensures.count))
           (engine_least t.net.now t.engine c.sound.ensures.network.formed.ends_are_known kept.is_engine)
           (ap (λ (s : PlaceSetValue). s.flags) c.clear-2.ensures ∙ ap (λ n. replicate n false) c.self.invariant.1.as_many),
       c.self.invariant.2,
