@@ -14,7 +14,6 @@ ghost use Rattle.dm_times.specs.Faults.{RefusesTimes};
 ghost use Rattle.dm_turn.specs.Passes.{longer, AreEntriesOf, AreAllAbove};
 ghost use Rattle.dm_server.specs.Answers.{base_of, rows_after, AreTimesAfter, ShowsTime, CostsAfter, RefusesAfter, RefusesAdopt, IsTrueOf, adopts, HasLooked, HasEntered};
 
-use crate::holding::{adopt, copy_times, cost, enter, follow_times, time};
 use crate::kept::Kept;
 use dm_base::{Cost, EventId, Secs};
 use dm_network::Network;
@@ -75,6 +74,9 @@ impl<'n> Server<'n> {
             Ok(table) => table,
             Err(no_times) => return Err(no_times),
         };
+        let Ok(table) = Box::new(alloc, table) else {
+            return Err(NoTimes::OutOfMemory);
+        };
         let Ok((turn, pass)) = Turn::new(alloc, Kept { table }, seats) else {
             return Err(NoTimes::OutOfMemory);
         };
@@ -118,8 +120,8 @@ impl<'n> Server<'n> {
         ensures refused { IfErr result (λ at. IsSomeAnd pass.new.base (λ base. RefusesAfter base pass.new.seen entry.message at.why)) }
     {
         let mut held = self.turn.take(rt, pass);
-        held.state.table.sound();
-        let answer = enter(&mut held.state.table, entry);
+        held.state.sound();
+        let answer = held.state.enter(entry);
         match answer {
             Ok(n) => {
                 self.turn.add(pass, &held);
@@ -127,7 +129,7 @@ impl<'n> Server<'n> {
                 Ok(n)
             }
             Err(why) => {
-                let entry = held.state.table.len();
+                let entry = held.state.length();
                 self.turn.give(pass, held);
                 Err(At { entry, why })
             }
@@ -152,9 +154,9 @@ impl<'n> Server<'n> {
         ensures refused { IfErr result (λ at. IsSomeAnd pass.new.base (λ base. RefusesTime base.network id at.why)) }
     {
         let held = self.turn.take(rt, pass);
-        held.state.table.sound();
-        let entry = held.state.table.len();
-        let answer = time(&held.state.table, id);
+        held.state.sound();
+        let entry = held.state.length();
+        let answer = held.state.time(id);
         self.turn.give(pass, held);
         match answer {
             Ok(time) => Ok((time, entry)),
@@ -172,9 +174,9 @@ impl<'n> Server<'n> {
         ensures cost { IsSomeAnd pass.new.base (λ base. CostsAfter base pass.new.seen result.0) }
     {
         let held = self.turn.take(rt, pass);
-        held.state.table.sound();
-        let entry = held.state.table.len();
-        let cost = cost(&held.state.table);
+        held.state.sound();
+        let entry = held.state.length();
+        let cost = held.state.cost();
         self.turn.give(pass, held);
         (cost, entry)
     }
@@ -188,8 +190,8 @@ impl<'n> Server<'n> {
         ensures number { result ≡ length pass.new.seen }
     {
         let held = self.turn.take(rt, pass);
-        held.state.table.sound();
-        let entry = held.state.table.len();
+        held.state.sound();
+        let entry = held.state.length();
         self.turn.give(pass, held);
         entry
     }
@@ -205,9 +207,9 @@ impl<'n> Server<'n> {
         ensures times { IsSomeAnd pass.new.base (λ base. AreTimesAfter base pass.new.seen into.new) }
     {
         let held = self.turn.take(rt, pass);
-        held.state.table.sound();
-        let entry = held.state.table.len();
-        copy_times(&held.state.table, into);
+        held.state.sound();
+        let entry = held.state.length();
+        held.state.copy_times(into);
         self.turn.give(pass, held);
         entry
     }
@@ -236,9 +238,9 @@ impl<'n> Server<'n> {
         ensures room { vec_capacity listed.old ≤ vec_capacity listed.new }
     {
         let mut held = self.turn.take(rt, pass);
-        held.state.table.sound();
-        let entry = held.state.table.len();
-        follow_times(&mut held.state.table, into, shown, listed);
+        held.state.sound();
+        let entry = held.state.length();
+        held.state.follow_times(into, shown, listed);
         self.turn.give(pass, held);
         entry
     }
@@ -259,8 +261,8 @@ impl<'n> Server<'n> {
         ensures no_cycle { IfOk result (λ snapshot. IsSomeAnd pass.new.base (λ base. HasNoCycle base.network snapshot.rows)) }
     {
         let held = self.turn.take(rt, pass);
-        held.state.table.sound();
-        let copied = held.state.table.copy();
+        held.state.sound();
+        let copied = held.state.copy();
         self.turn.give(pass, held);
         copied
     }
@@ -286,8 +288,8 @@ impl<'n> Server<'n> {
         ensures refused { IfErr result (RefusesAdopt plan.now pass.new.seen) }
     {
         let mut held = self.turn.take(rt, pass);
-        held.state.table.sound();
-        let answer = adopt(self.alloc, &mut held.state.table, plan, feed, line);
+        held.state.sound();
+        let answer = held.state.adopt(self.alloc, plan, feed, line);
         match answer {
             Ok(n) => {
                 self.turn.add(pass, &held);
@@ -314,6 +316,7 @@ impl<'n> Server<'n> {
     {
         let Self { alloc: _, turn } = self;
         let Kept { table } = turn.close(pass);
+        let table = Box::into_inner(table);
         table.sound();
         table
     }

@@ -8,7 +8,7 @@ use Rattle.dm_server.proofs.server.Server.adopt.Goals as goal
 
 pub adopt-answer-requires : goal.adopt-answer-requires
 adopt-answer-requires g c =
-    let table = c.take-held.result.state.table in
+    let table = c.take-held.result.state.table.value in
     true_of_longer (base_of table) c.args.pass.now.seen table.history c.args.plan.now
     (subst (λ (p : PassValue Base). IsPrefix c.args.pass.now.seen p.seen) c.take-held.ensures.held c.take-held.ensures.later)
     (c.requires.plan (base_of table) c.take-held.ensures.base)
@@ -16,8 +16,8 @@ adopt-answer-requires g c =
 pub returns-in-Ok-clause-legal : goal.returns-in-Ok-clause-legal
 returns-in-Ok-clause-legal g c =
     let gains = c.in-Ok.ensures.entered in
-    holds_more IsLegalAfter c.args.pass.now c.take-held.new.pass c.add.new.pass c.give.new.pass c.take-held.result.state.table c.adopt-answer.new.table (adopts c.args.plan.now c.args.feed c.args.line) c.in-Ok.n c.take-held.ensures.held c.take-held.ensures.base gains c.add.ensures c.give.ensures gains.legal
+    holds_more IsLegalAfter c.args.pass.now c.take-held.new.pass c.add.new.pass c.give.new.pass c.take-held.result.state.table.value c.adopt-answer.new.self.table.value (adopts c.args.plan.now c.args.feed c.args.line) c.in-Ok.n c.take-held.ensures.held c.take-held.ensures.base gains c.add.ensures c.give.ensures gains.legal
 
 pub returns-in-Err-clause-legal : goal.returns-in-Err-clause-legal
 returns-in-Err-clause-legal g c =
-    holds_given IsLegalAfter c.args.pass.now c.take-held.new.pass c.give-in-Err.new.pass (base_of c.take-held.result.state.table) c.take-held.result.state.table.history c.take-held.ensures.held c.take-held.ensures.base c.give-in-Err.ensures c.sound.ensures.table.legal
+    holds_given IsLegalAfter c.args.pass.now c.take-held.new.pass c.give-in-Err.new.pass (base_of c.take-held.result.state.table.value) c.take-held.result.state.table.value.history c.take-held.ensures.held c.take-held.ensures.base c.give-in-Err.ensures c.sound.ensures.table.legal

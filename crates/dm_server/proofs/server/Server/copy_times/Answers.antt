@@ -3,8 +3,8 @@ use Rattle.dm_server.proofs.After.{holds_given, IsLegalAfter}
 use Rattle.dm_server.proofs.server.Server.copy_times.Goals as goal
 
 pub copy_times-requires : goal.copy_times-requires
-copy_times-requires g c = c.requires.size (base_of c.take-held.result.state.table) c.take-held.ensures.base
+copy_times-requires g c = c.requires.size (base_of c.take-held.result.state.table.value) c.take-held.ensures.base
 
 pub returns-clause-legal : goal.returns-clause-legal
 returns-clause-legal g c =
-    holds_given IsLegalAfter c.args.pass.now c.take-held.new.pass c.give.new.pass (base_of c.take-held.result.state.table) c.take-held.result.state.table.history c.take-held.ensures.held c.take-held.ensures.base c.give.ensures c.sound.ensures.table.legal
+    holds_given IsLegalAfter c.args.pass.now c.take-held.new.pass c.give.new.pass (base_of c.take-held.result.state.table.value) c.take-held.result.state.table.value.history c.take-held.ensures.held c.take-held.ensures.base c.give.ensures c.sound.ensures.table.legal

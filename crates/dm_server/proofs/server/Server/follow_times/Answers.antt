@@ -9,20 +9,20 @@ use Rattle.dm_server.proofs.server.Server.follow_times.Goals as goal
 
 pub follow_times-requires-clause-shown : goal.follow_times-requires-clause-shown
 follow_times-requires-clause-shown g c =
-    let table = c.take-held.result.state.table in
+    let table = c.take-held.result.state.table.value in
     let longer : IsPrefix c.args.pass.now.seen table.history = subst (λ (p : PassValue Base). IsPrefix c.args.pass.now.seen p.seen) c.take-held.ensures.held c.take-held.ensures.later in
     omega (arith, prefix_length c.args.pass.now.seen table.history longer, c.requires.shown)
 
 pub follow_times-requires-clause-times : goal.follow_times-requires-clause-times
 follow_times-requires-clause-times g c =
-    let table = c.take-held.result.state.table in
+    let table = c.take-held.result.state.table.value in
     least_of_longer (base_of table) c.args.pass.now.seen table.history c.args.shown c.args.into.now
     (subst (λ (p : PassValue Base). IsPrefix c.args.pass.now.seen p.seen) c.take-held.ensures.held c.take-held.ensures.later) c.requires.shown
     (c.requires.times (base_of table) c.take-held.ensures.base)
 
 pub follow_times-requires-clause-room : goal.follow_times-requires-clause-room
-follow_times-requires-clause-room g c = c.requires.room (base_of c.take-held.result.state.table) c.take-held.ensures.base
+follow_times-requires-clause-room g c = c.requires.room (base_of c.take-held.result.state.table.value) c.take-held.ensures.base
 
 pub returns-clause-legal : goal.returns-clause-legal
 returns-clause-legal g c =
-    holds_given IsLegalAfter c.args.pass.now c.take-held.new.pass c.give.new.pass (base_of c.take-held.result.state.table) c.take-held.result.state.table.history c.take-held.ensures.held c.take-held.ensures.base c.give.ensures c.sound.ensures.table.legal
+    holds_given IsLegalAfter c.args.pass.now c.take-held.new.pass c.give.new.pass (base_of c.take-held.result.state.table.value) c.take-held.result.state.table.value.history c.take-held.ensures.held c.take-held.ensures.base c.give.ensures c.sound.ensures.table.legal
