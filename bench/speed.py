@@ -22,7 +22,7 @@ import subprocess
 import sys
 import time
 
-REPEATS = 5
+REPEATS = 15
 
 # As many boards as a run may have.
 BOARDS = range(1, 65)
@@ -83,27 +83,31 @@ def timed(program, folder, feeds, words):
     return after.ru_utime + after.ru_stime - before.ru_utime - before.ru_stime, wall
 
 
-def least(program, folder, feeds, words):
-    runs = [timed(program, folder, feeds, words) for _ in range(REPEATS)]
-    return min(run[0] for run in runs), min(run[1] for run in runs)
-
-
-def table(title, program, folder):
-    """The processor seconds of each run."""
-    print(f'{title}:{"processor":>21}{"wall":>9}{"ratio":>8}')
-    seconds = {}
-    for name, feeds, words in RUNS:
-        used, wall = least(program, folder, feeds, words)
-        seconds[name] = used
-        print(f'  {name:<16}{used:>10.3f} s{wall:>7.3f} s{used / seconds["empty"]:>8.2f}')
+def least(programs, folder):
+    """The least processor and wall seconds of each program's run of each row. All run in turn, again and again, so that a
+    machine that is slower for a while is so for all of them."""
+    seconds = [{} for _ in programs]
+    for _ in range(REPEATS):
+        for name, feeds, words in RUNS:
+            for least_of, program in zip(seconds, programs):
+                run = timed(program, folder, feeds, words)
+                least_of[name] = tuple(map(min, run, least_of.get(name, run)))
     remove_boards(folder)
     return seconds
 
 
+def print_table(title, seconds):
+    print(f'{title}:{"processor":>21}{"wall":>9}{"ratio":>8}')
+    for name, (used, wall) in seconds.items():
+        print(f'  {name:<16}{used:>10.3f} s{wall:>7.3f} s{used / seconds["empty"][0]:>8.2f}')
+    return {name: used for name, (used, _) in seconds.items()}
+
+
 def main():
-    folder, program = sys.argv[1], os.path.abspath(sys.argv[2])
+    folder, programs = sys.argv[1], [os.path.abspath(program) for program in sys.argv[2:4]]
     quarters(folder)
-    now = table('now', program, folder)
+    seconds = least(programs, folder)
+    now = print_table('now', seconds[0])
     ratios = [
         ('delays', now['delays'] / now['empty'], 2.0),
         ('mixed', now['mixed'] / now['empty'], 2.5),
@@ -112,8 +116,8 @@ def main():
         ('four-1000', now['four-1000'] / now['rounds'], 1.3),
         ('boards', now['boards'] / now['delays'], 1.5),
     ]
-    if len(sys.argv) > 3:
-        before = table('before', os.path.abspath(sys.argv[3]), folder)
+    if len(seconds) > 1:
+        before = print_table('before', seconds[1])
         ratios.append(('rounds', now['rounds'] / before['rounds'], 1.1))
         ratios.append(('default', now['delays'] / before['delays'], 1.5))
     over = [name for name, ratio, bound in ratios if ratio > bound]
