@@ -11,7 +11,8 @@ use std::marker::Model;
 use std::rt::Files;
 
 /// A board that appends a line `event; time` to a file for each change. The file is opened at the first show, and made where
-/// it is not there; what it holds stays. It tells nothing of what it shows.
+/// it is not there; what it holds stays. A show fails where the file cannot be opened or written, and for want of memory. It
+/// tells nothing of what it shows.
 #[derive(Drop)]
 pub struct FileBoard<R: Files<File = File> + Drop> {
     files: R,

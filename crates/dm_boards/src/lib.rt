@@ -1,11 +1,10 @@
 //! Boards that show times: one in memory, which tells all that stands on it, and one that is kept in a file.
 //!
-//! It stands on dm_outside for what a board is, and on `itoa` for the digits of numbers. A [`MemBoard`] can show the events that it
-//! was made with, and fails at the calls that it is told to fail at, so that a caller's contract with boards can be tried. A
-//! [`FileBoard`] appends what changes to a file. It tells nothing: it is a part of the trusted edge.
+//! It stands on dm_outside for what a board is and for the count of calls, and on `itoa` for the digits of numbers. A [`MemBoard`]
+//! can show the events that it was made with, and fails at the calls that it is told to fail at, so that a caller's contract with
+//! boards can be tried. A [`FileBoard`] appends what changes to a file. It tells nothing: it is a part of the trusted edge.
 #![tactic(auto)]
 
-mod calls;
 mod file;
 mod memory;
 

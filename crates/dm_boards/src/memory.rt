@@ -5,8 +5,7 @@ ghost use Rattle.dm_outside.specs.Calls.{IsListed, NoneListed, next_call};
 ghost use Rattle.dm_outside.specs.Faults.{Counts};
 ghost use Rattle.dm_boards.specs.Memory.{time_shown, knows, knows_all, Fails};
 
-use crate::calls::Calls;
-use dm_outside::{Board, Failed};
+use dm_outside::{Board, Calls, Failed};
 use std::alloc::{AllocError, Global};
 use std::marker::Model;
 
@@ -43,7 +42,7 @@ impl Model for MemBoard {
 
 impl MemBoard {
     /// A board of this stop that shows nothing yet, and can show the events with these ids. A show of another id fails, and
-    /// so do the shows of anything whose numbers are in `fails`, counted from 1.
+    /// so do the shows of anything whose numbers are in `fails`, counted from 1. The error is want of memory for the times.
     pub fn new(
         alloc: Global,
         stop: u32,

@@ -2,7 +2,7 @@
 use Rattle.std.specs.Prelude.{ℕ, ◌+◌, ◌<◌, ◌≤◌, List, All, Contains, if◌then◌else◌, nat_lt}
 use Rattle.dm_outside.specs.Faults.{last_count}
 
--- the number of calls after one more: it stands at its last value
+-- the number of calls, or of those that failed, after one more: it stands at its last value
 abbrev pub next_call : ℕ → ℕ
 next_call made = if nat_lt made last_count then made + 1 else made
 

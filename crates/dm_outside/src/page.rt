@@ -84,7 +84,8 @@ impl Page {
         Ok(())
     }
 
-    /// Prints these bytes behind all that was printed before.
+    /// Prints these bytes behind all that was printed before. A write fault comes only where a write
+    /// failed.
     pub fn put_bytes<K: Sink>(&mut self, sink: &mut K, text: &[u8]) -> Result<(), WriteFault>
         ensures { Prints K.taken K.faults sink.old sink.new self.old self.new result text.now }
     {
@@ -105,7 +106,8 @@ impl Page {
         Ok(())
     }
 
-    /// Prints the piece behind all that was printed before.
+    /// Prints the piece behind all that was printed before. A write fault comes only where a write
+    /// failed.
     fn put_piece<K: Sink>(&mut self, sink: &mut K, piece: Piece<'_>) -> Result<(), WriteFault>
         ensures { Prints K.taken K.faults sink.old sink.new self.old self.new result (piece_text piece.entry) }
     {
@@ -118,7 +120,8 @@ impl Page {
         }
     }
 
-    /// Prints the pieces, one after another, behind all that was printed before.
+    /// Prints the pieces, one after another, behind all that was printed before. A write fault comes
+    /// only where a write failed.
     pub fn put<K: Sink>(&mut self, sink: &mut K, pieces: &[Piece<'_>]) -> Result<(), WriteFault>
         ensures { Prints K.taken K.faults sink.old sink.new self.old self.new result (pieces_text pieces.now) }
     {
@@ -130,7 +133,8 @@ impl Page {
         Ok(())
     }
 
-    /// Hands the rest of the text to the sink: the end of a text.
+    /// Hands the rest of the text to the sink: the end of a text. A write fault comes only where a
+    /// write failed.
     pub fn finish<K: Sink>(mut self, sink: &mut K) -> Result<(), WriteFault>
         ensures { Puts K.taken K.faults sink.old sink.new result self }
     {

@@ -60,7 +60,8 @@ impl Source for FileSource {
     }
 }
 
-/// A sink that writes to the standard output. It tells nothing of the bytes.
+/// A sink that writes to the standard output. A write fails where the system's fails, or where the
+/// system takes none of some bytes. It tells nothing of the bytes.
 #[derive(Drop)]
 pub struct StdSink {
     out: Stdout,

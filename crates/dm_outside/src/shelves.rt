@@ -1,9 +1,9 @@
 //! Where sources are found by name.
-ghost use Rattle.std.specs.Prelude.{◌≡◌, ◌⊎◌, ℕ, ◌<◌, ◌↔◌, List, Option, None, Some, IsNone, IsErr, IfOk, IsOkAnd, IsSomeAnd, All, AllPairs, ◌≢◌};
+ghost use Rattle.std.specs.Prelude.{◌≡◌, ◌⊎◌, ℕ, ◌<◌, ◌↔◌, List, Option, None, Some, IsNone, IsErr, IfOk, OnOk, OnErr, IsOkAnd, IsSomeAnd, All, AllPairs, ◌≢◌};
 ghost use Rattle.std.specs.Option.{option_copied};
 ghost use Rattle.dm_outside.specs.Faults.{Counts};
 ghost use Rattle.dm_outside.specs.Shelf.{Opens};
-ghost use Rattle.dm_outside.specs.Calls.{IsListed, NoneListed};
+ghost use Rattle.dm_outside.specs.Calls.{IsListed, NoneListed, next_call};
 ghost use Rattle.dm_outside.specs.Memory.{SourceValue, file_named, bytes_named};
 
 use crate::calls::Calls;
@@ -121,6 +121,13 @@ impl<'a> Shelf for MemShelf<'a> {
         ensures fails { IsErr result ↔ (IsListed self.old.made self.old.fails ⊎ IsNone (file_named self.old.files name.now)) }
         ensures exact { IfOk result (λ source. IsSomeAnd (file_named self.old.files name.now) (λ file.
             source ≡ record { left = file.bytes.now; piece = file.piece; fails = file.fails.now; made = 0; faults = 0 })) }
+
+        // It counts each call, and each fault. All else stays.
+        ensures counted { self.new.made ≡ next_call self.old.made }
+        ensures faultless { OnOk result (self.new.faults ≡ self.old.faults) }
+        ensures faulted { OnErr result (self.new.faults ≡ next_call self.old.faults) }
+        ensures same_files { self.new.files ≡ self.old.files }
+        ensures same_fails { self.new.fails ≡ self.old.fails }
     {
         if self.calls.is_listed(self.fails) {
             self.calls.add_fault();

@@ -1,8 +1,8 @@
 //! Where bytes go.
-ghost use Rattle.std.specs.Prelude.{◌≡◌, ◌⊎◌, ℕ, ◌-◌, ◌<◌, ◌≤◌, ◌↔◌, List, [], Option, Some, length, min, IfOk, IsErr};
+ghost use Rattle.std.specs.Prelude.{◌≡◌, ◌⊎◌, ℕ, ◌-◌, ◌<◌, ◌≤◌, ◌↔◌, List, [], Option, Some, length, min, IfOk, OnOk, OnErr, IsErr};
 ghost use Rattle.std.specs.Io.KnownBytes.{WriteAppends};
 ghost use Rattle.dm_outside.specs.Faults.{Counts};
-ghost use Rattle.dm_outside.specs.Calls.{IsListed};
+ghost use Rattle.dm_outside.specs.Calls.{IsListed, next_call};
 
 use crate::Failed;
 use crate::calls::Calls;
@@ -58,7 +58,7 @@ impl Model for MemSink {
 impl MemSink {
     /// A sink that takes at most `room` bytes in all and at most `piece` bytes at a write. The
     /// writes whose numbers are in `fails`, counted from 1, fail, and so does each write of bytes
-    /// once `room` bytes were taken.
+    /// once `room` bytes were taken. The error is want of memory for `room` bytes.
     pub fn new(
         alloc: Global,
         room: usize,
@@ -100,6 +100,14 @@ impl Sink for MemSink {
         ensures fails { IsErr result
             ↔ (IsListed self.old.made self.old.fails ⊎ ((self.old.room ≤ length self.old.taken) × (0 < length bytes.now))) }
         ensures exact { IfOk result (λ n. n ≡ min self.old.piece (min (length bytes.now) (self.old.room - length self.old.taken))) }
+
+        // It counts each call, and each fault. But for what it took all else stays.
+        ensures counted { self.new.made ≡ next_call self.old.made }
+        ensures faultless { OnOk result (self.new.faults ≡ self.old.faults) }
+        ensures faulted { OnErr result (self.new.faults ≡ next_call self.old.faults) }
+        ensures same_room { self.new.room ≡ self.old.room }
+        ensures same_piece { self.new.piece ≡ self.old.piece }
+        ensures same_fails { self.new.fails ≡ self.old.fails }
     {
         if self.calls.is_listed(&self.fails) {
             self.calls.add_fault();

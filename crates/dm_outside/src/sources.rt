@@ -1,8 +1,8 @@
 //! Where bytes come from.
-ghost use Rattle.std.specs.Prelude.{◌≡◌, ℕ, ◌<◌, ◌≤◌, ◌↔◌, List, Option, length, min, IfOk, IsOk, IsErr};
+ghost use Rattle.std.specs.Prelude.{◌≡◌, ℕ, ◌<◌, ◌≤◌, ◌↔◌, List, Option, length, min, IfOk, OnOk, OnErr, IsOk, IsErr};
 ghost use Rattle.std.specs.Io.KnownBytes.{ReadConsumes};
 ghost use Rattle.dm_outside.specs.Faults.{Counts};
-ghost use Rattle.dm_outside.specs.Calls.{IsListed, NoneListed};
+ghost use Rattle.dm_outside.specs.Calls.{IsListed, NoneListed, next_call};
 
 use crate::Failed;
 use crate::calls::Calls;
@@ -91,6 +91,13 @@ impl Source for MemSource<'_> {
         // It fails at the listed calls alone, and else gives as much as may be.
         ensures fails { IsErr result ↔ IsListed self.old.made self.old.fails }
         ensures exact { IfOk result (λ n. n ≡ min self.old.piece (min (length buf.old) (length self.old.left))) }
+
+        // It counts each call, and each fault. But for what is left all else stays.
+        ensures counted { self.new.made ≡ next_call self.old.made }
+        ensures faultless { OnOk result (self.new.faults ≡ self.old.faults) }
+        ensures faulted { OnErr result (self.new.faults ≡ next_call self.old.faults) }
+        ensures same_piece { self.new.piece ≡ self.old.piece }
+        ensures same_fails { self.new.fails ≡ self.old.fails }
     {
         if self.calls.is_listed(self.fails) {
             self.calls.add_fault();
