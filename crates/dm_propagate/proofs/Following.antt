@@ -1,5 +1,6 @@
 -- A live timetable that follows rows: its times are theirs.
-use Rattle.std.proofs.Common.{◌≡◌, ℕ, ◌<◌, List, length, sym, ◌∙◌, arith}
+use Rattle.std.proofs.Common.{◌≡◌, ℕ, ◌<◌, false, List, [], length, replicate, sym, ◌∙◌, arith}
+use Rattle.std.proofs.lemmas.List.{length-replicate}
 use Rattle.std.proofs.lemmas.Grind.{same_number_lists}
 use Rattle.dm_live.specs.Live.{LiveValue, IsLive, IsAtRest}
 use Rattle.dm_live.proofs.Resting.{least_at_rest, live_has_no_cycle}
@@ -12,6 +13,7 @@ use Rattle.dm_settle.specs.Constraints.{ConstraintsValue, IsSizedFor}
 use Rattle.dm_times.specs.Inside.Filling.{AreConstraintsOf}
 use Rattle.dm_times.proofs.Filled.{least_for_rows, no_cycle_of_rows}
 use Rattle.dm_priced.specs.Priced.{PricedValue, IsPriced, FollowsPrice}
+use Rattle.dm_places.specs.Places.{PlaceSetValue}
 use Rattle.dm_propagate.specs.Inside.Flags.{flags_of, AreFlagsOf}
 use Rattle.dm_schedule.specs.Schedule.{IsScheduleOf}
 use Rattle.dm_schedule.specs.declared.schedule.Scheduled.{Scheduled}
@@ -34,16 +36,31 @@ follows_no_cycle net rows live is follows =
     no_cycle_of_rows net rows live.given (constraints_of_rows net rows live.given is.sized follows) (live_has_no_cycle net live is)
 
 -- an engine of parts that follow the rows
-pub is_engine : (net : Net) (rows : RowsValue) (priced : PricedValue) (schedule : List Scheduled) → IsSized net rows → IsPriced net priced → IsAtRest priced.live →
-    FollowsRows net rows priced.live.given → AreFlagsOf net rows (flags_of priced) → IsScheduleOf net schedule →
-    IsEngineOf net (record { rows = rows; priced = priced; schedule = schedule })
-is_engine net rows priced schedule sized is rest follows flags scheduled = record {
+pub is_engine : (net : Net) (rows : RowsValue) (priced : PricedValue) (schedule : List Scheduled) (moved : PlaceSetValue) → IsSized net rows →
+    IsPriced net priced → IsAtRest priced.live → FollowsRows net rows priced.live.given → AreFlagsOf net rows (flags_of priced) →
+    IsScheduleOf net schedule → length moved.flags ≡ length net.events →
+    IsEngineOf net (record { rows = rows; priced = priced; schedule = schedule; moved = moved })
+is_engine net rows priced schedule moved sized is rest follows flags scheduled noted = record {
   sized = sized;
   priced = is;
   at_rest = rest;
   follows = follows;
   price = record { passed = flags.passed; charged = flags.charged; spans = follows.spans };
   schedule = scheduled;
+  noted = noted;
+}
+
+-- an engine of which nothing is noted is one still
+pub forgetting_engine : (net : Net) (engine : EngineValue) → IsEngineOf net engine →
+    IsEngineOf net (record engine { moved = record { flags = replicate (length engine.moved.flags) false; places = [] } })
+forgetting_engine net engine is = record {
+  sized = is.sized;
+  priced = is.priced;
+  at_rest = is.at_rest;
+  follows = is.follows;
+  price = is.price;
+  schedule = is.schedule;
+  noted = length-replicate (length engine.moved.flags) false ∙ is.noted;
 }
 
 pub engine_flags : (net : Net) (rows : RowsValue) (priced : PricedValue) → FollowsPrice net rows (is_dropped_change net rows) priced →

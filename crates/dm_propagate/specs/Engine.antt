@@ -8,15 +8,18 @@ use Rattle.dm_rows.specs.Cost.{is_dropped_change}
 use Rattle.dm_rows.specs.Rows.{RowsValue, IsSized}
 use Rattle.dm_rows.specs.Timetable.{floor_of, span_of}
 use Rattle.dm_priced.specs.Priced.{PricedValue, IsPriced, FollowsPrice}
+use Rattle.dm_places.specs.Places.{PlaceSetValue}
 use Rattle.dm_settle.specs.Constraints.{ConstraintsValue}
 use Rattle.dm_schedule.specs.Schedule.{IsScheduleOf}
 use Rattle.dm_schedule.specs.declared.schedule.Scheduled.{Scheduled}
 
--- rows, the timetable that is kept for them, with its price, and the events by their scheduled times
+-- rows, the timetable that is kept for them, with its price, the events by their scheduled times, and the events that are noted
+-- as moved
 pub record EngineValue : Type 0 where
   pub rows : RowsValue
   pub priced : PricedValue
   pub schedule : List Scheduled
+  pub moved : PlaceSetValue
 
 abbrev pub times_of : EngineValue → List ℕ
 times_of engine = engine.priced.live.times
@@ -33,7 +36,8 @@ pub record FollowsRows (net : Net) (rows : RowsValue) (given : ConstraintsValue)
   pub spans : (a : ℕ) → a < length net.activities → slice_index given.spans a ≡ span_of net rows a
 
 -- The rows are of the network, its timetable is held to them, and no time is left to be computed: so the times are the least
--- timetable of the rows, and these have no cycle. The price is that of the rows too, and the schedule that of the network.
+-- timetable of the rows, and these have no cycle. The price is that of the rows too, and the schedule that of the network, of
+-- whose events some are noted.
 pub record IsEngineOf (net : Net) (engine : EngineValue) : Type 0 where
   pub sized : IsSized net engine.rows
   pub priced : IsPriced net engine.priced
@@ -41,3 +45,4 @@ pub record IsEngineOf (net : Net) (engine : EngineValue) : Type 0 where
   pub follows : FollowsRows net engine.rows engine.priced.live.given
   pub price : FollowsPrice net engine.rows (is_dropped_change net engine.rows) engine.priced
   pub schedule : IsScheduleOf net engine.schedule
+  pub noted : length engine.moved.flags ≡ length net.events

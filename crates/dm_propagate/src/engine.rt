@@ -1,5 +1,5 @@
 //! The engine, its changes and its readers.
-ghost use Rattle.std.specs.Prelude.{◌≡◌, ◌^◌, ◌<◌, ◌≤◌, length, All, fold, IfOk, IfErr, OnOk, OnErr};
+ghost use Rattle.std.specs.Prelude.{◌≡◌, ◌^◌, ◌<◌, ◌≤◌, false, [], length, replicate, All, fold, IfOk, IfErr, OnOk, OnErr};
 ghost use Rattle.dm_base.specs.declared.limits.TheConstants.{PENALTY};
 ghost use Rattle.dm_rows.specs.Rows.{IsSized};
 ghost use Rattle.dm_rows.specs.Active.{IsCycle, HasNoCycle};
@@ -9,6 +9,7 @@ ghost use Rattle.dm_rows.specs.Cost.{cost_of};
 ghost use Rattle.dm_rows.specs.Timetable.{IsLeast};
 ghost use Rattle.dm_rows.specs.Touch.{IsDelayPassOrClock};
 ghost use Rattle.dm_times.specs.Faults.{RefusesTimes};
+ghost use Rattle.dm_network.specs.Net.{Net};
 ghost use Rattle.dm_propagate.specs.Engine.{IsEngineOf, times_of, cycle_of};
 ghost use Rattle.dm_propagate.specs.Moved.{TakesInMoved};
 ghost use Rattle.dm_propagate.specs.Reading.{KeepsClock, ReadsFew};
@@ -42,6 +43,9 @@ pub struct Engine {
 
     /// The events by their scheduled times, for the clock.
     schedule: Vec<Scheduled>,
+
+    /// The events whose times have moved since it was emptied, and maybe others.
+    moved: PlaceSet,
 }
 
 impl Model for Engine {
@@ -50,7 +54,7 @@ impl Model for Engine {
 
     ghost Value = { EngineValue };
 
-    ghost view = { λ e. record { rows = e.rows; priced = e.priced; schedule = e.schedule.items } };
+    ghost view = { λ e. record { rows = e.rows; priced = e.priced; schedule = e.schedule.items; moved = e.moved } };
 
     ghost invariant = { λ e. e.twin ≡ e.rows };
 }
@@ -66,6 +70,7 @@ impl Engine {
         ensures rows { IfOk result (λ engine. engine.rows ≡ rows) }
         ensures least { IfOk result (λ engine. IsLeast net.now rows (times_of engine)) }
         ensures no_cycle { OnOk result (HasNoCycle net.now rows) }
+        ensures moved { IfOk result (λ engine. engine.moved ≡ record { flags = replicate (length net.now.events) false; places = [] }) }
         ensures refused { IfErr result (RefusesTimes net.now rows) }
     {
         net.sound();
@@ -75,36 +80,36 @@ impl Engine {
         };
         let twin = rows.copy()?;
         let schedule = schedule_of(alloc, net)?;
+        let moved = PlaceSet::new(alloc, net.events())?;
         Ok(Engine {
             rows,
             twin,
             priced,
             schedule,
+            moved,
         })
     }
 
     /// Makes a change, and computes the times that it moves. [`Cyclic`] comes exactly where the changed rows have a cycle:
     /// then the engine is as before, and [`Engine::last_cycle`] is such a cycle. For a delay, a pass or a clock that is not
-    /// taken back, it reads the rows of the events that this can move, and not of the others. Each event whose time is not what
-    /// it was before is put into `moved`.
+    /// taken back, it reads the rows of the events that this can move, and not of the others. It takes no memory.
+    /// Each event whose time is not what it was before is [`Engine::moved`] from then on.
     #[tactic(auto, using(crate::proofs::Following::is_engine, crate::proofs::Following::engine_flags))]
     pub fn update<L: Ledger>(
         &mut self,
         net: &Network,
         change: &Change,
-        moved: &mut PlaceSet,
         steps: &mut Steps<L>,
     ) -> Result<(), Cyclic>
         requires engine { IsEngineOf net.now self.old }
         requires reaches { Reaches self.old.rows change.now }
-        requires noted { length moved.old.flags ≡ length net.now.events }
         ensures engine { IsEngineOf net.now self.new }
         ensures rows { OnOk result (self.new.rows ≡ after_change self.old.rows change.now) }
         ensures least { IsLeast net.now self.new.rows (times_of self.new) }
         ensures no_cycle { OnOk result (HasNoCycle net.now self.new.rows) }
         ensures unchanged { OnErr result ((self.new.rows ≡ self.old.rows) × (times_of self.new ≡ times_of self.old)) }
         ensures cycle { OnErr result (IsCycle net.now (after_change self.old.rows change.now) (cycle_of self.new)) }
-        ensures moved { TakesInMoved moved.old.flags moved.new.flags (times_of self.old) (times_of self.new) }
+        ensures moved { TakesInMoved self.old.moved.flags self.new.moved.flags (times_of self.old) (times_of self.new) }
         ensures few_reads { IsDelayPassOrClock change.now → KeepsClock self.old.rows change.now → ReadsFew net.now (after_change self.old.rows change.now) change.now (times_of self.old) (times_of self.new) steps.old steps.new }
     {
         net.sound();
@@ -117,7 +122,7 @@ impl Engine {
             &self.twin,
             &what,
             self.schedule.as_slice(),
-            moved,
+            &mut self.moved,
             steps,
         ) {
             Ok(()) => {
@@ -137,19 +142,17 @@ impl Engine {
         &mut self,
         net: &Network,
         flips: &[Flip],
-        moved: &mut PlaceSet,
         steps: &mut Steps<L>,
     ) -> Result<(), Cyclic>
         requires engine { IsEngineOf net.now self.old }
         requires reach { All (ReachesFlip self.old.rows) flips.now }
-        requires noted { length moved.old.flags ≡ length net.now.events }
         ensures engine { IsEngineOf net.now self.new }
         ensures rows { OnOk result (self.new.rows ≡ fold after_flip self.old.rows flips.now) }
         ensures least { IsLeast net.now self.new.rows (times_of self.new) }
         ensures no_cycle { OnOk result (HasNoCycle net.now self.new.rows) }
         ensures unchanged { OnErr result ((self.new.rows ≡ self.old.rows) × (times_of self.new ≡ times_of self.old)) }
         ensures cycle { OnErr result (IsCycle net.now (fold after_flip self.old.rows flips.now) (cycle_of self.new)) }
-        ensures moved { TakesInMoved moved.old.flags moved.new.flags (times_of self.old) (times_of self.new) }
+        ensures moved { TakesInMoved self.old.moved.flags self.new.moved.flags (times_of self.old) (times_of self.new) }
     {
         net.sound();
         set_flips(&mut self.twin, flips);
@@ -161,7 +164,7 @@ impl Engine {
             &self.twin,
             &what,
             self.schedule.as_slice(),
-            moved,
+            &mut self.moved,
             steps,
         ) {
             Ok(()) => {
@@ -188,6 +191,7 @@ impl Engine {
         requires reaches { Reaches self.old.rows change.now }
         ensures engine { IsEngineOf net.now self.new }
         ensures unchanged { (self.new.rows ≡ self.old.rows) × (times_of self.new ≡ times_of self.old) }
+        ensures moved { self.new.moved ≡ self.old.moved }
         ensures no_cycle { OnOk result (HasNoCycle net.now (after_change self.old.rows change.now)) }
         ensures cycle { OnErr result (IsCycle net.now (after_change self.old.rows change.now) (cycle_of self.new)) }
     {
@@ -218,6 +222,7 @@ impl Engine {
         requires reach { All (ReachesFlip self.old.rows) flips.now }
         ensures engine { IsEngineOf net.now self.new }
         ensures unchanged { (self.new.rows ≡ self.old.rows) × (times_of self.new ≡ times_of self.old) }
+        ensures moved { self.new.moved ≡ self.old.moved }
         ensures no_cycle { OnOk result (HasNoCycle net.now (fold after_flip self.old.rows flips.now)) }
         ensures cycle { OnErr result (IsCycle net.now (fold after_flip self.old.rows flips.now) (cycle_of self.new)) }
     {
@@ -260,6 +265,22 @@ impl Engine {
     {
         net.sound();
         self.priced.cost(penalty)
+    }
+
+    /// The events whose times are not what they were when this was last emptied, and maybe others.
+    pub fn moved(&self) -> &PlaceSet
+        ensures { result.now ≡ self.now.moved }
+    {
+        &self.moved
+    }
+
+    /// Empties [`Engine::moved`]. It costs what is in.
+    #[tactic(auto, using(crate::proofs::Following::forgetting_engine))]
+    pub fn forget_moved(&mut self)
+        ensures engine { (net : Net) → IsEngineOf net self.old → IsEngineOf net self.new }
+        ensures forgets { self.new ≡ record self.old { moved = record { flags = replicate (length self.old.moved.flags) false; places = [] } } }
+    {
+        self.moved.clear();
     }
 
     /// The activities of the cycle for which a change was refused last, each head the next tail.

@@ -5,7 +5,6 @@ ghost use Rattle.dm_propagate.specs.Engine.{IsEngineOf, times_of};
 use dm_base::{Secs, Steps};
 use dm_graph::search::Cyclic;
 use dm_network::Network;
-use dm_places::PlaceSet;
 use dm_propagate::Engine;
 use dm_rows::Change;
 use dm_samples::{Failure, Sample, rows_on_time};
@@ -34,25 +33,18 @@ fn with_engine(alloc: Global, net: &Network, mut engine: Engine) -> Result<(), F
     requires { IsEngineOf net.now engine }
 {
     let before = Vec::from_slice(alloc, engine.times().as_slice())?;
-    let mut moved = PlaceSet::new(alloc, net.events())?;
-    keeps_times(net, &mut engine, &before, &mut moved)
+    keeps_times(net, &mut engine, &before)
 }
 
 /// Whether the times stay those before, which the caller knows.
-fn keeps_times(
-    net: &Network,
-    engine: &mut Engine,
-    before: &[Secs],
-    moved: &mut PlaceSet,
-) -> Result<(), Failure>
+fn keeps_times(net: &Network, engine: &mut Engine, before: &[Secs]) -> Result<(), Failure>
     requires engine { IsEngineOf net.now engine.old }
-    requires noted { length moved.old.flags ≡ length net.now.events }
     requires before { before.now ≡ times_of engine.old }
 {
     if net.events() <= LAST {
         return Err(Failure::NoDay);
     }
-    if delays_by_nothing::<Brand>(net, engine, LAST, before, moved, Blank::new(1)) {
+    if delays_by_nothing::<Brand>(net, engine, LAST, before, Blank::new(1)) {
         Ok(())
     } else {
         Err(Failure::Differs(1))
@@ -65,11 +57,9 @@ fn delays_by_nothing<L: Ledger>(
     engine: &mut Engine,
     event: usize,
     before: &[Secs],
-    moved: &mut PlaceSet,
     blank: Blank,
 ) -> bool
     requires engine { IsEngineOf net.now engine.old }
-    requires noted { length moved.old.flags ≡ length net.now.events }
     requires is_event { event < length net.now.events }
     requires before { before.now ≡ times_of engine.old }
     requires name { blank.name ≡ L.name }
@@ -78,7 +68,7 @@ fn delays_by_nothing<L: Ledger>(
     ensures { IsEngineOf net.now engine.new }
 {
     let mut steps = Steps::<L>::new(blank);
-    moves_nothing(net, engine, event, before, moved, &mut steps)
+    moves_nothing(net, engine, event, before, &mut steps)
 }
 
 /// As [`delays_by_nothing`], with a count of the rows that are read.
@@ -87,17 +77,15 @@ fn moves_nothing<L: Ledger>(
     engine: &mut Engine,
     event: usize,
     before: &[Secs],
-    moved: &mut PlaceSet,
     steps: &mut Steps<L>,
 ) -> bool
     requires engine { IsEngineOf net.now engine.old }
-    requires noted { length moved.old.flags ≡ length net.now.events }
     requires is_event { event < length net.now.events }
     requires before { before.now ≡ times_of engine.old }
     ensures engine { IsEngineOf net.now engine.new }
     ensures two_rows { IsTrue result → steps.new ≤ steps.old + 2 }
 {
-    match engine.update(net, &Change::EventDelay { event, delay: 0 }, moved, steps) {
+    match engine.update(net, &Change::EventDelay { event, delay: 0 }, steps) {
         Ok(()) => engine.times().as_slice() == before,
         Err(Cyclic) => false,
     }

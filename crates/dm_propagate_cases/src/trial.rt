@@ -36,7 +36,6 @@ pub enum Heard {
 pub struct Trial<'n> {
     net: &'n Network,
     engine: Engine,
-    moved: PlaceSet,
     shown: Times,
 }
 
@@ -48,7 +47,7 @@ impl<'n> Model for Trial<'n> {
 
     ghost view = { λ trial. trial.engine };
 
-    ghost invariant = { λ trial. IsEngineOf trial.net.now trial.engine × (length trial.moved.flags ≡ length trial.net.now.events) × (length trial.shown ≡ length trial.net.now.events) };
+    ghost invariant = { λ trial. IsEngineOf trial.net.now trial.engine × (length trial.shown ≡ length trial.net.now.events) };
 }
 
 impl<'n> Trial<'n> {
@@ -58,15 +57,9 @@ impl<'n> Trial<'n> {
         let Ok(engine) = Engine::new(alloc, net, rows) else {
             return Err(Failure::NoDay);
         };
-        let moved = PlaceSet::new(alloc, net.events())?;
         let mut shown = Times::room(alloc, net)?;
         copy_times(net, &engine, &mut shown);
-        Ok(Trial {
-            net,
-            engine,
-            moved,
-            shown,
-        })
+        Ok(Trial { net, engine, shown })
     }
 
     /// Makes the change of a message that nothing refuses at once.
@@ -76,13 +69,7 @@ impl<'n> Trial<'n> {
             Err(Refusal::OutOfMemory) => return Err(Failure::OutOfMemory),
             Err(_) => return Ok(Heard::Refused),
         };
-        match update::<Brand>(
-            &mut self.engine,
-            self.net,
-            &change,
-            &mut self.moved,
-            Blank::new(1),
-        ) {
+        match update::<Brand>(&mut self.engine, self.net, &change, Blank::new(1)) {
             Ok(()) => Ok(Heard::Made),
             Err(Cyclic) => Ok(Heard::Cyclic),
         }
@@ -91,8 +78,8 @@ impl<'n> Trial<'n> {
     /// Whether times and cost are those of the rows, computed from scratch, and the copy is right that was brought up to date.
     pub fn agrees(&mut self, alloc: Global) -> Result<bool, Failure> {
         let right = self.is_right(alloc)?;
-        bring(&mut self.shown, self.engine.times(), &self.moved);
-        self.moved.clear();
+        bring(&mut self.shown, self.engine.times(), self.engine.moved());
+        self.engine.forget_moved();
         Ok(right && self.shown.as_slice() == self.engine.times().as_slice())
     }
 
@@ -132,7 +119,6 @@ fn update<L: Ledger>(
     engine: &mut Engine,
     net: &Network,
     change: &Change,
-    moved: &mut PlaceSet,
     blank: Blank,
 ) -> Result<(), Cyclic>
     requires engine { IsEngineOf net.now engine.old }
@@ -140,12 +126,10 @@ fn update<L: Ledger>(
     requires name { blank.name ≡ L.name }
     requires parts { blank.parts ≡ L.parts }
     requires has_a_part { 0 < blank.parts }
-    requires noted { length moved.old.flags ≡ length net.now.events }
-    ensures engine { IsEngineOf net.now engine.new }
-    ensures noted { length moved.new.flags ≡ length net.now.events }
+    ensures { IsEngineOf net.now engine.new }
 {
     let mut steps = Steps::<L>::new(blank);
-    engine.update(net, change, moved, &mut steps)
+    engine.update(net, change, &mut steps)
 }
 
 /// Copies the times of an engine.

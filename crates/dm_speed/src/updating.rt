@@ -1,5 +1,5 @@
 //! Changes of an engine.
-ghost use Rattle.std.specs.Prelude.{◌≡◌, ◌<◌, length};
+ghost use Rattle.std.specs.Prelude.{◌≡◌, ◌<◌};
 ghost use Rattle.dm_propagate.specs.Engine.{IsEngineOf};
 ghost use Rattle.dm_rows.specs.Reach.{Reaches};
 
@@ -7,7 +7,6 @@ use crate::kinds::Kind;
 use dm_base::{Cost, Steps};
 use dm_graph::search::Cyclic;
 use dm_network::Network;
-use dm_places::PlaceSet;
 use dm_propagate::Engine;
 use dm_rows::{Change, Message, admit};
 use dm_samples::{Failure, rows_on_time};
@@ -19,32 +18,29 @@ use std::sync::ledger::{Blank, Ledger};
 /// Seconds for each passenger.
 const PENALTY: u64 = 3_600;
 
-/// An engine with its network, and room to note the events whose times a change moves.
+/// An engine with its network.
 #[derive(Drop)]
 struct Day<'n> {
     net: &'n Network,
     engine: Engine,
-    moved: PlaceSet,
 }
 
 impl<'n> Model for Day<'n> {
-    ghost use Rattle.std.specs.Prelude.{◌≡◌, length};
     ghost use Rattle.dm_propagate.specs.Engine.{EngineValue, IsEngineOf};
 
     ghost Value = { EngineValue };
 
     ghost view = { λ day. day.engine };
 
-    ghost invariant = { λ day. IsEngineOf day.net.now day.engine × (length day.moved.flags ≡ length day.net.now.events) };
+    ghost invariant = { λ day. IsEngineOf day.net.now day.engine };
 }
 
 impl<'n> Day<'n> {
     /// The day on time.
     fn new(alloc: Global, net: &'n Network) -> Result<Day<'n>, Failure> {
         let rows = rows_on_time(alloc, net)?;
-        let moved = PlaceSet::new(alloc, net.events())?;
         match Engine::new(alloc, net, rows) {
-            Ok(engine) => Ok(Day { net, engine, moved }),
+            Ok(engine) => Ok(Day { net, engine }),
             Err(_) => Err(Failure::NoDay),
         }
     }
@@ -53,9 +49,7 @@ impl<'n> Day<'n> {
     fn change(&mut self, alloc: Global, message: &Message) -> bool {
         match admit(alloc, self.net, self.engine.rows(), message) {
             Ok(change) => {
-                self.moved.clear();
-                let (engine, moved) = (&mut self.engine, &mut self.moved);
-                update::<Brand>(engine, self.net, &change, moved, Blank::new(1)).is_ok()
+                update::<Brand>(&mut self.engine, self.net, &change, Blank::new(1)).is_ok()
             }
             Err(_) => false,
         }
@@ -82,7 +76,6 @@ fn update<L: Ledger>(
     engine: &mut Engine,
     net: &Network,
     change: &Change,
-    moved: &mut PlaceSet,
     blank: Blank,
 ) -> Result<(), Cyclic>
     requires engine { IsEngineOf net.now engine.old }
@@ -90,12 +83,10 @@ fn update<L: Ledger>(
     requires name { blank.name ≡ L.name }
     requires parts { blank.parts ≡ L.parts }
     requires has_a_part { 0 < blank.parts }
-    requires noted { length moved.old.flags ≡ length net.now.events }
-    ensures engine { IsEngineOf net.now engine.new }
-    ensures noted { length moved.new.flags ≡ length net.now.events }
+    ensures { IsEngineOf net.now engine.new }
 {
     let mut steps = Steps::<L>::new(blank);
-    engine.update(net, change, moved, &mut steps)
+    engine.update(net, change, &mut steps)
 }
 
 /// What the day costs after so many changes of a kind, or of each kind in turn, there and back, and after the last train is late

@@ -31,6 +31,17 @@ kept_is_table net start penalty history engine entries decisions known kept =
       least = engine_least net engine known kept.is_engine;
     }
 
+-- an engine of the same rows is kept too
+pub kept_still : (net : Net) (start : RowsValue) (penalty : ℕ) (history : List Entry) (engine now : EngineValue) → IsKept net start penalty history engine →
+    now.rows ≡ engine.rows → IsEngineOf net now → IsKept net start penalty history now
+kept_still net start penalty history engine now kept same is = record {
+  sized = kept.sized;
+  within = kept.within;
+  legal = kept.legal;
+  replayed = same ∙ kept.replayed;
+  is_engine = is;
+}
+
 -- the rows at the entries before the last
 pub rows_before : (net : Net) (start : RowsValue) (history : List Entry) (entry : Entry) (n : ℕ) → n ≤ length history →
     rows_at net start (history ++ entry ∷ []) n ≡ rows_at net start history n

@@ -16,27 +16,24 @@ use dm_base::Steps;
 use dm_base::limits::ENTRIES;
 use dm_graph::search::Cyclic;
 use dm_network::Network;
-use dm_places::PlaceSet;
 use dm_propagate::Engine;
 use dm_rows::{Change, Decision, Flip, Message, Refusal, admit};
 use std::alloc::Global;
 use std::sync::ledger::Ledger;
 
 /// Makes the change of a message that comes at a history of so many entries, or says why it is refused: then the engine's
-/// rows and times are as before. Events whose times move are noted. The flips of an adopted list stand meanwhile in room that was
-/// made for them.
+/// rows and times are as before. The engine notes the events whose times move. The flips of an adopted list stand meanwhile in
+/// room that was made for them.
 pub fn enter<L: Ledger>(
     alloc: Global,
     net: &Network,
     engine: &mut Engine,
-    moved: &mut PlaceSet,
     flips: &mut Vec<Flip>,
     entries: u32,
     message: &Message,
     steps: &mut Steps<L>,
 ) -> Result<(), Refusal>
     requires engine { IsEngineOf net.now engine.old }
-    requires noted { length moved.old.flags ≡ length net.now.events }
     requires few { entries ≤ MOST }
     requires empty { flips.old.items ≡ [] }
     requires room { decisions_in message.now ≤ vec_capacity flips.old }
@@ -47,20 +44,19 @@ pub fn enter<L: Ledger>(
     ensures accepted { OnOk result (IsAccepted net.now engine.old.rows entries message.now) }
     ensures unmoved { OnErr result (IsUnmoved engine.old engine.new) }
     ensures refused { IfErr result (RefusesPost net.now engine.old.rows entries message.now) }
-    ensures moved { TakesInMoved moved.old.flags moved.new.flags (times_of engine.old) (times_of engine.new) }
+    ensures moved { TakesInMoved engine.old.moved.flags engine.new.moved.flags (times_of engine.old) (times_of engine.new) }
 {
     match message {
         Message::Adopt(decisions) => enter_list(
             alloc,
             net,
             engine,
-            moved,
             flips,
             entries,
             decisions.as_slice(),
             steps,
         ),
-        _ => enter_one(alloc, net, engine, moved, entries, message, steps),
+        _ => enter_one(alloc, net, engine, entries, message, steps),
     }
 }
 
@@ -69,13 +65,11 @@ fn enter_one<L: Ledger>(
     alloc: Global,
     net: &Network,
     engine: &mut Engine,
-    moved: &mut PlaceSet,
     entries: u32,
     message: &Message,
     steps: &mut Steps<L>,
 ) -> Result<(), Refusal>
     requires engine { IsEngineOf net.now engine.old }
-    requires noted { length moved.old.flags ≡ length net.now.events }
     requires few { entries ≤ MOST }
     requires no_list { IsAdopt message.now → ⊥ }
     ensures engine { IsEngineOf net.now engine.new }
@@ -83,13 +77,13 @@ fn enter_one<L: Ledger>(
     ensures accepted { OnOk result (IsAccepted net.now engine.old.rows entries message.now) }
     ensures unmoved { OnErr result (IsUnmoved engine.old engine.new) }
     ensures refused { IfErr result (RefusesPost net.now engine.old.rows entries message.now) }
-    ensures moved { TakesInMoved moved.old.flags moved.new.flags (times_of engine.old) (times_of engine.new) }
+    ensures moved { TakesInMoved engine.old.moved.flags engine.new.moved.flags (times_of engine.old) (times_of engine.new) }
 {
     let change = match admit(alloc, net, engine.rows(), message) {
         Ok(change) => change,
         Err(refusal) => return Err(refusal),
     };
-    let outcome = try_change(net, engine, moved, entries, &change, steps);
+    let outcome = try_change(net, engine, entries, &change, steps);
     answer(alloc, net, engine.last_cycle(), outcome, entries)
 }
 
@@ -98,14 +92,12 @@ fn enter_list<L: Ledger>(
     alloc: Global,
     net: &Network,
     engine: &mut Engine,
-    moved: &mut PlaceSet,
     flips: &mut Vec<Flip>,
     entries: u32,
     decisions: &[Decision],
     steps: &mut Steps<L>,
 ) -> Result<(), Refusal>
     requires engine { IsEngineOf net.now engine.old }
-    requires noted { length moved.old.flags ≡ length net.now.events }
     requires few { entries ≤ MOST }
     requires empty { flips.old.items ≡ [] }
     requires room { length decisions.now ≤ vec_capacity flips.old }
@@ -116,11 +108,11 @@ fn enter_list<L: Ledger>(
     ensures accepted { OnOk result (IsAccepted net.now engine.old.rows entries (Message.Adopt decisions.now)) }
     ensures unmoved { OnErr result (IsUnmoved engine.old engine.new) }
     ensures refused { IfErr result (RefusesPost net.now engine.old.rows entries (Message.Adopt decisions.now)) }
-    ensures moved { TakesInMoved moved.old.flags moved.new.flags (times_of engine.old) (times_of engine.new) }
+    ensures moved { TakesInMoved engine.old.moved.flags engine.new.moved.flags (times_of engine.old) (times_of engine.new) }
 {
     match resolve(net, engine.rows(), decisions, flips) {
         Ok(()) => {
-            let outcome = try_flips(net, engine, moved, entries, flips, steps);
+            let outcome = try_flips(net, engine, entries, flips, steps);
             flips.clear();
             answer(alloc, net, engine.last_cycle(), outcome, entries)
         }
@@ -135,19 +127,17 @@ fn enter_list<L: Ledger>(
 fn try_change<L: Ledger>(
     net: &Network,
     engine: &mut Engine,
-    moved: &mut PlaceSet,
     entries: u32,
     change: &Change,
     steps: &mut Steps<L>,
 ) -> Result<(), Cyclic>
     requires engine { IsEngineOf net.now engine.old }
-    requires noted { length moved.old.flags ≡ length net.now.events }
     requires reaches { Reaches engine.old.rows change.now }
     ensures tried { HasTried net.now entries (after_change engine.old.rows change.now) engine.old engine.new result }
-    ensures moved { TakesInMoved moved.old.flags moved.new.flags (times_of engine.old) (times_of engine.new) }
+    ensures moved { TakesInMoved engine.old.moved.flags engine.new.moved.flags (times_of engine.old) (times_of engine.new) }
 {
     if entries < ENTRIES {
-        engine.update(net, change, moved, steps)
+        engine.update(net, change, steps)
     } else {
         engine.try_update(net, change, steps)
     }
@@ -157,19 +147,17 @@ fn try_change<L: Ledger>(
 fn try_flips<L: Ledger>(
     net: &Network,
     engine: &mut Engine,
-    moved: &mut PlaceSet,
     entries: u32,
     flips: &[Flip],
     steps: &mut Steps<L>,
 ) -> Result<(), Cyclic>
     requires engine { IsEngineOf net.now engine.old }
-    requires noted { length moved.old.flags ≡ length net.now.events }
     requires reach { All (ReachesFlip engine.old.rows) flips.now }
     ensures tried { HasTried net.now entries (fold after_flip engine.old.rows flips.now) engine.old engine.new result }
-    ensures moved { TakesInMoved moved.old.flags moved.new.flags (times_of engine.old) (times_of engine.new) }
+    ensures moved { TakesInMoved engine.old.moved.flags engine.new.moved.flags (times_of engine.old) (times_of engine.new) }
 {
     if entries < ENTRIES {
-        engine.adopt(net, flips, moved, steps)
+        engine.adopt(net, flips, steps)
     } else {
         engine.try_adopt(net, flips, steps)
     }

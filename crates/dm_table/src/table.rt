@@ -18,7 +18,6 @@ use crate::following::follow;
 use dm_base::{Cost, EventId, Secs, Steps};
 use dm_history::History;
 use dm_network::Network;
-use dm_places::PlaceSet;
 use dm_propagate::Engine;
 use dm_rows::{Entry, Flip, Message, Refusal, Rows, Snapshot};
 use dm_settle::{NoTimes, Times};
@@ -36,8 +35,7 @@ pub struct Table<'n> {
     history: History,
     engine: Engine,
 
-    /// The events whose times are not those after the first `since` entries, and maybe others.
-    moved: PlaceSet,
+    /// The engine has noted the events whose times are not those after so many first entries.
     since: u32,
 
     /// Room for the decisions of an adopted list. Between calls it is empty.
@@ -68,7 +66,7 @@ impl<'n> Model for Table<'n> {
     } };
 
     ghost invariant = { λ t. IsKept t.net.now t.start t.penalty t.history.entries t.engine
-        × AreNoted t.net.now t.start t.history.entries t.since t.moved.flags (times_of t.engine)
+        × AreNoted t.net.now t.start t.history.entries t.since t.engine.moved.flags (times_of t.engine)
         × (t.flips.items ≡ []) × (t.room ≤ vec_capacity t.flips) };
 }
 
@@ -97,7 +95,6 @@ impl<'n> Table<'n> {
             Ok(engine) => engine,
             Err(no_times) => return Err(no_times),
         };
-        let moved = PlaceSet::new(alloc, net.events())?;
         Ok(Table {
             alloc,
             net,
@@ -105,7 +102,6 @@ impl<'n> Table<'n> {
             penalty,
             history: History::new(alloc),
             engine,
-            moved,
             since: 0,
             flips: Vec::new(alloc),
             room: 0,
@@ -158,7 +154,6 @@ impl<'n> Table<'n> {
             self.alloc,
             self.net,
             &mut self.engine,
-            &mut self.moved,
             &mut self.flips,
             entries,
             &entry.message,
@@ -220,17 +215,17 @@ impl<'n> Table<'n> {
         ensures room { vec_capacity listed.old ≤ vec_capacity listed.new }
     {
         self.net.sound();
-        self.moved.sound();
+        self.engine.moved().sound();
         listed.clear();
         follow(
             self.engine.times(),
-            self.moved.places(),
+            self.engine.moved().places(),
             shown == self.since,
             into,
             listed,
         );
         let now = self.history.len();
-        self.moved.clear();
+        self.engine.forget_moved();
         self.since = now;
     }
 

@@ -1,4 +1,4 @@
-use Rattle.std.proofs.Common.{rules, ◌≡◌, List, [], replicate, false, refl, ◌∙◌, ap, sym, subst, arith}
+use Rattle.std.proofs.Common.{rules, ◌≡◌, List, [], refl, ◌∙◌, ap, sym, subst, arith}
 use Rattle.dm_history.specs.Value.{HistoryValue}
 use Rattle.dm_places.specs.Places.{PlaceSetValue}
 use Rattle.dm_propagate.specs.Engine.{times_of}
@@ -11,12 +11,12 @@ use Rattle.dm_table.proofs.table.Table.new.Goals as goal
 
 pub invariant_of-result : goal.invariant_of-result
 invariant_of-result c =
-    let none : c.new-3.result.entries ≡ [] = ap (λ (h : HistoryValue). h.entries) c.new-3.ensures in (
+    let none : c.new-2.result.entries ≡ [] = ap (λ (h : HistoryValue). h.entries) c.new-2.ensures in (
       search rules,
-      subst (λ (h : List Entry). AreNoted c.args.net.now c.args.start h 0 c.in_ok-moved.moved.flags (times_of c.in-Ok.engine)) (sym none)
-          (noted_anew c.args.net.now c.args.start c.args.start [] 0 c.in_ok-moved.moved.flags (times_of c.in-Ok.engine) (omega arith) refl
+      subst (λ (h : List Entry). AreNoted c.args.net.now c.args.start h 0 c.in-Ok.engine.moved.flags (times_of c.in-Ok.engine)) (sym none)
+          (noted_anew c.args.net.now c.args.start c.args.start [] 0 c.in-Ok.engine.moved.flags (times_of c.in-Ok.engine) (omega arith) refl
           (subst (λ (rows : RowsValue). IsLeast c.args.net.now rows (times_of c.in-Ok.engine)) c.in_ok-rows.ensures.same c.in-Ok.ensures.least)
-          (ap (λ (s : PlaceSetValue). s.flags) c.in_ok-moved.ensures ∙ ap (λ n. replicate n false) c.events.ensures.count)),
+          (ap (λ (s : PlaceSetValue). s.flags) c.in-Ok.ensures.moved)),
       search rules,
       search rules,
     )
