@@ -38,8 +38,8 @@ pub struct AnsweredDay<'n> {
 }
 
 /// Answers feeds over a server of these rows, at a penalty in seconds for each passenger, until each has ended, in rounds of so
-/// many lines a feed. In a round each feed that has not ended is answered in a thread of its own, or, where none can be made,
-/// by the caller's. A feed that could not be opened is `None`. Boards are shown the times before the first round, and after each
+/// many lines a feed. In a round each feed has a thread of its own where two or more are still read and one can be made; else the
+/// caller answers it. A feed that could not be opened is `None`. Boards are shown the times before the first round, and after each
 /// round those that have moved. Want of memory may come at any point up to the end of the last round.
 pub fn answer_at_once<
     'n,

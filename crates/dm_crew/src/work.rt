@@ -1,4 +1,4 @@
-//! One feed's part of a round.
+//! The feeds' parts of a round.
 
 ghost use Rattle.std.specs.Prelude.{◌≡◌, false, Some, All, vec_len, IfOk, count_by};
 ghost use Rattle.dm_desk.specs.Planning.{PlansUnder};
@@ -30,7 +30,7 @@ pub struct Work<'n, S> {
 }
 
 impl<'n, S: Source + Drop> Work<'n, S> {
-    /// Answers the feed's next lines over its pass.
+    /// Answers the feed's next lines over its pass, and leaves the server to the others.
     pub fn worked<P: Seat, R: Wait, L: Planner, H: Hold>(
         self,
         rt: &R,
@@ -53,6 +53,7 @@ impl<'n, S: Source + Drop> Work<'n, S> {
         let (pass, answer) = answer_seated::<Brand, R, S, L, H>(
             rt, server, pass, &mut job, planner, gate, feed, batch,
         );
+        server.rest();
         Work {
             pass,
             job,

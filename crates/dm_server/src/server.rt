@@ -83,6 +83,12 @@ impl<'n> Server<'n> {
         Ok((Server { alloc, turn }, pass))
     }
 
+    /// Wakes one of those that stand back for a caller, which will not use the server for a while. Nothing that the server tells
+    /// depends on it.
+    pub fn rest(&self) {
+        self.turn.rest();
+    }
+
     /// A new pass, which has seen as much, with one of the pass's rooms.
     pub fn split(&self, pass: &mut Pass<Kept<'n>>) -> Pass<Kept<'n>>
         requires turn { pass.old.turn ≡ self.now.id }
@@ -245,7 +251,7 @@ impl<'n> Server<'n> {
         entry
     }
 
-    /// How many entries there are, and rows equal to those after them.
+    /// How many entries there are, and rows equal to those after them. `Err` is want of memory alone.
     pub fn snapshot<R: Wait>(
         &self,
         rt: &R,

@@ -22,7 +22,7 @@ const LOW_BITS: u64 = 0xffff_ffff;
 // How often a caller stands back at most, and for how many microseconds each time.
 const PATIENCE: usize = 16;
 
-const SHORT_WHILE: u64 = 50;
+const SHORT_WHILE: u64 = 500;
 
 /// Looks at a word.
 fn glance<S: HasHistory>(desk: &Desk<S>, seat: &mut Place<S>, word: usize) -> u64
@@ -34,8 +34,8 @@ fn glance<S: HasHistory>(desk: &Desk<S>, seat: &mut Place<S>, word: usize) -> u6
     desk.load::<Glance>(seat, word)
 }
 
-/// Stands back for some short whiles, as long as there is a queue. Who draws a ticket behind others must be woken for it, which
-/// takes longer than what most callers do with the state.
+/// Stands back for some short whiles, as long as there is a queue, each while up to when somebody rests. Who draws a ticket behind
+/// others must be woken for it, which takes longer than what most callers do with the state.
 pub fn stand_back<S: HasHistory, R: Wait>(rt: &R, desk: &Desk<S>, seat: &mut Place<S>)
     requires seat { IsSeatOf desk.now.table_id seat.old }
     ensures same { IsSameSeat seat.old seat.new }

@@ -6,7 +6,9 @@ ghost use Rattle.dm_turn.specs.Passes.{numbered, longer, AreEntriesOf, AreAllAbo
 
 use crate::rule::{About, Cut, Glue, Lock, Settle};
 use crate::state::HasHistory;
-use crate::steps::{COUNT, await_turn, count, draw, put_back, serve, stand_back, take_out};
+use crate::steps::{
+    COUNT, SERVING, await_turn, count, draw, put_back, serve, stand_back, take_out,
+};
 use crate::view::View;
 use atomic_table::{Refused, Seat, Table};
 use std::alloc::{AllocError, Global};
@@ -149,6 +151,12 @@ impl<S: HasHistory> Turn<S> {
         let Held { state } = held;
         put_back(desk, &mut pass.seat, state);
         serve(desk, &mut pass.seat);
+    }
+
+    /// Wakes one of the callers that stand back, which looks at the queue again. Whoever will not take the state for a while calls
+    /// it, so that nobody sleeps while the state is free. Nothing that passes tell depends on it.
+    pub fn rest(&self) {
+        self.table.shared.wake_one(SERVING);
     }
 
     /// Ends the turn once all other passes were joined, and gives the state back.

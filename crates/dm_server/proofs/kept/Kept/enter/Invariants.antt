@@ -1,4 +1,4 @@
-use Rattle.dm_server.proofs.holding.enter.Given as goal
+use Rattle.dm_server.proofs.kept.Kept.enter.Given as goal
 
 abbrev pub ghosts-post_with : goal.ghosts-post_with
 ghosts-post_with a = record { name = a.blank.name; parts = a.blank.parts }
