@@ -3,10 +3,11 @@ ghost use Rattle.std.specs.Prelude.{◌≤◌};
 ghost use Rattle.dm_base.specs.declared.limits.TheConstants.{PENALTY, BUDGET};
 ghost use Rattle.dm_rows.specs.Rows.{IsSized};
 
-use crate::relaxed::{CHANGE, DROP, TURNED, connection, late_rows};
+use crate::relaxed::{CHANGE, DROP, TURNED, connection, decides_one_of, late_rows};
+use dm_base::{Cost, Items};
 use dm_network::Network;
-use dm_rows::{Decision, Snapshot};
-use dm_search::plan;
+use dm_rows::{Decision, Snapshot, free_choices};
+use dm_search::{Outcome, plan, step};
 use dm_times::least;
 use dm_tree::{Mark, Node, Plan};
 use std::alloc::Global;
@@ -79,5 +80,37 @@ fn worked_plans(rt: HostRuntime) -> Result<(), Fail> {
         assert_eq!(rt; plan.choices.as_slice(), choices);
         assert_eq!(rt; plan.tree.as_slice(), nodes);
     }
+    Ok(())
+}
+
+/// What a search does with a path of one decision of a free choice.
+fn step_behind(
+    alloc: Global,
+    net: &Network,
+    snapshot: &Snapshot,
+    decision: Decision,
+    best: Cost,
+) -> Result<Outcome, Fail>
+    requires { IsSized net.now snapshot.now.rows }
+{
+    let free = free_choices(alloc, net, &snapshot.rows)?;
+    if !decides_one_of(&free, decision) {
+        return Err(Fail::from("not free"));
+    }
+    Ok(step(alloc, net, 10, snapshot, &[decision], best)?)
+}
+
+#[test]
+fn worked_steps(rt: HostRuntime) -> Result<(), Fail> {
+    let net = connection(rt.alloc())?;
+    let rows = late_rows(rt.alloc(), &net)?;
+    let snapshot = Snapshot { entry: 1, rows };
+    let pruned = step(rt.alloc(), &net, 10, &snapshot, &[], 900_000)?;
+    assert!(rt; pruned == Outcome::Pruned(900_000));
+    let open = step(rt.alloc(), &net, 10, &snapshot, &[], 900_001)?;
+    assert!(rt; open == Outcome::Branch(900_000, CHANGE));
+    let better = Items::from_vec(vec![in rt.alloc(); DROP, TURNED]?);
+    let solved = step_behind(rt.alloc(), &net, &snapshot, DROP, 1_075_000)?;
+    assert!(rt; solved == Outcome::Solved(940_000, better));
     Ok(())
 }

@@ -107,7 +107,7 @@ pub(crate) fn late_rows(alloc: Global, net: &Network) -> Result<Rows, Fail>
 }
 
 /// Whether the decision decides one of these choices.
-fn decides_one_of(free: &[Choice], decision: Decision) -> bool
+pub(crate) fn decides_one_of(free: &[Choice], decision: Decision) -> bool
     ensures { IsTrue result → Contains free.now (choice_of decision) }
 {
     is_one_of(free, choice_of(decision))

@@ -1,6 +1,6 @@
 //! Two feeds of a thousand delays each.
 
-use crate::runs::run;
+use crate::runs::{check, run};
 use dm_outside::OpenGate;
 use dm_program::Status;
 use std::alloc::{AllocError, Global};
@@ -25,7 +25,8 @@ pub fn feed_of_delays(alloc: Global, rises: bool) -> Result<String, AllocError> 
     Ok(text)
 }
 
-/// Whether a run of two feeds of delays has an entry for each line, and names each entry once in a log.
+/// Whether a run of two feeds of delays has an entry for each line, names each entry once in a log, and has a text that a check
+/// finds good.
 pub fn both_feeds_are_heard<R: Threads + Wait + Sync + AllocGlobal>(
     rt: &R,
     first: &[u8],
@@ -38,7 +39,20 @@ pub fn both_feeds_are_heard<R: Threads + Wait + Sync + AllocGlobal>(
     };
     let logged = name_entries(text, &mut named);
     let has_all = text.lines().any(|line| line == "entries 2000");
-    Ok(status == Status::Ok && has_all && logged == ENTRIES && named.iter().all(|is| *is))
+    let is_heard = status == Status::Ok
+        && has_all
+        && logged == ENTRIES
+        && named.iter().all(|is| *is);
+    Ok(is_heard && is_good(rt, &bytes)?)
+}
+
+/// Whether a check finds a text good, with all the entries and no plan.
+fn is_good<R: Threads + Wait + Sync + AllocGlobal>(
+    rt: &R,
+    text: &[u8],
+) -> Result<bool, AllocError> {
+    let (status, verdict) = check(rt, text)?;
+    Ok(status == Status::Ok && verdict.as_slice() == b"good 2000 0\n".as_slice())
 }
 
 /// Marks the entries that the lines of logs name, and counts these lines.

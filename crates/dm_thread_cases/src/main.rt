@@ -1,9 +1,9 @@
 //! Feeds that threads answer at once.
 //!
-//! Two feeds of a thousand delays each are run twenty times, two feeds wait for each other at the gate, and each write of the
-//! text of two feeds fails in turn. What is due was worked out by hand, and holds however the threads take turns. For each case
-//! it prints `NAME ok`, or after how many runs it came out otherwise. It stands on dm_program for what it tries, and promises
-//! nothing.
+//! Two feeds of a thousand delays each are run twenty times, and each text is checked; two feeds wait for each other at the gate;
+//! and each write of the text of two feeds fails in turn. What is due was worked out by hand, and holds however the threads take
+//! turns. For each case it prints `NAME ok`, or after how many runs it came out otherwise. It stands on dm_program for what it
+//! tries, and promises nothing.
 #![tactic(auto)]
 
 mod delays;

@@ -1,6 +1,6 @@
-//! Runs of two feeds on a connection at one station.
+//! Runs of two feeds on a connection at one station, and checks of their texts.
 
-use dm_outside::{Gate, MemFile, MemShelf, MemSink};
+use dm_outside::{Gate, MemFile, MemShelf, MemSink, OpenGate};
 use dm_program::{Status, dispatch};
 use std::alloc::{AllocError, Global};
 use std::str::FromStr;
@@ -17,14 +17,16 @@ const EVENTS: &[u8] =
 const ACTIVITIES: &[u8] =
     b"1; 1; \"drive\"; 1; 2; 90; 100; 10\n2; 2; \"wait\"; 2; 3; 10; 30; 10\n3; 3; \"drive\"; 3; 4; 80; 100; 10\n4; 4; \"drive\"; 5; 6; 95; 110; 5\n5; 5; \"change\"; 2; 5; 20; 79; 4\n6; 6; \"headway\"; 3; 5; 8; 60; 0\n7; 7; \"headway\"; 5; 3; 8; 60; 0\n";
 
-const WORDS: [&str; 5] = ["run", "net", "--penalty=10", "f", "g"];
+const RUN: &[&str] = &["run", "net", "--penalty=10", "f", "g"];
 
-fn words(alloc: Global) -> Result<Vec<String>, AllocError> {
-    let mut words = Vec::new(alloc);
-    for word in &WORDS {
-        words.push(String::from_str(alloc, word)?)?;
+const CHECK: &[&str] = &["check", "net", "--penalty=10", "t"];
+
+fn texts(alloc: Global, words: &[&str]) -> Result<Vec<String>, AllocError> {
+    let mut texts = Vec::new(alloc);
+    for word in words {
+        texts.push(String::from_str(alloc, word)?)?;
     }
-    Ok(words)
+    Ok(texts)
 }
 
 /// How many bytes a read gives at most.
@@ -76,17 +78,48 @@ pub fn run_into<'f, R: Threads + Wait + Sync + AllocGlobal, G: Gate>(
         },
     ];
     let mut shelf = MemShelf::new(&files, &[]);
-    run_over(rt, &mut shelf, gate, sink)
+    run_over(rt, RUN, &mut shelf, gate, sink)
+}
+
+/// Checks the text of a run, and gives the status and the verdict.
+pub fn check<R: Threads + Wait + Sync + AllocGlobal>(
+    rt: &R,
+    text: &[u8],
+) -> Result<(Status, Vec<u8>), AllocError> {
+    let files = [
+        MemFile {
+            name: "net/Events-expanded.giv",
+            bytes: EVENTS,
+            piece: PIECE,
+            fails: &[],
+        },
+        MemFile {
+            name: "net/Activities-expanded.giv",
+            bytes: ACTIVITIES,
+            piece: PIECE,
+            fails: &[],
+        },
+        MemFile {
+            name: "t",
+            bytes: text,
+            piece: PIECE,
+            fails: &[],
+        },
+    ];
+    let sink = MemSink::new(rt.alloc(), ROOM, ROOM, Vec::new(rt.alloc()))?;
+    let mut shelf = MemShelf::new(&files, &[]);
+    run_over(rt, CHECK, &mut shelf, &OpenGate, sink)
 }
 
 fn run_over<R: Threads + Wait + Sync + AllocGlobal, G: Gate>(
     rt: &R,
+    words: &[&str],
     shelf: &mut MemShelf<'_>,
     gate: &G,
     mut sink: MemSink,
 ) -> Result<(Status, Vec<u8>), AllocError> {
     let alloc = rt.alloc();
-    let words = words(alloc)?;
+    let words = texts(alloc, words)?;
     let mut boards = Vec::new(alloc);
     let status = dispatch(
         rt,
