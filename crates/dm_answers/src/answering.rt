@@ -28,7 +28,8 @@ fn is_true_of_read(journal: &Journal<'_>, feed: u32, line: u32, answer: &Answer)
     }
 }
 
-/// Whether an answer of one line to a feed's line is true, behind what stands before it in the feed's log.
+/// Whether an answer of one line to a feed's line is true, behind what stands before it in the feed's log. `Err` is want of
+/// memory alone.
 pub fn is_true_answer(
     alloc: Global,
     journal: &Journal<'_>,

@@ -14,7 +14,7 @@ pub struct Replay {
 }
 
 impl Replay {
-    /// The rows before the first entry.
+    /// The rows before the first entry. `Err` is want of memory alone.
     pub fn new(alloc: Global, journal: &Journal<'_>) -> Result<Replay, AllocError>
         requires { IsJournal journal.now }
         ensures { IfOk result (IsReplay journal.now) }

@@ -185,7 +185,8 @@ fn tree_from_nodes(alloc: Global, lines: &mut Lines, size: u128) -> Result<Tree,
     }
 }
 
-/// The tree of a plan in a version, whose lines are so many leaves or nodes.
+/// The tree of a plan in a version, whose lines are so many leaves or nodes. `Err` tells the first line that is cut or misshapen,
+/// or that the lines show no whole tree, or want of memory.
 pub fn read_tree(
     alloc: Global,
     version: u32,

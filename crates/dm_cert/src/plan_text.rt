@@ -148,7 +148,8 @@ fn put_nodes<K: Sink>(sink: &mut K, page: &mut Page, nodes: &[Node]) -> Result<(
     Ok(())
 }
 
-/// Prints the one spelling of the plan in version 2, behind all that was printed through the page before.
+/// Prints the one spelling of the plan in version 2, behind all that was printed through the page before. A write fault comes only
+/// where a write failed.
 pub fn put_plan<K: Sink>(sink: &mut K, page: &mut Page, plan: &Plan) -> Result<(), WriteFault>
     ensures text { Prints K.taken K.faults sink.old sink.new page.old page.new result (spelling_of_plan 2 plan.now) }
     ensures fits { OnOk result (FitsPlan plan.now) }

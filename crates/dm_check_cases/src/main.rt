@@ -6,6 +6,9 @@
 //! for each byte in a file under `bytes`. For each case it prints `NAME ok`, or what is told of the
 //! text instead.
 //!
+//! It stands on dm_check for what it tries, and on dm_words and dm_input for the network and the start rows of a case. It promises
+//! nothing.
+//!
 //! What is due comes from the rules of run texts, worked out by hand; the files under `bytes` come from `bench/judge.py`, a
 //! reading of these rules in another language.
 #![tactic(auto)]

@@ -55,7 +55,7 @@ impl Model for Disposition {
 }
 
 impl Disposition {
-    /// Rows that no message has changed yet.
+    /// Rows that no message has changed yet. `Err` is want of memory alone.
     pub fn new(alloc: Global, net: &Network, rows: Rows) -> Result<Disposition, AllocError>
         requires { IsSized net.now rows }
         ensures stands { IfOk result (IsDispositionOf net.now) }

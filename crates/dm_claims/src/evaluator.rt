@@ -37,7 +37,7 @@ impl Model for Evaluator {
 }
 
 impl Evaluator {
-    /// Room for a network.
+    /// Room for a network. `Err` is want of memory alone.
     pub fn new(alloc: Global, net: &Network) -> Result<Evaluator, AllocError>
         ensures { IfOk result (IsRoomFor net.now) }
     {

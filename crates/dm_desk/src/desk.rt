@@ -33,7 +33,7 @@ pub trait Desk {
     fn length(&mut self) -> u32
         ensures { TellsLength (value self.old) (value self.new) result };
 
-    /// How many entries there are, and rows equal to those after them.
+    /// How many entries there are, and rows equal to those after them. `Err` is want of memory alone.
     fn snapshot(&mut self) -> Result<Snapshot, AllocError>
         ensures { IfOk result (IsCopied (value self.old) (value self.new)) };
 

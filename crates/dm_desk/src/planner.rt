@@ -17,7 +17,7 @@ pub trait Planner {
     /// The network and the penalty that plans are for.
     ghost value: { Self → PlannerValue };
 
-    /// A true plan of the rows of a snapshot, at its entry, with a tree of at most so many nodes.
+    /// A true plan of the rows of a snapshot, at its entry, with a tree of at most so many nodes. `Err` is want of memory alone.
     fn plan(&self, snapshot: &Snapshot, budget: u64) -> Result<Plan, AllocError>
         requires sized { IsSized (value self.now).net snapshot.now.rows }
         requires no_cycle { HasNoCycle (value self.now).net snapshot.now.rows }

@@ -87,7 +87,8 @@ fn put_adopted<K: Sink>(
     put_decisions(sink, page, decisions)
 }
 
-/// Prints the one spelling of the message behind all that was printed through the page before.
+/// Prints the one spelling of the message behind all that was printed through the page before. A write fault comes only where a
+/// write failed.
 #[tactic(auto, unfolding(crate::specs::Lines::spelling_of_message))]
 pub fn put_message<K: Sink>(
     sink: &mut K,
@@ -115,7 +116,8 @@ pub fn put_message<K: Sink>(
     }
 }
 
-/// Prints the one spelling of the line, without an end, behind all that was printed through the page before.
+/// Prints the one spelling of the line, without an end, behind all that was printed through the page before. A write fault comes
+/// only where a write failed.
 #[tactic(auto, unfolding(crate::specs::Lines::spelling_of_line, crate::specs::Lines::spelling_of_message))]
 pub fn put_line<K: Sink>(sink: &mut K, page: &mut Page, line: &Line) -> Result<(), WriteFault>
     requires { IsSpelledLine line.now }

@@ -261,7 +261,7 @@ pub fn put_refused<K: Sink>(
     page.finish(sink)
 }
 
-/// Puts the line of what could not be read.
+/// Puts the line of what could not be read. A write fault comes only where a write failed.
 pub fn put_read_fault<K: Sink>(
     sink: &mut K,
     words: &FileWords<'_>,
@@ -276,7 +276,7 @@ pub fn put_read_fault<K: Sink>(
     page.finish(sink)
 }
 
-/// Puts the usage line.
+/// Puts the usage line. A write fault comes only where a write failed.
 pub fn put_usage<K: Sink>(sink: &mut K) -> Result<(), WriteFault>
     ensures { Puts K.taken K.faults sink.old sink.new result usage_line }
 {

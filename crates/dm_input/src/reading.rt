@@ -55,7 +55,8 @@ impl FileRow for DelayRow {
     }
 }
 
-/// Takes all the bytes under a name, if they are at most `limit`.
+/// Takes all the bytes under a name, if they are at most `limit`. `ReadFault` comes only where the name could not be opened or a
+/// read failed, `TooLong` only where there are more bytes; else `Err` is want of memory.
 pub fn take_name<H: Shelf>(
     alloc: Global,
     shelf: &mut H,

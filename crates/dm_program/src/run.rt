@@ -73,8 +73,9 @@ pub fn run_feeds<R: Threads + Wait + Sync, H: Shelf, K: Sink, G: Hold + Sync>(
     }
 }
 
-/// Answers feeds over a network in rounds, from the rows before any message, each feed of a round in a thread of its own.
-/// Boards are shown the times before the first round and after each.
+/// Answers feeds over a network in rounds, from the rows before any message. In a round each feed has a thread of its own where
+/// two or more are still read and one can be made; else the caller answers it. Boards are shown the times before the first round
+/// and after each.
 pub fn answer_run<'n, R: Threads + Wait + Sync, S: Source + Send + Drop, H: Hold + Sync>(
     rt: &R,
     alloc: Global,

@@ -41,7 +41,7 @@ pub fn dispatch<R: Threads + Wait + Sync, H: Shelf, K: Sink, G: Gate>(
 
     // The text is that of a run whose journal, logs, notes, times and cost are true, and whose feeds all ended well, or the
     // summary of a generated day, or the verdict that a text is good. Each board that no note names shows the final times of its
-    // stop. At every end without a run the boards are as before.
+    // stop. At every end without a run, but for want of memory, the boards are as before.
     ensures headline { result ≡ Status.Ok → Writes (K.taken out.old) (K.taken out.new) (IsDue (H.files shelf.old) (H.is_sound shelf.old) (EndBoards place times (λ b. (Board-box b).faults b.value) (λ b. (Board-box b).is_sound b.value) boards.old.items boards.new.items) (map string_bytes words.now) Status.Ok) }
 
     // Each other status has its cause. That a text is bad comes with the first record that breaks its rule. Where a feed alone is

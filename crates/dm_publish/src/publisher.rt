@@ -39,6 +39,7 @@ impl Model for Publisher {
 
 impl Publisher {
     /// A publisher for so many boards, at most 64, that show times of this network. It makes all the room that it needs.
+    /// `Err` is want of memory alone.
     pub fn new(alloc: Global, net: &Network, boards: usize) -> Result<Publisher, AllocError>
         requires { boards ≤ BOARDS }
         ensures { IfOk result (λ p. p ≡ record { boards = boards; events = length net.now.events; notes = []; last = [] }) }

@@ -107,7 +107,7 @@ fn said_and_answered(
     }
 }
 
-/// The first line of an item, in a version.
+/// The first line of an item, in a version. `Err` is want of memory alone.
 pub fn item_line(alloc: Global, version: u32, line: &[u8]) -> Result<Option<LogLine>, AllocError>
     ensures { IfOk result (IsRead (IsItemLine version) item_of line.now) }
 {

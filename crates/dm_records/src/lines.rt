@@ -71,7 +71,7 @@ pub fn is_word_line(line: &[u8], word: &str) -> Option<()>
     }
 }
 
-/// An entry.
+/// An entry. `Err` is want of memory alone.
 pub fn entry_line(alloc: Global, line: &[u8]) -> Result<Option<EntryLine>, AllocError>
     ensures { IfOk result (IsRead IsEntryLine numbered line.now) }
 {

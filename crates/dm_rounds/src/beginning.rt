@@ -7,7 +7,7 @@ use crate::jobs::{Job, Progress};
 use dm_feed::{FeedStop, LineReader};
 use std::alloc::{AllocError, Global};
 
-/// A job for each feed. Its reader's buffer is in it, and it is moved often, so it is in a box.
+/// A job for each feed. Its reader's buffer is in it, and it is moved often, so it is in a box. `Err` is want of memory alone.
 pub fn begin<S: Drop>(alloc: Global, feeds: Vec<Option<S>>) -> Result<Vec<Box<Job<S>>>, AllocError>
     ensures { IfOk result (λ jobs. BeginAll feeds.items (map (λ b. b.value) jobs.items)) }
 {

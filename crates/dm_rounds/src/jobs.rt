@@ -28,7 +28,7 @@ pub struct Job<S> {
     pub log: Vec<LogItem>,
 }
 
-/// Answers the next lines of a feed that has not ended, so many of them or all that are left.
+/// Answers the next lines of a feed that has not ended, so many of them or all that are left. `Err` is want of memory alone.
 pub fn answer_job<S: Source + Drop, D: Desk, P: Planner, H: Hold>(
     job: &mut Job<S>,
     desk: &mut D,

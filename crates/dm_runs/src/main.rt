@@ -4,7 +4,8 @@
 //! line. A name that `dispatch` opens is looked for in the case's own folder under `runs`, and then in the network's under
 //! `networks`. What is due stands beside the case's own files as `text`; where any one of several texts is right, the
 //! others are `text-2`, `text-3` and so on. The case's boards stand there as `boards`, a board a line, with what each is to show
-//! in the end. For each case it prints `NAME ok`, or what differs.
+//! in the end. For each case it prints `NAME ok`, or what differs. It stands on dm_program for what it tries and on dm_boards for
+//! boards in memory, and promises nothing.
 #![tactic(auto)]
 
 ghost use Rattle.std.specs.Prelude.{◌≤◌, vec_len, IfOk};
