@@ -161,17 +161,23 @@ impl<'a, L: Ledger> Scout<'a, L> {
     /// Looks at a choice that was decided or is so no more, and at each event that it has moved.
     fn follow(&mut self, i: usize, side: Side) -> Result<(), AllocError> {
         self.judge(i)?;
-        let net = self.mover.net();
-        for a in self.choices.binding(i, side) {
-            if *a < net.activities() {
-                self.pending.push(net.activity(*a).head)?;
-            }
-        }
+        self.await_heads(i, side)?;
         for _ in 0..u64::MAX {
             let Some(event) = self.pending.pop() else {
                 return Ok(());
             };
             self.look_at(event)?;
+        }
+        Ok(())
+    }
+
+    /// Has the heads of what binds on a side of a choice looked at.
+    fn await_heads(&mut self, i: usize, side: Side) -> Result<(), AllocError> {
+        let net = self.mover.net();
+        for a in self.choices.binding(i, side) {
+            if *a < net.activities() {
+                self.pending.push(net.activity(*a).head)?;
+            }
         }
         Ok(())
     }
@@ -184,9 +190,20 @@ impl<'a, L: Ledger> Scout<'a, L> {
             _ => return Ok(()),
         }
         self.moved.push(event)?;
+        self.judge_entering(event)?;
+        self.judge_leaving(event)
+    }
+
+    /// Judges the choices of the activities that enter an event.
+    fn judge_entering(&mut self, event: usize) -> Result<(), AllocError> {
         for a in self.mover.entering(event) {
             self.judge_of(*a)?;
         }
+        Ok(())
+    }
+
+    /// Judges the choices of the activities that leave an event, and has the events behind it looked at.
+    fn judge_leaving(&mut self, event: usize) -> Result<(), AllocError> {
         let net = self.mover.net();
         for a in self.mover.leaving(event) {
             self.judge_of(*a)?;

@@ -70,15 +70,21 @@ impl Windows {
 
     /// Opens windows until none of a whole round gains anything.
     fn improve<L: Ledger>(&mut self, scout: &mut Scout<'_, L>) -> Result<(), AllocError> {
-        for _ in 0..scout.choices().len() {
-            self.fruitless.push(false)?;
-        }
+        self.mark_none_fruitless(scout.choices().len())?;
         for _ in 0..self.tries {
             let before = self.best;
             self.round(scout)?;
             if self.best >= before || self.tries == 0 {
                 return Ok(());
             }
+        }
+        Ok(())
+    }
+
+    /// No choice is fruitless before a window was opened around it.
+    fn mark_none_fruitless(&mut self, choices: usize) -> Result<(), AllocError> {
+        for _ in 0..choices {
+            self.fruitless.push(false)?;
         }
         Ok(())
     }
