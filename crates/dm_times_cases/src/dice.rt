@@ -55,17 +55,28 @@ impl Dice {
 
     /// Activities from one event to a later one, and after them headways in both directions.
     pub fn activities(&mut self, alloc: Global) -> Result<Vec<ActRow>, AllocError> {
+        let mut activities = self.forward_activities(alloc)?;
+        self.add_headways(&mut activities)?;
+        Ok(activities)
+    }
+
+    fn forward_activities(&mut self, alloc: Global) -> Result<Vec<ActRow>, AllocError> {
         let mut activities = Vec::new(alloc);
         for id in 0..12u32 {
             let (tail, head) = self.two_events();
             activities.push(self.activity(id, tail, head))?;
         }
+        Ok(activities)
+    }
+
+    /// Adds four pairs, with the ids from 12 on.
+    fn add_headways(&mut self, activities: &mut Vec<ActRow>) -> Result<(), AllocError> {
         for k in 6..10u32 {
             let (one, other) = self.two_events();
             activities.push(self.headway(k.saturating_mul(2), one, other))?;
             activities.push(self.headway(k.saturating_mul(2).saturating_add(1), other, one))?;
         }
-        Ok(activities)
+        Ok(())
     }
 
     /// Two events, of which the first has the smaller id.
