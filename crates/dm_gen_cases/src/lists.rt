@@ -4,6 +4,7 @@ use dm_base::{ActId, ActKind, ActRow, EventId, EventKind, EventRow, StopId};
 use dm_feed::Line;
 use dm_gen::{TRAINS, make};
 use dm_rows::Message;
+use std::process::Abort;
 use std::test::Fail;
 
 // An event of 2,000 trains by its place from 0: its id, kind, time, weight and stop.
@@ -46,12 +47,7 @@ const ACTIVITIES: [ActivityCase; 14] = [
 // Lines of 2,000 trains' feed: the first, the second and the last.
 const LINES: [(usize, u32, u64); 3] = [(0, 5_279, 432), (1, 16_754, 474), (499, 18_628, 315)];
 
-#[test]
-fn two_thousand_trains_from_seven(rt: HostRuntime) -> Result<(), Fail> {
-    let (events, activities, lines) = make(rt.alloc(), 7, 2_000)?;
-    assert_eq!(rt; events.len(), 40_000);
-    assert_eq!(rt; activities.len(), 79_839);
-    assert_eq!(rt; lines.len(), 500);
+fn events_are_as_listed<R: Abort>(rt: &R, events: &[EventRow]) {
     for (place, id, kind, time, weight, stop) in &EVENTS {
         let wanted = EventRow {
             id: EventId(*id),
@@ -62,6 +58,9 @@ fn two_thousand_trains_from_seven(rt: HostRuntime) -> Result<(), Fail> {
         };
         assert_eq!(rt; events.get(*place).copied(), Some(wanted));
     }
+}
+
+fn activities_are_as_listed<R: Abort>(rt: &R, activities: &[ActRow]) {
     for (place, id, kind, tail, head, lower, weight) in &ACTIVITIES {
         let wanted = ActRow {
             id: ActId(*id),
@@ -73,10 +72,24 @@ fn two_thousand_trains_from_seven(rt: HostRuntime) -> Result<(), Fail> {
         };
         assert_eq!(rt; activities.get(*place).copied(), Some(wanted));
     }
+}
+
+fn lines_are_as_listed<R: Abort>(rt: &R, lines: &[Line]) {
     for (place, event, delay) in &LINES {
         let wanted = Line::Say(Message::DelayEvent(EventId(*event), *delay));
         assert!(rt; lines.get(*place) == Some(&wanted));
     }
+}
+
+#[test]
+fn two_thousand_trains_from_seven(rt: HostRuntime) -> Result<(), Fail> {
+    let (events, activities, lines) = make(rt.alloc(), 7, 2_000)?;
+    assert_eq!(rt; events.len(), 40_000);
+    assert_eq!(rt; activities.len(), 79_839);
+    assert_eq!(rt; lines.len(), 500);
+    events_are_as_listed(&rt, &events);
+    activities_are_as_listed(&rt, &activities);
+    lines_are_as_listed(&rt, &lines);
     Ok(())
 }
 
