@@ -236,16 +236,28 @@ fn cycles_at_the_start(rt: HostRuntime) -> Result<(), Fail> {
     Ok(())
 }
 
-/// A line of so many events, each but the last with a wait into the one before it.
-fn line_of(alloc: Global, count: u32) -> Result<Network, Fail> {
+/// So many events, of which the last has the id 1, ten at a stop.
+fn events_of_line(alloc: Global, count: u32) -> Result<Vec<EventRow>, AllocError> {
     let mut events = Vec::new(alloc);
     for id in 0..count {
         events.push(event(count - id, EventKind::Departure, 7, 0, id / 10))?;
     }
+    Ok(events)
+}
+
+/// A wait into each of so many events but the last.
+fn waits_of_line(alloc: Global, count: u32) -> Result<Vec<ActRow>, AllocError> {
     let mut activities = Vec::new(alloc);
     for id in 1..count {
         activities.push(activity(id, ActKind::Wait, id + 1, id, 0, 0))?;
     }
+    Ok(activities)
+}
+
+/// A line of so many events, each but the last with a wait into the one before it.
+fn line_of(alloc: Global, count: u32) -> Result<Network, Fail> {
+    let events = events_of_line(alloc, count)?;
+    let activities = waits_of_line(alloc, count)?;
     Ok(built(alloc, events, activities)?)
 }
 
