@@ -15,7 +15,8 @@ which is what whoever waits for a run sees, and else that of the processor times
     rounds     with --batch=1000, against BEFORE                   1.1
     default    with the default batch, against BEFORE              1.5
 
-A ratio over its bound is marked, and the status is then 1.
+A ratio over its bound is marked, and the status is then 1. Behind these stand the ratios of the processor times where feeds work
+at once, which have no bound.
 """
 import os
 import resource
@@ -125,6 +126,8 @@ def main():
     over = [name for name, ratio, bound in ratios if ratio > bound]
     for name, ratio, bound in ratios:
         print(f'{name:<10}{ratio:6.2f} of {bound}{"  over" if name in over else ""}')
+    for name, one in [('four', 'delays'), ('four-1000', 'rounds')]:
+        print(f'{name:<10}{now[name] / now[one]:6.2f} of processor time')
     sys.exit(1 if over else 0)
 
 

@@ -51,6 +51,28 @@ pub fn run_into<'f, R: Threads + Wait + Sync + AllocGlobal, G: Gate>(
     gate: &G,
     sink: MemSink,
 ) -> Result<(Status, Vec<u8>), AllocError> {
+    over_files(rt, RUN, first, second, b"", gate, sink)
+}
+
+/// Checks the text of a run, and gives the status and the verdict.
+pub fn check<R: Threads + Wait + Sync + AllocGlobal>(
+    rt: &R,
+    text: &[u8],
+) -> Result<(Status, Vec<u8>), AllocError> {
+    let sink = MemSink::new(rt.alloc(), ROOM, ROOM, Vec::new(rt.alloc()))?;
+    over_files(rt, CHECK, b"", b"", text, &OpenGate, sink)
+}
+
+/// Does what words ask for over the network, two feeds and a text.
+fn over_files<'f, R: Threads + Wait + Sync + AllocGlobal, G: Gate>(
+    rt: &R,
+    words: &[&str],
+    first: &'f [u8],
+    second: &'f [u8],
+    text: &'f [u8],
+    gate: &G,
+    sink: MemSink,
+) -> Result<(Status, Vec<u8>), AllocError> {
     let files = [
         MemFile {
             name: "net/Events-expanded.giv",
@@ -76,29 +98,6 @@ pub fn run_into<'f, R: Threads + Wait + Sync + AllocGlobal, G: Gate>(
             piece: PIECE,
             fails: &[],
         },
-    ];
-    let mut shelf = MemShelf::new(&files, &[]);
-    run_over(rt, RUN, &mut shelf, gate, sink)
-}
-
-/// Checks the text of a run, and gives the status and the verdict.
-pub fn check<R: Threads + Wait + Sync + AllocGlobal>(
-    rt: &R,
-    text: &[u8],
-) -> Result<(Status, Vec<u8>), AllocError> {
-    let files = [
-        MemFile {
-            name: "net/Events-expanded.giv",
-            bytes: EVENTS,
-            piece: PIECE,
-            fails: &[],
-        },
-        MemFile {
-            name: "net/Activities-expanded.giv",
-            bytes: ACTIVITIES,
-            piece: PIECE,
-            fails: &[],
-        },
         MemFile {
             name: "t",
             bytes: text,
@@ -106,9 +105,8 @@ pub fn check<R: Threads + Wait + Sync + AllocGlobal>(
             fails: &[],
         },
     ];
-    let sink = MemSink::new(rt.alloc(), ROOM, ROOM, Vec::new(rt.alloc()))?;
     let mut shelf = MemShelf::new(&files, &[]);
-    run_over(rt, CHECK, &mut shelf, &OpenGate, sink)
+    run_over(rt, words, &mut shelf, gate, sink)
 }
 
 fn run_over<R: Threads + Wait + Sync + AllocGlobal, G: Gate>(
