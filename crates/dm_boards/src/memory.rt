@@ -49,7 +49,14 @@ impl MemBoard {
         ids: Vec<u32>,
         fails: Vec<u64>,
     ) -> Result<MemBoard, AllocError>
-        ensures { IfOk result (λ board. board ≡ record { stop = stop; ids = ids.items; times = replicate (vec_len ids) None; fails = fails.items; made = 0; faults = 0 }) }
+        ensures { IfOk result (λ board. board ≡ record {
+          stop = stop;
+          ids = ids.items;
+          times = replicate (vec_len ids) None;
+          fails = fails.items;
+          made = 0;
+          faults = 0;
+        }) }
     {
         Ok(MemBoard {
             stop,
@@ -120,9 +127,11 @@ impl Board for MemBoard {
 
     fn show(&mut self, changes: &[(u32, u64)]) -> Result<(), Failed>
         ensures place { self.new.stop ≡ self.old.stop }
-        ensures sets { OnOk result (Sets (Some (time_shown self.old.ids self.old.times)) (Some (time_shown self.new.ids self.new.times)) changes.now) }
+        ensures sets { OnOk result (Sets (Some (time_shown self.old.ids self.old.times)) (Some (time_shown self.new.ids self.new.times))
+            changes.now) }
         ensures cause { Counts self.old.faults self.new.faults result }
-        ensures sound { All (λ change. NoneListed self.old.made self.old.fails × (knows self.old.ids change.0 ≡ true)) changes.now → IsOk result }
+        ensures sound { All (λ change. NoneListed self.old.made self.old.fails × (knows self.old.ids change.0 ≡ true)) changes.now
+            → IsOk result }
         ensures stays_sound { All (λ change. NoneListed self.old.made self.old.fails × (knows self.old.ids change.0 ≡ true)) changes.now
             → (event : ℕ) → NoneListed self.old.made self.old.fails × (knows self.old.ids event ≡ true)
             → NoneListed self.new.made self.new.fails × (knows self.new.ids event ≡ true) }

@@ -9,32 +9,12 @@ use Rattle.dm_rows.specs.Decide.{choice_of}
 use Rattle.dm_tree.specs.declared.forms.Node.{Node}
 use Rattle.dm_tree.specs.declared.forms.Node.TheVariants.{Inner, Cycle, Bound, Open, Hole}
 use Rattle.dm_tree.specs.declared.forms.Leaf.{Leaf}
-use Rattle.dm_tree.specs.Trees.{first_decision, second_decision}
-use Rattle.dm_tree.specs.Inside.Filling.{is_ordered, pending, is_first_decision, other_decision}
+use Rattle.dm_rows.proofs.Sides.{IsFirstOf, first_of_choice, first_is_first, first_decides, ordered}
+use Rattle.dm_rows.specs.Sides.{first_decision, second_decision, is_ordered, is_first_decision, other_decision}
+use Rattle.dm_tree.specs.Pending.{pending}
 use Rattle.dm_tree.proofs.Walked.{pending_push}
 use Rattle.dm_cert.specs.PlansRead.{IsSpelledLeaf}
 use Rattle.dm_cert.specs.Inside.Growing.{FillsDue, IsFirstLeaf, GoesOnWith, IsGrown, IsBroken, IsDown}
-
--- ---- decisions and choices
-
--- a first decision leads to the first child of its choice, which is written in order
-pub record IsFirstOf (d : Decision) (c : Choice) : Type 0 where
-  pub ordered : is_ordered c ≡ true
-  pub first : first_decision c ≡ d
-  pub second : second_decision c ≡ other_decision d
-
-pub first_of_choice : (d : Decision) → is_first_decision d ≡ true → IsFirstOf d (choice_of d)
-first_of_choice (Keep a) e = record { ordered = refl; first = refl; second = refl }
-first_of_choice (Drop a) e = cc
-first_of_choice (First i j) e = rw e (record { ordered = e; first = refl; second = refl })
-
-pub is_first_of : (c : Choice) → is_ordered c ≡ true → is_first_decision (first_decision c) ≡ true
-is_first_of (Change a) e = refl
-is_first_of (Pair i j) e = e
-
-pub choice_is : (c : Choice) → is_ordered c ≡ true → choice_of (first_decision c) ≡ c
-choice_is (Change a) e = refl
-choice_is (Pair i j) e = rw e refl
 
 -- ---- the first leaf
 
@@ -158,7 +138,7 @@ grown_choice read held path tail due l d first below g = record { together = for
         GoesOnWith (held ++ Inner (choice_of d) ∷ []) all ((path ++ d ∷ []) ∷ (path ++ other_decision d ∷ []) ∷ due) (l ∷ leaves)
     at all leaves went (inl a) =
         let same : first_decision a.choice ≡ d = same_first path a.tail tail (first_decision a.choice) d (sym a.below ∙ below) in
-        let choice : choice_of d ≡ a.choice = sym (ap choice_of same) ∙ choice_is a.choice a.ordered in
+        let choice : choice_of d ≡ a.choice = sym (ap choice_of same) ∙ first_decides a.choice (ordered a.choice a.ordered) in
         let second : second_decision a.choice ≡ other_decision d = sym (ap second_decision choice) ∙ of.second in
         let f1 : FillsDue ((path ++ d ∷ []) ∷ (path ++ second_decision a.choice ∷ []) ∷ due) a.rest (l ∷ leaves) =
         subst (λ (x : Decision). FillsDue ((path ++ x ∷ []) ∷ (path ++ second_decision a.choice ∷ []) ∷ due) a.rest (l ∷ leaves)) same a.fill in
@@ -228,7 +208,7 @@ broken_second read held path tail due l d second below g = broken_from read held
     at_asked : (nodes : List Node) (leaves : List Leaf) → AsksChoice path due nodes l leaves ⊎ AsksLeaf path due nodes l leaves → ⊥
     at_asked nodes leaves (inl a) =
         let same : first_decision a.choice ≡ d = same_first path a.tail tail (first_decision a.choice) d (sym a.below ∙ below) in
-        let first : is_first_decision d ≡ true = sym (ap is_first_decision same) ∙ is_first_of a.choice a.ordered in
+        let first : is_first_decision d ≡ true = sym (ap is_first_decision same) ∙ first_is_first a.choice a.ordered in
         let apart : true ≡ false = sym first ∙ second in
         cc
     at_asked nodes leaves (inr a) = longer path tail d (sym a.here ∙ below)

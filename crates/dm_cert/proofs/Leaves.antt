@@ -4,7 +4,8 @@ use Rattle.dm_rows.specs.declared.messages.Decision.{Decision}
 use Rattle.dm_tree.specs.declared.forms.Node.{Node}
 use Rattle.dm_tree.specs.declared.forms.Node.TheVariants.{Inner, Cycle, Bound, Open, Hole}
 use Rattle.dm_tree.specs.declared.forms.Leaf.{Leaf}
-use Rattle.dm_tree.specs.Trees.{Shape, leaf, branch, preorder, leaves_below, leaves_of, IsProper, first_decision, second_decision}
+use Rattle.dm_tree.specs.Trees.{Shape, leaf, branch, preorder, leaves_below, leaves_of, IsProper}
+use Rattle.dm_rows.specs.Sides.{first_decision, second_decision}
 use Rattle.dm_cert.specs.PlanTexts.{leaves_at, leaves_in}
 
 -- a tree at the first place due, and what stands behind it

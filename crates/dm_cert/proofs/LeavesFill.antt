@@ -5,8 +5,8 @@ use Rattle.dm_rows.specs.declared.messages.Decision.{Decision}
 use Rattle.dm_tree.specs.declared.forms.Node.{Node}
 use Rattle.dm_tree.specs.declared.forms.Node.TheVariants.{Inner, Cycle, Bound, Open, Hole}
 use Rattle.dm_tree.specs.declared.forms.Leaf.{Leaf}
-use Rattle.dm_tree.specs.Trees.{first_decision, second_decision}
-use Rattle.dm_tree.specs.Inside.Filling.{is_ordered, is_none_left, fills}
+use Rattle.dm_rows.specs.Sides.{first_decision, second_decision, is_ordered}
+use Rattle.dm_tree.specs.Inside.Filling.{is_none_left, fills}
 use Rattle.dm_tree.proofs.Filled.{both, whole_tree, tree_fills}
 use Rattle.dm_cert.specs.PlanTexts.{leaves_at}
 use Rattle.dm_cert.specs.PlansRead.{ShowsLeaves}

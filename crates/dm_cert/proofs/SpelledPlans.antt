@@ -17,7 +17,9 @@ use Rattle.dm_tree.specs.declared.forms.Node.{Node}
 use Rattle.dm_tree.specs.declared.forms.Node.TheVariants.{Inner, Cycle, Bound, Open, Hole}
 use Rattle.dm_tree.specs.declared.forms.Leaf.{Leaf}
 use Rattle.dm_tree.specs.declared.plans.Plan.{Plan}
-use Rattle.dm_tree.specs.Trees.{IsTree, first_decision, second_decision}
+use Rattle.dm_tree.specs.Trees.{IsTree}
+use Rattle.dm_rows.proofs.Sides.{first_decides, ordered}
+use Rattle.dm_rows.specs.Sides.{first_decision, second_decision}
 use Rattle.dm_tree.proofs.Filled.{ordered_from}
 use Rattle.dm_feed.specs.declared.vocabulary.Word.TheVariants as named
 use Rattle.dm_feed.specs.Parts.{Fits, id, word}
@@ -34,7 +36,7 @@ use Rattle.dm_cert.proofs.NodesRead.{reads_node, node_spelled, node_words, leaf_
 use Rattle.dm_cert.proofs.PathsRead.{leaf_spelled, words, path_ends, no_decision_in_nothing}
 use Rattle.dm_cert.proofs.Options.{none_some, some_pair}
 use Rattle.dm_cert.specs.Inside.PlanLines.{decision_in, choice_in, heading_in, node_in, leaf_in}
-use Rattle.dm_cert.proofs.Grown.{first_lies, asks, AsksChoice, AsksLeaf, longer, same_first, choice_is}
+use Rattle.dm_cert.proofs.Grown.{first_lies, asks, AsksChoice, AsksLeaf, longer, same_first}
 use Rattle.dm_cert.proofs.LeavesFill.{fills_from, leaf_same}
 use Rattle.dm_cert.proofs.ToldTexts.{heading_same}
 use Rattle.dm_cert.proofs.LineFeeds.{has_no_feed, choice_no_feed, heading_no_feed, leaf_no_feed, node_no_feed, path_no_feed}
@@ -337,7 +339,7 @@ same_asked : (k : ℕ) → SameNodes k → (path : List Decision) (due : List (L
     AsksChoice path due one l leaves ⊎ AsksLeaf path due one l leaves → AsksChoice path due other l leaves ⊎ AsksLeaf path due other l leaves → one ≡ other
 same_asked k ih path due one other l leaves short (inl a) (inl b) =
     let first : first_decision a.choice ≡ first_decision b.choice = same_first path a.tail b.tail (first_decision a.choice) (first_decision b.choice) (sym a.below ∙ b.below) in
-    let choice : b.choice ≡ a.choice = sym (choice_is b.choice b.ordered) ∙ (ap choice_of (sym first) ∙ choice_is a.choice a.ordered) in
+    let choice : b.choice ≡ a.choice = sym (first_decides b.choice (ordered b.choice b.ordered)) ∙ (ap choice_of (sym first) ∙ first_decides a.choice (ordered a.choice a.ordered)) in
     let fill = subst (λ (c : Choice). FillsDue ((path ++ first_decision c ∷ []) ∷ (path ++ second_decision c ∷ []) ∷ due) b.rest (l ∷ leaves)) choice b.fill in
     let rest = ih ((path ++ first_decision a.choice ∷ []) ∷ (path ++ second_decision a.choice ∷ []) ∷ due) a.rest b.rest (l ∷ leaves) (omega (arith, ap length a.are)) a.fill fill in
     a.are ∙ (ap (λ ns. Inner a.choice ∷ ns) rest ∙ (ap (λ c. Inner c ∷ b.rest) (sym choice) ∙ sym b.are))

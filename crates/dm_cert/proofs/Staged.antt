@@ -7,7 +7,7 @@ use Rattle.dm_text.proofs.Counted.{HasRun, run_begins, run_goes, run_stops, run_
 use Rattle.dm_tree.specs.declared.forms.Node.{Node}
 use Rattle.dm_tree.specs.declared.forms.Leaf.{Leaf}
 use Rattle.dm_tree.specs.Trees.{IsTree}
-use Rattle.dm_tree.specs.Inside.Filling.{pending}
+use Rattle.dm_tree.specs.Pending.{pending}
 use Rattle.dm_cert.specs.declared.faults.CertFault.{CertFault}
 use Rattle.dm_cert.specs.declared.growth.Stage.{Stage}
 use Rattle.dm_cert.specs.declared.growth.Stage.TheVariants.{Due, Whole, Broken}

@@ -13,7 +13,8 @@ use Rattle.dm_tree.specs.declared.forms.Node.{Node}
 use Rattle.dm_tree.specs.declared.forms.Node.TheVariants.{Inner, Cycle, Bound, Open, Hole}
 use Rattle.dm_tree.specs.declared.forms.Leaf.{Leaf}
 use Rattle.dm_tree.specs.declared.plans.Plan.{Plan}
-use Rattle.dm_tree.specs.Trees.{IsTree, first_decision, second_decision}
+use Rattle.dm_tree.specs.Trees.{IsTree}
+use Rattle.dm_rows.specs.Sides.{first_decision, second_decision}
 use Rattle.dm_feed.specs.Parts.{largest_id, id}
 use Rattle.dm_cert.specs.declared.faults.CertFault.{CertFault}
 use Rattle.dm_cert.specs.declared.plan_lines.Heading.{Heading}

@@ -11,7 +11,8 @@ use Rattle.dm_tree.specs.declared.forms.Leaf.{Leaf}
 use Rattle.dm_tree.specs.declared.forms.Mark.{Mark}
 use Rattle.dm_tree.specs.declared.forms.Mark.TheVariants as mark
 use Rattle.dm_tree.specs.declared.plans.Plan.{Plan}
-use Rattle.dm_tree.specs.Trees.{IsTree, first_decision, second_decision}
+use Rattle.dm_tree.specs.Trees.{IsTree}
+use Rattle.dm_rows.specs.Sides.{first_decision, second_decision}
 use Rattle.dm_feed.specs.Parts.{Fits, largest_id}
 use Rattle.dm_feed.specs.Lines.{parts_of_decision, spelling_of_decision}
 

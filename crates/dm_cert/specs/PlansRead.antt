@@ -10,7 +10,8 @@ use Rattle.dm_tree.specs.declared.forms.Node.{Node}
 use Rattle.dm_tree.specs.declared.forms.Node.TheVariants.{Inner, Cycle, Bound, Open, Hole}
 use Rattle.dm_tree.specs.declared.forms.Leaf.{Leaf}
 use Rattle.dm_tree.specs.declared.plans.Plan.{Plan}
-use Rattle.dm_tree.specs.Trees.{IsTree, IsOrdered}
+use Rattle.dm_tree.specs.Trees.{IsTree}
+use Rattle.dm_rows.specs.Sides.{IsOrdered}
 use Rattle.dm_cert.specs.declared.plan_lines.Heading.{Heading}
 use Rattle.dm_cert.specs.declared.faults.CertFault.{CertFault}
 use Rattle.dm_cert.specs.declared.faults.CertKind.TheVariants.{Form, Truncated, NotATree, OutOfMemory}

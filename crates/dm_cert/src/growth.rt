@@ -2,14 +2,12 @@
 ghost use Rattle.dm_tree.specs.declared.forms.Leaf.{Leaf as LeafValue};
 ghost use Rattle.dm_rows.specs.declared.messages.Decision.{Decision as DecisionValue};
 ghost use Rattle.std.specs.Prelude.{◌≡◌, ◌∷◌, ◌++◌, ◌<◌, ◌≤◌, [], List, length, take, drop, IfOk, OnOk, MatchBool, MatchOption, false, true};
-ghost use Rattle.std.specs.Bool.{OnTrue};
-ghost use Rattle.dm_rows.specs.Decide.{choice_of};
-ghost use Rattle.dm_tree.specs.Inside.Filling.{is_first_decision, other_decision, pending};
+ghost use Rattle.dm_tree.specs.Pending.{pending};
 ghost use Rattle.dm_cert.specs.PlansRead.{IsSpelledLeaf};
 ghost use Rattle.dm_cert.specs.Inside.Growing.{Grows, IsBroken, IsDown, IsGrown};
 
-use dm_rows::{Choice, Decision};
-use dm_tree::{Leaf, Node};
+use dm_rows::Decision;
+use dm_tree::{Leaf, Node, turn_back};
 use std::alloc::{AllocError, Global};
 
 /// How far a tree has grown.
@@ -31,60 +29,6 @@ pub(crate) struct Growth {
     pub(crate) nodes: Vec<Node>,
     pub(crate) path: Vec<Decision>,
     pub(crate) stage: Stage,
-}
-
-/// Whether a first child has this decision.
-fn is_first(decision: Decision) -> bool
-    ensures { result ≡ is_first_decision decision }
-{
-    match decision {
-        Decision::Keep(_) => true,
-        Decision::Drop(_) => false,
-        Decision::First(first, second) => first.0 < second.0,
-    }
-}
-
-/// The other decision of the same choice.
-fn other(decision: Decision) -> Decision
-    ensures { result ≡ other_decision decision }
-{
-    match decision {
-        Decision::Keep(act) => Decision::Drop(act),
-        Decision::Drop(act) => Decision::Keep(act),
-        Decision::First(first, second) => Decision::First(second, first),
-    }
-}
-
-/// The choice that a decision decides. Of a pair the smaller id stands first.
-fn decided(decision: Decision) -> Choice
-    ensures { result ≡ choice_of decision }
-{
-    match decision {
-        Decision::Keep(act) | Decision::Drop(act) => Choice::Change(act),
-        Decision::First(first, second) => {
-            if first.0 < second.0 {
-                Choice::Pair(first, second)
-            } else {
-                Choice::Pair(second, first)
-            }
-        }
-    }
-}
-
-/// Goes on from a leaf to the next place in preorder: to the second child of the last choice of which the path took the
-/// first. It is false where none is left.
-fn turn(path: &mut Vec<Decision>) -> Result<bool, AllocError>
-    ensures { IfOk result (λ turned. MatchBool turned
-        (pending path.old.items ≡ path.new.items ∷ pending path.new.items)
-        (pending path.old.items ≡ [])) }
-{
-    while let Some(decision) = path.pop() {
-        if is_first(decision) {
-            path.push(other(decision))?;
-            return Ok(true);
-        }
-    }
-    Ok(false)
 }
 
 /// What the path goes on with behind another one.
@@ -121,10 +65,10 @@ fn descend(
         IfOk result (λ all. MatchBool all (IsDown read l nodes.new.items path.new.items) (IsBroken (read ++ l ∷ []))) }
 {
     for decision in tail {
-        if !is_first(*decision) {
+        if !decision.is_first() {
             return Ok(false);
         }
-        nodes.push(Node::Inner(decided(*decision)))?;
+        nodes.push(Node::Inner(decision.choice()))?;
         path.push(*decision)?;
     }
     Ok(true)
@@ -184,7 +128,7 @@ fn add_below(
     let Ok(()) = nodes.push(leaf.node) else {
         return Err(AllocError);
     };
-    match turn(path) {
+    match turn_back(path) {
         Ok(true) => Ok(Stage::Due),
         Ok(false) => Ok(Stage::Whole),
         Err(_) => Err(AllocError),

@@ -23,8 +23,8 @@ use Rattle.dm_cert.proofs.HeadingsRead.{front_text, heading_spelled}
 use Rattle.dm_cert.proofs.LineFeeds.{heading_no_feed, has_no_feed}
 use Rattle.dm_cert.proofs.SpelledPlans.{plan_single}
 use Rattle.dm_records.specs.RunLines.{PlanOpening, planned}
-use Rattle.dm_answers.specs.declared.past.Past.{Past}
-use Rattle.dm_answers.specs.Judging.{IsPast}
+use Rattle.dm_check_answers.specs.declared.past.Past.{Past}
+use Rattle.dm_check_answers.specs.Judging.{IsPast}
 use Rattle.dm_check.specs.declared.faults.Fault.{Fault}
 use Rattle.dm_check.specs.declared.faults.Stop.{Stop}
 use Rattle.dm_check.specs.declared.faults.Stop.TheVariants.{Fault as Found, OutOfMemory}

@@ -11,8 +11,8 @@ use Rattle.dm_cert.specs.Answers.{Setting, is_plan}
 use Rattle.dm_cert.specs.Logs.{kind_of, is_entered, names, Kind, entered}
 use Rattle.dm_cert.specs.declared.replies.LogItem.{LogItem}
 use Rattle.dm_records.specs.RunLines.{ItemLine, lone, planned, IsItemLine, PlanOpening}
-use Rattle.dm_answers.specs.declared.past.Past.{Past}
-use Rattle.dm_answers.specs.Judging.{IsPast}
+use Rattle.dm_check_answers.specs.declared.past.Past.{Past}
+use Rattle.dm_check_answers.specs.Judging.{IsPast}
 use Rattle.dm_check.specs.declared.faults.Fault.{Fault}
 use Rattle.dm_check.specs.declared.faults.Stop.{Stop}
 use Rattle.dm_check.specs.declared.faults.Stop.TheVariants.{Fault as Found, OutOfMemory}

@@ -6,7 +6,7 @@ use Rattle.std.proofs.lemmas.List.Sums.{fold-append}
 use Rattle.std.proofs.lemmas.List.Elements.{All-nil, All-cons, All-head, All-tail, All-map}
 use Rattle.dm_base.specs.declared.limits.TheConstants.{BOARDS}
 use Rattle.dm_feed.specs.Parts.{largest_id}
-use Rattle.dm_claims.specs.Claims.{Tells}
+use Rattle.dm_check_rows.specs.Claims.{Tells}
 use Rattle.dm_text.specs.Places.{Place}
 use Rattle.dm_rows.specs.declared.messages.Entry.{Entry}
 use Rattle.dm_cert.specs.declared.notes.Note.{Note}

@@ -4,7 +4,7 @@ use Rattle.dm_text.specs.Places.{Place}
 use Rattle.dm_network.specs.Net.{Net, event_at}
 use Rattle.dm_rows.specs.Rows.{RowsValue}
 use Rattle.dm_rows.specs.Timetable.{time_at}
-use Rattle.dm_claims.specs.Claims.{IsTimeOf}
+use Rattle.dm_check_rows.specs.Claims.{IsTimeOf}
 use Rattle.dm_records.specs.RunLines.{Timed, IsTimeLine}
 use Rattle.dm_check.specs.declared.verdicts.BadKind.TheVariants.{Time}
 use Rattle.dm_check.specs.FalseRecords.{bad, Reads, IsNextTime, TellsTime}

@@ -11,7 +11,7 @@ use Rattle.dm_rows.specs.declared.messages.Entry.{Entry}
 use Rattle.dm_rows.specs.Rows.{RowsValue}
 use Rattle.dm_rows.specs.Active.{is_active, HasNoCycle}
 use Rattle.dm_rows.specs.Timetable.{IsLeast}
-use Rattle.dm_answers.proofs.Rows.{none_least}
+use Rattle.dm_check_answers.proofs.Rows.{none_least}
 use Rattle.dm_cert.specs.Answers.{Setting, rows_after, is_plan}
 use Rattle.dm_cert.specs.Logs.{all_items}
 use Rattle.dm_cert.specs.RunTexts.{Run}

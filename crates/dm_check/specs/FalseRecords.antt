@@ -26,7 +26,7 @@ use Rattle.dm_cert.specs.Logs.{kind_of, line_of, Follows, names, all_items}
 use Rattle.dm_cert.specs.PlansRead.{IsChoiceLine, IsLeafLine, IsNodeLine, ShowsLeaves, ShowsNodes}
 use Rattle.dm_cert.specs.RunTexts.{Run}
 use Rattle.dm_cert.specs.Runs.{IsTrueNote}
-use Rattle.dm_answers.specs.Judging.{line_before, number_before}
+use Rattle.dm_check_answers.specs.Judging.{line_before, number_before}
 use Rattle.dm_records.specs.RunLines.{Numbered, PlanOpening, ItemLine, lone, planned, Timed, IsNumberLine, IsVersionLine, IsEntryLine, IsOpeningLine, IsItemLine, IsStopLine, IsNoteLine, IsTimeLine, IsWordLine}
 use Rattle.dm_check.specs.declared.faults.Fault.{Fault}
 use Rattle.dm_check.specs.declared.verdicts.BadKind.{BadKind}

@@ -16,8 +16,8 @@ use Rattle.dm_base.specs.declared.limits.TheConstants.{PLANS, FEEDS}
 use Rattle.dm_cert.specs.RunTexts.{Run}
 use Rattle.dm_check.specs.declared.checking.Counts.{Counts}
 use Rattle.dm_tree.specs.declared.plans.Plan.{Plan}
-use Rattle.dm_answers.specs.declared.past.Past.{Past}
-use Rattle.dm_answers.specs.Judging.{IsPast}
+use Rattle.dm_check_answers.specs.declared.past.Past.{Past}
+use Rattle.dm_check_answers.specs.Judging.{IsPast}
 use Rattle.dm_check.specs.declared.told_notes.Notes.{Notes}
 use Rattle.dm_check.specs.declared.verdicts.BadKind.TheVariants.{Plan as PlanKind}
 use Rattle.dm_check.specs.FalseRecords.{bad, TellsEntry, TellsTime, TellsNote, TellsBehind, TellsItem, TellsLog, TellsCost, TellsEnd, TellsRest, TellsBody, TellsRun, TellsPlanBehind, IsNextItem, entry_before}

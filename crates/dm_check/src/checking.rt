@@ -4,8 +4,8 @@ ghost use Rattle.dm_base.specs.declared.limits.TheConstants.{TEXT, PENALTY, ENTR
 ghost use Rattle.dm_rows.specs.Rows.{IsSized};
 ghost use Rattle.dm_cert.specs.Answers.{rows_after};
 ghost use Rattle.dm_cert.specs.PlanTexts.{IsVersion};
-ghost use Rattle.dm_claims.specs.Claims.{IsDispositionOf};
-ghost use Rattle.dm_answers.specs.Judging.{IsJournal, IsReplay, setting_of, history_of};
+ghost use Rattle.dm_check_rows.specs.Claims.{AreCheckedRowsOf};
+ghost use Rattle.dm_check_answers.specs.Judging.{IsJournal, IsReplay, setting_of, history_of};
 ghost use Rattle.dm_check.specs.FalseRecords.{IsVerdict};
 ghost use Rattle.dm_check.specs.Judged.{AreFlagged, BodyOn, LogsAndRestOn, HistoryOn, RunOn};
 
@@ -16,8 +16,8 @@ use crate::told_logs::all_logs;
 use crate::told_records::{entries_told, feeds_told, penalty_told};
 use crate::told_rest::rest_told;
 use crate::verdicts::Verdict;
-use dm_answers::{Journal, Replay};
-use dm_claims::Disposition;
+use dm_check_answers::{Journal, Replay};
+use dm_check_rows::CheckedRows;
 use dm_network::Network;
 use dm_rows::{Entry, Rows};
 use dm_text::Lines;
@@ -36,15 +36,15 @@ fn logs_then_rest_told(
     alloc: Global,
     lines: &mut Lines,
     journal: &Journal<'_>,
-    disposition: &mut Disposition,
+    checked: &mut CheckedRows,
     replay: &mut Replay,
     named: &mut [bool],
     feeds: usize,
     entries: u32,
 ) -> Result<usize, Stop>
     requires journal { IsJournal journal.now }
-    requires stands_after { IsDispositionOf journal.now.net.now disposition.old }
-    requires rows_are { disposition.old.rows ≡ rows_after (setting_of journal.now) (history_of journal.now) (length (history_of journal.now)) }
+    requires stands_after { AreCheckedRowsOf journal.now.net.now checked.old }
+    requires rows_are { checked.old.rows ≡ rows_after (setting_of journal.now) (history_of journal.now) (length (history_of journal.now)) }
     requires stands { IsReplay journal.now replay.old }
     requires few { feeds ≤ FEEDS }
     requires none { AreFlagged [] named.old }
@@ -56,7 +56,7 @@ fn logs_then_rest_told(
         Ok(plans) => plans,
         Err(stop) => return Err(stop),
     };
-    match rest_told(alloc, lines, journal, disposition, named, entries) {
+    match rest_told(alloc, lines, journal, checked, named, entries) {
         Ok(()) => Ok(plans),
         Err(stop) => Err(stop),
     }
@@ -67,13 +67,13 @@ fn logs_and_rest_told(
     alloc: Global,
     lines: &mut Lines,
     journal: &Journal<'_>,
-    disposition: Disposition,
+    checked: CheckedRows,
     feeds: usize,
     entries: u32,
 ) -> Result<usize, Stop>
     requires journal { IsJournal journal.now }
-    requires stands { IsDispositionOf journal.now.net.now disposition }
-    requires rows_are { disposition.rows ≡ rows_after (setting_of journal.now) (history_of journal.now) (length (history_of journal.now)) }
+    requires stands { AreCheckedRowsOf journal.now.net.now checked }
+    requires rows_are { checked.rows ≡ rows_after (setting_of journal.now) (history_of journal.now) (length (history_of journal.now)) }
     requires few { feeds ≤ FEEDS }
     requires counted { length (history_of journal.now) ≡ entries }
     ensures { LogsAndRestOn (setting_of journal.now) (history_of journal.now) feeds lines.old lines.new result }
@@ -81,7 +81,7 @@ fn logs_and_rest_told(
     let Ok(mut named) = vec![in alloc; false; journal.entries.len()] else {
         return Err(Stop::OutOfMemory);
     };
-    let mut disposition = disposition;
+    let mut checked = checked;
     let mut replay = match Replay::new(alloc, journal) {
         Ok(replay) => replay,
         Err(AllocError) => return Err(Stop::OutOfMemory),
@@ -90,7 +90,7 @@ fn logs_and_rest_told(
         alloc,
         lines,
         journal,
-        &mut disposition,
+        &mut checked,
         &mut replay,
         &mut named,
         feeds,
@@ -108,15 +108,15 @@ fn journal_told(
     version: u32,
     feeds: usize,
     entries: u32,
-    disposition: Disposition,
+    checked: CheckedRows,
     history: &[Entry],
 ) -> Result<usize, Stop>
     requires sized { IsSized net.now start.now }
     requires penalty { penalty ≤ PENALTY }
     requires version { IsVersion version }
     requires few { feeds ≤ FEEDS }
-    requires stands { IsDispositionOf net.now disposition }
-    requires rows_are { disposition.rows ≡ rows_after (record { net = net.now; start = start.now; penalty = penalty; version = version }) history.now (length history.now) }
+    requires stands { AreCheckedRowsOf net.now checked }
+    requires rows_are { checked.rows ≡ rows_after (record { net = net.now; start = start.now; penalty = penalty; version = version }) history.now (length history.now) }
     requires counted { length history.now ≡ entries }
     ensures { LogsAndRestOn (record { net = net.now; start = start.now; penalty = penalty; version = version }) history.now feeds lines.old lines.new result }
 {
@@ -127,7 +127,7 @@ fn journal_told(
         penalty,
         version,
     };
-    logs_and_rest_told(alloc, lines, &journal, disposition, feeds, entries)
+    logs_and_rest_told(alloc, lines, &journal, checked, feeds, entries)
 }
 
 /// The entries and what stands behind them, from the rows at the start.
@@ -140,33 +140,24 @@ fn entries_then_logs_told(
     version: u32,
     feeds: usize,
     entries: u32,
-    disposition: Disposition,
+    checked: CheckedRows,
 ) -> Result<Counts, Stop>
     requires sized { IsSized net.now start.now }
     requires penalty { penalty ≤ PENALTY }
     requires version { IsVersion version }
     requires few { feeds ≤ FEEDS }
     requires few_entries { entries ≤ ENTRIES }
-    requires stands { IsDispositionOf net.now disposition }
-    requires copied { disposition.rows ≡ start.now }
+    requires stands { AreCheckedRowsOf net.now checked }
+    requires copied { checked.rows ≡ start.now }
     ensures { HistoryOn (record { net = net.now; start = start.now; penalty = penalty; version = version }) feeds entries lines.old lines.new result }
 {
-    let mut disposition = disposition;
-    let history = match all_entries(alloc, lines, net, &mut disposition, feeds, entries) {
+    let mut checked = checked;
+    let history = match all_entries(alloc, lines, net, &mut checked, feeds, entries) {
         Ok(history) => history,
         Err(stop) => return Err(stop),
     };
     match journal_told(
-        alloc,
-        lines,
-        net,
-        start,
-        penalty,
-        version,
-        feeds,
-        entries,
-        disposition,
-        &history,
+        alloc, lines, net, start, penalty, version, feeds, entries, checked, &history,
     ) {
         Ok(plans) => Ok(Counts {
             entries,
@@ -197,19 +188,11 @@ fn history_told(
     let Ok(rows) = start.copy() else {
         return Err(Stop::OutOfMemory);
     };
-    let Ok(disposition) = Disposition::new(alloc, net, rows) else {
+    let Ok(checked) = CheckedRows::new(alloc, net, rows) else {
         return Err(Stop::OutOfMemory);
     };
     entries_then_logs_told(
-        alloc,
-        lines,
-        net,
-        start,
-        penalty,
-        version,
-        feeds,
-        entries,
-        disposition,
+        alloc, lines, net, start, penalty, version, feeds, entries, checked,
     )
 }
 

@@ -1,6 +1,6 @@
 //! What is told of the text of a run: that it is good, or the first record that breaks its rule.
 //!
-//! It stands on dm_answers for answers and on dm_verify for plans, on dm_cert for the texts and for what a true answer is, and on
+//! It stands on dm_check_answers for answers and on dm_check_plans for plans, on dm_cert for the texts and for what a true answer is, and on
 //! dm_text for the words in which a text is judged record by record; dm_records says how the line of each record is written, and
 //! reads it. `specs/FalseRecords` says what each record must say after those before it, and of which kind and at which line its
 //! fault is. [`check`] promises exactly what `specs/FalseRecords` tells of a text.

@@ -6,7 +6,7 @@ ghost use Rattle.dm_cert.specs.declared.replies.LogItem.{LogItem};
 ghost use Rattle.dm_cert.specs.declared.replies.LogItem.TheVariants.{Answered};
 ghost use Rattle.dm_cert.specs.declared.replies.FeedLog.{FeedLog};
 ghost use Rattle.dm_cert.specs.Logs.{all_items};
-ghost use Rattle.dm_claims.specs.Claims.{Tells};
+ghost use Rattle.dm_check_rows.specs.Claims.{Tells};
 ghost use Rattle.dm_records.specs.Readings.{reply_of};
 ghost use Rattle.dm_check.specs.FalseRecords.{AreNamed, TellsBoards};
 ghost use Rattle.dm_check.specs.Judged.{AreFlagged, IsFlaggedAt, Judges};

@@ -4,14 +4,14 @@ ghost use Rattle.dm_base.specs.declared.limits.TheConstants.{PLANS};
 ghost use Rattle.dm_cert.specs.declared.replies.LogItem.{LogItem};
 ghost use Rattle.dm_cert.specs.declared.replies.Reply.TheVariants.{Planned as PlanReply};
 ghost use Rattle.dm_cert.specs.Answers.{IsTrueReply};
-ghost use Rattle.dm_claims.specs.Claims.{Tells};
-ghost use Rattle.dm_answers.specs.Judging.{IsJournal, IsReplay, IsPast, setting_of, history_of};
+ghost use Rattle.dm_check_rows.specs.Claims.{Tells};
+ghost use Rattle.dm_check_answers.specs.Judging.{IsJournal, IsReplay, IsPast, setting_of, history_of};
 
-use dm_answers::{Journal, Past, Replay, is_budget};
 use dm_base::limits::PLANS;
+use dm_check_answers::{Journal, Past, Replay, is_budget};
+use dm_check_plans::is_true_plan;
 use dm_feed::Line;
 use dm_tree::Plan;
-use dm_verify::is_true_plan;
 use std::alloc::{AllocError, Global};
 
 /// Whether a plan is a true answer to a feed's line, behind what stands before it in the feed's log. It is asked of each node of
@@ -49,7 +49,7 @@ pub(crate) fn is_true_plan_answer(
         alloc,
         journal.net,
         journal.penalty,
-        replay.disposition.rows(),
+        replay.checked.rows(),
         *budget,
         plan,
     )

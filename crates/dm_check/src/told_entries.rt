@@ -3,14 +3,14 @@ ghost use Rattle.std.specs.Prelude.{ℕ, ◌≡◌, ◌+◌, ◌<◌, ◌≤◌,
 ghost use Rattle.dm_base.specs.declared.limits.TheConstants.{ENTRIES, FEEDS};
 ghost use Rattle.dm_rows.specs.declared.messages.Entry.{Entry as EntryValue};
 ghost use Rattle.dm_cert.specs.Answers.{Setting};
-ghost use Rattle.dm_claims.specs.Claims.{IsDispositionOf, Tells};
+ghost use Rattle.dm_check_rows.specs.Claims.{AreCheckedRowsOf, Tells};
 ghost use Rattle.dm_records.specs.Readings.{numbered};
 ghost use Rattle.dm_check.specs.Judged.{IsAfter, IsInTurn, TellsNextEntry, TellsEntries};
 
 use crate::faults::{Fault, Stop};
 use crate::told_lines::entry_told;
 use crate::verdicts::BadKind;
-use dm_claims::Disposition;
+use dm_check_rows::CheckedRows;
 use dm_network::Network;
 use dm_records::EntryLine;
 use dm_rows::Entry;
@@ -22,15 +22,15 @@ pub(crate) fn next_entry(
     alloc: Global,
     lines: &mut Lines,
     net: &Network,
-    disposition: &mut Disposition,
+    checked: &mut CheckedRows,
     feeds: usize,
     entries: usize,
 ) -> Result<Entry, Stop>
-    requires stands { IsDispositionOf net.now disposition.old }
+    requires stands { AreCheckedRowsOf net.now checked.old }
     requires few { entries < ENTRIES }
     requires few_feeds { feeds ≤ FEEDS }
-    ensures tells { (s : Setting) (before : List EntryValue) → IsAfter s net.now before entries disposition.old.rows → TellsNextEntry s feeds before entries lines.old lines.new disposition.new.rows result }
-    ensures stands { IsDispositionOf net.now disposition.new }
+    ensures tells { (s : Setting) (before : List EntryValue) → IsAfter s net.now before entries checked.old.rows → TellsNextEntry s feeds before entries lines.old lines.new checked.new.rows result }
+    ensures stands { AreCheckedRowsOf net.now checked.new }
 {
     let line = lines.line();
     let said = match entry_told(alloc, lines) {
@@ -43,7 +43,7 @@ pub(crate) fn next_entry(
             kind: BadKind::Entry,
         }));
     }
-    match disposition.accept(alloc, net, entries, &said.message) {
+    match checked.accept(alloc, net, entries, &said.message) {
         Ok(true) => Ok(entry_of(said)),
         Ok(false) => Err(Stop::Fault(Fault {
             line,
@@ -84,20 +84,20 @@ pub(crate) fn all_entries(
     alloc: Global,
     lines: &mut Lines,
     net: &Network,
-    disposition: &mut Disposition,
+    checked: &mut CheckedRows,
     feeds: usize,
     count: u32,
 ) -> Result<Vec<Entry>, Stop>
-    requires stands { IsDispositionOf net.now disposition.old }
+    requires stands { AreCheckedRowsOf net.now checked.old }
     requires few { count ≤ ENTRIES }
     requires few_feeds { feeds ≤ FEEDS }
-    ensures tells { (s : Setting) → s.net ≡ net.now → disposition.old.rows ≡ s.start → TellsEntries (λ v. v.items) s feeds count lines.old lines.new disposition.new.rows result }
-    ensures stands { IsDispositionOf net.now disposition.new }
+    ensures tells { (s : Setting) → s.net ≡ net.now → checked.old.rows ≡ s.start → TellsEntries (λ v. v.items) s feeds count lines.old lines.new checked.new.rows result }
+    ensures stands { AreCheckedRowsOf net.now checked.new }
 {
     let mut entries = Vec::new(alloc);
     while entries.len() < count as usize {
         let place = entries.len();
-        let entry = match next_entry(alloc, lines, net, disposition, feeds, place) {
+        let entry = match next_entry(alloc, lines, net, checked, feeds, place) {
             Ok(entry) => entry,
             Err(stop) => return Err(stop),
         };

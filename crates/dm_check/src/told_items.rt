@@ -10,8 +10,8 @@ ghost use Rattle.dm_cert.specs.declared.replies.LogItem.TheVariants.{Malformed, 
 ghost use Rattle.dm_cert.specs.declared.replies.Reply.TheVariants.{Planned as PlanReply};
 ghost use Rattle.dm_records.specs.RunLines.{lone, planned};
 ghost use Rattle.dm_records.specs.Readings.{reply_of, opening_of};
-ghost use Rattle.dm_claims.specs.Claims.{Tells};
-ghost use Rattle.dm_answers.specs.Judging.{IsJournal, IsReplay, IsPast, setting_of, history_of};
+ghost use Rattle.dm_check_rows.specs.Claims.{Tells};
+ghost use Rattle.dm_check_answers.specs.Judging.{IsJournal, IsReplay, IsPast, setting_of, history_of};
 ghost use Rattle.dm_check.specs.FalseRecords.{IsNextItem};
 ghost use Rattle.dm_check.specs.Judged.{BehindOn, ItemOn, ItemsOn, ShowsPlan};
 
@@ -21,7 +21,7 @@ use crate::planning::is_true_plan_answer;
 use crate::told_lines::item_told;
 use crate::told_plans::block_told;
 use crate::verdicts::BadKind;
-use dm_answers::{Journal, Past, Replay, is_true_answer};
+use dm_check_answers::{Journal, Past, Replay, is_true_answer};
 use dm_feed::Line;
 use dm_records::{Answer, LogLine, PlanLine};
 use dm_text::Lines;

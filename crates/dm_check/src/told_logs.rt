@@ -3,7 +3,7 @@ ghost use Rattle.std.specs.Prelude.{ℕ, ◌≡◌, ◌+◌, ◌<◌, ◌≤◌,
 ghost use Rattle.dm_base.specs.declared.limits.TheConstants.{FEEDS};
 ghost use Rattle.dm_cert.specs.declared.replies.FeedLog.{FeedLog};
 ghost use Rattle.dm_records.specs.RunLines.{IsOpeningLine};
-ghost use Rattle.dm_answers.specs.Judging.{IsJournal, IsReplay, setting_of, history_of};
+ghost use Rattle.dm_check_answers.specs.Judging.{IsJournal, IsReplay, setting_of, history_of};
 ghost use Rattle.dm_check.specs.declared.verdicts.BadKind.TheVariants.{Form};
 ghost use Rattle.dm_check.specs.FalseRecords.{Rules};
 ghost use Rattle.dm_check.specs.Judged.{AreFlagged, Judges, LogOn, LogsOn};
@@ -12,7 +12,7 @@ use crate::faults::{Fault, Stop};
 use crate::told_items::all_items;
 use crate::told_lines::{opening_told, stop_told};
 use crate::verdicts::BadKind;
-use dm_answers::{Journal, Replay};
+use dm_check_answers::{Journal, Replay};
 use dm_text::Lines;
 use std::alloc::Global;
 

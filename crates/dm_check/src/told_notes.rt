@@ -3,7 +3,7 @@ ghost use Rattle.std.specs.Prelude.{ℕ, ◌≡◌, ◌++◌, [], ◌∷◌, ◌
 ghost use Rattle.dm_base.specs.declared.limits.TheConstants.{BOARDS, ENTRIES};
 ghost use Rattle.dm_rows.specs.declared.messages.Entry.{Entry as EntryValue};
 ghost use Rattle.dm_cert.specs.declared.notes.Note.{Note};
-ghost use Rattle.dm_claims.specs.Claims.{Tells};
+ghost use Rattle.dm_check_rows.specs.Claims.{Tells};
 ghost use Rattle.dm_records.specs.Readings.{note};
 ghost use Rattle.dm_check.specs.FalseRecords.{IsNextNote, TellsNote};
 ghost use Rattle.dm_check.specs.Judged.{AreBefore, Judged, NotesOn, TellsNotes};

@@ -2,9 +2,9 @@
 ghost use Rattle.std.specs.Prelude.{ℕ, ◌≡◌, ◌<◌, ◌≤◌, List, length, codes};
 ghost use Rattle.dm_base.specs.declared.limits.TheConstants.{FEEDS, ENTRIES, PENALTY};
 ghost use Rattle.dm_rows.specs.Timetable.{IsLeast};
-ghost use Rattle.dm_relaxation.specs.Binding.{AreBelowLimit};
+ghost use Rattle.dm_check_times.specs.Binding.{AreBelowLimit};
 ghost use Rattle.dm_cert.specs.RunTexts.{Run};
-ghost use Rattle.dm_claims.specs.Claims.{IsDispositionOf, times_of};
+ghost use Rattle.dm_check_rows.specs.Claims.{AreCheckedRowsOf, times_of};
 ghost use Rattle.dm_check.specs.FalseRecords.{TellsNumber, TellsTime, TellsCost, TellsEnd};
 ghost use Rattle.dm_check.specs.Judged.{Judges, TellsTimetable};
 
@@ -13,7 +13,7 @@ use crate::told_lines::{number_told, time_told, word_told};
 use crate::verdicts::BadKind;
 use dm_base::Cost;
 use dm_base::limits::{ENTRIES, FEEDS};
-use dm_claims::Disposition;
+use dm_check_rows::CheckedRows;
 use dm_network::Network;
 use dm_text::Lines;
 
@@ -93,24 +93,24 @@ pub(crate) fn heading_told(lines: &mut Lines, entries: u32) -> Result<u128, Faul
     }
 }
 
-/// The time of the event at this place, where the disposition's times are the least.
+/// The time of the event at this place, where the times are the least ones.
 pub(crate) fn event_told(
     lines: &mut Lines,
     net: &Network,
-    disposition: &Disposition,
+    checked: &CheckedRows,
     i: usize,
 ) -> Result<u128, Fault>
-    requires stands { IsDispositionOf net.now disposition.now }
-    requires least { IsLeast net.now disposition.now.rows (times_of disposition.now) }
+    requires stands { AreCheckedRowsOf net.now checked.now }
+    requires least { IsLeast net.now checked.now.rows (times_of checked.now) }
     requires is_event { i < length net.now.events }
-    ensures { (before : List ℕ) → length before ≡ i → Judges (TellsTime net.now disposition.now.rows before) (λ t. t) lines.old lines.new result }
+    ensures { (before : List ℕ) → length before ≡ i → Judges (TellsTime net.now checked.now.rows before) (λ t. t) lines.old lines.new result }
 {
     let line = lines.line();
     let said = match time_told(lines) {
         Ok(said) => said,
         Err(fault) => return Err(fault),
     };
-    if said.event == net.event(i).id.0 && disposition.is_time(i, said.time) {
+    if said.event == net.event(i).id.0 && checked.is_time(i, said.time) {
         Ok(said.time)
     } else {
         Err(Fault {
@@ -120,25 +120,25 @@ pub(crate) fn event_told(
     }
 }
 
-/// The final cost, where the disposition's times are the least.
+/// The final cost, where the times are the least ones.
 pub(crate) fn cost_told(
     lines: &mut Lines,
     net: &Network,
-    disposition: &mut Disposition,
+    checked: &mut CheckedRows,
     penalty: u64,
 ) -> Result<Cost, Fault>
-    requires stands { IsDispositionOf net.now disposition.old }
-    requires least { IsLeast net.now disposition.old.rows (times_of disposition.old) }
-    requires early { AreBelowLimit (times_of disposition.old) }
+    requires stands { AreCheckedRowsOf net.now checked.old }
+    requires least { IsLeast net.now checked.old.rows (times_of checked.old) }
+    requires early { AreBelowLimit (times_of checked.old) }
     requires penalty { penalty ≤ PENALTY }
-    ensures { Judges (TellsCost net.now disposition.old.rows penalty) (λ c. c) lines.old lines.new result }
+    ensures { Judges (TellsCost net.now checked.old.rows penalty) (λ c. c) lines.old lines.new result }
 {
     let line = lines.line();
     let number = match number_told(lines, "cost ") {
         Ok(number) => number,
         Err(fault) => return Err(fault),
     };
-    if disposition.is_cost(net, penalty, number) {
+    if checked.is_cost(net, penalty, number) {
         Ok(number)
     } else {
         Err(Fault {
@@ -165,18 +165,18 @@ pub(crate) fn end_told(lines: &mut Lines) -> Result<(), Fault>
     }
 }
 
-/// The times of all events, where the disposition's times are the least.
+/// The times of all events, where the times are the least ones.
 pub(crate) fn timetable_told(
     lines: &mut Lines,
     net: &Network,
-    disposition: &Disposition,
+    checked: &CheckedRows,
 ) -> Result<(), Fault>
-    requires stands { IsDispositionOf net.now disposition.now }
-    requires least { IsLeast net.now disposition.now.rows (times_of disposition.now) }
-    ensures { TellsTimetable net.now disposition.now.rows lines.old lines.new result }
+    requires stands { AreCheckedRowsOf net.now checked.now }
+    requires least { IsLeast net.now checked.now.rows (times_of checked.now) }
+    ensures { TellsTimetable net.now checked.now.rows lines.old lines.new result }
 {
     for i in 0..net.events() {
-        match event_told(lines, net, disposition, i) {
+        match event_told(lines, net, checked, i) {
             Ok(_time) => (),
             Err(fault) => return Err(fault),
         }

@@ -2,13 +2,13 @@
 ghost use Rattle.std.specs.Prelude.{ℕ, ◌≡◌, ◌<◌, List, length};
 ghost use Rattle.dm_rows.specs.Active.{HasNoCycle};
 ghost use Rattle.dm_rows.specs.Timetable.{IsLeast};
-ghost use Rattle.dm_relaxation.specs.Binding.{AreBelowLimit};
+ghost use Rattle.dm_check_times.specs.Binding.{AreBelowLimit};
 ghost use Rattle.dm_cert.specs.Answers.{rows_after};
 ghost use Rattle.dm_cert.specs.declared.notes.Note.{Note};
 ghost use Rattle.dm_cert.specs.declared.replies.FeedLog.{FeedLog};
 ghost use Rattle.dm_cert.specs.Logs.{all_items};
-ghost use Rattle.dm_claims.specs.Claims.{IsDispositionOf, times_of};
-ghost use Rattle.dm_answers.specs.Judging.{IsJournal, setting_of, history_of};
+ghost use Rattle.dm_check_rows.specs.Claims.{AreCheckedRowsOf, times_of};
+ghost use Rattle.dm_check_answers.specs.Judging.{IsJournal, setting_of, history_of};
 ghost use Rattle.dm_check.specs.Judged.{AreFlagged, EndingOn, RestOn};
 
 use crate::faults::{Fault, Stop};
@@ -17,30 +17,30 @@ use crate::told_lines::time_told;
 use crate::told_notes::all_notes;
 use crate::told_records::{cost_told, end_told, heading_told, timetable_told};
 use crate::verdicts::BadKind;
-use dm_answers::Journal;
-use dm_claims::Disposition;
-use dm_relaxation::Cyclic;
+use dm_check_answers::Journal;
+use dm_check_rows::CheckedRows;
+use dm_check_times::HeldCycle;
 use dm_rows::Rows;
 use dm_text::Lines;
 use std::alloc::Global;
 
-/// The times, the cost and the last line, where the disposition's times are the least.
+/// The times, the cost and the last line, where the times are the least ones.
 fn priced_told(
     lines: &mut Lines,
     journal: &Journal<'_>,
-    disposition: &mut Disposition,
+    checked: &mut CheckedRows,
 ) -> Result<(), Stop>
     requires journal { IsJournal journal.now }
-    requires stands { IsDispositionOf journal.now.net.now disposition.old }
-    requires least { IsLeast journal.now.net.now disposition.old.rows (times_of disposition.old) }
-    requires early { AreBelowLimit (times_of disposition.old) }
-    ensures { (logs : List FeedLog) (notes : List Note) → EndingOn (setting_of journal.now) (history_of journal.now) logs notes disposition.old.rows lines.old lines.new result }
+    requires stands { AreCheckedRowsOf journal.now.net.now checked.old }
+    requires least { IsLeast journal.now.net.now checked.old.rows (times_of checked.old) }
+    requires early { AreBelowLimit (times_of checked.old) }
+    ensures { (logs : List FeedLog) (notes : List Note) → EndingOn (setting_of journal.now) (history_of journal.now) logs notes checked.old.rows lines.old lines.new result }
 {
-    match timetable_told(lines, journal.net, disposition) {
+    match timetable_told(lines, journal.net, checked) {
         Ok(()) => (),
         Err(fault) => return Err(Stop::Fault(fault)),
     }
-    match cost_told(lines, journal.net, disposition, journal.penalty) {
+    match cost_told(lines, journal.net, checked, journal.penalty) {
         Ok(_cost) => (),
         Err(fault) => return Err(Stop::Fault(fault)),
     }
@@ -70,15 +70,15 @@ fn untimed_told(lines: &mut Lines, journal: &Journal<'_>, rows: &Rows) -> Result
 fn ending_told(
     lines: &mut Lines,
     journal: &Journal<'_>,
-    disposition: &mut Disposition,
+    checked: &mut CheckedRows,
 ) -> Result<(), Stop>
     requires journal { IsJournal journal.now }
-    requires stands { IsDispositionOf journal.now.net.now disposition.old }
-    ensures { (logs : List FeedLog) (notes : List Note) → EndingOn (setting_of journal.now) (history_of journal.now) logs notes disposition.old.rows lines.old lines.new result }
+    requires stands { AreCheckedRowsOf journal.now.net.now checked.old }
+    ensures { (logs : List FeedLog) (notes : List Note) → EndingOn (setting_of journal.now) (history_of journal.now) logs notes checked.old.rows lines.old lines.new result }
 {
-    match disposition.settle(journal.net) {
-        Ok(()) => priced_told(lines, journal, disposition),
-        Err(Cyclic) => untimed_told(lines, journal, disposition.rows()),
+    match checked.settle(journal.net) {
+        Ok(()) => priced_told(lines, journal, checked),
+        Err(HeldCycle) => untimed_told(lines, journal, checked.rows()),
     }
 }
 
@@ -87,13 +87,13 @@ pub(crate) fn rest_told(
     alloc: Global,
     lines: &mut Lines,
     journal: &Journal<'_>,
-    disposition: &mut Disposition,
+    checked: &mut CheckedRows,
     named: &[bool],
     entries: u32,
 ) -> Result<(), Stop>
     requires journal { IsJournal journal.now }
-    requires stands { IsDispositionOf journal.now.net.now disposition.old }
-    requires rows_are { disposition.old.rows ≡ rows_after (setting_of journal.now) (history_of journal.now) (length (history_of journal.now)) }
+    requires stands { AreCheckedRowsOf journal.now.net.now checked.old }
+    requires rows_are { checked.old.rows ≡ rows_after (setting_of journal.now) (history_of journal.now) (length (history_of journal.now)) }
     requires each { length named.now ≡ length (history_of journal.now) }
     requires counted { length (history_of journal.now) ≡ entries }
     ensures { (logs : List FeedLog) → AreFlagged (all_items logs) named.now → RestOn (setting_of journal.now) (history_of journal.now) logs lines.old lines.new result }
@@ -110,5 +110,5 @@ pub(crate) fn rest_told(
         Ok(_entries) => (),
         Err(fault) => return Err(Stop::Fault(fault)),
     }
-    ending_told(lines, journal, disposition)
+    ending_told(lines, journal, checked)
 }

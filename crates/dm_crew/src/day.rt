@@ -69,7 +69,8 @@ pub fn answer_at_once<
     ensures answers { IfOk result (λ day. AnswersDay S.left S.is_sound net.now rows penalty feeds.items batch day.table day.logs.items) }
 
     // Each board that no note names shows the times of the table, and each note has its cause.
-    ensures shown { IfOk result (λ day. AreShown place times (λ b. (Board-box b).faults b.value) (λ b. (Board-box b).is_sound b.value) net.now day.table.times (length day.table.history) day.publisher.notes boards.old.items boards.new.items) }
+    ensures shown { IfOk result (λ day. AreShown place times (λ b. (Board-box b).faults b.value) (λ b. (Board-box b).is_sound b.value)
+        net.now day.table.times (length day.table.history) day.publisher.notes boards.old.items boards.new.items) }
     ensures stops { map place boards.new.items ≡ map place boards.old.items }
 {
     let seats = feeds.len() as u32 + 1;
@@ -107,8 +108,10 @@ fn answer_over<
     requires some { 0 < batch }
     requires fits { IsFor P.base.network (vec_len boards.old) display }
     requires none { HasShownNothing display }
-    ensures answers { IfOk result (λ day. AnswersDay S.left S.is_sound P.base.network P.base.start P.base.penalty feeds.items batch day.table day.logs.items) }
-    ensures shown { IfOk result (λ day. AreShown place times (λ b. (Board-box b).faults b.value) (λ b. (Board-box b).is_sound b.value) P.base.network day.table.times (length day.table.history) day.publisher.notes boards.old.items boards.new.items) }
+    ensures answers { IfOk result (λ day. AnswersDay S.left S.is_sound P.base.network P.base.start P.base.penalty feeds.items batch
+        day.table day.logs.items) }
+    ensures shown { IfOk result (λ day. AreShown place times (λ b. (Board-box b).faults b.value) (λ b. (Board-box b).is_sound b.value)
+        P.base.network day.table.times (length day.table.history) day.publisher.notes boards.old.items boards.new.items) }
     ensures stops { map place boards.new.items ≡ map place boards.old.items }
 {
     let logs = answer_feeds::<P, R, S, L, H>(

@@ -154,7 +154,8 @@ fn adopt<'n, R: Wait>(
     requires idle { pass.old.holds ≡ false }
     requires plan { ForSome pass.old.base (λ base. IsTrueOf (desk_of base pass.old) plan.now) }
     ensures same { IsSamePass pass.old pass.new }
-    ensures adopts { (base : ABase) → pass.old.base ≡ Some base → AdoptsPlan (desk_of base pass.old) (desk_of base pass.new) plan.now feed line result }
+    ensures adopts { (base : ABase) → pass.old.base ≡ Some base
+        → AdoptsPlan (desk_of base pass.old) (desk_of base pass.new) plan.now feed line result }
 {
     server.adopt(rt, pass, plan, feed, line)
 }

@@ -58,8 +58,10 @@ pub fn answer_feeds<
     requires fits { IsFor P.base.network (vec_len boards.old) display.old }
     requires none { HasShownNothing display.old }
     ensures same { OnOk result (IsSamePass main.old main.new) }
-    ensures answers { IfOk result (λ logs. AnswersFeeds S.left S.is_sound feeds.items batch (desk_of P.base main.old) (desk_of P.base main.new) logs.items) }
-    ensures up { OnOk result (AreUp place times (λ b. (Board-box b).faults b.value) (λ b. (Board-box b).is_sound b.value) P.base main.new.seen display.new boards.old.items boards.new.items) }
+    ensures answers { IfOk result (λ logs. AnswersFeeds S.left S.is_sound feeds.items batch (desk_of P.base main.old)
+        (desk_of P.base main.new) logs.items) }
+    ensures up { OnOk result (AreUp place times (λ b. (Board-box b).faults b.value) (λ b. (Board-box b).is_sound b.value) P.base
+        main.new.seen display.new boards.old.items boards.new.items) }
     ensures stops { map place boards.new.items ≡ map place boards.old.items }
 {
     let logs = Vec::with_capacity(alloc, feeds.len())?;
@@ -105,7 +107,8 @@ fn answer_round<
     requires some { 0 < batch }
     ensures same { OnOk result (IsSamePass main.old main.new) }
     ensures later { OnOk result (IsPrefix main.old.seen main.new.seen) }
-    ensures round { IfOk result (λ after. AnswersRound S.left S.is_sound batch (desk_of P.base main.old) (map (λ b. b.value) jobs.items) (desk_of P.base main.new) (map (λ b. b.value) after.items)) }
+    ensures round { IfOk result (λ after. AnswersRound S.left S.is_sound batch (desk_of P.base main.old) (map (λ b. b.value) jobs.items)
+        (desk_of P.base main.new) (map (λ b. b.value) after.items)) }
 {
     let works = share_out(alloc, server, main, jobs)?;
     let works = work_all::<P, R, S, L, H>(rt, alloc, server, works, planner, gate, batch)?;

@@ -42,7 +42,8 @@ impl<'n, S: Source + Drop> Work<'n, S> {
         requires ready { IsReady server.now.id P.base self.feed self.pass self.job.value }
         requires plans { PlansUnder (L.value planner.now) (setting_of P.base) }
         ensures feed { result.feed ≡ self.entry.feed }
-        ensures worked { IsWorked S.left S.is_sound P.base batch self.entry.feed self.entry.pass self.entry.job.value result.pass result.job.value result.answer }
+        ensures worked { IsWorked S.left S.is_sound P.base batch self.entry.feed self.entry.pass self.entry.job.value result.pass
+            result.job.value result.answer }
     {
         let Work {
             pass,

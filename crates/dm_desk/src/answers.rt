@@ -1,6 +1,7 @@
 //! The answer to one line.
 
-ghost use Rattle.std.specs.Prelude.{◌≡◌, IfOk};
+ghost use Rattle.std.specs.Prelude.{◌≡◌, ℕ, List, IfOk};
+ghost use Rattle.dm_cert.specs.declared.replies.LogItem.{LogItem};
 ghost use Rattle.dm_feed.specs.Lines.{IsSaid, IsSpelledLine};
 ghost use Rattle.dm_desk.specs.Answered.{HasSeenLegal, AreTrueOf};
 ghost use Rattle.dm_desk.specs.Planning.{PlansUnder};
@@ -53,28 +54,23 @@ fn reply_to<D: Desk, P: Planner>(
     ensures { IfOk result (Replies (D.value desk.old) (D.value desk.new) feed line items.now said.now) }
 {
     match said {
-        Line::Say(message) => post(desk, feed, line, items, message),
-        Line::Time(event) => Ok(time_of(desk, feed, line, items, *event)),
+        Line::Say(message) => post(desk, feed, line, message),
+        Line::Time(event) => Ok(time_of(desk, *event)),
         Line::CostNow => {
             let (cost, entries) = desk.cost();
             Ok(Reply::Cost(entries, cost))
         }
         Line::Read => Ok(Reply::Read(desk.length())),
-        Line::Plan(budget) => plan(desk, planner, feed, line, items, *budget),
+        Line::Plan(budget) => plan(desk, planner, items, *budget),
         Line::Adopt => adopt(desk, feed, line, items),
     }
 }
 
 // Enters a message.
-fn post<D: Desk>(
-    desk: &mut D,
-    feed: u32,
-    line: u32,
-    _items: &[LogItem],
-    message: &Message,
-) -> Result<Reply, AllocError>
+fn post<D: Desk>(desk: &mut D, feed: u32, line: u32, message: &Message) -> Result<Reply, AllocError>
     requires { IsSaid message.now }
-    ensures { IfOk result (Replies (D.value desk.old) (D.value desk.new) feed line _items.now (Line.Say message.now)) }
+    ensures { IfOk result (λ reply. (items : List LogItem)
+        → Replies (D.value desk.old) (D.value desk.new) feed line items (Line.Say message.now) reply) }
 {
     let entry = Entry {
         feed,
@@ -94,14 +90,9 @@ fn post<D: Desk>(
 }
 
 // The time of an event.
-fn time_of<D: Desk>(
-    desk: &mut D,
-    _feed: u32,
-    _line: u32,
-    _items: &[LogItem],
-    event: EventId,
-) -> Reply
-    ensures { Replies (D.value desk.old) (D.value desk.new) _feed _line _items.now (Line.Time event) result }
+fn time_of<D: Desk>(desk: &mut D, event: EventId) -> Reply
+    ensures { (feed line : ℕ) (items : List LogItem)
+        → Replies (D.value desk.old) (D.value desk.new) feed line items (Line.Time event) result }
 {
     match desk.time(event) {
         Ok((time, entries)) => Reply::Time(entries, time),
@@ -123,6 +114,6 @@ fn said_again(message: &Message) -> Message
         Message::Drop(act) => Message::Drop(*act),
         Message::First(first, second) => Message::First(*first, *second),
         Message::Now(time) => Message::Now(*time),
-        Message::Adopt(_) => Message::Now(0),
+        Message::Adopt(_) => unreachable!(),
     }
 }

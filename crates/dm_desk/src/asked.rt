@@ -1,6 +1,6 @@
 //! The replies to what asks for a plan and to what adopts one.
 
-ghost use Rattle.std.specs.Prelude.{◌≡◌, ◌≤◌, IfOk};
+ghost use Rattle.std.specs.Prelude.{◌≡◌, ℕ, ◌≤◌, IfOk};
 ghost use Rattle.dm_base.specs.declared.limits.TheConstants.{BUDGET};
 ghost use Rattle.dm_feed.specs.declared.grammar.Line.TheVariants as said;
 ghost use Rattle.dm_desk.specs.Answered.{HasSeenLegal};
@@ -20,15 +20,14 @@ use std::alloc::AllocError;
 pub fn plan<D: Desk, P: Planner>(
     desk: &mut D,
     planner: &P,
-    _feed: u32,
-    _line: u32,
     items: &[LogItem],
     budget: u64,
 ) -> Result<Reply, AllocError>
     requires legal { HasSeenLegal (D.value desk.old) }
     requires plans { PlansUnder (P.value planner.now) (D.value desk.old).setting }
     requires had { HasPlans (D.value desk.old) items.now }
-    ensures { IfOk result (Replies (D.value desk.old) (D.value desk.new) _feed _line items.now (said.Plan budget)) }
+    ensures { IfOk result (λ reply. (feed line : ℕ)
+        → Replies (D.value desk.old) (D.value desk.new) feed line items.now (said.Plan budget) reply) }
 {
     if budget == 0 || budget > BUDGET {
         return Ok(Reply::Range(budget));

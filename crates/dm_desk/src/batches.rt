@@ -29,7 +29,8 @@ pub fn answer_batch<S: Source, D: Desk, P: Planner, H: Hold>(
     requires plans { PlansUnder (P.value planner.now) (D.value desk.old).setting }
     requires are_true { AreTrueOf (D.value desk.old) feed log.old.items }
     requires open_still { IsOpen reader.old }
-    ensures answers { IfOk result (λ stop. AnswersBatch S.left S.is_sound reader.old reader.new (D.value desk.old) (D.value desk.new) feed batch log.old.items log.new.items stop) }
+    ensures answers { IfOk result (λ stop. AnswersBatch S.left S.is_sound reader.old reader.new (D.value desk.old) (D.value desk.new) feed
+        batch log.old.items log.new.items stop) }
     ensures stays_sound { S.is_sound reader.old.source → S.is_sound reader.new.source }
 {
     for _ in 0..batch {
@@ -54,7 +55,8 @@ fn answer_next<S: Source, D: Desk, P: Planner, H: Hold>(
     requires plans { PlansUnder (P.value planner.now) (D.value desk.old).setting }
     requires are_true { AreTrueOf (D.value desk.old) feed log.old.items }
     requires open_still { IsOpen reader.old }
-    ensures answers { IfOk result (λ stop. AnswersBatch S.left S.is_sound reader.old reader.new (D.value desk.old) (D.value desk.new) feed 1 log.old.items log.new.items stop) }
+    ensures answers { IfOk result (λ stop. AnswersBatch S.left S.is_sound reader.old reader.new (D.value desk.old) (D.value desk.new) feed 1
+        log.old.items log.new.items stop) }
     ensures stays_sound { S.is_sound reader.old.source → S.is_sound reader.new.source }
 {
     match reader.next() {

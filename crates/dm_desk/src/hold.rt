@@ -2,9 +2,9 @@
 
 use dm_outside::Gate;
 
-/// What a feed passes before and after each line. Every gate is one.
+/// Where a feed may be held up before and after each line. Every gate is one.
 pub trait Hold {
-    /// Passes a point of the gate: 1 before a line is handled, 2 after its reply is kept, with the feed's number.
+    /// Holds a feed up, by its number, at a point: 1 before a line is handled, 2 after its reply is kept.
     fn hold(&self, who: u32, point: u32);
 }
 

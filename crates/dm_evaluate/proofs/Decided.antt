@@ -18,7 +18,7 @@ use Rattle.dm_evaluate.specs.Evaluator.{EvaluatorValue, IsEvaluatorOf, times_of,
 use Rattle.dm_evaluate.specs.Marks.{MarksValue, MarksUnkept}
 use Rattle.dm_paths.specs.Decisions.{AddsDecision, IsFlipOf}
 use Rattle.dm_evaluate.specs.Inside.Moves.{set_where, Turns, Stays, IsOff}
-use Rattle.dm_paths.specs.Decisions.{is_bound_by}
+use Rattle.dm_paths.specs.Decisions.{is_held_by}
 use Rattle.dm_paths.specs.Flags.{with_change, with_pair}
 use Rattle.dm_evaluate.proofs.Lists.{list_is_short, without_list, without_adds, without_at}
 use Rattle.dm_paths.proofs.Lists.{pushed}
@@ -50,7 +50,7 @@ module _ (net : Net) (network : IsNetwork net) (old : EvaluatorValue) (was : IsE
         let f = was.pairs.size in
         omega (arith, le, one, e, f)
 
-    pub decide_cycle : (cycle : List ℕ) → IsCycleOf net (set_where (is_bound_by net flip) true (is_held old.priced.live.given.held)) cycle →
+    pub decide_cycle : (cycle : List ℕ) → IsCycleOf net (set_where (is_held_by net flip) true (is_held old.priced.live.given.held)) cycle →
         IsRelaxedCycle net old.rows (old.path ++ d ∷ []) cycle
     decide_cycle = decision_cycle net network old.rows was.sized old.path (old.path ++ d ∷ []) was.is_path list d adds flip named old.priced was.evaluates
 

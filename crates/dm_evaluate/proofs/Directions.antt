@@ -9,7 +9,8 @@ use Rattle.dm_network.specs.Held.{arcs_of, is_held, IsCycleOf}
 use Rattle.dm_rows.specs.Relax.{is_of_pair}
 use Rattle.dm_network.proofs.EventRows.{leads_out, stands_out}
 use Rattle.dm_priced.specs.Priced.{PricedValue}
-use Rattle.dm_evaluate.specs.Inside.Moves.{set_where, TurnsTo, Stays, IsAmong, KeepsBut, TurnsAmong, IsRefused}
+use Rattle.dm_evaluate.specs.Inside.Moves.{set_where, TurnsTo, Stays, KeepsBut, TurnsAmong, IsRefused}
+use Rattle.dm_paths.specs.RowsRead.{IsAmong}
 use Rattle.dm_paths.specs.Decisions.{is_directed}
 use Rattle.dm_paths.proofs.Changing.{its_pair}
 
@@ -36,6 +37,7 @@ pub record IsSettledFrom (turned after : PricedValue) : Type 0 where
   pub floors : after.live.given.floors ≡ turned.live.given.floors
   pub spans : after.live.given.spans ≡ turned.live.given.spans
   pub cycle : after.live.order.cycle ≡ turned.live.order.cycle
+  pub fixed : after.live.fixed ≡ turned.live.fixed
   pub passed : after.passed ≡ turned.passed
   pub charged : after.charged ≡ turned.charged
 
@@ -46,6 +48,7 @@ settled_from turned after is = record {
   floors = ap (λ (v : PricedValue). v.live.given.floors) is;
   spans = ap (λ (v : PricedValue). v.live.given.spans) is;
   cycle = ap (λ (v : PricedValue). v.live.order.cycle) is;
+  fixed = ap (λ (v : PricedValue). v.live.fixed) is;
   passed = ap (λ (v : PricedValue). v.passed) is;
   charged = ap (λ (v : PricedValue). v.charged) is;
 }
@@ -94,6 +97,7 @@ module _ (net : Net) (p tail : ℕ) (row : List ℕ) (row_is : row ≡ places_ou
         ];
     charged = λ b below. ap (λ (c : List Bool). is_held c b) (settled.charged ∙ turns.keeps.charged);
     passed = settled.passed ∙ turns.keeps.passed;
+    fixed = settled.fixed ∙ turns.keeps.fixed;
     floors = settled.floors ∙ turns.keeps.floors;
     spans = settled.spans ∙ turns.keeps.spans;
   }
@@ -111,6 +115,7 @@ module _ (net : Net) (p tail : ℕ) (row : List ℕ) (row_is : row ≡ places_ou
           ];
       charged = λ b below. ap (λ (c : List Bool). is_held c b) (settled.charged ∙ turns.keeps.charged ∙ is.keeps.charged);
       passed = settled.passed ∙ turns.keeps.passed ∙ is.keeps.passed;
+      fixed = settled.fixed ∙ turns.keeps.fixed ∙ is.keeps.fixed;
       floors = settled.floors ∙ turns.keeps.floors ∙ is.keeps.floors;
       spans = settled.spans ∙ turns.keeps.spans ∙ is.keeps.spans;
     }

@@ -8,8 +8,10 @@ use Rattle.dm_rows.specs.Relax.{is_of_pair}
 use Rattle.dm_settle.specs.Constraints.{ConstraintsValue}
 use Rattle.dm_live.specs.Live.{LiveValue, with_held}
 use Rattle.dm_priced.specs.Priced.{PricedValue}
-use Rattle.dm_evaluate.specs.Inside.Moves.{IsAmong, IsOnly, KeepsBut, TurnsAmong, IsRefused}
+use Rattle.dm_evaluate.specs.Inside.Moves.{IsOnly, KeepsBut, TurnsAmong, IsRefused}
+use Rattle.dm_paths.specs.RowsRead.{IsAmong}
 use Rattle.dm_paths.proofs.Changing.{its_pair, no_pair}
+use Rattle.dm_paths.proofs.RowsRead.{among_next}
 
 -- one flag that is set
 set_on : (flags : List Bool) (a b : ℕ) (flag : Bool) → b ≡ a → a < length flags → is_held (slice_set flags a flag) b ≡ flag
@@ -18,20 +20,12 @@ set_on flags a b flag is below = ap (is_held (slice_set flags a flag)) is ∙ ge
 set_off : (flags : List Bool) (a b : ℕ) (flag : Bool) → b ≢ a → is_held (slice_set flags a flag) b ≡ is_held flags b
 set_off flags a b flag ne = get_or-set_other flags a b flag false ne
 
--- an activity among the first n and one more
-pub among_next : (row : List ℕ) (n b : ℕ) → IsAmong row (n + 1) b → IsAmong row n b ⊎ (b ≡ slice_index row n)
-among_next row n b (k, lt, is) =
-    elim (cases_lt k n) [
-      | inl earlier ↦ inl (k, earlier, is)
-      | inr past ↦ let here : k ≡ n = omega arith in inr (sym is ∙ ap (slice_index row) here)
-    ]
-
 among_before : (row : List ℕ) (n b : ℕ) → IsAmong row n b → IsAmong row (n + 1) b
 among_before row n b (k, lt, is) = (k, omega arith, is)
 
 module _ (net : Net) (p : ℕ) where
   keeps_all : (among : ℕ → Type 0) (priced : PricedValue) → KeepsBut net p among priced priced
-  keeps_all among priced = record { same = λ b. inl refl; floors = refl; spans = refl; times = refl; passed = refl; charged = refl }
+  keeps_all among priced = record { same = λ b. inl refl; floors = refl; spans = refl; times = refl; fixed = refl; passed = refl; charged = refl }
 
   keeps_then : (P Q R : ℕ → Type 0) (one two three : PricedValue) → ((b : ℕ) → P b → R b) → ((b : ℕ) → Q b → R b) →
       KeepsBut net p P one two → KeepsBut net p Q two three → KeepsBut net p R one three
@@ -43,6 +37,7 @@ module _ (net : Net) (p : ℕ) where
     floors = k.floors ∙ h.floors;
     spans = k.spans ∙ h.spans;
     times = k.times ∙ h.times;
+    fixed = k.fixed ∙ h.fixed;
     passed = k.passed ∙ h.passed;
     charged = k.charged ∙ h.charged;
   }
@@ -94,9 +89,9 @@ module _ (net : Net) (p : ℕ) where
 
   -- an activity whose flag is set
   pub turned_one : (a : ℕ) (value : Bool) (now next : PricedValue) → a < length now.live.given.held → is_of_pair p (activity_at net a).pair ≡ true →
-      next.live.given ≡ with_held now.live.given a value → next.live.times ≡ now.live.times → next ≡ record now { live = next.live } →
+      next.live.given ≡ with_held now.live.given a value → next.live.times ≡ now.live.times → next.live.fixed ≡ now.live.fixed → next ≡ record now { live = next.live } →
       TurnsAmong net p (IsOnly a) value now next
-  turned_one a value now next below its given times others =
+  turned_one a value now next below its given times fixed others =
       let held : (b : ℕ) → is_held next.live.given.held b ≡ is_held (slice_set now.live.given.held a value) b = λ b. ap (λ (g : ConstraintsValue). is_held g.held b) given in
       record {
         keeps = record {
@@ -107,6 +102,7 @@ module _ (net : Net) (p : ℕ) where
           floors = ap (λ (g : ConstraintsValue). g.floors) given;
           spans = ap (λ (g : ConstraintsValue). g.spans) given;
           times = times;
+          fixed = fixed;
           passed = ap (λ (v : PricedValue). v.passed) others;
           charged = ap (λ (v : PricedValue). v.charged) others;
         };
@@ -123,6 +119,7 @@ module _ (net : Net) (p : ℕ) where
       floors = ap (λ (v : LiveValue). v.given.floors) live;
       spans = ap (λ (v : LiveValue). v.given.spans) live;
       times = ap (λ (v : LiveValue). v.times) live;
+      fixed = ap (λ (v : LiveValue). v.fixed) live;
       passed = ap (λ (v : PricedValue). v.passed) others;
       charged = ap (λ (v : PricedValue). v.charged) others;
     };

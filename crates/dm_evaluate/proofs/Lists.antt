@@ -19,7 +19,7 @@ use Rattle.dm_rows.specs.declared.messages.Choice.{Choice}
 use Rattle.dm_rows.specs.Rows.{RowsValue}
 use Rattle.dm_rows.specs.Decide.{IsChoiceList, choice_of, free_choices_of, free_changes_of, free_pairs_of, is_free_change, is_free_pair, change_choice, pair_choice}
 use Rattle.dm_rows.specs.Relax.{is_same_choice, is_decided}
-use Rattle.dm_paths.proofs.Naming.{same_choice, same_itself}
+use Rattle.dm_rows.proofs.Sides.{same_choice, same_itself}
 use Rattle.dm_paths.proofs.Setting.{in_front, one_decides}
 use Rattle.dm_paths.proofs.Agreeing.{passes_one}
 use Rattle.dm_paths.proofs.Apart.{Apart, choice_list_from}

@@ -11,9 +11,9 @@ use Rattle.dm_marks.proofs.Marking.{mark_here, mark_still}
 use Rattle.dm_network.proofs.EventRows.{stands_out}
 use Rattle.dm_priced.specs.Priced.{is_flagged, comes_too_early}
 use Rattle.dm_evaluate.specs.Marks.{MarksUnkept, IsUnmetHeadway, IsUnmetPair}
-use Rattle.dm_evaluate.specs.Inside.Moves.{IsAmong}
+use Rattle.dm_paths.specs.RowsRead.{IsAmong}
 use Rattle.dm_evaluate.specs.Inside.Marking.{MarksWhere, IsEarlyAt, IsEarlyAmong, IsEarlyHeadway, IsEarlyBothWays, IsEarlyBothWaysAmong, AreMarksOf, Clears, NoneBetween, IsFirst}
-use Rattle.dm_evaluate.proofs.Headings.{among_next}
+use Rattle.dm_paths.proofs.RowsRead.{among_next}
 
 -- no mark, some marks and then others, one mark
 pub marks_none : (some : ℕ → Type 0) (marks : List Bool) → ((k : ℕ) → some k → ⊥) → MarksWhere some marks marks

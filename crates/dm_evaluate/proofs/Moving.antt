@@ -11,12 +11,13 @@ use Rattle.dm_rows.specs.Decide.{IsChoiceList, with_decisions}
 use Rattle.dm_rows.specs.Relax.{is_relaxed_active, is_relaxed_dropped}
 use Rattle.dm_paths.proofs.Setting.{DiffersInDecisions, differs_in_none, differs_with}
 use Rattle.dm_paths.proofs.Agreeing.{has_passed_same, span_same, floor_same}
+use Rattle.dm_live.specs.Live.{is_fixed}
 use Rattle.dm_priced.specs.Priced.{PricedValue, IsPriced, is_flagged}
 use Rattle.dm_tree.specs.Relaxed.{IsRelaxedLeast, IsRelaxedCycle}
 use Rattle.dm_evaluate.specs.Evaluating.{Evaluates}
 use Rattle.dm_paths.specs.Decisions.{AddsDecision, IsFlipOf}
 use Rattle.dm_evaluate.specs.Inside.Moves.{set_where, Turns, Stays, IsOff}
-use Rattle.dm_paths.specs.Decisions.{is_bound_by, is_charged_by}
+use Rattle.dm_paths.specs.Decisions.{is_held_by, is_charged_by}
 use Rattle.dm_evaluate.proofs.Directions.{cycle_within}
 use Rattle.dm_paths.proofs.Changing.{DiffersAt, set_off, set_on, held_differs as held_apart, charge_differs as charge_apart}
 
@@ -28,13 +29,14 @@ module _ (net : Net) (rows : RowsValue) (path other : List Decision) where
   pub evaluates_other : (before after : PricedValue) → Evaluates net rows path before → IsPriced net after →
       ((b : ℕ) → b < length net.activities → is_held after.live.given.held b ≡ is_relaxed_active net rows other b) →
       ((b : ℕ) → b < length net.activities → is_flagged after.charged b ≡ is_relaxed_dropped net rows other b) →
-      after.passed ≡ before.passed → after.live.given.floors ≡ before.live.given.floors → after.live.given.spans ≡ before.live.given.spans →
+      after.live.fixed ≡ before.live.fixed → after.passed ≡ before.passed → after.live.given.floors ≡ before.live.given.floors → after.live.given.spans ≡ before.live.given.spans →
       Evaluates net rows other after
-  evaluates_other before after is priced held charged passed floors spans =
+  evaluates_other before after is priced held charged fixed passed floors spans =
       let q : RowsValue = with_decisions net rows path in
       let s : RowsValue = with_decisions net rows other in
       record {
         is_priced = priced;
+        none_fixed = λ i. ap (λ (f : List Bool). is_fixed f i) fixed ∙ is.none_fixed i;
         held = held;
         floors = λ i lt. ap (λ (xs : List ℕ). slice_index xs i) floors ∙ is.floors i lt ∙ floor_same rows q (over path) net i
             ∙ sym (floor_same rows s (over other) net i);
@@ -52,12 +54,12 @@ pub stays_evaluates : (net : Net) (rows : RowsValue) (path : List Decision) (bef
     Stays net before after → Evaluates net rows path after
 stays_evaluates net rows path before after is priced stays =
     evaluates_other net rows path path before after is priced (λ b lt. stays.held b lt ∙ is.held b lt) (λ b lt. stays.charged b lt ∙ is.price.charged b lt)
-    stays.passed stays.floors stays.spans
+    stays.fixed stays.passed stays.floors stays.spans
 
 module _ (net : Net) (network : IsNetwork net) (rows : RowsValue) (sized : IsSized net rows) (path other : List Decision)
     (list : IsChoiceList net rows path) (other_list : IsChoiceList net rows other) (d : Decision) (adds : AddsDecision path other d) where
   held_differs : (flip : Flip) → IsFlipOf net rows d flip → (b : ℕ) → b < length net.activities →
-      DiffersAt (is_bound_by net flip b) (is_relaxed_active net rows path b) (is_relaxed_active net rows other b)
+      DiffersAt (is_held_by net flip b) (is_relaxed_active net rows path b) (is_relaxed_active net rows other b)
   held_differs = held_apart net network rows sized path other list other_list d adds
 
   charge_differs : (flip : Flip) → IsFlipOf net rows d flip → (b : ℕ) → b < length net.activities →
@@ -68,31 +70,31 @@ module _ (net : Net) (network : IsNetwork net) (rows : RowsValue) (sized : IsSiz
     pub decided_evaluates : Evaluates net rows path before → IsPriced net after → Turns net flip true before after → Evaluates net rows other after
     decided_evaluates was priced turns =
         evaluates_other net rows path other before after was priced
-        (λ b lt. turns.held b lt ∙ ap (λ v. cond (is_bound_by net flip b) true v) (was.held b lt)
-        ∙ set_on (is_bound_by net flip b) (is_relaxed_active net rows path b) (is_relaxed_active net rows other b) (held_differs flip is b lt))
+        (λ b lt. turns.held b lt ∙ ap (λ v. cond (is_held_by net flip b) true v) (was.held b lt)
+        ∙ set_on (is_held_by net flip b) (is_relaxed_active net rows path b) (is_relaxed_active net rows other b) (held_differs flip is b lt))
         (λ b lt. turns.charged b lt ∙ ap (λ v. cond (is_charged_by flip b) true v) (was.price.charged b lt)
         ∙ set_on (is_charged_by flip b) (is_relaxed_dropped net rows path b) (is_relaxed_dropped net rows other b) (charge_differs flip is b lt))
-        turns.passed turns.floors turns.spans
+        turns.fixed turns.passed turns.floors turns.spans
 
     pub undecided_evaluates : Evaluates net rows other before → IsPriced net after → Turns net flip false before after → Evaluates net rows path after
     undecided_evaluates was priced turns =
         evaluates_other net rows other path before after was priced
-        (λ b lt. turns.held b lt ∙ ap (λ v. cond (is_bound_by net flip b) false v) (was.held b lt)
-        ∙ set_off (is_bound_by net flip b) (is_relaxed_active net rows path b) (is_relaxed_active net rows other b) (held_differs flip is b lt))
+        (λ b lt. turns.held b lt ∙ ap (λ v. cond (is_held_by net flip b) false v) (was.held b lt)
+        ∙ set_off (is_held_by net flip b) (is_relaxed_active net rows path b) (is_relaxed_active net rows other b) (held_differs flip is b lt))
         (λ b lt. turns.charged b lt ∙ ap (λ v. cond (is_charged_by flip b) false v) (was.price.charged b lt)
         ∙ set_off (is_charged_by flip b) (is_relaxed_dropped net rows path b) (is_relaxed_dropped net rows other b) (charge_differs flip is b lt))
-        turns.passed turns.floors turns.spans
+        turns.fixed turns.passed turns.floors turns.spans
 
   module _ (flip : Flip) (is : IsFlipOf net rows d flip) (before : PricedValue) (was : Evaluates net rows path before) where
     pub is_off : IsOff net flip before
     is_off b lt on = was.held b lt ∙ (held_differs flip is b lt).off on
 
-    pub decision_cycle : (cycle : List ℕ) → IsCycleOf net (set_where (is_bound_by net flip) true (is_held before.live.given.held)) cycle →
+    pub decision_cycle : (cycle : List ℕ) → IsCycleOf net (set_where (is_held_by net flip) true (is_held before.live.given.held)) cycle →
         IsRelaxedCycle net rows other cycle
     decision_cycle cycle c =
-        cycle_within net (set_where (is_bound_by net flip) true (is_held before.live.given.held)) (is_relaxed_active net rows other)
-        (λ b lt h. sym (set_on (is_bound_by net flip b) (is_relaxed_active net rows path b) (is_relaxed_active net rows other b) (held_differs flip is b lt))
-        ∙ sym (ap (λ v. cond (is_bound_by net flip b) true v) (was.held b lt)) ∙ h)
+        cycle_within net (set_where (is_held_by net flip) true (is_held before.live.given.held)) (is_relaxed_active net rows other)
+        (λ b lt h. sym (set_on (is_held_by net flip b) (is_relaxed_active net rows path b) (is_relaxed_active net rows other b) (held_differs flip is b lt))
+        ∙ sym (ap (λ v. cond (is_held_by net flip b) true v) (was.held b lt)) ∙ h)
         cycle c
 
 -- a relaxed problem has one least timetable

@@ -2,56 +2,32 @@
 use Rattle.std.proofs.Common.{◌≡◌, ℕ, suc, ◌+◌, ◌-◌, ◌<◌, Bool, ◌&&◌, List, [], ◌++◌, length, map, Option, Some, None, sym, ap, ◌∙◌, inl, inr, arith}
 use Rattle.std.specs.Prelude.{Contains, filter, IfSome, slice_get}
 use Rattle.std.specs.List.{range_with_len}
-use Rattle.std.proofs.lemmas.Bool.{and_parts}
 use Rattle.std.proofs.lemmas.List.{append-nil}
-use Rattle.std.proofs.lemmas.List.Elements.{Contains-append_cases}
-use Rattle.dm_network.specs.Net.{Net, pair_at}
+use Rattle.dm_network.specs.Net.{Net}
 use Rattle.dm_network.specs.Start.{IsNetwork}
 use Rattle.dm_rows.specs.declared.messages.Choice.{Choice}
 use Rattle.dm_rows.specs.declared.messages.Decision.{Decision}
-use Rattle.dm_rows.specs.Cost.{comes_too_early}
 use Rattle.dm_rows.specs.Decide.{change_choice, pair_choice}
-use Rattle.dm_rows.specs.Relax.{is_undecided_change, is_undecided_pair, is_violated_change, is_violated_pair, has_unmet_from, violated_choices_of}
+use Rattle.dm_rows.specs.Relax.{is_violated_change, is_violated_pair, violated_choices_of}
 use Rattle.dm_rows.specs.Rows.{RowsValue}
 use Rattle.dm_paths.proofs.Naming.{from_place, one_change, one_pair}
 use Rattle.dm_paths.proofs.Apart.{got_is_in}
-use Rattle.dm_relax.specs.Relaxed.{first_violated}
-use Rattle.dm_paths.specs.declared.places.Place.{Place}
-use Rattle.dm_paths.specs.declared.places.Place.TheVariants.{Change, Pair}
-use Rattle.dm_paths.specs.Flags.{AreFlags}
+use Rattle.dm_paths.specs.declared.places.ChoicePlace.{ChoicePlace}
+use Rattle.dm_paths.specs.declared.places.ChoicePlace.TheVariants.{Change, Pair}
+use Rattle.dm_paths.specs.declared.undecided.Undecided.{Undecided}
 use Rattle.dm_paths.specs.Decisions.{IsOpen}
 use Rattle.dm_paths.specs.Places.{IsPlaceOf, HasNoPlace}
-use Rattle.dm_evaluate.specs.Inside.Violations.{violated_from, violated_pair_from, violated_behind, IsFlagged}
+use Rattle.dm_evaluate.specs.Inside.Violations.{violated_from, violated_pair_from, violated_behind, LeavesUndecided, IsFlagged}
 use Rattle.dm_evaluate.proofs.Behind.{behind, in_second}
 use Rattle.dm_paths.proofs.Open.{flag_is, not_violated, open_where_flagged}
 
--- the first violated choice is open
-pub first_is_open : (net : Net) → IsNetwork net → (rows : RowsValue) (path : List Decision) (x : List ℕ) (o : Option Choice) → o ≡ first_violated net rows path x →
-    IfSome o (IsOpen net rows path)
-first_is_open net network rows path x None is = tt
-first_is_open net network rows path x (Some c) is =
-    let among : Contains (violated_choices_of net rows path x) c = got_is_in (violated_choices_of net rows path x) 0 c (sym is) in
-    elim (Contains-append_cases (map (change_choice net) (filter (is_violated_change net rows path x) (range_with_len 0 (length net.activities))))
-    (map (pair_choice net) (filter (is_violated_pair net rows path x) (range_with_len 0 (length net.pairs)))) c among) [
-      | inl l ↦
-          let f = from_place (change_choice net) (is_violated_change net rows path x) (length net.activities) c l in
-          let h = and_parts (is_undecided_change net rows path f.place) (comes_too_early net rows x f.place) f.passes in
-          open_where_flagged net network rows path c (Change f.place) (f.below, f.is) h.0
-      | inr r ↦
-          let f = from_place (pair_choice net) (is_violated_pair net rows path x) (length net.pairs) c r in
-          let h = and_parts (is_undecided_pair net rows path f.place && has_unmet_from net rows x f.place (pair_at net f.place).small)
-          (has_unmet_from net rows x f.place (pair_at net f.place).large) f.passes in
-          let u = and_parts (is_undecided_pair net rows path f.place) (has_unmet_from net rows x f.place (pair_at net f.place).small) h.0 in
-          open_where_flagged net network rows path c (Pair f.place) (f.below, f.is) u.0
-    ]
-
 -- what stands at a flag is open
-pub flagged_is_open : (net : Net) → IsNetwork net → (rows : RowsValue) (path : List Decision) (changes pairs : List Bool) →
-    AreFlags (is_undecided_change net rows path) (length net.activities) changes → AreFlags (is_undecided_pair net rows path) (length net.pairs) pairs →
-    (o : Option Choice) → IfSome o (IsFlagged net changes pairs) → IfSome o (IsOpen net rows path)
-flagged_is_open net network rows path changes pairs are_changes are_pairs None h = tt
-flagged_is_open net network rows path changes pairs are_changes are_pairs (Some c) h =
-    open_where_flagged net network rows path c h.place h.is (sym (flag_is net rows path c h.place h.is changes pairs are_changes are_pairs) ∙ h.flagged)
+pub flagged_is_open : (net : Net) → IsNetwork net → (rows : RowsValue) (path : List Decision) (undecided : Undecided) → LeavesUndecided net rows path undecided →
+    (o : Option Choice) → IfSome o (IsFlagged net undecided) → IfSome o (IsOpen net rows path)
+flagged_is_open net network rows path undecided u None h = tt
+flagged_is_open net network rows path undecided u (Some c) h =
+    open_where_flagged net network rows path c h.place h.is
+    (sym (flag_is net rows path c h.place h.is undecided.changes.items undecided.pairs.items u.changes u.pairs) ∙ h.flagged)
 
 -- the violated choice behind one at a place
 module _ (net : Net) (network : IsNetwork net) (rows : RowsValue) (path : List Decision) (x : List ℕ) where
@@ -91,8 +67,8 @@ module _ (net : Net) (network : IsNetwork net) (rows : RowsValue) (path : List D
       (λ j ge lt e. let within : j < length net.pairs = omega arith in one_pair net network j p within below e) (omega arith) (omega arith) here in
       sym (r.next ∙ ap (λ (l : List Choice). slice_get l (suc r.place)) (sym (append-nil all_pairs)) ∙ next ∙ ap (λ (l : List Choice). slice_get l 0) (append-nil rest))
 
-  pub behind_place : (choice : Choice) (place : Place) → IsPlaceOf net choice place → (k : ℕ) → slice_get (violated_choices_of net rows path x) k ≡ Some choice →
-      violated_behind net rows path x place ≡ slice_get (violated_choices_of net rows path x) (k + 1)
+  pub behind_place : (choice : Choice) (place : ChoicePlace) → IsPlaceOf net choice place → (k : ℕ) → slice_get (violated_choices_of net rows path x) k ≡ Some choice →
+      violated_behind net rows path x (Some place) ≡ slice_get (violated_choices_of net rows path x) (k + 1)
   behind_place choice (Change a) is k h =
       let next : suc k ≡ k + 1 = omega arith in
       behind_change a k is.0 (h ∙ ap (λ (c : Choice). Some c) (sym is.1)) ∙ ap (slice_get (violated_choices_of net rows path x)) next

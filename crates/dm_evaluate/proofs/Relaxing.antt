@@ -10,7 +10,7 @@ use Rattle.dm_rows.specs.Decide.{with_decisions}
 use Rattle.dm_rows.specs.Relax.{is_relaxed_active, is_relaxed_dropped}
 use Rattle.dm_rows.specs.Rows.{RowsValue}
 use Rattle.dm_rows.proofs.AsGraph.{relaxed_enter_no_passed}
-use Rattle.dm_times.specs.Inside.Filling.{AreConstraintsHolding}
+use Rattle.dm_times.specs.Constraints.{AreConstraintsHolding}
 use Rattle.dm_times.proofs.Filled.{least_for_held, no_cycle_of_held}
 use Rattle.dm_tree.specs.Relaxed.{IsRelaxedLeast, relaxed_cost_of, HasNoRelaxedCycle}
 use Rattle.dm_evaluate.specs.Evaluating.{Evaluates}

@@ -4,7 +4,7 @@ use Rattle.std.specs.Prelude.{replicate}
 use Rattle.std.proofs.lemmas.List.{get_or-replicate}
 use Rattle.dm_network.specs.Net.{Net, activity_at, is_change}
 use Rattle.dm_network.specs.Held.{is_held}
-use Rattle.dm_live.specs.Live.{RefusesLive, IsAtRest}
+use Rattle.dm_live.specs.Live.{RefusesLive, IsAtRest, NoneFixed}
 use Rattle.dm_order.specs.declared.faults.OrderFault.{OrderFault}
 use Rattle.dm_order.specs.declared.faults.OrderFault.TheVariants.{Cyclic, OutOfMemory}
 use Rattle.dm_priced.specs.Priced.{PricedValue, IsPriced, is_flagged}
@@ -13,7 +13,7 @@ use Rattle.dm_rows.specs.declared.messages.Decision.{Decision}
 use Rattle.dm_rows.specs.Relax.{is_relaxed_active, is_relaxed_dropped, is_undecided_change, is_undecided_pair}
 use Rattle.dm_rows.specs.Rows.{RowsValue, IsSized, kept_at}
 use Rattle.dm_settle.specs.Constraints.{ConstraintsValue}
-use Rattle.dm_times.specs.Inside.Filling.{AreConstraintsHolding}
+use Rattle.dm_times.specs.Constraints.{AreConstraintsHolding}
 use Rattle.dm_evaluate.specs.Evaluating.{Evaluates}
 use Rattle.dm_evaluate.specs.Evaluator.{IsEvaluatorOf}
 use Rattle.dm_paths.specs.Flags.{AreFlags}
@@ -33,10 +33,11 @@ pub root_charges_none : (net : Net) (rows : RowsValue) (a : ℕ) → is_relaxed_
 root_charges_none net rows a = charges_none (is_change (activity_at net a).kind) (kept_at rows a) (has_passed rows (activity_at net a).head)
 
 pub root_evaluates : (net : Net) (rows : RowsValue) (priced : PricedValue) → IsPriced net priced →
-    AreConstraintsHolding net rows (is_relaxed_active net rows []) priced.live.given → HasPassedTo rows (length net.events) priced.passed →
+    AreConstraintsHolding net rows (is_relaxed_active net rows []) priced.live.given → NoneFixed priced.live.fixed → HasPassedTo rows (length net.events) priced.passed →
     priced.charged ≡ replicate (length net.activities) false → Evaluates net rows [] priced
-root_evaluates net rows priced is holds passed charged = record {
+root_evaluates net rows priced is holds none_fixed passed charged = record {
   is_priced = is;
+  none_fixed = none_fixed;
   held = holds.held;
   floors = holds.floors;
   price = record {

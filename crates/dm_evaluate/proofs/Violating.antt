@@ -17,37 +17,12 @@ use Rattle.dm_network.proofs.EventRows.{leads_out, stands_out}
 use Rattle.dm_priced.specs.Priced.{is_flagged}
 use Rattle.dm_paths.specs.Flags.{AreFlags}
 use Rattle.dm_evaluate.specs.Inside.Marking.{IsFirst}
-use Rattle.dm_evaluate.specs.Inside.Violations.{NoneUnmet, violated_from, violated_pair_from}
+use Rattle.dm_evaluate.specs.Inside.Violations.{violated_from, violated_pair_from}
+use Rattle.dm_paths.specs.RowsRead.{NoneUnmet}
 use Rattle.dm_paths.specs.Decisions.{is_unmet_pair}
 use Rattle.dm_evaluate.proofs.Behind.{first_passing, none_passing}
 use Rattle.dm_paths.proofs.Paths.{one_passes}
 use Rattle.dm_paths.proofs.Violating.{in_range, range_below, violated_change_by, violated_pair_by}
-
-module _ (net : Net) (rows : RowsValue) (x : List ℕ) (p tail : ℕ) (row : List ℕ) (row_is : row ≡ places_out_of net tail) where
-  pub unmet_in_row : (a k : ℕ) → k < length row → a ≡ slice_index row k → is_of_pair p (activity_at net a).pair ≡ true → comes_too_early net rows x a ≡ true →
-      has_unmet_from net rows x p tail ≡ true
-  unmet_in_row a k lt is its early =
-      let leads = leads_out net tail k row row_is lt in
-      let below : a < length net.activities = let b = leads.is_activity in omega (arith, is, b) in
-      let t : (activity_at net a).tail ≡ tail = ap (λ c. (activity_at net c).tail) is ∙ leads.tail in
-      one_passes (is_unmet_from net rows x p tail) (range_with_len 0 (length net.activities)) a (in_range (length net.activities) a below)
-      (and_from (is_of_pair p (activity_at net a).pair && (activity_at net a).tail == tail) (comes_too_early net rows x a)
-      (and_from (is_of_pair p (activity_at net a).pair) ((activity_at net a).tail == tail) its (eq-eqb (activity_at net a).tail tail t)) early)
-
-  pub none_in_row : NoneUnmet net rows x p row (length row) → has_unmet_from net rows x p tail ≡ false
-  none_in_row none =
-      false_from_ne_true (has_unmet_from net rows x p tail)
-      (λ h.
-      let one = passes_one (is_unmet_from net rows x p tail) (range_with_len 0 (length net.activities)) h in
-      let a : ℕ = one.0 in
-      let below : a < length net.activities = range_below (length net.activities) a one.1 in
-      let both = and_parts (is_of_pair p (activity_at net a).pair && (activity_at net a).tail == tail) (comes_too_early net rows x a) one.2 in
-      let two = and_parts (is_of_pair p (activity_at net a).pair) ((activity_at net a).tail == tail) both.0 in
-      let stands = stands_out net tail a row row_is (record { is_activity = below; tail = eqb-true (activity_at net a).tail tail two.1 }) in
-      let seen : (is_of_pair p (activity_at net a).pair && comes_too_early net rows x a) ≡ false =
-      subst (λ (b : ℕ). (is_of_pair p (activity_at net b).pair && comes_too_early net rows x b) ≡ false) stands.is (none stands.place stands.within) in
-      both_ways (is_of_pair p (activity_at net a).pair && comes_too_early net rows x a) seen
-      (and_from (is_of_pair p (activity_at net a).pair) (comes_too_early net rows x a) two.0 both.1))
 
 -- the first violated choice from a place on, by flags
 module _ (net : Net) (rows : RowsValue) (path : List Decision) (x : List ℕ) (changes pairs : List Bool)

@@ -1,12 +1,13 @@
 //! The headways of a pair out of one of its events, held and let go.
 ghost use Rattle.std.specs.Prelude.{ℕ, ◌≡◌, ◌<◌, Some, true, false, length, All, OnOk, OnErr};
-ghost use Rattle.dm_live.specs.Live.{IsAtRest};
+ghost use Rattle.dm_live.specs.Live.{IsAtRest, NoneFixed};
 ghost use Rattle.dm_network.specs.Held.{is_held, IsCycleOf};
 ghost use Rattle.dm_network.specs.Net.{activity_at};
 ghost use Rattle.dm_rows.specs.Relax.{is_of_pair};
 ghost use Rattle.dm_priced.specs.Priced.{IsPriced};
 ghost use Rattle.dm_evaluate.specs.Marks.{MarksUnkept};
-ghost use Rattle.dm_evaluate.specs.Inside.Moves.{set_where, IsAmong, IsOnly, TurnsTo, Stays, TurnsAmong, IsRefused};
+ghost use Rattle.dm_evaluate.specs.Inside.Moves.{set_where, IsOnly, TurnsTo, Stays, TurnsAmong, IsRefused};
+ghost use Rattle.dm_paths.specs.RowsRead.{IsAmong};
 ghost use Rattle.dm_paths.specs.Decisions.{is_directed};
 
 use crate::marks::ViolationMarks;
@@ -30,6 +31,7 @@ pub fn hold_direction<L: Ledger>(
     requires is_event { tail < length net.now.events }
     requires marks { MarksUnkept net.now priced.old.live.given.spans priced.old.live.times (record { changes = marks.old.changes; pairs = marks.old.pairs }) }
     requires off { (b : ℕ) → b < length net.now.activities → is_directed net.now pair tail b ≡ true → is_held priced.old.live.given.held b ≡ false }
+    requires open { NoneFixed priced.old.live.fixed }
     ensures priced { IsPriced net.now priced.new }
     ensures at_rest { IsAtRest priced.new.live }
     ensures marks { MarksUnkept net.now priced.new.live.given.spans priced.new.live.times (record { changes = marks.new.changes; pairs = marks.new.pairs }) }
@@ -84,6 +86,7 @@ fn hold_each(
 ) -> Result<(), Cyclic>
     requires priced { IsPriced net.now priced.old }
     requires are_activities { All (λ a. a < length net.now.activities) row.now }
+    requires open { NoneFixed priced.old.live.fixed }
     ensures priced { IsPriced net.now priced.new }
     ensures turns { OnOk result (TurnsAmong net.now pair (IsAmong row.now (length row.now)) true priced.old priced.new) }
     ensures refused { OnErr result (IsRefused net.now pair (IsAmong row.now (length row.now)) priced.old priced.new) }
@@ -107,6 +110,7 @@ fn hold_one(
 ) -> Result<(), Cyclic>
     requires priced { IsPriced net.now priced.old }
     requires is_activity { a < length net.now.activities }
+    requires open { NoneFixed priced.old.live.fixed }
     ensures priced { IsPriced net.now priced.new }
     ensures turns { OnOk result (TurnsAmong net.now pair (IsOnly a) true priced.old priced.new) }
     ensures refused { OnErr result (IsRefused net.now pair (IsOnly a) priced.old priced.new) }

@@ -9,12 +9,12 @@
 #![tactic(auto)]
 
 mod evaluator;
-mod filling;
 mod headways;
 pub mod laws;
 mod marking;
 mod marks;
 mod places;
+mod root;
 mod starting;
 mod turning;
 mod violations;

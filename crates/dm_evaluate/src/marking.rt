@@ -2,7 +2,7 @@
 ghost use Rattle.std.specs.Prelude.{ℕ, ◌≡◌, ◌^◌, ◌<◌, true, All, length, slice_set};
 ghost use Rattle.dm_priced.specs.Priced.{comes_too_early};
 ghost use Rattle.dm_settle.specs.Constraints.{IsSizedFor};
-ghost use Rattle.dm_evaluate.specs.Inside.Moves.{IsAmong};
+ghost use Rattle.dm_paths.specs.RowsRead.{IsAmong};
 ghost use Rattle.dm_evaluate.specs.Inside.Marking.{MarksWhere, IsEarlyAt, IsEarlyAmong, IsEarlyHeadway, IsEarlyBothWays, IsEarlyBothWaysAmong};
 
 use crate::headways::is_headway_of;

@@ -4,7 +4,6 @@ ghost use Rattle.dm_rows.specs.Decide.{choice_of};
 ghost use Rattle.dm_rows.specs.Relax.{is_same_choice, is_decided};
 ghost use Rattle.dm_evaluate.specs.Inside.Places.{DecidesAt};
 
-use dm_base::{ActId, EventId};
 use dm_rows::{Choice, Decision};
 
 /// The place of the last decision of a path that decides a choice. It is looked for from the end, where the decisions stand
@@ -37,34 +36,5 @@ pub fn is_decided(path: &[Decision], choice: Choice) -> bool
 fn decides(decision: Decision, choice: Choice) -> bool
     ensures { result ≡ is_same_choice (choice_of decision) choice }
 {
-    match decision {
-        Decision::Keep(a) | Decision::Drop(a) => is_change(choice, a),
-        Decision::First(i, j) => {
-            if i.0 < j.0 {
-                is_pair(choice, i, j)
-            } else {
-                is_pair(choice, j, i)
-            }
-        }
-    }
-}
-
-/// Whether a choice is that of a change.
-fn is_change(choice: Choice, a: ActId) -> bool
-    ensures { result ≡ is_same_choice (Choice.Change a) choice }
-{
-    match choice {
-        Choice::Change(b) => a.0 == b.0,
-        Choice::Pair(_, _) => false,
-    }
-}
-
-/// Whether a choice is that of a pair.
-fn is_pair(choice: Choice, i: EventId, j: EventId) -> bool
-    ensures { result ≡ is_same_choice (Choice.Pair i j) choice }
-{
-    match choice {
-        Choice::Change(_) => false,
-        Choice::Pair(k, l) => i.0 == k.0 && j.0 == l.0,
-    }
+    decision.choice().is_same(choice)
 }

@@ -9,7 +9,7 @@ ghost use Rattle.dm_rows.specs.Rows.{IsSized};
 ghost use Rattle.dm_times.specs.Faults.{RefusesHolding};
 ghost use Rattle.dm_evaluate.specs.Inside.Starting.{IsHeldToRoot, HasRootCycle, RefusesRoot, IsRoot, HasPassedTo};
 
-use crate::filling::root_constraints;
+use crate::root::root_constraints;
 use dm_base::Steps;
 use dm_live::LiveTimetable;
 use dm_network::Network;
@@ -90,6 +90,7 @@ fn settle(priced: &mut PricedTimetable, net: &Network, rows: &Rows)
     ensures priced { IsPriced net.now priced.new }
     ensures at_rest { IsAtRest priced.new.live }
     ensures given { priced.new.live.given ≡ priced.old.live.given }
+    ensures fixed { priced.new.live.fixed ≡ priced.old.live.fixed }
     ensures passed { HasPassedTo rows.now (length net.now.events) priced.new.passed }
     ensures charged { priced.new.charged ≡ priced.old.charged }
 {
@@ -105,6 +106,7 @@ fn settle_with<L: Ledger>(priced: &mut PricedTimetable, net: &Network, rows: &Ro
     ensures priced { IsPriced net.now priced.new }
     ensures at_rest { IsAtRest priced.new.live }
     ensures given { priced.new.live.given ≡ priced.old.live.given }
+    ensures fixed { priced.new.live.fixed ≡ priced.old.live.fixed }
     ensures passed { HasPassedTo rows.now (length net.now.events) priced.new.passed }
     ensures charged { priced.new.charged ≡ priced.old.charged }
 {

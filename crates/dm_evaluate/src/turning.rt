@@ -1,12 +1,12 @@
 //! A decision that is made or taken back on a priced timetable.
 ghost use Rattle.std.specs.Prelude.{ℕ, ◌≡◌, ◌<◌, None, true, false, length, OnOk, OnErr};
-ghost use Rattle.dm_live.specs.Live.{IsAtRest};
+ghost use Rattle.dm_live.specs.Live.{IsAtRest, NoneFixed};
 ghost use Rattle.dm_network.specs.Held.{is_held, IsCycleOf};
 ghost use Rattle.dm_network.specs.Start.{first_event};
 ghost use Rattle.dm_priced.specs.Priced.{IsPriced};
 ghost use Rattle.dm_evaluate.specs.Marks.{MarksUnkept};
 ghost use Rattle.dm_evaluate.specs.Inside.Moves.{set_where, Turns, Stays, IsOff};
-ghost use Rattle.dm_paths.specs.Decisions.{is_bound_by, ReachesNet};
+ghost use Rattle.dm_paths.specs.Decisions.{is_held_by, ReachesNet};
 
 use crate::headways::{hold_direction, release_direction};
 use crate::marks::ViolationMarks;
@@ -30,13 +30,14 @@ pub fn turn_on<L: Ledger>(
     requires at_rest { IsAtRest priced.old.live }
     requires marks { MarksUnkept net.now priced.old.live.given.spans priced.old.live.times (record { changes = marks.old.changes; pairs = marks.old.pairs }) }
     requires reaches { ReachesNet net.now flip }
+    requires open { NoneFixed priced.old.live.fixed }
     requires off { IsOff net.now flip priced.old }
     ensures priced { IsPriced net.now priced.new }
     ensures at_rest { IsAtRest priced.new.live }
     ensures marks { MarksUnkept net.now priced.new.live.given.spans priced.new.live.times (record { changes = marks.new.changes; pairs = marks.new.pairs }) }
     ensures turns { OnOk result (Turns net.now flip true priced.old priced.new) }
     ensures stays { OnErr result (Stays net.now priced.old priced.new) }
-    ensures cycle { OnErr result (IsCycleOf net.now (set_where (is_bound_by net.now flip) true (is_held priced.old.live.given.held)) priced.new.live.order.cycle) }
+    ensures cycle { OnErr result (IsCycleOf net.now (set_where (is_held_by net.now flip) true (is_held priced.old.live.given.held)) priced.new.live.order.cycle) }
 {
     net.sound();
     match flip {
@@ -95,12 +96,13 @@ fn keep<L: Ledger>(
     requires at_rest { IsAtRest priced.old.live }
     requires marks { MarksUnkept net.now priced.old.live.given.spans priced.old.live.times (record { changes = marks.old.changes; pairs = marks.old.pairs }) }
     requires is_activity { act < length net.now.activities }
+    requires open { NoneFixed priced.old.live.fixed }
     ensures priced { IsPriced net.now priced.new }
     ensures at_rest { IsAtRest priced.new.live }
     ensures marks { MarksUnkept net.now priced.new.live.given.spans priced.new.live.times (record { changes = marks.new.changes; pairs = marks.new.pairs }) }
     ensures turns { OnOk result (Turns net.now (Flip.Keep act) true priced.old priced.new) }
     ensures stays { OnErr result (Stays net.now priced.old priced.new) }
-    ensures cycle { OnErr result (IsCycleOf net.now (set_where (is_bound_by net.now (Flip.Keep act)) true (is_held priced.old.live.given.held)) priced.new.live.order.cycle) }
+    ensures cycle { OnErr result (IsCycleOf net.now (set_where (is_held_by net.now (Flip.Keep act)) true (is_held priced.old.live.given.held)) priced.new.live.order.cycle) }
 {
     match priced.hold(net, act) {
         Ok(()) => {

@@ -1,12 +1,10 @@
 //! Undecided choices that a timetable violates.
 ghost use Rattle.std.specs.Prelude.{ℕ, ◌≡◌, ◌<◌, IsTrue, ◌↔◌, false, List, length, slice_set, if◌then◌else◌, IfSome};
 ghost use Rattle.dm_rows.specs.declared.messages.Decision.{Decision};
-ghost use Rattle.dm_rows.specs.Decide.{pair_choice};
-ghost use Rattle.dm_rows.specs.Relax.{is_undecided_change, is_undecided_pair, has_unmet_from};
+ghost use Rattle.dm_rows.specs.Relax.{has_unmet_from};
 ghost use Rattle.dm_rows.specs.Rows.{IsSized};
-ghost use Rattle.dm_paths.specs.Flags.{AreFlags};
 ghost use Rattle.dm_evaluate.specs.Inside.Marking.{AreMarksOf, Clears, IsFirstOrNone};
-ghost use Rattle.dm_evaluate.specs.Inside.Violations.{violated_from, violated_pair_from, violated_behind, IsFlagged};
+ghost use Rattle.dm_evaluate.specs.Inside.Violations.{violated_from, violated_pair_from, violated_behind, AreFlagsFor, LeavesUndecided, AreMarked, AreCleared, IsFlagged};
 ghost use Rattle.dm_paths.specs.Decisions.{is_unmet_pair};
 ghost use Rattle.dm_paths.specs.Places.{at_place, IsWithin};
 ghost use Rattle.dm_rows.specs.Cost.{comes_too_early};
@@ -17,44 +15,51 @@ use crate::marks::ViolationMarks;
 use dm_base::Steps;
 use dm_marks::Marks;
 use dm_network::Network;
-use dm_paths::{Place, Undecided, place_of_choice};
-use dm_rows::{Choice, Rows};
+use dm_paths::{ChoicePlace, Undecided, place_of_choice};
+use dm_rows::{Choice, Rows, choice_of_pair};
 use dm_settle::Times;
 use dm_times::comes_too_early;
 use std::sync::ledger::Ledger;
 
-/// The first violated choice behind the one at a place. The flags are of the undecided changes and pairs, and what of them is
-/// violated is marked. Marks of what is kept are taken away.
+/// The first violated choice, or the first behind the one at a place. The flags are of the undecided changes and pairs, and
+/// what of them is violated is marked. Marks of what is kept are taken away.
 pub fn violated_behind<L: Ledger>(
     net: &Network,
     rows: &Rows,
     undecided: &Undecided,
     times: &Times,
     marks: &mut ViolationMarks,
-    place: Place,
+    past: Option<ChoicePlace>,
     steps: &mut Steps<L>,
 ) -> Option<Choice>
     requires sized { IsSized net.now rows.now }
-    requires changes { length undecided.now.changes.items ≡ length net.now.activities }
-    requires pairs { length undecided.now.pairs.items ≡ length net.now.pairs }
-    requires is_place { IsWithin net.now place }
+    requires is_place { IfSome past (IsWithin net.now) }
     requires size { length times.now ≡ length net.now.events }
-    requires change_marks { AreMarksOf undecided.now.changes.items (comes_too_early net.now rows.now times.now) (length net.now.activities) marks.old.changes }
-    requires pair_marks { AreMarksOf undecided.now.pairs.items (is_unmet_pair net.now rows.now times.now) (length net.now.pairs) marks.old.pairs }
-    ensures first { (path : List Decision) → AreFlags (is_undecided_change net.now rows.now path) (length net.now.activities) undecided.now.changes.items → AreFlags (is_undecided_pair net.now rows.now path) (length net.now.pairs) undecided.now.pairs.items → result ≡ violated_behind net.now rows.now path times.now place }
-    ensures flagged { IfSome result (IsFlagged net.now undecided.now.changes.items undecided.now.pairs.items) }
-    ensures changes_cleared { Clears (comes_too_early net.now rows.now times.now) marks.old.changes marks.new.changes }
-    ensures pairs_cleared { Clears (is_unmet_pair net.now rows.now times.now) marks.old.pairs marks.new.pairs }
+    requires marked { AreMarked net.now rows.now times.now undecided.now marks.old }
+    ensures first { (path : List Decision) → LeavesUndecided net.now rows.now path undecided.now → result ≡ violated_behind net.now rows.now path times.now past }
+    ensures flagged { IfSome result (IsFlagged net.now undecided.now) }
+    ensures cleared { AreCleared net.now rows.now times.now marks.old marks.new }
 {
     let _counts = (net.activities(), net.pairs());
+    let Some(place) = past else {
+        return violated_from(net, rows, undecided, times, marks, 0, steps);
+    };
     match place {
-        Place::Change(a) => violated_from(net, rows, undecided, times, marks, a + 1, steps),
-        Place::Pair(p) => violated_pair_from(net, rows, undecided, times, marks, p + 1, steps),
+        ChoicePlace::Change(a) => violated_from(net, rows, undecided, times, marks, a + 1, steps),
+        ChoicePlace::Pair(p) => violated_pair_from(
+            net,
+            rows,
+            undecided,
+            times,
+            marks,
+            p + 1,
+            steps,
+        ),
     }
 }
 
 /// The first undecided choice that is violated, the changes from a place on and then the pairs, or None where nothing is.
-pub fn violated_from<L: Ledger>(
+fn violated_from<L: Ledger>(
     net: &Network,
     rows: &Rows,
     undecided: &Undecided,
@@ -64,15 +69,11 @@ pub fn violated_from<L: Ledger>(
     steps: &mut Steps<L>,
 ) -> Option<Choice>
     requires sized { IsSized net.now rows.now }
-    requires changes { length undecided.now.changes.items ≡ length net.now.activities }
-    requires pairs { length undecided.now.pairs.items ≡ length net.now.pairs }
     requires size { length times.now ≡ length net.now.events }
-    requires change_marks { AreMarksOf undecided.now.changes.items (comes_too_early net.now rows.now times.now) (length net.now.activities) marks.old.changes }
-    requires pair_marks { AreMarksOf undecided.now.pairs.items (is_unmet_pair net.now rows.now times.now) (length net.now.pairs) marks.old.pairs }
-    ensures first { (path : List Decision) → AreFlags (is_undecided_change net.now rows.now path) (length net.now.activities) undecided.now.changes.items → AreFlags (is_undecided_pair net.now rows.now path) (length net.now.pairs) undecided.now.pairs.items → result ≡ violated_from net.now rows.now path times.now first }
-    ensures flagged { IfSome result (IsFlagged net.now undecided.now.changes.items undecided.now.pairs.items) }
-    ensures changes_cleared { Clears (comes_too_early net.now rows.now times.now) marks.old.changes marks.new.changes }
-    ensures pairs_cleared { Clears (is_unmet_pair net.now rows.now times.now) marks.old.pairs marks.new.pairs }
+    requires marked { AreMarked net.now rows.now times.now undecided.now marks.old }
+    ensures first { (path : List Decision) → LeavesUndecided net.now rows.now path undecided.now → result ≡ violated_from net.now rows.now path times.now first }
+    ensures flagged { IfSome result (IsFlagged net.now undecided.now) }
+    ensures cleared { AreCleared net.now rows.now times.now marks.old marks.new }
 {
     let changes = &mut marks.changes;
     if let Some(a) = next_change(net, rows, &undecided.changes, times, changes, first) {
@@ -92,15 +93,11 @@ fn violated_pair_from<L: Ledger>(
     steps: &mut Steps<L>,
 ) -> Option<Choice>
     requires sized { IsSized net.now rows.now }
-    requires changes { length undecided.now.changes.items ≡ length net.now.activities }
-    requires pairs { length undecided.now.pairs.items ≡ length net.now.pairs }
     requires size { length times.now ≡ length net.now.events }
-    requires change_marks { AreMarksOf undecided.now.changes.items (comes_too_early net.now rows.now times.now) (length net.now.activities) marks.old.changes }
-    requires pair_marks { AreMarksOf undecided.now.pairs.items (is_unmet_pair net.now rows.now times.now) (length net.now.pairs) marks.old.pairs }
-    ensures first { (path : List Decision) → AreFlags (is_undecided_change net.now rows.now path) (length net.now.activities) undecided.now.changes.items → AreFlags (is_undecided_pair net.now rows.now path) (length net.now.pairs) undecided.now.pairs.items → result ≡ violated_pair_from net.now rows.now path times.now first }
-    ensures flagged { IfSome result (IsFlagged net.now undecided.now.changes.items undecided.now.pairs.items) }
-    ensures changes_cleared { Clears (comes_too_early net.now rows.now times.now) marks.old.changes marks.new.changes }
-    ensures pairs_cleared { Clears (is_unmet_pair net.now rows.now times.now) marks.old.pairs marks.new.pairs }
+    requires marked { AreMarked net.now rows.now times.now undecided.now marks.old }
+    ensures first { (path : List Decision) → LeavesUndecided net.now rows.now path undecided.now → result ≡ violated_pair_from net.now rows.now path times.now first }
+    ensures flagged { IfSome result (IsFlagged net.now undecided.now) }
+    ensures cleared { AreCleared net.now rows.now times.now marks.old marks.new }
 {
     let pairs = &mut marks.pairs;
     match next_pair(net, rows, &undecided.pairs, times, pairs, first, steps) {
@@ -119,10 +116,9 @@ pub fn is_violated<L: Ledger>(
     steps: &mut Steps<L>,
 ) -> bool
     requires sized { IsSized net.now rows.now }
-    requires changes { length undecided.now.changes.items ≡ length net.now.activities }
-    requires pairs { length undecided.now.pairs.items ≡ length net.now.pairs }
+    requires flags { AreFlagsFor net.now undecided.now }
     requires size { length times.now ≡ length net.now.events }
-    ensures { (path : List Decision) → AreFlags (is_undecided_change net.now rows.now path) (length net.now.activities) undecided.now.changes.items → AreFlags (is_undecided_pair net.now rows.now path) (length net.now.pairs) undecided.now.pairs.items → IsTrue result ↔ IsViolated net.now rows.now path times.now choice }
+    ensures { (path : List Decision) → LeavesUndecided net.now rows.now path undecided.now → IsTrue result ↔ IsViolated net.now rows.now path times.now choice }
 {
     net.sound();
     let Some(place) = place_of_choice(net, choice) else {
@@ -137,7 +133,7 @@ fn is_unkept<L: Ledger>(
     net: &Network,
     rows: &Rows,
     times: &Times,
-    place: Place,
+    place: ChoicePlace,
     steps: &mut Steps<L>,
 ) -> bool
     requires sized { IsSized net.now rows.now }
@@ -146,8 +142,8 @@ fn is_unkept<L: Ledger>(
     ensures { result ≡ at_place (comes_too_early net.now rows.now times.now) (is_unmet_pair net.now rows.now times.now) place }
 {
     match place {
-        Place::Change(a) => comes_too_early(net, rows, times, a),
-        Place::Pair(p) => is_unmet(net, rows, times, p, steps),
+        ChoicePlace::Change(a) => comes_too_early(net, rows, times, a),
+        ChoicePlace::Pair(p) => is_unmet(net, rows, times, p, steps),
     }
 }
 
@@ -261,14 +257,4 @@ fn has_unmet_from<L: Ledger>(
         }
     }
     false
-}
-
-/// The pair at a place as a choice.
-fn choice_of_pair(net: &Network, p: usize) -> Choice
-    requires { p < length net.now.pairs }
-    ensures { result ≡ pair_choice net.now p }
-{
-    net.sound();
-    let pair = net.pair(p);
-    Choice::Pair(net.event(pair.small).id, net.event(pair.large).id)
 }

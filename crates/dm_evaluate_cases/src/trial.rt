@@ -6,13 +6,11 @@ ghost use Rattle.dm_evaluate.specs.Evaluator.{IsEvaluatorOf};
 ghost use Rattle.dm_paths.specs.Decisions.{IsOpen};
 
 use dm_base::Cost;
-use dm_deciding::{decide, undecide, violated};
 use dm_evaluate::Evaluator;
 use dm_network::Network;
-use dm_paths::choice_of;
 use dm_relax::{Relaxed, relax};
 use dm_rows::{Choice, Decision, Rows};
-use dm_samples::Failure;
+use dm_samples::{Failure, decide, undecide, violated};
 use dm_settle::{NoTimes, Times};
 use std::alloc::{AllocError, Global};
 use std::marker::Model;
@@ -66,7 +64,7 @@ impl<'n> Trial<'n> {
 
     /// Decides a choice, and says whether the longer path has a cycle.
     pub fn decide(&mut self, alloc: Global, decision: Decision) -> Result<Decided, Failure> {
-        if !self.evaluator.is_open(self.net, choice_of(decision)) {
+        if !self.evaluator.is_open(self.net, decision.choice()) {
             return Ok(Decided::NotOpen);
         }
         let due = closes_cycle(alloc, self.net, &self.evaluator, decision)?;

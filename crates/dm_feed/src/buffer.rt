@@ -47,7 +47,8 @@ fn read_behind<S: Source>(
     requires some { 0 < most }
     requires room { held + most ≤ length bytes.old }
     ensures short { IfOk result (λ count. count ≤ most) }
-    ensures ok { IfOk result (λ count. TakesPiece (S.left source.old) (S.left source.new) (take held bytes.old) (take (held + count) bytes.new) count) }
+    ensures ok { IfOk result (λ count. TakesPiece (S.left source.old) (S.left source.new) (take held bytes.old)
+        (take (held + count) bytes.new) count) }
     ensures kept { take held bytes.new ≡ take held bytes.old }
     ensures err { OnErr result (Keeps (S.left source.old) (S.left source.new)) }
     ensures cause { Counts (S.faults source.old) (S.faults source.new) result }

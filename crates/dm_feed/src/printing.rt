@@ -29,7 +29,8 @@ fn put_numbers<K: Sink>(
     first: u64,
     second: u64,
 ) -> Result<(), WriteFault>
-    ensures { Prints K.taken K.faults sink.old sink.new page.old page.new result (joined (words.now ∷ decimal first ∷ codes " " ∷ decimal second ∷ [])) }
+    ensures { Prints K.taken K.faults sink.old sink.new page.old page.new result
+        (joined (words.now ∷ decimal first ∷ codes " " ∷ decimal second ∷ [])) }
 {
     let pieces = [
         Piece::Text(words),
@@ -79,7 +80,8 @@ fn put_adopted<K: Sink>(
     page: &mut Page,
     decisions: &[Decision],
 ) -> Result<(), WriteFault>
-    ensures { Prints K.taken K.faults sink.old sink.new page.old page.new result (codes "adopt" ++ flat_map spelling_of_decision decisions.now) }
+    ensures { Prints K.taken K.faults sink.old sink.new page.old page.new result
+        (codes "adopt" ++ flat_map spelling_of_decision decisions.now) }
 {
     let Ok(()) = page.put_bytes(sink, b"adopt") else {
         return Err(WriteFault);

@@ -309,10 +309,12 @@ impl<S: Source> LineReader<S> {
 
         // Where the source tells what is left: the first due item of it, and then the others are left; a stop only
         // where there is none, by the size of the feed.
-        ensures in_order { self.old.stop ≡ None → IfSome (S.left self.old.source) (λ rest. AnswersInOrder S.left self.old self.new rest result) }
+        ensures in_order { self.old.stop ≡ None → IfSome (S.left self.old.source)
+            (λ rest. AnswersInOrder S.left self.old self.new rest result) }
 
         // So the due items that are left determine the answer, unless a read failed.
-        ensures exactly { self.old.stop ≡ None → result ≢ Next.Stop FeedStop.Fault → IfSome (S.left self.old.source) (λ rest. IsDetermined self.old rest result) }
+        ensures exactly { self.old.stop ≡ None → result ≢ Next.Stop FeedStop.Fault
+            → IfSome (S.left self.old.source) (λ rest. IsDetermined self.old rest result) }
 
         // A stop is the last answer.
         ensures stopped { StopsAt self.new result }

@@ -16,7 +16,8 @@ fn next_line(draws: &mut Draws, trains: u32) -> Line
     requires least { 0 < trains }
     requires most { trains ≤ 2000 }
     ensures moved { draws.new.state ≡ next_state (next_state draws.old.state) }
-    ensures line { result ≡ Line.Say (Message.DelayEvent (record { 0 = drawn_below (20 * trains) (next_state draws.old.state) + 1 }) (drawn_below 900 draws.new.state + 1)) }
+    ensures line { result ≡ Line.Say (Message.DelayEvent (record { 0 = drawn_below (20 * trains) (next_state draws.old.state) + 1 })
+        (drawn_below 900 draws.new.state + 1)) }
 {
     let event = draws.below(20 * u64::from(trains)) as u32 + 1;
     let delay = draws.below(900) + 1;

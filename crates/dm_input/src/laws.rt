@@ -13,12 +13,14 @@ use dm_network::NetFault;
 
 /// The records of two files make one network at most.
 pub fn records_make_one_network()
-    ensures { (events : List EventRow) (activities : List ActRow) (one other : Net) → IsMadeOf events activities one → IsMadeOf events activities other → one ≡ other }
+    ensures { (events : List EventRow) (activities : List ActRow) (one other : Net) → IsMadeOf events activities one
+        → IsMadeOf events activities other → one ≡ other }
 {}
 
 /// Records that make a network are not refused.
 pub fn records_are_made_or_refused()
-    ensures { (events : List EventRow) (activities : List ActRow) (fault : NetFault) → RefusesRecords events activities fault → (net : Net) → IsBuiltFrom events activities net → fault ≢ NetFault.OutOfMemory → ⊥ }
+    ensures { (events : List EventRow) (activities : List ActRow) (fault : NetFault) → RefusesRecords events activities fault → (net : Net)
+        → IsBuiltFrom events activities net → fault ≢ NetFault.OutOfMemory → ⊥ }
 {}
 
 /// Words, and files that the shelf tells, determine one network with its start rows or one first refusal, but for which

@@ -145,7 +145,8 @@ fn print_in_folder<'x, K: Sink>(
     folder: &'x str,
     name: Option<&'x str>,
 ) -> Result<(), WriteFault>
-    ensures { Prints K.taken K.faults sink.old sink.new page.old page.new result (unwrap_or (option_map (λ x. folder.now ++ (codes "/" ++ x.now)) name.entry) []) }
+    ensures { Prints K.taken K.faults sink.old sink.new page.old page.new result
+        (unwrap_or (option_map (λ x. folder.now ++ (codes "/" ++ x.now)) name.entry) []) }
 {
     match name {
         None => page.put(sink, &[]),

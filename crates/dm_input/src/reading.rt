@@ -147,8 +147,10 @@ fn read_file<H: Shelf, R: FileRow>(
     file: File,
 ) -> Result<Vec<R>, InputStop>
     ensures kept { IsKept H.files H.is_sound shelf.old shelf.new }
-    ensures rows { IfOk result (λ rows. FileStage (H.files shelf.old) (file_name (files_of words.now) file) file (R.reads words.now.columns) (Ok rows.items)) }
-    ensures stops { IfErr result (StopsAtFile (H.files shelf.old) (H.is_sound shelf.old) (file_name (files_of words.now) file) file (R.reads words.now.columns)) }
+    ensures rows { IfOk result (λ rows. FileStage (H.files shelf.old) (file_name (files_of words.now) file) file (R.reads words.now.columns)
+        (Ok rows.items)) }
+    ensures stops { IfErr result (StopsAtFile (H.files shelf.old) (H.is_sound shelf.old) (file_name (files_of words.now) file) file
+        (R.reads words.now.columns)) }
 {
     let Some(name) = name_in_folder(words, file) else {
         return Ok(Vec::new(alloc));

@@ -50,7 +50,8 @@ fn refused(column: Column, fault: NumFault) -> FileKind
 
 // A number that was read, where it may stand under the column.
 fn number_under(column: Column, number: u64) -> Result<u64, FileKind>
-    ensures { MatchResult result (λ n. (n ≡ number) × (number ≤ largest_of column)) (λ why. (largest_of column < number) × (why ≡ FileKind.TooLarge column)) }
+    ensures { MatchResult result (λ n. (n ≡ number) × (number ≤ largest_of column))
+        (λ why. (largest_of column < number) × (why ≡ FileKind.TooLarge column)) }
 {
     if number <= largest(column) {
         Ok(number)

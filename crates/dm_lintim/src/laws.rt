@@ -32,7 +32,8 @@ pub fn one_answer_of_activities()
 
 /// The bytes of a file of delays have one answer at most.
 pub fn one_answer_of_delays()
-    ensures { (bytes : List ℕ) (one other : Result (List DelayRow) FileFault) → ReadsDelays bytes one → ReadsDelays bytes other → one ≡ other }
+    ensures { (bytes : List ℕ) (one other : Result (List DelayRow) FileFault) → ReadsDelays bytes one → ReadsDelays bytes other
+        → one ≡ other }
 {}
 
 /// Two texts of column words have one answer at most.

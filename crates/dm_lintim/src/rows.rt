@@ -53,7 +53,8 @@ pub(crate) trait Row: Drop {
 fn read_kind<R: Row>(values: &mut Values<R::Kind>, text: &[u8]) -> Result<(), FileKind>
     requires { AreWithin values.old.numbers }
     ensures takes { OnOk result (TakesField R.is_known (Some Column.Kind) text.now) }
-    ensures puts { OnOk result (PutsCell R.names (Some Column.Kind) text.now values.old.numbers values.old.kind values.new.numbers values.new.kind) }
+    ensures puts { OnOk result (PutsCell R.names (Some Column.Kind) text.now values.old.numbers values.old.kind values.new.numbers
+        values.new.kind) }
     ensures within { OnOk result (AreWithin values.new.numbers) }
     ensures refuses { IfErr result (RefusesField R.is_known (Some Column.Kind) text.now) }
 {
@@ -74,7 +75,8 @@ fn read_cell<R: Row>(
 ) -> Result<(), FileKind>
     requires { AreWithin values.old.numbers }
     ensures takes { OnOk result (TakesField R.is_known column (cell_of field.now)) }
-    ensures puts { OnOk result (PutsCell R.names column (cell_of field.now) values.old.numbers values.old.kind values.new.numbers values.new.kind) }
+    ensures puts { OnOk result (PutsCell R.names column (cell_of field.now) values.old.numbers values.old.kind values.new.numbers
+        values.new.kind) }
     ensures within { OnOk result (AreWithin values.new.numbers) }
     ensures refuses { IfErr result (RefusesField R.is_known column (cell_of field.now)) }
 {

@@ -5,3 +5,5 @@ pub mod Resting
 pub mod Heads
 pub mod Fixing
 pub mod Alike
+pub mod Standing
+pub mod OutOf

@@ -1,6 +1,7 @@
--- A move, and a pass, keep a timetable live.
-use Rattle.std.proofs.Common.{◌≡◌, ℕ, ◌<◌, ◌≤◌, Bool, true, false, List, [], ◌∷◌, length, sym, ap, subst, ◌∙◌, inl, inr, arith, slice_index, length-set}
+-- A move, and a sweep, keep a timetable live.
+use Rattle.std.proofs.Common.{◌≡◌, ℕ, ◌<◌, ◌≤◌, Bool, true, false, List, [], ◌∷◌, length, sym, ap, subst, ◌∙◌, if◌then◌else◌, inl, inr, arith, slice_index, length-set, get_or-set_same, get_or-set_other}
 use Rattle.std.specs.Prelude.{slice_set}
+use Rattle.std.proofs.lemmas.Bool.{cases_eq}
 use Rattle.dm_graph.specs.Arcs.{Arcs}
 use Rattle.dm_network.specs.Net.{Net, activity_at, EndsAreKnown}
 use Rattle.dm_network.specs.Held.{is_held}
@@ -10,93 +11,158 @@ use Rattle.dm_settle.specs.Constraints.{ConstraintsValue, graph_given}
 use Rattle.dm_settle.specs.Settling.{AreLeast}
 use Rattle.dm_settle.specs.Settling.{ReadsFew as PassReadsFew}
 use Rattle.dm_settle.proofs.Least.{least_is_settled}
-use Rattle.dm_live.specs.Live.{IsLive, LiveValue, ReadsFew}
+use Rattle.dm_live.specs.Live.{IsLive, LiveValue, ReadsFew, is_fixed, HoldsUnfixed, FixedStand}
 use Rattle.dm_live.specs.Inside.Placing.{ArePlaced}
 use Rattle.dm_live.proofs.Moving.{marked_for_one, marked_for_none, floor_of_one, span_of_one, held_of_one}
 use Rattle.dm_live.proofs.Ordering.{with_one, without_one}
+use Rattle.dm_live.proofs.Standing.{flag_here, flag_there, least_stand}
 
 module _ (net : Net) (live : LiveValue) (is : IsLive net live) where
-  pub floor_moves : (i floor : ℕ) → i < length net.events → (given : ConstraintsValue) (marks : List Bool) →
+  -- a fixed event that keeps its floor stands
+  floor_stands : (i floor : ℕ) → i < length net.events → (is_fixed live.fixed i ≡ true → floor ≡ slice_index live.given.floors i) →
+      FixedStand net (record live.given { floors = slice_set live.given.floors i floor }) live.times live.fixed
+  floor_stands i floor lt stays e on = record {
+    entered = (is.stand e on).entered;
+    at_floor = (is.stand e on).at_floor ∙ elim (cases_eq e i) [
+      | inl here ↦
+          let same : floor ≡ slice_index live.given.floors i = stays (ap (is_fixed live.fixed) (sym here) ∙ on) in
+          let size = is.sized.floors in
+          ap (slice_index live.given.floors) here ∙ sym same ∙ sym (get_or-set_same live.given.floors i floor 0 (omega arith))
+          ∙ ap (slice_index (slice_set live.given.floors i floor)) (sym here)
+      | inr other ↦ sym (get_or-set_other live.given.floors i e floor 0 other)
+    ];
+  }
+
+  pub floor_moves : (i floor : ℕ) → i < length net.events → (is_fixed live.fixed i ≡ true → floor ≡ slice_index live.given.floors i) → (given : ConstraintsValue) (marks : List Bool) →
       given ≡ record live.given { floors = slice_set live.given.floors i floor } → marks ≡ slice_set live.marks i true →
-      IsLive net (record { given = given; order = live.order; times = live.times; marks = marks })
-  floor_moves i floor lt given marks given_is marks_are =
-      subst (λ (g : ConstraintsValue). IsLive net (record { given = g; order = live.order; times = live.times; marks = marks })) (sym given_is)
-      (subst (λ (ms : List Bool). IsLive net (record { given = record live.given { floors = slice_set live.given.floors i floor }; order = live.order; times = live.times; marks = ms })) (sym marks_are)
+      IsLive net (record { given = given; order = live.order; times = live.times; marks = marks; fixed = live.fixed })
+  floor_moves i floor lt stays given marks given_is marks_are =
+      subst (λ (g : ConstraintsValue). IsLive net (record { given = g; order = live.order; times = live.times; marks = marks; fixed = live.fixed })) (sym given_is)
+      (subst (λ (ms : List Bool). IsLive net (record { given = record live.given { floors = slice_set live.given.floors i floor }; order = live.order; times = live.times; marks = ms; fixed = live.fixed })) (sym marks_are)
       (record {
         sized = record { held = is.sized.held; floors = length-set live.given.floors i floor ∙ is.sized.floors; spans = is.sized.spans };
         ordered = is.ordered;
-        alike = is.alike;
+        as_many_fixed = is.as_many_fixed;
+        in_order = is.in_order;
+        stand = floor_stands i floor lt stays;
         marked = marked_for_one net live.given (record live.given { floors = slice_set live.given.floors i floor }) live.marks live.times i lt
             (floor_of_one net live.given i floor) is.marked;
       }))
 
-  pub floor_rises : (i floor : ℕ) → i < length net.events → slice_index live.given.floors i ≤ floor → floor ≤ slice_index live.times i →
+  pub floor_rises : (i floor : ℕ) → i < length net.events → (is_fixed live.fixed i ≡ true → floor ≡ slice_index live.given.floors i) → slice_index live.given.floors i ≤ floor → floor ≤ slice_index live.times i →
       (given : ConstraintsValue) → given ≡ record live.given { floors = slice_set live.given.floors i floor } →
-      IsLive net (record { given = given; order = live.order; times = live.times; marks = live.marks })
-  floor_rises i floor lt rises low given given_is =
+      IsLive net (record { given = given; order = live.order; times = live.times; marks = live.marks; fixed = live.fixed })
+  floor_rises i floor lt stays rises low given given_is =
       let size = is.sized.floors in
-      subst (λ (g : ConstraintsValue). IsLive net (record { given = g; order = live.order; times = live.times; marks = live.marks })) (sym given_is)
+      subst (λ (g : ConstraintsValue). IsLive net (record { given = g; order = live.order; times = live.times; marks = live.marks; fixed = live.fixed })) (sym given_is)
       (record {
         sized = record { held = is.sized.held; floors = length-set live.given.floors i floor ∙ is.sized.floors; spans = is.sized.spans };
         ordered = is.ordered;
-        alike = is.alike;
+        as_many_fixed = is.as_many_fixed;
+        in_order = is.in_order;
+        stand = floor_stands i floor lt stays;
         marked = marked_for_none net live.given live.marks live.times i floor (omega arith) rises low is.marked;
       })
 
   pub span_moves : EndsAreKnown net → (a span : ℕ) → a < length net.activities → (given : ConstraintsValue) (marks : List Bool) →
       given ≡ record live.given { spans = slice_set live.given.spans a span } → marks ≡ slice_set live.marks (activity_at net a).head true →
-      IsLive net (record { given = given; order = live.order; times = live.times; marks = marks })
+      IsLive net (record { given = given; order = live.order; times = live.times; marks = marks; fixed = live.fixed })
   span_moves known a span lt given marks given_is marks_are =
-      subst (λ (g : ConstraintsValue). IsLive net (record { given = g; order = live.order; times = live.times; marks = marks })) (sym given_is)
-      (subst (λ (ms : List Bool). IsLive net (record { given = record live.given { spans = slice_set live.given.spans a span }; order = live.order; times = live.times; marks = ms })) (sym marks_are)
+      subst (λ (g : ConstraintsValue). IsLive net (record { given = g; order = live.order; times = live.times; marks = marks; fixed = live.fixed })) (sym given_is)
+      (subst (λ (ms : List Bool). IsLive net (record { given = record live.given { spans = slice_set live.given.spans a span }; order = live.order; times = live.times; marks = ms; fixed = live.fixed })) (sym marks_are)
       (record {
         sized = record { held = is.sized.held; floors = is.sized.floors; spans = length-set live.given.spans a span ∙ is.sized.spans };
         ordered = is.ordered;
-        alike = is.alike;
+        as_many_fixed = is.as_many_fixed;
+        in_order = is.in_order;
+        stand = λ e on. record { entered = (is.stand e on).entered; at_floor = (is.stand e on).at_floor };
         marked = marked_for_one net live.given (record live.given { spans = slice_set live.given.spans a span }) live.marks live.times
             (activity_at net a).head (known.heads a lt) (span_of_one net live.given a span) is.marked;
-      }))
-
-  flag_moves : EndsAreKnown net → (a : ℕ) (flag : Bool) → a < length net.activities → (order : OrderValue) (given : ConstraintsValue) (marks : List Bool) →
-      IsOrderOf net order → ((b : ℕ) → b < length net.activities → is_held order.held b ≡ is_held (slice_set live.given.held a flag) b) →
-      given ≡ record live.given { held = slice_set live.given.held a flag } → marks ≡ slice_set live.marks (activity_at net a).head true →
-      IsLive net (record { given = given; order = order; times = live.times; marks = marks })
-  flag_moves known a flag lt order given marks ordered alike given_is marks_are =
-      subst (λ (g : ConstraintsValue). IsLive net (record { given = g; order = order; times = live.times; marks = marks })) (sym given_is)
-      (subst (λ (ms : List Bool). IsLive net (record { given = record live.given { held = slice_set live.given.held a flag }; order = order; times = live.times; marks = ms })) (sym marks_are)
-      (record {
-        sized = record { held = length-set live.given.held a flag ∙ is.sized.held; floors = is.sized.floors; spans = is.sized.spans };
-        ordered = ordered;
-        alike = alike;
-        marked = marked_for_one net live.given (record live.given { held = slice_set live.given.held a flag }) live.marks live.times
-            (activity_at net a).head (known.heads a lt) (held_of_one net live.given a flag) is.marked;
       }))
 
   in_flags : (a : ℕ) → a < length net.activities → a < length live.given.held
   in_flags a lt = let size = is.sized.held in omega arith
 
+  -- what is held into an event that is not fixed leaves the fixed ones standing
+  flag_stands : (a : ℕ) (flag : Bool) → a < length live.given.held → (flag ≡ true → is_fixed live.fixed (activity_at net a).head ≡ false) →
+      FixedStand net (record live.given { held = slice_set live.given.held a flag }) live.times live.fixed
+  flag_stands a flag below free e on = record {
+    entered = λ b lt holds. elim (cases_eq b a) [
+      | inl here ↦ λ head.
+          let flag_on : flag ≡ true =
+          sym (get_or-set_same live.given.held a flag false below) ∙ ap (is_held (slice_set live.given.held a flag)) (sym here) ∙ holds in
+          let off : is_fixed live.fixed e ≡ false =
+          ap (is_fixed live.fixed) (sym head ∙ ap (λ (c : ℕ). (activity_at net c).head) here) ∙ free flag_on in
+          absurd cc
+      | inr other ↦ (is.stand e on).entered b lt (sym (get_or-set_other live.given.held a b flag false other) ∙ holds)
+    ];
+    at_floor = (is.stand e on).at_floor;
+  }
+
+  flag_moves : EndsAreKnown net → (a : ℕ) (flag : Bool) → a < length net.activities → (flag ≡ true → is_fixed live.fixed (activity_at net a).head ≡ false) → (order : OrderValue) (given : ConstraintsValue) (marks : List Bool) →
+      IsOrderOf net order → HoldsUnfixed net order (record live.given { held = slice_set live.given.held a flag }) live.fixed →
+      given ≡ record live.given { held = slice_set live.given.held a flag } → marks ≡ slice_set live.marks (activity_at net a).head true →
+      IsLive net (record { given = given; order = order; times = live.times; marks = marks; fixed = live.fixed })
+  flag_moves known a flag lt free order given marks ordered in_order given_is marks_are =
+      subst (λ (g : ConstraintsValue). IsLive net (record { given = g; order = order; times = live.times; marks = marks; fixed = live.fixed })) (sym given_is)
+      (subst (λ (ms : List Bool). IsLive net (record { given = record live.given { held = slice_set live.given.held a flag }; order = order; times = live.times; marks = ms; fixed = live.fixed })) (sym marks_are)
+      (record {
+        sized = record { held = length-set live.given.held a flag ∙ is.sized.held; floors = is.sized.floors; spans = is.sized.spans };
+        ordered = ordered;
+        as_many_fixed = is.as_many_fixed;
+        in_order = in_order;
+        stand = flag_stands a flag (in_flags a lt) free;
+        marked = marked_for_one net live.given (record live.given { held = slice_set live.given.held a flag }) live.marks live.times
+            (activity_at net a).head (known.heads a lt) (held_of_one net live.given a flag) is.marked;
+      }))
+
   pub release_moves : EndsAreKnown net → (a : ℕ) → a < length net.activities → (order : OrderValue) (given : ConstraintsValue) (marks : List Bool) →
       ((n : Net) → IsOrderOf n live.order → IsOrderOf n order) → ((b : ℕ) → is_held order.held b ≡ held_without live.order.held (a ∷ []) b) →
       given ≡ record live.given { held = slice_set live.given.held a false } → marks ≡ slice_set live.marks (activity_at net a).head true →
-      IsLive net (record { given = given; order = order; times = live.times; marks = marks })
+      IsLive net (record { given = given; order = order; times = live.times; marks = marks; fixed = live.fixed })
   release_moves known a lt order given marks ordered held given_is marks_are =
-      flag_moves known a false lt order given marks (ordered net is.ordered)
-      (λ b below. held b ∙ without_one net live.order live.given is.alike a (in_flags a lt) b below) given_is marks_are
+      flag_moves known a false lt (λ on. absurd (let no : false ≡ true = on in cc)) order given marks (ordered net is.ordered)
+      (λ b below. held b ∙ without_one net live.order live.given live.fixed is.in_order a lt (in_flags a lt) b below) given_is marks_are
 
-  pub hold_moves : EndsAreKnown net → (a : ℕ) → a < length net.activities → (order : OrderValue) (given : ConstraintsValue) (marks : List Bool) →
-      IsOrderOf net order → ((b : ℕ) → is_held order.held b ≡ held_with live.order.held (a ∷ []) b) →
+  pub hold_moves : EndsAreKnown net → (a : ℕ) → a < length net.activities → is_fixed live.fixed (activity_at net a).head ≡ false →
+      (fixed : Bool) → fixed ≡ is_fixed live.fixed (activity_at net a).tail → (order : OrderValue) (given : ConstraintsValue) (marks : List Bool) →
+      IsOrderOf net order → ((b : ℕ) → is_held order.held b ≡ (if fixed then is_held live.order.held b else held_with live.order.held (a ∷ []) b)) →
       given ≡ record live.given { held = slice_set live.given.held a true } → marks ≡ slice_set live.marks (activity_at net a).head true →
-      IsLive net (record { given = given; order = order; times = live.times; marks = marks })
-  hold_moves known a lt order given marks ordered held given_is marks_are =
-      flag_moves known a true lt order given marks ordered
-      (λ b below. held b ∙ with_one net live.order live.given is.alike a (in_flags a lt) b below) given_is marks_are
+      IsLive net (record { given = given; order = order; times = live.times; marks = marks; fixed = live.fixed })
+  hold_moves known a lt free fixed fixed_is order given marks ordered held given_is marks_are =
+      flag_moves known a true lt (λ on. free) order given marks ordered
+      (λ b below. held b ∙ ap (λ (c : Bool). if c then is_held live.order.held b else held_with live.order.held (a ∷ []) b) fixed_is
+      ∙ with_one net live.order live.given live.fixed is.in_order a lt (in_flags a lt) b below) given_is marks_are
+
+  -- an event is free
+  pub free_moves : (i : ℕ) → i < length net.events → (order : OrderValue) (fixed : List Bool) → fixed ≡ slice_set live.fixed i false → IsOrderOf net order →
+      HoldsUnfixed net order live.given (slice_set live.fixed i false) →
+      IsLive net (record { given = live.given; order = order; times = live.times; marks = live.marks; fixed = fixed })
+  free_moves i lt order fixed fixed_is ordered in_order =
+      subst (λ (f : List Bool). IsLive net (record { given = live.given; order = order; times = live.times; marks = live.marks; fixed = f })) (sym fixed_is)
+      (record {
+        sized = is.sized;
+        ordered = ordered;
+        as_many_fixed = length-set live.fixed i false ∙ is.as_many_fixed;
+        in_order = in_order;
+        stand = λ e on. is.stand e (elim (cases_eq e i) [
+          | inl here ↦
+              let many = is.as_many_fixed in
+              let off : is_fixed (slice_set live.fixed i false) e ≡ false = ap (is_fixed (slice_set live.fixed i false)) here ∙ flag_here live.fixed i false (omega arith) in
+              absurd cc
+          | inr other ↦ sym (flag_there live.fixed i e false other) ∙ on
+        ]);
+        marked = is.marked;
+      })
 
   pub settled_live : (times : List ℕ) (marks : List Bool) → AreLeast (graph_given net live.given) times → length marks ≡ length live.marks →
-      IsLive net (record { given = live.given; order = live.order; times = times; marks = marks })
+      IsLive net (record { given = live.given; order = live.order; times = times; marks = marks; fixed = live.fixed })
   settled_live times marks least room = record {
     sized = is.sized;
     ordered = is.ordered;
-    alike = is.alike;
+    as_many_fixed = is.as_many_fixed;
+    in_order = is.in_order;
+    stand = least_stand net live.order live.given live.fixed live.times is.ordered is.in_order is.stand is.as_many_fixed times least;
     marked = record {
       as_many_marks = room ∙ is.marked.as_many_marks;
       as_many_times = least.as_many;
@@ -105,22 +171,22 @@ module _ (net : Net) (live : LiveValue) (is : IsLive net live) where
   }
 
 pub reads_few : (g : Arcs) (ranks : List ℕ) (before after : LiveValue) (placed placed_now : List Bool) (times times_now : List ℕ) (first last : ℕ) →
-    length before.marks ≡ g.events → ArePlaced (length before.marks) ranks before.marks placed → times ≡ before.times → times_now ≡ after.times →
+    length before.marks ≡ g.events → ArePlaced (length before.marks) ranks before.marks before.fixed placed → times ≡ before.times → times_now ≡ after.times →
     PassReadsFew g ranks (record { marks = placed; times = times; steps = first }) (record { marks = placed_now; times = times_now; steps = last }) →
     ReadsFew g before after first last
-reads_few g ranks before after placed placed_now times times_now first last many are times_are now_are pass = record {
-  renewed = pass.renewed;
-  moved = pass.moved;
-  counted = pass.counted;
+reads_few g ranks before after placed placed_now times times_now first last many are times_are now_are sweep = record {
+  renewed = sweep.renewed;
+  moved = sweep.moved;
+  counted = sweep.counted;
   reads = record {
-    are_events = pass.reads.are_events;
-    renewed_once = pass.reads.renewed_once;
-    moved_once = pass.reads.moved_once;
-    caused = λ e c. elim (pass.reads.caused e c) [
-      | inl marked ↦ let lt = pass.reads.are_events e c in inl (are.only e (omega arith) marked)
+    are_events = sweep.reads.are_events;
+    renewed_once = sweep.reads.renewed_once;
+    moved_once = sweep.reads.moved_once;
+    caused = λ e c. elim (sweep.reads.caused e c) [
+      | inl marked ↦ let lt = sweep.reads.are_events e c in inl (are.only e (omega arith) marked).marked
       | inr follows ↦ inr follows
     ];
-    differs = λ e c same. pass.reads.differs e c
+    differs = λ e c same. sweep.reads.differs e c
         (ap (λ (ts : List ℕ). slice_index ts e) times_are ∙ same ∙ ap (λ (ts : List ℕ). slice_index ts e) (sym now_are));
   };
 }

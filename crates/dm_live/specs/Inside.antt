@@ -4,3 +4,5 @@ pub mod Placing
 pub mod Marking
 -- An order that is brought to hold what constraints hold.
 pub mod Aligning
+-- Activities that an order takes up.
+pub mod Taking

@@ -1,5 +1,5 @@
 -- A timetable that is kept while what its events are held to changes.
-use Rattle.std.specs.Prelude.{ℕ, nat_eq, ◌≡◌, ◌≢◌, ◌+◌, ◌<◌, ◌⊎◌, Bool, true, false, List, length, slice_index, slice_set}
+use Rattle.std.specs.Prelude.{ℕ, nat_eq, ◌≡◌, ◌≢◌, ◌+◌, ◌<◌, ◌⊎◌, Bool, true, false, List, length, slice_index, slice_index_or, slice_set, if◌then◌else◌}
 use Rattle.std.specs.List.{Contains, IsDistinct}
 use Rattle.dm_graph.specs.Arcs.{Arcs, Binds}
 use Rattle.dm_graph.specs.Graph.{Graph}
@@ -13,16 +13,29 @@ use Rattle.dm_settle.specs.Constraints.{ConstraintsValue, IsSizedFor, graph_give
 use Rattle.dm_settle.specs.Settling.{IsSettled, LeadsOn, Follows}
 use Rattle.dm_marks.specs.Marked.{is_marked, NoneFrom}
 
--- what the events are held to, an order of the held activities, the times of the events, and which events are marked
+-- what the events are held to, an order of held activities, the times of the events, which events are marked, and which are
+-- fixed
 pub record LiveValue : Type 0 where
   pub given : ConstraintsValue
   pub order : OrderValue
   pub times : List ℕ
   pub marks : List Bool
+  pub fixed : List Bool
 
--- the order holds the activities that the constraints hold
-abbrev pub HoldAlike : Net → OrderValue → ConstraintsValue → Type 0
-HoldAlike net order given = (a : ℕ) → a < length net.activities → is_held order.held a ≡ is_held given.held a
+abbrev pub is_fixed : List Bool → ℕ → Bool
+is_fixed fixed i = slice_index_or fixed i false
+
+-- no event is fixed
+abbrev pub NoneFixed : List Bool → Type 0
+NoneFixed fixed = (i : ℕ) → is_fixed fixed i ≡ false
+
+-- the activity is held, and its tail is not fixed
+abbrev pub is_held_on : Net → ConstraintsValue → List Bool → ℕ → Bool
+is_held_on net given fixed a = if is_fixed fixed (activity_at net a).tail then false else is_held given.held a
+
+-- the order holds the held activities out of events that are not fixed, and no others
+abbrev pub HoldsUnfixed : Net → OrderValue → ConstraintsValue → List Bool → Type 0
+HoldsUnfixed net order given fixed = (a : ℕ) → a < length net.activities → is_held order.held a ≡ is_held_on net given fixed a
 
 -- the held activities have a cycle
 pub record HasHeldCycle (net : Net) (given : ConstraintsValue) : Type 0 where
@@ -40,12 +53,27 @@ pub record AreMarked (g : Graph) (marks : List Bool) (times : List ℕ) : Type 0
   pub as_many_times : length times ≡ g.shape.events
   pub settled : (e : ℕ) → e < g.shape.events → is_marked marks e ≡ false → IsSettled g times e
 
--- The lists are the network's, the order is one of the held activities, and the marks take in every event that may not have
--- its time.
+-- nothing that is held enters the event
+abbrev pub IsEnteredByNone : Net → List Bool → ℕ → Type 0
+IsEnteredByNone net held i = (a : ℕ) → a < length net.activities → is_held held a ≡ true → (activity_at net a).head ≢ i
+
+-- nothing that is held enters the event, and its time is its floor
+pub record Stands (net : Net) (given : ConstraintsValue) (times : List ℕ) (i : ℕ) : Type 0 where
+  pub entered : IsEnteredByNone net given.held i
+  pub at_floor : slice_index times i ≡ slice_index given.floors i
+
+-- each fixed event stands
+abbrev pub FixedStand : Net → ConstraintsValue → List ℕ → List Bool → Type 0
+FixedStand net given times fixed = (i : ℕ) → is_fixed fixed i ≡ true → Stands net given times i
+
+-- The lists are the network's, the order is one of the held activities but for those out of fixed events, which stand, and the
+-- marks take in every event that may not have its time.
 pub record IsLive (net : Net) (live : LiveValue) : Type 0 where
   pub sized : IsSizedFor net live.given
   pub ordered : IsOrderOf net live.order
-  pub alike : HoldAlike net live.order live.given
+  pub as_many_fixed : length live.fixed ≡ length net.events
+  pub in_order : HoldsUnfixed net live.order live.given live.fixed
+  pub stand : FixedStand net live.given live.times live.fixed
   pub marked : AreMarked (graph_given net live.given) live.marks live.times
 
 -- no event is marked
@@ -75,10 +103,6 @@ pub record MarksHeads (g : Arcs) (event : ℕ) (before now : List Bool) : Type 0
   pub kept : (e : ℕ) → is_marked before e ≡ true → is_marked now e ≡ true
   pub heads : (a : ℕ) → Binds g a → g.tail a ≡ event → is_marked now (g.head a) ≡ true
   pub only : (e : ℕ) → is_marked now e ≡ true → (is_marked before e ≡ true) ⊎ LeadsOn g event e
-
--- nothing that is held enters the event
-abbrev pub IsEnteredByNone : Net → List Bool → ℕ → Type 0
-IsEnteredByNone net held i = (a : ℕ) → a < length net.activities → is_held held a ≡ true → (activity_at net a).head ≢ i
 
 -- The event has its time, so that it is not marked. Where its time differs, the heads of the arcs that bind out of it are
 -- marked, which reads one row; else no row is read.

@@ -2,8 +2,8 @@
 ghost use Rattle.std.specs.Prelude.{◌≡◌, length, OnOk, OnErr};
 ghost use Rattle.dm_order.specs.Orders.{IsOrderOf};
 ghost use Rattle.dm_settle.specs.Constraints.{IsSizedFor};
-ghost use Rattle.dm_live.specs.Live.{HoldAlike, HasHeldCycle};
-ghost use Rattle.dm_live.specs.Inside.Aligning.{HoldsNoneBefore};
+ghost use Rattle.dm_live.specs.Live.{HasHeldCycle};
+ghost use Rattle.dm_live.specs.Inside.Aligning.{HoldAlike, HoldsNoneBefore};
 
 use dm_graph::search::Cyclic;
 use dm_network::Network;

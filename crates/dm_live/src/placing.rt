@@ -6,11 +6,19 @@ ghost use Rattle.dm_graph.specs.Arrays.{AreRanks};
 
 use dm_marks::Marks;
 
-/// Brings the marks of the events to their places in the order. It looks at the marked events alone.
-pub fn place_marks(marks: &mut Marks, order: &[usize], ranks: &[usize], placed: &mut Marks)
+/// Brings the marks of the events that are not fixed to their places in the order, and takes the others away. It looks at the
+/// marked events alone.
+pub fn place_marks(
+    marks: &mut Marks,
+    fixed: &[bool],
+    order: &[usize],
+    ranks: &[usize],
+    placed: &mut Marks,
+)
     requires ranks { AreRanks (length marks.old) order.now ranks.now }
+    requires as_many { length fixed.now ≡ length marks.old }
     requires clear { IsClear (length marks.old) placed.old }
-    ensures placed { ArePlaced (length marks.old) ranks.now marks.old placed.new }
+    ensures placed { ArePlaced (length marks.old) ranks.now marks.old fixed.now placed.new }
     ensures room { length marks.new ≡ length marks.old }
     ensures none_left { NoneFrom marks.new 0 }
 {
@@ -18,7 +26,9 @@ pub fn place_marks(marks: &mut Marks, order: &[usize], ranks: &[usize], placed: 
     let mut from = 0;
     while let Some(event) = marks.first_from(from) {
         marks.clear(event);
-        placed.mark(ranks[event]);
+        if !fixed[event] {
+            placed.mark(ranks[event]);
+        }
         from = event + 1;
     }
 }

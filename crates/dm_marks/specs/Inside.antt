@@ -1,2 +1,3 @@
--- Blocks of marks.
+-- Blocks of marks, and how many places are listed.
 pub mod Blocks
+pub mod Listing

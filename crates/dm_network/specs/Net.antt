@@ -1,5 +1,5 @@
 -- What a network holds, by place, and how the ids of files name its parts.
-use Rattle.std.specs.Prelude.{ℕ, ◌≡◌, ◌==◌, ◌<◌, ◌≤◌, Bool, true, false, List, length, Option, None, slice_index_or, map, filter, position}
+use Rattle.std.specs.Prelude.{ℕ, ◌≡◌, ◌==◌, ◌^◌, ◌<◌, ◌≤◌, Bool, true, false, List, length, Option, None, slice_index_or, map, filter, position}
 use Rattle.std.specs.List.{range_with_len}
 use Rattle.std.specs.List.Sorted.{IsStrictlyIncreasing}
 use Rattle.dm_base.specs.declared.ids.EventId.{EventId}
@@ -88,6 +88,10 @@ pub record EndsAreKnown (net : Net) : Type 0 where
 abbrev pub HeadwaysAreApart : Net → Type 0
 HeadwaysAreApart net =
     (a : ℕ) → a < length net.activities → is_headway (activity_at net a).kind ≡ true → 1 ≤ (activity_at net a).lower
+
+-- ids of events are numbers of 32 bits
+abbrev pub EventIdsFit : Net → Type 0
+EventIdsFit net = (i : ℕ) → (event_at net i).id.0 < 2 ^ 32
 
 -- sizes and numbers are within the limits
 pub record IsWithinLimits (net : Net) : Type 0 where

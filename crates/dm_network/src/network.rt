@@ -1,12 +1,12 @@
 //! The network and its readers.
-ghost use Rattle.std.specs.Prelude.{◌≡◌, ◌+◌, ◌<◌, ◌≤◌, [], length, OnOk, OnErr};
+ghost use Rattle.std.specs.Prelude.{◌≡◌, ◌+◌, ◌^◌, ◌<◌, ◌≤◌, [], length, OnOk, OnErr};
 ghost use Rattle.dm_graph.specs.Arcs.{IsOrder};
 ghost use Rattle.dm_graph.specs.Arrays.{AreRanks};
 ghost use Rattle.dm_network.specs.Held.{arcs_of, is_held, IsCycleOf};
-ghost use Rattle.dm_network.specs.Net.{event_at, activity_at, pair_at, event_place, activity_place, places_into, places_out_of, places_at, IsWithinLimits};
+ghost use Rattle.dm_network.specs.Net.{event_at, activity_at, pair_at, event_place, activity_place, places_into, places_out_of, places_at, EventIdsFit, IsWithinLimits};
 ghost use Rattle.dm_network.specs.Pairs.{pair_place};
 ghost use Rattle.dm_network.specs.Start.{IsNetwork};
-ghost use Rattle.dm_network.specs.Inside.Stages.{formed_net, StandBeside};
+ghost use Rattle.dm_network.specs.Inside.Stages.{formed_net, with_events, StandBeside};
 
 use crate::arrays::{Arrays, ByStop};
 use crate::find;
@@ -67,6 +67,7 @@ pub fn assembled(formed: Formed, arrays: Arrays) -> Network
         outgoing,
         by_stop: ByStop { stops, places },
     } = arrays;
+    ids_fit(&events);
     Network {
         events,
         activities,
@@ -79,11 +80,27 @@ pub fn assembled(formed: Formed, arrays: Arrays) -> Network
     }
 }
 
+/// The ids of events are numbers of 32 bits, which is learned here once for a network.
+fn ids_fit(events: &[Event])
+    ensures { EventIdsFit (with_events events.now) }
+{
+    for event in events {
+        id_fits(event);
+    }
+}
+
+fn id_fits(event: &Event)
+    ensures { event.now.id.0 < 2 ^ 32 }
+{
+    let _id = event.id.0;
+}
+
 impl Network {
     /// What holds of every network, for a caller's proof. It does nothing.
     pub fn sound(&self)
         ensures network { IsNetwork self.now }
         ensures within { IsWithinLimits self.now }
+        ensures ids { EventIdsFit self.now }
     {
         let _events = self.events.len();
     }

@@ -1,12 +1,21 @@
-//! The tests of networks, rows and times: of what no contract says, worked examples with values from outside, and each call that
-//! may want memory once with ample memory. It stands on the crates that its tests call, and promises nothing.
+//! The tests of networks, rows and times: of what no contract says, worked examples with values from outside, each call that
+//! may want memory once with ample memory, and over generated days dm_times beside a plain program of the definitions. It stands
+//! on the crates that its tests call, and promises nothing.
 #![tactic(auto)]
 
+#[cfg(test)]
+mod agreement;
+#[cfg(test)]
+mod dice;
 #[cfg(test)]
 mod graph;
 #[cfg(test)]
 mod network;
 #[cfg(test)]
+mod plain;
+#[cfg(test)]
 mod rows;
+#[cfg(test)]
+mod said;
 #[cfg(test)]
 mod times;

@@ -1,7 +1,7 @@
 //! Networks from records: the connection at one station, its faults, and a long line.
 ghost use Rattle.std.specs.Prelude.{◌≡◌, ◌<◌, ◌≤◌, length, IsTrue, All};
 ghost use Rattle.dm_network.specs.Build.{AreWithinLimits};
-ghost use Rattle.dm_network_cases.specs.Network.{AreSmallEvents, AreSmallActivities};
+ghost use Rattle.dm_network_cases.specs.Records.{AreSmallEvents, AreSmallActivities};
 
 use dm_base::limits::{BOUND, TIME, WEIGHT};
 use dm_base::{ActId, ActKind, ActRow, EventId, EventKind, EventRow, Steps, StopId};

@@ -11,7 +11,7 @@ use Rattle.dm_rows.specs.Rows.{RowsValue, IsSized}
 use Rattle.dm_rows.specs.Decide.{IsChoiceList}
 use Rattle.dm_rows.specs.Relax.{is_of_pair, is_relaxed_active, is_relaxed_dropped}
 use Rattle.dm_paths.specs.Decisions.{AddsDecision, IsOfChange, IsOfPair, IsFlipOf}
-use Rattle.dm_paths.specs.Decisions.{is_directed, is_bound_by, is_charged_by}
+use Rattle.dm_paths.specs.Decisions.{is_directed, is_held_by, is_charged_by}
 use Rattle.dm_paths.proofs.Paths.{relaxed_same, dropped_same, change_apart, change_not_of, change_bound_before, change_dropped_before, change_binds, change_dropped, pair_no_change, pair_not_of, pair_bound_before, pair_binds}
 use Rattle.std.proofs.lemmas.Bool.{cases_Bool, cases_eq, and_parts, eqb-true, both_ways, eq-eqb}
 use Rattle.dm_rows.specs.Relax.{is_of_pair}
@@ -105,7 +105,7 @@ module _ (net : Net) (network : IsNetwork net) (rows : RowsValue) (sized : IsSiz
       ]
 
   pub held_differs : (flip : Flip) → IsFlipOf net rows d flip → (b : ℕ) → b < length net.activities →
-      DiffersAt (is_bound_by net flip b) (is_relaxed_active net rows path b) (is_relaxed_active net rows other b)
+      DiffersAt (is_held_by net flip b) (is_relaxed_active net rows path b) (is_relaxed_active net rows other b)
   held_differs (Keep a) is b below = keeps_at a is b below
   held_differs (Drop a) is b below = nowhere (is_relaxed_active net rows path b) (is_relaxed_active net rows other b) (drops_at a is b below)
   held_differs (First p small) is b below = orders_at p small is b below

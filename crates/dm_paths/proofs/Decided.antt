@@ -15,7 +15,7 @@ use Rattle.dm_paths.specs.Decisions.{AddsDecision, IsFlipOf}
 use Rattle.dm_paths.specs.Flags.{with_change, with_pair, HasRoomFor}
 use Rattle.dm_paths.proofs.Paths.{undecided_change_same, undecided_pair_same, change_undecided_before, change_decided_after, change_apart, change_no_pair, pair_undecided_before, pair_decided_after, pair_apart, pair_no_change}
 
-flags_set : (f g : ℕ → Bool) (n a : ℕ) (flags : List Bool) (v : Bool) → AreFlags f n flags → a < n → g a ≡ v →
+pub flags_set : (f g : ℕ → Bool) (n a : ℕ) (flags : List Bool) (v : Bool) → AreFlags f n flags → a < n → g a ≡ v →
     ((k : ℕ) → k < n → (k ≡ a → ⊥) → g k ≡ f k) → AreFlags g n (slice_set flags a v)
 flags_set f g n a flags v h below is other =
     let size = h.size in
@@ -27,7 +27,7 @@ flags_set f g n a flags v h below is other =
       ];
     }
 
-flags_same : (f g : ℕ → Bool) (n : ℕ) (flags : List Bool) → AreFlags f n flags → ((k : ℕ) → k < n → g k ≡ f k) → AreFlags g n flags
+pub flags_same : (f g : ℕ → Bool) (n : ℕ) (flags : List Bool) → AreFlags f n flags → ((k : ℕ) → k < n → g k ≡ f k) → AreFlags g n flags
 flags_same f g n flags h same = record { size = h.size; each = λ k lt. h.each k lt ∙ sym (same k lt) }
 
 -- the flags of what is undecided

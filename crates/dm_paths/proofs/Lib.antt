@@ -9,5 +9,7 @@ pub mod FlipNames
 pub mod Changing
 pub mod Decided
 pub mod Violating
+pub mod RowsRead
 pub mod Open
 pub mod Flagged
+pub mod Fronts

@@ -9,7 +9,7 @@ use Rattle.dm_rows.specs.declared.messages.Decision.{Decision}
 use Rattle.dm_rows.specs.Rows.{RowsValue}
 use Rattle.dm_rows.specs.Decide.{IsChoiceList, choice_of, free_choices_of}
 use Rattle.dm_rows.specs.Relax.{is_same_choice, is_decided}
-use Rattle.dm_paths.proofs.Naming.{same_choice}
+use Rattle.dm_rows.proofs.Sides.{same_choice}
 use Rattle.dm_paths.proofs.Setting.{in_front}
 use Rattle.dm_paths.proofs.Agreeing.{passes_one}
 use Rattle.dm_paths.proofs.Apart.{Apart}

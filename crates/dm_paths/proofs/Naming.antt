@@ -25,30 +25,8 @@ use Rattle.dm_rows.specs.Resolve.{flip_named, first_named}
 use Rattle.dm_rows.specs.Decide.{is_free_change, is_free_pair, change_choice, pair_choice, free_changes_of, free_pairs_of, free_choices_of, choice_of}
 use Rattle.dm_rows.specs.Relax.{is_same_choice}
 use Rattle.dm_rows.proofs.PairEnds.{small_is_event, large_is_event}
-use Rattle.dm_tree.proofs.Standing.{is_either}
+use Rattle.dm_rows.proofs.Sides.{is_either}
 use Rattle.dm_paths.specs.Decisions.{change_decision, pair_decision}
-
--- ids are equal where their numbers are
-act_id : (a b : ActId) → a.0 ≡ b.0 → a ≡ b
-act_id a b e = let f : ℕ → ActId = λ n. record { 0 = n } in ap f e
-
-event_id : (a b : EventId) → a.0 ≡ b.0 → a ≡ b
-event_id a b e = let f : ℕ → EventId = λ n. record { 0 = n } in ap f e
-
--- two choices that the test takes for one are one
-pub same_choice : (c d : Choice) → is_same_choice c d ≡ true → c ≡ d
-same_choice (Change a) (Change b) h = ap Change (act_id a b (eqb-true a.0 b.0 h))
-same_choice (Change a) (Pair k l) h = cc
-same_choice (Pair i j) (Change b) h = cc
-same_choice (Pair i j) (Pair k l) h =
-    let both = and_parts (eqb i.0 k.0) (eqb j.0 l.0) h in
-    let e : i ≡ k = event_id i k (eqb-true i.0 k.0 both.0) in
-    let f : j ≡ l = event_id j l (eqb-true j.0 l.0 both.1) in
-    cc
-
-pub same_itself : (c : Choice) → is_same_choice c c ≡ true
-same_itself (Change a) = eq-eqb a.0 a.0 refl
-same_itself (Pair i j) = and_from (eqb i.0 i.0) (eqb j.0 j.0) (eq-eqb i.0 i.0 refl) (eq-eqb j.0 j.0 refl)
 
 -- what stands among the items of the places that pass comes from such a place
 pub record IsFromPlace {X : Type 0} (f : ℕ → X) (test : ℕ → Bool) (n : ℕ) (x : X) : Type 0 where

@@ -13,12 +13,13 @@ use Rattle.dm_rows.specs.Cost.{comes_too_early}
 use Rattle.dm_rows.specs.Decide.{IsChoiceList, choice_of, free_choices_of, is_free_change, is_free_pair, change_choice, pair_choice}
 use Rattle.dm_rows.specs.Relax.{is_same_choice, is_decided, is_undecided_change, is_undecided_pair, is_violated_change, is_violated_pair, has_unmet_from}
 use Rattle.dm_rows.specs.Rows.{RowsValue}
-use Rattle.dm_paths.proofs.Naming.{from_place, one_change, one_pair, same_itself}
+use Rattle.dm_paths.proofs.Naming.{from_place, one_change, one_pair}
+use Rattle.dm_rows.proofs.Sides.{same_itself}
 use Rattle.dm_paths.proofs.Apart.{Apart, listed, apart_append, choice_list_from}
 use Rattle.dm_paths.proofs.Setting.{in_front}
 use Rattle.dm_paths.specs.Flags.{is_flagged}
-use Rattle.dm_paths.specs.declared.places.Place.{Place}
-use Rattle.dm_paths.specs.declared.places.Place.TheVariants.{Change, Pair}
+use Rattle.dm_paths.specs.declared.places.ChoicePlace.{ChoicePlace}
+use Rattle.dm_paths.specs.declared.places.ChoicePlace.TheVariants.{Change, Pair}
 use Rattle.dm_paths.specs.Flags.{AreFlags}
 use Rattle.dm_paths.specs.Decisions.{IsOpen}
 use Rattle.dm_paths.specs.Places.{IsPlaceOf, HasNoPlace, IsWithin, at_place}
@@ -30,7 +31,7 @@ use Rattle.dm_tree.specs.Relaxed.{IsViolated}
 use Rattle.dm_paths.specs.Decisions.{is_unmet_pair}
 
 module _ (net : Net) (changes pairs : ℕ → Bool) where
-  pub place_is_listed : (choice : Choice) (place : Place) → IsPlaceOf net choice place → at_place changes pairs place ≡ true →
+  pub place_is_listed : (choice : Choice) (place : ChoicePlace) → IsPlaceOf net choice place → at_place changes pairs place ≡ true →
       Contains (map (change_choice net) (filter changes (range_with_len 0 (length net.activities))) ++ map (pair_choice net) (filter pairs (range_with_len 0 (length net.pairs)))) choice
   place_is_listed choice (Change a) is h =
       Contains-append_left (map (change_choice net) (filter changes (range_with_len 0 (length net.activities)))) (map (pair_choice net) (filter pairs (range_with_len 0 (length net.pairs)))) choice
@@ -49,7 +50,7 @@ module _ (net : Net) (changes pairs : ℕ → Bool) where
         | inr r ↦ let f = from_place (pair_choice net) pairs (length net.pairs) choice r in none.pairs f.place f.below f.is
       ]
 
-  pub listed_at_place : IsNetwork net → (choice : Choice) (place : Place) → IsPlaceOf net choice place →
+  pub listed_at_place : IsNetwork net → (choice : Choice) (place : ChoicePlace) → IsPlaceOf net choice place →
       Contains (map (change_choice net) (filter changes (range_with_len 0 (length net.activities))) ++ map (pair_choice net) (filter pairs (range_with_len 0 (length net.pairs)))) choice →
       at_place changes pairs place ≡ true
   listed_at_place network choice (Change a) is h =
@@ -82,7 +83,7 @@ module _ (net : Net) (network : IsNetwork net) (rows : RowsValue) (path : List D
       let both = and_parts (free k) (not (is_decided path (of k))) h in
       (both.0, ap (is_decided path) (sym is) ∙ not-true (is_decided path (of k)) both.1)
 
-  pub open_where_flagged : (place : Place) → IsPlaceOf net choice place → at_place (is_undecided_change net rows path) (is_undecided_pair net rows path) place ≡ true →
+  pub open_where_flagged : (place : ChoicePlace) → IsPlaceOf net choice place → at_place (is_undecided_change net rows path) (is_undecided_pair net rows path) place ≡ true →
       IsOpen net rows path choice
   open_where_flagged (Change a) is h =
       let both = undecided_parts (is_free_change net rows) (change_choice net) a is.1 h in
@@ -91,7 +92,7 @@ module _ (net : Net) (network : IsNetwork net) (rows : RowsValue) (path : List D
       let both = undecided_parts (is_free_pair net rows) (pair_choice net) p is.1 h in
       record { free = place_is_listed net (is_free_change net rows) (is_free_pair net rows) choice (Pair p) is both.0; undecided = both.1 }
 
-  pub flagged_where_open : (place : Place) → IsPlaceOf net choice place → IsOpen net rows path choice →
+  pub flagged_where_open : (place : ChoicePlace) → IsPlaceOf net choice place → IsOpen net rows path choice →
       at_place (is_undecided_change net rows path) (is_undecided_pair net rows path) place ≡ true
   flagged_where_open (Change a) is opened =
       and_from (is_free_change net rows a) (not (is_decided path (change_choice net a)))
@@ -141,27 +142,27 @@ violated_is_open net network rows path x c among =
     ]
 
 -- where a flag stands for what is undecided, and that there is one
-pub flag_for : (net : Net) (choice : Choice) (place : Place) → IsPlaceOf net choice place → (changes pairs : List Bool) → length changes ≡ length net.activities →
+pub flag_for : (net : Net) (choice : Choice) (place : ChoicePlace) → IsPlaceOf net choice place → (changes pairs : List Bool) → length changes ≡ length net.activities →
     length pairs ≡ length net.pairs → HasFlagFor place changes pairs
 flag_for net choice (Change a) is changes pairs e f = let b = is.0 in omega (arith, e, b)
 flag_for net choice (Pair p) is changes pairs e f = let b = is.0 in omega (arith, f, b)
 
-pub flag_is : (net : Net) (rows : RowsValue) (path : List Decision) (choice : Choice) (place : Place) → IsPlaceOf net choice place → (changes pairs : List Bool) →
+pub flag_is : (net : Net) (rows : RowsValue) (path : List Decision) (choice : Choice) (place : ChoicePlace) → IsPlaceOf net choice place → (changes pairs : List Bool) →
     AreFlags (is_undecided_change net rows path) (length net.activities) changes → AreFlags (is_undecided_pair net rows path) (length net.pairs) pairs →
     at_place (is_flagged changes) (is_flagged pairs) place ≡ at_place (is_undecided_change net rows path) (is_undecided_pair net rows path) place
 flag_is net rows path choice (Change a) is changes pairs are_changes are_pairs = are_changes.each a is.0
 flag_is net rows path choice (Pair p) is changes pairs are_changes are_pairs = are_pairs.each p is.0
 
 -- the place of a choice is within the network
-pub is_within : (net : Net) (choice : Choice) (place : Place) → IsPlaceOf net choice place → IsWithin net place
+pub is_within : (net : Net) (choice : Choice) (place : ChoicePlace) → IsPlaceOf net choice place → IsWithin net place
 is_within net choice (Change a) is = is.0
 is_within net choice (Pair p) is = is.0
 
 -- a choice is violated where its flag is set and the times do not keep it
-module _ (net : Net) (network : IsNetwork net) (rows : RowsValue) (path : List Decision) (x : List ℕ) (choice : Choice) (place : Place) (is : IsPlaceOf net choice place)
+module _ (net : Net) (network : IsNetwork net) (rows : RowsValue) (path : List Decision) (x : List ℕ) (choice : Choice) (place : ChoicePlace) (is : IsPlaceOf net choice place)
     (changes pairs : List Bool) (are_changes : AreFlags (is_undecided_change net rows path) (length net.activities) changes)
     (are_pairs : AreFlags (is_undecided_pair net rows path) (length net.pairs) pairs) where
-  violated_at : (at : Place) → IsPlaceOf net choice at →
+  violated_at : (at : ChoicePlace) → IsPlaceOf net choice at →
       at_place (is_violated_change net rows path x) (is_violated_pair net rows path x) at
       ≡ (at_place (is_flagged changes) (is_flagged pairs) at && at_place (comes_too_early net rows x) (is_unmet_pair net rows x) at)
   violated_at (Change a) there = violated_change_by net rows path x changes are_changes a there.0

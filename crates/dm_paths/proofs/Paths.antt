@@ -14,7 +14,8 @@ use Rattle.dm_rows.specs.Active.{has_passed, is_active, binds}
 use Rattle.dm_rows.specs.Cost.{is_dropped_change}
 use Rattle.dm_rows.specs.Decide.{IsChoiceList, is_free_change, is_free_pair, change_choice, pair_choice, choice_of, with_decisions}
 use Rattle.dm_rows.specs.Relax.{is_same_choice, is_decided, is_undecided_change, is_undecided_pair, is_of_undecided, is_relaxed_active, is_relaxed_dropped}
-use Rattle.dm_paths.proofs.Naming.{same_choice, same_itself, change_decides, pair_decides, one_change, one_pair}
+use Rattle.dm_paths.proofs.Naming.{change_decides, pair_decides, one_change, one_pair}
+use Rattle.dm_rows.proofs.Sides.{same_choice, same_itself}
 use Rattle.dm_paths.proofs.Setting.{DiffersInDecisions, HasDecision, differs_in_none, differs_with, has_each, has_kept, has_first, in_front}
 use Rattle.dm_paths.proofs.Agreeing.{passes_one, PairJoins, pair_joins, change_has_no_pair, has_passed_same, active_same, kept_agrees, decided_change}
 use Rattle.dm_paths.specs.Decisions.{AddsDecision, is_of, IsOfChange, IsOfPair}

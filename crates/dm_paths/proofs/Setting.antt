@@ -17,7 +17,8 @@ use Rattle.dm_rows.specs.Decide.{free_choices_of, change_choice, pair_choice, ch
 use Rattle.dm_rows.specs.Relax.{is_same_choice}
 use Rattle.dm_tree.specs.Plans.{is_set}
 use Rattle.dm_paths.specs.Decisions.{change_decision, pair_decision}
-use Rattle.dm_paths.proofs.Naming.{Names, of_change, of_pair, names, change_flip, change_flips, pair_flips, change_decides, pair_decides, same_choice, same_itself}
+use Rattle.dm_paths.proofs.Naming.{Names, of_change, of_pair, names, change_flip, change_flips, pair_flips, change_decides, pair_decides}
+use Rattle.dm_rows.proofs.Sides.{same_choice, same_itself}
 
 -- rows that differ from others in decisions alone
 pub record DiffersInDecisions (rows r : RowsValue) : Type 0 where

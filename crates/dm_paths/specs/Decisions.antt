@@ -65,10 +65,10 @@ abbrev pub is_directed : Net → ℕ → ℕ → ℕ → Bool
 is_directed net p tail b = is_of_pair p (activity_at net b).pair && (activity_at net b).tail == tail
 
 -- the activity is held where the decision stands, and not where its choice is undecided
-abbrev pub is_bound_by : Net → Flip → ℕ → Bool
-is_bound_by net (Keep a) b = b == a
-is_bound_by net (Drop a) b = false
-is_bound_by net (First p small) b = is_directed net p (first_event net p small) b
+abbrev pub is_held_by : Net → Flip → ℕ → Bool
+is_held_by net (Keep a) b = b == a
+is_held_by net (Drop a) b = false
+is_held_by net (First p small) b = is_directed net p (first_event net p small) b
 
 -- the activity is charged for where the decision stands, and not where its choice is undecided
 abbrev pub is_charged_by : Flip → ℕ → Bool

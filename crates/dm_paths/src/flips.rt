@@ -1,4 +1,4 @@
-//! What a decision decides, and what one of a free choice names.
+//! What a decision of a free choice names.
 ghost use Rattle.std.specs.Prelude.{◌≡◌, Some, Contains};
 ghost use Rattle.dm_network.specs.Net.{event_place};
 ghost use Rattle.dm_rows.specs.Decide.{free_choices_of, choice_of};
@@ -8,23 +8,7 @@ ghost use Rattle.dm_paths.specs.Decisions.{IsFlipOf};
 
 use dm_base::EventId;
 use dm_network::Network;
-use dm_rows::{Choice, Decision, Flip, Rows};
-
-/// The choice that a decision decides. Of a pair the smaller id stands first.
-pub fn choice_of(decision: Decision) -> Choice
-    ensures { result ≡ choice_of decision }
-{
-    match decision {
-        Decision::Keep(act) | Decision::Drop(act) => Choice::Change(act),
-        Decision::First(first, second) => {
-            if first.0 < second.0 {
-                Choice::Pair(first, second)
-            } else {
-                Choice::Pair(second, first)
-            }
-        }
-    }
-}
+use dm_rows::{Decision, Flip, Rows};
 
 /// The flip of a decision of a free choice.
 pub fn flip_of(net: &Network, rows: &Rows, decision: Decision) -> Flip

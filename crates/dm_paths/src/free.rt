@@ -2,14 +2,12 @@
 ghost use Rattle.std.specs.Prelude.{◌≡◌, ◌<◌, [], length, IfOk};
 ghost use Rattle.dm_network.specs.Net.{activity_at};
 ghost use Rattle.dm_rows.specs.Rows.{IsSized};
-ghost use Rattle.dm_rows.specs.Decide.{is_free_change, is_free_pair};
 ghost use Rattle.dm_rows.specs.Relax.{is_undecided_change, is_undecided_pair, is_of_undecided, is_relaxed_active};
 ghost use Rattle.dm_paths.specs.Flags.{AreFlags};
 
 use crate::undecided::Undecided;
-use dm_base::ActKind;
 use dm_network::Network;
-use dm_rows::{Rows, is_active};
+use dm_rows::{Rows, is_active, is_free_change, is_free_pair};
 use std::alloc::{AllocError, Global};
 
 /// Every free choice undecided.
@@ -25,19 +23,19 @@ pub fn all_undecided(alloc: Global, net: &Network, rows: &Rows) -> Result<Undeci
 }
 
 /// Which activities bind where every free choice is undecided.
-pub fn bound_flags(alloc: Global, net: &Network, rows: &Rows) -> Result<Vec<bool>, AllocError>
+pub fn binding_flags(alloc: Global, net: &Network, rows: &Rows) -> Result<Vec<bool>, AllocError>
     requires { IsSized net.now rows.now }
     ensures { IfOk result (λ flags. AreFlags (is_relaxed_active net.now rows.now []) (length net.now.activities) flags.items) }
 {
     let mut flags = Vec::with_capacity(alloc, net.activities())?;
     for a in 0..net.activities() {
-        flags.push(is_bound(net, rows, a))?;
+        flags.push(binds(net, rows, a))?;
     }
     Ok(flags)
 }
 
 /// Whether an activity binds where every free choice is undecided.
-pub fn is_bound(net: &Network, rows: &Rows, a: usize) -> bool
+pub fn binds(net: &Network, rows: &Rows, a: usize) -> bool
     requires sized { IsSized net.now rows.now }
     requires is_activity { a < length net.now.activities }
     ensures { result ≡ is_relaxed_active net.now rows.now [] a }
@@ -83,26 +81,4 @@ fn free_pairs(alloc: Global, net: &Network, rows: &Rows) -> Result<Vec<bool>, Al
         flags.push(is_free_pair(net, rows, p))?;
     }
     Ok(flags)
-}
-
-/// Whether the activity at a place is a change whose head has not passed.
-fn is_free_change(net: &Network, rows: &Rows, a: usize) -> bool
-    requires sized { IsSized net.now rows.now }
-    requires is_activity { a < length net.now.activities }
-    ensures { result ≡ is_free_change net.now rows.now a }
-{
-    net.sound();
-    let activity = net.activity(a);
-    matches!(activity.kind, ActKind::Change) && rows.passed(activity.head).is_none()
-}
-
-/// Whether neither event of the pair at a place has passed.
-fn is_free_pair(net: &Network, rows: &Rows, p: usize) -> bool
-    requires sized { IsSized net.now rows.now }
-    requires is_pair { p < length net.now.pairs }
-    ensures { result ≡ is_free_pair net.now rows.now p }
-{
-    net.sound();
-    let pair = net.pair(p);
-    rows.passed(pair.small).is_none() && rows.passed(pair.large).is_none()
 }

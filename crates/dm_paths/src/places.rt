@@ -8,7 +8,7 @@ use dm_rows::Choice;
 
 /// Where a choice stands in a network.
 #[derive(Clone, Copy, PartialEq, Eq, Debug)]
-pub enum Place {
+pub enum ChoicePlace {
     /// The place of the activity that is the change.
     Change(usize),
 
@@ -17,7 +17,7 @@ pub enum Place {
 }
 
 /// The place of a choice, or None where it is none of the network's.
-pub fn place_of_choice(net: &Network, choice: Choice) -> Option<Place>
+pub fn place_of_choice(net: &Network, choice: Choice) -> Option<ChoicePlace>
     ensures some { IfSome result (IsPlaceOf net.now choice) }
     ensures none { IfNone result (HasNoPlace net.now choice) }
 {
@@ -28,19 +28,19 @@ pub fn place_of_choice(net: &Network, choice: Choice) -> Option<Place>
 }
 
 /// The place of a change, or None where there is no such activity.
-fn place_of_change(net: &Network, a: ActId) -> Option<Place>
+fn place_of_change(net: &Network, a: ActId) -> Option<ChoicePlace>
     ensures some { IfSome result (IsPlaceOf net.now (Choice.Change a)) }
     ensures none { IfNone result (HasNoPlace net.now (Choice.Change a)) }
 {
     net.sound();
     match net.act_place(a) {
-        Some(place) => Some(Place::Change(place)),
+        Some(place) => Some(ChoicePlace::Change(place)),
         None => None,
     }
 }
 
 /// The place of a pair by the id of its small event and that of its large one, or None where there is none.
-fn place_of_pair(net: &Network, i: EventId, j: EventId) -> Option<Place>
+fn place_of_pair(net: &Network, i: EventId, j: EventId) -> Option<ChoicePlace>
     ensures some { IfSome result (IsPlaceOf net.now (Choice.Pair i j)) }
     ensures none { IfNone result (HasNoPlace net.now (Choice.Pair i j)) }
 {
@@ -57,5 +57,5 @@ fn place_of_pair(net: &Network, i: EventId, j: EventId) -> Option<Place>
     if net.pair(pair).small != x {
         return None;
     }
-    Some(Place::Pair(pair))
+    Some(ChoicePlace::Pair(pair))
 }

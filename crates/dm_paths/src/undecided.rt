@@ -3,7 +3,7 @@ ghost use Rattle.std.specs.Prelude.{◌≡◌, ◌<◌, length};
 ghost use Rattle.dm_paths.specs.Flags.{is_flagged, with_change, with_pair, HasRoomFor};
 ghost use Rattle.dm_paths.specs.Places.{at_place, HasFlagFor};
 
-use crate::places::Place;
+use crate::places::ChoicePlace;
 use dm_rows::Flip;
 
 /// A flag for each activity, whether it is a change that is undecided, and one for each pair, whether it is.
@@ -15,13 +15,13 @@ pub struct Undecided {
 
 impl Undecided {
     /// Whether the choice at a place is undecided.
-    pub fn is(&self, place: Place) -> bool
+    pub fn is(&self, place: ChoicePlace) -> bool
         requires { HasFlagFor place self.now.changes.items self.now.pairs.items }
         ensures { result ≡ at_place (is_flagged self.now.changes.items) (is_flagged self.now.pairs.items) place }
     {
         match place {
-            Place::Change(a) => self.changes[a],
-            Place::Pair(p) => self.pairs[p],
+            ChoicePlace::Change(a) => self.changes[a],
+            ChoicePlace::Pair(p) => self.pairs[p],
         }
     }
 

@@ -5,6 +5,7 @@ use Rattle.std.proofs.lemmas.List.{length-replicate}
 use Rattle.dm_base.specs.declared.limits.TheConstants.{EVENTS, WEIGHT}
 use Rattle.dm_live.specs.Live.{LiveValue, IsLive, with_span, with_head}
 use Rattle.dm_network.specs.Net.{Net, activity_at, places_into, IsWithinLimits}
+use Rattle.dm_settle.specs.Constraints.{ConstraintsValue}
 use Rattle.dm_settle.specs.Settling.{AreEarly}
 use Rattle.dm_priced.specs.Priced.{PricedValue, IsPriced, is_flagged, missed_weight, lateness_of, charged_of, missed_of}
 use Rattle.dm_priced.specs.Inside.Adding.{AreKnown, AreWithin, missed_at}
@@ -38,6 +39,19 @@ new_is_priced net live passed charged lateness x is passed_are charged_are laten
   lateness = lateness_is ∙ ap (lateness_of net) times_are;
   charged = sym (none_charged net charged (length net.activities) charged_are);
   missed = sym (none_missed net passed live.given.spans live.times (length net.events) passed_are);
+}
+
+-- an order that holds more, or less
+pub free_is_priced : (net : Net) (priced : PricedValue) (live : LiveValue) → IsPriced net priced → IsLive net live → live.given ≡ priced.live.given →
+    live.times ≡ priced.live.times → IsPriced net (record { live = live; passed = priced.passed; charged = priced.charged; sums = priced.sums })
+free_is_priced net priced live is lives given times = record {
+  live = lives;
+  as_many_passed = is.as_many_passed;
+  as_many_charged = is.as_many_charged;
+  lateness = is.lateness ∙ ap (lateness_of net) (sym times);
+  charged = is.charged;
+  missed = is.missed ∙ ap (λ (g : ConstraintsValue). missed_of net priced.passed g.spans priced.live.times) (sym given)
+      ∙ ap (missed_of net priced.passed live.given.spans) (sym times);
 }
 
 -- the weights along a row, as they are read

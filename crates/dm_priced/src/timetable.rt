@@ -1,9 +1,9 @@
 //! The timetable with its price, its moves and its readers.
 ghost use Rattle.std.specs.Prelude.{ℕ, ◌≡◌, ◌+◌, ◌*◌, ◌^◌, ◌<◌, ◌≤◌, ◌⊎◌, Bool, true, false, length, replicate, slice_index, slice_set, IfOk, OnOk, OnErr};
 ghost use Rattle.dm_base.specs.declared.limits.TheConstants.{PASSED_TIME, BOUND, DELAY, PENALTY};
-ghost use Rattle.dm_live.specs.Live.{IsLive, IsAtRest, IsEnteredByNone, IsFixed, ReadsFew, with_mark, with_head, with_floor, with_span, with_held};
+ghost use Rattle.dm_live.specs.Live.{IsLive, IsAtRest, IsEnteredByNone, IsFixed, ReadsFew, is_fixed, with_mark, with_head, with_floor, with_span, with_held};
 ghost use Rattle.dm_network.specs.Held.{is_held, IsCycleOf, HasNoCycleOf};
-ghost use Rattle.dm_network.specs.Net.{Net, places_into, places_out_of};
+ghost use Rattle.dm_network.specs.Net.{Net, activity_at, places_into, places_out_of};
 ghost use Rattle.dm_settle.specs.Constraints.{arcs_given, graph_given};
 ghost use Rattle.dm_settle.specs.Settling.{AreLeast};
 ghost use Rattle.dm_priced.specs.Priced.{is_flagged, IsPriced, priced_cost};
@@ -122,12 +122,14 @@ impl PricedTimetable {
         requires priced { IsPriced net.now self.old }
         requires is_event { i < length net.now.events }
         requires limit { floor ≤ PASSED_TIME }
+        requires stays { is_fixed self.old.live.fixed i ≡ true → floor ≡ slice_index self.old.live.given.floors i }
         ensures priced { IsPriced net.now self.new }
         ensures floor { self.new.live.given ≡ with_floor self.old.live.given i floor }
         ensures marked { (floor < slice_index self.old.live.given.floors i) ⊎ (slice_index self.old.live.times i < floor) → self.new.live.marks ≡ with_mark self.old.live.marks i }
         ensures unmarked { slice_index self.old.live.given.floors i ≤ floor → floor ≤ slice_index self.old.live.times i → self.new.live.marks ≡ self.old.live.marks }
         ensures order { self.new.live.order ≡ self.old.live.order }
         ensures times { self.new.live.times ≡ self.old.live.times }
+        ensures fixed_stay { self.new.live.fixed ≡ self.old.live.fixed }
         ensures others { self.new ≡ record self.old { live = self.new.live } }
     {
         self.live.set_floor(net, i, floor);
@@ -153,7 +155,8 @@ impl PricedTimetable {
         ensures priced { IsPriced net.now self.new }
         ensures fixed { IsFixed (arcs_given net.now self.old.live.given) i time self.old.live self.new.live steps.old steps.new }
         ensures floor { self.new.live.given ≡ with_floor self.old.live.given i time }
-        ensures order { self.new.live.order ≡ self.old.live.order }
+        ensures flag { self.new.live.fixed ≡ slice_set self.old.live.fixed i true }
+        ensures cycle_stays { self.new.live.order.cycle ≡ self.old.live.order.cycle }
         ensures others { self.new ≡ record self.old { live = self.new.live; sums = self.new.sums } }
     {
         net.sound();
@@ -164,10 +167,26 @@ impl PricedTimetable {
         };
         let constraints = self.live.constraints();
         watch.moves(net, constraints, self.live.times(), i, time, into, out_of);
-        self.live.fix(net, i, time, steps);
+        self.live.fix(net, i, time, out_of, steps);
         self.live.times().is_early();
         self.lateness = watch.lateness;
         self.missed_weight = watch.missed;
+    }
+
+    /// Lets the time of an event move again, as [`LiveTimetable::free`] does. The row is that of the activities out of it.
+    pub fn free(&mut self, net: &Network, i: usize, out_of: &[usize])
+        requires priced { IsPriced net.now self.old }
+        requires is_event { i < length net.now.events }
+        requires out_of { out_of.now ≡ places_out_of net.now i }
+        ensures priced { IsPriced net.now self.new }
+        ensures flag { self.new.live.fixed ≡ slice_set self.old.live.fixed i false }
+        ensures given { self.new.live.given ≡ self.old.live.given }
+        ensures times { self.new.live.times ≡ self.old.live.times }
+        ensures marks { self.new.live.marks ≡ self.old.live.marks }
+        ensures cycle_stays { self.new.live.order.cycle ≡ self.old.live.order.cycle }
+        ensures others { self.new ≡ record self.old { live = self.new.live } }
+    {
+        self.live.free(net, i, out_of);
     }
 
     /// Sets the span of an activity, as [`LiveTimetable::set_span`] does.
@@ -195,6 +214,7 @@ impl PricedTimetable {
         ensures mark { self.new.live.marks ≡ with_head net.now self.old.live.marks a }
         ensures times { self.new.live.times ≡ self.old.live.times }
         ensures cycle_stays { self.new.live.order.cycle ≡ self.old.live.order.cycle }
+        ensures fixed_stay { self.new.live.fixed ≡ self.old.live.fixed }
         ensures others { self.new ≡ record self.old { live = self.new.live } }
     {
         self.live.release(net, a);
@@ -204,7 +224,9 @@ impl PricedTimetable {
     pub fn hold(&mut self, net: &Network, a: usize) -> Result<(), Cyclic>
         requires priced { IsPriced net.now self.old }
         requires is_activity { a < length net.now.activities }
+        requires open { is_fixed self.old.live.fixed (activity_at net.now a).head ≡ false }
         ensures priced { IsPriced net.now self.new }
+        ensures fixed_stay { self.new.live.fixed ≡ self.old.live.fixed }
         ensures held { OnOk result (self.new.live.given ≡ with_held self.old.live.given a true) }
         ensures mark { OnOk result (self.new.live.marks ≡ with_head net.now self.old.live.marks a) }
         ensures times { self.new.live.times ≡ self.old.live.times }

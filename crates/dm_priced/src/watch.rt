@@ -1,4 +1,4 @@
-//! The sums of the times, kept through a pass.
+//! The sums of the times, kept through a sweep.
 ghost use Rattle.std.specs.Prelude.{◌≡◌, length};
 ghost use Rattle.dm_priced.specs.Priced.{lateness_of};
 ghost use Rattle.dm_priced.specs.Inside.Adding.{AreKnown};

@@ -1,13 +1,12 @@
 -- How words that ask for a check end.
 use Rattle.std.proofs.Common.{◌≡◌, ℕ, ◌≤◌, ◌⊎◌, inl, inr, List, length, Option, None, Result, Ok, Err, refl, sym, ap, subst, ◌∙◌, arith}
 use Rattle.std.specs.Prelude.{IsSome}
-use Rattle.dm_base.specs.declared.limits.TheConstants.{PENALTY, TEXT}
+use Rattle.dm_base.specs.declared.limits.TheConstants.{TEXT}
 use Rattle.dm_outside.specs.Faults.{HasRisen}
 use Rattle.dm_outside.specs.declared.faults.TakeFault.{TakeFault}
 use Rattle.dm_outside.specs.declared.faults.TakeFault.TheVariants.{ReadFault as NotRead, TooLong as TooMany, OutOfMemory}
-use Rattle.dm_network.specs.Net.{Net, IsWithinLimits}
-use Rattle.dm_network.specs.Start.{IsNetwork}
-use Rattle.dm_rows.specs.Rows.{RowsValue, RowsAreWithinLimits}
+use Rattle.dm_network.specs.Net.{Net}
+use Rattle.dm_rows.specs.Rows.{RowsValue}
 use Rattle.dm_input.specs.Input.{Told, IsHeld, Opening, OpeningAnswer, IsUnread}
 use Rattle.dm_input.specs.Stops.{IsLong}
 use Rattle.dm_input.specs.declared.flaws.InputFlaw.{InputFlaw}
@@ -21,16 +20,12 @@ use Rattle.dm_check.specs.declared.verdicts.Verdict.{Verdict}
 use Rattle.dm_check.specs.declared.verdicts.Verdict.TheVariants.{Good as GoodVerdict, Bad as BadVerdict}
 use Rattle.dm_check.specs.FalseRecords.{IsVerdict}
 use Rattle.dm_check.proofs.ToldOnce.{verdicts_are_one}
-use Rattle.dm_truth.specs.Laws.{EventIdsFit, HasNoFalseRecord}
-use Rattle.dm_truth.proofs.BothWays.{run_texts_are_the_good_ones}
-use Rattle.dm_truth.proofs.ToldRuns.{good_texts_are_true}
 use Rattle.dm_program.specs.declared.status.Status.{Status}
 use Rattle.dm_program.specs.declared.status.Status.TheVariants.{Ok as Well, Bad, Usage, Refused, ReadFault, WriteFault, NoMemory}
 use Rattle.dm_program.specs.Checked.{IsVerdictFor, IsLongText}
 use Rattle.dm_program.specs.Ends.{IsDue, Ends, AsksOver, EndsTold, IsSoundFor}
 use Rattle.dm_program.specs.Verdicts.{verdict_line, verdict_status, long_text_line, unread_text_line}
 use Rattle.dm_program.specs.Inside.Checking.{IsJudged, Judges, EndsBy, EndsChecked}
-use Rattle.dm_program.proofs.Asked.{check_within}
 use Rattle.dm_program.proofs.Closing.{ends_due, ends_stopped, ends_wanting}
 use Rattle.dm_program.proofs.Converse.{held_is, same_files}
 
@@ -43,40 +38,29 @@ no_run run check e = cc
 bad_is_not_well : Bad ≡ Well → ⊥
 bad_is_not_well e = cc
 
-good_is_not_bad : (entries plans line : ℕ) (kind : BadKind) → GoodVerdict entries plans ≡ BadVerdict line kind → ⊥
-good_is_not_bad entries plans line kind e = cc
-
--- no text of a true run is told bad
-no_run_text_is_bad : (net : Net) (rows : RowsValue) (penalty : ℕ) (bytes : List ℕ) (line : ℕ) (kind : BadKind) → IsNetwork net → IsWithinLimits net → RowsAreWithinLimits rows → EventIdsFit net → penalty ≤ PENALTY → IsVerdict net rows penalty bytes (BadVerdict line kind) → IsRunText net rows penalty bytes → ⊥
-no_run_text_is_bad net rows penalty bytes line kind network limits within ids low bad is =
-    let has : HasNoFalseRecord net rows penalty bytes = (run_texts_are_the_good_ones net rows penalty bytes network limits ids within low).0 is in
-    good_is_not_bad has.entries has.plans line kind (verdicts_are_one net rows penalty bytes (GoodVerdict has.entries has.plans) (BadVerdict line kind) has.good bad)
-
 no_day : (day : GenAsked) (check : CheckAsked) → GenOf day ≡ CheckOf check → ⊥
 no_day day check e = cc
 
 module _ {K : Type 0} (taken : K → Option (List ℕ)) (faults : K → ℕ) (told : Told) (is_sound : List ℕ → Type 0) (end_boards : Option Run → Type 0) (words : List (List ℕ)) (before now : K) (asked : CheckAsked) (asks : Asks words (CheckOf asked)) where
   -- ---- what was done is due
 
-  due_verdict : (opening : Opening) → OpeningAnswer told asked.files (Ok opening) → IsNetwork opening.net → IsWithinLimits opening.net → RowsAreWithinLimits opening.rows → EventIdsFit opening.net → end_boards None → (verdict : Verdict) → IsJudged told asked.text opening.net opening.rows asked.files.penalty verdict → IsDue told is_sound end_boards words (verdict_status verdict) (verdict_line verdict)
-  due_verdict opening opens network limits within ids left (GoodVerdict entries plans) judged =
-      let is_run_text = good_texts_are_true opening.net opening.rows asked.files.penalty judged.bytes entries plans network limits within (check_within words asked asks) judged.is_verdict in
-      inr (inr (record { asked = asked; is_asked = asks; opening = opening; opens = opens; bytes = judged.bytes; held = judged.held; short = judged.short; verdict = GoodVerdict entries plans; is_verdict = judged.is_verdict; has_status = refl; run_texts = (λ well. is_run_text, λ is. refl); is_line = refl; boards = left }))
-  due_verdict opening opens network limits within ids left (BadVerdict line kind) judged =
-      let never = no_run_text_is_bad opening.net opening.rows asked.files.penalty judged.bytes line kind network limits within ids (check_within words asked asks) judged.is_verdict in
-      record { asked = asked; is_asked = asks; opening = opening; opens = opens; bytes = judged.bytes; held = judged.held; short = judged.short; verdict = BadVerdict line kind; is_verdict = judged.is_verdict; has_status = refl; run_texts = (λ well. absurd (bad_is_not_well well), λ is. absurd (never is)); is_line = refl; boards = left }
+  due_verdict : (opening : Opening) → OpeningAnswer told asked.files (Ok opening) → end_boards None → (verdict : Verdict) → IsJudged told asked.text opening.net opening.rows asked.files.penalty verdict → IsDue told is_sound end_boards words (verdict_status verdict) (verdict_line verdict)
+  due_verdict opening opens left (GoodVerdict entries plans) judged =
+      inr (inr (record { asked = asked; is_asked = asks; opening = opening; opens = opens; bytes = judged.bytes; held = judged.held; short = judged.short; verdict = GoodVerdict entries plans; is_verdict = judged.is_verdict; has_status = refl; run_texts = (λ well. judged.good.0 tt, λ is. refl); is_line = refl; boards = left }))
+  due_verdict opening opens left (BadVerdict line kind) judged =
+      record { asked = asked; is_asked = asks; opening = opening; opens = opens; bytes = judged.bytes; held = judged.held; short = judged.short; verdict = BadVerdict line kind; is_verdict = judged.is_verdict; has_status = refl; run_texts = (λ well. absurd (bad_is_not_well well), λ is. absurd (judged.good.1 is)); is_line = refl; boards = left }
 
-  ends_by : (opening : Opening) → OpeningAnswer told asked.files (Ok opening) → IsNetwork opening.net → IsWithinLimits opening.net → RowsAreWithinLimits opening.rows → EventIdsFit opening.net → end_boards None → (judgement : Result Verdict TakeFault) (result : Status) → Judges told is_sound asked.text opening.net opening.rows asked.files.penalty judgement → EndsBy taken faults asked.text judgement before now result → Ends taken faults told is_sound end_boards words before now result
-  ends_by opening opens network limits within ids left (Ok verdict) result judges h = ends_due taken faults told is_sound end_boards words before now (verdict_status verdict) (verdict_line verdict) result (due_verdict opening opens network limits within ids left verdict judges) h
-  ends_by opening opens network limits within ids left (Err NotRead) result judges h =
+  ends_by : (opening : Opening) → OpeningAnswer told asked.files (Ok opening) → end_boards None → (judgement : Result Verdict TakeFault) (result : Status) → Judges told is_sound asked.text opening.net opening.rows asked.files.penalty judgement → EndsBy taken faults asked.text judgement before now result → Ends taken faults told is_sound end_boards words before now result
+  ends_by opening opens left (Ok verdict) result judges h = ends_due taken faults told is_sound end_boards words before now (verdict_status verdict) (verdict_line verdict) result (due_verdict opening opens left verdict judges) h
+  ends_by opening opens left (Err NotRead) result judges h =
       ends_due taken faults told is_sound end_boards words before now ReadFault (unread_text_line asked.text) result (inr (inl (record { asked = asked; is_asked = asks; opening = opening; opens = opens; unsound = judges; is_line = refl; boards = left }))) h
-  ends_by opening opens network limits within ids left (Err TooMany) result judges h =
+  ends_by opening opens left (Err TooMany) result judges h =
       ends_due taken faults told is_sound end_boards words before now Refused (long_text_line asked.text) result (inr (inl (record { asked = asked; is_asked = asks; opening = opening; opens = opens; long = judges; is_line = refl; boards = left }))) h
-  ends_by opening opens network limits within ids left (Err OutOfMemory) result judges h = ends_wanting taken faults told is_sound end_boards words before now (CheckOf asked) asks result h.0 h.1
+  ends_by opening opens left (Err OutOfMemory) result judges h = ends_wanting taken faults told is_sound end_boards words before now (CheckOf asked) asks result h.0 h.1
 
   pub ends_checked : end_boards None → (result : Status) → EndsChecked taken faults told is_sound asked before now result → Ends taken faults told is_sound end_boards words before now result
   ends_checked left result (inl files) = ends_stopped taken faults told is_sound end_boards words before now asked.files left (record { asked = CheckOf asked; is_asked = asks; reads = refl }) files.stop result files.stops files.ends
-  ends_checked left result (inr text) = ends_by text.opening text.opens text.network text.limits text.within text.ids left text.ends.judgement result text.ends.judges text.ends.ends
+  ends_checked left result (inr text) = ends_by text.opening text.opens left text.ends.judgement result text.ends.judges text.ends.ends
 
   -- ---- what is due was done
 

@@ -5,6 +5,5 @@ pub mod Closing
 pub mod Generated
 pub mod Judging
 pub mod Converse
-pub mod EventIds
 pub mod Opened
 pub mod Printed

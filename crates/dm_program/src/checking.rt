@@ -4,18 +4,17 @@ ghost use Rattle.dm_base.specs.declared.limits.TheConstants.{PENALTY};
 ghost use Rattle.dm_rows.specs.Rows.{IsSized};
 ghost use Rattle.dm_input.specs.Stops.{IsKept};
 ghost use Rattle.dm_words.specs.Asked.{check_of};
-ghost use Rattle.dm_feed.specs.Parts.{largest_id};
-ghost use Rattle.dm_truth.specs.Laws.{EventIdsFit};
 ghost use Rattle.dm_program.specs.Inside.Checking.{Judges, EndsJudged, EndsChecked};
 
 use crate::ends::{end_long_text, end_stopped, end_unread_text, end_verdict};
 use crate::status::Status;
 use dm_base::limits::TEXT;
-use dm_check::{Verdict, check};
+use dm_check::Verdict;
 use dm_input::{Opened, read_opening, take_name};
-use dm_network::{Event, Network};
+use dm_network::Network;
 use dm_outside::{Shelf, Sink, TakeFault};
 use dm_rows::Rows;
+use dm_truth::judge;
 use dm_words::CheckWords;
 use std::alloc::{AllocError, Global};
 
@@ -37,25 +36,7 @@ pub fn check_text<H: Shelf, K: Sink>(
     };
     let Opened { net, rows } = opened;
     let penalty = words.files.penalty;
-    net.sound();
-    ids_fit(&net);
-    rows.is_within_limits();
     judge_text(alloc, &net, &rows, penalty, words.text, shelf, out)
-}
-
-/// The ids of events are numbers of 32 bits. A caller learns it here.
-fn ids_fit(net: &Network)
-    ensures { EventIdsFit net.now }
-{
-    for place in 0..net.events() {
-        id_fits(net.event(place));
-    }
-}
-
-fn id_fits(event: &Event)
-    ensures { event.now.id.0 ≤ largest_id }
-{
-    let _id = event.id.0;
 }
 
 /// Opens a text, and prints the verdict on it, or why there is none.
@@ -100,7 +81,7 @@ fn verdict_on<H: Shelf>(
         Ok(text) => text,
         Err(fault) => return Err(fault),
     };
-    match check(alloc, net, rows, penalty, &text) {
+    match judge(alloc, net, rows, penalty, &text) {
         Ok(verdict) => Ok(verdict),
         Err(AllocError) => Err(TakeFault::OutOfMemory),
     }

@@ -1,6 +1,6 @@
 -- Floors at one clock and at another.
-use Rattle.std.proofs.Common.{◌≡◌, ℕ, ◌≤◌, Option, Some, None, refl, subst, ◌∙◌, arith}
-use Rattle.std.specs.Prelude.{unwrap_or, max}
+use Rattle.std.proofs.Common.{◌≡◌, ℕ, ◌≤◌, Bool, true, List, Option, Some, None, refl, sym, subst, ◌∙◌, arith}
+use Rattle.std.specs.Prelude.{unwrap_or, max, is_some}
 use Rattle.dm_network.specs.Net.{Net}
 use Rattle.dm_rows.specs.Resolve.{after_change}
 use Rattle.dm_rows.specs.Rows.{RowsValue, passed_at}
@@ -9,7 +9,8 @@ use Rattle.dm_rows.specs.declared.messages.Change.{Change}
 use Rattle.dm_rows.specs.declared.messages.Change.TheVariants.{EventDelay, ActDelay, Passed, Recalled, Flipped, Adopted, Clock}
 use Rattle.dm_settle.specs.Constraints.{ConstraintsValue}
 use Rattle.dm_propagate.specs.Engine.{FollowsRows}
-use Rattle.dm_propagate.specs.Inside.Changing.{AreFloorsAt, HaveFloorsFrom, FollowsAt}
+use Rattle.dm_propagate.specs.Inside.Changing.{AreFloorsAt, HaveFloorsFrom, FloorsStay, FollowsAt}
+use Rattle.dm_propagate.specs.Inside.Flags.{FixesPassed}
 
 later_of_either : (planned earlier clock : ℕ) → earlier ≤ clock → clock ≤ max planned earlier → max planned earlier ≡ max planned clock
 later_of_either planned earlier clock up above = omega arith
@@ -46,3 +47,13 @@ at_clock_after net rows (Recalled i) clock given at = tt
 at_clock_after net rows (Flipped flip) clock given at = tt
 at_clock_after net rows (Adopted flips) clock given at = tt
 at_clock_after net rows (Clock t) clock given at = at
+
+-- a fixed event has the same floor at any clock
+fixed_floor : (passed : Option ℕ) (x y : ℕ) → is_some passed ≡ true → unwrap_or passed x ≡ unwrap_or passed y
+fixed_floor None x y some = absurd cc
+fixed_floor (Some t) x y some = refl
+
+pub floors_stay : (net : Net) (rows : RowsValue) (earlier : ℕ) (given : ConstraintsValue) (fixed : List Bool) → FixesPassed rows fixed →
+    AreFloorsAt net rows earlier given → FloorsStay net rows given fixed
+floors_stay net rows earlier given fixed passed at i lt on =
+    at i lt ∙ fixed_floor (passed_at rows i) (max (planned_time net rows i) earlier) (max (planned_time net rows i) rows.clock) (sym (passed i) ∙ on)

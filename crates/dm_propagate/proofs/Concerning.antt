@@ -4,7 +4,7 @@ use Rattle.std.specs.Prelude.{slice_set, slice_get, is_some, unwrap_or, max}
 use Rattle.std.proofs.lemmas.Bool.{cases_eq}
 use Rattle.dm_network.specs.Net.{Net, event_at, activity_at, pair_at}
 use Rattle.dm_network.specs.Pairs.{IsPaired}
-use Rattle.dm_rows.specs.Active.{is_active}
+use Rattle.dm_rows.specs.Active.{has_passed, is_active, IsCycle}
 use Rattle.dm_rows.specs.Resolve.{after_change, after_flip}
 use Rattle.dm_rows.specs.Rows.{RowsValue, passed_at}
 use Rattle.dm_rows.specs.Timetable.{planned_time, floor_of, span_of}
@@ -94,11 +94,43 @@ flips_keep_span : (net : Net) (rows : RowsValue) (flips : List Flip) (a : ℕ) �
 flips_keep_span net rows [] a = refl
 flips_keep_span net rows (flip ∷ flips) a = flips_keep_span net (after_flip rows flip) flips a ∙ flip_keeps_span net rows flip a
 
+-- a delay leaves the floor of an event that has passed
+passed_or_not : (passed : Option ℕ) (x y : ℕ) → (unwrap_or passed x ≡ unwrap_or passed y) ⊎ (is_some passed ≡ false)
+passed_or_not None x y = inr refl
+passed_or_not (Some t) x y = inl refl
+
+delay_leaves : (net : Net) (rows : RowsValue) (e d i : ℕ) → i ≡ e →
+    (floor_of net (after_change rows (EventDelay e d)) i ≡ floor_of net rows i) ⊎ MovesFloor rows (EventDelay e d) i
+delay_leaves net rows e d i is =
+    elim (passed_or_not (passed_at rows i) (max (planned_time net (after_change rows (EventDelay e d)) i) rows.clock) (max (planned_time net rows i) rows.clock)) [
+      | inl same ↦ inl same
+      | inr none ↦ inr (is, none)
+    ]
+
+-- what a change moves of the rows before it, it moves of those after it
+moves_after : (rows : RowsValue) (change : Change) (i : ℕ) → MovesFloor rows change i → MovesFloor (after_change rows change) change i
+moves_after rows (EventDelay e d) i m = m
+moves_after rows (ActDelay a d) i m = m
+moves_after rows (Passed e t) i m = m
+moves_after rows (Recalled e) i m = m
+moves_after rows (Flipped flip) i m = m
+moves_after rows (Adopted flips) i m = m
+moves_after rows (Clock t) i m = m
+
+moves_before : (rows : RowsValue) (change : Change) (i : ℕ) → MovesFloor (after_change rows change) change i → MovesFloor rows change i
+moves_before rows (EventDelay e d) i m = m
+moves_before rows (ActDelay a d) i m = m
+moves_before rows (Passed e t) i m = m
+moves_before rows (Recalled e) i m = m
+moves_before rows (Flipped flip) i m = m
+moves_before rows (Adopted flips) i m = m
+moves_before rows (Clock t) i m = m
+
 floor_leaves : (net : Net) (rows : RowsValue) (change : Change) (i : ℕ) →
-    (floor_of net (after_change rows change) i ≡ floor_of net rows i) ⊎ MovesFloor change i
+    (floor_of net (after_change rows change) i ≡ floor_of net rows i) ⊎ MovesFloor rows change i
 floor_leaves net rows (EventDelay e d) i =
     elim (cases_eq i e) [
-      | inl is ↦ inr is
+      | inl is ↦ delay_leaves net rows e d i is
       | inr ne ↦ inl (ap (λ (delay : ℕ). unwrap_or (passed_at rows i) (max ((event_at net i).time + delay) rows.clock)) (get_or-set_other rows.event_delays e i d 0 ne))
     ]
 floor_leaves net rows (ActDelay a d) i = inl refl
@@ -135,7 +167,7 @@ module _ (net : Net) (paired : IsPaired net) (rows : RowsValue) (change : Change
   pub follows_but_after : FollowsRows net rows given → FollowsBut net (after_change rows change) change given
   follows_but_after f = record {
     held = λ a lt. elim (change_leaves net rows change a (pair_ends net paired a lt)) [ inl same ↦ inl (f.held a lt ∙ sym same) | inr concerned ↦ inr concerned ];
-    floors = λ i lt. elim (floor_leaves net rows change i) [ inl same ↦ inl (f.floors i lt ∙ sym same) | inr moves ↦ inr moves ];
+    floors = λ i lt. elim (floor_leaves net rows change i) [ inl same ↦ inl (f.floors i lt ∙ sym same) | inr moves ↦ inr (moves_after rows change i moves) ];
     spans = λ a lt. elim (span_leaves net rows change a) [ inl same ↦ inl (f.spans a lt ∙ sym same) | inr moves ↦ inr moves ];
   }
 
@@ -147,7 +179,7 @@ module _ (net : Net) (paired : IsPaired net) (rows : RowsValue) (change : Change
     ];
     floors = λ i lt. elim (f.floors i lt) [
       | inl is ↦ elim (floor_leaves net rows change i) [ inl same ↦ inl (is ∙ same) | inr moves ↦ inr moves ]
-      | inr moves ↦ inr moves
+      | inr moves ↦ inr (moves_before rows change i moves)
     ];
     spans = λ a lt. elim (f.spans a lt) [
       | inl is ↦ elim (span_leaves net rows change a) [ inl same ↦ inl (is ∙ same) | inr moves ↦ inr moves ]
@@ -181,3 +213,19 @@ followed_by_one net rows change flip is before after refused floors follows =
       spans = λ a lt. elim (was.spans a lt) [ inl same ↦ inl (ap (λ (xs : List ℕ). slice_index xs a) refused.spans ∙ same) | inr never ↦ absurd never ];
     } in
     subst (λ (c : Change). FollowsBut net rows c after.given) (sym is) now
+
+pub cycle_of_one : (net : Net) (rows : RowsValue) (change : Change) (flip : Flip) → change ≡ Flipped flip → (before after : LiveValue) →
+    IsTurnRefused net rows (IsDecidedBefore net (flip ∷ []) 1) before after → FollowsBut net rows change before.given →
+    IsCycle net rows after.order.cycle
+cycle_of_one net rows change flip is before after refused follows =
+    let was : FollowsBut net rows (Flipped flip) before.given = subst (λ (c : Change). FollowsBut net rows c before.given) is follows in
+    refused.cycle (λ a lt. elim (was.held a lt) [ inl same ↦ inl same | inr d ↦ inr (by_one (IsDecided net) flip a d) ])
+
+pub followed_by_all : (net : Net) (rows : RowsValue) (flips : List Flip) (before after : LiveValue) →
+    IsTurnRefused net rows (IsDecidedBefore net flips (length flips)) before after → after.given.floors ≡ before.given.floors →
+    FollowsBut net rows (Adopted flips) before.given → FollowsBut net rows (Adopted flips) after.given
+followed_by_all net rows flips before after refused floors follows = record {
+  held = λ a lt. refused.held a lt (follows.held a lt);
+  floors = λ i lt. elim (follows.floors i lt) [ inl same ↦ inl (ap (λ (xs : List ℕ). slice_index xs i) floors ∙ same) | inr never ↦ absurd never ];
+  spans = λ a lt. elim (follows.spans a lt) [ inl same ↦ inl (ap (λ (xs : List ℕ). slice_index xs a) refused.spans ∙ same) | inr never ↦ absurd never ];
+}

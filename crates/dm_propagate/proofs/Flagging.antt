@@ -11,15 +11,44 @@ use Rattle.dm_rows.specs.declared.messages.Flip.{Flip}
 use Rattle.dm_rows.specs.declared.messages.Flip.TheVariants.{Keep, Drop, First}
 use Rattle.dm_rows.specs.declared.messages.Change.{Change}
 use Rattle.dm_rows.specs.declared.messages.Change.TheVariants.{EventDelay, ActDelay, Passed, Recalled, Flipped, Adopted, Clock}
-use Rattle.dm_priced.specs.Priced.{is_flagged}
+use Rattle.dm_live.specs.Live.{is_fixed}
+use Rattle.dm_priced.specs.Priced.{PricedValue, is_flagged}
 use Rattle.dm_propagate.specs.Inside.Concern.{IsOfOneBefore}
 use Rattle.dm_propagate.specs.Inside.Turning.{IsAmong, IsOnly}
-use Rattle.dm_propagate.specs.Inside.Flags.{FlagsValue, AreFlagsOf, MovesPass, IsNamed, LeadsInto, MovesCharge, AreFlagsBut, Charges, SetsFlagsAt, SetsFlagsBy, HasFlagsTo}
+use Rattle.dm_propagate.specs.Inside.Flags.{FlagsValue, flags_of, AreFlagsOf, FixesPassed, FixesNoOther, FixesNoOtherBut, MovesPass, IsNamed, LeadsInto, MovesCharge, AreFlagsBut, Charges, SetsFlagsAt, SetsFlagsBy, HasFlagsTo}
 use Rattle.dm_propagate.proofs.HeldLemmas.{among_next, set_on, set_off}
 use Rattle.dm_propagate.proofs.Around.{by_flips, into_is_listed}
 use Rattle.dm_propagate.proofs.Concerning.{decided_later}
 
+-- the flags, part by part
+flags_equal : (passed passed_now charged charged_now fixed fixed_now : List Bool) → passed_now ≡ passed → charged_now ≡ charged → fixed_now ≡ fixed →
+    (let now : FlagsValue = record { passed = passed_now; charged = charged_now; fixed = fixed_now } in now)
+    ≡ record { passed = passed; charged = charged; fixed = fixed }
+flags_equal passed passed_now charged charged_now fixed fixed_now p c f =
+    ap (λ (x : List Bool). record { passed = x; charged = charged_now; fixed = fixed_now }) p
+    ∙ ap (λ (x : List Bool). record { passed = passed; charged = x; fixed = fixed_now }) c
+    ∙ ap (λ (x : List Bool). record { passed = passed; charged = charged; fixed = x }) f
+
+pub flags_stay : (before after : PricedValue) → after ≡ record before { live = after.live } → after.live.fixed ≡ before.live.fixed → flags_of after ≡ flags_of before
+flags_stay before after others fixed =
+    flags_equal before.passed after.passed before.charged after.charged before.live.fixed after.live.fixed
+    (ap (λ (p : PricedValue). p.passed) others) (ap (λ (p : PricedValue). p.charged) others) fixed
+
+pub flags_fixed : (before after : PricedValue) (i : ℕ) (flag passed : Bool) → after.passed ≡ before.passed → after.charged ≡ before.charged →
+    after.live.fixed ≡ slice_set before.live.fixed i flag → passed ≡ flag →
+    flags_of after ≡ record (flags_of before) { fixed = slice_set before.live.fixed i passed }
+flags_fixed before after i flag passed same_passed same_charged fixed is =
+    flags_equal before.passed after.passed before.charged after.charged (slice_set before.live.fixed i passed) after.live.fixed
+    same_passed same_charged (fixed ∙ ap (slice_set before.live.fixed i) (sym is))
+
 module _ (net : Net) (rows : RowsValue) where
+  -- what is set stays where flags of other kinds change
+  pub flags_kept : (i : ℕ) (old mid now : FlagsValue) → now.passed ≡ mid.passed → now.charged ≡ mid.charged → SetsFlagsAt net rows i old mid → SetsFlagsAt net rows i old now
+  flags_kept i old mid now passed charged sets = record {
+    passed = passed ∙ sets.passed;
+    charged = subst (λ (fs : List Bool). Charges net rows (LeadsInto net i) old.charged fs) (sym charged) sets.charged;
+  }
+
   -- where only these are among those, and right flags stay
   pub charges_fewer : (P Q : ℕ → Type 0) (one two : List Bool) → ((a : ℕ) → a < length net.activities → Q a → P a) → Charges net rows P one two →
       Charges net rows Q one two
@@ -94,22 +123,27 @@ module _ (net : Net) (rows : RowsValue) where
     ]);
   }
 
-  pub all_flags : ((a : ℕ) → a < length net.activities → (activity_at net a).head < length net.events) → (flags : FlagsValue) →
+  pub all_flags : ((a : ℕ) → a < length net.activities → (activity_at net a).head < length net.events) → (flags : FlagsValue) → FixesPassed rows flags.fixed →
       HasFlagsTo net rows (length net.events) flags → AreFlagsOf net rows flags
-  all_flags known flags has = record { passed = has.passed; charged = λ a lt. has.charged a lt (known a lt) }
+  all_flags known flags fixed has = record { fixed = fixed; passed = has.passed; charged = λ a lt. has.charged a lt (known a lt) }
 
   -- flags that are right but for what a change concerns, and that are set there
   pub none_concerned : (change : Change) (flags : FlagsValue) → ((i : ℕ) → MovesPass change i → ⊥) → ((a : ℕ) → MovesCharge net change a → ⊥) →
       AreFlagsBut net rows change flags → AreFlagsOf net rows flags
   none_concerned change flags no_pass no_charge but = record {
+    fixed = λ i. elim (but.fixed i) [ inl is ↦ is | inr moves ↦ absurd (no_pass i moves) ];
     passed = λ i lt. elim (but.passed i lt) [ inl is ↦ is | inr moves ↦ absurd (no_pass i moves) ];
     charged = λ a lt. elim (but.charged a lt) [ inl is ↦ is | inr moves ↦ absurd (no_charge a moves) ];
   }
 
   pub set_at : (change : Change) (e : ℕ) → ((i : ℕ) → MovesPass change i → i ≡ e) → ((a : ℕ) → MovesCharge net change a → LeadsInto net e a) →
-      (before after : FlagsValue) → e < length before.passed → AreFlagsBut net rows change before → SetsFlagsAt net rows e before after →
-      AreFlagsOf net rows after
-  set_at change e only into before after below but sets = record {
+      (before after : FlagsValue) → e < length before.passed → e < length before.fixed → after.fixed ≡ slice_set before.fixed e (has_passed rows e) →
+      AreFlagsBut net rows change before → SetsFlagsAt net rows e before after → AreFlagsOf net rows after
+  set_at change e only into before after below within fixed but sets = record {
+    fixed = λ i. ap (λ (fs : List Bool). is_fixed fs i) fixed ∙ elim (cases_eq i e) [
+      | inl same ↦ set_on before.fixed e i (has_passed rows e) same within ∙ ap (has_passed rows) (sym same)
+      | inr other ↦ set_off before.fixed e i (has_passed rows e) other ∙ elim (but.fixed i) [ inl is ↦ is | inr moves ↦ absurd (other (only i moves)) ]
+    ];
     passed = λ i lt. ap (λ (fs : List Bool). is_flagged fs i) sets.passed ∙ elim (cases_eq i e) [
       | inl same ↦ set_on before.passed e i (has_passed rows e) same below ∙ ap (has_passed rows) (sym same)
       | inr other ↦ set_off before.passed e i (has_passed rows e) other ∙ elim (but.passed i lt) [ inl is ↦ is | inr moves ↦ absurd (other (only i moves)) ]
@@ -121,12 +155,32 @@ module _ (net : Net) (rows : RowsValue) where
       ((a : ℕ) → MovesCharge net change a → IsOfOneBefore IsNamed flips (length flips) a) → (before after : FlagsValue) →
       AreFlagsBut net rows change before → SetsFlagsBy net rows flips before after → AreFlagsOf net rows after
   set_by change flips no_pass by before after but sets = record {
+    fixed = λ i. ap (λ (fs : List Bool). is_fixed fs i) sets.fixed ∙ elim (but.fixed i) [ inl is ↦ is | inr moves ↦ absurd (no_pass i moves) ];
     passed = λ i lt. ap (λ (fs : List Bool). is_flagged fs i) sets.passed ∙ elim (but.passed i lt) [ inl is ↦ is | inr moves ↦ absurd (no_pass i moves) ];
     charged = λ a lt. sets.charged a lt (elim (but.charged a lt) [ inl is ↦ inl is | inr moves ↦ inr (by a moves) ]);
   }
 
   pub but_where_right : (change : Change) (flags : FlagsValue) → AreFlagsOf net rows flags → AreFlagsBut net rows change flags
-  but_where_right change flags f = record { passed = λ i lt. inl (f.passed i lt); charged = λ a lt. inl (f.charged a lt) }
+  but_where_right change flags f = record { fixed = λ i. inl (f.fixed i); passed = λ i lt. inl (f.passed i lt); charged = λ a lt. inl (f.charged a lt) }
+
+-- which events are fixed where flags are right but for what a change concerns
+pub no_other : (net : Net) (rows : RowsValue) (change : Change) (flags : FlagsValue) → ((i : ℕ) → MovesPass change i → ⊥) → AreFlagsBut net rows change flags →
+    FixesNoOther rows flags.fixed
+no_other net rows change flags no_pass but i not_yet = elim (but.fixed i) [ inl is ↦ is ∙ not_yet | inr moves ↦ absurd (no_pass i moves) ]
+
+pub no_other_but : (net : Net) (rows : RowsValue) (change : Change) (e : ℕ) (flags : FlagsValue) → ((i : ℕ) → MovesPass change i → i ≡ e) →
+    AreFlagsBut net rows change flags → FixesNoOtherBut rows e flags.fixed
+no_other_but net rows change e flags only but i not_yet = elim (but.fixed i) [ inl is ↦ inl (is ∙ not_yet) | inr moves ↦ inr (only i moves) ]
+
+pub no_other_set : (rows : RowsValue) (e : ℕ) (before after : List Bool) → e < length before → after ≡ slice_set before e (has_passed rows e) →
+    FixesNoOtherBut rows e before → FixesNoOther rows after
+no_other_set rows e before after within is but i not_yet = ap (λ (fs : List Bool). is_fixed fs i) is ∙ elim (cases_eq i e) [
+  | inl same ↦ set_on before e i (has_passed rows e) same within ∙ ap (has_passed rows) (sym same) ∙ not_yet
+  | inr other ↦ set_off before e i (has_passed rows e) other ∙ elim (but i not_yet) [ inl free ↦ free | inr same ↦ absurd (other same) ]
+]
+
+pub no_other_of : (rows : RowsValue) (fixed : List Bool) → FixesPassed rows fixed → FixesNoOther rows fixed
+no_other_of rows fixed is i not_yet = is i ∙ not_yet
 
 -- what a change leaves
 flip_keeps_passed : (rows : RowsValue) (flip : Flip) (i : ℕ) → has_passed (after_flip rows flip) i ≡ has_passed rows i
@@ -199,6 +253,7 @@ module _ (net : Net) where
   pub flags_but_after : (rows : RowsValue) (change : Change) (flags : FlagsValue) → AreFlagsOf net rows flags →
       AreFlagsBut net (after_change rows change) change flags
   flags_but_after rows change flags f = record {
+    fixed = λ i. elim (pass_leaves rows change i) [ inl same ↦ inl (f.fixed i ∙ sym same) | inr moves ↦ inr moves ];
     passed = λ i lt. elim (pass_leaves rows change i) [ inl same ↦ inl (f.passed i lt ∙ sym same) | inr moves ↦ inr moves ];
     charged = λ a lt. elim (charge_leaves rows change a) [ inl same ↦ inl (f.charged a lt ∙ sym same) | inr moves ↦ inr moves ];
   }
@@ -206,6 +261,10 @@ module _ (net : Net) where
   pub flags_but_before : (rows : RowsValue) (change : Change) (flags : FlagsValue) → AreFlagsBut net (after_change rows change) change flags →
       AreFlagsBut net rows change flags
   flags_but_before rows change flags f = record {
+    fixed = λ i. elim (f.fixed i) [
+      | inl is ↦ elim (pass_leaves rows change i) [ inl same ↦ inl (is ∙ same) | inr moves ↦ inr moves ]
+      | inr moves ↦ inr moves
+    ];
     passed = λ i lt. elim (f.passed i lt) [
       | inl is ↦ elim (pass_leaves rows change i) [ inl same ↦ inl (is ∙ same) | inr moves ↦ inr moves ]
       | inr moves ↦ inr moves

@@ -1,23 +1,24 @@
 -- A live timetable that follows rows: its times are theirs.
-use Rattle.std.proofs.Common.{◌≡◌, ℕ, ◌<◌, false, List, [], length, replicate, sym, ◌∙◌, arith}
+use Rattle.std.proofs.Common.{◌≡◌, ℕ, ◌<◌, Bool, false, List, [], length, replicate, if◌then◌else◌, sym, ap, ◌∙◌, arith}
 use Rattle.std.proofs.lemmas.List.{length-replicate}
 use Rattle.std.proofs.lemmas.Grind.{same_number_lists}
 use Rattle.dm_live.specs.Live.{LiveValue, IsLive, IsAtRest}
 use Rattle.dm_live.proofs.Resting.{least_at_rest, live_has_no_cycle}
-use Rattle.dm_network.specs.Net.{Net, EndsAreKnown}
-use Rattle.dm_rows.specs.Active.{HasNoCycle}
+use Rattle.dm_network.specs.Net.{Net, EndsAreKnown, activity_at}
+use Rattle.dm_network.specs.Held.{is_held}
+use Rattle.dm_rows.specs.Active.{HasNoCycle, has_passed}
 use Rattle.dm_rows.specs.Cost.{is_dropped_change}
 use Rattle.dm_rows.specs.Rows.{RowsValue, IsSized}
 use Rattle.dm_rows.specs.Timetable.{IsLeast}
 use Rattle.dm_settle.specs.Constraints.{ConstraintsValue, IsSizedFor}
-use Rattle.dm_times.specs.Inside.Filling.{AreConstraintsOf}
+use Rattle.dm_times.specs.Constraints.{AreConstraintsOf}
 use Rattle.dm_times.proofs.Filled.{least_for_rows, no_cycle_of_rows}
 use Rattle.dm_priced.specs.Priced.{PricedValue, IsPriced, FollowsPrice}
-use Rattle.dm_places.specs.Places.{PlaceSetValue}
+use Rattle.dm_marks.specs.Places.{PlaceSetValue}
 use Rattle.dm_propagate.specs.Inside.Flags.{flags_of, AreFlagsOf}
 use Rattle.dm_schedule.specs.Schedule.{IsScheduleOf}
 use Rattle.dm_schedule.specs.declared.schedule.Scheduled.{Scheduled}
-use Rattle.dm_propagate.specs.Engine.{EngineValue, FollowsRows, IsEngineOf, times_of}
+use Rattle.dm_propagate.specs.Engine.{EngineValue, FollowsRows, OrdersUnpassed, IsEngineOf, times_of}
 
 constraints_of_rows : (net : Net) (rows : RowsValue) (given : ConstraintsValue) → IsSizedFor net given → FollowsRows net rows given →
     AreConstraintsOf net rows given
@@ -45,6 +46,12 @@ is_engine net rows priced schedule moved sized is rest follows flags scheduled n
   priced = is;
   at_rest = rest;
   follows = follows;
+  orders = record {
+    fixed = flags.fixed;
+    held = λ a lt. is.live.in_order a lt
+        ∙ ap (λ (b : Bool). if b then false else is_held priced.live.given.held a) (flags.fixed (activity_at net a).tail)
+        ∙ ap (λ (b : Bool). if has_passed rows (activity_at net a).tail then false else b) (follows.held a lt);
+  };
   price = record { passed = flags.passed; charged = flags.charged; spans = follows.spans };
   schedule = scheduled;
   noted = noted;
@@ -58,14 +65,15 @@ forgetting_engine net engine is = record {
   priced = is.priced;
   at_rest = is.at_rest;
   follows = is.follows;
+  orders = is.orders;
   price = is.price;
   schedule = is.schedule;
   noted = length-replicate (length engine.moved.flags) false ∙ is.noted;
 }
 
-pub engine_flags : (net : Net) (rows : RowsValue) (priced : PricedValue) → FollowsPrice net rows (is_dropped_change net rows) priced →
+pub engine_flags : (net : Net) (rows : RowsValue) (priced : PricedValue) → OrdersUnpassed net rows priced.live → FollowsPrice net rows (is_dropped_change net rows) priced →
     AreFlagsOf net rows (flags_of priced)
-engine_flags net rows priced price = record { passed = price.passed; charged = price.charged }
+engine_flags net rows priced orders price = record { fixed = orders.fixed; passed = price.passed; charged = price.charged }
 
 pub engine_least : (net : Net) (engine : EngineValue) → EndsAreKnown net → IsEngineOf net engine → IsLeast net engine.rows (times_of engine)
 engine_least net engine known is = follows_least net engine.rows engine.priced.live known is.priced.live is.at_rest is.follows

@@ -10,3 +10,5 @@ pub mod Passing
 pub mod Raising
 pub mod Reaching
 pub mod Turned
+pub mod Delays
+pub mod Placing

@@ -1,5 +1,5 @@
 -- Which events are due by a clock, and what renewing their floors makes of a timetable.
-use Rattle.std.proofs.Common.{◌≡◌, ◌≢◌, ℕ, ◌+◌, ◌<◌, ◌≤◌, true, List, length, take, Option, Some, None, refl, sym, ap, subst, ◌∙◌, ◌⊎◌, inl, inr, arith, slice_index, get_or-set_same, get_or-set_other}
+use Rattle.std.proofs.Common.{◌≡◌, ◌≢◌, ℕ, ◌+◌, ◌<◌, ◌≤◌, true, Bool, List, length, take, Option, Some, None, refl, sym, ap, subst, ◌∙◌, ◌⊎◌, inl, inr, arith, slice_index, get_or-set_same, get_or-set_other}
 use Rattle.std.specs.Prelude.{unwrap_or, max, slice_set, slice_index_or}
 use Rattle.std.proofs.lemmas.Bool.{cases_eq, cases_lt}
 use Rattle.dm_network.specs.Net.{Net}
@@ -9,10 +9,10 @@ use Rattle.dm_settle.specs.Constraints.{ConstraintsValue}
 use Rattle.dm_marks.specs.Marked.{is_marked}
 use Rattle.dm_marks.proofs.Marking.{marked_if}
 use Rattle.dm_order.specs.Value.{OrderValue}
-use Rattle.dm_live.specs.Live.{LiveValue, with_floor, with_mark}
+use Rattle.dm_live.specs.Live.{LiveValue, is_fixed, with_floor, with_mark}
 use Rattle.dm_schedule.specs.Schedule.{IsScheduleOf}
 use Rattle.dm_schedule.specs.declared.schedule.Scheduled.{Scheduled}
-use Rattle.dm_propagate.specs.Inside.Changing.{AreFloorsAt, HaveFloorsFrom, HasFloors, IsOffFloor}
+use Rattle.dm_propagate.specs.Inside.Changing.{AreFloorsAt, HaveFloorsFrom, HasFloors, IsOffFloor, FloorsStay}
 use Rattle.dm_propagate.specs.Inside.Raising.{HaveFloorsBut, RaisesFloors}
 use Rattle.dm_schedule.proofs.Standing.{in_front_or_late, front_next}
 
@@ -81,6 +81,16 @@ module _ (net : Net) (rows : RowsValue) (due : List Scheduled) where
           | inr right ↦ let e = right.1 in absurd (omega arith)
         ]
         | inr above ↦ inr (subst (λ ts. slice_index ts i < floor_of net rows i) so.times above)
+      ]
+
+  -- a fixed event has its floor before and after
+  pub raised_stays : (n i : ℕ) (before old : LiveValue) (fixed fixed_now : List Bool) → fixed_now ≡ fixed → i < length net.events →
+      FloorsStay net rows before.given fixed → RaisesFloors net rows due n before old → is_fixed fixed_now i ≡ true →
+      slice_index old.given.floors i ≡ floor_of net rows i
+  raised_stays n i before old fixed fixed_now same_fixed lt stay so on =
+      elim (so.others i) [
+        | inl same ↦ same ∙ stay i lt (ap (λ (f : List Bool). is_fixed f i) (sym same_fixed) ∙ on)
+        | inr right ↦ right.1
       ]
 
   module _ (n i : ℕ) (before old now : LiveValue) (is_event : i < length net.events) (many : length old.given.floors ≡ length net.events)

@@ -1,13 +1,13 @@
 //! A change of the rows, made to the timetable that is held to them.
 ghost use Rattle.std.specs.Prelude.{ℕ, ◌≡◌, ◌<◌, Some, length, slice_set, All, OnOk, OnErr};
 ghost use Rattle.dm_rows.specs.Rows.{IsSized, passed_at};
-ghost use Rattle.dm_rows.specs.Active.{IsCycle};
+ghost use Rattle.dm_rows.specs.Active.{has_passed, IsCycle};
 ghost use Rattle.dm_rows.specs.Reach.{Reaches, ReachesFlip};
 ghost use Rattle.dm_rows.specs.Timetable.{floor_of};
 ghost use Rattle.dm_priced.specs.Priced.{IsPriced};
 ghost use Rattle.dm_propagate.specs.Engine.{FollowsRows};
 ghost use Rattle.dm_propagate.specs.Inside.Concern.{FollowsBut, LeadsAt, IsDecidedBefore};
-ghost use Rattle.dm_propagate.specs.Inside.Flags.{flags_of, AreFlagsOf, AreFlagsBut, MovesPass, SetsFlagsAt, SetsFlagsBy};
+ghost use Rattle.dm_propagate.specs.Inside.Flags.{flags_of, AreFlagsOf, AreFlagsBut, FixesNoOther, FixesNoOtherBut, MovesPass, SetsFlagsAt, SetsFlagsBy};
 ghost use Rattle.dm_schedule.specs.Schedule.{IsScheduleOf};
 ghost use Rattle.dm_propagate.specs.Inside.Changing.{FollowsAt, Turns, IsTurnRefused, HasPassed, MarksFor};
 ghost use Rattle.dm_propagate.specs.Inside.Noting.{KeepsTimesBut};
@@ -37,10 +37,12 @@ fn turn_event<L: Ledger>(
     requires priced { IsPriced net.now priced.old }
     requires sized { IsSized net.now rows.now }
     requires is_event { event < length net.now.events }
+    requires open { FixesNoOtherBut rows.now event priced.old.live.fixed }
     ensures priced { IsPriced net.now priced.new }
     ensures turned { OnOk result (Turns net.now rows.now (LeadsAt net.now event) priced.old.live priced.new.live) }
     ensures refused { OnErr result (IsTurnRefused net.now rows.now (LeadsAt net.now event) priced.old.live priced.new.live) }
     ensures flags { SetsFlagsAt net.now rows.now event (flags_of priced.old) (flags_of priced.new) }
+    ensures fixed { priced.new.live.fixed ≡ slice_set priced.old.live.fixed event (has_passed rows.now event) }
     ensures floors { priced.new.live.given.floors ≡ slice_set priced.old.live.given.floors event (floor_of net.now rows.now event) }
     ensures times { OnOk result (KeepsTimesBut (λ e. e ≡ event) priced.old.live.times priced.new.live.times) }
     ensures passed { OnOk result ((t : ℕ) → passed_at rows.now event ≡ Some t → HasPassed net.now rows.now event t priced.old.live priced.new.live steps.old steps.new) }
@@ -67,6 +69,7 @@ fn turn_by_flips<L: Ledger>(
     requires priced { IsPriced net.now priced.old }
     requires sized { IsSized net.now rows.now }
     requires reaches { All (ReachesFlip rows.now) flips.now }
+    requires open { FixesNoOther rows.now priced.old.live.fixed }
     ensures priced { IsPriced net.now priced.new }
     ensures turned { OnOk result (Turns net.now rows.now (IsDecidedBefore net.now flips.now (length flips.now)) priced.old.live priced.new.live) }
     ensures refused { OnErr result (IsTurnRefused net.now rows.now (IsDecidedBefore net.now flips.now (length flips.now)) priced.old.live priced.new.live) }

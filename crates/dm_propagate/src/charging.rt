@@ -7,7 +7,7 @@ ghost use Rattle.dm_rows.specs.Reach.{ReachesFlip};
 ghost use Rattle.dm_rows.specs.Rows.{IsSized};
 ghost use Rattle.dm_priced.specs.Priced.{IsPriced};
 ghost use Rattle.dm_propagate.specs.Inside.Concern.{IsOfOneBefore};
-ghost use Rattle.dm_propagate.specs.Inside.Flags.{flags_of, AreFlagsOf, Charges, IsNamed, SetsFlagsAt};
+ghost use Rattle.dm_propagate.specs.Inside.Flags.{flags_of, AreFlagsOf, FixesPassed, Charges, IsNamed, SetsFlagsAt};
 ghost use Rattle.dm_propagate.specs.Inside.Turning.{IsAmong, IsOnly};
 
 use dm_base::{ActKind, Steps};
@@ -25,6 +25,7 @@ pub fn set_flags<L: Ledger>(
 )
     requires priced { IsPriced net.now priced.old }
     requires sized { IsSized net.now rows.now }
+    requires fixed { FixesPassed rows.now priced.old.live.fixed }
     ensures priced { IsPriced net.now priced.new }
     ensures live { priced.new.live ≡ priced.old.live }
     ensures flags { AreFlagsOf net.now rows.now (flags_of priced.new) }

@@ -1,10 +1,11 @@
 //! A timetable that is brought to follow rows at another clock.
-ghost use Rattle.std.specs.Prelude.{ℕ, ◌≡◌, ◌+◌, ◌<◌, All, List, length, slice_index_or};
+ghost use Rattle.std.specs.Prelude.{ℕ, ◌≡◌, ◌+◌, ◌<◌, All, List, true, length, slice_index, slice_index_or};
 ghost use Rattle.dm_rows.specs.Rows.{IsSized};
-ghost use Rattle.dm_live.specs.Live.{LiveValue};
+ghost use Rattle.dm_rows.specs.Timetable.{floor_of};
+ghost use Rattle.dm_live.specs.Live.{LiveValue, is_fixed};
 ghost use Rattle.dm_priced.specs.Priced.{IsPriced};
-ghost use Rattle.dm_propagate.specs.Inside.Flags.{flags_of};
-ghost use Rattle.dm_propagate.specs.Inside.Changing.{AreFloorsAt, HaveFloorsFrom, HasFloors};
+ghost use Rattle.dm_propagate.specs.Inside.Flags.{flags_of, FixesPassed};
+ghost use Rattle.dm_propagate.specs.Inside.Changing.{AreFloorsAt, HaveFloorsFrom, HasFloors, FloorsStay};
 ghost use Rattle.dm_propagate.specs.Inside.Raising.{HaveFloorsBut, RaisesFloors};
 ghost use Rattle.dm_schedule.specs.Schedule.{IsScheduleOf};
 
@@ -29,6 +30,7 @@ pub fn move_clock(
     requires sized { IsSized net.now rows.now }
     requires schedule { IsScheduleOf net.now schedule.now }
     requires floors { AreFloorsAt net.now rows.now earlier priced.old.live.given }
+    requires fixed { FixesPassed rows.now priced.old.live.fixed }
     ensures priced { IsPriced net.now priced.new }
     ensures flags { flags_of priced.new ≡ flags_of priced.old }
     ensures floors { HasFloors net.now rows.now (length net.now.events) priced.old.live priced.new.live }
@@ -57,6 +59,7 @@ fn raise_floors(
     requires are_events { All (λ s. s.event < length net.now.events) due.now }
     requires stand { HaveFloorsFrom net.now rows.now clock priced.old.live.given }
     requires others { HaveFloorsBut net.now rows.now due.now priced.old.live.given }
+    requires stay { FloorsStay net.now rows.now priced.old.live.given priced.old.live.fixed }
     ensures priced { IsPriced net.now priced.new }
     ensures flags { flags_of priced.new ≡ flags_of priced.old }
     ensures floors { HasFloors net.now rows.now (length net.now.events) priced.old.live priced.new.live }
@@ -70,10 +73,12 @@ fn raise_floors(
 }
 
 /// Gives one event its floor by the rows.
+#[tactic(auto, using(crate::proofs::Flagging::flags_stay))]
 fn renew_floor(priced: &mut PricedTimetable, net: &Network, rows: &Rows, i: usize)
     requires priced { IsPriced net.now priced.old }
     requires sized { IsSized net.now rows.now }
     requires is_event { i < length net.now.events }
+    requires stays { is_fixed priced.old.live.fixed i ≡ true → slice_index priced.old.live.given.floors i ≡ floor_of net.now rows.now i }
     ensures priced { IsPriced net.now priced.new }
     ensures flags { flags_of priced.new ≡ flags_of priced.old }
     ensures next { (before : LiveValue) (due : List Scheduled) (n : ℕ) → ((d : Scheduled) → (slice_index_or due n d).event ≡ i) →

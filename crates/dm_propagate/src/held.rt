@@ -2,7 +2,7 @@
 ghost use Rattle.std.specs.Prelude.{ℕ, ◌≡◌, ◌<◌, length, All, OnOk, OnErr};
 ghost use Rattle.dm_rows.specs.Rows.{IsSized};
 ghost use Rattle.dm_priced.specs.Priced.{IsPriced};
-ghost use Rattle.dm_propagate.specs.Inside.Flags.{flags_of};
+ghost use Rattle.dm_propagate.specs.Inside.Flags.{flags_of, FixesNoOther};
 ghost use Rattle.dm_propagate.specs.Inside.Turning.{IsAmong, IsOnly, LetsGo, TakesUp, IsRefused};
 
 use dm_graph::search::Cyclic;
@@ -26,7 +26,7 @@ pub fn let_go(priced: &mut PricedTimetable, net: &Network, rows: &Rows, acts: &[
 }
 
 /// Lets an activity go where it is held and not active.
-#[tactic(auto, using(crate::proofs::HeldLemmas::let_go_not, crate::proofs::HeldLemmas::let_go_one))]
+#[tactic(auto, using(crate::proofs::HeldLemmas::let_go_not, crate::proofs::HeldLemmas::let_go_one, crate::proofs::Flagging::flags_stay))]
 pub fn let_go_one(priced: &mut PricedTimetable, net: &Network, rows: &Rows, a: usize)
     requires priced { IsPriced net.now priced.old }
     requires sized { IsSized net.now rows.now }
@@ -52,6 +52,7 @@ pub fn take_up(
     requires priced { IsPriced net.now priced.old }
     requires sized { IsSized net.now rows.now }
     requires are_activities { All (λ a. a < length net.now.activities) acts.now }
+    requires open { FixesNoOther rows.now priced.old.live.fixed }
     ensures priced { IsPriced net.now priced.new }
     ensures flags { flags_of priced.new ≡ flags_of priced.old }
     ensures taken { OnOk result (TakesUp net.now rows.now (IsAmong acts.now (length acts.now)) priced.old.live priced.new.live) }
@@ -67,7 +68,7 @@ pub fn take_up(
 }
 
 /// Holds an activity where it is active and not held, unless it would make a cycle.
-#[tactic(auto, using(crate::proofs::HeldLemmas::taken_up_not, crate::proofs::HeldLemmas::refused_one))]
+#[tactic(auto, using(crate::proofs::HeldLemmas::taken_up_not, crate::proofs::HeldLemmas::refused_one, crate::proofs::Flagging::flags_stay))]
 pub fn take_up_one(
     priced: &mut PricedTimetable,
     net: &Network,
@@ -77,6 +78,7 @@ pub fn take_up_one(
     requires priced { IsPriced net.now priced.old }
     requires sized { IsSized net.now rows.now }
     requires is_activity { a < length net.now.activities }
+    requires open { FixesNoOther rows.now priced.old.live.fixed }
     ensures priced { IsPriced net.now priced.new }
     ensures flags { flags_of priced.new ≡ flags_of priced.old }
     ensures taken { OnOk result (TakesUp net.now rows.now (IsOnly a) priced.old.live priced.new.live) }

@@ -11,15 +11,15 @@ ghost use Rattle.dm_propagate.specs.Inside.Noting.{NotesEach};
 
 use crate::moving::Alteration;
 use dm_base::{Secs, Steps};
+use dm_marks::PlaceSet;
 use dm_network::Network;
-use dm_places::PlaceSet;
 use dm_priced::PricedTimetable;
 use dm_rows::Change;
 use dm_settle::{Constraints, Times, Watcher};
 use std::marker::{Brand, PhantomData};
 use std::sync::ledger::Ledger;
 
-/// What a pass began with: the times, what was noted, and the name by which the notes are lent. Each call that starts one
+/// What a sweep began with: the times, what was noted, and the name by which the notes are lent. Each call that starts one
 /// picks it.
 pub trait Opening {
     ghost use Rattle.std.specs.Prelude.{ℕ, Bool, List};
@@ -120,7 +120,7 @@ pub fn settle_noted<L: Ledger>(
     settle_from::<L, Brand>(priced, net, &mut noting, steps);
 }
 
-// The same, where what the pass begins with is picked.
+// The same, where what the sweep begins with is picked.
 fn settle_from<L: Ledger, P: Opening>(
     priced: &mut PricedTimetable,
     net: &Network,

@@ -1,12 +1,14 @@
 //! The timetable of an engine at first.
-ghost use Rattle.std.specs.Prelude.{◌≡◌, ◌<◌, IfOk, IfErr};
+ghost use Rattle.std.specs.Prelude.{ℕ, ◌≡◌, ◌<◌, false, IfOk, IfErr, OnOk, OnErr};
+ghost use Rattle.dm_network.specs.Held.{is_held};
+ghost use Rattle.dm_rows.specs.Active.{IsCycle};
 ghost use Rattle.dm_live.specs.Live.{IsAtRest};
 ghost use Rattle.dm_order.specs.Orders.{IsOrderOf};
 ghost use Rattle.dm_order.specs.Refuse.{RefusesOrder, HasCycle};
 ghost use Rattle.dm_rows.specs.Rows.{IsSized};
 ghost use Rattle.dm_times.specs.Faults.{RefusesTimes};
 ghost use Rattle.dm_priced.specs.Priced.{IsPriced};
-ghost use Rattle.dm_propagate.specs.Inside.Flags.{flags_of, AreFlagsOf};
+ghost use Rattle.dm_propagate.specs.Inside.Flags.{flags_of, AreFlagsOf, FixesPassed};
 ghost use Rattle.dm_propagate.specs.Inside.Sweeping.{IsAtRestFor, IsHeldTo};
 
 use crate::charging::set_flags;
@@ -51,7 +53,7 @@ fn held_for(alloc: Global, net: &Network, rows: &Rows) -> Result<PricedTimetable
         Err(fault) => return Err(fault),
     };
     let mut priced = empty_of(alloc, net, order)?;
-    match follow(&mut priced, net, rows) {
+    match hold(&mut priced, net, rows) {
         Ok(()) => Ok(priced),
         Err(Cyclic) => Err(OrderFault::Cyclic),
     }
@@ -60,13 +62,50 @@ fn held_for(alloc: Global, net: &Network, rows: &Rows) -> Result<PricedTimetable
 /// A timetable of a network that holds nothing.
 fn empty_of(alloc: Global, net: &Network, order: Order) -> Result<PricedTimetable, AllocError>
     requires { IsOrderOf net.now order }
-    ensures { IfOk result (IsPriced net.now) }
+    ensures priced { IfOk result (IsPriced net.now) }
+    ensures none { IfOk result (λ priced. (a : ℕ) → is_held priced.live.given.held a ≡ false) }
 {
     let constraints = Constraints::new(alloc, net)?;
     match LiveTimetable::new(alloc, net, constraints, order) {
-        Ok(live) => PricedTimetable::new(alloc, net, live),
+        Ok(live) => {
+            let priced = PricedTimetable::new(alloc, net, live)?;
+            Ok(priced)
+        }
         Err(OrderFault::Cyclic) => unreachable!(),
         Err(OrderFault::OutOfMemory) => Err(AllocError),
+    }
+}
+
+/// Holds a timetable that holds nothing to rows, for a ledger that nothing reads.
+fn hold(priced: &mut PricedTimetable, net: &Network, rows: &Rows) -> Result<(), Cyclic>
+    requires sized { IsSized net.now rows.now }
+    requires priced { IsPriced net.now priced.old }
+    requires none { (a : ℕ) → is_held priced.old.live.given.held a ≡ false }
+    ensures held { OnOk result (IsHeldTo net.now rows.now priced.new) }
+    ensures cycle { OnErr result (IsCycle net.now rows.now priced.new.live.order.cycle) }
+{
+    hold_with::<Brand>(priced, net, rows, Blank::new(1))
+}
+
+fn hold_with<L: Ledger>(
+    priced: &mut PricedTimetable,
+    net: &Network,
+    rows: &Rows,
+    blank: Blank,
+) -> Result<(), Cyclic>
+    requires sized { IsSized net.now rows.now }
+    requires priced { IsPriced net.now priced.old }
+    requires none { (a : ℕ) → is_held priced.old.live.given.held a ≡ false }
+    requires name { blank.name ≡ L.name }
+    requires parts { blank.parts ≡ L.parts }
+    requires has_a_part { 0 < blank.parts }
+    ensures held { OnOk result (IsHeldTo net.now rows.now priced.new) }
+    ensures cycle { OnErr result (IsCycle net.now rows.now priced.new.live.order.cycle) }
+{
+    let mut steps = Steps::<L>::new(blank);
+    match follow(priced, net, rows, &mut steps) {
+        Ok(()) => Ok(()),
+        Err(Cyclic) => Err(Cyclic),
     }
 }
 
@@ -86,6 +125,7 @@ fn cycle_of(alloc: Global, net: &Network, rows: &Rows) -> NoTimes
 fn settle(priced: &mut PricedTimetable, net: &Network, rows: &Rows)
     requires priced { IsPriced net.now priced.old }
     requires sized { IsSized net.now rows.now }
+    requires fixed { FixesPassed rows.now priced.old.live.fixed }
     ensures priced { IsPriced net.now priced.new }
     ensures at_rest { IsAtRest priced.new.live }
     ensures given { priced.new.live.given ≡ priced.old.live.given }
@@ -97,6 +137,7 @@ fn settle(priced: &mut PricedTimetable, net: &Network, rows: &Rows)
 fn settle_with<L: Ledger>(priced: &mut PricedTimetable, net: &Network, rows: &Rows, blank: Blank)
     requires priced { IsPriced net.now priced.old }
     requires sized { IsSized net.now rows.now }
+    requires fixed { FixesPassed rows.now priced.old.live.fixed }
     requires name { blank.name ≡ L.name }
     requires parts { blank.parts ≡ L.parts }
     requires has_a_part { 0 < blank.parts }

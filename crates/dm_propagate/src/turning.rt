@@ -1,12 +1,13 @@
 //! A timetable that is brought to follow rows at what a change concerns.
-ghost use Rattle.std.specs.Prelude.{ℕ, ◌≡◌, ◌<◌, ◌⊎◌, Some, true, length, All, OnOk, OnErr};
+ghost use Rattle.std.specs.Prelude.{ℕ, ◌≡◌, ◌<◌, ◌⊎◌, Some, true, false, length, slice_set, All, OnOk, OnErr};
 ghost use Rattle.dm_network.specs.Net.{places_into, places_out_of};
 ghost use Rattle.dm_rows.specs.Rows.{IsSized, passed_at};
-ghost use Rattle.dm_rows.specs.Active.{IsCycle};
+ghost use Rattle.dm_rows.specs.Active.{has_passed};
 ghost use Rattle.dm_rows.specs.Reach.{Reaches, ReachesFlip};
-ghost use Rattle.dm_live.specs.Live.{IsEnteredByNone};
+ghost use Rattle.dm_rows.specs.Timetable.{floor_of};
+ghost use Rattle.dm_live.specs.Live.{IsEnteredByNone, with_floor};
 ghost use Rattle.dm_priced.specs.Priced.{IsPriced};
-ghost use Rattle.dm_propagate.specs.Inside.Flags.{flags_of};
+ghost use Rattle.dm_propagate.specs.Inside.Flags.{flags_of, FixesNoOther};
 ghost use Rattle.dm_propagate.specs.Engine.{FollowsRows};
 ghost use Rattle.dm_propagate.specs.Inside.Concern.{FollowsBut, LeadsAt, IsDecided, IsDecidedBefore};
 ghost use Rattle.dm_propagate.specs.Inside.Turning.{Within, LetsGo, TakesUp, IsRefused};
@@ -59,6 +60,7 @@ pub fn take_up_around(
     requires is_event { event < length net.now.events }
     requires into { into.now ≡ places_into net.now event }
     requires out { out.now ≡ places_out_of net.now event }
+    requires open { FixesNoOther rows.now priced.old.live.fixed }
     ensures priced { IsPriced net.now priced.new }
     ensures flags { flags_of priced.new ≡ flags_of priced.old }
     ensures taken { OnOk result (TakesUp net.now rows.now (Within net.now (LeadsAt net.now event)) priced.old.live priced.new.live) }
@@ -74,8 +76,9 @@ pub fn take_up_around(
     }
 }
 
-/// Gives an event its floor by the rows, and where it has passed its time too. Nothing that is held enters it then. The rows
-/// are those of the activities into it and out of it.
+/// Gives an event its floor by the rows. Where it has passed it is fixed at this time: nothing that is held enters it then, and
+/// what is held out of it leaves the order. Where it has not, this comes back. The rows are those of the activities into it and
+/// out of it.
 #[tactic(auto, using(crate::proofs::Noted::keeps_but_one, crate::proofs::Noted::keeps_all))]
 pub fn set_place<L: Ledger>(
     priced: &mut PricedTimetable,
@@ -93,13 +96,31 @@ pub fn set_place<L: Ledger>(
     requires out { out.now ≡ places_out_of net.now event }
     requires entered { (t : ℕ) → passed_at rows.now event ≡ Some t → IsEnteredByNone net.now priced.old.live.given.held event }
     ensures priced { IsPriced net.now priced.new }
-    ensures flags { flags_of priced.new ≡ flags_of priced.old }
+    ensures flags { flags_of priced.new ≡ record (flags_of priced.old) { fixed = slice_set priced.old.live.fixed event (has_passed rows.now event) } }
     ensures place { HasPlace net.now rows.now event priced.old.live priced.new.live steps.old steps.new }
 {
     match rows.passed(event) {
         Some(time) => priced.fix(net, event, time, into, out, steps),
-        None => priced.set_floor(net, event, floor_of(net, rows, event)),
+        None => open_place(priced, net, rows, event, out),
     }
+}
+
+/// Gives an event that has not passed its floor by the rows, and lets its time move.
+fn open_place(priced: &mut PricedTimetable, net: &Network, rows: &Rows, event: usize, out: &[usize])
+    requires priced { IsPriced net.now priced.old }
+    requires sized { IsSized net.now rows.now }
+    requires is_event { event < length net.now.events }
+    requires out { out.now ≡ places_out_of net.now event }
+    ensures priced { IsPriced net.now priced.new }
+    ensures given { priced.new.live.given ≡ with_floor priced.old.live.given event (floor_of net.now rows.now event) }
+    ensures times { priced.new.live.times ≡ priced.old.live.times }
+    ensures cycle_stays { priced.new.live.order.cycle ≡ priced.old.live.order.cycle }
+    ensures flag { priced.new.live.fixed ≡ slice_set priced.old.live.fixed event false }
+    ensures passed { priced.new.passed ≡ priced.old.passed }
+    ensures charged { priced.new.charged ≡ priced.old.charged }
+{
+    priced.free(net, event, out);
+    priced.set_floor(net, event, floor_of(net, rows, event));
 }
 
 /// Lets the activities go that a flip decides about and that are not active.
@@ -155,6 +176,7 @@ fn take_up_by_flip<L: Ledger>(
     requires priced { IsPriced net.now priced.old }
     requires sized { IsSized net.now rows.now }
     requires reaches { ReachesFlip rows.now flip }
+    requires open { FixesNoOther rows.now priced.old.live.fixed }
     ensures priced { IsPriced net.now priced.new }
     ensures flags { flags_of priced.new ≡ flags_of priced.old }
     ensures taken { OnOk result (TakesUp net.now rows.now (Within net.now (IsDecided net.now flip)) priced.old.live priced.new.live) }
@@ -177,6 +199,7 @@ fn take_up_pair<L: Ledger>(
     requires priced { IsPriced net.now priced.old }
     requires sized { IsSized net.now rows.now }
     requires is_pair { pair < length net.now.pairs }
+    requires open { FixesNoOther rows.now priced.old.live.fixed }
     ensures priced { IsPriced net.now priced.new }
     ensures flags { flags_of priced.new ≡ flags_of priced.old }
     ensures taken { OnOk result (TakesUp net.now rows.now (Within net.now (IsDecided net.now (Flip.First pair true))) priced.old.live priced.new.live) }
@@ -225,6 +248,7 @@ pub fn take_up_by_flips<L: Ledger>(
     requires priced { IsPriced net.now priced.old }
     requires sized { IsSized net.now rows.now }
     requires reaches { All (ReachesFlip rows.now) flips.now }
+    requires open { FixesNoOther rows.now priced.old.live.fixed }
     ensures priced { IsPriced net.now priced.new }
     ensures flags { flags_of priced.new ≡ flags_of priced.old }
     ensures taken { OnOk result (TakesUp net.now rows.now (Within net.now (IsDecidedBefore net.now flips.now (length flips.now))) priced.old.live priced.new.live) }

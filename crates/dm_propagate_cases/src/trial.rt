@@ -5,8 +5,8 @@ ghost use Rattle.dm_rows.specs.Reach.{Reaches};
 
 use dm_base::Steps;
 use dm_graph::search::Cyclic;
+use dm_marks::PlaceSet;
 use dm_network::Network;
-use dm_places::PlaceSet;
 use dm_propagate::Engine;
 use dm_rows::{Change, Message, Refusal, admit};
 use dm_samples::{Failure, rows_on_time};

@@ -10,7 +10,7 @@ use Rattle.std.proofs.lemmas.List.FromFn.{length-range_with_len, get_or-range_wi
 use Rattle.std.proofs.lemmas.List.Sorted.{All-permutation, Contains-permutation, length_permutation}
 use Rattle.dm_rows.specs.Timetable.{time_at}
 use Rattle.dm_network.specs.Net.{Net, event_at}
-use Rattle.dm_places.specs.Moved.{ListsMoved}
+use Rattle.dm_marks.specs.Moved.{ListsMoved}
 use Rattle.dm_publish.specs.declared.changes.Listed.{Listed}
 use Rattle.dm_publish.specs.Inside.Changes.{no_listed, place_at, StandsFrom, StandsIn, ListsChanges, AreWritten}
 use Rattle.dm_publish.specs.Inside.Grouping.{listed_at, lists, AreListed, AreGrouped}

@@ -2,7 +2,7 @@
 ghost use Rattle.std.specs.Prelude.{ℕ, ◌≡◌, ◌≤◌, [], length, vec_len, IfOk};
 ghost use Rattle.dm_base.specs.declared.limits.TheConstants.{BOARDS};
 ghost use Rattle.dm_cert.specs.Runs.{AreTrueNotes};
-ghost use Rattle.dm_places.specs.Moved.{ListsMoved};
+ghost use Rattle.dm_marks.specs.Moved.{ListsMoved};
 ghost use Rattle.dm_publish.specs.Value.{PublisherValue};
 ghost use Rattle.dm_publish.specs.Publishing.{Publishes};
 ghost use Rattle.dm_publish.specs.Since.{KeepsUp, KeepsUpLast};
@@ -71,10 +71,12 @@ impl Publisher {
         requires events { length net.now.events ≡ self.old.events }
         requires times { length timetable.now ≡ length net.now.events }
         requires boards { vec_len boards.old ≡ self.old.boards }
-        ensures published { Publishes place times faults is_sound net.now [] timetable.now entry boards.old.items boards.new.items self.old.notes self.new.notes result }
+        ensures published { Publishes place times faults is_sound net.now [] timetable.now entry boards.old.items boards.new.items
+            self.old.notes self.new.notes result }
 
         // Boards that were kept up since some first list are so after the call, and show the timetable.
-        ensures keeps_up { KeepsUp place times faults is_sound net.now timetable.now boards.old.items boards.new.items self.old.notes self.new.notes }
+        ensures keeps_up { KeepsUp place times faults is_sound net.now timetable.now boards.old.items boards.new.items self.old.notes
+            self.new.notes }
 
         // Notes that are true at an earlier entry are so with the new ones.
         ensures true_notes { (entries : ℕ) → entries ≤ entry → AreTrueNotes entries self.old.notes → AreTrueNotes entry self.new.notes }
@@ -103,11 +105,13 @@ impl Publisher {
         requires times { length timetable.now ≡ length net.now.events }
         requires boards { vec_len boards.old ≡ self.old.boards }
         requires listed { ListsMoved self.old.last timetable.now places.now }
-        ensures published { Publishes place times faults is_sound net.now self.old.last timetable.now entry boards.old.items boards.new.items self.old.notes self.new.notes result }
+        ensures published { Publishes place times faults is_sound net.now self.old.last timetable.now entry boards.old.items
+            boards.new.items self.old.notes self.new.notes result }
 
         // Boards that were kept up since some first list, and show the times published last, are so after the call, and show
         // the timetable.
-        ensures keeps_up { KeepsUpLast place times faults is_sound net.now self.old.last timetable.now boards.old.items boards.new.items self.old.notes self.new.notes }
+        ensures keeps_up { KeepsUpLast place times faults is_sound net.now self.old.last timetable.now boards.old.items boards.new.items
+            self.old.notes self.new.notes }
 
         // Notes that are true at an earlier entry are so with the new ones.
         ensures true_notes { (entries : ℕ) → entries ≤ entry → AreTrueNotes entries self.old.notes → AreTrueNotes entry self.new.notes }

@@ -25,7 +25,8 @@ pub(crate) fn refresh(
     requires size { length timetable.now ≡ length net.now.events }
     requires grouped { AreGrouped net.now listed.now }
     requires room { length net.now.events ≤ vec_capacity changes.old }
-    ensures refreshed { (last : List ℕ) → ListsChanges last timetable.now listed.now → Refreshes place times faults is_sound net.now last timetable.now board.old board.new result }
+    ensures refreshed { (last : List ℕ) → ListsChanges last timetable.now listed.now
+        → Refreshes place times faults is_sound net.now last timetable.now board.old board.new result }
     ensures room { vec_capacity changes.old ≤ vec_capacity changes.new }
 {
     net.sound();
@@ -44,7 +45,8 @@ fn show_on(board: &mut Box<dyn Board>, changes: &[(u32, Secs)]) -> Result<(), Fa
     ensures sets { OnOk result (Sets (times board.old) (times board.new) changes.now) }
     ensures cause { Counts (faults board.old) (faults board.new) result }
     ensures succeeds { All (λ change. is_sound board.old change.0) changes.now → IsOk result }
-    ensures stays_sound { All (λ change. is_sound board.old change.0) changes.now → (event : ℕ) → is_sound board.old event → is_sound board.new event }
+    ensures stays_sound { All (λ change. is_sound board.old change.0) changes.now → (event : ℕ) → is_sound board.old event
+        → is_sound board.new event }
 {
     board.show(changes)
 }

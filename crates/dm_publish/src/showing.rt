@@ -42,7 +42,8 @@ impl Model for Showing {
     ghost view = { λ p. record { boards = p.boards; events = p.events; notes = p.notes.items; last = p.last.items } };
 
     ghost invariant = { λ p.
-        (p.boards ≤ BOARDS) × (p.boards ≤ vec_capacity p.notes) × (p.events ≤ vec_capacity p.changes) × (p.events ≤ vec_capacity p.last) × AreNotesOf p.boards p.notes.items };
+        (p.boards ≤ BOARDS) × (p.boards ≤ vec_capacity p.notes) × (p.events ≤ vec_capacity p.changes) × (p.events ≤ vec_capacity p.last)
+        × AreNotesOf p.boards p.notes.items };
 }
 
 impl Showing {
@@ -92,11 +93,13 @@ impl Showing {
         requires boards { vec_len boards.old ≡ self.old.boards }
         requires listed { ListsChanges self.old.last timetable.now listed.now }
         requires grouped { AreGrouped net.now listed.now }
-        ensures published { Publishes place times faults is_sound net.now self.old.last timetable.now entry boards.old.items boards.new.items self.old.notes self.new.notes result }
+        ensures published { Publishes place times faults is_sound net.now self.old.last timetable.now entry boards.old.items
+            boards.new.items self.old.notes self.new.notes result }
 
         // Boards that were kept up since some first list, and show the times published last, are so after the call, and show
         // the timetable.
-        ensures keeps_up { KeepsUpLast place times faults is_sound net.now self.old.last timetable.now boards.old.items boards.new.items self.old.notes self.new.notes }
+        ensures keeps_up { KeepsUpLast place times faults is_sound net.now self.old.last timetable.now boards.old.items boards.new.items
+            self.old.notes self.new.notes }
 
         // Notes that are true at an earlier entry are so with the new ones.
         ensures true_notes { (entries : ℕ) → entries ≤ entry → AreTrueNotes entries self.old.notes → AreTrueNotes entry self.new.notes }
@@ -127,7 +130,8 @@ impl Showing {
         requires is_board { index < self.old.boards }
         requires listed { ListsChanges self.old.last timetable.now listed.now }
         requires grouped { AreGrouped net.now listed.now }
-        ensures turn { TakesTurn place times faults is_sound net.now self.old.last timetable.now entry index self.old.notes self.new.notes board.old board.new }
+        ensures turn { TakesTurn place times faults is_sound net.now self.old.last timetable.now entry index self.old.notes self.new.notes
+            board.old board.new }
         ensures same_last { self.new.last ≡ self.old.last }
         ensures same_boards { self.new.boards ≡ self.old.boards }
         ensures same_events { self.new.events ≡ self.old.events }

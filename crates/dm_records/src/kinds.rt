@@ -1,13 +1,31 @@
 //! The kinds of lines that feeds say, and of answers: their words and their numbers.
-ghost use Rattle.std.specs.Prelude.{◌≡◌, is_some, IfSome};
+ghost use Rattle.std.specs.Prelude.{◌≡◌, ℕ, List, is_some, IfSome};
 ghost use Rattle.std.specs.Option.{option_map};
 ghost use Rattle.dm_text.specs.Inside.Parts.{behind};
 ghost use Rattle.dm_records.specs.Inside.Fields.{kind_in_front, row_in, NumbersFit};
+ghost use Rattle.dm_records.specs.declared.fields.Shape.{Shape};
 ghost use Rattle.dm_records.specs.declared.kinds.TheConstants.{SAID, TOLD, FREE};
 ghost use Rattle.dm_records.specs.Inside.Kinds.{said_text, said_shape, told_text, told_shape, free_text, free_shape};
 
 use crate::fields::{LARGEST_ID, LARGEST_VALUE, Shape, numbers_in};
 use dm_text::behind;
+
+/// A kind of line: its words, and the numbers behind them.
+pub(crate) trait Kind: Copy {
+    /// The words.
+    ghost words: { Self → List ℕ };
+
+    /// The numbers.
+    ghost numbers: { Self → Shape };
+
+    /// The words in front.
+    fn text(self) -> &'static str
+        ensures { result.now ≡ words self };
+
+    /// The numbers behind the words.
+    fn shape(self) -> Shape
+        ensures { result ≡ numbers self };
+}
 
 /// A kind of line that a feed says.
 #[derive(Clone, Copy, PartialEq, Eq, Debug)]
@@ -92,8 +110,11 @@ pub(crate) const TOLD: [ToldKind; 14] = [
 /// Every kind of answer at no entry.
 pub(crate) const FREE: [FreeKind; 3] = [FreeKind::NoPlan, FreeKind::Plans, FreeKind::Range];
 
-impl SaidKind {
-    /// The words in front.
+impl Kind for SaidKind {
+    ghost words = { said_text };
+
+    ghost numbers = { said_shape };
+
     fn text(self) -> &'static str
         ensures { result.now ≡ said_text self }
     {
@@ -114,7 +135,6 @@ impl SaidKind {
         }
     }
 
-    /// The numbers behind the words.
     fn shape(self) -> Shape
         ensures { result ≡ said_shape self }
     {
@@ -130,17 +150,13 @@ impl SaidKind {
             SaidKind::Cost | SaidKind::Read | SaidKind::Adopt => Shape::Bare,
         }
     }
-
-    /// Whether the words stand in front of the line.
-    fn is_in_front(self, line: &[u8]) -> bool
-        ensures { result ≡ is_some (behind (said_text self) line.now) }
-    {
-        behind(line, self.text()).is_some()
-    }
 }
 
-impl ToldKind {
-    /// The words in front.
+impl Kind for ToldKind {
+    ghost words = { told_text };
+
+    ghost numbers = { told_shape };
+
     fn text(self) -> &'static str
         ensures { result.now ≡ told_text self }
     {
@@ -162,7 +178,6 @@ impl ToldKind {
         }
     }
 
-    /// The numbers behind the words.
     fn shape(self) -> Shape
         ensures { result ≡ told_shape self }
     {
@@ -179,17 +194,13 @@ impl ToldKind {
             ToldKind::Passed => Shape::Double(LARGEST_ID, u128::MAX),
         }
     }
-
-    /// Whether the words stand in front of the line.
-    fn is_in_front(self, line: &[u8]) -> bool
-        ensures { result ≡ is_some (behind (told_text self) line.now) }
-    {
-        behind(line, self.text()).is_some()
-    }
 }
 
-impl FreeKind {
-    /// The words in front.
+impl Kind for FreeKind {
+    ghost words = { free_text };
+
+    ghost numbers = { free_shape };
+
     fn text(self) -> &'static str
         ensures { result.now ≡ free_text self }
     {
@@ -200,7 +211,6 @@ impl FreeKind {
         }
     }
 
-    /// The numbers behind the words.
     fn shape(self) -> Shape
         ensures { result ≡ free_shape self }
     {
@@ -209,13 +219,6 @@ impl FreeKind {
             FreeKind::Range => Shape::Single(u128::MAX),
         }
     }
-
-    /// Whether the words stand in front of the line.
-    fn is_in_front(self, line: &[u8]) -> bool
-        ensures { result ≡ is_some (behind (free_text self) line.now) }
-    {
-        behind(line, self.text()).is_some()
-    }
 }
 
 /// A kind of line with its numbers, and what stands behind them.
@@ -223,16 +226,7 @@ pub(crate) fn said_row(line: &[u8]) -> Option<((SaidKind, u128, u128), &[u8])>
     ensures reads { option_map (λ p. (p.0, p.1.now)) result ≡ row_in said_text said_shape SAID line.now }
     ensures fits { IfSome result (λ p. NumbersFit (said_shape p.0.0) p.0.1 p.0.2) }
 {
-    let Some(kind) = said_kind(line) else {
-        return None;
-    };
-    let Some(rest) = behind(line, kind.text()) else {
-        return None;
-    };
-    let Some((one, two, rest)) = numbers_in(rest, kind.shape()) else {
-        return None;
-    };
-    Some(((kind, one, two), rest))
+    row_in(&SAID, line)
 }
 
 /// A kind of answer with its numbers, and what stands behind them.
@@ -240,16 +234,7 @@ pub(crate) fn told_row(line: &[u8]) -> Option<((ToldKind, u128, u128), &[u8])>
     ensures reads { option_map (λ p. (p.0, p.1.now)) result ≡ row_in told_text told_shape TOLD line.now }
     ensures fits { IfSome result (λ p. NumbersFit (told_shape p.0.0) p.0.1 p.0.2) }
 {
-    let Some(kind) = told_kind(line) else {
-        return None;
-    };
-    let Some(rest) = behind(line, kind.text()) else {
-        return None;
-    };
-    let Some((one, two, rest)) = numbers_in(rest, kind.shape()) else {
-        return None;
-    };
-    Some(((kind, one, two), rest))
+    row_in(&TOLD, line)
 }
 
 /// A kind of answer at no entry with its number, and what stands behind it.
@@ -257,7 +242,15 @@ pub(crate) fn free_row(line: &[u8]) -> Option<((FreeKind, u128, u128), &[u8])>
     ensures reads { option_map (λ p. (p.0, p.1.now)) result ≡ row_in free_text free_shape FREE line.now }
     ensures fits { IfSome result (λ p. NumbersFit (free_shape p.0.0) p.0.1 p.0.2) }
 {
-    let Some(kind) = free_kind(line) else {
+    row_in(&FREE, line)
+}
+
+/// The first of these kinds whose words stand in front, with its numbers, and what stands behind them.
+fn row_in<'l, K: Kind>(kinds: &[K], line: &'l [u8]) -> Option<((K, u128, u128), &'l [u8])>
+    ensures reads { option_map (λ p. (p.0, p.1.now)) result ≡ row_in K.words K.numbers kinds.now line.now }
+    ensures fits { IfSome result (λ p. NumbersFit (K.numbers p.0.0) p.0.1 p.0.2) }
+{
+    let Some(kind) = kind_in_front(kinds, line) else {
         return None;
     };
     let Some(rest) = behind(line, kind.text()) else {
@@ -269,23 +262,16 @@ pub(crate) fn free_row(line: &[u8]) -> Option<((FreeKind, u128, u128), &[u8])>
     Some(((kind, one, two), rest))
 }
 
-/// The first kind whose words stand in front.
-fn said_kind(line: &[u8]) -> Option<SaidKind>
-    ensures { result ≡ kind_in_front said_text SAID line.now }
+/// The first of these kinds whose words stand in front.
+fn kind_in_front<K: Kind>(kinds: &[K], line: &[u8]) -> Option<K>
+    ensures { result ≡ kind_in_front K.words kinds.now line.now }
 {
-    SAID.iter().copied().find(|kind| kind.is_in_front(line))
+    kinds.iter().copied().find(|kind| is_in_front(*kind, line))
 }
 
-/// The first kind of answer whose words stand in front.
-fn told_kind(line: &[u8]) -> Option<ToldKind>
-    ensures { result ≡ kind_in_front told_text TOLD line.now }
+/// Whether the words of a kind stand in front of the line.
+fn is_in_front<K: Kind>(kind: K, line: &[u8]) -> bool
+    ensures { result ≡ is_some (behind (K.words kind) line.now) }
 {
-    TOLD.iter().copied().find(|kind| kind.is_in_front(line))
-}
-
-/// The first kind of answer at no entry whose words stand in front.
-fn free_kind(line: &[u8]) -> Option<FreeKind>
-    ensures { result ≡ kind_in_front free_text FREE line.now }
-{
-    FREE.iter().copied().find(|kind| kind.is_in_front(line))
+    behind(line, kind.text()).is_some()
 }

@@ -17,7 +17,8 @@ use Rattle.dm_rows.specs.Timetable.{time_at}
 use Rattle.dm_rows.specs.Relax.{is_same_choice, is_decided, is_undecided_change, is_undecided_pair}
 use Rattle.dm_relax.specs.Complete.{completed_kept, completed_small_first, completed_change, completed_pair, completion_of}
 use Rattle.dm_paths.specs.Decisions.{change_decision, pair_decision}
-use Rattle.dm_paths.proofs.Naming.{Names, of_change, of_pair, names, change_decides, pair_decides, same_itself}
+use Rattle.dm_paths.proofs.Naming.{Names, of_change, of_pair, names, change_decides, pair_decides}
+use Rattle.dm_rows.proofs.Sides.{same_itself}
 use Rattle.dm_paths.proofs.Setting.{HasDecision, has_each, has_kept, has_first}
 use Rattle.dm_paths.proofs.Apart.{listed, Apart, free_are_apart, choice_list_from, in_map, map_through}
 

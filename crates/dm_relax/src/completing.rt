@@ -9,9 +9,8 @@ ghost use Rattle.dm_relax.specs.Inside.Differing.{differing_change, differing_pa
 
 use crate::relaxation::Relaxation;
 use crate::relaxing::Relaxed;
-use crate::undecided::{is_free_change, is_free_pair};
 use dm_network::Network;
-use dm_rows::{Decision, Rows};
+use dm_rows::{Decision, Rows, choice_of_pair, is_free_change, is_free_pair};
 use dm_times::Times;
 use std::alloc::{AllocError, Global};
 
@@ -109,7 +108,7 @@ fn is_kept(relaxation: &Relaxation, a: usize) -> bool
     requires { a < length relaxation.now.net.now.activities }
     ensures { result ≡ completed_kept relaxation.now.net.now relaxation.now.rows.now relaxation.now.path.now a }
 {
-    relaxation.changes[a] || relaxation.set.kept(a)
+    relaxation.undecided.changes[a] || relaxation.set.kept(a)
 }
 
 /// Whether the small event of the pair at a place goes first in the completion.
@@ -119,7 +118,7 @@ fn goes_small_first(relaxation: &Relaxation, times: &Times, p: usize) -> bool
     ensures { result ≡ completed_small_first relaxation.now.net.now relaxation.now.rows.now relaxation.now.path.now times.now p }
 {
     relaxation.net.sound();
-    if relaxation.pairs[p] {
+    if relaxation.undecided.pairs[p] {
         let pair = relaxation.net.pair(p);
         times.time(pair.small) < times.time(pair.large)
     } else {
@@ -145,13 +144,10 @@ fn pair_decision(net: &Network, p: usize, small: bool) -> Decision
     requires { p < length net.now.pairs }
     ensures { result ≡ pair_decision net.now p small }
 {
-    net.sound();
-    let pair = net.pair(p);
-    let small_id = net.event(pair.small).id;
-    let large_id = net.event(pair.large).id;
+    let choice = choice_of_pair(net, p);
     if small {
-        Decision::First(small_id, large_id)
+        choice.first()
     } else {
-        Decision::First(large_id, small_id)
+        choice.second()
     }
 }

@@ -4,28 +4,28 @@ ghost use Rattle.dm_network.specs.Net.{activity_at};
 ghost use Rattle.dm_rows.specs.Rows.{IsSized};
 ghost use Rattle.dm_rows.specs.Decide.{IsChoiceList, with_decisions};
 ghost use Rattle.dm_rows.specs.Relax.{is_undecided_change, is_undecided_pair, is_of_undecided};
-ghost use Rattle.dm_relax.specs.Inside.Flags.{AreFlags};
+ghost use Rattle.dm_paths.specs.Flags.{AreFlags};
 
-use crate::undecided::{undecided_changes, undecided_pairs, with_decisions};
+use crate::undecided::{undecided_by, with_decisions};
 use dm_base::ActKind;
 use dm_network::Network;
+use dm_paths::Undecided;
 use dm_rows::{Decision, Rows, is_active};
 use dm_times::{Charging, Holding};
 use std::alloc::{AllocError, Global};
 
-/// The rows with the decisions of a path set, and which changes and pairs the path leaves undecided.
+/// The rows with the decisions of a path set, and what the path leaves undecided.
 #[derive(Drop)]
 pub struct Relaxation<'a> {
     pub net: &'a Network,
     pub rows: &'a Rows,
     pub path: &'a [Decision],
     pub set: Rows,
-    pub changes: Vec<bool>,
-    pub pairs: Vec<bool>,
+    pub undecided: Undecided,
     ghost is_set: { set ≡ with_decisions net.now rows.now path.now },
     ghost sized: { IsSized net.now set },
-    ghost changes_are: { AreFlags (is_undecided_change net.now rows.now path.now) (length net.now.activities) changes.items },
-    ghost pairs_are: { AreFlags (is_undecided_pair net.now rows.now path.now) (length net.now.pairs) pairs.items },
+    ghost changes_are: { AreFlags (is_undecided_change net.now rows.now path.now) (length net.now.activities) undecided.changes.items },
+    ghost pairs_are: { AreFlags (is_undecided_pair net.now rows.now path.now) (length net.now.pairs) undecided.pairs.items },
 }
 
 impl<'a> Relaxation<'a> {
@@ -47,8 +47,7 @@ impl<'a> Relaxation<'a> {
             rows,
             path,
             set: with_decisions(alloc, net, rows, path)?,
-            changes: undecided_changes(alloc, net, rows, path)?,
-            pairs: undecided_pairs(alloc, net, rows, path)?,
+            undecided: undecided_by(alloc, net, rows, path)?,
         })
     }
 
@@ -59,8 +58,8 @@ impl<'a> Relaxation<'a> {
     {
         self.net.sound();
         match self.net.activity(a).pair {
-            None => self.changes[a],
-            Some(p) => self.pairs[p],
+            None => self.undecided.changes[a],
+            Some(p) => self.undecided.pairs[p],
         }
     }
 }
@@ -95,6 +94,6 @@ impl Charging for Relaxation<'_> {
         matches!(activity.kind, ActKind::Change)
             && !self.set.kept(a)
             && self.set.passed(activity.head).is_none()
-            && !self.changes[a]
+            && !self.undecided.changes[a]
     }
 }

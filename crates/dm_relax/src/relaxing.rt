@@ -2,9 +2,10 @@
 ghost use Rattle.std.specs.Prelude.{◌≡◌, ◌<◌, ◌≤◌, length, IfOk, IfErr, IfSome, IfNone, OnOk, true, false};
 ghost use Rattle.dm_base.specs.declared.limits.TheConstants.{PENALTY};
 ghost use Rattle.dm_rows.specs.Rows.{IsSized};
-ghost use Rattle.dm_rows.specs.Decide.{IsChoiceList, pair_choice};
+ghost use Rattle.dm_rows.specs.Decide.{IsChoiceList};
 ghost use Rattle.dm_rows.specs.Relax.{has_unmet_from};
-ghost use Rattle.dm_relax.specs.Inside.Flags.{AreFlags, end_of};
+ghost use Rattle.dm_paths.specs.Flags.{AreFlags};
+ghost use Rattle.dm_relax.specs.Inside.Flags.{end_of};
 ghost use Rattle.dm_relax.specs.Inside.First.{first_violated_change, first_violated_pair};
 ghost use Rattle.dm_tree.specs.Relaxed.{HasNoRelaxedCycle};
 ghost use Rattle.dm_relax.specs.Relaxed.{IsRelaxed, RefusesRelaxed, first_violated};
@@ -13,7 +14,7 @@ use crate::relaxation::Relaxation;
 use crate::unmet::unmet_from;
 use dm_base::Cost;
 use dm_network::Network;
-use dm_rows::{Choice, Decision, Rows};
+use dm_rows::{Choice, Decision, Rows, choice_of_pair};
 use dm_times::{NoTimes, Times, comes_too_early, cost_charging, least_holding};
 use std::alloc::{AllocError, Global};
 
@@ -90,7 +91,7 @@ fn first_violated_change(relaxation: &Relaxation, times: &Times) -> Option<Choic
 {
     let net = relaxation.net;
     for a in 0..net.activities() {
-        if relaxation.changes[a] && comes_too_early(net, relaxation.rows, times, a) {
+        if relaxation.undecided.changes[a] && comes_too_early(net, relaxation.rows, times, a) {
             return Some(Choice::Change(net.activity(a).id));
         }
     }
@@ -110,19 +111,9 @@ fn first_violated_pair(
 {
     let net = relaxation.net;
     for p in 0..net.pairs() {
-        if relaxation.pairs[p] && small[p] && large[p] {
+        if relaxation.undecided.pairs[p] && small[p] && large[p] {
             return Some(choice_of_pair(net, p));
         }
     }
     None
-}
-
-/// The pair at a place as a choice.
-fn choice_of_pair(net: &Network, p: usize) -> Choice
-    requires { p < length net.now.pairs }
-    ensures { result ≡ pair_choice net.now p }
-{
-    net.sound();
-    let pair = net.pair(p);
-    Choice::Pair(net.event(pair.small).id, net.event(pair.large).id)
 }

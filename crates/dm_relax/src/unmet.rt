@@ -3,7 +3,8 @@ ghost use Rattle.std.specs.Prelude.{◌≡◌, ◌==◌, ◌<◌, length, IfOk};
 ghost use Rattle.dm_network.specs.Net.{activity_at};
 ghost use Rattle.dm_rows.specs.Rows.{IsSized};
 ghost use Rattle.dm_rows.specs.Relax.{has_unmet_from};
-ghost use Rattle.dm_relax.specs.Inside.Flags.{AreFlags, end_of};
+ghost use Rattle.dm_paths.specs.Flags.{AreFlags};
+ghost use Rattle.dm_relax.specs.Inside.Flags.{end_of};
 
 use dm_network::Network;
 use dm_rows::Rows;

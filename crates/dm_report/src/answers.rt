@@ -81,7 +81,8 @@ fn put_refusal<K: Sink>(
     why: &Refusal,
 ) -> Result<(), WriteFault>
     requires { IsSpelledReason why.now }
-    ensures { Prints K.taken K.faults sink.old sink.new page.old page.new result (joined (decimal entry ∷ codes " refused " ∷ reason_text why.now ∷ line_end ∷ [])) }
+    ensures { Prints K.taken K.faults sink.old sink.new page.old page.new result
+        (joined (decimal entry ∷ codes " refused " ∷ reason_text why.now ∷ line_end ∷ [])) }
 {
     let Ok(()) = put_number(sink, page, "", entry as u128, " refused ") else {
         return Err(WriteFault);
@@ -94,7 +95,8 @@ fn put_refusal<K: Sink>(
 
 /// Prints a plan behind the entry that it is for.
 fn put_planned<K: Sink>(sink: &mut K, page: &mut Page, plan: &Plan) -> Result<(), WriteFault>
-    ensures { Prints K.taken K.faults sink.old sink.new page.old page.new result (joined (decimal plan.now.entry ∷ codes " " ∷ spelling_of_plan 2 plan.now ∷ [])) }
+    ensures { Prints K.taken K.faults sink.old sink.new page.old page.new result
+        (joined (decimal plan.now.entry ∷ codes " " ∷ spelling_of_plan 2 plan.now ∷ [])) }
 {
     let Ok(()) = put_number(sink, page, "", plan.entry as u128, " ") else {
         return Err(WriteFault);

@@ -32,7 +32,8 @@ pub fn put_numbers<'w, K: Sink>(
     second: u128,
     after: &'w str,
 ) -> Result<(), WriteFault>
-    ensures { Prints K.taken K.faults sink.old sink.new page.old page.new result (joined (decimal first ∷ between.now ∷ decimal second ∷ after.now ∷ [])) }
+    ensures { Prints K.taken K.faults sink.old sink.new page.old page.new result
+        (joined (decimal first ∷ between.now ∷ decimal second ∷ after.now ∷ [])) }
 {
     let pieces = [
         Piece::Number(first),
@@ -51,7 +52,8 @@ pub fn put_pair<K: Sink>(
     first: u128,
     second: u128,
 ) -> Result<(), WriteFault>
-    ensures { Prints K.taken K.faults sink.old sink.new page.old page.new result (joined (before.now ∷ decimal first ∷ codes " " ∷ decimal second ∷ [])) }
+    ensures { Prints K.taken K.faults sink.old sink.new page.old page.new result
+        (joined (before.now ∷ decimal first ∷ codes " " ∷ decimal second ∷ [])) }
 {
     let pieces = [
         Piece::Text(before),

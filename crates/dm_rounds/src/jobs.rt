@@ -41,7 +41,8 @@ pub fn answer_job<S: Source + Drop, D: Desk, P: Planner, H: Hold>(
     requires plans { PlansUnder (P.value planner.now) (D.value desk.old).setting }
     requires are_true { AreTrueOf (D.value desk.old) feed job.old.log.items }
     requires can_read { CanRead job.old.progress }
-    ensures { OnOk result (StepsFrom S.left S.is_sound job.old.progress job.old.log.items job.new (D.value desk.old) (D.value desk.new) feed batch) }
+    ensures { OnOk result (StepsFrom S.left S.is_sound job.old.progress job.old.log.items job.new (D.value desk.old) (D.value desk.new) feed
+        batch) }
 {
     let Progress::Reading(reader) = &mut job.progress else {
         return Ok(());

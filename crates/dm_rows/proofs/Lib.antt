@@ -6,6 +6,7 @@ pub mod FlipLemmas
 pub mod Holding
 pub mod PairEnds
 pub mod Setting
+pub mod Sides
 pub mod StartDelays
 pub mod StartSizes
 pub mod Worked

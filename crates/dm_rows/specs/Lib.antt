@@ -7,6 +7,7 @@ pub mod Resolve
 pub mod Reach
 pub mod Refuse
 pub mod History
+pub mod Sides
 pub mod Decide
 pub mod Relax
 pub mod Touch

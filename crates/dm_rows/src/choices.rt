@@ -52,7 +52,7 @@ fn with_free_pairs(
 }
 
 /// Whether the activity at this place is a change whose head has not passed.
-fn is_free_change(net: &Network, rows: &Rows, a: usize) -> bool
+pub fn is_free_change(net: &Network, rows: &Rows, a: usize) -> bool
     requires sized { IsSized net.now rows.now }
     requires is_activity { a < length net.now.activities }
     ensures { result ≡ is_free_change net.now rows.now a }
@@ -63,7 +63,7 @@ fn is_free_change(net: &Network, rows: &Rows, a: usize) -> bool
 }
 
 /// Whether neither event of the pair at this place has passed.
-fn is_free_pair(net: &Network, rows: &Rows, p: usize) -> bool
+pub fn is_free_pair(net: &Network, rows: &Rows, p: usize) -> bool
     requires sized { IsSized net.now rows.now }
     requires is_pair { p < length net.now.pairs }
     ensures { result ≡ is_free_pair net.now rows.now p }
@@ -74,7 +74,7 @@ fn is_free_pair(net: &Network, rows: &Rows, p: usize) -> bool
 }
 
 /// The pair at this place as a choice.
-fn choice_of_pair(net: &Network, p: usize) -> Choice
+pub fn choice_of_pair(net: &Network, p: usize) -> Choice
     requires { p < length net.now.pairs }
     ensures { result ≡ pair_choice net.now p }
 {

@@ -14,7 +14,7 @@ mod starting;
 
 pub use activity::is_active;
 pub use admission::{admit, flip_of};
-pub use choices::free_choices;
+pub use choices::{choice_of_pair, free_choices, is_free_change, is_free_pair};
 pub use messages::{At, Change, Choice, Decision, Entry, Flip, Message, Refusal, StartFault};
 pub use rows::{Rows, Snapshot};
 pub use starting::start_rows;

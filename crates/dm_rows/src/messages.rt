@@ -1,5 +1,7 @@
 //! What feeds may say, what it comes to by place, and why it is refused.
 
+ghost use Rattle.std.specs.Prelude.{◌≡◌};
+
 use dm_base::{ActId, EventId, Items, Secs};
 
 /// A choice that a dispatcher makes.
@@ -15,6 +17,49 @@ pub enum Decision {
     First(EventId, EventId),
 }
 
+impl Decision {
+    ghost use Rattle.dm_rows.specs.Decide.{choice_of};
+    ghost use Rattle.dm_rows.specs.Sides.{is_first_decision, other_decision};
+
+    /// The choice that it decides. Of a pair the smaller id stands first.
+    pub fn choice(self) -> Choice
+        ensures { result ≡ choice_of self }
+    {
+        match self {
+            Decision::Keep(act) | Decision::Drop(act) => Choice::Change(act),
+            Decision::First(first, second) => {
+                if first.0 < second.0 {
+                    Choice::Pair(first, second)
+                } else {
+                    Choice::Pair(second, first)
+                }
+            }
+        }
+    }
+
+    /// Whether it is the first decision of its choice: to keep a change, or that the smaller id of a pair goes first.
+    pub fn is_first(self) -> bool
+        ensures { result ≡ is_first_decision self }
+    {
+        match self {
+            Decision::Keep(_) => true,
+            Decision::Drop(_) => false,
+            Decision::First(first, second) => first.0 < second.0,
+        }
+    }
+
+    /// The other decision of the same choice.
+    pub fn other(self) -> Decision
+        ensures { result ≡ other_decision self }
+    {
+        match self {
+            Decision::Keep(act) => Decision::Drop(act),
+            Decision::Drop(act) => Decision::Keep(act),
+            Decision::First(first, second) => Decision::First(second, first),
+        }
+    }
+}
+
 /// What may still be decided.
 #[derive(Clone, Copy, PartialEq, Eq, Debug)]
 pub enum Choice {
@@ -23,6 +68,52 @@ pub enum Choice {
 
     /// Which event of a pair is first. The smaller id stands first.
     Pair(EventId, EventId),
+}
+
+impl Choice {
+    ghost use Rattle.dm_rows.specs.Relax.{is_same_choice};
+    ghost use Rattle.dm_rows.specs.Sides.{first_decision, second_decision, is_ordered};
+
+    /// Its first decision: to keep the change, or that the first event of the pair goes first.
+    pub fn first(self) -> Decision
+        ensures { result ≡ first_decision self }
+    {
+        match self {
+            Choice::Change(act) => Decision::Keep(act),
+            Choice::Pair(small, large) => Decision::First(small, large),
+        }
+    }
+
+    /// Its second decision: to drop the change, or that the second event of the pair goes first.
+    pub fn second(self) -> Decision
+        ensures { result ≡ second_decision self }
+    {
+        match self {
+            Choice::Change(act) => Decision::Drop(act),
+            Choice::Pair(small, large) => Decision::First(large, small),
+        }
+    }
+
+    /// Whether it is a change, or a pair of two different ids of which the smaller stands first.
+    pub fn is_ordered(self) -> bool
+        ensures { result ≡ is_ordered self }
+    {
+        match self {
+            Choice::Change(_) => true,
+            Choice::Pair(small, large) => small.0 < large.0,
+        }
+    }
+
+    /// Whether the two are one.
+    pub fn is_same(self, other: Choice) -> bool
+        ensures { result ≡ is_same_choice self other }
+    {
+        match (self, other) {
+            (Choice::Change(a), Choice::Change(b)) => a.0 == b.0,
+            (Choice::Pair(i, j), Choice::Pair(k, l)) => i.0 == k.0 && j.0 == l.0,
+            _ => false,
+        }
+    }
 }
 
 /// A message of a feed.

@@ -1,18 +1,21 @@
-//! Sample networks, days and messages, for programs that come to an answer in two ways and compare.
+//! Sample networks, days, messages and decisions, for programs that come to an answer in two ways and compare.
 //!
 //! [`Sample`] names the small networks, [`generated_day`] and [`turning_day`] make days of many trains,
 //! of which the second can have cycles, and [`Draws`] draws messages and
-//! decisions over them from a seed. [`report`] prints how a case came out. It stands on dm_network for networks, on dm_gen for
-//! days and on dm_rows for messages, and promises nothing.
+//! decisions over them from a seed. [`decide`], [`undecide`] and [`violated`] are an evaluator's calls for programs that count no
+//! steps. [`report`] prints how a case came out. It stands on dm_network for networks, on dm_gen for
+//! days, on dm_rows for messages and on dm_evaluate for decisions, and promises nothing.
 #![tactic(auto)]
 
 mod days;
+mod deciding;
 mod draws;
 mod failure;
 mod networks;
 mod small;
 
 pub use days::{generated_day, turning_day};
+pub use deciding::{decide, undecide, violated};
 pub use draws::Draws;
 pub use failure::{Failure, report};
 pub use networks::{network_of, rows_on_time};

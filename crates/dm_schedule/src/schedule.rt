@@ -50,7 +50,8 @@ fn event_scheduled(net: &Network, i: usize) -> Scheduled
 pub fn scheduled_before(schedule: &[Scheduled], clock: Secs) -> &[Scheduled]
     requires rising { IsNonDecreasingBy (λ (s : Scheduled). s.time) schedule.now }
     ensures front { result.now ≡ take (length result.now) schedule.now }
-    ensures rest { (k : ℕ) (d : Scheduled) → length result.now ≤ k → k < length schedule.now → clock ≤ (slice_index_or schedule.now k d).time }
+    ensures rest { (k : ℕ) (d : Scheduled) → length result.now ≤ k → k < length schedule.now
+        → clock ≤ (slice_index_or schedule.now k d).time }
 {
     let count = schedule.partition_point(|s| s.time < clock);
     &schedule[..count]

@@ -9,9 +9,11 @@ use Rattle.dm_rows.specs.Decide.{choice_of, IsChoiceList}
 use Rattle.dm_tree.specs.declared.forms.Node.{Node}
 use Rattle.dm_tree.specs.declared.forms.Node.TheVariants.{Inner, Cycle, Bound, Open, Hole}
 use Rattle.dm_tree.specs.declared.forms.Leaf.{Leaf}
-use Rattle.dm_tree.specs.Trees.{choice_in, first_decision, second_decision}
+use Rattle.dm_tree.specs.Trees.{choice_in}
+use Rattle.dm_rows.specs.Sides.{first_decision, second_decision, is_ordered}
 use Rattle.dm_tree.specs.Plans.{Task, IsTrueInner}
-use Rattle.dm_tree.specs.Inside.Filling.{is_ordered, fills, visits, pending}
+use Rattle.dm_tree.specs.Inside.Filling.{fills, visits}
+use Rattle.dm_tree.specs.Pending.{pending}
 use Rattle.dm_tree.specs.Inside.Assembling.{seen, GoesOn}
 use Rattle.dm_tree.proofs.Filled.{both, some_more, one_back}
 use Rattle.dm_tree.proofs.Walked.{due_after_choice, is_inner}

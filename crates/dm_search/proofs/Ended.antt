@@ -13,7 +13,8 @@ use Rattle.dm_tree.specs.declared.forms.Mark.TheVariants.{Optimal, Open as OpenM
 use Rattle.dm_tree.specs.declared.forms.Node.{Node}
 use Rattle.dm_tree.specs.declared.forms.Node.TheVariants.{Inner, Cycle, Bound, Open, Hole}
 use Rattle.dm_tree.specs.declared.plans.Plan.{Plan}
-use Rattle.dm_tree.specs.Trees.{Shape, leaf, branch, preorder, IsProper, IsWhole, StandsAt, choice_in, first_decision, second_decision}
+use Rattle.dm_tree.specs.Trees.{Shape, leaf, branch, preorder, IsProper, IsWhole, StandsAt, choice_in}
+use Rattle.dm_rows.specs.Sides.{first_decision, second_decision}
 use Rattle.dm_tree.specs.Plans.{Task, IsTrueInner, IsTrueCycle, IsTrueBound, IsTrueOpen, IsLeastOfLeaves, HasNoOpen, IsTruePlan}
 use Rattle.dm_tree.specs.Inside.Filling.{visits}
 use Rattle.dm_tree.specs.Inside.Assembling.{seen}

@@ -6,9 +6,10 @@ use Rattle.dm_rows.specs.declared.messages.Choice.{Choice}
 use Rattle.dm_rows.specs.declared.messages.Decision.{Decision}
 use Rattle.dm_tree.specs.declared.forms.Node.{Node}
 use Rattle.dm_tree.specs.declared.forms.Node.TheVariants.{Inner, Bound, Open, Hole}
-use Rattle.dm_tree.specs.Trees.{choice_in, first_decision}
+use Rattle.dm_tree.specs.Trees.{choice_in}
+use Rattle.dm_rows.specs.Sides.{first_decision}
 use Rattle.dm_tree.specs.Plans.{Task}
-use Rattle.dm_tree.specs.Inside.Filling.{pending}
+use Rattle.dm_tree.specs.Pending.{pending}
 use Rattle.dm_search.specs.declared.searching.Best.{Best}
 use Rattle.dm_search.specs.Inside.Searching.{AreBest, IsUsedUp, IsSearched, IsCeiling, IsSettled, IsBetter, IsSplit, IsAdvanced}
 use Rattle.dm_search.proofs.Advancing.{searched_lower, descended, left, replaced, split}

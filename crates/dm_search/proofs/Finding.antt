@@ -12,7 +12,7 @@ use Rattle.dm_rows.specs.Decide.{free_choices_of, free_changes_of, free_pairs_of
 use Rattle.dm_rows.specs.Relax.{violated_choices_of}
 use Rattle.dm_tree.specs.declared.forms.Node.TheVariants.{Cycle, Bound, Open}
 use Rattle.dm_tree.specs.Plans.{Task, whole_task, IsViolatedThere}
-use Rattle.dm_tree.specs.Inside.Filling.{is_ordered}
+use Rattle.dm_rows.specs.Sides.{is_ordered}
 use Rattle.dm_relax.proofs.Differing.{differences_complete}
 use Rattle.dm_paths.proofs.Naming.{from_place, ids_rise}
 use Rattle.dm_search.specs.Steps.{HasRelaxedCycle, IsPruned, IsSolved}

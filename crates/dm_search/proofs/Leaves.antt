@@ -19,7 +19,8 @@ use Rattle.dm_rows.specs.Cost.{comes_too_early}
 use Rattle.dm_network.specs.Net.{pair_at}
 use Rattle.dm_tree.specs.declared.forms.Node.{Node}
 use Rattle.dm_tree.specs.declared.forms.Node.TheVariants.{Inner, Cycle, Bound, Open, Hole}
-use Rattle.dm_tree.specs.Trees.{Shape, leaf, branch, IsProper, IsWhole, StandsAt, first_decision, second_decision}
+use Rattle.dm_tree.specs.Trees.{Shape, leaf, branch, IsProper, IsWhole, StandsAt}
+use Rattle.dm_rows.specs.Sides.{first_decision, second_decision}
 use Rattle.dm_tree.specs.Relaxed.{RelaxedCosts, IsRelaxedCycle, IsViolated, relaxed_cost_of}
 use Rattle.dm_tree.specs.Plans.{Task}
 use Rattle.dm_paths.proofs.Naming.{from_place, change_decides, pair_decides}

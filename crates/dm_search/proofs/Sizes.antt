@@ -13,7 +13,8 @@ use Rattle.dm_rows.specs.declared.messages.Decision.{Decision}
 use Rattle.dm_rows.specs.Decide.{choice_of}
 use Rattle.dm_rows.specs.Relax.{is_decided, is_same_choice}
 use Rattle.dm_tree.specs.declared.forms.Node.TheVariants.{Inner, Open}
-use Rattle.dm_tree.specs.Trees.{Shape, leaf, branch, preorder, IsProper, StandsAt, first_decision, second_decision}
+use Rattle.dm_tree.specs.Trees.{Shape, leaf, branch, preorder, IsProper, StandsAt}
+use Rattle.dm_rows.specs.Sides.{first_decision, second_decision}
 use Rattle.dm_tree.specs.Plans.{Task}
 use Rattle.dm_paths.proofs.Setting.{in_front}
 use Rattle.dm_relax.proofs.Completion.{is_decided_by}

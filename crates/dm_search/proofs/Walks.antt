@@ -23,7 +23,7 @@ use Rattle.dm_evaluate.proofs.Lists.{without_at}
 use Rattle.dm_paths.proofs.Paths.{one_passes}
 use Rattle.dm_paths.proofs.Apart.{got_is_in}
 use Rattle.dm_relax.proofs.BoundLaw.{all_from}
-use Rattle.dm_paths.proofs.Naming.{same_itself}
+use Rattle.dm_rows.proofs.Sides.{same_itself}
 use Rattle.dm_paths.proofs.Setting.{has_each, differs_in_none, differs_with}
 use Rattle.dm_relax.proofs.Bounding.{relaxed_is_active, held_in_relaxed}
 use Rattle.dm_search.specs.declared.steps.Outcome.{Outcome}

@@ -13,12 +13,12 @@ ghost use Rattle.dm_search.specs.Inside.Searching.{AreBest, IsUsedUp, Stands};
 ghost use Rattle.dm_search.specs.Inside.Walking.{IsOver};
 ghost use Rattle.dm_search.specs.Inside.Ending.{closed, carried, least_with, bound_of, is_open, mark_of, IsPlanOf};
 
-use crate::searching::{Best, Standing, pass};
+use crate::searching::{Best, Standing, traverse};
 use crate::walking::make;
 use crate::{Outcome, step};
 use dm_base::{Cost, Items};
 use dm_evaluate::Evaluator;
-use dm_guide::{Guide, guide};
+use dm_guide::{Guide, Start, guide};
 use dm_network::Network;
 use dm_relax::with_decisions;
 use dm_rows::{Decision, Rows, Snapshot};
@@ -27,7 +27,7 @@ use dm_tree::{Mark, Node, Partial, Plan, Tree, assemble};
 use std::alloc::{AllocError, Global};
 
 /// How often a tree is gone through before the limit is lifted.
-const PASSES: usize = 256;
+const TRAVERSALS: usize = 256;
 
 /// A true plan for the rows of a snapshot, which have no cycle: what [`finish`] makes of a tree of one hole and no choices.
 pub fn plan(
@@ -99,15 +99,7 @@ fn search_whole(
     ensures stands { IfOk result (λ s. Stands (whole_task net.now snapshot.now.rows penalty budget) s.nodes.items s.best.choices s.best.cost) }
     ensures used { IfOk result (λ s. (c : ℕ) → Contains s.nodes.items (OpenNode c) → IsUsedUp budget (length s.nodes.items) s.best.cost c) }
 {
-    let guide = guide_for(
-        alloc,
-        net,
-        penalty,
-        snapshot,
-        &standing.nodes,
-        standing.best.cost,
-        budget,
-    )?;
+    let guide = guide_for(alloc, net, penalty, snapshot, &standing, budget)?;
     search_guided(alloc, net, penalty, snapshot, standing, budget, &guide)
 }
 
@@ -162,11 +154,11 @@ fn search_with(
     let improved = improve(
         alloc, net, penalty, snapshot, evaluator, standing, budget, path,
     )?;
-    let guided = pass(
+    let guided = traverse(
         alloc, net, penalty, snapshot, evaluator, improved, budget, 0, guide,
     )?;
-    let spread = passes(alloc, net, penalty, snapshot, evaluator, guided, budget)?;
-    last_pass(alloc, net, penalty, snapshot, evaluator, spread, budget)
+    let spread = traverse_all(alloc, net, penalty, snapshot, evaluator, guided, budget)?;
+    last_traversal(alloc, net, penalty, snapshot, evaluator, spread, budget)
 }
 
 /// The tree with the choices to which a guide's path leads, where they cost less.
@@ -197,7 +189,7 @@ fn improve(
 }
 
 /// Goes through the tree with no limit but the cost of the best choices.
-fn last_pass(
+fn last_traversal(
     alloc: Global,
     net: &Network,
     penalty: u64,
@@ -216,7 +208,7 @@ fn last_pass(
 {
     let limit = standing.best.cost;
     let guide = no_guide(alloc);
-    let searched = pass(
+    let searched = traverse(
         alloc, net, penalty, snapshot, evaluator, standing, budget, limit, &guide,
     )?;
     Ok(searched)
@@ -235,21 +227,25 @@ fn evaluator_of(alloc: Global, net: &Network, snapshot: &Snapshot) -> Result<Eva
     }
 }
 
-/// What guides the search, where nothing is known of the tree yet and there is room for a choice.
+/// What guides the search, where there is room for a choice.
 fn guide_for(
     alloc: Global,
     net: &Network,
     penalty: u64,
     snapshot: &Snapshot,
-    nodes: &[Node],
-    best: Cost,
+    standing: &Standing,
     budget: u64,
 ) -> Result<Guide, AllocError>
     requires sized { IsSized net.now snapshot.now.rows }
     requires penalty { penalty ≤ PENALTY }
 {
-    if budget >= 3 && matches!(nodes, [Node::Hole]) {
-        guide(alloc, net, penalty, &snapshot.rows, best, budget)
+    if budget >= 3 {
+        let start = Start {
+            nodes: &standing.nodes,
+            choices: standing.best.choices.as_slice(),
+            cost: standing.best.cost,
+        };
+        guide(alloc, net, penalty, &snapshot.rows, start, budget)
     } else {
         Ok(no_guide(alloc))
     }
@@ -316,7 +312,7 @@ fn solved_at(
 
 /// Goes through the tree with a limit that rises from the least cost of an open leaf, so that the budget is spent where least
 /// is known.
-fn passes(
+fn traverse_all(
     alloc: Global,
     net: &Network,
     penalty: u64,
@@ -335,18 +331,18 @@ fn passes(
 {
     let guide = no_guide(alloc);
     let mut standing = standing;
-    for _ in 0..PASSES {
+    for _ in 0..TRAVERSALS {
         let Some(limit) = next_limit(&standing.nodes, standing.best.cost, budget) else {
             return Ok(standing);
         };
-        standing = pass(
+        standing = traverse(
             alloc, net, penalty, snapshot, evaluator, standing, budget, limit, &guide,
         )?;
     }
     Ok(standing)
 }
 
-/// The limit of the next pass: a sixteenth of the way from the least cost of an open leaf up to the best cost; 0 where there
+/// The limit of the next traversal: a sixteenth of the way from the least cost of an open leaf up to the best cost; 0 where there
 /// are holes, of which the costs are not known yet; and None where no open leaf costs less or two nodes more have no room.
 fn next_limit(nodes: &[Node], best: Cost, budget: u64) -> Option<Cost> {
     if nodes.iter().any(|node| matches!(node, Node::Hole)) {

@@ -5,9 +5,10 @@ ghost use Rattle.dm_rows.specs.declared.messages.Decision.{Decision as DecisionV
 ghost use Rattle.dm_rows.specs.Rows.{IsSized};
 ghost use Rattle.dm_rows.specs.Decide.{IsChoiceList};
 ghost use Rattle.dm_tree.specs.declared.forms.Node.TheVariants.{Inner as InnerNode, Open as OpenNode, Hole as HoleNode};
-ghost use Rattle.dm_tree.specs.Trees.{first_decision, choice_in};
+ghost use Rattle.dm_tree.specs.Trees.{choice_in};
+ghost use Rattle.dm_rows.specs.Sides.{first_decision};
 ghost use Rattle.dm_tree.specs.Plans.{whole_task};
-ghost use Rattle.dm_tree.specs.Inside.Filling.{is_first_decision, other_decision, pending};
+ghost use Rattle.dm_tree.specs.Pending.{pending};
 ghost use Rattle.dm_search.specs.Finish.{IsKnown};
 ghost use Rattle.dm_search.specs.Inside.Walking.{IsOver};
 ghost use Rattle.dm_search.specs.Inside.Searching.{AreBest, IsUsedUp, IsSearched, Stands, IsCeiling, IsFound, IsAdvanced};
@@ -19,7 +20,7 @@ use dm_evaluate::Evaluator;
 use dm_guide::{Guide, Hint};
 use dm_network::Network;
 use dm_rows::{Choice, Decision, Snapshot};
-use dm_tree::Node;
+use dm_tree::{Node, turn_back};
 use std::alloc::{AllocError, Global};
 
 /// Choices that differ from the rows, and what the rows cost with them.
@@ -88,7 +89,7 @@ impl Search {
         ensures due { self.new.due.items ≡ self.old.due.items }
     {
         self.nodes.push(Node::Inner(choice))?;
-        self.path.push(first_of(choice))?;
+        self.path.push(choice.first())?;
         Ok(())
     }
 
@@ -111,7 +112,7 @@ impl Search {
         ensures due { self.new.due.items ≡ self.old.due.items }
     {
         self.nodes.push(leaf)?;
-        match turn(&mut self.path) {
+        match turn_back(&mut self.path) {
             Ok(_turned) => Ok(()),
             Err(fault) => Err(fault),
         }
@@ -149,7 +150,7 @@ fn beside(below: Option<usize>) -> Option<usize> {
 
 /// Goes through a tree in preorder: each hole is searched, and each leaf below the limit while there is room for two nodes
 /// more.
-pub(crate) fn pass(
+pub(crate) fn traverse(
     alloc: Global,
     net: &Network,
     penalty: u64,
@@ -258,6 +259,7 @@ fn advance(
     net.sound();
     let hint = hints.next();
     if let Some(choice) = node.choice() {
+        hints.branch(hint, choice)?;
         search.descend(choice)?;
         return Ok(best);
     }
@@ -397,52 +399,4 @@ fn found_at(
             }
         }
     }
-}
-
-/// The decision of a choice's first child.
-pub(crate) fn first_of(choice: Choice) -> Decision
-    ensures { result ≡ first_decision choice }
-{
-    match choice {
-        Choice::Change(act) => Decision::Keep(act),
-        Choice::Pair(small, large) => Decision::First(small, large),
-    }
-}
-
-/// Whether a first child has this decision.
-fn is_first(decision: Decision) -> bool
-    ensures { result ≡ is_first_decision decision }
-{
-    match decision {
-        Decision::Keep(_) => true,
-        Decision::Drop(_) => false,
-        Decision::First(first, second) => first.0 < second.0,
-    }
-}
-
-/// The other decision of the same choice.
-fn other(decision: Decision) -> Decision
-    ensures { result ≡ other_decision decision }
-{
-    match decision {
-        Decision::Keep(act) => Decision::Drop(act),
-        Decision::Drop(act) => Decision::Keep(act),
-        Decision::First(first, second) => Decision::First(second, first),
-    }
-}
-
-/// Goes on from a leaf to the next place in preorder: to the second child of the last choice of which the path took the
-/// first. It is false where none is left.
-fn turn(path: &mut Vec<Decision>) -> Result<bool, AllocError>
-    ensures { IfOk result (λ turned. MatchBool turned
-        (pending path.old.items ≡ path.new.items ∷ pending path.new.items)
-        (pending path.old.items ≡ [])) }
-{
-    while let Some(decision) = path.pop() {
-        if is_first(decision) {
-            path.push(other(decision))?;
-            return Ok(true);
-        }
-    }
-    Ok(false)
 }

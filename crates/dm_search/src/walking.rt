@@ -14,7 +14,6 @@ use dm_base::{Cost, Steps};
 use dm_evaluate::Evaluator;
 use dm_graph::search::Cyclic;
 use dm_network::Network;
-use dm_paths::choice_of;
 use dm_rows::{Choice, Decision, Snapshot};
 use std::alloc::{AllocError, Global};
 use std::marker::Brand;
@@ -193,7 +192,7 @@ fn undecide_with<L: Ledger>(net: &Network, evaluator: &mut Evaluator, last: Deci
     ensures path { evaluator.new.path ≡ take (length evaluator.old.path - 1) evaluator.old.path }
 {
     let mut steps = Steps::<L>::new(blank);
-    evaluator.undecide(net, choice_of(last), &mut steps);
+    evaluator.undecide(net, last.choice(), &mut steps);
 }
 
 /// Makes the decisions of a path of which the evaluator's is a front.
@@ -223,7 +222,7 @@ pub(crate) fn make(net: &Network, evaluator: &mut Evaluator, decision: Decision)
     ensures evaluator { IsEvaluatorOf net.now evaluator.new }
     ensures rows { evaluator.new.rows ≡ evaluator.old.rows }
 {
-    if !evaluator.is_open(net, choice_of(decision)) {
+    if !evaluator.is_open(net, decision.choice()) {
         return false;
     }
     make_open::<Brand>(net, evaluator, decision, Blank::new(1))

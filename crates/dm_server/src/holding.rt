@@ -1,6 +1,6 @@
 //! The calls of a table that a pass holds.
 ghost use Rattle.std.specs.Prelude.{◌≡◌, ◌+◌, ◌<◌, ◌≤◌, length, vec_capacity, IfOk, IfErr, OnErr};
-ghost use Rattle.dm_places.specs.Moved.{ListsMoved};
+ghost use Rattle.dm_marks.specs.Moved.{ListsMoved};
 ghost use Rattle.dm_rows.specs.History.{rows_at};
 ghost use Rattle.dm_rows.specs.Rows.{IsSized};
 ghost use Rattle.dm_rows.specs.Timetable.{IsLeast};
@@ -64,7 +64,8 @@ impl<'n> Kept<'n> {
         requires has_a_part { 0 < blank.parts }
         ensures entered { IfOk result (Gains self.old.table.value self.new.table.value entry) }
         ensures stays { OnErr result (Stays self.old.table.value self.new.table.value) }
-        ensures refused { IfErr result (RefusesPost self.old.table.value.network self.old.table.value.rows (length self.old.table.value.history) entry.message) }
+        ensures refused { IfErr result (RefusesPost self.old.table.value.network self.old.table.value.rows
+            (length self.old.table.value.history) entry.message) }
     {
         let mut steps = Steps::<L>::new(blank);
         self.table.post(entry, &mut steps)
@@ -136,7 +137,8 @@ impl<'n> Kept<'n> {
     /// were others.
     pub(crate) fn follow_times(&mut self, into: &mut Times, shown: u32, listed: &mut Vec<usize>)
         requires shown { shown ≤ length self.old.table.value.history }
-        requires times { IsLeast self.old.table.value.network (rows_at self.old.table.value.network self.old.table.value.start self.old.table.value.history shown) into.old }
+        requires times { IsLeast self.old.table.value.network (rows_at self.old.table.value.network self.old.table.value.start
+            self.old.table.value.history shown) into.old }
         requires room { length self.old.table.value.network.events ≤ vec_capacity listed.old }
         ensures same { self.new.table.value ≡ self.old.table.value }
         ensures times { AreTimesAfter (base_of self.old.table.value) self.old.table.value.history into.new }

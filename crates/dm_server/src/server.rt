@@ -3,7 +3,7 @@ ghost use Rattle.std.specs.Prelude.{◌≡◌, ◌+◌, ◌-◌, ◌<◌, ◌≤
 ghost use mathlib.Core.List.{IsPrefix};
 ghost use Rattle.std.specs.Option.{ForSome, IsSomeAnd};
 ghost use Rattle.dm_base.specs.declared.limits.TheConstants.{PENALTY};
-ghost use Rattle.dm_places.specs.Moved.{ListsMoved};
+ghost use Rattle.dm_marks.specs.Moved.{ListsMoved};
 ghost use Rattle.dm_rows.specs.Active.{HasNoCycle};
 ghost use Rattle.dm_rows.specs.History.{rows_at, IsLegal};
 ghost use Rattle.dm_rows.specs.Rows.{IsSized};
@@ -103,7 +103,11 @@ impl<'n> Server<'n> {
     pub fn join(&self, pass: &mut Pass<Kept<'n>>, other: Pass<Kept<'n>>)
         requires turn { (pass.old.turn ≡ self.now.id) × (other.turn ≡ self.now.id) }
         requires idle { (pass.old.holds ≡ false) × (other.holds ≡ false) }
-        ensures joined { pass.new ≡ record pass.old { room = pass.old.room + other.entry.room; seen = longer pass.old.seen other.entry.seen; mine = pass.old.mine ++ other.entry.mine } }
+        ensures joined { pass.new ≡ record pass.old {
+          room = pass.old.room + other.entry.room;
+          seen = longer pass.old.seen other.entry.seen;
+          mine = pass.old.mine ++ other.entry.mine;
+        } }
         ensures prefixes { IsPrefix pass.old.seen pass.new.seen × IsPrefix other.entry.seen pass.new.seen }
     {
         self.turn.join(pass, other)
@@ -234,7 +238,8 @@ impl<'n> Server<'n> {
         requires turn { pass.old.turn ≡ self.now.id }
         requires idle { pass.old.holds ≡ false }
         requires shown { shown ≤ length pass.old.seen }
-        requires times { ForSome pass.old.base (λ base. IsLeast base.network (rows_at base.network base.start pass.old.seen shown) into.old) }
+        requires times { ForSome pass.old.base (λ base. IsLeast base.network (rows_at base.network base.start pass.old.seen shown)
+            into.old) }
         requires room { ForSome pass.old.base (λ base. length base.network.events ≤ vec_capacity listed.old) }
         ensures looked { HasLooked pass.old pass.new }
         ensures legal { IsSomeAnd pass.new.base (λ base. IsLegal base.network base.start pass.new.seen) }

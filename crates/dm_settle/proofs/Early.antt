@@ -11,7 +11,7 @@ use Rattle.dm_graph.proofs.Rounds.{least_is_bounded}
 use Rattle.dm_settle.specs.Constraints.{IsBounded}
 use Rattle.dm_marks.specs.Marked.{is_marked}
 use Rattle.dm_settle.specs.Settling.{AreLeast, AreEarly, IsSettled, IsEntered, MayMove, GoesForward}
-use Rattle.dm_settle.specs.Inside.Pass.{IsPassing, TailsAreEarly, latest}
+use Rattle.dm_settle.specs.Inside.Sweep.{IsSweeping, TailsAreEarly, latest}
 
 -- an arc enters the event, or does not
 enters_or : (g : Arcs) (a e : ℕ) → a < g.arcs → IsEntered g e ⊎ (Binds g a → g.head a ≡ e → ⊥)
@@ -109,28 +109,28 @@ module _ (g : Graph) (ranks times : List ℕ) (first : List Bool) (bounded : IsB
       omega arith)
 
   -- at the place of a marked event, every event before it has its time
-  settled_before : (marks : List Bool) (e : ℕ) → IsPassing g ranks first marks times (slice_index ranks e) →
+  settled_before : (marks : List Bool) (e : ℕ) → IsSweeping g ranks first marks times (slice_index ranks e) →
       (f : ℕ) → f < g.shape.events → moving_rank g.shape ranks first f < suc (slice_index ranks e) → IsSettled g times f
-  settled_before marks e passing f is_event before =
+  settled_before marks e sweeping f is_event before =
       elim (cases_Bool (is_marked marks (slice_index ranks f))) [
         | inl marked ↦
-            let rank = moving_rank-moves g.shape ranks first f (passing.may_move f is_event marked) in
-            let later = passing.later (slice_index ranks f) marked in
+            let rank = moving_rank-moves g.shape ranks first f (sweeping.may_move f is_event marked) in
+            let later = sweeping.later (slice_index ranks f) marked in
             absurd (omega arith)
-        | inr clear ↦ passing.unsettled.settled f is_event clear
+        | inr clear ↦ sweeping.unsettled.settled f is_event clear
       ]
 
   -- so the tails of the arcs that bind into it are early
   pub tails_are_early : (order : List ℕ) → AreRanks g.shape.events order ranks →
-      (marks : List Bool) (e : ℕ) → e < g.shape.events → IsPassing g ranks first marks times (slice_index ranks e) →
+      (marks : List Bool) (e : ℕ) → e < g.shape.events → IsSweeping g ranks first marks times (slice_index ranks e) →
       is_marked marks (slice_index ranks e) ≡ true → TailsAreEarly g times e
-  tails_are_early order ranked marks e is_event passing marked a binds head =
+  tails_are_early order ranked marks e is_event sweeping marked a binds head =
       let few = bounded.few in
-      let here = moving_rank-moves g.shape ranks first e (passing.may_move e is_event marked) in
+      let here = moving_rank-moves g.shape ranks first e (sweeping.may_move e is_event marked) in
       let rises : moving_rank g.shape ranks first (g.shape.tail a) < moving_rank g.shape ranks first (g.shape.head a) = moving_rank-rises g.shape ranks first forward a binds in
       let same : moving_rank g.shape ranks first (g.shape.head a) ≡ moving_rank g.shape ranks first e = ap (moving_rank g.shape ranks first) head in
       let place = ranked.has_place e is_event in
-      let early = settled_is_early (suc (slice_index ranks e)) (settled_before marks e passing)
+      let early = settled_is_early (suc (slice_index ranks e)) (settled_before marks e sweeping)
       (suc (moving_rank g.shape ranks first (g.shape.tail a))) (g.shape.tail a) (omega arith) (omega arith) binds.from_event in
       omega arith
 

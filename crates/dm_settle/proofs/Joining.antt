@@ -4,7 +4,7 @@ use Rattle.std.proofs.lemmas.Bool.{cases_lt}
 use Rattle.dm_graph.specs.Graph.{Graph, IsJoin}
 use Rattle.dm_network.specs.Net.{Net, EndsAreKnown, activity_at, places_into}
 use Rattle.dm_network.specs.Held.{arcs_of}
-use Rattle.dm_settle.specs.Inside.Pass.{HasJoined, time_along}
+use Rattle.dm_settle.specs.Inside.Sweep.{HasJoined, time_along}
 use Rattle.dm_network.proofs.EventRows.{leads_into, stands_into}
 
 module _ (g : Graph) (times : List ℕ) (e : ℕ) (row : List ℕ) (n time : ℕ) (had : HasJoined g times e row n time) where

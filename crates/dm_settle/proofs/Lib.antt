@@ -4,5 +4,5 @@ pub mod Going
 pub mod Joining
 pub mod Least
 pub mod Marking
-pub mod Passing
 pub mod Reading
+pub mod Sweeping

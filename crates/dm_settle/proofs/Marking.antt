@@ -5,7 +5,7 @@ use Rattle.std.proofs.lemmas.Bool.{cases_lt}
 use Rattle.dm_network.specs.Net.{Net, activity_at, places_out_of, EndsAreKnown}
 use Rattle.dm_network.specs.Held.{arcs_of}
 use Rattle.dm_marks.specs.Marked.{is_marked}
-use Rattle.dm_settle.specs.Inside.Pass.{HasMarked, MarksHeads}
+use Rattle.dm_settle.specs.Inside.Sweep.{HasMarked, MarksHeads}
 use Rattle.dm_marks.proofs.Marking.{mark_here, mark_still, marked_if}
 use Rattle.dm_network.proofs.EventRows.{leads_out, stands_out}
 

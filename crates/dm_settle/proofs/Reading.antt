@@ -1,4 +1,4 @@
--- Which rows a pass has read so far.
+-- Which rows a sweep has read so far.
 use Rattle.std.proofs.Common.{◌≡◌, ◌≢◌, ℕ, zero, suc, ◌+◌, ◌<◌, ◌≤◌, Bool, true, false, List, [], ◌∷◌, length, refl, sym, ap, subst, ◌∙◌, ◌⊎◌, inl, inr, arith, slice_index, slice_index_or, get_or-set_same, get_or-set_other}
 use Rattle.std.specs.Prelude.{slice_set, nat_eq}
 use Rattle.std.specs.List.{Contains, IsDistinct, AllByRecursion}
@@ -9,8 +9,8 @@ use Rattle.dm_graph.specs.Arcs.{Arcs}
 use Rattle.dm_graph.specs.Graph.{Graph}
 use Rattle.dm_marks.specs.Marked.{is_marked}
 use Rattle.dm_settle.specs.Settling.{State, Follows}
-use Rattle.dm_settle.specs.Inside.Pass.{Stays, Moves, HasRead}
-use Rattle.dm_settle.proofs.Passing.{one_of_rank, marked_else}
+use Rattle.dm_settle.specs.Inside.Sweep.{Stays, Moves, HasRead}
+use Rattle.dm_settle.proofs.Sweeping.{one_of_rank, marked_else}
 
 -- what a list with one more in front contains
 pub in_front : (xs : List ℕ) (x : ℕ) → Contains (x ∷ xs) x

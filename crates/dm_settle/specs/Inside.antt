@@ -1,2 +1,2 @@
--- States of loops and of the pass. Who believes what a pass promises need not read them.
-pub mod Pass
+-- States of loops and of the sweep. Who believes what a sweep promises need not read them.
+pub mod Sweep

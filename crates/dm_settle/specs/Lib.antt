@@ -1,5 +1,5 @@
--- What a timetable is held to; and when a pass may be made, what it leaves and which rows it reads.
+-- What a timetable is held to; and when a sweep may be made, what it leaves and which rows it reads.
 pub mod Constraints
 pub mod Settling
--- States of loops and of the pass: checked, so that a reader need not believe them.
+-- States of loops and of the sweep: checked, so that a reader need not believe them.
 pub mod Inside

@@ -1,4 +1,4 @@
--- When a pass along an order may be made, what it leaves, and which rows it reads. Times are lists, by place of the event.
+-- When a sweep along an order may be made, what it leaves, and which rows it reads. Times are lists, by place of the event.
 use Rattle.std.specs.Prelude.{ℕ, ◌≡◌, ◌≢◌, nat_eq, ◌+◌, ◌^◌, ◌<◌, ◌⊎◌, Bool, true, false, List, length, slice_index}
 use Rattle.std.specs.List.{Contains, IsDistinct}
 use Rattle.dm_graph.specs.Arcs.{Arcs, Binds}

@@ -1,26 +1,26 @@
-//! The pass that computes times along an order of events, over the constraints that it is given.
+//! The sweep that computes times along an order of events, over the constraints that it is given.
 //!
 //! It stands on dm_network, on dm_marks, and on dm_graph for the search for an order; what is held, and why, it does not know.
 //! [`Constraints`] say which activities of a network are held, with the floor of each event and the span of each activity:
-//! together a graph. A pass computes the marked events anew, in the order, and goes on along the held activities out of
+//! together a graph. A sweep computes the marked events anew, in the order, and goes on along the held activities out of
 //! every event whose time has changed, so that raises and falls are served alike. What it leaves is the least timetable of
 //! the graph, and it reads the rows of few events ([`settle`]). With every event marked it is the computation from
 //! scratch ([`least_times`]), which shows a cycle exactly where the held activities have one. [`Watcher`]s are told of each
-//! time that a pass writes. Every time is below 2^38 seconds.
+//! time that a sweep writes. Every time is below 2^38 seconds.
 #![tactic(auto)]
 
 mod constraints;
 mod faults;
 pub mod laws;
-mod pass;
 mod scratch;
+mod sweep;
 mod time;
 mod times;
 mod watching;
 
 pub use constraints::Constraints;
 pub use faults::NoTimes;
-pub use pass::{settle, settle_watched};
 pub use scratch::least_times;
+pub use sweep::{settle, settle_watched};
 pub use times::Times;
 pub use watching::{Unwatched, Watcher};

@@ -8,7 +8,7 @@ ghost use Rattle.dm_settle.specs.Settling.{AreLeast, AreEarly};
 
 use crate::constraints::Constraints;
 use crate::faults::NoTimes;
-use crate::pass::settle;
+use crate::sweep::settle;
 use crate::times::Times;
 use dm_base::{ActId, Items, Steps};
 use dm_graph::search::{Cyclic, Search};

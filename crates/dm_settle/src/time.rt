@@ -3,7 +3,7 @@ ghost use Rattle.std.specs.Prelude.{◌≡◌, ◌^◌, ◌<◌, length, slice_i
 ghost use Rattle.dm_graph.specs.Graph.{IsJoin};
 ghost use Rattle.dm_network.specs.Net.{places_into};
 ghost use Rattle.dm_settle.specs.Constraints.{IsSizedFor, graph_given};
-ghost use Rattle.dm_settle.specs.Inside.Pass.{TailsAreEarly, time_along};
+ghost use Rattle.dm_settle.specs.Inside.Sweep.{TailsAreEarly, time_along};
 
 use crate::constraints::Constraints;
 use crate::times::Times;

@@ -1,4 +1,4 @@
-//! What is told of each time that a pass writes.
+//! What is told of each time that a sweep writes.
 ghost use Rattle.std.specs.Prelude.{◌≡◌, ◌^◌, ◌<◌, length, slice_set};
 ghost use Rattle.dm_network.specs.Net.{places_into, places_out_of};
 ghost use Rattle.dm_settle.specs.Constraints.{IsSizedFor};
@@ -8,7 +8,7 @@ use crate::times::Times;
 use dm_base::Secs;
 use dm_network::Network;
 
-/// What a pass tells of each time that it writes, before it does. A sum over the times can be kept by it.
+/// What a sweep tells of each time that it writes, before it does. A sum over the times can be kept by it.
 pub trait Watcher {
     ghost use Rattle.std.specs.Prelude.{ℕ, Bool, List};
     ghost use Rattle.dm_network.specs.Net.{Net};

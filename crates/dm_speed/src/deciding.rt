@@ -1,12 +1,10 @@
 //! Moves of an evaluator.
 
 use dm_base::{ActId, Cost, EventId};
-use dm_deciding::{decide, undecide};
 use dm_evaluate::Evaluator;
 use dm_network::Network;
-use dm_paths::choice_of;
 use dm_rows::{Choice, Decision};
-use dm_samples::{Failure, rows_on_time};
+use dm_samples::{Failure, decide, rows_on_time, undecide};
 use std::alloc::Global;
 use std::marker::Model;
 
@@ -52,7 +50,7 @@ impl<'n> Root<'n> {
 
     /// Decides a choice, and says whether that could be done.
     fn decide(&mut self, decision: Decision) -> bool {
-        self.evaluator.is_open(self.net, choice_of(decision))
+        self.evaluator.is_open(self.net, decision.choice())
             && decide(&mut self.evaluator, self.net, decision).is_ok()
     }
 

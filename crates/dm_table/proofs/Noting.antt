@@ -5,7 +5,8 @@ use Rattle.std.proofs.lemmas.Bool.{false≢true, cases_lt}
 use Rattle.std.proofs.lemmas.List.{get_or_past, length_push, length-replicate}
 use Rattle.std.proofs.lemmas.List.Elements.{All-weaker}
 use Rattle.dm_network.specs.Net.{Net}
-use Rattle.dm_places.specs.Places.{PlaceSetValue, IsPlaceSet, has}
+use Rattle.dm_marks.specs.Marked.{is_marked}
+use Rattle.dm_marks.specs.Places.{PlaceSetValue, IsPlaceSet}
 use Rattle.dm_propagate.specs.Moved.{TakesInMoved}
 use Rattle.dm_propagate.proofs.Following.{one_least}
 use Rattle.dm_rows.specs.declared.messages.Entry.{Entry}
@@ -59,7 +60,7 @@ module _ (net : Net) (start : RowsValue) (history : List Entry) (since : ℕ) (n
 -- what is noted are events
 pub places_are_events : (set : PlaceSetValue) (n : ℕ) → IsPlaceSet set → length set.flags ≡ n → All (λ place. place < n) set.places
 places_are_events set n is as_many =
-    All-weaker (λ place. has set.flags place ≡ true) (λ place. place < n)
+    All-weaker (λ place. is_marked set.flags place ≡ true) (λ place. place < n)
     (λ place is_in. elim (cases_lt place n) [
       | inl below ↦ below
       | inr past ↦ absurd (false≢true (sym (get_or_past set.flags place false (omega arith)) ∙ is_in))
@@ -74,7 +75,7 @@ in_or_out false = inr refl
 pub right_but_noted : (net : Net) (start : RowsValue) (history : List Entry) (since shown : ℕ) (set : PlaceSetValue) (times x : List ℕ) →
     AreNoted net start history since set.flags times → IsPlaceSet set → shown ≡ since → IsLeast net (rows_at net start history shown) x →
     (i : ℕ) → (get_or x i 0 ≡ get_or times i 0) ⊎ Contains set.places i
-right_but_noted net start history since shown set times x are is same least i = elim (in_or_out (has set.flags i)) [
+right_but_noted net start history since shown set times x are is same least i = elim (in_or_out (is_marked set.flags i)) [
   | inl is_in ↦ inr (is.each i is_in)
   | inr out ↦ inl (sym (are.others x (subst (λ (n : ℕ). IsLeast net (rows_at net start history n) x) same least) i out))
 ]

@@ -26,9 +26,11 @@ pub fn answer(
     requires few { entries ≤ MOST }
     requires cycle { OnErr outcome ((k : ℕ) → k < length cycle.now → slice_index cycle.now k < length net.now.activities) }
     ensures made { OnOk result (IsOk outcome) }
-    ensures accepted { OnOk result ((rows : RowsValue) (m : MessageValue) → IsTried net.now rows m cycle.now outcome → IsAccepted net.now rows entries m) }
+    ensures accepted { OnOk result ((rows : RowsValue) (m : MessageValue) → IsTried net.now rows m cycle.now outcome
+        → IsAccepted net.now rows entries m) }
     ensures full { OnErr result (OnOk outcome (MOST ≤ entries)) }
-    ensures refused { IfErr result (λ r. (rows : RowsValue) (m : MessageValue) → IsTried net.now rows m cycle.now outcome → RefusesPost net.now rows entries m r) }
+    ensures refused { IfErr result (λ r. (rows : RowsValue) (m : MessageValue) → IsTried net.now rows m cycle.now outcome
+        → RefusesPost net.now rows entries m r) }
 {
     match outcome {
         Ok(()) => {

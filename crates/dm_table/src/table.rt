@@ -1,7 +1,7 @@
 //! The table, its calls and its readers.
 ghost use Rattle.std.specs.Prelude.{◌≡◌, ◌+◌, ◌-◌, ◌^◌, ◌<◌, ◌≤◌, [], ◌∷◌, ◌++◌, max, length, vec_capacity, Some, OnOk, OnErr, IfOk, IfErr};
 ghost use Rattle.dm_base.specs.declared.limits.TheConstants.{PENALTY, ENTRIES};
-ghost use Rattle.dm_places.specs.Moved.{ListsMoved};
+ghost use Rattle.dm_marks.specs.Moved.{ListsMoved};
 ghost use Rattle.dm_rows.specs.Rows.{IsSized};
 ghost use Rattle.dm_rows.specs.Active.{HasNoCycle};
 ghost use Rattle.dm_rows.specs.Cost.{cost_of};

@@ -22,7 +22,8 @@ use Rattle.dm_settle.specs.Constraints.{RefusesTimes as RefusesGiven}
 use Rattle.dm_settle.specs.declared.faults.NoTimes.{NoTimes}
 use Rattle.dm_settle.specs.declared.faults.NoTimes.TheVariants.{Cycle, OutOfMemory}
 use Rattle.dm_times.specs.Faults.{RefusesHolding}
-use Rattle.dm_times.specs.Inside.Filling.{AreConstraintsHolding, AreConstraintsOf, HoldsTo, FloorsTo, SpansTo}
+use Rattle.dm_times.specs.Constraints.{AreConstraintsHolding, AreConstraintsOf}
+use Rattle.dm_times.specs.Inside.Filling.{HoldsTo, FloorsTo, SpansTo}
 
 -- the first n items are by a function, and so is the next one that is set
 one_more : {A : Type 0} (xs : List A) (d v : A) (f : ℕ → A) (n : ℕ) → n < length xs → ((k : ℕ) → k < n → get_or xs k d ≡ f k) →

@@ -3,7 +3,8 @@ ghost use Rattle.std.specs.Prelude.{◌≡◌, ◌+◌, ◌<◌, ◌≤◌, leng
 ghost use Rattle.dm_base.specs.declared.limits.TheConstants.{PASSED_TIME, BOUND, DELAY};
 ghost use Rattle.dm_rows.specs.Rows.{IsSized};
 ghost use Rattle.dm_rows.specs.Timetable.{floor_of, span_of};
-ghost use Rattle.dm_times.specs.Inside.Filling.{AreConstraintsHolding, HoldsTo, FloorsTo, SpansTo};
+ghost use Rattle.dm_times.specs.Constraints.{AreConstraintsHolding};
+ghost use Rattle.dm_times.specs.Inside.Filling.{HoldsTo, FloorsTo, SpansTo};
 
 use crate::holding::Holding;
 use dm_base::Secs;

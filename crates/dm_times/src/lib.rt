@@ -1,10 +1,10 @@
 //! Times and costs from scratch, over every row and every choice.
 //!
-//! It stands on dm_settle for the pass that computes times, and on dm_rows for what rows, timetables and costs are. [`least`]
+//! It stands on dm_settle for the sweep that computes times, and on dm_rows for what rows, timetables and costs are. [`least`]
 //! gives the least timetable of rows, or a cycle exactly where they have one, and [`least_holding`] that of activities that the
-//! caller chooses; [`cost`] gives exactly what that timetable
-//! costs. Every time is below 2^38 seconds, and every cost below 2^100 thousandths of passenger seconds. Its laws say that
-//! rows can be met exactly where they have no cycle, and which messages never make one.
+//! caller chooses, from the [`constraints_holding`] them; [`cost`] gives exactly what that timetable costs. Every time is
+//! below 2^38 seconds, and every cost below 2^100 thousandths of passenger seconds. Its laws say that rows can be met exactly
+//! where they have no cycle, and which messages never make one.
 #![tactic(auto)]
 
 mod charging;
@@ -17,6 +17,6 @@ mod scratch;
 pub use charging::Charging;
 pub use costing::{comes_too_early, cost, cost_charging};
 pub use dm_settle::{NoTimes, Times};
-pub use filling::{floor_of, span_of};
+pub use filling::{constraints_holding, floor_of, span_of};
 pub use holding::{ActiveActivities, Holding};
 pub use scratch::{least, least_holding};

@@ -10,9 +10,10 @@ use Rattle.dm_rows.specs.Decide.{choice_of}
 use Rattle.dm_tree.specs.declared.forms.Node.{Node}
 use Rattle.dm_tree.specs.declared.forms.Node.TheVariants.{Inner, Cycle, Bound, Open, Hole}
 use Rattle.dm_tree.specs.declared.forms.Leaf.{Leaf}
-use Rattle.dm_tree.specs.Trees.{Shape, choice_in, IsOrdered, IsLeaf, IsProper, StandsAt, HasLeaves, HaveNoTree}
-use Rattle.dm_tree.specs.Inside.Filling.{is_ordered}
-use Rattle.dm_tree.specs.Inside.Assembling.{IsFront, KeepsFront, Improves, AreMatched, IsRematched, LiesBelow, AsksFor, MayStand, IsAskedOf, Agree, IsAsked, LiesNone, SeenSoFar, IsDue}
+use Rattle.dm_tree.specs.Trees.{Shape, choice_in, IsLeaf, IsProper, StandsAt, HasLeaves, HaveNoTree}
+use Rattle.dm_rows.specs.Sides.{IsOrdered, is_ordered}
+use Rattle.dm_tree.specs.Inside.Assembling.{Improves, AreMatched, IsRematched, LiesBelow, AsksFor, MayStand, IsAskedOf, Agree, IsAsked, LiesNone, SeenSoFar, IsDue}
+use Rattle.dm_tree.specs.Pending.{IsFront, KeepsFront}
 use Rattle.dm_tree.proofs.Filled.{ordered_from, from_ordered}
 use Rattle.dm_tree.proofs.Standing.{one_stands, stands_above}
 use Rattle.dm_tree.proofs.Matching.{full_is_front, front_is_full}

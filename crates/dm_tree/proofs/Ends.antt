@@ -7,8 +7,9 @@ use Rattle.dm_rows.specs.declared.messages.Choice.{Choice}
 use Rattle.dm_tree.specs.declared.forms.Child.{Child}
 use Rattle.dm_tree.specs.declared.forms.Node.{Node}
 use Rattle.dm_tree.specs.declared.forms.Node.TheVariants.{Inner, Cycle, Bound, Open, Hole}
-use Rattle.dm_tree.specs.Trees.{Shape, leaf, branch, preorder, IsOrdered, IsLeaf, IsNoHole, IsTreeBetween, IsProper, IsSecondChild, HasNoChoiceAt, LiesNotBelow, IsChildTowards}
-use Rattle.dm_tree.specs.Inside.Filling.{is_ordered, is_none_left, fills, AreEndsFrom, IsSideOf}
+use Rattle.dm_tree.specs.Trees.{Shape, leaf, branch, preorder, IsLeaf, IsNoHole, IsTreeBetween, IsProper, IsSecondChild, HasNoChoiceAt, LiesNotBelow, IsChildTowards}
+use Rattle.dm_rows.specs.Sides.{IsOrdered, is_ordered}
+use Rattle.dm_tree.specs.Inside.Filling.{is_none_left, fills, AreEndsFrom, IsSideOf}
 use Rattle.dm_tree.proofs.Filled.{both, ordered_from, some_more, one_back, filled}
 
 -- the nodes left at a place are one tree and some more after it

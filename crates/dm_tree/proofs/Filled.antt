@@ -7,8 +7,9 @@ use Rattle.dm_rows.specs.declared.messages.Choice.TheVariants.{Change, Pair}
 use Rattle.dm_rows.specs.declared.messages.Decision.{Decision}
 use Rattle.dm_tree.specs.declared.forms.Node.{Node}
 use Rattle.dm_tree.specs.declared.forms.Node.TheVariants.{Inner, Cycle, Bound, Open, Hole}
-use Rattle.dm_tree.specs.Trees.{Shape, leaf, branch, preorder, IsOrdered, IsLeaf, IsNoHole, IsProper, IsWhole, IsTree, IsPartialTree, leaves_below, first_decision, second_decision}
-use Rattle.dm_tree.specs.Inside.Filling.{is_ordered, is_none_left, fills, leaves_due}
+use Rattle.dm_tree.specs.Trees.{Shape, leaf, branch, preorder, IsLeaf, IsNoHole, IsProper, IsWhole, IsTree, IsPartialTree, leaves_below}
+use Rattle.dm_rows.specs.Sides.{IsOrdered, first_decision, second_decision, is_ordered}
+use Rattle.dm_tree.specs.Inside.Filling.{is_none_left, fills, leaves_due}
 
 -- the nodes of several trees, one after another
 abbrev pub preorders : List Shape → List Node

@@ -9,12 +9,15 @@ use Rattle.dm_rows.specs.declared.messages.Decision.{Decision}
 use Rattle.dm_tree.specs.declared.forms.Node.{Node}
 use Rattle.dm_tree.specs.declared.forms.Node.TheVariants.{Inner, Cycle, Bound, Open, Hole}
 use Rattle.dm_tree.specs.declared.forms.Leaf.{Leaf}
-use Rattle.dm_tree.specs.Trees.{Shape, preorder, choice_in, IsOrdered, IsLeaf, IsProper, StandsAt, HasLeaves, IsLeastTree, Assembles, first_decision, second_decision}
-use Rattle.dm_tree.specs.Inside.Filling.{is_ordered, is_none_left, fills, visits, pending}
-use Rattle.dm_tree.specs.Inside.Assembling.{IsFront, KeepsFront, AreMatched, LiesBelow, AsksFor, IsDue, seen, GoesOn, IsNeeded, HasPlace, IsDueAt, IsDraft, IsFinished}
+use Rattle.dm_tree.specs.Trees.{Shape, preorder, choice_in, IsLeaf, IsProper, StandsAt, HasLeaves, IsLeastTree, Assembles}
+use Rattle.dm_rows.specs.Sides.{IsOrdered, first_decision, second_decision, is_ordered}
+use Rattle.dm_tree.specs.Inside.Filling.{is_none_left, fills, visits}
+use Rattle.dm_tree.specs.Pending.{pending, IsFront, KeepsFront}
+use Rattle.dm_tree.specs.Inside.Assembling.{AreMatched, LiesBelow, AsksFor, IsDue, seen, GoesOn, IsNeeded, HasPlace, IsDueAt, IsDraft, IsFinished}
 use Rattle.dm_tree.proofs.Filled.{from_ordered, some_more, one_back, partial_tree}
 use Rattle.dm_tree.proofs.Walked.{due_after_choice, is_inner}
-use Rattle.dm_tree.proofs.Standing.{is_either, stands_above, visits_below, visits_filled, stands_among, among_stands}
+use Rattle.dm_tree.proofs.Standing.{stands_above, visits_below, visits_filled, stands_among, among_stands}
+use Rattle.dm_rows.proofs.Sides.{is_either}
 
 -- what stands at the path of one node
 abbrev pub station : List Decision → Node → Leaf

@@ -7,7 +7,8 @@ use Rattle.dm_rows.specs.declared.messages.Choice.{Choice}
 use Rattle.dm_rows.specs.declared.messages.Decision.{Decision}
 use Rattle.dm_tree.specs.declared.forms.Node.{Node}
 use Rattle.dm_tree.specs.declared.forms.Node.TheVariants.{Inner}
-use Rattle.dm_tree.specs.Trees.{Shape, leaf, branch, preorder, IsLeaf, IsProper, StandsAt, Leads, LeadsToWhatStands, first_decision, second_decision}
+use Rattle.dm_tree.specs.Trees.{Shape, leaf, branch, preorder, IsLeaf, IsProper, StandsAt, Leads, LeadsToWhatStands}
+use Rattle.dm_rows.specs.Sides.{first_decision, second_decision}
 use Rattle.dm_tree.proofs.Ends.{one_tree, same_head, same_tail, leaf_is_no_choice}
 
 -- the node read at a place, and the nodes behind it

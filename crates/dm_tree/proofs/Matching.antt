@@ -3,7 +3,8 @@ use Rattle.std.proofs.Common.{◌≡◌, ◌≢◌, ℕ, ◌+◌, ◌-◌, ◌<�
 use Rattle.std.proofs.lemmas.Bool.{cases_lt}
 use Rattle.std.proofs.lemmas.List.{length-append, get_or-take, take_all, take-take, take_at, take-append-drop, take_more_same, get_or_default}
 use Rattle.dm_rows.specs.declared.messages.Decision.{Decision}
-use Rattle.dm_tree.specs.Inside.Assembling.{IsFront, HasCommon, KeepsFront}
+use Rattle.dm_tree.specs.Inside.Assembling.{HasCommon}
+use Rattle.dm_tree.specs.Pending.{IsFront, KeepsFront}
 
 left_at : (path rest : List Decision) (m : ℕ) (d : Decision) → m < length path → get_or (path ++ rest) m d ≡ get_or path m d
 left_at path rest m d lt =

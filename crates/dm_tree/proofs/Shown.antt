@@ -1,7 +1,7 @@
 -- Timetables of held activities shown least by computing, where each time is at the event's floor or is pushed by an activity
 -- out of an earlier event; and that held activities have no cycle, by ranks.
 use Rattle.std.proofs.Common.{◌≡◌, ℕ, ◌+◌, ◌<◌, ◌≤◌, List, length, Bool, true, IsTrue, arith, refl, ap, inl, inr}
-use Rattle.std.specs.Prelude.{◌&&◌, ◌⊎◌, ◌==◌, nat_lt, nat_le, slice_index_or, if◌then◌else◌, zero, suc}
+use Rattle.std.specs.Prelude.{◌&&◌, ◌==◌, nat_lt, nat_le, slice_index_or, if◌then◌else◌, zero, suc}
 use Rattle.std.specs.List.{range_with_len, list_all}
 use Rattle.std.proofs.lemmas.Bool.{and_parts, ltb-true, leb-true, eqb-true}
 use Rattle.dm_graph.specs.Graph.{Meets as MeetsGraph}

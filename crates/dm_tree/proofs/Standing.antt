@@ -1,43 +1,16 @@
 -- What stands at the paths of a tree.
-use Rattle.std.proofs.Common.{◌≡◌, Bool, true, false, cond, List, [], ◌∷◌, ◌++◌, refl, sym, ap, subst, ◌∙◌, ◌⊎◌, inl, inr, arith, append_assoc, append-nil, ltb, lt-ltb}
+use Rattle.std.proofs.Common.{◌≡◌, List, [], ◌∷◌, ◌++◌, refl, sym, ap, subst, ◌∙◌, ◌⊎◌, inl, inr, arith, append_assoc, append-nil}
 use Rattle.std.specs.Prelude.{Contains}
-use Rattle.std.proofs.lemmas.Bool.{le-ltb}
 use Rattle.std.proofs.lemmas.List.Elements.{Contains-append_left, Contains-append_right, Contains-append_cases, Contains-push_cases}
-use Rattle.dm_base.specs.declared.ids.EventId.{EventId}
-use Rattle.dm_rows.specs.declared.messages.Choice.{Choice}
-use Rattle.dm_rows.specs.declared.messages.Choice.TheVariants.{Change, Pair}
 use Rattle.dm_rows.specs.declared.messages.Decision.{Decision}
-use Rattle.dm_rows.specs.declared.messages.Decision.TheVariants.{Keep, Drop, First}
 use Rattle.dm_rows.specs.Decide.{choice_of}
 use Rattle.dm_tree.specs.declared.forms.Node.{Node}
 use Rattle.dm_tree.specs.declared.forms.Node.TheVariants.{Inner, Cycle, Bound, Open, Hole}
 use Rattle.dm_tree.specs.declared.forms.Leaf.{Leaf}
-use Rattle.dm_tree.specs.Trees.{Shape, leaf, branch, preorder, IsOrdered, IsProper, StandsAt, first_decision, second_decision}
+use Rattle.dm_tree.specs.Trees.{Shape, leaf, branch, preorder, IsProper, StandsAt}
+use Rattle.dm_rows.specs.Sides.{IsOrdered, first_decision, second_decision}
 use Rattle.dm_tree.specs.Inside.Filling.{visits}
-
--- the choice that a first, a second decision decides
-first_decides : (c : Choice) → IsOrdered c → choice_of (first_decision c) ≡ c
-first_decides (Change a) o = refl
-first_decides (Pair i j) o = rw (lt-ltb i.0 j.0 o) refl
-
-second_decides : (c : Choice) → IsOrdered c → choice_of (second_decision c) ≡ c
-second_decides (Change a) o = refl
-second_decides (Pair i j) o = rw (le-ltb j.0 i.0 (omega arith)) refl
-
--- a decision of a choice in order is its first or its second
-pub is_either : (d : Decision) (c : Choice) → choice_of d ≡ c → (d ≡ first_decision c) ⊎ (d ≡ second_decision c)
-is_either (Keep a) c e = inl (ap first_decision e)
-is_either (Drop a) c e = inr (ap second_decision e)
-is_either (First i j) c e = by_order (ltb i.0 j.0) e
-  where
-    by_order : (t : Bool) → cond t (Pair i j) (Pair j i) ≡ c → (First i j ≡ first_decision c) ⊎ (First i j ≡ second_decision c)
-    by_order true e = inl (ap first_decision e)
-    by_order false e = inr (ap second_decision e)
-
--- the two decisions of a choice differ
-two_decisions : (c : Choice) → IsOrdered c → first_decision c ≡ second_decision c → ⊥
-two_decisions (Change a) o e = cc
-two_decisions (Pair i j) o e = let same : i ≡ j = cc in let nums : i.0 ≡ j.0 = ap (λ (x : EventId). x.0) same in omega arith
+use Rattle.dm_rows.proofs.Sides.{first_decides, second_decides, two_decisions}
 
 -- one node stands at a path
 pub one_stands : (t : Shape) (path : List Decision) (m n : Node) → IsProper t → StandsAt t path m → StandsAt t path n → m ≡ n

@@ -1,33 +1,18 @@
 -- The path to the place that is read stands for all places that are due.
-use Rattle.std.proofs.Common.{◌≡◌, ℕ, ◌+◌, ◌-◌, Bool, true, false, cond, List, [], ◌∷◌, ◌++◌, length, eqb, refl, sym, ap, subst, ◌∙◌, ◌⊎◌, inl, inr, arith, Some, None, append_assoc, append-nil, add-one, ◌<◌, get_or, drop}
+use Rattle.std.proofs.Common.{◌≡◌, ℕ, ◌+◌, ◌-◌, Bool, true, false, cond, List, [], ◌∷◌, ◌++◌, length, eqb, refl, sym, ap, subst, ◌∙◌, ◌⊎◌, inl, inr, Some, None, append_assoc, append-nil, add-one, ◌<◌, get_or, drop}
 use Rattle.std.specs.Prelude.{MatchBool}
-use Rattle.std.proofs.lemmas.Bool.{ltb-true, le-ltb}
 use Rattle.std.proofs.lemmas.List.{reverse-append, reverse-reverse, drop_more}
 use Rattle.dm_rows.specs.declared.messages.Choice.{Choice}
-use Rattle.dm_rows.specs.declared.messages.Choice.TheVariants.{Change, Pair}
 use Rattle.dm_rows.specs.declared.messages.Decision.{Decision}
-use Rattle.dm_rows.specs.declared.messages.Decision.TheVariants.{Keep, Drop, First}
 use Rattle.dm_tree.specs.declared.forms.Node.{Node}
 use Rattle.dm_tree.specs.declared.forms.Node.TheVariants.{Inner, Cycle, Bound, Open, Hole}
 use Rattle.dm_tree.specs.declared.forms.Leaf.{Leaf}
-use Rattle.dm_tree.specs.Trees.{choice_in, preorder, first_decision, second_decision, IsTree, AreLeavesOf, leaves_of}
-use Rattle.dm_tree.specs.Inside.Filling.{is_ordered, is_none_left, fills, leaves_due, is_first_decision, other_decision, pending}
+use Rattle.dm_tree.specs.Trees.{choice_in, preorder, IsTree, AreLeavesOf, leaves_of}
+use Rattle.dm_rows.specs.Sides.{first_decision, second_decision, is_ordered, is_first_decision, other_decision}
+use Rattle.dm_tree.specs.Inside.Filling.{is_none_left, fills, leaves_due}
+use Rattle.dm_tree.specs.Pending.{pending}
 use Rattle.dm_tree.proofs.Filled.{both, some_more, one_back, tree_fills, leaves_filled}
-
--- the other decision of a first one is not first
-other_is_second : (d : Decision) → is_first_decision d ≡ true → is_first_decision (other_decision d) ≡ false
-other_is_second (Keep a) e = refl
-other_is_second (Drop a) e = cc
-other_is_second (First i j) e = le-ltb j.0 i.0 (let lt = ltb-true i.0 j.0 e in omega arith)
-
--- the first decision of a choice in order is a first one, and its other is the second decision
-first_is_first : (c : Choice) → is_ordered c ≡ true → is_first_decision (first_decision c) ≡ true
-first_is_first (Change a) o = refl
-first_is_first (Pair i j) o = o
-
-pub other_of_first : (c : Choice) → other_decision (first_decision c) ≡ second_decision c
-other_of_first (Change a) = refl
-other_of_first (Pair i j) = refl
+use Rattle.dm_rows.proofs.Sides.{other_is_second, first_is_first, other_of_first}
 
 pub pending_push : (path : List Decision) (d : Decision) →
     pending (path ++ d ∷ []) ≡ cond (is_first_decision d) ((path ++ other_decision d ∷ []) ∷ pending path) (pending path)

@@ -1,9 +1,8 @@
 -- Trees of choices: their nodes in preorder, what stands at a path, their leaves, and the least tree with given leaves.
 use Rattle.std.specs.Prelude.{ℕ, ◌≡◌, ◌+◌, ◌<◌, ◌≤◌, ◌⊎◌, List, [], ◌∷◌, ◌++◌, length, drop, slice_get, Option, Some, None, All, Contains}
 use Rattle.dm_rows.specs.declared.messages.Choice.{Choice}
-use Rattle.dm_rows.specs.declared.messages.Choice.TheVariants.{Change, Pair}
 use Rattle.dm_rows.specs.declared.messages.Decision.{Decision}
-use Rattle.dm_rows.specs.declared.messages.Decision.TheVariants.{Keep, Drop, First}
+use Rattle.dm_rows.specs.Sides.{first_decision, second_decision, IsOrdered}
 use Rattle.dm_tree.specs.declared.forms.Node.{Node}
 use Rattle.dm_tree.specs.declared.forms.Node.TheVariants.{Inner, Cycle, Bound, Open, Hole}
 use Rattle.dm_tree.specs.declared.forms.Leaf.{Leaf}
@@ -14,24 +13,10 @@ pub data Shape : Type 0 where
   leaf : Node → Shape
   branch : Choice → Shape → Shape → Shape
 
--- A change is first kept and then dropped. Of a pair the event with the smaller id goes first, and then the other.
-abbrev pub first_decision : Choice → Decision
-first_decision (Change a) = Keep a
-first_decision (Pair i j) = First i j
-
-abbrev pub second_decision : Choice → Decision
-second_decision (Change a) = Drop a
-second_decision (Pair i j) = First j i
-
 -- the nodes in preorder: a choice, the nodes below its first decision, the nodes below its second
 abbrev pub preorder : Shape → List Node
 preorder (leaf n) = n ∷ []
 preorder (branch c a b) = Inner c ∷ preorder a ++ preorder b
-
--- a pair is written with two different ids, the smaller first
-abbrev pub IsOrdered : Choice → Type 0
-IsOrdered (Change a) = Unit {0}
-IsOrdered (Pair i j) = i.0 < j.0
 
 -- the choice of a node, or None where it is a leaf
 abbrev pub choice_in : Node → Option Choice

@@ -2,10 +2,10 @@
 ghost use Rattle.dm_rows.specs.declared.messages.Decision.{Decision as DecisionValue};
 ghost use Rattle.std.specs.Prelude.{◌≡◌, ◌<◌, List, length, IfOk, IfErr, IsTrue, MatchBool, MatchOption};
 ghost use Rattle.dm_tree.specs.Trees.{HaveNoTree};
-ghost use Rattle.dm_tree.specs.Inside.Assembling.{IsFront, KeepsFront, Improves, AreMatched, IsAskedOf, Agree, IsDue, IsDraft, IsFinished};
+ghost use Rattle.dm_tree.specs.Inside.Assembling.{Improves, AreMatched, IsAskedOf, Agree, IsDue, IsDraft, IsFinished};
+ghost use Rattle.dm_tree.specs.Pending.{IsFront, KeepsFront};
 
-use crate::paths::{decided, first_of, turn};
-use crate::whole::is_ordered;
+use crate::paths::turn_back;
 use crate::{AssembleFault, Leaf, Node};
 use dm_rows::Decision;
 use std::alloc::{AllocError, Global};
@@ -47,13 +47,13 @@ impl Draft {
             return Err(AssembleFault::OutOfMemory);
         };
         if let Some(choice) = node.choice() {
-            let Ok(()) = self.path.push(first_of(choice)) else {
+            let Ok(()) = self.path.push(choice.first()) else {
                 return Err(AssembleFault::OutOfMemory);
             };
             rematch(&mut self.matched, leaves, &self.path);
             return Ok(true);
         }
-        let Ok(turned) = turn(&mut self.path) else {
+        let Ok(turned) = turn_back(&mut self.path) else {
             return Err(AssembleFault::OutOfMemory);
         };
         if turned {
@@ -91,8 +91,8 @@ fn asked_of(leaf: &Leaf, path: &[Decision]) -> Option<Node>
 {
     let whole = leaf.path.as_slice();
     if path.len() < whole.len() {
-        let choice = decided(whole[path.len()]);
-        if is_ordered(choice) {
+        let choice = whole[path.len()].choice();
+        if choice.is_ordered() {
             Some(Node::Inner(choice))
         } else {
             None

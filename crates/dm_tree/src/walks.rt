@@ -2,7 +2,7 @@
 ghost use Rattle.std.specs.Prelude.{IfOk};
 ghost use Rattle.dm_tree.specs.Trees.{AreLeavesOf};
 
-use crate::paths::{first_of, turn};
+use crate::paths::turn_back;
 use crate::{Leaf, Tree};
 use dm_base::Items;
 use dm_rows::Decision;
@@ -17,7 +17,7 @@ pub fn leaves(alloc: Global, tree: &Tree) -> Result<Vec<Leaf>, AllocError>
     let nodes = tree.as_slice();
     for node in nodes {
         if let Some(choice) = node.choice() {
-            path.push(first_of(choice))?;
+            path.push(choice.first())?;
             continue;
         }
         let here = Vec::from_slice(alloc, &path)?;
@@ -25,7 +25,7 @@ pub fn leaves(alloc: Global, tree: &Tree) -> Result<Vec<Leaf>, AllocError>
             path: Items::from_vec(here),
             node: *node,
         })?;
-        turn(&mut path)?;
+        turn_back(&mut path)?;
     }
     Ok(found)
 }

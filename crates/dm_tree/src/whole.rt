@@ -1,9 +1,8 @@
 //! Whole trees.
 ghost use Rattle.std.specs.Prelude.{◌≡◌, ◌+◌, ◌<◌, length, IfOk, IfErr, MatchOption, false, true, Ok, Err};
 ghost use Rattle.dm_tree.specs.Trees.{IsTree, IsTreeBetween, IsSecondChild, HasNoChoiceAt, IsChildTowards, LiesNotBelow};
-ghost use Rattle.dm_tree.specs.Inside.Filling.{fills, AreEndsFrom, IsSideOf, is_ordered as ordered};
+ghost use Rattle.dm_tree.specs.Inside.Filling.{fills, AreEndsFrom, IsSideOf};
 
-use crate::paths::{first_of, other};
 use crate::{AssembleFault, Child, Node};
 use dm_rows::Choice;
 use std::alloc::{AllocError, Global};
@@ -92,16 +91,6 @@ pub fn nodes(tree: &Tree) -> u64
     tree.as_slice().len() as u64
 }
 
-/// Whether a choice names a change, or a pair by two different ids of which the smaller stands first.
-pub(crate) fn is_ordered(choice: Choice) -> bool
-    ensures { result ≡ ordered choice }
-{
-    match choice {
-        Choice::Change(_) => true,
-        Choice::Pair(small, large) => small.0 < large.0,
-    }
-}
-
 /// Whether the nodes are one whole tree in preorder without a hole.
 fn fills_one_place(nodes: &[Node]) -> bool
     ensures { result ≡ fills false 0 nodes.now }
@@ -111,7 +100,7 @@ fn fills_one_place(nodes: &[Node]) -> bool
         match node {
             Node::Hole => return false,
             Node::Inner(choice) => {
-                if !is_ordered(*choice) {
+                if !choice.is_ordered() {
                     return false;
                 }
                 more += 1;
@@ -132,15 +121,14 @@ fn child_of(choice: Choice, place: usize, second: usize, target: usize) -> Child
     requires { place < target }
     ensures { IsSideOf choice place second target result }
 {
-    let first = first_of(choice);
     if target < second {
         Child {
-            decision: first,
+            decision: choice.first(),
             place: place + 1,
         }
     } else {
         Child {
-            decision: other(first),
+            decision: choice.second(),
             place: second,
         }
     }

@@ -1,9 +1,18 @@
 -- The run texts are exactly the good ones.
-use Rattle.std.proofs.Common.{length}
-use Rattle.std.specs.Prelude.{count_by}
+use Rattle.std.proofs.Common.{◌≡◌, ℕ, ◌≤◌, List, length, sym, subst}
+use Rattle.std.specs.Prelude.{count_by, ◌↔◌}
+use Rattle.dm_base.specs.declared.limits.TheConstants.{PENALTY}
+use Rattle.dm_network.specs.Net.{Net, IsWithinLimits}
+use Rattle.dm_network.specs.Start.{IsNetwork}
+use Rattle.dm_rows.specs.Rows.{RowsValue, RowsAreWithinLimits}
 use Rattle.dm_cert.specs.Answers.{is_plan}
 use Rattle.dm_cert.specs.Logs.{all_items}
-use Rattle.dm_truth.specs.Laws.{RunTextsAreTheGoodOnes}
+use Rattle.dm_cert.specs.Runs.{IsRunText}
+use Rattle.dm_check.specs.declared.verdicts.Verdict.{Verdict}
+use Rattle.dm_check.specs.declared.verdicts.Verdict.TheVariants.{Good, Bad}
+use Rattle.dm_check.specs.FalseRecords.{IsVerdict}
+use Rattle.dm_check.proofs.ToldOnce.{verdicts_are_one}
+use Rattle.dm_truth.specs.Laws.{RunTextsAreTheGoodOnes, EventIdsFit, HasNoFalseRecord, SaysGood}
 use Rattle.dm_truth.proofs.ToldRuns.{good_texts_are_true}
 use Rattle.dm_truth.proofs.WholeRuns.{true_texts_are_good}
 
@@ -16,3 +25,18 @@ run_texts_are_the_good_ones net start penalty text network limits ids within low
   },
   λ has. good_texts_are_true net start penalty text has.entries has.plans network limits within low has.good,
 )
+
+-- the one verdict on a text is good exactly where this is a run text
+module _ (net : Net) (start : RowsValue) (penalty : ℕ) (text : List ℕ) (network : IsNetwork net) (limits : IsWithinLimits net) (ids : EventIdsFit net) (within : RowsAreWithinLimits start) (low : penalty ≤ PENALTY) where
+  both : IsRunText net start penalty text ↔ HasNoFalseRecord net start penalty text
+  both = run_texts_are_the_good_ones net start penalty text network limits ids within low
+
+  pub good_exactly : (verdict : Verdict) → IsVerdict net start penalty text verdict → SaysGood verdict ↔ IsRunText net start penalty text
+  good_exactly verdict is = (λ says. both.1 (has verdict is says), λ run. told (both.0 run))
+    where
+      has : (v : Verdict) → IsVerdict net start penalty text v → SaysGood v → HasNoFalseRecord net start penalty text
+      has (Good entries plans) good says = record { entries = entries; plans = plans; good = good }
+      has (Bad line kind) bad says = absurd says
+
+      told : HasNoFalseRecord net start penalty text → SaysGood verdict
+      told one = subst SaysGood (verdicts_are_one net start penalty text (Good one.entries one.plans) verdict one.good is) tt

@@ -16,3 +16,4 @@ pub mod ToldEach
 pub mod OnceNamed
 pub mod ToldRuns
 pub mod BothWays
+pub mod EventIds

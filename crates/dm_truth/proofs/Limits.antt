@@ -29,7 +29,7 @@ use Rattle.dm_rows.specs.Timetable.{IsLeast, graph_of, time_at}
 use Rattle.dm_rows.proofs.AsGraph.{least_as_graph}
 use Rattle.dm_rows.proofs.Holding.{cycles_are_positive}
 use Rattle.dm_feed.specs.Parts.{largest_value}
-use Rattle.dm_relaxation.proofs.OfRows.{floor_is_within, span_is_short}
+use Rattle.dm_check_times.proofs.OfRows.{floor_is_within, span_is_short}
 
 -- ---- one row is set
 

@@ -15,7 +15,7 @@ use Rattle.dm_rows.specs.History.{IsLegal}
 use Rattle.dm_rows.specs.Timetable.{IsLeast, time_at}
 use Rattle.dm_rows.specs.Cost.{cost_of}
 use Rattle.dm_feed.specs.Parts.{largest_value}
-use Rattle.dm_claims.proofs.Telling.{one_least}
+use Rattle.dm_check_rows.proofs.Telling.{one_least}
 use Rattle.dm_cert.specs.declared.notes.Note.{Note}
 use Rattle.dm_cert.specs.declared.replies.LogItem.{LogItem}
 use Rattle.dm_cert.specs.declared.replies.FeedLog.{FeedLog}
@@ -23,7 +23,7 @@ use Rattle.dm_cert.specs.Answers.{Setting, rows_after}
 use Rattle.dm_cert.specs.Logs.{kind_of, number_after, AreTrueAnswers, IsInOrder, IsTrueLog}
 use Rattle.dm_cert.specs.RunTexts.{Run, run_text, FitsEntry, FitsItem, FitsLog, FitsNote, IsSpelledItem, IsSpelledLog}
 use Rattle.dm_cert.specs.Runs.{IsTrueNote, AreTrueNotes}
-use Rattle.dm_answers.specs.Judging.{line_before, number_before}
+use Rattle.dm_check_answers.specs.Judging.{line_before, number_before}
 use Rattle.dm_check.specs.FalseRecords.{IsNextNote, TellsEntry, TellsItem, TellsLog, TellsNote, TellsTime, entry_before}
 use Rattle.dm_check.proofs.Spelled.{good_is_spelled_so}
 use Rattle.dm_truth.specs.Laws.{GoodTextsAreTrue}

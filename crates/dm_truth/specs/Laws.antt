@@ -9,7 +9,8 @@ use Rattle.dm_cert.specs.Answers.{is_plan}
 use Rattle.dm_cert.specs.Logs.{all_items}
 use Rattle.dm_cert.specs.RunTexts.{Run}
 use Rattle.dm_cert.specs.Runs.{IsTextOf, IsRunText}
-use Rattle.dm_check.specs.declared.verdicts.Verdict.TheVariants.{Good}
+use Rattle.dm_check.specs.declared.verdicts.Verdict.{Verdict}
+use Rattle.dm_check.specs.declared.verdicts.Verdict.TheVariants.{Good, Bad}
 use Rattle.dm_check.specs.FalseRecords.{IsVerdict}
 
 -- the ids of events are below 2^32, as those of every network in memory are
@@ -30,6 +31,11 @@ GoodTextsAreTrue =
     (net : Net) (start : RowsValue) (penalty : ℕ) (text : List ℕ) (entries plans : ℕ) → IsNetwork net → IsWithinLimits net →
     RowsAreWithinLimits start → penalty ≤ PENALTY → IsVerdict net start penalty text (Good entries plans) →
     IsRunText net start penalty text
+
+-- the verdict is that the text is good
+abbrev pub SaysGood : Verdict → Type 0
+SaysGood (Good entries plans) = Unit {0}
+SaysGood (Bad line kind) = ⊥
 
 -- some verdict says that no record of the text breaks its rule
 pub record HasNoFalseRecord (net : Net) (start : RowsValue) (penalty : ℕ) (text : List ℕ) : Type 0 where

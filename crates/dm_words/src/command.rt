@@ -77,7 +77,8 @@ fn batch_of(words: &[String]) -> Option<u64>
 
 /// The stops of the boards.
 fn stops_of(words: &[String]) -> Option<Stops>
-    ensures { MatchOption result ((stops : List ℕ) → HasBoards (map string_bytes words.now) stops → ⊥) (λ stops. HasBoards (map string_bytes words.now) stops) }
+    ensures { MatchOption result ((stops : List ℕ) → HasBoards (map string_bytes words.now) stops → ⊥)
+        (λ stops. HasBoards (map string_bytes words.now) stops) }
 {
     let Some(boards) = given(BOARDS_OPTION, words) else {
         return None;

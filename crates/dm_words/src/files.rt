@@ -63,8 +63,11 @@ fn text_or<'a>(given: Option<&'a str>, standard: &'static str) -> &'a str
 
 /// The columns that the two values name.
 fn columns_of(events: Option<&str>, activities: Option<&str>) -> Option<Columns>
-    ensures { MatchOption result ((columns : FileColumns) → ReadsFileColumns (event_words (option_map (λ x. x.now) events.entry)) (activity_words (option_map (λ x. x.now) activities.entry)) (Ok columns) → ⊥)
-        (λ columns. ReadsFileColumns (event_words (option_map (λ x. x.now) events.entry)) (activity_words (option_map (λ x. x.now) activities.entry)) (Ok columns)) }
+    ensures { MatchOption result ((columns : FileColumns)
+        → ReadsFileColumns (event_words (option_map (λ x. x.now) events.entry)) (activity_words (option_map (λ x. x.now) activities.entry))
+        (Ok columns) → ⊥)
+        (λ columns. ReadsFileColumns (event_words (option_map (λ x. x.now) events.entry))
+        (activity_words (option_map (λ x. x.now) activities.entry)) (Ok columns)) }
 {
     match Columns::read(
         text_or(events, STANDARD_EVENTS),

@@ -4,8 +4,9 @@ use Rattle.dm_rows.specs.declared.messages.Decision.{Decision}
 use Rattle.dm_tree.specs.declared.forms.Node.{Node}
 use Rattle.dm_tree.specs.declared.forms.Node.TheVariants.{Inner, Cycle, Bound, Open, Hole}
 use Rattle.dm_tree.specs.declared.forms.Leaf.{Leaf}
-use Rattle.dm_tree.specs.Trees.{first_decision, second_decision, IsTree}
-use Rattle.dm_tree.specs.Inside.Filling.{is_ordered, pending}
+use Rattle.dm_tree.specs.Trees.{IsTree}
+use Rattle.dm_rows.specs.Sides.{first_decision, second_decision, is_ordered}
+use Rattle.dm_tree.specs.Pending.{pending}
 use Rattle.dm_text.specs.Places.{Place}
 use Rattle.dm_cert.specs.declared.faults.CertFault.{CertFault}
 use Rattle.dm_cert.specs.declared.growth.Growth.{Growth}

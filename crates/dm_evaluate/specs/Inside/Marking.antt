@@ -3,7 +3,7 @@ use Rattle.std.specs.Prelude.{ℕ, ◌≡◌, ◌&&◌, ◌<◌, ◌≤◌, Bool
 use Rattle.dm_network.specs.Net.{Net, activity_at, is_change}
 use Rattle.dm_marks.specs.Marked.{is_marked}
 use Rattle.dm_priced.specs.Priced.{is_flagged, comes_too_early}
-use Rattle.dm_evaluate.specs.Inside.Moves.{IsAmong}
+use Rattle.dm_paths.specs.RowsRead.{IsAmong}
 
 -- beside the marks before, these places are marked
 pub record MarksWhere (some : ℕ → Type 0) (before now : List Bool) : Type 0 where

@@ -4,7 +4,7 @@ use Rattle.dm_network.specs.Net.{Net, activity_at}
 use Rattle.dm_network.specs.Held.{is_held, IsCycleOf}
 use Rattle.dm_rows.specs.declared.messages.Flip.{Flip}
 use Rattle.dm_priced.specs.Priced.{PricedValue, is_flagged}
-use Rattle.dm_paths.specs.Decisions.{is_bound_by, is_charged_by}
+use Rattle.dm_paths.specs.Decisions.{is_held_by, is_charged_by}
 
 -- what is held, or charged for, with these places set to a value
 abbrev pub set_where : (ℕ → Bool) → Bool → (ℕ → Bool) → ℕ → Bool
@@ -15,11 +15,12 @@ pub record TurnsTo (net : Net) (some charges : ℕ → Bool) (value : Bool) (bef
   pub held : (b : ℕ) → b < length net.activities → is_held after.live.given.held b ≡ set_where some value (is_held before.live.given.held) b
   pub charged : (b : ℕ) → b < length net.activities → is_flagged after.charged b ≡ set_where charges value (is_flagged before.charged) b
   pub passed : after.passed ≡ before.passed
+  pub fixed : after.live.fixed ≡ before.live.fixed
   pub floors : after.live.given.floors ≡ before.live.given.floors
   pub spans : after.live.given.spans ≡ before.live.given.spans
 
 abbrev pub Turns : Net → Flip → Bool → PricedValue → PricedValue → Type 0
-Turns net flip value before after = TurnsTo net (is_bound_by net flip) (is_charged_by flip) value before after
+Turns net flip value before after = TurnsTo net (is_held_by net flip) (is_charged_by flip) value before after
 
 -- what is held and charged for stays
 abbrev pub Stays : Net → PricedValue → PricedValue → Type 0
@@ -27,11 +28,7 @@ Stays net before after = TurnsTo net (λ b. false) (λ b. false) false before af
 
 -- nothing is held that the decision holds
 abbrev pub IsOff : Net → Flip → PricedValue → Type 0
-IsOff net flip priced = (b : ℕ) → b < length net.activities → is_bound_by net flip b ≡ true → is_held priced.live.given.held b ≡ false
-
--- the activity is one of the first n
-abbrev pub IsAmong : List ℕ → ℕ → ℕ → Type 0
-IsAmong row n b = (k : ℕ) × (k < n) × (slice_index row k ≡ b)
+IsOff net flip priced = (b : ℕ) → b < length net.activities → is_held_by net flip b ≡ true → is_held priced.live.given.held b ≡ false
 
 abbrev pub IsOnly : ℕ → ℕ → Type 0
 IsOnly a b = b ≡ a
@@ -42,6 +39,7 @@ pub record KeepsBut (net : Net) (p : ℕ) (among : ℕ → Type 0) (before after
   pub floors : after.live.given.floors ≡ before.live.given.floors
   pub spans : after.live.given.spans ≡ before.live.given.spans
   pub times : after.live.times ≡ before.live.times
+  pub fixed : after.live.fixed ≡ before.live.fixed
   pub passed : after.passed ≡ before.passed
   pub charged : after.charged ≡ before.charged
 

@@ -2,19 +2,20 @@
 use Rattle.std.specs.Prelude.{ℕ, ◌≡◌, ◌<◌, Bool, List, []}
 use Rattle.dm_network.specs.Net.{Net}
 use Rattle.dm_network.specs.Held.{IsCycleOf}
-use Rattle.dm_live.specs.Live.{LiveValue, IsLive, IsAtRest}
+use Rattle.dm_live.specs.Live.{LiveValue, IsLive, IsAtRest, NoneFixed}
 use Rattle.dm_order.specs.declared.faults.OrderFault.{OrderFault}
 use Rattle.dm_order.specs.declared.faults.OrderFault.TheVariants.{Cyclic, OutOfMemory}
 use Rattle.dm_priced.specs.Priced.{PricedValue, is_flagged}
 use Rattle.dm_rows.specs.Active.{has_passed}
 use Rattle.dm_rows.specs.Relax.{is_relaxed_active}
 use Rattle.dm_rows.specs.Rows.{RowsValue}
-use Rattle.dm_times.specs.Inside.Filling.{AreConstraintsHolding}
+use Rattle.dm_times.specs.Constraints.{AreConstraintsHolding}
 use Rattle.dm_evaluate.specs.Evaluating.{Evaluates}
 
 -- a live timetable is held to what binds
 pub record IsHeldToRoot (net : Net) (rows : RowsValue) (made : LiveValue) : Type 0 where
   pub live : IsLive net made
+  pub none_fixed : NoneFixed made.fixed
   pub held : AreConstraintsHolding net rows (is_relaxed_active net rows []) made.given
 
 -- what binds has a cycle

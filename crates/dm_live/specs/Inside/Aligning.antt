@@ -6,6 +6,10 @@ use Rattle.dm_order.specs.Value.{OrderValue}
 use Rattle.dm_order.specs.Orders.{IsOrderOf}
 use Rattle.dm_settle.specs.Constraints.{ConstraintsValue}
 
+-- the order holds the activities that the constraints hold
+abbrev pub HoldAlike : Net → OrderValue → ConstraintsValue → Type 0
+HoldAlike net order given = (a : ℕ) → a < length net.activities → is_held order.held a ≡ is_held given.held a
+
 -- an order that holds none of the activities before one
 pub record HoldsNoneBefore (net : Net) (order : OrderValue) (n : ℕ) : Type 0 where
   pub ordered : IsOrderOf net order

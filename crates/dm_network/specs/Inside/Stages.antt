@@ -138,6 +138,9 @@ RefusesActivities events rows (Cycle ids) = ⊥
 abbrev pub formed_net : Formed → Net
 formed_net formed = record { events = formed.events.items; activities = formed.activities.items; pairs = formed.pairs.items }
 
+abbrev pub with_events : List Event → Net
+with_events events = record { events = events; activities = []; pairs = [] }
+
 abbrev pub net_with : List Event → List Activity → List Pair → Net
 net_with events activities pairs = record { events = events; activities = activities; pairs = pairs }
 

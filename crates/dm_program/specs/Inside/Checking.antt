@@ -1,18 +1,18 @@
 -- Stages of a check.
-use Rattle.std.specs.Prelude.{ℕ, ◌≡◌, ◌≤◌, ◌⊎◌, List, length, Option, Result, Ok, Err}
+use Rattle.std.specs.Prelude.{ℕ, ◌≡◌, ◌≤◌, ◌⊎◌, ◌↔◌, List, length, Option, Result, Ok, Err}
 use Rattle.dm_base.specs.declared.limits.TheConstants.{TEXT}
-use Rattle.dm_network.specs.Net.{Net, IsWithinLimits}
-use Rattle.dm_network.specs.Start.{IsNetwork}
-use Rattle.dm_rows.specs.Rows.{RowsValue, RowsAreWithinLimits}
+use Rattle.dm_network.specs.Net.{Net}
+use Rattle.dm_rows.specs.Rows.{RowsValue}
 use Rattle.dm_outside.specs.declared.faults.TakeFault.{TakeFault}
 use Rattle.dm_outside.specs.declared.faults.TakeFault.TheVariants.{ReadFault as NotRead, TooLong as TooMany, OutOfMemory}
 use Rattle.dm_input.specs.Input.{Told, IsHeld, Opening, OpeningAnswer}
 use Rattle.dm_input.specs.Stops.{IsLong, StopsOpening}
 use Rattle.dm_input.specs.declared.flaws.InputStop.{InputStop}
 use Rattle.dm_words.specs.Words.{CheckAsked}
+use Rattle.dm_cert.specs.Runs.{IsRunText}
 use Rattle.dm_check.specs.declared.verdicts.Verdict.{Verdict}
 use Rattle.dm_check.specs.FalseRecords.{IsVerdict}
-use Rattle.dm_truth.specs.Laws.{EventIdsFit}
+use Rattle.dm_truth.specs.Laws.{SaysGood}
 use Rattle.dm_program.specs.declared.status.Status.{Status}
 use Rattle.dm_program.specs.declared.status.Status.TheVariants.{Refused, ReadFault, NoMemory}
 use Rattle.dm_program.specs.Ends.{EndsAs}
@@ -25,6 +25,7 @@ pub record IsJudged (told : Told) (name : List ℕ) (net : Net) (rows : RowsValu
   pub held : IsHeld told name bytes
   pub short : length bytes ≤ TEXT
   pub is_verdict : IsVerdict net rows penalty bytes verdict
+  pub good : SaysGood verdict ↔ IsRunText net rows penalty bytes
 
 -- the verdict on the text of a name, or why there is none
 abbrev pub Judges : Told → (List ℕ → Type 0) → List ℕ → Net → RowsValue → ℕ → Result Verdict TakeFault → Type 0
@@ -56,10 +57,6 @@ pub record EndsAtFiles {K : Type 0} (taken : K → Option (List ℕ)) (faults : 
 pub record EndsAtText {K : Type 0} (taken : K → Option (List ℕ)) (faults : K → ℕ) (told : Told) (is_sound : List ℕ → Type 0) (asked : CheckAsked) (before now : K) (result : Status) : Type 0 where
   pub opening : Opening
   pub opens : OpeningAnswer told asked.files (Ok opening)
-  pub network : IsNetwork opening.net
-  pub limits : IsWithinLimits opening.net
-  pub within : RowsAreWithinLimits opening.rows
-  pub ids : EventIdsFit opening.net
   pub ends : EndsJudged taken faults told is_sound asked.text opening.net opening.rows asked.files.penalty before now result
 
 -- how a check ends

@@ -1,5 +1,5 @@
 -- What a change leaves of a timetable that is brought to follow the rows, and which events are marked then.
-use Rattle.std.specs.Prelude.{ℕ, ◌≡◌, ◌≢◌, ◌+◌, ◌<◌, ◌≤◌, ◌⊎◌, true, Some, length, slice_index, slice_set}
+use Rattle.std.specs.Prelude.{ℕ, ◌≡◌, ◌≢◌, ◌+◌, ◌<◌, ◌≤◌, ◌⊎◌, true, Bool, List, Some, length, slice_index, slice_set}
 use Rattle.dm_network.specs.Net.{Net, activity_at}
 use Rattle.dm_network.specs.Held.{is_held}
 use Rattle.dm_rows.specs.Active.{is_active, IsCycle}
@@ -10,7 +10,7 @@ use Rattle.dm_rows.specs.declared.messages.Change.{Change}
 use Rattle.dm_rows.specs.declared.messages.Change.TheVariants.{EventDelay, ActDelay, Passed, Recalled, Flipped, Adopted, Clock}
 use Rattle.dm_settle.specs.Constraints.{ConstraintsValue, arcs_given}
 use Rattle.dm_marks.specs.Marked.{is_marked}
-use Rattle.dm_live.specs.Live.{LiveValue, IsFixed}
+use Rattle.dm_live.specs.Live.{LiveValue, IsFixed, is_fixed}
 use Rattle.dm_propagate.specs.Inside.Noting.{KeepsTimesBut}
 use Rattle.dm_propagate.specs.Inside.Turning.{IsLetGoAt, IsTakenUpAt}
 
@@ -28,6 +28,10 @@ AreFloorsAt net rows clock given =
 abbrev pub HaveFloorsFrom : Net → RowsValue → ℕ → ConstraintsValue → Type 0
 HaveFloorsFrom net rows clock given =
     (i : ℕ) → i < length net.events → clock ≤ slice_index given.floors i → slice_index given.floors i ≡ floor_of net rows i
+
+-- each fixed event has the floor that the rows give it
+abbrev pub FloorsStay : Net → RowsValue → ConstraintsValue → List Bool → Type 0
+FloorsStay net rows given fixed = (i : ℕ) → i < length net.events → is_fixed fixed i ≡ true → slice_index given.floors i ≡ floor_of net rows i
 
 -- where a change moves the clock, the floors are those of the rows at a clock
 abbrev pub FollowsAt : Net → RowsValue → Change → ℕ → ConstraintsValue → Type 0

@@ -1,12 +1,12 @@
 -- Which activities, floors and spans a change concerns.
-use Rattle.std.specs.Prelude.{ℕ, ◌≡◌, ◌<◌, ◌⊎◌, List, length, slice_index, slice_get, Some}
+use Rattle.std.specs.Prelude.{ℕ, ◌≡◌, ◌<◌, ◌⊎◌, false, List, length, slice_index, slice_get, Some}
 use Rattle.dm_network.specs.Net.{Net, activity_at, pair_at}
 use Rattle.dm_network.specs.Held.{is_held}
 use Rattle.dm_rows.specs.declared.messages.Flip.{Flip}
 use Rattle.dm_rows.specs.declared.messages.Flip.TheVariants.{Keep, Drop, First}
 use Rattle.dm_rows.specs.declared.messages.Change.{Change}
 use Rattle.dm_rows.specs.declared.messages.Change.TheVariants.{EventDelay, ActDelay, Passed, Recalled, Flipped, Adopted, Clock}
-use Rattle.dm_rows.specs.Active.{is_active}
+use Rattle.dm_rows.specs.Active.{has_passed, is_active}
 use Rattle.dm_rows.specs.Rows.{RowsValue}
 use Rattle.dm_rows.specs.Timetable.{floor_of, span_of}
 use Rattle.dm_settle.specs.Constraints.{ConstraintsValue}
@@ -43,15 +43,15 @@ IsConcerned net (Flipped flip) b = IsDecided net flip b
 IsConcerned net (Adopted flips) b = IsDecidedBefore net flips (length flips) b
 IsConcerned net (Clock t) b = ⊥
 
--- the change may move the floor of the event
-abbrev pub MovesFloor : Change → ℕ → Type 0
-MovesFloor (EventDelay e d) i = i ≡ e
-MovesFloor (ActDelay a d) i = ⊥
-MovesFloor (Passed e t) i = i ≡ e
-MovesFloor (Recalled e) i = i ≡ e
-MovesFloor (Flipped flip) i = ⊥
-MovesFloor (Adopted flips) i = ⊥
-MovesFloor (Clock t) i = Unit {0}
+-- the change may move the floor of the event; a delay moves none of one that has passed
+abbrev pub MovesFloor : RowsValue → Change → ℕ → Type 0
+MovesFloor rows (EventDelay e d) i = (i ≡ e) × (has_passed rows i ≡ false)
+MovesFloor rows (ActDelay a d) i = ⊥
+MovesFloor rows (Passed e t) i = i ≡ e
+MovesFloor rows (Recalled e) i = i ≡ e
+MovesFloor rows (Flipped flip) i = ⊥
+MovesFloor rows (Adopted flips) i = ⊥
+MovesFloor rows (Clock t) i = Unit {0}
 
 -- the change may move the span of the activity
 abbrev pub MovesSpan : Change → ℕ → Type 0
@@ -66,5 +66,5 @@ MovesSpan (Clock t) b = ⊥
 -- the active activities are held, and floors and spans are those of the rows, but for what the change concerns
 pub record FollowsBut (net : Net) (rows : RowsValue) (change : Change) (given : ConstraintsValue) : Type 0 where
   pub held : (a : ℕ) → a < length net.activities → (is_held given.held a ≡ is_active net rows a) ⊎ IsConcerned net change a
-  pub floors : (i : ℕ) → i < length net.events → (slice_index given.floors i ≡ floor_of net rows i) ⊎ MovesFloor change i
+  pub floors : (i : ℕ) → i < length net.events → (slice_index given.floors i ≡ floor_of net rows i) ⊎ MovesFloor rows change i
   pub spans : (a : ℕ) → a < length net.activities → (slice_index given.spans a ≡ span_of net rows a) ⊎ MovesSpan change a

@@ -1,5 +1,5 @@
 -- The flags of a priced timetable: which of them a change concerns, and what is left of them while it is made.
-use Rattle.std.specs.Prelude.{ℕ, ◌≡◌, ◌<◌, ◌⊎◌, Bool, List, length, slice_set}
+use Rattle.std.specs.Prelude.{ℕ, ◌≡◌, ◌<◌, ◌⊎◌, Bool, false, List, length, slice_set}
 use Rattle.dm_network.specs.Net.{Net, activity_at}
 use Rattle.dm_rows.specs.Active.{has_passed}
 use Rattle.dm_rows.specs.Cost.{is_dropped_change}
@@ -8,19 +8,34 @@ use Rattle.dm_rows.specs.declared.messages.Flip.{Flip}
 use Rattle.dm_rows.specs.declared.messages.Flip.TheVariants.{Keep, Drop, First}
 use Rattle.dm_rows.specs.declared.messages.Change.{Change}
 use Rattle.dm_rows.specs.declared.messages.Change.TheVariants.{EventDelay, ActDelay, Passed, Recalled, Flipped, Adopted, Clock}
+use Rattle.dm_live.specs.Live.{is_fixed}
 use Rattle.dm_priced.specs.Priced.{PricedValue, is_flagged}
 use Rattle.dm_propagate.specs.Inside.Concern.{IsOfOneBefore}
 
--- the events that have passed, and the activities that are charged for
+-- the events that have passed, the activities that are charged for, and the events whose times are fixed
 pub record FlagsValue : Type 0 where
   pub passed : List Bool
   pub charged : List Bool
+  pub fixed : List Bool
 
 abbrev pub flags_of : PricedValue → FlagsValue
-flags_of priced = record { passed = priced.passed; charged = priced.charged }
+flags_of priced = record { passed = priced.passed; charged = priced.charged; fixed = priced.live.fixed }
+
+-- each event is fixed that has passed, and no other
+abbrev pub FixesPassed : RowsValue → List Bool → Type 0
+FixesPassed rows fixed = (i : ℕ) → is_fixed fixed i ≡ has_passed rows i
+
+-- no event is fixed that has not passed
+abbrev pub FixesNoOther : RowsValue → List Bool → Type 0
+FixesNoOther rows fixed = (i : ℕ) → has_passed rows i ≡ false → is_fixed fixed i ≡ false
+
+-- no event is fixed but this one and those that have passed
+abbrev pub FixesNoOtherBut : RowsValue → ℕ → List Bool → Type 0
+FixesNoOtherBut rows e fixed = (i : ℕ) → has_passed rows i ≡ false → (is_fixed fixed i ≡ false) ⊎ (i ≡ e)
 
 -- they are those of rows
 pub record AreFlagsOf (net : Net) (rows : RowsValue) (flags : FlagsValue) : Type 0 where
+  pub fixed : FixesPassed rows flags.fixed
   pub passed : (i : ℕ) → i < length net.events → is_flagged flags.passed i ≡ has_passed rows i
   pub charged : (a : ℕ) → a < length net.activities → is_flagged flags.charged a ≡ is_dropped_change net rows a
 
@@ -56,6 +71,7 @@ MovesCharge net (Clock t) b = ⊥
 
 -- they are those of rows, but for what the change concerns
 pub record AreFlagsBut (net : Net) (rows : RowsValue) (change : Change) (flags : FlagsValue) : Type 0 where
+  pub fixed : (i : ℕ) → (is_fixed flags.fixed i ≡ has_passed rows i) ⊎ MovesPass change i
   pub passed : (i : ℕ) → i < length net.events → (is_flagged flags.passed i ≡ has_passed rows i) ⊎ MovesPass change i
   pub charged : (a : ℕ) → a < length net.activities → (is_flagged flags.charged a ≡ is_dropped_change net rows a) ⊎ MovesCharge net change a
 
@@ -72,6 +88,7 @@ pub record SetsFlagsAt (net : Net) (rows : RowsValue) (i : ℕ) (before after : 
 
 -- the activities that flips name have the flags of the rows
 pub record SetsFlagsBy (net : Net) (rows : RowsValue) (flips : List Flip) (before after : FlagsValue) : Type 0 where
+  pub fixed : after.fixed ≡ before.fixed
   pub passed : after.passed ≡ before.passed
   pub charged : Charges net rows (IsOfOneBefore IsNamed flips (length flips)) before.charged after.charged
 

@@ -1,7 +1,7 @@
 -- Events that are noted while a change is made.
 use Rattle.std.specs.Prelude.{ℕ, ◌≡◌, ◌⊎◌, Bool, true, false, List, length, slice_index}
 use Rattle.dm_network.specs.Net.{Net}
-use Rattle.dm_places.specs.Places.{has}
+use Rattle.dm_marks.specs.Marked.{is_marked}
 use Rattle.dm_propagate.specs.Moved.{TakesInMoved}
 
 -- each event, but for some of these, has the time that it had
@@ -11,10 +11,10 @@ pub record KeepsTimesBut (some : ℕ → Type 0) (before after : List ℕ) : Typ
 -- what was noted is so still, and each of these events is
 pub record NotesEach (some : ℕ → Type 0) (noted noted_now : List Bool) : Type 0 where
   pub as_many : length noted_now ≡ length noted
-  pub kept : (i : ℕ) → has noted_now i ≡ false → has noted i ≡ false
-  pub each : (i : ℕ) → some i → has noted_now i ≡ true
+  pub kept : (i : ℕ) → is_marked noted_now i ≡ false → is_marked noted i ≡ false
+  pub each : (i : ℕ) → some i → is_marked noted_now i ≡ true
 
--- What is lent by this name are the notes of a pass: since it began, with this noted and with these times, it notes each event
+-- What is lent by this name are the notes of a sweep: since it began, with this noted and with these times, it notes each event
 -- that moves.
 pub record IsNotedSince (net : Net) (name : ℕ) (noted : List Bool) (before : List ℕ) (lent : ℕ) (noted_now : List Bool) (now : List ℕ) : Type 0 where
   pub same_name : lent ≡ name

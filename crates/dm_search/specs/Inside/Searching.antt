@@ -9,7 +9,9 @@ use Rattle.dm_tree.specs.declared.forms.Node.TheVariants.{Open}
 use Rattle.dm_tree.specs.declared.forms.Leaf.{Leaf}
 use Rattle.dm_tree.specs.Trees.{choice_in}
 use Rattle.dm_tree.specs.Plans.{Task, AreSomeOf, DiffersFrom, CostsWith, CostsRelaxed, IsTrueInner}
-use Rattle.dm_tree.specs.Inside.Filling.{is_ordered, fills, visits, pending}
+use Rattle.dm_tree.specs.Inside.Filling.{fills, visits}
+use Rattle.dm_tree.specs.Pending.{pending}
+use Rattle.dm_rows.specs.Sides.{is_ordered}
 use Rattle.dm_tree.specs.Inside.Assembling.{seen, GoesOn}
 use Rattle.dm_search.specs.declared.searching.Best.{Best}
 use Rattle.dm_search.specs.declared.searching.Found.{Found}

@@ -1,8 +1,8 @@
 -- What is noted of the times that have moved, and how a copy of the times follows them.
 use Rattle.std.specs.Prelude.{ℕ, ◌≡◌, ◌<◌, ◌≤◌, ◌⊎◌, Bool, false, List, [], ◌∷◌, ◌++◌, length, slice_index, All, Contains}
 use Rattle.dm_network.specs.Net.{Net}
-use Rattle.dm_places.specs.Moved.{ListsMoved}
-use Rattle.dm_places.specs.Places.{has}
+use Rattle.dm_marks.specs.Moved.{ListsMoved}
+use Rattle.dm_marks.specs.Marked.{is_marked}
 use Rattle.dm_rows.specs.declared.messages.Entry.{Entry}
 use Rattle.dm_rows.specs.History.{rows_at}
 use Rattle.dm_rows.specs.Rows.{RowsValue}
@@ -12,7 +12,7 @@ use Rattle.dm_rows.specs.Timetable.{IsLeast, time_at}
 pub record AreNoted (net : Net) (start : RowsValue) (history : List Entry) (since : ℕ) (noted : List Bool) (times : List ℕ) : Type 0 where
   pub within : since ≤ length history
   pub as_many : length noted ≡ length net.events
-  pub others : (x : List ℕ) → IsLeast net (rows_at net start history since) x → (i : ℕ) → has noted i ≡ false → time_at times i ≡ time_at x i
+  pub others : (x : List ℕ) → IsLeast net (rows_at net start history since) x → (i : ℕ) → is_marked noted i ≡ false → time_at times i ≡ time_at x i
 
 -- a copy is what the times are, and the places at which it was not are listed
 pub record IsUpToDate (times before after : List ℕ) (listed : List ℕ) : Type 0 where

@@ -1,18 +1,15 @@
 -- A tree that is put together from leaves, node by node in preorder.
-use Rattle.std.specs.Prelude.{ℕ, ◌≡◌, ◌≢◌, ◌-◌, ◌<◌, ◌≤◌, ◌⊎◌, true, List, [], ◌∷◌, ◌++◌, length, take, slice_get, slice_index, slice_index_or, Option, Some, None, Contains}
+use Rattle.std.specs.Prelude.{ℕ, ◌≡◌, ◌≢◌, ◌<◌, ◌≤◌, ◌⊎◌, true, List, [], ◌∷◌, ◌++◌, length, take, slice_get, slice_index, slice_index_or, Option, Some, None, Contains}
 use Rattle.dm_rows.specs.declared.messages.Choice.{Choice}
 use Rattle.dm_rows.specs.declared.messages.Decision.{Decision}
 use Rattle.dm_rows.specs.Decide.{choice_of}
 use Rattle.dm_tree.specs.declared.forms.Node.{Node}
 use Rattle.dm_tree.specs.declared.forms.Node.TheVariants.{Inner, Cycle, Bound, Open, Hole}
 use Rattle.dm_tree.specs.declared.forms.Leaf.{Leaf}
-use Rattle.dm_tree.specs.Trees.{IsOrdered, choice_in, IsLeaf, IsProper, StandsAt, Shape}
-use Rattle.dm_tree.specs.Inside.Filling.{fills, visits, pending}
-
--- the path is a front of the other
-pub record IsFront (path whole : List Decision) : Type 0 where
-  pub rest : List Decision
-  pub is : whole ≡ path ++ rest
+use Rattle.dm_tree.specs.Trees.{choice_in, IsLeaf, IsProper, StandsAt, Shape}
+use Rattle.dm_rows.specs.Sides.{IsOrdered}
+use Rattle.dm_tree.specs.Inside.Filling.{fills, visits}
+use Rattle.dm_tree.specs.Pending.{pending, IsFront, KeepsFront}
 
 -- the two lists begin with the same m elements, and not with more
 pub record HasCommon (path whole : List Decision) (m : ℕ) : Type 0 where
@@ -20,12 +17,6 @@ pub record HasCommon (path whole : List Decision) (m : ℕ) : Type 0 where
   pub of_whole : m ≤ length whole
   pub same : take m path ≡ take m whole
   pub differ : (d : Decision) → m < length path → m < length whole → slice_index_or path m d ≢ slice_index_or whole m d
-
--- all but the last of the new list is a front of the old one
-pub record KeepsFront (old new : List Decision) : Type 0 where
-  pub some : 0 < length new
-  pub within : length new - 1 ≤ length old
-  pub same : take (length new - 1) new ≡ take (length new - 1) old
 
 -- what a path had in common before its last steps tells that it has so much now
 abbrev pub Improves : List Decision → List Decision → ℕ → ℕ → Type 0

@@ -1,18 +1,13 @@
 -- Nodes read from the left: which places are still due, and what stands at them.
-use Rattle.std.specs.Prelude.{ℕ, ◌≡◌, ◌==◌, ◌+◌, ◌-◌, ◌<◌, ◌≤◌, ◌⊎◌, ◌&&◌, nat_lt, Bool, true, false, List, [], ◌∷◌, ◌++◌, length, reverse, slice_index_or, if◌then◌else◌}
+use Rattle.std.specs.Prelude.{ℕ, ◌≡◌, ◌==◌, ◌+◌, ◌-◌, ◌<◌, ◌≤◌, ◌⊎◌, ◌&&◌, Bool, true, false, List, [], ◌∷◌, ◌++◌, length, slice_index_or, if◌then◌else◌}
 use Rattle.dm_rows.specs.declared.messages.Choice.{Choice}
-use Rattle.dm_rows.specs.declared.messages.Choice.TheVariants.{Change, Pair}
 use Rattle.dm_rows.specs.declared.messages.Decision.{Decision}
-use Rattle.dm_rows.specs.declared.messages.Decision.TheVariants.{Keep, Drop, First}
 use Rattle.dm_tree.specs.declared.forms.Node.{Node}
 use Rattle.dm_tree.specs.declared.forms.Node.TheVariants.{Inner, Cycle, Bound, Open, Hole}
 use Rattle.dm_tree.specs.declared.forms.Leaf.{Leaf}
 use Rattle.dm_tree.specs.declared.forms.Child.{Child}
-use Rattle.dm_tree.specs.Trees.{IsTreeBetween, first_decision, second_decision}
-
-abbrev pub is_ordered : Choice → Bool
-is_ordered (Change a) = true
-is_ordered (Pair i j) = nat_lt i.0 j.0
+use Rattle.dm_tree.specs.Trees.{IsTreeBetween}
+use Rattle.dm_rows.specs.Sides.{first_decision, second_decision, is_ordered}
 
 abbrev pub is_none_left : List Node → Bool
 is_none_left [] = true
@@ -48,27 +43,6 @@ leaves_due (p ∷ due) (Cycle ∷ ns) = (record { path = p; node = Cycle }) ∷ 
 leaves_due (p ∷ due) (Bound c ∷ ns) = (record { path = p; node = Bound c }) ∷ leaves_due due ns
 leaves_due (p ∷ due) (Open c ∷ ns) = (record { path = p; node = Open c }) ∷ leaves_due due ns
 leaves_due (p ∷ due) (Hole ∷ ns) = (record { path = p; node = Hole }) ∷ leaves_due due ns
-
--- a first decision of its choice, and the other decision of the same choice
-abbrev pub is_first_decision : Decision → Bool
-is_first_decision (Keep a) = true
-is_first_decision (Drop a) = false
-is_first_decision (First i j) = nat_lt i.0 j.0
-
-abbrev pub other_decision : Decision → Decision
-other_decision (Keep a) = Drop a
-other_decision (Drop a) = Keep a
-other_decision (First i j) = First j i
-
--- the places due behind a path, which is given from its last decision on: the second children along it
-abbrev pub behind : List Decision → List (List Decision)
-behind [] = []
-behind (d ∷ back) =
-    if is_first_decision d then (reverse back ++ other_decision d ∷ []) ∷ behind back else behind back
-
--- the places due behind a path
-abbrev pub pending : List Decision → List (List Decision)
-pending path = behind (reverse path)
 
 -- from such a place on it is known where the tree that begins at a place ends
 abbrev pub AreEndsFrom : ℕ → List Node → List ℕ → Type 0

@@ -16,10 +16,10 @@ pub returns-in-Ok-true : goal.returns-in-Ok-true
 returns-in-Ok-true c = λ read grown.
     let below : c.args.leaf.now.path ≡ c.args.path.now.items ++ c.in-Some.tail.now = sym c.as_slice.ensures ∙ rw c.deref.ensures.value at c.in-Some.ensures in
     let down = rw c.if-not-down.false at (c.in-Ok.ensures read c.args.leaf.now below (grown_for read _ _ c.args.leaf.now grown)) in
-    grown_turned read _ _ _ _ c.args.leaf.now c.requires down c.in-Ok-push.ensures.items (rw c.in-Ok-true.field-0-test at c.in-Ok-true.ensures)
+    grown_turned read _ _ _ _ c.args.leaf.now c.requires down c.in-Ok-push.ensures.items (rw c.in-Ok-true.field-0-test at c.in-Ok-true.ensures.due)
 
 pub returns-in-Ok-false : goal.returns-in-Ok-false
 returns-in-Ok-false c = λ read grown.
     let below : c.args.leaf.now.path ≡ c.args.path.now.items ++ c.in-Some.tail.now = sym c.as_slice.ensures ∙ rw c.deref.ensures.value at c.in-Some.ensures in
     let down = rw c.if-not-down.false at (c.in-Ok.ensures read c.args.leaf.now below (grown_for read _ _ c.args.leaf.now grown)) in
-    grown_whole read _ _ _ c.args.leaf.now c.requires down c.in-Ok-push.ensures.items (rw c.in-Ok-false.field-0-test at c.in-Ok-false.ensures)
+    grown_whole read _ _ _ c.args.leaf.now c.requires down c.in-Ok-push.ensures.items (rw c.in-Ok-false.field-0-test at c.in-Ok-false.ensures.due)

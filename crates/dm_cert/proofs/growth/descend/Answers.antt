@@ -13,6 +13,6 @@ loop-decision-preserved c = record {
   grown = λ read l below grown.
       grown_step read l _ _ _ _ _ _ _ c.if-not-is_first.ensures
       (below_step l _ _ _ _ _ c.loop-decision-test.true below c.loop-decision.invariant.path)
-      c.in_ok-push.ensures.items c.decided.ensures c.in_ok-push-2.ensures.items
+      c.in_ok-push.ensures.items c.choice.ensures c.in_ok-push-2.ensures.items
       (c.loop-decision.invariant.grown read l below grown);
 }

@@ -1,6 +1,6 @@
 use Rattle.std.proofs.Common.{◌≡◌, List, ◌∷◌, [], ◌++◌, drop}
 use Rattle.dm_tree.specs.declared.forms.Leaf.{Leaf}
-use Rattle.dm_tree.specs.Inside.Filling.{pending}
+use Rattle.dm_tree.specs.Pending.{pending}
 use Rattle.dm_cert.specs.Inside.Growing.{IsGrown}
 use Rattle.dm_cert.proofs.growth.descend.Given as goal
 

@@ -1,4 +1,4 @@
-use Rattle.dm_answers.specs.Judging.{setting_of, history_of}
+use Rattle.dm_check_answers.specs.Judging.{setting_of, history_of}
 use Rattle.dm_check.proofs.Wholes.{logs_stopped, rest_stopped, logs_and_rest}
 use Rattle.dm_check.proofs.checking.logs_then_rest_told.Goals as goal
 

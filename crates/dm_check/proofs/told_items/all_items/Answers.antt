@@ -1,5 +1,5 @@
 use Rattle.std.proofs.Common.{arith}
-use Rattle.dm_answers.specs.Judging.{setting_of, history_of}
+use Rattle.dm_check_answers.specs.Judging.{setting_of, history_of}
 use Rattle.dm_check.specs.FalseRecords.{TellsItem}
 use Rattle.dm_check.proofs.Chained.{kept_none}
 use Rattle.dm_check.proofs.Items.{KeepsSoFar, keeps_none, items_more, items_stop, items_all}

@@ -1,4 +1,4 @@
-use Rattle.dm_answers.specs.Judging.{IsReplay, setting_of, history_of}
+use Rattle.dm_check_answers.specs.Judging.{IsReplay, setting_of, history_of}
 use Rattle.dm_check.proofs.Items.{HasItems}
 use Rattle.dm_check.proofs.told_items.all_items.Given as goal
 

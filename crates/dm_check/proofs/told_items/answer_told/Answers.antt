@@ -1,8 +1,8 @@
 use Rattle.std.proofs.Common.{Bool, subst}
 use Rattle.dm_cert.specs.declared.replies.LogItem.TheVariants.{Answered}
 use Rattle.dm_records.specs.Readings.{reply_of}
-use Rattle.dm_claims.specs.Claims.{Tells}
-use Rattle.dm_answers.specs.Judging.{setting_of, history_of}
+use Rattle.dm_check_rows.specs.Claims.{Tells}
+use Rattle.dm_check_answers.specs.Judging.{setting_of, history_of}
 use Rattle.dm_check.specs.FalseRecords.{IsNextItem}
 use Rattle.dm_check.proofs.Items.{lone_next}
 use Rattle.dm_check.proofs.told_items.answer_told.Goals as goal

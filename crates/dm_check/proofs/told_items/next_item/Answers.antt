@@ -1,5 +1,5 @@
 use Rattle.dm_records.specs.Readings.{item_of}
-use Rattle.dm_answers.specs.Judging.{setting_of, history_of}
+use Rattle.dm_check_answers.specs.Judging.{setting_of, history_of}
 use Rattle.dm_check.proofs.Items.{item_on}
 use Rattle.dm_check.proofs.told_items.next_item.Goals as goal
 

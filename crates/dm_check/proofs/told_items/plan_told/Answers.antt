@@ -1,7 +1,7 @@
 use Rattle.std.proofs.Common.{Option, None, Some, Ok, subst}
 use Rattle.dm_tree.specs.declared.plans.Plan.{Plan}
 use Rattle.dm_records.specs.Readings.{opening_of}
-use Rattle.dm_answers.specs.Judging.{setting_of, history_of}
+use Rattle.dm_check_answers.specs.Judging.{setting_of, history_of}
 use Rattle.dm_check.specs.Judged.{TellsBlock}
 use Rattle.dm_check.proofs.Blocks.{block_stopped, no_plan_shown}
 use Rattle.dm_check.proofs.told_items.plan_told.Goals as goal

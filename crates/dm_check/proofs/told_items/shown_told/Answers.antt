@@ -2,8 +2,8 @@ use Rattle.std.proofs.Common.{Bool, subst}
 use Rattle.dm_cert.specs.declared.replies.LogItem.TheVariants.{Answered}
 use Rattle.dm_cert.specs.declared.replies.Reply.TheVariants.{Planned}
 use Rattle.dm_records.specs.Readings.{opening_of}
-use Rattle.dm_claims.specs.Claims.{Tells}
-use Rattle.dm_answers.specs.Judging.{setting_of, history_of}
+use Rattle.dm_check_rows.specs.Claims.{Tells}
+use Rattle.dm_check_answers.specs.Judging.{setting_of, history_of}
 use Rattle.dm_check.specs.FalseRecords.{IsNextItem}
 use Rattle.dm_check.proofs.Blocks.{plan_next, plan_untrue}
 use Rattle.dm_check.proofs.told_items.shown_told.Goals as goal

@@ -1,5 +1,5 @@
 use Rattle.std.proofs.Common.{arith}
-use Rattle.dm_answers.specs.Judging.{setting_of, history_of}
+use Rattle.dm_check_answers.specs.Judging.{setting_of, history_of}
 use Rattle.dm_check.proofs.Logs.{logs_begin, logs_go, logs_stop, logs_few, logs_all}
 use Rattle.dm_check.proofs.told_logs.all_logs.Goals as goal
 

@@ -1,4 +1,4 @@
-use Rattle.dm_answers.specs.Judging.{IsReplay, setting_of, history_of}
+use Rattle.dm_check_answers.specs.Judging.{IsReplay, setting_of, history_of}
 use Rattle.dm_check.proofs.Logs.{HasLogs}
 use Rattle.dm_check.proofs.told_logs.all_logs.Given as goal
 

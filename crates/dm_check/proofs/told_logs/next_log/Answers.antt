@@ -1,4 +1,4 @@
-use Rattle.dm_answers.specs.Judging.{setting_of, history_of}
+use Rattle.dm_check_answers.specs.Judging.{setting_of, history_of}
 use Rattle.dm_check.proofs.Logs.{log_unopened, log_stop, log_unended, log_all}
 use Rattle.dm_check.proofs.told_logs.next_log.Goals as goal
 

@@ -1,6 +1,6 @@
 use Rattle.std.proofs.Common.{subst, ◌∙◌}
 use Rattle.dm_rows.specs.Rows.{RowsValue}
-use Rattle.dm_answers.specs.Judging.{setting_of, history_of}
+use Rattle.dm_check_answers.specs.Judging.{setting_of, history_of}
 use Rattle.dm_check.specs.Judged.{EndingOn}
 use Rattle.dm_check.proofs.told_rest.ending_told.Goals as goal
 

@@ -1,5 +1,5 @@
 use Rattle.std.proofs.Common.{sym}
-use Rattle.dm_answers.specs.Judging.{setting_of, history_of}
+use Rattle.dm_check_answers.specs.Judging.{setting_of, history_of}
 use Rattle.dm_check.proofs.Wholes.{notes_stop, heading_fault, rest_on}
 use Rattle.dm_check.proofs.told_rest.rest_told.Goals as goal
 
@@ -17,4 +17,4 @@ pub returns : goal.returns
 returns c = λ logs flagged.
     rest_on (setting_of c.args.journal.now) (history_of c.args.journal.now) logs c.args.lines.now c.in-Ok.notes c.boards_told.new.lines (c.in-Ok.ensures (history_of c.args.journal.now) logs c.requires.each flagged)
     c.all_notes.new.lines (c.in-Ok-all_notes.ensures (history_of c.args.journal.now) c.requires.counted) c.args.entries (sym c.requires.counted) c.in-Ok-heading_told._entries c.heading_told.new.lines c.ending_told.new.lines
-    c.args.disposition.now.rows c.ending_told.result c.in-Ok-heading_told.ensures c.requires.rows_are (λ notes. c.ending_told.ensures logs notes)
+    c.args.checked.now.rows c.ending_told.result c.in-Ok-heading_told.ensures c.requires.rows_are (λ notes. c.ending_told.ensures logs notes)

@@ -1,4 +1,4 @@
-use Rattle.dm_answers.specs.Judging.{setting_of, history_of}
+use Rattle.dm_check_answers.specs.Judging.{setting_of, history_of}
 use Rattle.dm_records.specs.Readings.{timed}
 use Rattle.dm_check.proofs.Wholes.{untimed, unread}
 use Rattle.dm_check.proofs.told_rest.untimed_told.Goals as goal

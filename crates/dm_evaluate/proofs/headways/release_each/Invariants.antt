@@ -1,6 +1,7 @@
 use Rattle.std.specs.Prelude.{◌≡◌, false}
 use Rattle.dm_priced.specs.Priced.{IsPriced}
-use Rattle.dm_evaluate.specs.Inside.Moves.{IsAmong, TurnsAmong}
+use Rattle.dm_evaluate.specs.Inside.Moves.{TurnsAmong}
+use Rattle.dm_paths.specs.RowsRead.{IsAmong}
 use Rattle.dm_evaluate.proofs.headways.release_each.Given as goal
 
 abbrev pub invariant-loop-a : goal.invariant-loop-a

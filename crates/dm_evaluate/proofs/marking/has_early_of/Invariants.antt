@@ -1,5 +1,5 @@
 use Rattle.std.proofs.Common.{ℕ, slice_set}
-use Rattle.dm_evaluate.specs.Inside.Moves.{IsAmong}
+use Rattle.dm_paths.specs.RowsRead.{IsAmong}
 use Rattle.dm_evaluate.specs.Inside.Marking.{IsEarlyHeadway}
 use Rattle.dm_evaluate.proofs.marking.has_early_of.Given as goal
 

@@ -1,8 +1,8 @@
 use Rattle.std.proofs.Common.{◌≡◌, [], sym, ap, subst, ◌∙◌}
-use Rattle.dm_live.specs.Live.{LiveValue}
+use Rattle.dm_live.specs.Live.{LiveValue, NoneFixed}
 use Rattle.dm_rows.specs.Relax.{is_relaxed_active}
 use Rattle.dm_settle.specs.Constraints.{ConstraintsValue}
-use Rattle.dm_times.specs.Inside.Filling.{AreConstraintsHolding}
+use Rattle.dm_times.specs.Constraints.{AreConstraintsHolding}
 use Rattle.dm_evaluate.proofs.Rooted.{root_evaluates}
 use Rattle.dm_evaluate.proofs.starting.root_timetable.Goals as goal
 
@@ -15,6 +15,7 @@ returns-in_ok-priced-in-Ok-clause-root c =
     record {
       evaluates = root_evaluates net rows c.settle.new.priced c.settle.ensures.priced
           (subst (λ (g : ConstraintsValue). AreConstraintsHolding net rows (is_relaxed_active net rows []) g) (sym given) c.in-Ok.ensures.live.held)
+          (subst NoneFixed (sym (c.settle.ensures.fixed ∙ ap (λ (l : LiveValue). l.fixed) made.live)) c.in-Ok.ensures.live.none_fixed)
           c.settle.ensures.passed (c.settle.ensures.charged ∙ made.charged);
       at_rest = c.settle.ensures.at_rest;
     }

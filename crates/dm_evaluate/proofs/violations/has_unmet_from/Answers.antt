@@ -1,6 +1,6 @@
 use Rattle.std.proofs.Common.{refl, sym, ◌∙◌, arith, slice_index}
 use Rattle.dm_network.proofs.EventRows.{row_below}
-use Rattle.dm_evaluate.proofs.Violating.{unmet_in_row, none_in_row}
+use Rattle.dm_paths.proofs.RowsRead.{unmet_in_row, none_in_row}
 use Rattle.dm_evaluate.proofs.violations.has_unmet_from.Goals as goal
 
 pub is_headway_of-requires : goal.is_headway_of-requires

@@ -1,4 +1,4 @@
-use Rattle.dm_evaluate.specs.Inside.Violations.{NoneUnmet}
+use Rattle.dm_paths.specs.RowsRead.{NoneUnmet}
 use Rattle.dm_evaluate.proofs.violations.has_unmet_from.Given as goal
 
 abbrev pub invariant-loop-a : goal.invariant-loop-a

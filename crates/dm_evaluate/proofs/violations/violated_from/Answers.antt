@@ -3,17 +3,17 @@ use Rattle.dm_network.specs.declared.parts.Activity.{Activity}
 use Rattle.dm_rows.specs.declared.messages.Choice.TheVariants as choice
 use Rattle.dm_rows.specs.Relax.{is_undecided_change}
 use Rattle.dm_priced.specs.Priced.{is_flagged}
-use Rattle.dm_paths.specs.declared.places.Place.TheVariants.{Change}
+use Rattle.dm_paths.specs.declared.places.ChoicePlace.TheVariants.{Change}
 use Rattle.dm_paths.specs.Flags.{AreFlags}
 use Rattle.dm_evaluate.proofs.Violating.{change_is_first, no_change_from, pairs_from_start}
 use Rattle.dm_evaluate.proofs.violations.violated_from.Goals as goal
 
 pub returns-in-Some-clause-first : goal.returns-in-Some-clause-first
-returns-in-Some-clause-first g c path changes pairs =
+returns-in-Some-clause-first g c path u =
     let net = c.args.net.now in
-    let flags = subst (λ (f : List Bool). AreFlags (is_undecided_change net c.args.rows.now path) (length net.activities) f) (sym c.deref.ensures.value) changes in
+    let flags = subst (λ (f : List Bool). AreFlags (is_undecided_change net c.args.rows.now path) (length net.activities) f) (sym c.deref.ensures.value) u.changes in
     ap (λ (activity : Activity). Some (choice.Change activity.id)) c.activity.ensures
-    ∙ change_is_first net c.args.rows.now path c.args.times.now c.deref.result.now c.args.undecided.now.pairs.items flags pairs
+    ∙ change_is_first net c.args.rows.now path c.args.times.now c.deref.result.now c.args.undecided.now.pairs.items flags u.pairs
     c.args.first c.in-Some.a c.in-Some.ensures.first
 
 pub returns-in-Some-clause-flagged : goal.returns-in-Some-clause-flagged
@@ -26,10 +26,10 @@ returns-in-Some-clause-flagged g c =
     }
 
 pub returns-clause-first : goal.returns-clause-first
-returns-clause-first g c path changes pairs =
+returns-clause-first g c path u =
     let net = c.args.net.now in
     let rows = c.args.rows.now in
     let x = c.args.times.now in
-    let flags = subst (λ (f : List Bool). AreFlags (is_undecided_change net rows path) (length net.activities) f) (sym c.deref.ensures.value) changes in
-    c.violated_pair_from.ensures.first path changes pairs ∙ pairs_from_start net rows path x
-    ∙ no_change_from net rows path x c.deref.result.now c.args.undecided.now.pairs.items flags pairs c.args.first c.in_default.ensures.first
+    let flags = subst (λ (f : List Bool). AreFlags (is_undecided_change net rows path) (length net.activities) f) (sym c.deref.ensures.value) u.changes in
+    c.violated_pair_from.ensures.first path u ∙ pairs_from_start net rows path x
+    ∙ no_change_from net rows path x c.deref.result.now c.args.undecided.now.pairs.items flags u.pairs c.args.first c.in_default.ensures.first

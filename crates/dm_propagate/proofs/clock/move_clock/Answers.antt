@@ -1,5 +1,5 @@
 use Rattle.std.proofs.Common.{◌<◌, length, All, arith, subst, sym}
-use Rattle.dm_propagate.proofs.AtClock.{floors_from}
+use Rattle.dm_propagate.proofs.AtClock.{floors_from, floors_stay}
 use Rattle.dm_schedule.proofs.Standing.{front_events}
 use Rattle.dm_propagate.proofs.Raising.{floors_but}
 use Rattle.dm_propagate.proofs.clock.move_clock.Goals as goal
@@ -20,3 +20,11 @@ raise_floors-requires-clause-others c =
     let value = c.clock-clock.ensures.value in
     floors_but c.args.net.now c.args.schedule.now c.requires.schedule c.args.rows.now c.args.earlier c.args.priced.now.live.given c.scheduled_before-due.result.now
     (omega arith) c.requires.floors c.scheduled_before-due.ensures.front (rw (sym value) c.scheduled_before-due.ensures.rest)
+
+pub set_floors-requires-clause-stay : goal.set_floors-requires-clause-stay
+set_floors-requires-clause-stay c =
+    floors_stay c.args.net.now c.args.rows.now c.args.earlier c.args.priced.now.live.given c.args.priced.now.live.fixed c.requires.fixed c.requires.floors
+
+pub raise_floors-requires-clause-stay : goal.raise_floors-requires-clause-stay
+raise_floors-requires-clause-stay c =
+    floors_stay c.args.net.now c.args.rows.now c.args.earlier c.args.priced.now.live.given c.args.priced.now.live.fixed c.requires.fixed c.requires.floors

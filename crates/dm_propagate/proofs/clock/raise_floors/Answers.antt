@@ -1,8 +1,9 @@
-use Rattle.std.proofs.Common.{◌≡◌, ◌∙◌, ◌<◌, length, slice_index, slice_index_or, ap, arith}
+use Rattle.std.proofs.Common.{◌≡◌, ◌∙◌, ◌<◌, sym, length, slice_index, slice_index_or, ap, arith}
 use Rattle.std.proofs.lemmas.List.{get_or_default}
 use Rattle.dm_live.specs.Live.{LiveValue}
 use Rattle.dm_schedule.specs.declared.schedule.Scheduled.{Scheduled}
-use Rattle.dm_propagate.proofs.Raising.{stays_raised, right_from}
+use Rattle.dm_propagate.proofs.Raising.{stays_raised, right_from, raised_stays}
+use Rattle.dm_propagate.specs.Inside.Flags.{FlagsValue}
 use Rattle.dm_propagate.proofs.clock.raise_floors.Goals as goal
 
 pub loop-scheduled-preserved-then-clock-floor : goal.loop-scheduled-preserved-then-clock-floor
@@ -34,3 +35,8 @@ loop-scheduled-preserved c = (
   c.renew_floor.ensures.next c.args.priced.now.live c.args.due.now c.loop-scheduled.scheduled-index
       (λ d. ap (λ (s : Scheduled). s.event) (get_or_default c.args.due.now c.loop-scheduled.scheduled-index d _ (omega arith))) c.loop-scheduled.invariant.2,
 )
+
+pub renew_floor-requires-clause-stays : goal.renew_floor-requires-clause-stays
+renew_floor-requires-clause-stays c = λ on.
+    raised_stays c.args.net.now c.args.rows.now c.args.due.now c.loop-scheduled.scheduled-index _ c.args.priced.now.live c.loop-scheduled.priced.live
+    c.args.priced.now.live.fixed c.loop-scheduled.priced.live.fixed (ap (λ (f : FlagsValue). f.fixed) c.loop-scheduled.invariant.1) (c.requires.are_events c.loop-scheduled.scheduled-index _ (omega arith)) c.requires.stay c.loop-scheduled.invariant.2 on

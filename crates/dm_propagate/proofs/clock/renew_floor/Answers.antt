@@ -1,4 +1,4 @@
-use Rattle.std.proofs.Common.{sym}
+use Rattle.std.proofs.Common.{sym, ◌∙◌}
 use Rattle.dm_propagate.proofs.Raising.{one_raised}
 use Rattle.dm_propagate.proofs.clock.renew_floor.Goals as goal
 
@@ -13,3 +13,6 @@ returns-clause-next c = λ before due n here so.
     one_raised net rows due n i before old now c.requires.is_event c.requires.priced.live.sized.floors here so
     (rw (sym value) c.set_floor.ensures.floor) (rw (sym value) c.set_floor.ensures.marked) (rw (sym value) c.set_floor.ensures.unmarked) c.set_floor.ensures.order
     c.set_floor.ensures.times
+
+pub set_floor-requires-clause-stays : goal.set_floor-requires-clause-stays
+set_floor-requires-clause-stays c = λ on. c.floor_of.ensures.value ∙ sym (c.requires.stays on)

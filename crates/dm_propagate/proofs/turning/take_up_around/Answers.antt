@@ -1,3 +1,5 @@
+use Rattle.std.proofs.Common.{sym, subst}
+use Rattle.dm_propagate.specs.Inside.Flags.{FlagsValue, FixesNoOther}
 use Rattle.dm_propagate.proofs.Around.{in_row_below, out_row_below, taken_up_around}
 use Rattle.dm_propagate.proofs.HeldLemmas.{refused_after}
 use Rattle.dm_propagate.proofs.turning.take_up_around.Goals as goal
@@ -16,3 +18,6 @@ returns-in-Ok-take_up-clause-taken c =
 pub returns-in-Err-take_up-clause-refused : goal.returns-in-Err-take_up-clause-refused
 returns-in-Err-take_up-clause-refused c =
     refused_after c.args.net.now c.args.rows.now c.args.priced.now.live c.take_up.new.priced.live c.take_up-2.new.priced.live c.in-Ok.ensures.taken.held c.in-Err-take_up.ensures.refused
+
+pub take_up-requires-2-clause-open : goal.take_up-requires-2-clause-open
+take_up-requires-2-clause-open c = subst (λ (f : FlagsValue). FixesNoOther c.args.rows.now f.fixed) (sym c.take_up.ensures.flags) c.requires.open

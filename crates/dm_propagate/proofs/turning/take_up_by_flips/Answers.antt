@@ -1,4 +1,5 @@
-use Rattle.std.proofs.Common.{get_or, arith, ◌∙◌}
+use Rattle.std.proofs.Common.{get_or, arith, sym, subst, ◌∙◌}
+use Rattle.dm_propagate.specs.Inside.Flags.{FlagsValue, FixesNoOther}
 use Rattle.std.proofs.lemmas.Option.{slice_get-get_or}
 use Rattle.dm_rows.specs.declared.messages.Flip.TheVariants.{Keep}
 use Rattle.dm_propagate.proofs.Around.{taken_up_next}
@@ -17,3 +18,6 @@ loop-flip-preserved g c = (
       (slice_get-get_or c.args.flips.now c.loop-flip.flip-index (Keep 0) (omega arith)) c.args.priced.now.live c.loop-flip.priced.live c.take_up_by_flip.new.priced.live
       c.loop-flip.invariant.2 c.in-Ok.ensures.taken,
 )
+
+pub take_up_by_flip-requires-clause-open : goal.take_up_by_flip-requires-clause-open
+take_up_by_flip-requires-clause-open g c = subst (λ (f : FlagsValue). FixesNoOther c.args.rows.now f.fixed) (sym c.loop-flip.invariant.1) c.requires.open

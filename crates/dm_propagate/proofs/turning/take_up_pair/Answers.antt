@@ -1,4 +1,5 @@
-use Rattle.std.proofs.Common.{true, ap, ◌∙◌}
+use Rattle.std.proofs.Common.{true, sym, ap, subst, ◌∙◌}
+use Rattle.dm_propagate.specs.Inside.Flags.{FlagsValue, FixesNoOther}
 use Rattle.dm_network.specs.Net.{places_out_of}
 use Rattle.dm_network.specs.declared.parts.Pair.{Pair}
 use Rattle.dm_propagate.proofs.Around.{out_row_below, small_below, large_below, taken_up_at_pair}
@@ -27,3 +28,6 @@ returns-in-Ok-take_up-clause-taken g c =
 pub returns-in-Err-take_up-clause-refused : goal.returns-in-Err-take_up-clause-refused
 returns-in-Err-take_up-clause-refused g c =
     refused_after c.args.net.now c.args.rows.now c.args.priced.now.live c.take_up.new.priced.live c.take_up-2.new.priced.live c.in-Ok.ensures.taken.held c.in-Err-take_up.ensures.refused
+
+pub take_up-requires-2-clause-open : goal.take_up-requires-2-clause-open
+take_up-requires-2-clause-open g c = subst (λ (f : FlagsValue). FixesNoOther c.args.rows.now f.fixed) (sym c.take_up.ensures.flags) c.requires.open

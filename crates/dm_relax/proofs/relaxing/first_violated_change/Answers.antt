@@ -16,7 +16,7 @@ returns-then-comes_too_early c =
     ap (λ (a : Activity). Some (Change a.id)) c.activity.ensures
     ∙ sym (first_listed (change_choice r.net.now) (is_violated_change r.net.now r.rows.now r.path.now c.args.times.now) (length r.net.now.activities) c.loop-a.a below c.loop-a.invariant
     (and_from (is_undecided_change r.net.now r.rows.now r.path.now c.loop-a.a) (comes_too_early r.net.now r.rows.now c.args.times.now c.loop-a.a)
-    (sym (r.changes_are.each c.loop-a.a below) ∙ get_or_default r.changes.items c.loop-a.a _ _ (let size = r.changes_are.size in omega arith) ∙ sym c.index.ensures ∙ c.if-index.true) (sym c.comes_too_early.ensures ∙ c.if-comes_too_early.true)))
+    (sym (r.changes_are.each c.loop-a.a below) ∙ get_or_default r.undecided.changes.items c.loop-a.a _ _ (let size = r.changes_are.size in omega arith) ∙ sym c.index.ensures ∙ c.if-index.true) (sym c.comes_too_early.ensures ∙ c.if-comes_too_early.true)))
 
 pub returns : goal.returns
 returns c =

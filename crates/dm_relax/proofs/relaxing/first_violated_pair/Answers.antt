@@ -19,7 +19,7 @@ returns-then-large-p c =
     (and_from (is_undecided_pair r.net.now r.rows.now r.path.now p && has_unmet_from r.net.now r.rows.now c.args.times.now p (pair_at r.net.now p).small)
     (has_unmet_from r.net.now r.rows.now c.args.times.now p (pair_at r.net.now p).large)
     (and_from (is_undecided_pair r.net.now r.rows.now r.path.now p) (has_unmet_from r.net.now r.rows.now c.args.times.now p (pair_at r.net.now p).small)
-    (sym (r.pairs_are.each p below) ∙ get_or_default r.pairs.items p _ _ (let size = r.pairs_are.size in omega arith) ∙ sym c.index.ensures ∙ c.if-index.true)
+    (sym (r.pairs_are.each p below) ∙ get_or_default r.undecided.pairs.items p _ _ (let size = r.pairs_are.size in omega arith) ∙ sym c.index.ensures ∙ c.if-index.true)
     (sym (c.requires.small.each p below) ∙ c.if-small-p.true)) (sym (c.requires.large.each p below) ∙ c.if-large-p.true)))
 
 pub returns : goal.returns

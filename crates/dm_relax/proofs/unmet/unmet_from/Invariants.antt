@@ -1,5 +1,6 @@
 use Rattle.std.proofs.Common.{length}
-use Rattle.dm_relax.specs.Inside.Flags.{AreFlags, is_unmet_so_far}
+use Rattle.dm_paths.specs.Flags.{AreFlags}
+use Rattle.dm_relax.specs.Inside.Flags.{is_unmet_so_far}
 use Rattle.dm_relax.proofs.unmet.unmet_from.Given as goal
 
 abbrev pub invariant-loop-a : goal.invariant-loop-a

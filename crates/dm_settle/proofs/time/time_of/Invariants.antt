@@ -1,5 +1,5 @@
 use Rattle.dm_settle.specs.Constraints.{graph_given}
-use Rattle.dm_settle.specs.Inside.Pass.{HasJoined}
+use Rattle.dm_settle.specs.Inside.Sweep.{HasJoined}
 use Rattle.dm_settle.proofs.time.time_of.Given as goal
 
 abbrev pub invariant-loop-a : goal.invariant-loop-a

@@ -11,12 +11,12 @@ loop-node-init c =
 pub loop-node-preserved-in-Some : goal.loop-node-preserved-in-Some
 loop-node-preserved-in-Some c =
     choice_step _ _ _ _ _ _ c.in-Some.choice c.loop-node-test.true c.in-Some.ensures
-    (c.in_ok-push.ensures.items ∙ ap (λ d. c.loop-node.path.items ++ d ∷ []) c.first_of.ensures) c.loop-node.invariant
+    (c.in_ok-push.ensures.items ∙ ap (λ d. c.loop-node.path.items ++ d ∷ []) c.first.ensures) c.loop-node.invariant
 
 pub loop-node-preserved : goal.loop-node-preserved
 loop-node-preserved c =
-    leaf_step _ _ _ _ _ _ _ _ c.in_ok-turn.field-0 c.loop-node-test.true c.in_default.ensures
-    (c.from_vec.ensures ∙ (c.in_ok-here.ensures.items ∙ c.deref.ensures.value)) c.in_ok-push-2.ensures.items c.in_ok-turn.ensures.due
+    leaf_step _ _ _ _ _ _ _ _ c.in_ok-turn_back.field-0 c.loop-node-test.true c.in_default.ensures
+    (c.from_vec.ensures ∙ (c.in_ok-here.ensures.items ∙ c.deref.ensures.value)) c.in_ok-push-2.ensures.items c.in_ok-turn_back.ensures.due
     c.loop-node.invariant
 
 pub returns : goal.returns

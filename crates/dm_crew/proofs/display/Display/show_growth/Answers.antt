@@ -1,6 +1,6 @@
 use Rattle.std.proofs.Common.{◌≡◌, ℕ, ◌≤◌, List, length, vec_len, vec_capacity, eqb-true, refl, sym, ap, subst, ◌∙◌, arith}
 use Rattle.dm_network.specs.Net.{Net}
-use Rattle.dm_places.specs.Moved.{ListsMoved}
+use Rattle.dm_marks.specs.Moved.{ListsMoved}
 use Rattle.dm_rows.specs.History.{rows_at}
 use Rattle.dm_rows.specs.Timetable.{IsLeast}
 use Rattle.dm_server.specs.declared.kept.Base.{Base}

@@ -88,3 +88,6 @@ returns-in-Err-clause-cycle g c =
     subst (λ (e : EvaluatorValue). IsRelaxedCycle net e.rows (e.path ++ c.args.decision ∷ []) c.turn_on.new.priced.live.order.cycle) c.self.view_is
     (decide_cycle net c.sound.ensures.network old was c.args.decision list c.flip_of-flip.result c.flip_of-flip.ensures.flip
     c.turn_on.new.priced.live.order.cycle c.in-Err.ensures.cycle)
+
+pub turn_on-requires-clause-open : goal.turn_on-requires-clause-open
+turn_on-requires-clause-open g c = (subst (IsEvaluatorOf c.args.net.now) (sym c.self.view_is) c.requires.evaluator).evaluates.none_fixed

@@ -10,4 +10,4 @@ returns g c =
     let was = subst (IsEvaluatorOf net) (sym c.self.view_is) c.requires in
     subst (λ (e : EvaluatorValue). IsTrue c.is_violated.result ↔ IsViolated net e.rows e.path (times_of c.args.self.now) c.args.choice) c.self.view_is
     (subst (λ (x : List ℕ). IsTrue c.is_violated.result ↔ IsViolated net c.self.inside.rows c.self.inside.path.items x c.args.choice) c.times.ensures
-    (c.is_violated.ensures c.self.inside.path.items was.changes was.pairs))
+    (c.is_violated.ensures c.self.inside.path.items (record { changes = was.changes; pairs = was.pairs })))

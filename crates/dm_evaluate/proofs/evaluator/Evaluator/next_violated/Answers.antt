@@ -1,62 +1,18 @@
-use Rattle.std.proofs.Common.{◌≡◌, ℕ, List, length, sym, ap, subst, ◌∙◌}
-use Rattle.std.specs.Prelude.{IfSome}
-use Rattle.dm_live.specs.Live.{LiveValue}
-use Rattle.dm_rows.specs.Cost.{comes_too_early}
-use Rattle.dm_evaluate.specs.Evaluator.{EvaluatorValue, IsEvaluatorOf, IsNextViolated, times_of}
-use Rattle.dm_paths.specs.Decisions.{IsOpen}
-use Rattle.dm_evaluate.specs.Inside.Marking.{AreMarksOf, Clears}
-use Rattle.dm_paths.specs.Decisions.{is_unmet_pair}
-use Rattle.dm_evaluate.proofs.Open.{behind_place, none_behind, flagged_is_open}
-use Rattle.dm_evaluate.proofs.Unkept.{marks_of_changes, marks_of_pairs, cleared_is}
+use Rattle.std.proofs.Common.{◌∙◌}
+use Rattle.dm_paths.proofs.Open.{is_within}
+use Rattle.dm_evaluate.specs.Evaluator.{times_of}
+use Rattle.dm_evaluate.proofs.Open.{behind_place, none_behind}
 use Rattle.dm_evaluate.proofs.evaluator.Evaluator.next_violated.Goals as goal
 
-pub violated_behind-requires-clause-change_marks : goal.violated_behind-requires-clause-change_marks
-violated_behind-requires-clause-change_marks g c =
-    let net = c.args.net.now in
-    let old : EvaluatorValue = record { rows = c.self.inside.rows; path = c.self.inside.path.items; changes = c.self.inside.undecided.changes.items; pairs = c.self.inside.undecided.pairs.items; priced = c.self.inside.priced; marks = record { changes = c.self.inside.marks.changes; pairs = c.self.inside.marks.pairs } } in
-    let was = subst (IsEvaluatorOf net) (sym c.self.view_is) c.requires in
-    let same : c.times-times.result.now ≡ c.self.inside.priced.live.times = c.times-times.ensures ∙ ap (λ (l : LiveValue). l.times) c.live.ensures in
-    subst (λ (x : List ℕ). AreMarksOf old.changes (comes_too_early net old.rows x) (length net.activities) old.marks.changes) (sym same)
-    (marks_of_changes net old was)
-
-pub violated_behind-requires-clause-pair_marks : goal.violated_behind-requires-clause-pair_marks
-violated_behind-requires-clause-pair_marks g c =
-    let net = c.args.net.now in
-    let old : EvaluatorValue = record { rows = c.self.inside.rows; path = c.self.inside.path.items; changes = c.self.inside.undecided.changes.items; pairs = c.self.inside.undecided.pairs.items; priced = c.self.inside.priced; marks = record { changes = c.self.inside.marks.changes; pairs = c.self.inside.marks.pairs } } in
-    let was = subst (IsEvaluatorOf net) (sym c.self.view_is) c.requires in
-    let same : c.times-times.result.now ≡ c.self.inside.priced.live.times = c.times-times.ensures ∙ ap (λ (l : LiveValue). l.times) c.live.ensures in
-    subst (λ (x : List ℕ). AreMarksOf old.pairs (is_unmet_pair net old.rows x) (length net.pairs) old.marks.pairs) (sym same)
-    (marks_of_pairs net old was)
-
-pub returns-clause-evaluator : goal.returns-clause-evaluator
-returns-clause-evaluator g c =
-    let net = c.args.net.now in
-    let old : EvaluatorValue = record { rows = c.self.inside.rows; path = c.self.inside.path.items; changes = c.self.inside.undecided.changes.items; pairs = c.self.inside.undecided.pairs.items; priced = c.self.inside.priced; marks = record { changes = c.self.inside.marks.changes; pairs = c.self.inside.marks.pairs } } in
-    let was = subst (IsEvaluatorOf net) (sym c.self.view_is) c.requires in
-    let same : c.times-times.result.now ≡ c.self.inside.priced.live.times = c.times-times.ensures ∙ ap (λ (l : LiveValue). l.times) c.live.ensures in
-    cleared_is net old was (record { changes = c.violated_behind.new.marks.changes; pairs = c.violated_behind.new.marks.pairs })
-    (subst (λ (x : List ℕ). Clears (comes_too_early net old.rows x) old.marks.changes c.violated_behind.new.marks.changes) same c.violated_behind.ensures.changes_cleared)
-    (subst (λ (x : List ℕ). Clears (is_unmet_pair net old.rows x) old.marks.pairs c.violated_behind.new.marks.pairs) same c.violated_behind.ensures.pairs_cleared)
-
-pub returns-clause-open : goal.returns-clause-open
-returns-clause-open g c =
-    let net = c.args.net.now in
-    let old : EvaluatorValue = record { rows = c.self.inside.rows; path = c.self.inside.path.items; changes = c.self.inside.undecided.changes.items; pairs = c.self.inside.undecided.pairs.items; priced = c.self.inside.priced; marks = record { changes = c.self.inside.marks.changes; pairs = c.self.inside.marks.pairs } } in
-    let was = subst (IsEvaluatorOf net) (sym c.self.view_is) c.requires in
-    subst (λ (e : EvaluatorValue). IfSome c.violated_behind.result (IsOpen net e.rows e.path)) c.self.view_is
-    (flagged_is_open net c.sound.ensures.network old.rows old.path old.changes old.pairs was.changes was.pairs c.violated_behind.result c.violated_behind.ensures.flagged)
+pub violated_behind-requires-clause-is_place : goal.violated_behind-requires-clause-is_place
+violated_behind-requires-clause-is_place g c = is_within c.args.net.now c.args.choice c.in-Some.place c.in-Some.ensures.some
 
 pub returns-in_default-clause-next : goal.returns-in_default-clause-next
 returns-in_default-clause-next g c k h =
     absurd (none_behind c.args.net.now c.sound.ensures.network c.args.self.now.rows c.args.self.now.path (times_of c.args.self.now) c.args.choice c.in_default.ensures.none k h)
 
 pub returns-clause-next : goal.returns-clause-next
-returns-clause-next g c =
-    let net = c.args.net.now in
-    let old : EvaluatorValue = record { rows = c.self.inside.rows; path = c.self.inside.path.items; changes = c.self.inside.undecided.changes.items; pairs = c.self.inside.undecided.pairs.items; priced = c.self.inside.priced; marks = record { changes = c.self.inside.marks.changes; pairs = c.self.inside.marks.pairs } } in
-    let was = subst (IsEvaluatorOf net) (sym c.self.view_is) c.requires in
-    let same : c.times-times.result.now ≡ c.self.inside.priced.live.times = c.times-times.ensures ∙ ap (λ (l : LiveValue). l.times) c.live.ensures in
-    subst (λ (e : EvaluatorValue). IsNextViolated net e.rows e.path (times_of e) c.args.choice c.violated_behind.result) c.self.view_is
-    (subst (λ (x : List ℕ). IsNextViolated net old.rows old.path x c.args.choice c.violated_behind.result) same
-    (λ k h. c.violated_behind.ensures.first old.path was.changes was.pairs
-    ∙ behind_place net c.sound.ensures.network old.rows old.path c.times-times.result.now c.args.choice c.in-Some.place c.in-Some.ensures.some k h))
+returns-clause-next g c k h =
+    c.violated_behind.ensures.first
+    ∙ behind_place c.args.net.now c.sound.ensures.network c.args.self.now.rows c.args.self.now.path (times_of c.args.self.now) c.args.choice
+    c.in-Some.place c.in-Some.ensures.some k h

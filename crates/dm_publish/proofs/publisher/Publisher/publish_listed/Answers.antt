@@ -2,7 +2,7 @@ use Rattle.std.proofs.Common.{◌<◌, ◌≤◌, ℕ, List, length, ap, subst, 
 use Rattle.std.specs.Prelude.{All}
 use Rattle.dm_cert.specs.declared.notes.Note.{Note}
 use Rattle.dm_cert.specs.Runs.{AreTrueNotes}
-use Rattle.dm_places.specs.Moved.{ListsMoved}
+use Rattle.dm_marks.specs.Moved.{ListsMoved}
 use Rattle.dm_publish.proofs.Carried.{publishes_by, keeps_last_by}
 use Rattle.dm_publish.proofs.Listed.{listed_grouped, lists_moved}
 use Rattle.dm_publish.proofs.publisher.Publisher.publish_listed.Goals as goal

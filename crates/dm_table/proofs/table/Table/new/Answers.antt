@@ -1,6 +1,6 @@
 use Rattle.std.proofs.Common.{rules, ◌≡◌, List, [], refl, ◌∙◌, ap, sym, subst, arith}
 use Rattle.dm_history.specs.Value.{HistoryValue}
-use Rattle.dm_places.specs.Places.{PlaceSetValue}
+use Rattle.dm_marks.specs.Places.{PlaceSetValue}
 use Rattle.dm_propagate.specs.Engine.{times_of}
 use Rattle.dm_rows.specs.declared.messages.Entry.{Entry}
 use Rattle.dm_rows.specs.Rows.{RowsValue}

@@ -1,0 +1,93 @@
+//! What the next answer of a feed needs of the items before it.
+ghost use Rattle.std.specs.Prelude.{◌≡◌, ◌++◌, [], ◌∷◌, ◌<◌, ◌≤◌, List, true, length};
+ghost use Rattle.dm_base.specs.declared.limits.TheConstants.{PLANS};
+ghost use Rattle.dm_feed.specs.declared.grammar.Line.{Line as Said};
+ghost use Rattle.dm_cert.specs.declared.replies.LogItem.{LogItem};
+ghost use Rattle.dm_cert.specs.declared.replies.LogItem.TheVariants.{Malformed, Answered};
+ghost use Rattle.dm_cert.specs.declared.replies.Reply.TheVariants.{Planned};
+ghost use Rattle.dm_cert.specs.Logs.{kind_of_reply, Follows};
+ghost use Rattle.dm_records.specs.Readings.{reply_of};
+ghost use Rattle.dm_check_rows.specs.Claims.{Tells};
+ghost use Rattle.dm_check_answers.specs.Judging.{IsPast, line_before, number_before};
+
+use dm_records::Answer;
+use dm_tree::Plan;
+
+/// The line and the entry number that were last, or 0, the latest plan, and how many plans there were.
+#[derive(Drop)]
+pub struct Past {
+    pub line: u32,
+    pub number: u32,
+    pub latest: Option<Plan>,
+    pub plans: usize,
+}
+
+impl Past {
+    /// No item stands before.
+    pub fn new() -> Past
+        ensures { IsPast [] result }
+    {
+        Past {
+            line: 0,
+            number: 0,
+            latest: None,
+            plans: 0,
+        }
+    }
+
+    /// Whether a line comes behind those before.
+    pub fn is_next_line(&self, line: u32) -> bool
+        ensures { (before : List LogItem) → IsPast before self.now → Tells (line_before before < line) result }
+    {
+        self.line < line
+    }
+
+    /// Whether the entry number of an answer, where it has one, is in order.
+    pub fn is_in_order(&self, answer: &Answer) -> bool
+        ensures { (before : List LogItem) → IsPast before self.now → Tells (Follows (number_before before) (kind_of_reply (reply_of answer.now))) result }
+    {
+        match answer {
+            Answer::Ok(n) => self.number < *n,
+            Answer::Read(n) => self.number <= *n,
+            Answer::Old(n) => self.number <= *n,
+            Answer::Time(n, _) => self.number <= *n,
+            Answer::Cost(n, _) => self.number <= *n,
+            Answer::Refused(n, _) => self.number <= *n,
+            Answer::NoPlan | Answer::Plans | Answer::Range(_) => true,
+        }
+    }
+
+    /// A malformed line comes behind.
+    pub fn add_malformed(&mut self, line: u32)
+        ensures { (before : List LogItem) → IsPast before self.old → IsPast (before ++ Malformed line ∷ []) self.new }
+    {
+        self.line = line;
+    }
+
+    /// An answer of one line comes behind.
+    pub fn add_answer(&mut self, line: u32, answer: &Answer)
+        ensures { (before : List LogItem) (said : Said) → IsPast before self.old → IsPast (before ++ Answered line said (reply_of answer.now) ∷ []) self.new }
+    {
+        self.line = line;
+        match answer {
+            Answer::Ok(n) => self.number = *n,
+            Answer::Read(n) => self.number = *n,
+            Answer::Old(n) => self.number = *n,
+            Answer::Time(n, _) => self.number = *n,
+            Answer::Cost(n, _) => self.number = *n,
+            Answer::Refused(n, _) => self.number = *n,
+            Answer::NoPlan | Answer::Plans | Answer::Range(_) => (),
+        }
+    }
+
+    /// A plan comes behind, where there are not all plans yet.
+    pub fn add_plan(&mut self, line: u32, plan: Plan)
+        requires { self.old.plans < PLANS }
+        ensures { (before : List LogItem) (said : Said) → IsPast before self.old → IsPast (before ++ Answered line said (Planned plan) ∷ []) self.new }
+    {
+        self.line = line;
+        self.number = plan.entry;
+        self.latest = Some(plan);
+        self.plans += 1;
+    }
+}

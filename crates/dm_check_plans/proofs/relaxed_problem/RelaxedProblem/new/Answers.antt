@@ -1,0 +1,15 @@
+use Rattle.std.proofs.Common.{ℕ, ◌≡◌, false, Bool, List, [], length, sym, ap, subst, ◌∙◌, rules}
+use Rattle.std.specs.Prelude.{replicate}
+use Rattle.dm_rows.specs.Relax.{is_relaxed_active}
+use Rattle.dm_paths.specs.Flags.{AreFlags}
+use Rattle.dm_check_plans.proofs.Turned.{begins}
+use Rattle.dm_check_plans.proofs.relaxed_problem.RelaxedProblem.new.Goals as goal
+
+pub returns-clause-problem : goal.returns-clause-problem
+returns-clause-problem c =
+    let net = c.args.net.now in
+    let rows = c.args.rows.now in
+    let none : c.in_ok-vec.field-0.items ≡ replicate c.activities.result false = search rules in
+    begins net rows _ _ c.in_ok-vec.field-0.items c.in_ok-new.field-0 c.in_ok-new-2.field-0 c.new.result.items c.new.ensures.items c.in_ok-all_undecided.ensures.changes c.in_ok-all_undecided.ensures.pairs
+    (none ∙ ap (λ (n : ℕ). replicate n false) c.activities.ensures.count) c.in_ok-new.ensures.timetable c.in_ok-new.ensures.rows
+    (subst (λ (f : List Bool). AreFlags (is_relaxed_active net rows []) (length net.activities) f) (sym c.in_ok-new.ensures.held) c.in_ok-held.ensures) c.in_ok-new-2.ensures

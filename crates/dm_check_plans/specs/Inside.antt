@@ -1,0 +1,8 @@
+pub mod Flags
+pub mod Paths
+pub mod Moves
+pub mod Violations
+pub mod Timetables
+pub mod RelaxedProblems
+pub mod Visiting
+pub mod Leaves

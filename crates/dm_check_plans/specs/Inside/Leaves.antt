@@ -1,0 +1,38 @@
+-- What the leaves of a tree carry, by place.
+use Rattle.std.specs.Prelude.{ℕ, ◌≡◌, ◌==◌, ◌<◌, nat_lt, Bool, true, false, List, length, slice_index_or}
+use Rattle.dm_tree.specs.declared.forms.Node.{Node}
+use Rattle.dm_tree.specs.declared.forms.Node.TheVariants.{Inner, Cycle, Bound, Open, Hole}
+
+abbrev pub is_open : Node → Bool
+is_open (Inner choice) = false
+is_open Cycle = false
+is_open (Bound c) = false
+is_open (Open c) = true
+is_open Hole = false
+
+-- the node carries this cost, a smaller one
+abbrev pub is_at : ℕ → Node → Bool
+is_at cost (Inner choice) = false
+is_at cost Cycle = false
+is_at cost (Bound c) = c == cost
+is_at cost (Open c) = c == cost
+is_at cost Hole = false
+
+abbrev pub is_below : ℕ → Node → Bool
+is_below cost (Inner choice) = false
+is_below cost Cycle = false
+is_below cost (Bound c) = nat_lt c cost
+is_below cost (Open c) = nat_lt c cost
+is_below cost Hole = false
+
+abbrev pub node_at : List Node → ℕ → Node
+node_at nodes k = slice_index_or nodes k Hole
+
+-- some node meets the test; none of the first n does
+pub record SomeNode (test : Node → Bool) (nodes : List Node) : Type 0 where
+  pub place : ℕ
+  pub within : place < length nodes
+  pub meets : test (node_at nodes place) ≡ true
+
+abbrev pub NoneNode : (Node → Bool) → List Node → ℕ → Type 0
+NoneNode test nodes n = (k : ℕ) → k < n → test (node_at nodes k) ≡ false

@@ -1,0 +1,48 @@
+-- The relaxed problem of a path, kept by flags.
+use Rattle.std.specs.Prelude.{ℕ, ◌≡◌, Bool, List, length}
+use Rattle.dm_network.specs.Net.{Net}
+use Rattle.dm_rows.specs.declared.messages.Decision.{Decision}
+use Rattle.dm_rows.specs.Decide.{IsChoiceList}
+use Rattle.dm_rows.specs.Relax.{is_undecided_change, is_undecided_pair, is_relaxed_active, is_relaxed_dropped}
+use Rattle.dm_rows.specs.Rows.{RowsValue}
+use Rattle.dm_tree.specs.Relaxed.{IsRelaxedLeast, IsRelaxedCycle, HasNoRelaxedCycle}
+use Rattle.dm_check_times.specs.Binding.{AreBelowLimit}
+use Rattle.dm_check_times.specs.KeptCosts.{KeptCostValue, IsKeptCostOf}
+use Rattle.dm_paths.specs.Flags.{AreFlags}
+use Rattle.dm_check_plans.specs.Inside.Timetables.{HeldTimetableValue, IsTimetableOf, AreOfRows}
+
+-- a path, which changes and which pairs it leaves undecided, what its relaxed problem charges for, its timetable with what it
+-- holds, and what the times cost that it had last
+pub record RelaxedProblemValue : Type 0 where
+  pub path : List Decision
+  pub changes : List Bool
+  pub pairs : List Bool
+  pub charged : List Bool
+  pub timetable : HeldTimetableValue
+  pub kept_cost : KeptCostValue
+
+abbrev pub times_of : RelaxedProblemValue → List ℕ
+times_of problem = problem.timetable.times
+
+-- the path decides free choices, none twice, and the flags are those of its relaxed problem
+pub record IsRelaxedProblemOf (net : Net) (rows : RowsValue) (problem : RelaxedProblemValue) : Type 0 where
+  pub is_path : IsChoiceList net rows problem.path
+  pub changes : AreFlags (is_undecided_change net rows problem.path) (length net.activities) problem.changes
+  pub pairs : AreFlags (is_undecided_pair net rows problem.path) (length net.pairs) problem.pairs
+  pub held : AreFlags (is_relaxed_active net rows problem.path) (length net.activities) problem.timetable.held
+  pub charged : AreFlags (is_relaxed_dropped net rows problem.path) (length net.activities) problem.charged
+  pub timetable : IsTimetableOf net problem.timetable
+  pub of_rows : AreOfRows net rows problem.timetable
+  pub cost : IsKeptCostOf net problem.kept_cost
+
+-- the times are the least of the relaxed problem, which has no cycle, and what they cost is kept
+pub record IsSolved (net : Net) (rows : RowsValue) (problem : RelaxedProblemValue) : Type 0 where
+  pub least : IsRelaxedLeast net rows problem.path (times_of problem)
+  pub no_cycle : HasNoRelaxedCycle net rows problem.path
+  pub below : AreBelowLimit (times_of problem)
+  pub kept : problem.kept_cost.times ≡ times_of problem
+
+-- the relaxed problem has a cycle
+pub record HasRelaxedCycle (net : Net) (rows : RowsValue) (path : List Decision) : Type 0 where
+  pub cycle : List ℕ
+  pub is_cycle : IsRelaxedCycle net rows path cycle

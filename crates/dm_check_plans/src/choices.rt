@@ -1,0 +1,127 @@
+//! The choices of a plan: which choices they are, and what they make of the rows.
+ghost use Rattle.std.specs.Prelude.{ℕ, ◌≡◌, ◌≤◌, ◌+◌, Some, All, Contains, map, IfOk, MatchBool};
+ghost use Rattle.dm_base.specs.declared.limits.TheConstants.{PENALTY};
+ghost use Rattle.dm_rows.specs.Rows.{IsSized};
+ghost use Rattle.dm_rows.specs.Reach.{ReachesFlip};
+ghost use Rattle.dm_rows.specs.Decide.{choice_of, free_choices_of, with_decisions};
+ghost use Rattle.dm_tree.specs.Plans.{whole_task, is_set, AreSomeOf, DiffersFrom, CostsWith};
+ghost use Rattle.dm_check_rows.specs.Claims.{Tells};
+ghost use Rattle.dm_check_times.specs.Timetables.{IsRoomOf};
+ghost use Rattle.dm_check_plans.specs.Inside.Paths.{AreFree, is_next};
+ghost use Rattle.dm_paths.specs.Decisions.{differs_from};
+
+use dm_base::Cost;
+use dm_check_rows::is_cost_of;
+use dm_check_times::{HeldCycle, KeptTimetable};
+use dm_network::Network;
+use dm_paths::flip_of;
+use dm_rows::{Change, Choice, Decision, Flip, Rows};
+use std::alloc::AllocError;
+
+/// Whether decisions decide some of the choices allowed, in their order and each at most once.
+pub fn are_some_of(allowed: &[Choice], decisions: &[Decision]) -> bool
+    ensures { Tells (AreSomeOf allowed.now (map choice_of decisions.now)) result }
+{
+    let mut next = 0usize;
+    for choice in allowed {
+        next = next_after(decisions, next, *choice);
+    }
+    next == decisions.len()
+}
+
+/// The place behind the decision at a place where it decides this choice, and else the place itself.
+fn next_after(decisions: &[Decision], next: usize, choice: Choice) -> usize
+    ensures { MatchBool (is_next decisions.now next choice) (result ≡ next + 1) (result ≡ next) }
+{
+    if next < decisions.len() && decisions[next].choice().is_same(choice) {
+        next + 1
+    } else {
+        next
+    }
+}
+
+/// Whether no decision is what the rows have already.
+pub fn are_all_different(net: &Network, rows: &Rows, decisions: &[Decision]) -> bool
+    requires sized { IsSized net.now rows.now }
+    requires free { AreFree net.now rows.now decisions.now }
+    ensures { (penalty budget : ℕ) → Tells (All (DiffersFrom (whole_task net.now rows.now penalty budget)) decisions.now) result }
+{
+    for decision in decisions {
+        if !is_different(net, rows, *decision) {
+            return false;
+        }
+    }
+    true
+}
+
+/// Whether a decision of a free choice is not what the rows have.
+fn is_different(net: &Network, rows: &Rows, decision: Decision) -> bool
+    requires sized { IsSized net.now rows.now }
+    requires free { Contains (free_choices_of net.now rows.now) (choice_of decision) }
+    ensures { result ≡ differs_from net.now rows.now decision }
+{
+    let flip = flip_of(net, rows, decision);
+    !is_set(rows, flip)
+}
+
+/// Whether the rows have the decision already.
+fn is_set(rows: &Rows, flip: Flip) -> bool
+    requires { ReachesFlip rows.now flip }
+    ensures { result ≡ is_set rows.now (Some flip) }
+{
+    match flip {
+        Flip::Keep { act } => rows.kept(act),
+        Flip::Drop { act } => !rows.kept(act),
+        Flip::First { pair, small } => {
+            if small {
+                rows.small_first(pair)
+            } else {
+                !rows.small_first(pair)
+            }
+        }
+    }
+}
+
+/// Whether the rows have no cycle with these decisions of free choices, and cost this.
+pub fn cost_with(
+    net: &Network,
+    penalty: u64,
+    timetable: &mut KeptTimetable,
+    rows: &Rows,
+    decisions: &[Decision],
+    cost: Cost,
+) -> Result<bool, AllocError>
+    requires sized { IsSized net.now rows.now }
+    requires room { IsRoomOf net.now timetable.old }
+    requires free { AreFree net.now rows.now decisions.now }
+    requires penalty { penalty ≤ PENALTY }
+    ensures tells { IfOk result (λ b. (budget : ℕ) → Tells (CostsWith (whole_task net.now rows.now penalty budget) decisions.now cost) b) }
+    ensures room { IsRoomOf net.now timetable.new }
+{
+    let set = match with_decisions(net, rows, decisions) {
+        Ok(set) => set,
+        Err(full) => return Err(full),
+    };
+    match timetable.fill(net, &set) {
+        Ok(()) => Ok(is_cost_of(net, &set, timetable.times(), penalty, cost)),
+        Err(HeldCycle) => Ok(false),
+    }
+}
+
+/// The rows with decisions of free choices set.
+fn with_decisions(net: &Network, rows: &Rows, decisions: &[Decision]) -> Result<Rows, AllocError>
+    requires sized { IsSized net.now rows.now }
+    requires free { AreFree net.now rows.now decisions.now }
+    ensures set { IfOk result (λ set. set ≡ with_decisions net.now rows.now decisions.now) }
+    ensures sized { IfOk result (IsSized net.now) }
+{
+    let mut set = match rows.copy() {
+        Ok(set) => set,
+        Err(full) => return Err(full),
+    };
+    for decision in decisions {
+        let flip = flip_of(net, rows, *decision);
+        set.apply(&Change::Flipped(flip));
+    }
+    Ok(set)
+}

@@ -1,0 +1,161 @@
+//! The relaxed problem of a path, as decisions are made and taken back.
+ghost use Rattle.std.specs.Prelude.{ℕ, ◌≡◌, ◌≤◌, ◌++◌, [], ◌∷◌, List, IsTrue, ◌↔◌, length, IfOk, IfSome, IfNone, OnOk, OnErr};
+ghost use Rattle.dm_base.specs.declared.limits.TheConstants.{PENALTY};
+ghost use Rattle.dm_rows.specs.Rows.{IsSized};
+ghost use Rattle.dm_rows.specs.Decide.{choice_of};
+ghost use Rattle.dm_tree.specs.Relaxed.{relaxed_cost_of, IsViolated};
+ghost use Rattle.dm_check_rows.specs.Claims.{Tells};
+ghost use Rattle.dm_paths.specs.Decisions.{IsOpen};
+ghost use Rattle.dm_check_plans.specs.Inside.RelaxedProblems.{IsRelaxedProblemOf, IsSolved, HasRelaxedCycle, times_of};
+ghost use Rattle.dm_check_plans.specs.Inside.Violations.{IsSomeViolated};
+
+use crate::held_timetable::HeldTimetable;
+use crate::turning::turn;
+use crate::violations::{is_any_violated, is_violated};
+use dm_base::Cost;
+use dm_check_times::{HeldCycle, KeptCost};
+use dm_network::Network;
+use dm_paths::{Undecided, all_undecided, binding_flags, flip_of};
+use dm_rows::{Choice, Decision, Rows};
+use std::alloc::{AllocError, Global};
+use std::marker::Model;
+
+/// A path of decisions over rows, with what its relaxed problem holds and charges for. Its calls take the network and the rows
+/// for which it was made.
+#[derive(Drop)]
+pub struct RelaxedProblem {
+    path: Vec<Decision>,
+    undecided: Undecided,
+    charged: Vec<bool>,
+    timetable: HeldTimetable,
+    kept_cost: KeptCost,
+}
+
+impl Model for RelaxedProblem {
+    ghost use Rattle.dm_check_plans.specs.Inside.RelaxedProblems.{RelaxedProblemValue};
+
+    ghost Value = { RelaxedProblemValue };
+
+    ghost view = { λ r. record { path = r.path.items; changes = r.undecided.changes.items; pairs = r.undecided.pairs.items; charged = r.charged.items; timetable = r.timetable; kept_cost = r.kept_cost } };
+
+    ghost invariant = { λ r. Unit {0} };
+}
+
+impl RelaxedProblem {
+    /// The path without a decision.
+    pub fn new(alloc: Global, net: &Network, rows: &Rows) -> Result<RelaxedProblem, AllocError>
+        requires { IsSized net.now rows.now }
+        ensures problem { IfOk result (IsRelaxedProblemOf net.now rows.now) }
+        ensures path { IfOk result (λ problem. problem.path ≡ []) }
+    {
+        let held = binding_flags(alloc, net, rows)?;
+        Ok(RelaxedProblem {
+            path: Vec::new(alloc),
+            undecided: all_undecided(alloc, net, rows)?,
+            charged: vec![in alloc; false; net.activities()]?,
+            timetable: HeldTimetable::new(alloc, net, rows, held)?,
+            kept_cost: KeptCost::new(alloc, net)?,
+        })
+    }
+
+    /// Computes the least times of the relaxed problem. `Err` comes exactly where it has a cycle. It takes no memory.
+    pub fn solve(&mut self, net: &Network, rows: &Rows) -> Result<(), HeldCycle>
+        requires sized { IsSized net.now rows.now }
+        requires problem { IsRelaxedProblemOf net.now rows.now self.old }
+        ensures problem { IsRelaxedProblemOf net.now rows.now self.new }
+        ensures path { self.new.path ≡ self.old.path }
+        ensures solved { OnOk result (IsSolved net.now rows.now self.new) }
+        ensures cyclic { OnErr result (HasRelaxedCycle net.now rows.now self.old.path) }
+    {
+        match self.timetable.settle(net, rows) {
+            Ok(()) => {
+                self.kept_cost.follow(net, self.timetable.times());
+                Ok(())
+            }
+            Err(HeldCycle) => Err(HeldCycle),
+        }
+    }
+
+    /// Decides a choice that is free and that the path leaves undecided. The times are then those of before.
+    pub fn decide(
+        &mut self,
+        net: &Network,
+        rows: &Rows,
+        decision: Decision,
+    ) -> Result<(), AllocError>
+        requires sized { IsSized net.now rows.now }
+        requires problem { IsRelaxedProblemOf net.now rows.now self.old }
+        requires open { IsOpen net.now rows.now self.old.path (choice_of decision) }
+        ensures problem { OnOk result (IsRelaxedProblemOf net.now rows.now self.new) }
+        ensures path { OnOk result (self.new.path ≡ self.old.path ++ decision ∷ []) }
+    {
+        net.sound();
+        let flip = flip_of(net, rows, decision);
+        turn(net, flip, true, &mut self.timetable, &mut self.charged);
+        self.undecided.set(flip, false);
+        let Ok(()) = self.path.push(decision) else {
+            return Err(AllocError);
+        };
+        Ok(())
+    }
+
+    /// Takes the last decision back, where there is one. The times are then those of before.
+    pub fn take_back(&mut self, net: &Network, rows: &Rows) -> Option<Decision>
+        requires sized { IsSized net.now rows.now }
+        requires problem { IsRelaxedProblemOf net.now rows.now self.old }
+        ensures problem { IsRelaxedProblemOf net.now rows.now self.new }
+        ensures path { IfSome result (λ d. self.old.path ≡ self.new.path ++ d ∷ []) }
+        ensures open { IfSome result (λ d. IsOpen net.now rows.now self.new.path (choice_of d)) }
+        ensures none { IfNone result (self.old.path ≡ []) }
+        ensures same { IfNone result (self.new ≡ self.old) }
+    {
+        net.sound();
+        match self.path.pop() {
+            Some(decision) => {
+                let flip = flip_of(net, rows, decision);
+                turn(net, flip, false, &mut self.timetable, &mut self.charged);
+                self.undecided.set(flip, true);
+                Some(decision)
+            }
+            None => None,
+        }
+    }
+
+    /// The relaxed cost, where the times are the least ones.
+    pub fn cost(&self, net: &Network, rows: &Rows, penalty: u64) -> Cost
+        requires sized { IsSized net.now rows.now }
+        requires problem { IsRelaxedProblemOf net.now rows.now self.now }
+        requires solved { IsSolved net.now rows.now self.now }
+        requires penalty { penalty ≤ PENALTY }
+        ensures { result ≡ relaxed_cost_of net.now rows.now self.now.path (times_of self.now) penalty }
+    {
+        self.kept_cost
+            .cost_charging(net, rows, &self.charged, penalty)
+    }
+
+    /// Whether a choice is undecided and violated, where the times are the least ones.
+    pub fn is_violated(&self, net: &Network, rows: &Rows, choice: Choice) -> bool
+        requires sized { IsSized net.now rows.now }
+        requires problem { IsRelaxedProblemOf net.now rows.now self.now }
+        requires solved { IsSolved net.now rows.now self.now }
+        ensures { IsTrue result ↔ IsViolated net.now rows.now self.now.path (times_of self.now) choice }
+    {
+        is_violated(net, rows, &self.undecided, self.timetable.times(), choice)
+    }
+
+    /// Whether some undecided choice is violated, where the times are the least ones.
+    pub fn is_any_violated(&self, net: &Network, rows: &Rows) -> bool
+        requires sized { IsSized net.now rows.now }
+        requires problem { IsRelaxedProblemOf net.now rows.now self.now }
+        requires solved { IsSolved net.now rows.now self.now }
+        ensures { Tells (IsSomeViolated net.now rows.now self.now.path (times_of self.now)) result }
+    {
+        is_any_violated(
+            net,
+            rows,
+            &self.undecided,
+            self.kept_cost.changes(),
+            self.timetable.times(),
+        )
+    }
+}

@@ -1,0 +1,94 @@
+//! What a decision holds and charges for, flagged or no longer.
+ghost use Rattle.std.specs.Prelude.{ℕ, ◌≡◌, ◌<◌, true, length, slice_set, MatchBool};
+ghost use Rattle.dm_network.specs.Net.{activity_at};
+ghost use Rattle.dm_network.specs.Start.{first_event};
+ghost use Rattle.dm_rows.specs.Relax.{is_of_pair};
+ghost use Rattle.dm_check_plans.specs.Inside.Flags.{AreSetWhere};
+ghost use Rattle.dm_check_plans.specs.Inside.Timetables.{IsTimetableOf, KeepsSpans};
+ghost use Rattle.dm_paths.specs.Decisions.{is_directed, is_held_by, is_charged_by, ReachesNet};
+
+use crate::held_timetable::HeldTimetable;
+use dm_check_times::row_out_of;
+use dm_network::Network;
+use dm_rows::Flip;
+
+/// Makes held and flags what a decision holds and charges for, or lets it go and takes the flags away.
+pub fn turn(
+    net: &Network,
+    flip: Flip,
+    value: bool,
+    timetable: &mut HeldTimetable,
+    charged: &mut [bool],
+)
+    requires reaches { ReachesNet net.now flip }
+    requires timetable { IsTimetableOf net.now timetable.old }
+    requires charged { length charged.old ≡ length net.now.activities }
+    ensures timetable { IsTimetableOf net.now timetable.new }
+    ensures keeps { KeepsSpans timetable.old timetable.new }
+    ensures held { AreSetWhere (is_held_by net.now flip) value (length net.now.activities) timetable.old.held timetable.new.held }
+    ensures charged { AreSetWhere (is_charged_by flip) value (length net.now.activities) charged.old charged.new }
+{
+    match flip {
+        Flip::Keep { act } => timetable.hold(net, act, value),
+        Flip::Drop { act } => charged[act] = value,
+        Flip::First { pair, small } => {
+            let first = first_event(net, pair, small);
+            turn_direction(net, pair, first, value, timetable);
+        }
+    }
+}
+
+/// Makes the headways of a pair out of one of its events held, or lets them go.
+fn turn_direction(
+    net: &Network,
+    pair: usize,
+    tail: usize,
+    value: bool,
+    timetable: &mut HeldTimetable,
+)
+    requires is_event { tail < length net.now.events }
+    requires timetable { IsTimetableOf net.now timetable.old }
+    ensures timetable { IsTimetableOf net.now timetable.new }
+    ensures keeps { KeepsSpans timetable.old timetable.new }
+    ensures held { AreSetWhere (is_directed net.now pair tail) value (length net.now.activities) timetable.old.held timetable.new.held }
+{
+    let row = row_out_of(net, tail);
+    for a in row {
+        turn_one(net, pair, *a, value, timetable);
+    }
+}
+
+/// Makes an activity held, or lets it go, where it is a headway of a pair.
+fn turn_one(net: &Network, pair: usize, a: usize, value: bool, timetable: &mut HeldTimetable)
+    requires is_activity { a < length net.now.activities }
+    requires timetable { IsTimetableOf net.now timetable.old }
+    ensures timetable { IsTimetableOf net.now timetable.new }
+    ensures keeps { KeepsSpans timetable.old timetable.new }
+    ensures held { MatchBool (is_of_pair pair (activity_at net.now a).pair) (timetable.new.held ≡ slice_set timetable.old.held a value) (timetable.new.held ≡ timetable.old.held) }
+{
+    if is_headway_of(net, a, pair) {
+        timetable.hold(net, a, value);
+    }
+}
+
+/// Whether the activity is a headway of the pair.
+pub fn is_headway_of(net: &Network, a: usize, pair: usize) -> bool
+    requires { a < length net.now.activities }
+    ensures { result ≡ is_of_pair pair (activity_at net.now a).pair }
+{
+    match net.activity(a).pair {
+        None => false,
+        Some(its) => its == pair,
+    }
+}
+
+/// The event that goes first in a pair.
+fn first_event(net: &Network, pair: usize, small: bool) -> usize
+    requires { pair < length net.now.pairs }
+    ensures first { result ≡ first_event net.now pair small }
+    ensures is_event { result < length net.now.events }
+{
+    net.sound();
+    let pair = net.pair(pair);
+    if small { pair.small } else { pair.large }
+}

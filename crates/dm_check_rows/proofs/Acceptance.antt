@@ -1,0 +1,69 @@
+-- Whether a message is accepted.
+use Rattle.std.proofs.Common.{◌≡◌, ℕ, Bool, true, false, List, Some, refl, sym, ap, subst, ◌∙◌, inl, inr, Result, Ok, Err}
+use Rattle.std.specs.Prelude.{IfOk, OnOk}
+use Rattle.dm_network.specs.Net.{Net}
+use Rattle.dm_network.specs.Held.{ids_of}
+use Rattle.dm_rows.specs.declared.messages.Message.{Message}
+use Rattle.dm_rows.specs.declared.messages.Change.{Change}
+use Rattle.dm_rows.specs.declared.messages.Refusal.{Refusal}
+use Rattle.dm_rows.specs.declared.messages.Refusal.TheVariants.{Cycle, OutOfMemory}
+use Rattle.dm_rows.specs.Rows.{RowsValue, IsSized}
+use Rattle.dm_rows.specs.Active.{HasNoCycle}
+use Rattle.dm_rows.specs.Resolve.{after, after_change, after_named, change_named}
+use Rattle.dm_rows.specs.Refuse.{RefusesAdmission, PassesAtOnce, IsNow}
+use Rattle.dm_check_rows.specs.Claims.{IsAccepted, IsKnownFree, IsKept, AreCheckedRowsOf, TellsAcceptance}
+use Rattle.dm_schedule.specs.Schedule.{IsScheduleOf}
+use Rattle.dm_schedule.specs.declared.schedule.Scheduled.{Scheduled}
+use Rattle.dm_check_times.specs.KeptCosts.{KeptCostValue, IsKeptCostOf}
+use Rattle.dm_check_times.specs.Timetables.{KeptTimetableValue, IsRoomOf, IsSettledFor}
+use Rattle.dm_rows.specs.Harmless.{IsHarmless}
+use Rattle.dm_check_rows.proofs.AtOnce.{refuses_at_once}
+use Rattle.dm_rows.proofs.Harmless.{never_make_cycles}
+
+pub after_is : (net : Net) (rows new : RowsValue) (m : Message) (change : Change) → change_named net m ≡ Some change → new ≡ after_change rows change → new ≡ after net rows m
+after_is net rows new m change named is = is ∙ sym (ap (after_named rows) named)
+
+refused_first : (net : Net) (rows : RowsValue) (n : ℕ) (m : Message) (r : Refusal) → RefusesAdmission net rows m r → (r ≡ OutOfMemory → ⊥) → IsAccepted net rows n m → ⊥
+refused_first net rows n m r (inl once) memory accepted = accepted r (refuses_at_once net rows n m r once)
+refused_first net rows n m r (inr want) memory accepted = memory want.1
+
+pub refused_tells : {E : Type 0} (net : Net) (rows new : RowsValue) (n : ℕ) (m : Message) (r : Refusal) (result : Result Bool E) → RefusesAdmission net rows m r → IfOk result (λ b. b ≡ false) →
+    OnOk result (r ≡ OutOfMemory → ⊥) → IfOk result (TellsAcceptance net rows new n m)
+refused_tells net rows new n m r (Ok b) refuses is_no memory = subst (λ (x : Bool). TellsAcceptance net rows new n m x) (sym is_no) (refused_first net rows n m r refuses memory)
+refused_tells net rows new n m r (Err fault) refuses is_no memory = tt
+
+pub refused_cycle : (net : Net) (rows new : RowsValue) (n : ℕ) (m : Message) → new ≡ after net rows m → PassesAtOnce net rows m → (IsNow m → ⊥) → (HasNoCycle net new → ⊥) → IsAccepted net rows n m → ⊥
+refused_cycle net rows new n m is passes other cyclic accepted =
+    cyclic (subst (λ (x : RowsValue). HasNoCycle net x) (sym is)
+    (λ cycle c. accepted (Cycle (ids_of net cycle)) (passes, other, record { places = cycle; is_cycle = c; named = refl })))
+
+-- what is known of the rows before a message that makes no cycle is known after it
+pub stays_known : (net : Net) (rows : RowsValue) (m : Message) (known : Bool) → IsHarmless m → IsKnownFree net rows known → IsKnownFree net (after net rows m) known
+stays_known net rows m known harmless free is_known = never_make_cycles net rows m harmless (free is_known)
+
+-- the rows after a message, with what is known of them
+pub entered : (net : Net) (m : Message) (change : Change) (was now : RowsValue) (known stays kept still : Bool) (t new : KeptTimetableValue) (cost : KeptCostValue) (settled : Bool) (schedule : List Scheduled) →
+    AreCheckedRowsOf net (record { rows = was; is_free = known; is_kept = kept; is_settled = settled; schedule = schedule; timetable = t; kept_cost = cost }) → change_named net m ≡ Some change → now ≡ after_change was change →
+    ((rows : RowsValue) → IsKnownFree net rows known → IsKnownFree net (after net rows m) stays) → (IsSized net was → IsSized net now) → IsRoomOf net new →
+    ((before : RowsValue) → now ≡ after_change before change → IsKept net before t kept → IsKept net now new still) → AreCheckedRowsOf net (record { rows = now; is_free = stays; is_kept = still; is_settled = false; schedule = schedule; timetable = new; kept_cost = cost })
+entered net m change was now known stays kept still t new cost settled schedule stands named is free sized room keeps = record {
+  sized = sized stands.sized;
+  free = subst (λ (rows : RowsValue). IsKnownFree net rows stays) (sym (after_is net was now m change named is)) (free was stands.free);
+  schedule = stands.schedule;
+  room = room;
+  kept = keeps was is stands.kept;
+  cost = stands.cost;
+  settled = λ is. absurd cc;
+}
+
+-- rows whose least timetable is computed
+pub settles : (net : Net) (rows : RowsValue) (t : KeptTimetableValue) (cost : KeptCostValue) (schedule : List Scheduled) → IsSized net rows → IsScheduleOf net schedule → IsKeptCostOf net cost → IsSettledFor net rows t → AreCheckedRowsOf net (record { rows = rows; is_free = true; is_kept = true; is_settled = false; schedule = schedule; timetable = t; kept_cost = cost })
+settles net rows t cost schedule sized scheduled is_cost settled = record {
+  sized = sized;
+  free = λ _. settled.no_cycle;
+  schedule = scheduled;
+  room = settled.timetable.room;
+  kept = λ _. record { timetable = settled.timetable; agrees = settled.agrees };
+  cost = is_cost;
+  settled = λ is. absurd cc;
+}

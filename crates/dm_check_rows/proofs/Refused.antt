@@ -1,0 +1,71 @@
+-- Whether a message is refused as it is said to be.
+use Rattle.std.proofs.Common.{◌≡◌, ℕ, Bool, true, false, sym, subst, ◌⊎◌, inl, inr, Result, Ok, Err}
+use Rattle.std.specs.Prelude.{IfOk}
+use Rattle.dm_base.specs.declared.limits.TheConstants.{ENTRIES}
+use Rattle.dm_network.specs.Net.{Net}
+use Rattle.dm_rows.specs.declared.messages.Message.{Message}
+use Rattle.dm_rows.specs.declared.messages.Message.TheVariants as message
+use Rattle.dm_rows.specs.declared.messages.Refusal.{Refusal}
+use Rattle.dm_rows.specs.declared.messages.Refusal.TheVariants as refusal
+use Rattle.dm_rows.specs.Rows.{RowsValue}
+use Rattle.dm_rows.specs.Active.{HasNoCycle}
+use Rattle.dm_rows.specs.Resolve.{after}
+use Rattle.dm_rows.specs.Refuse.{Refuses, RefusesAtOnce, RefusesAdmission, PassesAtOnce, IsNow, IsAdopt}
+use Rattle.dm_feed.specs.Lines.{IsSaid}
+use Rattle.dm_check_rows.specs.Claims.{IsOfOneRow, Tells}
+use Rattle.dm_check_rows.proofs.AtOnce.{no_cycle_at_once, no_full_at_once, no_memory_at_once, refuses_at_once}
+use Rattle.dm_check_rows.proofs.OneCause.{one_cause}
+
+no_adopt : (m : Message) → IsSaid m → IsAdopt m → ⊥
+no_adopt (message.Adopt ds) said adopt = said
+no_adopt (message.DelayEvent e d) said adopt = adopt
+no_adopt (message.DelayActivity a d) said adopt = adopt
+no_adopt (message.Pass e t) said adopt = adopt
+no_adopt (message.Recall e) said adopt = adopt
+no_adopt (message.Keep a) said adopt = adopt
+no_adopt (message.Drop a) said adopt = adopt
+no_adopt (message.First i j) said adopt = adopt
+no_adopt (message.Now t) said adopt = adopt
+
+pub at_once : (net : Net) (rows : RowsValue) (m : Message) (r : Refusal) → IsSaid m → RefusesAdmission net rows m r → RefusesAtOnce net rows m r
+at_once net rows m r said (inl once) = once
+at_once net rows m r said (inr want) = absurd (no_adopt m said want.0)
+
+pub of_one_row : (net : Net) (rows : RowsValue) (m : Message) (r : Refusal) → RefusesAtOnce net rows m r → IsOfOneRow r
+of_one_row net rows m (refusal.Cycle ids) once = no_cycle_at_once net rows m ids once
+of_one_row net rows m (refusal.Full k) once = no_full_at_once net rows m k once
+of_one_row net rows m refusal.OutOfMemory once = no_memory_at_once net rows m once
+of_one_row net rows m (refusal.Range v) once = tt
+of_one_row net rows m (refusal.UnknownEvent e) once = tt
+of_one_row net rows m (refusal.UnknownActivity a) once = tt
+of_one_row net rows m (refusal.UnknownChange a) once = tt
+of_one_row net rows m (refusal.UnknownPair i j) once = tt
+of_one_row net rows m (refusal.Passed e t) once = tt
+of_one_row net rows m (refusal.NotPassed e) once = tt
+of_one_row net rows m (refusal.Back c) once = tt
+
+-- beside a refusal at once there is no other
+one_refusal : (net : Net) (rows : RowsValue) (n : ℕ) (m : Message) (r s : Refusal) → IsSaid m → RefusesAtOnce net rows m r → Refuses net rows n m s → r ≡ s
+one_refusal net rows n m r (refusal.Cycle ids) said once other = absurd (other.0 r once)
+one_refusal net rows n m r (refusal.Full k) said once other = absurd (other.0 r once)
+one_refusal net rows n m r refusal.OutOfMemory said once other = absurd other
+one_refusal net rows n m r s said once other = one_cause net rows m r s said once other
+
+pub told_at_once : (net : Net) (rows : RowsValue) (n : ℕ) (m : Message) (r s : Refusal) (b : Bool) → IsSaid m → RefusesAtOnce net rows m r → Tells (r ≡ s) b → Tells (Refuses net rows n m s) b
+told_at_once net rows n m r s true said once same = subst (λ (x : Refusal). Refuses net rows n m x) same (refuses_at_once net rows n m r once)
+told_at_once net rows n m r s false said once differs = λ other. differs (one_refusal net rows n m r s said once other)
+
+-- ---- after what nothing refuses at once
+
+no_cycle_then : (net : Net) (rows : RowsValue) (n : ℕ) (m : Message) → (IsNow m → ⊥) → Refuses net rows n m (refusal.Full ENTRIES) → HasNoCycle net (after net rows m)
+no_cycle_then net rows n m other refuses = by refuses.1
+  where
+    by : IsNow m ⊎ HasNoCycle net (after net rows m) → HasNoCycle net (after net rows m)
+    by (inl now) = absurd (other now)
+    by (inr none) = none
+
+pub full_told : {E : Type 0} (net : Net) (rows : RowsValue) (n : ℕ) (m : Message) (result : Result Bool E) → n ≡ ENTRIES → PassesAtOnce net rows m → (IsNow m → ⊥) →
+    IfOk result (Tells (HasNoCycle net (after net rows m))) → IfOk result (Tells (Refuses net rows n m (refusal.Full ENTRIES)))
+full_told net rows n m (Ok true) full passes other none = (passes, inr none, full, sym full)
+full_told net rows n m (Ok false) full passes other some = λ refuses. some (no_cycle_then net rows n m other refuses)
+full_told net rows n m (Err fault) full passes other told = tt

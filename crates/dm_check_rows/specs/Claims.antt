@@ -1,0 +1,102 @@
+-- What may be claimed of a network's rows.
+use Rattle.std.specs.Prelude.{ℕ, ◌≡◌, List, length, Bool, true, false, IsTrue}
+use Rattle.dm_network.specs.Net.{Net}
+use Rattle.dm_rows.specs.declared.messages.Message.{Message}
+use Rattle.dm_rows.specs.declared.messages.Refusal.{Refusal}
+use Rattle.dm_rows.specs.declared.messages.Refusal.TheVariants.{Cycle, Full, OutOfMemory}
+use Rattle.dm_rows.specs.Rows.{RowsValue, IsSized}
+use Rattle.dm_rows.specs.Active.{HasNoCycle}
+use Rattle.dm_rows.specs.Refuse.{Refuses}
+use Rattle.dm_rows.specs.Resolve.{after}
+use Rattle.dm_rows.specs.Timetable.{IsLeast, time_at}
+use Rattle.dm_schedule.specs.Schedule.{IsScheduleOf}
+use Rattle.dm_schedule.specs.declared.schedule.Scheduled.{Scheduled}
+use Rattle.dm_check_times.specs.Binding.{AreBelowLimit}
+use Rattle.dm_check_times.specs.KeptCosts.{KeptCostValue, IsKeptCostOf}
+use Rattle.dm_check_times.specs.Timetables.{KeptTimetableValue, IsRoomOf, IsTimetableOf, AgreesWith}
+
+-- nothing refuses the message at so many entries
+abbrev pub IsAccepted : Net → RowsValue → ℕ → Message → Type 0
+IsAccepted net rows n m = (r : Refusal) → Refuses net rows n m r → ⊥
+
+-- the message is accepted, and these are the rows after it
+pub record Enters (net : Net) (rows new : RowsValue) (n : ℕ) (m : Message) : Type 0 where
+  pub accepted : IsAccepted net rows n m
+  pub after_it : new ≡ after net rows m
+  pub sized : IsSized net new
+
+-- whether the message is accepted; where it is, the rows are those after it
+abbrev pub TellsAcceptance : Net → RowsValue → RowsValue → ℕ → Message → Bool → Type 0
+TellsAcceptance net rows new n m true = Enters net rows new n m
+TellsAcceptance net rows new n m false = IsAccepted net rows n m → ⊥
+
+-- ---- times and costs
+
+-- the claim holds, or it does not
+abbrev pub Tells : Type 0 → Bool → Type 0
+Tells claim true = claim
+Tells claim false = claim → ⊥
+
+-- this is the time of the event at this place in the least timetable of the rows
+pub record IsTimeOf (net : Net) (rows : RowsValue) (i time : ℕ) : Type 0 where
+  pub times : List ℕ
+  pub least : IsLeast net rows times
+  pub is_time : time ≡ time_at times i
+
+-- ---- rows as messages come
+
+-- rows, whether they are known to have no cycle, whether the timetable is kept with them, whether it is settled, the events by
+-- their scheduled times, the timetable, and what its times cost
+pub record CheckedRowsValue : Type 0 where
+  pub rows : RowsValue
+  pub is_free : Bool
+  pub is_kept : Bool
+  pub is_settled : Bool
+  pub schedule : List Scheduled
+  pub timetable : KeptTimetableValue
+  pub kept_cost : KeptCostValue
+
+-- the times that were computed last
+abbrev pub times_of : CheckedRowsValue → List ℕ
+times_of d = d.timetable.times
+
+-- the rows are known to have no cycle
+abbrev pub IsKnownFree : Net → RowsValue → Bool → Type 0
+IsKnownFree net rows known = IsTrue known → HasNoCycle net rows
+
+-- the timetable is kept with the rows
+pub record KeepsTo (net : Net) (rows : RowsValue) (t : KeptTimetableValue) : Type 0 where
+  pub timetable : IsTimetableOf net t
+  pub agrees : AgreesWith net rows t
+
+abbrev pub IsKept : Net → RowsValue → KeptTimetableValue → Bool → Type 0
+IsKept net rows t kept = IsTrue kept → KeepsTo net rows t
+
+-- the times are the rows' least ones, and what these cost is kept
+pub record IsCosted (net : Net) (rows : RowsValue) (t : KeptTimetableValue) (kept : KeptCostValue) : Type 0 where
+  pub least : IsLeast net rows t.times
+  pub early : AreBelowLimit t.times
+  pub no_cycle : HasNoCycle net rows
+  pub times : kept.times ≡ t.times
+
+abbrev pub IsSettledIf : Net → RowsValue → KeptTimetableValue → KeptCostValue → Bool → Type 0
+IsSettledIf net rows t kept settled = IsTrue settled → IsCosted net rows t kept
+
+-- the rows and the timetable are of the network, what is known of them is so
+pub record AreCheckedRowsOf (net : Net) (d : CheckedRowsValue) : Type 0 where
+  pub sized : IsSized net d.rows
+  pub free : IsKnownFree net d.rows d.is_free
+  pub schedule : IsScheduleOf net d.schedule
+  pub room : IsRoomOf net d.timetable
+  pub kept : IsKept net d.rows d.timetable d.is_kept
+  pub cost : IsKeptCostOf net d.kept_cost
+  pub settled : IsSettledIf net d.rows d.timetable d.kept_cost d.is_settled
+
+-- ---- refusals
+
+-- the refusal is no cycle, no full history and no want of memory
+abbrev pub IsOfOneRow : Refusal → Type 0
+IsOfOneRow (Cycle ids) = ⊥
+IsOfOneRow (Full k) = ⊥
+IsOfOneRow OutOfMemory = ⊥
+IsOfOneRow _ = Unit {0}

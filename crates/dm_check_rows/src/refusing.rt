@@ -1,0 +1,163 @@
+//! Whether a message is refused as it is said to be.
+ghost use Rattle.std.specs.Prelude.{◌≡◌, Some, IfOk};
+ghost use Rattle.dm_network.specs.Net.{Net};
+ghost use Rattle.dm_rows.specs.Rows.{IsSized};
+ghost use Rattle.dm_rows.specs.Active.{HasNoCycle};
+ghost use Rattle.dm_rows.specs.Reach.{Reaches};
+ghost use Rattle.dm_rows.specs.Resolve.{change_named, after, after_change};
+ghost use Rattle.dm_rows.specs.Refuse.{Refuses, PassesAtOnce};
+ghost use Rattle.dm_feed.specs.Lines.{IsSaid};
+ghost use Rattle.dm_records.specs.Readings.{reason_of};
+ghost use Rattle.dm_check_rows.specs.Claims.{AreCheckedRowsOf, IsKnownFree, Tells};
+
+use crate::checked_rows::{CheckedRows, is_now, stays_free};
+use crate::cycles::shows_cycle;
+use crate::reasons::is_said_by;
+use dm_base::limits::ENTRIES;
+use dm_check_times::{HeldCycle, KeptTimetable};
+use dm_network::Network;
+use dm_records::Reason;
+use dm_rows::{Change, Message, Rows, admit};
+use std::alloc::{AllocError, Global};
+
+/// Whether a message that a line says is refused at so many entries, and for this reason. A cycle is any of the rows after the
+/// message.
+pub fn is_refused(
+    alloc: Global,
+    net: &Network,
+    checked: &CheckedRows,
+    entries: u32,
+    message: &Message,
+    why: &Reason,
+) -> Result<bool, AllocError>
+    requires stands { AreCheckedRowsOf net.now checked.now }
+    requires said { IsSaid message.now }
+    ensures { IfOk result (Tells (Refuses net.now checked.now.rows entries message.now (reason_of why.now))) }
+{
+    is_refused_by(
+        alloc,
+        net,
+        checked.rows(),
+        checked.is_free(),
+        entries,
+        message,
+        why,
+    )
+}
+
+/// Whether these rows, which may be known to have no cycle, refuse a message at so many entries for this reason.
+fn is_refused_by(
+    alloc: Global,
+    net: &Network,
+    rows: &Rows,
+    is_free: bool,
+    entries: u32,
+    message: &Message,
+    why: &Reason,
+) -> Result<bool, AllocError>
+    requires sized { IsSized net.now rows.now }
+    requires free { IsKnownFree net.now rows.now is_free }
+    requires said { IsSaid message.now }
+    ensures { IfOk result (Tells (Refuses net.now rows.now entries message.now (reason_of why.now))) }
+{
+    match admit(alloc, net, rows, message) {
+        Ok(change) => {
+            is_refused_after(alloc, net, rows, is_free, &change, entries, message, why)
+        }
+        Err(refusal) => Ok(is_said_by(&refusal, why)),
+    }
+}
+
+/// The same of a message that nothing refuses at once, and which comes to this change of rows that may be known to have no
+/// cycle.
+fn is_refused_after(
+    alloc: Global,
+    net: &Network,
+    rows: &Rows,
+    is_free: bool,
+    change: &Change,
+    entries: u32,
+    message: &Message,
+    why: &Reason,
+) -> Result<bool, AllocError>
+    requires sized { IsSized net.now rows.now }
+    requires free { IsKnownFree net.now rows.now is_free }
+    requires named { change_named net.now message.now ≡ Some change.now }
+    requires reaches { Reaches rows.now change.now }
+    requires passes { PassesAtOnce net.now rows.now message.now }
+    ensures { IfOk result (Tells (Refuses net.now rows.now entries message.now (reason_of why.now))) }
+{
+    match why {
+        Reason::Cycle(ids) => {
+            if is_now(message) {
+                return Ok(false);
+            }
+            match rows_after(rows, change) {
+                Ok(after) => Ok(shows_cycle(net, &after, ids.as_slice())),
+                Err(AllocError) => Err(AllocError),
+            }
+        }
+        Reason::Full => {
+            if entries != ENTRIES {
+                return Ok(false);
+            }
+            if is_now(message) {
+                return Ok(true);
+            }
+            has_no_cycle_after(alloc, net, rows, is_free, change, message)
+        }
+        _ => Ok(false),
+    }
+}
+
+/// Whether the rows have no cycle after a message, which comes to this change.
+fn has_no_cycle_after(
+    alloc: Global,
+    net: &Network,
+    rows: &Rows,
+    is_free: bool,
+    change: &Change,
+    message: &Message,
+) -> Result<bool, AllocError>
+    requires sized { IsSized net.now rows.now }
+    requires free { IsKnownFree net.now rows.now is_free }
+    requires named { change_named net.now message.now ≡ Some change.now }
+    requires reaches { Reaches rows.now change.now }
+    ensures { IfOk result (Tells (HasNoCycle net.now (after net.now rows.now message.now))) }
+{
+    if stays_free(is_free, message) {
+        return Ok(true);
+    }
+    match rows_after(rows, change) {
+        Ok(after) => has_no_cycle(alloc, net, &after),
+        Err(AllocError) => Err(AllocError),
+    }
+}
+
+/// Whether the rows have no cycle.
+fn has_no_cycle(alloc: Global, net: &Network, rows: &Rows) -> Result<bool, AllocError>
+    requires { IsSized net.now rows.now }
+    ensures { IfOk result (Tells (HasNoCycle net.now rows.now)) }
+{
+    let Ok(mut timetable) = KeptTimetable::new(alloc, net) else {
+        return Err(AllocError);
+    };
+    match timetable.fill(net, rows) {
+        Ok(()) => Ok(true),
+        Err(HeldCycle) => Ok(false),
+    }
+}
+
+/// The rows after a change.
+fn rows_after(rows: &Rows, change: &Change) -> Result<Rows, AllocError>
+    requires { Reaches rows.now change.now }
+    ensures rows { IfOk result (λ after. after ≡ after_change rows.now change.now) }
+    ensures sizes { (net : Net) → IsSized net rows.now → IfOk result (IsSized net) }
+{
+    let mut after = match rows.copy() {
+        Ok(copy) => copy,
+        Err(AllocError) => return Err(AllocError),
+    };
+    after.apply(change);
+    Ok(after)
+}

@@ -1,0 +1,10 @@
+pub mod Rising
+pub mod Rounding
+pub mod OfRows
+pub mod Spreading
+pub mod Lowering
+pub mod Renewing
+pub mod OfTimetables
+pub mod Agreeing
+pub mod Kept
+pub mod Bits

@@ -1,0 +1,12 @@
+use Rattle.std.proofs.Common.{◌≡◌, ◌-◌, length}
+use Rattle.dm_check_times.specs.Inside.Spreading.{IsResetting}
+use Rattle.dm_check_times.proofs.following.reset.Given as goal
+
+abbrev pub invariant-loop-event : goal.invariant-loop-event
+invariant-loop-event l = record {
+  resetting : IsResetting l.net l.held l.floors l.start l.initial.stale l.stale l.initial.times l.times l.due;
+  as_many_due : length l.due ≡ length l.initial.due;
+}
+
+abbrev pub decreases-loop-event : goal.decreases-loop-event
+decreases-loop-event l = length l.stale - l.start

@@ -1,0 +1,9 @@
+use Rattle.dm_check_times.specs.Inside.Taking.{HasTaken}
+use Rattle.dm_check_times.specs.KeptCosts.{IsKeptCostOf}
+use Rattle.dm_check_times.proofs.kept_cost.KeptCost.follow_each.Given as goal
+
+abbrev pub invariant-loop-i : goal.invariant-loop-i
+invariant-loop-i l = record {
+  kept : IsKeptCostOf l.net l.self;
+  taken : HasTaken l.times l.self.times l.i;
+}

@@ -1,0 +1,160 @@
+//! What a timetable costs.
+ghost use Rattle.std.specs.Prelude.{ℕ, ◌≡◌, ◌+◌, ◌*◌, ◌^◌, ◌<◌, ◌≤◌, Bool, length, sum_by};
+ghost use Rattle.std.specs.List.{range_with_len};
+ghost use Rattle.dm_base.specs.declared.limits.TheConstants.{EVENTS, ACTIVITIES, WEIGHT, PENALTY};
+ghost use Rattle.dm_network.specs.Held.{is_held};
+ghost use Rattle.dm_rows.specs.Rows.{IsSized};
+ghost use Rattle.dm_rows.specs.Cost.{cost_of, event_cost, charged_weight, missed_weight, comes_too_early};
+ghost use Rattle.dm_check_times.specs.Binding.{AreBelowLimit};
+ghost use Rattle.dm_check_times.specs.KeptCosts.{is_penalized, penalized_weight};
+
+use crate::rows::span_of;
+use dm_base::{ActKind, Cost, EventKind, Milli, Secs};
+use dm_network::Network;
+use dm_rows::Rows;
+
+/// What a timetable of the rows costs. It takes no memory.
+pub fn cost_of(net: &Network, rows: &Rows, times: &[Secs], penalty: u64) -> Cost
+    requires sized { IsSized net.now rows.now }
+    requires as_many { length times.now ≡ length net.now.events }
+    requires early { AreBelowLimit times.now }
+    requires penalty { penalty ≤ PENALTY }
+    ensures { result ≡ cost_of net.now rows.now times.now penalty }
+{
+    let penalty = penalty as u128;
+    lateness_cost(net, times) + penalty * penalized_weights(net, rows, times)
+}
+
+/// What the lateness of the arrivals costs.
+pub(crate) fn lateness_cost(net: &Network, times: &[Secs]) -> Cost
+    requires as_many { length times.now ≡ length net.now.events }
+    requires early { AreBelowLimit times.now }
+    ensures cost { result ≡ sum_by (event_cost net.now times.now) (range_with_len 0 (length net.now.events)) }
+    ensures limit { result ≤ EVENTS * (WEIGHT * 2 ^ 38) }
+{
+    let mut total = 0;
+    for i in 0..net.events() {
+        total += event_cost(net, times, i);
+    }
+    total
+}
+
+/// The weight of the changes that cost the penalty.
+fn penalized_weights(net: &Network, rows: &Rows, times: &[Secs]) -> Cost
+    requires sized { IsSized net.now rows.now }
+    requires as_many { length times.now ≡ length net.now.events }
+    requires early { AreBelowLimit times.now }
+    ensures weight { result ≡ sum_by (penalized_weight net.now rows.now times.now) (range_with_len 0 (length net.now.activities)) }
+    ensures limit { result ≤ ACTIVITIES * WEIGHT }
+{
+    let mut total = 0;
+    for a in 0..net.activities() {
+        total += penalized_weight(net, rows, times, a) as u128;
+    }
+    total
+}
+
+/// What the lateness of one event costs: nothing unless it is an arrival.
+pub(crate) fn event_cost(net: &Network, times: &[Secs], i: usize) -> Cost
+    requires as_many { length times.now ≡ length net.now.events }
+    requires early { AreBelowLimit times.now }
+    requires is_event { i < length net.now.events }
+    ensures cost { result ≡ event_cost net.now times.now i }
+    ensures limit { result ≤ WEIGHT * 2 ^ 38 }
+{
+    net.sound();
+    let event = net.event(i);
+    match event.kind {
+        EventKind::Departure => 0,
+        EventKind::Arrival => {
+            let lateness = times[i].saturating_sub(event.time);
+            event.weight as u128 * lateness as u128
+        }
+    }
+}
+
+/// The weight of an activity, if it is charged for.
+pub(crate) fn charged_weight(net: &Network, charged: &[bool], a: usize) -> Milli
+    requires flags { length charged.now ≡ length net.now.activities }
+    requires is_activity { a < length net.now.activities }
+    ensures weight { result ≡ charged_weight net.now (is_held charged.now) a }
+    ensures limit { result ≤ WEIGHT }
+{
+    net.sound();
+    if charged[a] {
+        net.activity(a).weight
+    } else {
+        0
+    }
+}
+
+/// The weight of a change that its passed head has missed for good.
+pub(crate) fn missed_weight(net: &Network, rows: &Rows, times: &[Secs], a: usize) -> Milli
+    requires sized { IsSized net.now rows.now }
+    requires as_many { length times.now ≡ length net.now.events }
+    requires early { AreBelowLimit times.now }
+    requires is_activity { a < length net.now.activities }
+    ensures weight { result ≡ missed_weight net.now rows.now times.now a }
+    ensures limit { result ≤ WEIGHT }
+{
+    net.sound();
+    let activity = net.activity(a);
+    if matches!(activity.kind, ActKind::Change)
+        && rows.passed(activity.head).is_some()
+        && comes_too_early(net, rows, times, a)
+    {
+        activity.weight
+    } else {
+        0
+    }
+}
+
+/// The weight of a change that costs the penalty.
+pub(crate) fn penalized_weight(net: &Network, rows: &Rows, times: &[Secs], a: usize) -> Milli
+    requires sized { IsSized net.now rows.now }
+    requires as_many { length times.now ≡ length net.now.events }
+    requires early { AreBelowLimit times.now }
+    requires is_activity { a < length net.now.activities }
+    ensures weight { result ≡ penalized_weight net.now rows.now times.now a }
+    ensures limit { result ≤ WEIGHT }
+{
+    net.sound();
+    if is_penalized(net, rows, times, a) {
+        net.activity(a).weight
+    } else {
+        0
+    }
+}
+
+/// Whether an activity is a change that its passed head has missed, or one that is dropped and whose head has not passed.
+fn is_penalized(net: &Network, rows: &Rows, times: &[Secs], a: usize) -> bool
+    requires sized { IsSized net.now rows.now }
+    requires as_many { length times.now ≡ length net.now.events }
+    requires early { AreBelowLimit times.now }
+    requires is_activity { a < length net.now.activities }
+    ensures { result ≡ is_penalized net.now rows.now times.now a }
+{
+    net.sound();
+    let activity = net.activity(a);
+    if !matches!(activity.kind, ActKind::Change) {
+        return false;
+    }
+    if rows.passed(activity.head).is_some() {
+        comes_too_early(net, rows, times, a)
+    } else {
+        !rows.kept(a)
+    }
+}
+
+/// Whether the head of an activity comes before its tail and its span allow.
+pub fn comes_too_early(net: &Network, rows: &Rows, times: &[Secs], a: usize) -> bool
+    requires sized { IsSized net.now rows.now }
+    requires as_many { length times.now ≡ length net.now.events }
+    requires early { AreBelowLimit times.now }
+    requires is_activity { a < length net.now.activities }
+    ensures { result ≡ comes_too_early net.now rows.now times.now a }
+{
+    net.sound();
+    let activity = net.activity(a);
+    times[activity.head] < times[activity.tail] + span_of(net, rows, a)
+}

@@ -1,0 +1,238 @@
+//! Least times that follow what binds as it changes.
+ghost use Rattle.std.specs.Prelude.{ℕ, ◌≡◌, ◌+◌, ◌^◌, ◌<◌, ◌≤◌, true, false, Bool, List, length, slice_index, OnOk, OnErr};
+ghost use Rattle.dm_network.specs.Held.{arcs_of, is_held};
+ghost use Rattle.dm_graph.specs.Arcs.{HasNoCycle};
+ghost use Rattle.dm_graph.specs.Graph.{IsLeast};
+ghost use Rattle.dm_check_times.specs.Binding.{graph_with, is_due, AreBindings, MayBegin};
+ghost use Rattle.dm_marks.specs.Marked.{is_marked};
+ghost use Rattle.dm_check_times.specs.Following.{Follows};
+ghost use Rattle.dm_check_times.specs.Inside.Rising.{AreWithin};
+ghost use Rattle.dm_check_times.specs.Inside.Spreading.{HasSpread, SpreadsFrom, SpreadsTo, SpreadsAlong, IsClosed, HasReset, HasMarkedTails, MarksTail};
+
+use crate::rounds::{HeldCycle, raise};
+use crate::row::{row_into, row_out_of};
+use dm_base::Secs;
+use dm_marks::Marks;
+use dm_network::Network;
+
+/// Makes times that were least before what binds has changed the least ones again. Events are stale whose time may have become
+/// wrong by a change of their own floor or of an activity into them ([`Follows`]); they are also due. The times of these and of
+/// the events that were held to them begin anew from the floors. `Err` comes exactly where what is held has a cycle; nothing
+/// is known of times and marks then. Where it answers `Ok`, no event is stale or due. It takes no memory, and looks at what is
+/// stale or due alone.
+pub fn follow(
+    net: &Network,
+    held: &[bool],
+    spans: &[Secs],
+    floors: &[Secs],
+    times: &mut [Secs],
+    stale: &mut Marks,
+    due: &mut Marks,
+) -> Result<(), HeldCycle>
+    requires bindings { AreBindings net.now held.now spans.now }
+    requires as_many_floors { length floors.now ≡ length net.now.events }
+    requires as_many_times { length times.old ≡ length net.now.events }
+    requires as_many_stale { length stale.old ≡ length net.now.events }
+    requires as_many_due { length due.old ≡ length net.now.events }
+    requires early { AreWithin times.old (2 ^ 38) }
+    requires early_floors { AreWithin floors.now (2 ^ 38) }
+    requires follows { Follows net.now held.now spans.now floors.now times.old stale.old }
+    requires all_due { (e : ℕ) → is_marked stale.old e ≡ true → is_due due.old e ≡ true }
+    ensures least { OnOk result (IsLeast (graph_with net.now held.now spans.now (slice_index floors.now)) (slice_index times.new)) }
+    ensures cyclic { OnErr result (HasNoCycle (arcs_of net.now (is_held held.now)) → ⊥) }
+    ensures none_due { OnOk result ((e : ℕ) → is_due due.new e ≡ false) }
+    ensures none_stale { (e : ℕ) → is_marked stale.new e ≡ false }
+    ensures as_many { length times.new ≡ length net.now.events }
+    ensures as_many_stale { length stale.new ≡ length net.now.events }
+    ensures as_many_due { length due.new ≡ length net.now.events }
+{
+    spread(net, held, spans, times, stale, due);
+    reset(net, held, floors, times, stale, due);
+    raise(net, held, spans, times, due)
+}
+
+/// Makes the head of each held activity stale that its stale tail holds to its time. Events are due of which that is not known.
+fn spread(
+    net: &Network,
+    held: &[bool],
+    spans: &[Secs],
+    times: &[Secs],
+    stale: &mut Marks,
+    due: &mut Marks,
+)
+    requires bindings { AreBindings net.now held.now spans.now }
+    requires as_many_times { length times.now ≡ length net.now.events }
+    requires as_many_stale { length stale.old ≡ length net.now.events }
+    requires as_many_due { length due.old ≡ length net.now.events }
+    requires early { AreWithin times.now (2 ^ 38) }
+    requires all_due { (e : ℕ) → is_marked stale.old e ≡ true → is_due due.old e ≡ true }
+    ensures grows { (e : ℕ) → is_marked stale.old e ≡ true → is_marked stale.new e ≡ true }
+    ensures closed { IsClosed net.now held.now spans.now times.now stale.new }
+    ensures none_due { (e : ℕ) → is_due due.new e ≡ false }
+    ensures as_many_stale { length stale.new ≡ length net.now.events }
+    ensures as_many_due { length due.new ≡ length net.now.events }
+{
+    for _round in 0..net.events() {
+        spread_once(net, held, spans, times, stale, due);
+        if !due.is_any() {
+            return;
+        }
+    }
+    stale.mark_all();
+    due.clear_all();
+}
+
+/// The same, once for each event that is due.
+fn spread_once(
+    net: &Network,
+    held: &[bool],
+    spans: &[Secs],
+    times: &[Secs],
+    stale: &mut Marks,
+    due: &mut Marks,
+)
+    requires bindings { AreBindings net.now held.now spans.now }
+    requires as_many_times { length times.now ≡ length net.now.events }
+    requires as_many_stale { length stale.old ≡ length net.now.events }
+    requires as_many_due { length due.old ≡ length net.now.events }
+    requires early { AreWithin times.now (2 ^ 38) }
+    ensures spread { (before : List Bool) → HasSpread net.now held.now spans.now times.now before stale.old due.old → HasSpread net.now held.now spans.now times.now before stale.new due.new }
+    ensures as_many_stale { length stale.new ≡ length net.now.events }
+    ensures as_many_due { length due.new ≡ length net.now.events }
+{
+    net.sound();
+    let mut start = 0;
+    while let Some(event) = due.first_from(start) {
+        due.clear(event);
+        spread_from(net, held, spans, times, event, stale, due);
+        start = event + 1;
+    }
+}
+
+/// Makes the heads of the held activities out of an event stale that it holds to their times, and due where they were not.
+fn spread_from(
+    net: &Network,
+    held: &[bool],
+    spans: &[Secs],
+    times: &[Secs],
+    event: usize,
+    stale: &mut Marks,
+    due: &mut Marks,
+)
+    requires bindings { AreBindings net.now held.now spans.now }
+    requires is_event { event < length net.now.events }
+    requires as_many_times { length times.now ≡ length net.now.events }
+    requires as_many_stale { length stale.old ≡ length net.now.events }
+    requires as_many_due { length due.old ≡ length net.now.events }
+    requires early { AreWithin times.now (2 ^ 38) }
+    ensures { SpreadsFrom net.now held.now spans.now times.now event stale.old stale.new due.old due.new }
+{
+    net.sound();
+    let from = times[event];
+    let row = row_out_of(net, event);
+    for a in row {
+        spread_along(net, held, spans, times, from, *a, stale, due);
+    }
+}
+
+/// Makes the head of an activity stale and due where this is held and its tail, at this time, holds it to its time.
+fn spread_along(
+    net: &Network,
+    held: &[bool],
+    spans: &[Secs],
+    times: &[Secs],
+    from: Secs,
+    a: usize,
+    stale: &mut Marks,
+    due: &mut Marks,
+)
+    requires bindings { AreBindings net.now held.now spans.now }
+    requires is_activity { a < length net.now.activities }
+    requires as_many_times { length times.now ≡ length net.now.events }
+    requires as_many_stale { length stale.old ≡ length net.now.events }
+    requires as_many_due { length due.old ≡ length net.now.events }
+    requires early { from ≤ 2 ^ 38 }
+    ensures { SpreadsAlong net.now held.now spans.now times.now from a stale.old stale.new due.old due.new }
+{
+    net.sound();
+    if !held[a] {
+        return;
+    }
+    let head = net.activity(a).head;
+    if from + spans[a] < times[head] {
+        return;
+    }
+    make_stale(head, stale, due);
+}
+
+/// Makes an event stale and due, unless it is stale already.
+pub(crate) fn make_stale(event: usize, stale: &mut Marks, due: &mut Marks)
+    requires stale { event < length stale.old }
+    requires due { event < length due.old }
+    ensures { SpreadsTo event stale.old stale.new due.old due.new }
+{
+    if stale.is(event) {
+        return;
+    }
+    stale.mark(event);
+    due.mark(event);
+}
+
+/// Lets the times of stale events begin anew from their floors, and takes their marks away. Due are these then, and the tails of
+/// held activities into them.
+fn reset(
+    net: &Network,
+    held: &[bool],
+    floors: &[Secs],
+    times: &mut [Secs],
+    stale: &mut Marks,
+    due: &mut Marks,
+)
+    requires flags { length held.now ≡ length net.now.activities }
+    requires as_many_floors { length floors.now ≡ length net.now.events }
+    requires as_many_times { length times.old ≡ length net.now.events }
+    requires as_many_stale { length stale.old ≡ length net.now.events }
+    requires as_many_due { length due.old ≡ length net.now.events }
+    ensures reset { HasReset net.now held.now floors.now (length net.now.events) stale.old times.old times.new due.new }
+    ensures none_stale { (e : ℕ) → is_marked stale.new e ≡ false }
+    ensures as_many_stale { length stale.new ≡ length net.now.events }
+    ensures as_many_due { length due.new ≡ length net.now.events }
+{
+    net.sound();
+    let mut start = 0;
+    while let Some(event) = stale.first_from(start) {
+        stale.clear(event);
+        times[event] = floors[event];
+        due.mark(event);
+        mark_tails(net, held, event, due);
+        start = event + 1;
+    }
+}
+
+/// Makes the tails of the held activities into an event due.
+fn mark_tails(net: &Network, held: &[bool], event: usize, due: &mut Marks)
+    requires flags { length held.now ≡ length net.now.activities }
+    requires is_event { event < length net.now.events }
+    requires as_many { length due.old ≡ length net.now.events }
+    ensures { HasMarkedTails net.now held.now event due.old due.new }
+{
+    net.sound();
+    let row = row_into(net, event);
+    for a in row {
+        mark_tail(net, held, *a, due);
+    }
+}
+
+/// Makes the tail of an activity due, where this is held.
+fn mark_tail(net: &Network, held: &[bool], a: usize, due: &mut Marks)
+    requires flags { length held.now ≡ length net.now.activities }
+    requires is_activity { a < length net.now.activities }
+    requires as_many { length due.old ≡ length net.now.events }
+    ensures { MarksTail net.now held.now a due.old due.new }
+{
+    net.sound();
+    if !held[a] {
+        return;
+    }
+    due.mark(net.activity(a).tail);
+}

@@ -1,0 +1,246 @@
+//! The least timetable of rows, as these change.
+ghost use Rattle.std.specs.Prelude.{ℕ, ◌≡◌, ◌+◌, ◌^◌, ◌<◌, ◌≤◌, true, false, length, slice_index, IfOk, OnOk, OnErr};
+ghost use Rattle.dm_base.specs.declared.limits.TheConstants.{BOUND, DELAY};
+ghost use Rattle.dm_network.specs.Held.{is_held};
+ghost use Rattle.dm_rows.specs.Rows.{IsSized};
+ghost use Rattle.dm_rows.specs.Active.{HasNoCycle};
+ghost use Rattle.dm_check_times.specs.Timetables.{IsRoomOf, IsTimetableOf, IsSettledFor, AgreesWith, RenewsEvent, RenewsActivity, TakesClock};
+ghost use Rattle.dm_check_times.specs.Inside.Renewing.{IsKeptAt, IsMetAt};
+ghost use Rattle.dm_check_times.specs.Inside.Spreading.{Spreads};
+ghost use Rattle.dm_marks.specs.Marked.{is_marked};
+
+use crate::following::{follow, make_stale};
+use crate::rounds::{HeldCycle, raise};
+use crate::rows::{fill_floors, fill_spans, flag_active, floor_of, span_of};
+use dm_base::Secs;
+use dm_marks::Marks;
+use dm_network::Network;
+use dm_rows::{Rows, is_active};
+use std::alloc::{AllocError, Global};
+use std::marker::Model;
+
+/// What binds in rows, and a timetable that was least for what bound when it was computed last. What has changed since then is
+/// marked, so that the next one costs what has changed.
+#[derive(Debug, Drop)]
+pub struct KeptTimetable {
+    held: Vec<bool>,
+    spans: Vec<Secs>,
+    floors: Vec<Secs>,
+    times: Vec<Secs>,
+    stale: Marks,
+    due: Marks,
+
+    /// The clock of the rows that the floors are of.
+    clock: Secs,
+}
+
+impl Model for KeptTimetable {
+    ghost use Rattle.dm_check_times.specs.Timetables.{KeptTimetableValue};
+
+    ghost Value = { KeptTimetableValue };
+
+    ghost view = { λ t. record { held = t.held.items; spans = t.spans.items; floors = t.floors.items; times = t.times.items; stale = t.stale; due = t.due; clock = t.clock } };
+
+    ghost invariant = { λ t. Unit {0} };
+}
+
+impl KeptTimetable {
+    /// Room for a network. Nothing is known of it yet.
+    pub fn new(alloc: Global, net: &Network) -> Result<KeptTimetable, AllocError>
+        ensures { IfOk result (IsRoomOf net.now) }
+    {
+        Ok(KeptTimetable {
+            held: vec![in alloc; false; net.activities()]?,
+            spans: vec![in alloc; 0; net.activities()]?,
+            floors: vec![in alloc; 0; net.events()]?,
+            times: vec![in alloc; 0; net.events()]?,
+            stale: Marks::new(alloc, net.events())?,
+            due: Marks::new(alloc, net.events())?,
+            clock: 0,
+        })
+    }
+
+    /// The times that were computed last, in seconds.
+    pub fn times(&self) -> &[Secs]
+        ensures { result.now ≡ self.now.times }
+    {
+        &self.times
+    }
+
+    /// The time of an event that was computed last, in seconds.
+    pub fn time(&self, event: usize) -> Secs
+        requires { event < length self.now.times }
+        ensures { result ≡ slice_index self.now.times event }
+    {
+        self.times[event]
+    }
+
+    /// The floor of an event.
+    pub(crate) fn floor(&self, event: usize) -> Secs
+        requires { event < length self.now.floors }
+        ensures { result ≡ slice_index self.now.floors event }
+    {
+        self.floors[event]
+    }
+
+    /// The clock of the rows that the floors are of.
+    pub(crate) fn clock(&self) -> Secs
+        ensures { result ≡ self.now.clock }
+    {
+        self.clock
+    }
+
+    /// Whether an activity is held.
+    fn is_held(&self, a: usize) -> bool
+        requires { a < length self.now.held }
+        ensures { result ≡ is_held self.now.held a }
+    {
+        self.held[a]
+    }
+
+    /// The span of an activity.
+    fn span(&self, a: usize) -> Secs
+        requires { a < length self.now.spans }
+        ensures { result ≡ slice_index self.now.spans a }
+    {
+        self.spans[a]
+    }
+
+    /// Computes the least timetable of rows from their floors. `Err` comes exactly where they have a cycle; nothing is known of
+    /// it then. It takes no memory.
+    pub fn fill(&mut self, net: &Network, rows: &Rows) -> Result<(), HeldCycle>
+        requires sized { IsSized net.now rows.now }
+        requires room { IsRoomOf net.now self.old }
+        ensures room { IsRoomOf net.now self.new }
+        ensures settled { OnOk result (IsSettledFor net.now rows.now self.new) }
+        ensures cyclic { OnErr result (HasNoCycle net.now rows.now → ⊥) }
+    {
+        net.sound();
+        rows.is_within_limits();
+        self.clock = rows.clock();
+        flag_active(net, rows, &mut self.held);
+        fill_spans(net, rows, &mut self.spans);
+        fill_floors(net, rows, &mut self.floors);
+        self.times.copy_from_slice(&self.floors);
+        self.stale.clear_all();
+        self.due.mark_all();
+        raise(net, &self.held, &self.spans, &mut self.times, &mut self.due)
+    }
+
+    /// Computes the least timetable of the rows that it was kept with. `Err` comes exactly where they have a cycle; nothing is
+    /// known of it then. It takes no memory, and costs what has changed since the last one.
+    pub fn settle(&mut self, net: &Network, rows: &Rows) -> Result<(), HeldCycle>
+        requires timetable { IsTimetableOf net.now self.old }
+        requires agrees { AgreesWith net.now rows.now self.old }
+        ensures room { IsRoomOf net.now self.new }
+        ensures settled { OnOk result (IsSettledFor net.now rows.now self.new) }
+        ensures cyclic { OnErr result (HasNoCycle net.now rows.now → ⊥) }
+    {
+        net.sound();
+        rows.is_within_limits();
+        follow(
+            net,
+            &self.held,
+            &self.spans,
+            &self.floors,
+            &mut self.times,
+            &mut self.stale,
+            &mut self.due,
+        )
+    }
+
+    /// Takes the clock from rows, and no floor.
+    pub(crate) fn take_clock(&mut self, net: &Network, rows: &Rows)
+        requires { IsTimetableOf net.now self.old }
+        ensures timetable { IsTimetableOf net.now self.new }
+        ensures takes { TakesClock rows.now self.old self.new }
+    {
+        self.clock = rows.clock();
+    }
+
+    /// Takes the floor of an event from rows. It takes no memory.
+    pub fn renew_event(&mut self, net: &Network, rows: &Rows, event: usize)
+        requires sized { IsSized net.now rows.now }
+        requires timetable { IsTimetableOf net.now self.old }
+        requires is_event { event < length net.now.events }
+        ensures timetable { IsTimetableOf net.now self.new }
+        ensures renews { RenewsEvent net.now rows.now event self.old self.new }
+    {
+        net.sound();
+        rows.is_within_limits();
+        let floor = floor_of(net, rows, event);
+        let was = self.floor(event);
+        let time = self.time(event);
+        let stays = stays_at(was, floor, time);
+        make_stale_unless(stays, event, &mut self.stale, &mut self.due);
+        self.floors[event] = floor;
+    }
+
+    /// Takes from rows whether an activity binds, and its span. It takes no memory.
+    pub fn renew_activity(&mut self, net: &Network, rows: &Rows, a: usize)
+        requires sized { IsSized net.now rows.now }
+        requires timetable { IsTimetableOf net.now self.old }
+        requires is_activity { a < length net.now.activities }
+        ensures timetable { IsTimetableOf net.now self.new }
+        ensures renews { RenewsActivity net.now rows.now a self.old self.new }
+    {
+        net.sound();
+        rows.is_within_limits();
+        let (held, span) = (is_active(net, rows, a), span_of(net, rows, a));
+        let activity = net.activity(a);
+        let was_held = self.is_held(a);
+        let was = self.span(a);
+        let from = self.time(activity.tail);
+        let to = self.time(activity.head);
+        let stays = stays_along(was_held, was, held, span, from, to);
+        make_stale_unless(stays, activity.head, &mut self.stale, &mut self.due);
+        self.held[a] = held;
+        self.spans[a] = span;
+    }
+}
+
+/// Makes an event stale and due, unless it may keep its time.
+pub(crate) fn make_stale_unless(stays: bool, event: usize, stale: &mut Marks, due: &mut Marks)
+    requires stale { event < length stale.old }
+    requires due { event < length due.old }
+    ensures spreads { Spreads stale.old stale.new due.old due.new }
+    ensures fresh { is_marked stale.new event ≡ false → stays ≡ true }
+{
+    if stays {
+        return;
+    }
+    make_stale(event, stale, due);
+}
+
+/// Whether an event may keep its time when its floor changes.
+fn stays_at(was: Secs, floor: Secs, time: Secs) -> bool
+    ensures { result ≡ true → IsKeptAt was floor time }
+{
+    if time < floor {
+        return false;
+    }
+    was <= floor || was < time
+}
+
+/// Whether the head of an activity may keep its time when this comes to bind or no longer does, or its span changes.
+pub(crate) fn stays_along(
+    was_held: bool,
+    was: Secs,
+    held: bool,
+    span: Secs,
+    from: Secs,
+    to: Secs,
+) -> bool
+    requires short { span ≤ BOUND + DELAY }
+    requires was_short { was ≤ BOUND + DELAY }
+    requires early { from ≤ 2 ^ 38 }
+    ensures { result ≡ true → IsMetAt was_held was held span from to }
+{
+    if held && to < from + span {
+        return false;
+    }
+    if was_held && to <= from + was {
+        return held && was <= span;
+    }
+    true
+}

@@ -1,0 +1,34 @@
+//! Least times by rounds of relaxation, over activities in any order.
+//!
+//! It stands on dm_rows for what timetables and costs are, and computes them apart from all that goes along an order of
+//! events. A round raises the head of each held activity to its span after the tail, and leaves out events whose times have
+//! not risen; rounds are made until nothing changes. That more rounds than there are events have changed something comes
+//! exactly where the held activities have a cycle. Rounds may begin from any times that are not too late ([`raise`]). Times that
+//! were least may also follow what binds as it changes ([`follow`], after [`hold`]): the events that this may concern begin anew
+//! from their floors, and rounds from there. A [`KeptTimetable`] is filled from rows, or kept with them ([`keep_up`]), where a clock
+//! looks at the events that are scheduled before it. What a timetable costs is added up place by place ([`cost_of`]), or kept while
+//! its times change ([`KeptCost`]): the times are compared with those of before by blocks, and each change of trains is looked at.
+//! Memory is taken once, for a timetable and for marks. Every time is below 2^38 seconds, and every cost below 2^100 thousandths of
+//! passenger seconds.
+#![tactic(auto)]
+
+mod comparing;
+mod costing;
+mod following;
+mod holding;
+mod keeping;
+mod kept_cost;
+mod kept_timetable;
+mod rounds;
+mod row;
+mod rows;
+
+pub use costing::{comes_too_early, cost_of};
+pub use following::follow;
+pub use holding::hold;
+pub use keeping::keep_up;
+pub use kept_cost::KeptCost;
+pub use kept_timetable::KeptTimetable;
+pub use rounds::{HeldCycle, raise};
+pub use row::{row_into, row_out_of};
+pub use rows::{fill_floors, fill_spans, flag_active, floor_of, span_of};

@@ -1,5 +1,0 @@
-use Rattle.dm_claims.proofs.Acceptance.{stays_known}
-use Rattle.dm_claims.proofs.disposition.stays_free.Goals as goal
-
-pub returns-then-is_harmless : goal.returns-then-is_harmless
-returns-then-is_harmless c = λ net rows free. stays_known net rows c.args.message.now c.args.is_free (c.is_harmless.ensures c.if-is_harmless.true) free

@@ -1,2 +1,0 @@
--- States of loops: checked, and not to be believed.
-pub mod Inside

@@ -1,1 +1,0 @@
--- Nothing is defined: the contracts are in the words of the crates below.

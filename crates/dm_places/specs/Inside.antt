@@ -1,2 +1,0 @@
--- How many places are listed.
-pub mod Listing

@@ -1,0 +1,6 @@
+use Rattle.dm_priced.specs.Priced.{IsPriced}
+use Rattle.dm_propagate.specs.Inside.Sweeping.{HasPlaces}
+use Rattle.dm_propagate.proofs.sweeping.set_places.Given as goal
+
+abbrev pub invariant-loop-i : goal.invariant-loop-i
+invariant-loop-i g l = IsPriced l.net l.priced × HasPlaces l.net l.rows l.i l.priced.live

@@ -1,7 +1,0 @@
-use Rattle.std.proofs.Common.{[]}
-use Rattle.dm_rows.specs.Relax.{is_undecided_change}
-use Rattle.dm_relax.specs.Inside.Flags.{AreFlags}
-use Rattle.dm_relax.proofs.undecided.free_changes.Given as goal
-
-abbrev pub invariant-loop-a : goal.invariant-loop-a
-invariant-loop-a l = AreFlags (is_undecided_change l.net l.rows []) l.a l.flags.items

@@ -1,4 +1,0 @@
-use Rattle.dm_relaxation.proofs.row.row_into.Given as goal
-
-abbrev pub ghosts-row_into_with : goal.ghosts-row_into_with
-ghosts-row_into_with a = record { name = a.blank.name; parts = a.blank.parts }

@@ -1,6 +1,0 @@
-use Rattle.dm_settle.specs.Constraints.{arcs_given}
-use Rattle.dm_settle.specs.Inside.Pass.{HasMarked}
-use Rattle.dm_settle.proofs.pass.mark_heads.Given as goal
-
-abbrev pub invariant-loop-a : goal.invariant-loop-a
-invariant-loop-a l = HasMarked (arcs_given l.net l.constraints) l.ranks l.event l.out_of l.a-index l.initial.marks l.marks

@@ -1,0 +1,54 @@
+//! The verdict on a text, and what it says of runs.
+ghost use Rattle.std.specs.Prelude.{◌≤◌, ◌↔◌, length, IfOk};
+ghost use Rattle.dm_base.specs.declared.limits.TheConstants.{TEXT, PENALTY};
+ghost use Rattle.dm_rows.specs.Rows.{IsSized};
+ghost use Rattle.dm_feed.specs.Parts.{largest_id};
+ghost use Rattle.dm_cert.specs.Runs.{IsRunText};
+ghost use Rattle.dm_check.specs.FalseRecords.{IsVerdict};
+ghost use Rattle.dm_truth.specs.Laws.{EventIdsFit, SaysGood};
+
+use dm_check::{Verdict, check};
+use dm_network::{Event, Network};
+use dm_rows::Rows;
+use std::alloc::{AllocError, Global};
+
+/// What is told of the text of a run of this network, from these rows at the start and at this penalty, in seconds for each
+/// passenger and at most 1,000,000. It is good, with its numbers of entries and plans, exactly where the text is, in one of the
+/// versions, that of a true run; else the first record that breaks its rule is told. The text has at most 536,870,912 bytes, and
+/// nothing else is asked of it. `Err` is want of memory alone; it is taken for the network and for what the text holds.
+pub fn judge(
+    alloc: Global,
+    net: &Network,
+    start: &Rows,
+    penalty: u64,
+    text: &[u8],
+) -> Result<Verdict, AllocError>
+    requires sized { IsSized net.now start.now }
+    requires penalty { penalty ≤ PENALTY }
+    requires short { length text.now ≤ TEXT }
+    ensures verdict { IfOk result (IsVerdict net.now start.now penalty text.now) }
+    ensures good { IfOk result (λ verdict. SaysGood verdict ↔ IsRunText net.now start.now penalty text.now) }
+{
+    net.sound();
+    ids_fit(net);
+    start.is_within_limits();
+    match check(alloc, net, start, penalty, text) {
+        Ok(verdict) => Ok(verdict),
+        Err(AllocError) => Err(AllocError),
+    }
+}
+
+/// The ids of events are numbers of 32 bits. A caller learns it here.
+fn ids_fit(net: &Network)
+    ensures { EventIdsFit net.now }
+{
+    for place in 0..net.events() {
+        id_fits(net.event(place));
+    }
+}
+
+fn id_fits(event: &Event)
+    ensures { event.now.id.0 ≤ largest_id }
+{
+    let _id = event.id.0;
+}

@@ -1,5 +1,0 @@
-use Rattle.dm_verify.specs.Inside.Paths.{IsLeftToChoose}
-use Rattle.dm_verify.proofs.choices.are_some_of.Given as goal
-
-abbrev pub invariant-loop-choice : goal.invariant-loop-choice
-invariant-loop-choice l = IsLeftToChoose l.allowed l.decisions l.choice-index l.next

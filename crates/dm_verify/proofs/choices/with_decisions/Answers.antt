@@ -1,5 +1,0 @@
-use Rattle.dm_verify.proofs.Chosen.{reaches_rows}
-use Rattle.dm_verify.proofs.choices.with_decisions.Goals as goal
-
-pub apply-requires : goal.apply-requires
-apply-requires c = reaches_rows c.args.net.now c.loop-decision.set c.flip_of-flip.result c.loop-decision.invariant.sized c.flip_of-flip.ensures.reaches

@@ -1,8 +1,0 @@
-pub mod Flags
-pub mod Paths
-pub mod Moves
-pub mod Violations
-pub mod Timetables
-pub mod Relaxations
-pub mod Visiting
-pub mod Leaves
