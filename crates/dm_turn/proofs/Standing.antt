@@ -13,7 +13,7 @@ use Rattle.std.proofs.lemmas.List.Sums.{sum_by_push, sum_by-append}
 use Rattle.dm_turn.specs.Passes.{times, numbered, longer, AreEntriesOf}
 use Rattle.dm_turn.specs.Inside.Steps.{gained, left_over, cut_off, joined, shorter}
 use Rattle.dm_turn.specs.declared.view.Numbered.{Numbered}
-use Rattle.dm_turn.specs.Rule.{is_served, is_queued, has_ticket, spent, with_ticket, queued, served, owned, IsAtTurn, Fits, Stands}
+use Rattle.dm_turn.specs.Rule.{is_served, is_queued, has_ticket, spent, with_ticket, queued, served, owned, rooms, IsAtTurn, Fits, Stands}
 use Rattle.dm_turn.specs.declared.view.View.{View}
 use Rattle.dm_turn.specs.declared.view.Phase.{Phase}
 use Rattle.dm_turn.specs.declared.view.Phase.TheVariants.{Idle, Waiting, Served}
@@ -39,6 +39,28 @@ module _ {S B : Type 0} (history : S → List Entry) (base : S → B) (opened : 
 
   known : (log : List Entry) (s n : ℕ) (views : List (View B)) → Stand log s n views → Known log views
   known log s n views st = (st.place, st.knower, st.stands, st.has_room, st.whole)
+
+  -- where every view fits, and tickets, queue, own numbers and rooms are as many as before, all stands as before
+  stand_alike : (log : List Entry) (s n : ℕ) (views vs : List (View B)) → Stand log s n views
+      → ((j : ℕ) (u : View B) → get_elem? vs j ≡ some u → Fits history base opened seats log s u) → Known log vs
+      → ((k : ℕ) → with_ticket k vs ≡ with_ticket k views) → queued vs ≡ queued views → ((k : ℕ) → owned k vs ≡ owned k views)
+      → rooms vs ≡ rooms views → Stand log s n vs
+  stand_alike log s n views vs st each kn ticket line own all = record {
+    each = each;
+    place = kn.0;
+    knower = kn.1;
+    stands = kn.2;
+    has_room = kn.3;
+    whole = kn.4;
+    in_queue = λ k a b. ticket k ∙ st.in_queue k a b;
+    before_queue = λ k a. ticket k ∙ st.before_queue k a;
+    behind_queue = λ k a. ticket k ∙ st.behind_queue k a;
+    queue_length = omega (arith, line, st.queue_length);
+    once = λ k a b. own k ∙ st.once k a b;
+    none_opened = λ k a. own k ∙ st.none_opened k a;
+    none_later = λ k a. own k ∙ st.none_later k a;
+    all_rooms = all ∙ st.all_rooms;
+  }
 
   -- where two views become one, which has seen the whole history if one of them has
   known_join : (log : List Entry) (views : List (View B)) (i j : ℕ) (v w u : View B) → Known log views → get_elem? views i ≡ some v → j ≢ i
@@ -116,22 +138,10 @@ module _ {S B : Type 0} (history : S → List Entry) (base : S → B) (opened : 
         own = entries_longer v.opening v.seen log v.mine fit.seen fit.own;
         live = inr (record { room = l.room; base_is = l.base_is; opening_is = l.opening_is; seats_is = l.seats_is });
       } in
-      record {
-        each = each_set (Fits history base opened seats log s) views i w (λ j u ne e. st.each j u e) fits;
-        place = kn.0;
-        knower = kn.1;
-        stands = kn.2;
-        has_room = kn.3;
-        whole = kn.4;
-        in_queue = λ k a b. ticket k ∙ st.in_queue k a b;
-        before_queue = λ k a. ticket k ∙ st.before_queue k a;
-        behind_queue = λ k a. ticket k ∙ st.behind_queue k a;
-        queue_length = omega (arith, line, st.queue_length);
-        once = λ k a b. omega (arith, sum_set (λ (z : View B). times k z.mine) views i v w at, st.once k a b);
-        none_opened = λ k a. omega (arith, sum_set (λ (z : View B). times k z.mine) views i v w at, st.none_opened k a);
-        none_later = λ k a. omega (arith, sum_set (λ (z : View B). times k z.mine) views i v w at, st.none_later k a);
-        all_rooms = omega (arith, sum_set (λ (z : View B). z.room) views i v w at, st.all_rooms);
-      }
+      stand_alike log s n views (set views i w) st
+      (each_set (Fits history base opened seats log s) views i w (λ j u ne e. st.each j u e) fits)
+      kn ticket line (λ k. omega (arith, sum_set (λ (z : View B). times k z.mine) views i v w at))
+      (omega (arith, sum_set (λ (z : View B). z.room) views i v w at))
 
   pub stand_add : (log : List Entry) (s n : ℕ) (views : List (View B)) (i : ℕ) (v : View B) (t : ℕ) (e : Entry) → Stand log s n views → get_elem? views i ≡ some v
       → 1 ≤ v.room → v.phase ≡ Served t → served views ≤ 1 → length (history opened) ≤ length log → Stand (log ++ e ∷ []) s n (set views i (gained v e))
@@ -252,24 +262,13 @@ module _ {S B : Type 0} (history : S → List Entry) (base : S → B) (opened : 
         own = All-nil (λ (m : Numbered). (v.opening < m.number) × (slice_get v.seen (m.number - 1) ≡ Some m.entry));
         live = inr (record { room = omega arith; base_is = l.base_is; opening_is = l.opening_is; seats_is = l.seats_is });
       } in
-      record {
-        each = λ j z e. ⊎_elim
-            (λ x. each_set (Fits history base opened seats log s) views i w (λ j' u' ne x'. st.each j' u' x') left_fits j z x)
-            (λ x. subst (Fits history base opened seats log s) x right_fits) (at_snoc vs u z j e);
-        place = kn.0;
-        knower = kn.1;
-        stands = at_longer vs (u ∷ []) kn.0 kn.1 kn.2;
-        has_room = kn.3;
-        whole = kn.4;
-        in_queue = λ k a b. ticket k ∙ st.in_queue k a b;
-        before_queue = λ k a. ticket k ∙ st.before_queue k a;
-        behind_queue = λ k a. ticket k ∙ st.behind_queue k a;
-        queue_length = omega (arith, sum (λ (z : View B). one_if (is_queued z.phase)), st.queue_length);
-        once = λ k a b. own k ∙ st.once k a b;
-        none_opened = λ k a. own k ∙ st.none_opened k a;
-        none_later = λ k a. own k ∙ st.none_later k a;
-        all_rooms = omega (arith, room, sum (λ (z : View B). z.room), st.all_rooms);
-      }
+      stand_alike log s n views (vs ++ u ∷ []) st
+      (λ j z e. ⊎_elim
+      (λ x. each_set (Fits history base opened seats log s) views i w (λ j' u' ne x'. st.each j' u' x') left_fits j z x)
+      (λ x. subst (Fits history base opened seats log s) x right_fits) (at_snoc vs u z j e))
+      (kn.0, kn.1, at_longer vs (u ∷ []) kn.0 kn.1 kn.2, kn.3, kn.4) ticket
+      (omega (arith, sum (λ (z : View B). one_if (is_queued z.phase)))) own
+      (omega (arith, room, sum (λ (z : View B). z.room)))
 
   -- the longer of two beginnings is one, and both begin it
   pub longer_prefix : (xs ys log : List Entry) → IsPrefix xs log → IsPrefix ys log → IsPrefix (longer xs ys) log
@@ -339,23 +338,10 @@ module _ {S B : Type 0} (history : S → List Entry) (base : S → B) (opened : 
       let kn = known_join log views i j v w u (known log s n views st) at ne there both_room
       (λ e. longer_whole v.seen w.seen log fit.seen fit'.seen (omega (arith, ap length e, lengths.0)))
       (λ e. longer_whole v.seen w.seen log fit.seen fit'.seen (omega (arith, ap length e, lengths.1))) in
-      record {
-        each = each_set (Fits history base opened seats log s) vs j spent
-            (λ j' u' ne' x. each_set (Fits history base opened seats log s) views i u (λ j'' u'' ne'' x'. st.each j'' u'' x') fits j' u' x) spent_fits;
-        place = kn.0;
-        knower = kn.1;
-        stands = kn.2;
-        has_room = kn.3;
-        whole = kn.4;
-        in_queue = λ k a b. ticket k ∙ st.in_queue k a b;
-        before_queue = λ k a. ticket k ∙ st.before_queue k a;
-        behind_queue = λ k a. ticket k ∙ st.behind_queue k a;
-        queue_length = omega (arith, line, st.queue_length);
-        once = λ k a b. own k ∙ st.once k a b;
-        none_opened = λ k a. own k ∙ st.none_opened k a;
-        none_later = λ k a. own k ∙ st.none_later k a;
-        all_rooms = omega (arith, sum (λ (z : View B). z.room), st.all_rooms);
-      }
+      stand_alike log s n views (set vs j spent) st
+      (each_set (Fits history base opened seats log s) vs j spent
+      (λ j' u' ne' x. each_set (Fits history base opened seats log s) views i u (λ j'' u'' ne'' x'. st.each j'' u'' x') fits j' u' x) spent_fits)
+      kn ticket line own (omega (arith, sum (λ (z : View B). z.room)))
 
   -- after a join the second history is forgotten
   pub stand_settle : (log : List Entry) (s n : ℕ) (views : List (View B)) (i : ℕ) (v : View B) → Stand log s n views → get_elem? views i ≡ some v
@@ -374,19 +360,8 @@ module _ {S B : Type 0} (history : S → List Entry) (base : S → B) (opened : 
         own = fit.own;
         live = inr (record { room = l.room; base_is = l.base_is; opening_is = l.opening_is; seats_is = l.seats_is });
       } in
-      record {
-        each = each_set (Fits history base opened seats log s) views i w (λ j u ne e. st.each j u e) fits;
-        place = kn.0;
-        knower = kn.1;
-        stands = kn.2;
-        has_room = kn.3;
-        whole = kn.4;
-        in_queue = λ k a b. ticket k ∙ st.in_queue k a b;
-        before_queue = λ k a. ticket k ∙ st.before_queue k a;
-        behind_queue = λ k a. ticket k ∙ st.behind_queue k a;
-        queue_length = omega (arith, sum_set (λ (z : View B). one_if (is_queued z.phase)) views i v w at, st.queue_length);
-        once = λ k a b. omega (arith, sum_set (λ (z : View B). times k z.mine) views i v w at, st.once k a b);
-        none_opened = λ k a. omega (arith, sum_set (λ (z : View B). times k z.mine) views i v w at, st.none_opened k a);
-        none_later = λ k a. omega (arith, sum_set (λ (z : View B). times k z.mine) views i v w at, st.none_later k a);
-        all_rooms = omega (arith, sum_set (λ (z : View B). z.room) views i v w at, st.all_rooms);
-      }
+      stand_alike log s n views (set views i w) st
+      (each_set (Fits history base opened seats log s) views i w (λ j u ne e. st.each j u e) fits)
+      kn ticket (omega (arith, sum_set (λ (z : View B). one_if (is_queued z.phase)) views i v w at))
+      (λ k. omega (arith, sum_set (λ (z : View B). times k z.mine) views i v w at))
+      (omega (arith, sum_set (λ (z : View B). z.room) views i v w at))

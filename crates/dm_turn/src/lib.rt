@@ -7,6 +7,7 @@
 //! memory. That a call which waits returns is not promised.
 #![tactic(auto)]
 
+mod parking;
 mod rule;
 mod state;
 mod steps;

@@ -116,7 +116,7 @@ impl<B> Join<View<B>> for Glue {
 }
 
 /// The words and the slot of a turn, as its passes share them.
-pub type Desk<S> = Shared<Option<S>, View<<S as HasHistory>::Base>, About<S>, Lock>;
+pub type TurnTable<S> = Shared<Option<S>, View<<S as HasHistory>::Base>, About<S>, Lock>;
 
 /// A seat at a turn.
-pub type Place<S> = Seat<Option<S>, View<<S as HasHistory>::Base>>;
+pub type TurnSeat<S> = Seat<Option<S>, View<<S as HasHistory>::Base>>;

@@ -4,11 +4,10 @@ ghost use mathlib.Core.List.{IsPrefix};
 ghost use Rattle.dm_rows.specs.declared.messages.Entry.{Entry as AnEntry};
 ghost use Rattle.dm_turn.specs.Passes.{numbered, longer, AreEntriesOf, AreAllAbove};
 
+use crate::parking::Parking;
 use crate::rule::{About, Cut, Glue, Lock, Settle};
 use crate::state::HasHistory;
-use crate::steps::{
-    COUNT, SERVING, await_turn, count, draw, put_back, serve, stand_back, take_out,
-};
+use crate::steps::{COUNT, await_turn, count, draw, put_back, serve, stand_back, take_out};
 use crate::view::View;
 use atomic_table::{Refused, Seat, Table};
 use std::alloc::{AllocError, Global};
@@ -44,6 +43,7 @@ impl<S: HasHistory> Model for Pass<S> {
 #[derive(Drop)]
 pub struct Turn<S: HasHistory> {
     table: Table<Option<S>, View<S::Base>, About<S>, Lock, Global>,
+    parking: Parking,
 }
 
 impl<S: HasHistory> Model for Turn<S> {
@@ -74,6 +74,7 @@ impl<S: HasHistory> Turn<S> {
           mine = [];
         }) }
     {
+        let parking = Parking::with_bells(alloc, seats)?;
         let words = [state.entries() as u64, 0, 0];
         let about = About {
             opened: Snapshot::of(&state),
@@ -82,7 +83,7 @@ impl<S: HasHistory> Turn<S> {
         let mut slots = Vec::with_capacity(alloc, 1)?;
         slots.push(Some(state))?;
         match Table::new(alloc, &words, slots, &about) {
-            Ok((table, seat)) => Ok((Turn { table }, Pass { seat })),
+            Ok((table, seat)) => Ok((Turn { table, parking }, Pass { seat })),
             Err(Refused { slots: _ }) => Err(AllocError),
         }
     }
@@ -102,13 +103,17 @@ impl<S: HasHistory> Turn<S> {
     pub fn join(&self, pass: &mut Pass<S>, other: Pass<S>)
         requires turn { (pass.old.turn ≡ self.now.id) × (other.turn ≡ self.now.id) }
         requires idle { (pass.old.holds ≡ false) × (other.holds ≡ false) }
-        ensures joined { pass.new ≡ record pass.old { room = pass.old.room + other.room; seen = longer pass.old.seen other.seen; mine = pass.old.mine ++ other.mine } }
+        ensures joined { pass.new ≡ record pass.old {
+          room = pass.old.room + other.room;
+          seen = longer pass.old.seen other.seen;
+          mine = pass.old.mine ++ other.mine;
+        } }
         ensures prefixes { IsPrefix pass.old.seen pass.new.seen × IsPrefix other.seen pass.new.seen }
     {
         let Pass { seat } = other;
-        let desk = &self.table.shared;
-        desk.join_seat::<Glue>(&mut pass.seat, seat);
-        desk.load::<Settle>(&mut pass.seat, COUNT);
+        let table = &self.table.shared;
+        table.join_seat::<Glue>(&mut pass.seat, seat);
+        table.load::<Settle>(&mut pass.seat, COUNT);
     }
 
     /// Waits for its turn, and takes the state. The pass has then seen the whole history.
@@ -119,12 +124,12 @@ impl<S: HasHistory> Turn<S> {
         ensures later { IsPrefix pass.old.seen pass.new.seen }
         ensures base { pass.old.base ≡ Some (S.base result.state) }
     {
-        let desk = &self.table.shared;
-        stand_back(rt, desk, &mut pass.seat);
-        let ticket = draw(desk, &mut pass.seat);
-        await_turn(rt, desk, &mut pass.seat, ticket);
+        let table = &self.table.shared;
+        stand_back(rt, table, &mut pass.seat, &self.parking);
+        let ticket = draw(table, &mut pass.seat);
+        await_turn(rt, table, &mut pass.seat, &self.parking, ticket);
         Held {
-            state: take_out(desk, &mut pass.seat),
+            state: take_out(table, &mut pass.seat),
         }
     }
 
@@ -134,7 +139,11 @@ impl<S: HasHistory> Turn<S> {
         requires holds { pass.old.holds ≡ true }
         requires gained { (e : AnEntry) × (S.history held.now.state ≡ pass.old.seen ++ e ∷ []) }
         requires short { length (S.history held.now.state) < 2 ^ 32 }
-        ensures { (e : AnEntry) → S.history held.now.state ≡ pass.old.seen ++ e ∷ [] → pass.new ≡ record pass.old { seen = S.history held.now.state; mine = pass.old.mine ++ numbered (length (S.history held.now.state)) e ∷ [] } }
+        ensures { (e : AnEntry) → S.history held.now.state ≡ pass.old.seen ++ e ∷ []
+            → pass.new ≡ record pass.old {
+              seen = S.history held.now.state;
+              mine = pass.old.mine ++ numbered (length (S.history held.now.state)) e ∷ [];
+            } }
     {
         count::<S, Brand>(&self.table.shared, &mut pass.seat, &held.state);
     }
@@ -147,16 +156,16 @@ impl<S: HasHistory> Turn<S> {
         requires base { pass.old.base ≡ Some (S.base held.state) }
         ensures { pass.new ≡ record pass.old { holds = false } }
     {
-        let desk = &self.table.shared;
+        let table = &self.table.shared;
         let Held { state } = held;
-        put_back(desk, &mut pass.seat, state);
-        serve(desk, &mut pass.seat);
+        put_back(table, &mut pass.seat, state);
+        serve(table, &mut pass.seat, &self.parking);
     }
 
     /// Wakes one of the callers that stand back, which looks at the queue again. Whoever will not take the state for a while calls
     /// it, so that nobody sleeps while the state is free. Nothing that passes tell depends on it.
     pub fn rest(&self) {
-        self.table.shared.wake_one(SERVING);
+        self.parking.resting().ring_one();
     }
 
     /// Ends the turn once all other passes were joined, and gives the state back.
@@ -169,7 +178,7 @@ impl<S: HasHistory> Turn<S> {
         ensures numbers { AreAllAbove pass.opening pass.seen pass.mine }
         ensures entries { AreEntriesOf pass.opening pass.seen pass.mine }
     {
-        let Self { table } = self;
+        let Self { table, parking: _ } = self;
         let Pass { seat } = pass;
         let mut closed = table.close_with(seat);
         let slot = closed.take(0);
