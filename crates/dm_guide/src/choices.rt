@@ -2,15 +2,16 @@
 ghost use Rattle.std.specs.Prelude.{◌<◌, length};
 
 use crate::moving::Mover;
-use dm_base::ActKind;
+use dm_base::{ActKind, Secs};
 use dm_network::Network;
-use dm_rows::{Choice, Decision};
+use dm_paths::{ChoicePlace, place_of_choice};
+use dm_rows::{Choice, Decision, choice_of_pair};
 use std::alloc::{AllocError, Global};
 use std::sync::ledger::Ledger;
 
 /// A side of a choice: a change is kept or dropped, and of a pair the small or the large event is first. First comes the side
 /// of a choice's first child.
-#[derive(Clone, Copy, PartialEq, Eq, Debug)]
+#[derive(Clone, Copy, PartialEq, Eq)]
 pub enum Side {
     First,
     Second,
@@ -33,6 +34,15 @@ struct Sides {
     start: usize,
     middle: usize,
     end: usize,
+    ends: Ends,
+}
+
+/// The tail and the head of a change, or the two events of a pair, and for when the first of them is scheduled, in seconds.
+#[derive(Clone, Copy)]
+pub struct Ends {
+    pub tail: usize,
+    pub head: usize,
+    pub when: Secs,
 }
 
 /// The free choices, changes first, each in ascending place, and which activities bind on which side.
@@ -43,6 +53,9 @@ pub struct Choices {
 
     /// The number of the choice to which an activity belongs, by place.
     numbers: Vec<Option<usize>>,
+
+    /// The number of a pair's choice, by place of the pair.
+    pair_numbers: Vec<Option<usize>>,
 }
 
 impl Choices {
@@ -52,6 +65,7 @@ impl Choices {
             sides: Vec::new(alloc),
             acts: Vec::new(alloc),
             numbers: Vec::new(alloc),
+            pair_numbers: Vec::new(alloc),
         }
     }
 
@@ -108,6 +122,7 @@ impl Choices {
             start,
             middle: end,
             end,
+            ends: mover.ends(activity.tail, activity.head),
         })?;
         Ok(())
     }
@@ -122,8 +137,10 @@ impl Choices {
     {
         let choice = choice_of_pair(net, p);
         if !mover.is_open(choice) {
+            self.pair_numbers.push(None)?;
             return Ok(());
         }
+        self.pair_numbers.push(Some(self.sides.len()))?;
         let pair = net.pair(p);
         let (small, large) = (pair.small, pair.large);
         let start = self.acts.len();
@@ -136,6 +153,7 @@ impl Choices {
             start,
             middle,
             end,
+            ends: mover.ends(small, large),
         })?;
         Ok(())
     }
@@ -178,6 +196,23 @@ impl Choices {
         }
     }
 
+    /// The number of a choice, if it is free.
+    pub fn find(&self, net: &Network, choice: Choice) -> Option<usize> {
+        match place_of_choice(net, choice) {
+            Some(ChoicePlace::Change(act)) => self.number(act),
+            Some(ChoicePlace::Pair(pair)) => self.pair_numbers.get(pair).copied().flatten(),
+            None => None,
+        }
+    }
+
+    /// The two events of a choice.
+    pub fn ends(&self, i: usize) -> Option<Ends> {
+        match self.sides.get(i) {
+            Some(sides) => Some(sides.ends),
+            None => None,
+        }
+    }
+
     /// What binds on a side of a choice.
     pub fn binding(&self, i: usize, side: Side) -> &[usize] {
         let Some(sides) = self.sides.get(i) else {
@@ -194,21 +229,19 @@ impl Choices {
     }
 }
 
-/// The pair at a place as a choice.
-fn choice_of_pair(net: &Network, p: usize) -> Choice
-    requires { p < length net.now.pairs }
-{
-    net.sound();
-    let pair = net.pair(p);
-    Choice::Pair(net.event(pair.small).id, net.event(pair.large).id)
-}
-
 /// The decision for a side of a choice.
 pub fn decision_for(choice: Choice, side: Side) -> Decision {
-    match (choice, side) {
-        (Choice::Change(a), Side::First) => Decision::Keep(a),
-        (Choice::Change(a), Side::Second) => Decision::Drop(a),
-        (Choice::Pair(small, large), Side::First) => Decision::First(small, large),
-        (Choice::Pair(small, large), Side::Second) => Decision::First(large, small),
+    match side {
+        Side::First => choice.first(),
+        Side::Second => choice.second(),
+    }
+}
+
+/// The side of its choice that a decision takes.
+pub fn side_of(decision: Decision) -> Side {
+    if decision.is_first() {
+        Side::First
+    } else {
+        Side::Second
     }
 }

@@ -1,41 +1,48 @@
 //! Good choices along one path.
 
 use crate::choices::Side;
+use crate::gaining::{By, Scores, Table, try_both};
 use crate::scouting::Scout;
-use dm_base::Cost;
-use dm_rows::Decision;
-use std::alloc::AllocError;
+use std::alloc::{AllocError, Global};
 use std::sync::ledger::Ledger;
 
-/// Decisions after which nothing is violated, and what they cost.
-#[derive(Drop)]
-pub struct Found {
-    pub path: Vec<Decision>,
-    pub cost: Cost,
-}
-
-/// Goes down one path, deciding the first violated choice each time on the side that costs less, until nothing is violated. It
-/// is false where each side makes a cycle somewhere.
-pub fn dive<L: Ledger>(scout: &mut Scout<'_, L>) -> Result<bool, AllocError> {
-    for _ in 0..scout.choices().len() {
-        let Some(i) = scout.first_violated() else {
+/// Goes down one path until nothing is violated. Each time it decides the choice whose sides are furthest apart, on the side
+/// that costs less. It is false where each side makes a cycle somewhere.
+pub fn dive<L: Ledger>(
+    alloc: Global,
+    scout: &mut Scout<'_, L>,
+    root: &Table,
+) -> Result<bool, AllocError> {
+    let choices = scout.choices().len();
+    let mut table = root.copy(alloc)?;
+    let mut scores = Scores::new(alloc, By::Regret, choices)?;
+    scout.note_violated()?;
+    for _ in 0..choices.saturating_mul(2) {
+        scores.follow(scout, &table)?;
+        let Some(i) = scores.top() else {
             return Ok(true);
         };
-        let side = cheaper(scout, i)?;
-        if !scout.decide(i, side)? {
+        let is_new = table.get(i).is_none();
+        let gains = try_both(scout, i);
+        if is_new {
+            table.set(i, gains);
+            scores.look_at(scout, &table, i);
+        } else if !decide_cheaper(scout, i, gains.first <= gains.second)? {
             return Ok(false);
         }
     }
-    Ok(scout.first_violated().is_none())
+    Ok(scout.first_violated()?.is_none())
 }
 
-/// The side of a choice that costs less, or the first one where neither does.
-fn cheaper<L: Ledger>(scout: &mut Scout<'_, L>, i: usize) -> Result<Side, AllocError> {
-    let first = scout.cost_with(i, Side::First)?;
-    let second = scout.cost_with(i, Side::Second)?;
-    if first <= second {
-        Ok(Side::First)
-    } else {
-        Ok(Side::Second)
+/// Decides a choice on the cheaper side, or on the other where that makes a cycle. It is false where both do.
+pub fn decide_cheaper<L: Ledger>(
+    scout: &mut Scout<'_, L>,
+    i: usize,
+    is_first: bool,
+) -> Result<bool, AllocError> {
+    let side = if is_first { Side::First } else { Side::Second };
+    if scout.decide(i, side)? {
+        return Ok(true);
     }
+    scout.decide(i, side.other())
 }

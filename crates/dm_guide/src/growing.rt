@@ -2,17 +2,16 @@
 ghost use Rattle.std.specs.Prelude.{◌≤◌, length};
 
 use crate::choices::Side;
-use crate::diving::Found;
+use crate::gaining::{By, Gains, Scores, Table, try_both};
 use crate::scouting::Scout;
-use crate::tree::{Guide, Hint};
+use crate::tree::{Found, Guide, Hint};
 use dm_base::Cost;
+use dm_tree::Node;
 use std::alloc::{AllocError, Global};
-use std::collections::BinaryHeap;
 use std::sync::ledger::Ledger;
 
-/// Into how many bands the costs from the root up to the best choices are cut. Of the leaves in the lowest band the youngest is
-/// branched on first, since it is near the one before.
-const BANDS: Cost = 256;
+/// How many nodes are expanded best first before the rounds, and how few are left for the last round.
+const FIRST: u64 = 16;
 
 /// A node, and the last decision of its path.
 #[derive(Clone, Copy)]
@@ -26,283 +25,403 @@ struct Grown {
     /// A choice that is violated there, or the one on which it branches.
     choice: Option<usize>,
     below: Option<usize>,
+
+    /// Whether it is a leaf that may be branched on.
+    is_open: bool,
 }
 
-/// A leaf that may be branched on. The greatest is in the lowest band of costs, and of two in one band it came last.
-#[derive(Clone, Copy, PartialEq, Eq, PartialOrd, Ord)]
-struct Waiting {
-    bands_above: Cost,
+/// An open leaf, and what it costs.
+#[derive(Clone, Copy)]
+struct Leaf {
+    cost: Cost,
     node: usize,
 }
 
-/// What deciding a choice on either side added to the cost when it was tried last.
-#[derive(Clone, Copy)]
-struct Gains {
-    first: Cost,
-    second: Cost,
-}
-
+/// A tree that grows, the gains of the choices, and the best choices that it has met.
 #[derive(Drop)]
 struct Tree {
     alloc: Global,
     nodes: Vec<Grown>,
-    waiting: BinaryHeap<Waiting>,
-    gains: Vec<Option<Gains>>,
+    table: Table,
+    scores: Scores,
+    best: Found,
 
     /// The nodes from below the root down to where the scout stands.
     here: Vec<usize>,
-    best: Found,
 
-    /// What the first best choices cost more than the root.
-    gap: Cost,
+    /// How many nodes were expanded.
+    expanded: u64,
 }
 
-/// The tree of at most `budget` nodes that grows at a leaf that costs about least, and the best choices that it meets. The scout
+/// The tree of at most `budget` nodes that grows from the nodes of a tree in preorder, and the best choices that it meets. The scout
 /// stands at the root.
 pub fn grow<L: Ledger>(
     alloc: Global,
     scout: &mut Scout<'_, L>,
+    nodes: &[Node],
+    table: Table,
     best: Found,
     budget: u64,
 ) -> Result<Guide, AllocError> {
-    let mut tree = Tree::new(alloc, scout.cost(), best);
-    tree.guide(scout, budget)
+    let mut tree = Tree {
+        alloc,
+        nodes: Vec::new(alloc),
+        scores: Scores::new(alloc, By::Promise, scout.choices().len())?,
+        table,
+        best,
+        here: Vec::new(alloc),
+        expanded: 0,
+    };
+    scout.note_violated()?;
+    tree.take_up(scout, nodes)?;
+    tree.begin(scout, budget)?;
+    tree.go_on(scout, budget)?;
+    tree.told(scout)
 }
 
 impl Tree {
-    /// No node yet. The root costs this much.
-    fn new(alloc: Global, root: Cost, best: Found) -> Tree {
-        let gap = best.cost.saturating_sub(root);
-        Tree {
-            alloc,
-            nodes: Vec::new(alloc),
-            waiting: BinaryHeap::new(alloc),
-            gains: Vec::new(alloc),
-            here: Vec::new(alloc),
-            best,
-            gap,
-        }
-    }
-
-    /// Grows from the root, and says what the tree says.
-    fn guide<L: Ledger>(
+    /// Takes up the nodes of a tree.
+    fn take_up<L: Ledger>(
         &mut self,
         scout: &mut Scout<'_, L>,
-        budget: u64,
-    ) -> Result<Guide, AllocError> {
-        for _ in 0..scout.choices().len() {
-            self.gains.push(None)?;
-        }
-        self.add(scout, 0, 0, 0, Side::First)?;
-        self.grow(scout, budget)?;
-        self.told(scout)
-    }
-
-    fn grow<L: Ledger>(&mut self, scout: &mut Scout<'_, L>, budget: u64) -> Result<(), AllocError> {
-        for _ in 0..budget {
-            let Some(next) = self.waiting.pop() else {
+        nodes: &[Node],
+    ) -> Result<(), AllocError> {
+        let mut due = Vec::new(self.alloc);
+        self.add_unseen(0, 0, 0, Side::First)?;
+        due.push(0_usize)?;
+        for node in nodes {
+            let Some(at) = due.pop() else {
                 return Ok(());
             };
-            let room = self.nodes.len() as u128 + 2 <= budget as u128;
-            if !room {
-                return Ok(());
+            match *node {
+                Node::Inner(choice) => {
+                    if let Some(number) = scout.choices().find(scout.net(), choice) {
+                        let below = self.branch(at, number)?;
+                        due.push(below.saturating_add(1))?;
+                        due.push(below)?;
+                    }
+                }
+                Node::Hole => self.see(scout, at)?,
+                Node::Open(cost) => self.leave_open(at, cost),
+                Node::Cycle | Node::Bound(_) => {}
             }
-            self.expand(scout, next.node)?;
         }
         Ok(())
     }
 
-    /// Branches at a leaf, if it costs less than the best choices.
+    /// Has two children below a node, which are not seen yet, and gives the first.
+    fn branch(&mut self, node: usize, number: usize) -> Result<usize, AllocError> {
+        let below = self.nodes.len();
+        let depth = match self.nodes.get_mut(node) {
+            Some(grown) => {
+                grown.choice = Some(number);
+                grown.below = Some(below);
+                grown.is_open = false;
+                grown.depth.saturating_add(1)
+            }
+            None => 0,
+        };
+        self.add_unseen(node, depth, number, Side::First)?;
+        self.add_unseen(node, depth, number, Side::Second)?;
+        Ok(below)
+    }
+
+    /// Adds a node of which nothing is known.
+    fn add_unseen(
+        &mut self,
+        parent: usize,
+        depth: usize,
+        number: usize,
+        side: Side,
+    ) -> Result<(), AllocError> {
+        self.nodes.push(Grown {
+            parent,
+            depth,
+            number,
+            side,
+            cost: Cost::MAX,
+            choice: None,
+            below: None,
+            is_open: false,
+        })?;
+        Ok(())
+    }
+
+    fn leave_open(&mut self, node: usize, cost: Cost) {
+        if let Some(grown) = self.nodes.get_mut(node) {
+            grown.cost = cost;
+            grown.is_open = true;
+        }
+    }
+
+    /// Goes to a node and looks at it.
+    fn see<L: Ledger>(&mut self, scout: &mut Scout<'_, L>, node: usize) -> Result<(), AllocError> {
+        if self.go_to(scout, node)? {
+            self.look(scout, node)?;
+        }
+        Ok(())
+    }
+
+    /// Looks at the node where the scout stands: where nothing is violated it may be the best, else it may be branched on.
+    fn look<L: Ledger>(&mut self, scout: &mut Scout<'_, L>, node: usize) -> Result<(), AllocError> {
+        let cost = scout.cost();
+        let choice = scout.violated()?.first().copied();
+        if let Some(grown) = self.nodes.get_mut(node) {
+            grown.cost = cost;
+            grown.choice = choice;
+            grown.is_open = choice.is_some();
+        }
+        if choice.is_none() && cost < self.best.cost {
+            let path = Vec::from_slice(self.alloc, scout.path())?;
+            self.best = Found { path, cost };
+        }
+        Ok(())
+    }
+
+    /// Expands what costs least a few times, of several the youngest.
+    fn begin<L: Ledger>(
+        &mut self,
+        scout: &mut Scout<'_, L>,
+        budget: u64,
+    ) -> Result<(), AllocError> {
+        for _ in 0..FIRST.min(self.left(budget)) {
+            let mut next: Option<Leaf> = None;
+            for leaf in &self.open_leaves()? {
+                next = match next {
+                    Some(least) if is_before(least, *leaf) => Some(least),
+                    _ => Some(*leaf),
+                };
+            }
+            let Some(leaf) = next else {
+                return Ok(());
+            };
+            let _children = self.expand(scout, leaf.node)?;
+        }
+        Ok(())
+    }
+
+    /// Expands the rest in rounds, each down to a limit of costs.
+    fn go_on<L: Ledger>(
+        &mut self,
+        scout: &mut Scout<'_, L>,
+        budget: u64,
+    ) -> Result<(), AllocError> {
+        for _ in 0..budget {
+            let left = self.left(budget);
+            let leaves = self.open_leaves()?;
+            if left == 0 || leaves.is_empty() {
+                return Ok(());
+            }
+            let is_last = left <= FIRST;
+            let many = if is_last {
+                left
+            } else {
+                (left / 2).min(self.expanded.saturating_add(1) / 2)
+            };
+            let chosen = cheapest(self.alloc, &leaves, many.max(1))?;
+            let limit = if is_last { 0 } else { chosen.limit };
+            self.round(scout, chosen.nodes, limit, left)?;
+        }
+        Ok(())
+    }
+
+    /// How many nodes may still be expanded.
+    fn left(&self, budget: u64) -> u64 {
+        let nodes = self.nodes.len() as u64;
+        budget.saturating_sub(nodes) / 2
+    }
+
+    /// Expands the chosen leaves in preorder, and below them what costs less than the limit, so often at most.
+    fn round<L: Ledger>(
+        &mut self,
+        scout: &mut Scout<'_, L>,
+        chosen: Vec<usize>,
+        limit: Cost,
+        most: u64,
+    ) -> Result<(), AllocError> {
+        let mut due = chosen;
+        due.reverse();
+        for _ in 0..most {
+            let Some(node) = due.pop() else {
+                return Ok(());
+            };
+            let children = self.expand(scout, node)?;
+            for child in children.iter().rev() {
+                if let Some(grown) = self.open_at(*child) {
+                    if grown.cost < limit {
+                        due.push(*child)?;
+                    }
+                }
+            }
+        }
+        Ok(())
+    }
+
+    /// A node, if it is a leaf that may be branched on and costs less than the best.
+    fn open_at(&self, node: usize) -> Option<Grown> {
+        match self.nodes.get(node) {
+            Some(grown) if grown.is_open && grown.cost < self.best.cost => Some(*grown),
+            _ => None,
+        }
+    }
+
+    /// The open leaves that cost less than the best, in preorder.
+    fn open_leaves(&self) -> Result<Vec<Leaf>, AllocError> {
+        let mut leaves = Vec::new(self.alloc);
+        let mut due = Vec::new(self.alloc);
+        due.push(0_usize)?;
+        for _ in 0..self.nodes.len() {
+            let Some(node) = due.pop() else {
+                return Ok(leaves);
+            };
+            match self.nodes.get(node) {
+                Some(
+                    Grown {
+                        below: Some(below),
+                        ..
+                    },
+                ) => {
+                    due.push(below.saturating_add(1))?;
+                    due.push(*below)?;
+                }
+                Some(grown) if grown.is_open && grown.cost < self.best.cost => {
+                    let cost = grown.cost;
+                    leaves.push(Leaf { cost, node })?;
+                }
+                _ => {}
+            }
+        }
+        Ok(leaves)
+    }
+
+    /// Branches at an open leaf that costs less than the best, and gives its children.
     fn expand<L: Ledger>(
         &mut self,
         scout: &mut Scout<'_, L>,
         node: usize,
-    ) -> Result<(), AllocError> {
-        let Some(at) = self.nodes.get(node).copied() else {
-            return Ok(());
-        };
-        if at.cost >= self.best.cost {
-            return Ok(());
+    ) -> Result<Vec<usize>, AllocError> {
+        let mut children = Vec::new(self.alloc);
+        if self.open_at(node).is_none() {
+            return Ok(children);
         }
+        let Some(number) = self.choice_at(scout, node)? else {
+            // A cycle, or nothing is violated: it was no open leaf.
+            self.close(node);
+            return Ok(children);
+        };
+        let cost = scout.cost();
+        let below = self.branch(node, number)?;
+        let beside = below.saturating_add(1);
+        // The second first, so that the scout then stands at the first.
+        let second = self.child(scout, beside)?;
         self.go_to(scout, node)?;
-        let violated = Vec::from_slice(self.alloc, scout.violated())?;
-        self.expand_here(scout, node, at, &violated)
+        let first = self.child(scout, below)?;
+        self.table.set(number, Gains::over(cost, first, second));
+        self.scores.look_at(scout, &self.table, number);
+        self.expanded = self.expanded.saturating_add(1);
+        children.push(below)?;
+        children.push(beside)?;
+        Ok(children)
     }
 
-    /// Branches at the leaf where the scout stands, on one of these choices that are violated there.
-    fn expand_here<L: Ledger>(
+    /// Goes to a leaf, and gives the violated choice that promises most there.
+    fn choice_at<L: Ledger>(
         &mut self,
         scout: &mut Scout<'_, L>,
         node: usize,
-        at: Grown,
-        violated: &[usize],
-    ) -> Result<(), AllocError> {
-        self.try_new(scout, violated, at.cost)?;
-        let Some(number) = self.choice_of(violated, at.cost) else {
-            return Ok(());
-        };
-        let below = self.nodes.len();
-        let first = self.child(scout, node, at, number, Side::First)?;
-        let second = self.child(scout, node, at, number, Side::Second)?;
-        self.set_gains(number, first, second);
-        if let Some(grown) = self.nodes.get_mut(node) {
-            grown.choice = Some(number);
-            grown.below = Some(below);
+    ) -> Result<Option<usize>, AllocError> {
+        if self.go_to(scout, node)? {
+            self.choice_here(scout)
+        } else {
+            Ok(None)
         }
-        Ok(())
     }
 
-    /// Tries both sides of each choice that was never violated before.
-    fn try_new<L: Ledger>(
+    fn close(&mut self, node: usize) {
+        if let Some(grown) = self.nodes.get_mut(node) {
+            grown.is_open = false;
+        }
+    }
+
+    /// Goes down to a child, and gives what it costs.
+    fn child<L: Ledger>(
         &mut self,
         scout: &mut Scout<'_, L>,
-        violated: &[usize],
-        cost: Cost,
-    ) -> Result<(), AllocError> {
-        for i in violated {
-            if let Some(None) = self.gains.get(*i) {
-                let first = scout.cost_with(*i, Side::First)?;
-                let second = scout.cost_with(*i, Side::Second)?;
-                self.set_gains(*i, first.saturating_sub(cost), second.saturating_sub(cost));
+        node: usize,
+    ) -> Result<Cost, AllocError> {
+        if !self.go_down(scout, node)? {
+            return Ok(Cost::MAX);
+        }
+        self.look(scout, node)?;
+        Ok(scout.cost())
+    }
+
+    /// The violated choice that promises most where the scout stands, the first of those that promise the same.
+    fn choice_here<L: Ledger>(
+        &mut self,
+        scout: &mut Scout<'_, L>,
+    ) -> Result<Option<usize>, AllocError> {
+        self.scores.follow(scout, &self.table)?;
+        for _ in 0..scout.choices().len().saturating_add(1) {
+            let Some(i) = self.scores.top() else {
+                return Ok(None);
+            };
+            if let Some(gains) = self.table.get(i) {
+                let cap = self.best.cost.saturating_sub(scout.cost());
+                return if gains.larger() > cap {
+                    self.most_under(scout, cap)
+                } else {
+                    Ok(Some(i))
+                };
             }
+            let gains = try_both(scout, i);
+            self.table.set(i, gains);
+            self.scores.follow(scout, &self.table)?;
+            self.scores.look_at(scout, &self.table, i);
         }
-        Ok(())
+        Ok(None)
     }
 
-    fn set_gains(&mut self, i: usize, first: Cost, second: Cost) {
-        if let Some(gains) = self.gains.get_mut(i) {
-            *gains = Some(Gains { first, second });
-        }
-    }
-
-    /// The violated choice that promises most, the first of those that promise the same.
-    fn choice_of(&self, violated: &[usize], cost: Cost) -> Option<usize> {
-        let cap = self.best.cost.saturating_sub(cost);
+    /// The violated choice that promises most where no gain counts for more than a cap.
+    fn most_under<L: Ledger>(
+        &self,
+        scout: &mut Scout<'_, L>,
+        cap: Cost,
+    ) -> Result<Option<usize>, AllocError> {
         let mut most = None;
-        for i in violated {
-            let promise = self.promise(*i, cap);
+        for i in scout.violated()? {
+            let promise = match self.table.get(*i) {
+                Some(gains) => gains.promise(cap),
+                None => 0,
+            };
             most = match most {
                 Some((p, j)) if p > promise || (p == promise && j < *i) => Some((p, j)),
                 _ => Some((promise, *i)),
             };
         }
         match most {
-            Some((_, i)) => Some(i),
-            None => None,
+            Some((_, i)) => Ok(Some(i)),
+            None => Ok(None),
         }
     }
 
-    /// Twice the smaller gain and once the larger, neither counting for more than is left up to the best cost.
-    fn promise(&self, i: usize, cap: Cost) -> Cost {
-        let Some(Some(gains)) = self.gains.get(i).copied() else {
-            return 0;
-        };
-        let low = gains.first.min(gains.second).min(cap);
-        let high = gains.first.max(gains.second).min(cap);
-        low.saturating_mul(2).saturating_add(high)
-    }
-
-    /// Adds a child below the node where the scout stands, and says what it adds to the cost.
-    fn child<L: Ledger>(
-        &mut self,
-        scout: &mut Scout<'_, L>,
-        parent: usize,
-        at: Grown,
-        number: usize,
-        side: Side,
-    ) -> Result<Cost, AllocError> {
-        let gain = if scout.decide(number, side)? {
-            self.add(scout, parent, at.depth.saturating_add(1), number, side)?;
-            let cost = scout.cost();
-            scout.undecide(number)?;
-            cost.saturating_sub(at.cost)
-        } else {
-            self.nodes.push(Grown {
-                parent,
-                depth: at.depth.saturating_add(1),
-                number,
-                side,
-                cost: Cost::MAX,
-                choice: None,
-                below: None,
-            })?;
-            Cost::MAX
-        };
-        Ok(gain)
-    }
-
-    /// Adds the node where the scout stands: where nothing is violated it may be the best, else it may be branched on.
-    fn add<L: Ledger>(
-        &mut self,
-        scout: &Scout<'_, L>,
-        parent: usize,
-        depth: usize,
-        number: usize,
-        side: Side,
-    ) -> Result<(), AllocError> {
-        let cost = scout.cost();
-        let choice = scout.violated().first().copied();
-        let node = self.nodes.len();
-        self.nodes.push(Grown {
-            parent,
-            depth,
-            number,
-            side,
-            cost,
-            choice,
-            below: None,
-        })?;
-        if cost >= self.best.cost {
-            return Ok(());
-        }
-        if choice.is_none() {
-            let path = Vec::from_slice(self.alloc, scout.path())?;
-            self.best = Found { path, cost };
-        } else {
-            let bands_above = Cost::MAX - self.band(cost);
-            self.waiting.push(Waiting { bands_above, node })?;
-        }
-        Ok(())
-    }
-
-    /// The band in which a cost lies.
-    fn band(&self, cost: Cost) -> Cost {
-        cost / (self.gap / BANDS + 1)
-    }
-
-    /// Brings the scout to a node, through what both places have in common.
+    /// Brings the scout to a node, through what both places have in common. It is false where a decision makes a cycle.
     fn go_to<L: Ledger>(
         &mut self,
         scout: &mut Scout<'_, L>,
         node: usize,
-    ) -> Result<(), AllocError> {
+    ) -> Result<bool, AllocError> {
         let way = self.way_to(node)?;
         let common = common_front(&self.here, &way);
-        self.go_back_to(scout, common)?;
-        self.go_along(scout, &way[common..])
-    }
-
-    /// Goes up until the scout stands so far below the root.
-    fn go_back_to<L: Ledger>(
-        &mut self,
-        scout: &mut Scout<'_, L>,
-        depth: usize,
-    ) -> Result<(), AllocError> {
-        for _ in depth..self.here.len() {
+        for _ in common..self.here.len() {
             self.go_up(scout)?;
         }
-        Ok(())
-    }
-
-    fn go_along<L: Ledger>(
-        &mut self,
-        scout: &mut Scout<'_, L>,
-        way: &[usize],
-    ) -> Result<(), AllocError> {
-        for next in way {
-            self.go_down(scout, *next)?;
+        for next in &way[common..] {
+            if !self.go_down(scout, *next)? {
+                return Ok(false);
+            }
         }
-        Ok(())
+        Ok(true)
     }
 
     /// The nodes from below the root down to a node.
@@ -333,17 +452,20 @@ impl Tree {
         }
     }
 
+    /// Goes down to a child. It is false where that makes a cycle: then the scout stays.
     fn go_down<L: Ledger>(
         &mut self,
         scout: &mut Scout<'_, L>,
         node: usize,
-    ) -> Result<(), AllocError> {
+    ) -> Result<bool, AllocError> {
         let Some(grown) = self.nodes.get(node).copied() else {
-            return Ok(());
+            return Ok(false);
         };
-        let _decided = scout.decide(grown.number, grown.side)?;
+        if !scout.decide(grown.number, grown.side)? {
+            return Ok(false);
+        }
         self.here.push(node)?;
-        Ok(())
+        Ok(true)
     }
 
     /// What the tree says.
@@ -364,6 +486,51 @@ impl Tree {
             hints,
         })
     }
+}
+
+/// Whether one leaf is expanded before another that is more to the right.
+fn is_before(one: Leaf, other: Leaf) -> bool {
+    one.cost < other.cost || (one.cost == other.cost && one.node > other.node)
+}
+
+/// Leaves in preorder, and what the dearest of them costs.
+#[derive(Drop)]
+struct Chosen {
+    nodes: Vec<usize>,
+    limit: Cost,
+}
+
+/// So many of these leaves that cost least, of those that cost the same the first.
+fn cheapest(alloc: Global, leaves: &[Leaf], many: u64) -> Result<Chosen, AllocError> {
+    let mut costs = Vec::new(alloc);
+    for leaf in leaves {
+        costs.push(leaf.cost)?;
+    }
+    costs.sort()?;
+    let many = many.min(costs.len() as u64) as usize;
+    let limit = costs.get(many.saturating_sub(1)).copied().unwrap_or(0);
+    let mut ties = many;
+    for leaf in leaves {
+        if leaf.cost < limit {
+            ties = ties.saturating_sub(1);
+        }
+    }
+    at_most(alloc, leaves, limit, ties)
+}
+
+/// The leaves that cost less than a limit, and the first so many of those that cost just that.
+fn at_most(alloc: Global, leaves: &[Leaf], limit: Cost, ties: usize) -> Result<Chosen, AllocError> {
+    let mut nodes = Vec::new(alloc);
+    let mut left = ties;
+    for leaf in leaves {
+        if leaf.cost < limit {
+            nodes.push(leaf.node)?;
+        } else if leaf.cost == limit && left > 0 {
+            left = left.saturating_sub(1);
+            nodes.push(leaf.node)?;
+        }
+    }
+    Ok(Chosen { nodes, limit })
 }
 
 /// How many nodes two ways have in common at the front.

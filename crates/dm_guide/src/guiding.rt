@@ -3,33 +3,48 @@ ghost use Rattle.std.specs.Prelude.{◌≡◌, ◌<◌, ◌≤◌};
 ghost use Rattle.dm_base.specs.declared.limits.TheConstants.{PENALTY};
 ghost use Rattle.dm_rows.specs.Rows.{IsSized};
 
-use crate::diving::{Found, dive};
+use crate::choices::side_of;
+use crate::diving::dive;
+use crate::gaining::{Table, try_both};
 use crate::growing::grow;
+use crate::kicking::Kicks;
 use crate::moving::Mover;
 use crate::scouting::Scout;
-use crate::tree::Guide;
-use crate::windows::improve;
+use crate::tree::{Found, Guide};
+use crate::windows::{WIDE, Windows, all_binding};
 use dm_base::{Cost, Steps};
 use dm_network::Network;
-use dm_rows::Rows;
+use dm_rows::{Decision, Rows};
+use dm_tree::Node;
 use std::alloc::{AllocError, Global};
 use std::marker::Brand;
 use std::sync::ledger::{Blank, Ledger};
 
-/// A guide for a search over rows that have no cycle and cost this much by themselves, with a tree of at most `budget` nodes.
-/// The penalty is in seconds for each passenger, at most 1,000,000.
+/// How many decisions are made or tried for each node of the budget by windows, and by kicks.
+const TRIES: u64 = 16;
+
+/// Where a search begins: the nodes of a tree in preorder, and choices with what they cost.
+#[derive(Clone, Copy)]
+pub struct Start<'s> {
+    pub nodes: &'s [Node],
+    pub choices: &'s [Decision],
+    pub cost: Cost,
+}
+
+/// A guide for a search over rows that begins from a tree and choices, with a tree of at most `budget` nodes. What binds at the root of the
+/// rows has no cycle. The penalty is in seconds for each passenger, at most 1,000,000.
 pub fn guide(
     alloc: Global,
     net: &Network,
     penalty: u64,
     rows: &Rows,
-    best: Cost,
+    start: Start<'_>,
     budget: u64,
 ) -> Result<Guide, AllocError>
     requires sized { IsSized net.now rows.now }
     requires penalty { penalty ≤ PENALTY }
 {
-    guide_with::<Brand>(alloc, net, penalty, rows, best, budget, Blank::new(1))
+    guide_with::<Brand>(alloc, net, penalty, rows, start, budget, Blank::new(1))
 }
 
 fn guide_with<L: Ledger>(
@@ -37,7 +52,7 @@ fn guide_with<L: Ledger>(
     net: &Network,
     penalty: u64,
     rows: &Rows,
-    best: Cost,
+    start: Start<'_>,
     budget: u64,
     blank: Blank,
 ) -> Result<Guide, AllocError>
@@ -48,68 +63,80 @@ fn guide_with<L: Ledger>(
     requires has_a_part { 0 < blank.parts }
 {
     let mover = Mover::<L>::new(alloc, net, rows, penalty, Steps::<L>::new(blank))?;
-    on_mover(alloc, mover, best, budget)
-}
-
-fn on_mover<L: Ledger>(
-    alloc: Global,
-    mover: Mover<'_, L>,
-    best: Cost,
-    budget: u64,
-) -> Result<Guide, AllocError> {
     let mut scout = Scout::new(alloc, mover);
-    on_scout(alloc, &mut scout, best, budget)
+    on_scout(alloc, &mut scout, start, budget)
 }
 
 fn on_scout<L: Ledger>(
     alloc: Global,
     scout: &mut Scout<'_, L>,
-    best: Cost,
+    start: Start<'_>,
     budget: u64,
 ) -> Result<Guide, AllocError> {
-    let found = found_by(alloc, scout, best, budget)?;
-    grow(alloc, scout, found, budget)
+    scout.look_at_all()?;
+    let table = tried_at_root(alloc, scout)?;
+    let found = found_by(alloc, scout, &table, start, budget)?;
+    grow(alloc, scout, start.nodes, table, found, budget)
 }
 
-/// Good choices that cost less than this, if the scout finds some. It stands at the root before and after.
+/// The gains of the choices that are violated at the root.
+fn tried_at_root<L: Ledger>(alloc: Global, scout: &mut Scout<'_, L>) -> Result<Table, AllocError> {
+    let mut table = Table::new(alloc, scout.choices().len())?;
+    let violated = Vec::from_slice(alloc, scout.violated()?)?;
+    for i in &violated {
+        let gains = try_both(scout, *i);
+        table.set(*i, gains);
+    }
+    Ok(table)
+}
+
+/// Good choices that cost less than those of the start, if the scout finds some. It stands at the root before and after.
 fn found_by<L: Ledger>(
     alloc: Global,
     scout: &mut Scout<'_, L>,
-    best: Cost,
+    table: &Table,
+    start: Start<'_>,
     budget: u64,
 ) -> Result<Found, AllocError> {
     let nothing = Found {
         path: Vec::new(alloc),
-        cost: best,
+        cost: start.cost,
     };
-    scout.look_at_all()?;
     // Where nothing is violated at the root, or it costs too much, there is nothing better.
-    if scout.cost() >= best || scout.first_violated().is_none() {
+    if scout.cost() >= start.cost || scout.first_violated()?.is_none() {
         return Ok(nothing);
     }
-    start(scout, best)?;
-    improve(alloc, scout, budget)?;
+    if !dive(alloc, scout, table)? || scout.cost() >= start.cost {
+        go_back(scout)?;
+        take_over(scout, start.choices)?;
+    }
+    if scout.violated()?.is_empty() {
+        climb(alloc, scout, budget.saturating_mul(TRIES))?;
+    }
     let found = found_at(alloc, scout, nothing)?;
     go_back(scout)?;
     Ok(found)
 }
 
-/// Goes from the root to the choices of one dive or of the rows, whichever cost less.
-fn start<L: Ledger>(scout: &mut Scout<'_, L>, best: Cost) -> Result<(), AllocError> {
-    if !dive(scout)? || scout.cost() >= best {
-        go_back(scout)?;
-        take_own(scout)?;
-    }
-    Ok(())
+/// Makes the choices better, by windows and by kicks with so many decisions each.
+fn climb<L: Ledger>(alloc: Global, scout: &mut Scout<'_, L>, tries: u64) -> Result<(), AllocError> {
+    let choices = scout.choices().len();
+    let limit = scout.tried().saturating_add(tries);
+    let mut windows = Windows::new(alloc, choices, limit)?;
+    let seeds = all_binding(alloc, scout)?;
+    windows.improve(scout, seeds, WIDE)?;
+    let limit = scout.tried().saturating_add(tries);
+    let mut kicks = Kicks::new(alloc, scout, limit)?;
+    kicks.improve(scout)
 }
 
 /// The choices where the scout stands, if they violate nothing and cost less than what was found before.
 fn found_at<L: Ledger>(
     alloc: Global,
-    scout: &Scout<'_, L>,
+    scout: &mut Scout<'_, L>,
     before: Found,
 ) -> Result<Found, AllocError> {
-    if scout.first_violated().is_some() || scout.cost() >= before.cost {
+    if scout.first_violated()?.is_some() || scout.cost() >= before.cost {
         return Ok(before);
     }
     Ok(Found {
@@ -118,8 +145,14 @@ fn found_at<L: Ledger>(
     })
 }
 
-/// Decides each choice as the rows have it.
-fn take_own<L: Ledger>(scout: &mut Scout<'_, L>) -> Result<(), AllocError> {
+/// Decides each choice as these choices say, and the others as the rows have them.
+fn take_over<L: Ledger>(scout: &mut Scout<'_, L>, choices: &[Decision]) -> Result<(), AllocError> {
+    for decision in choices {
+        let number = scout.choices().find(scout.net(), decision.choice());
+        if let Some(i) = number {
+            let _decided = scout.decide(i, side_of(*decision))?;
+        }
+    }
     for i in (0..scout.choices().len()).rev() {
         let side = scout.own_side(i);
         let _decided = scout.decide(i, side)?;

@@ -6,12 +6,15 @@
 
 mod choices;
 mod diving;
+mod gaining;
 mod growing;
 mod guiding;
+mod kicking;
 mod moving;
+mod noting;
 mod scouting;
 mod tree;
 mod windows;
 
-pub use guiding::guide;
+pub use guiding::{Start, guide};
 pub use tree::{Guide, Hint};

@@ -3,11 +3,10 @@ ghost use Rattle.std.specs.Prelude.{◌≡◌, ◌≤◌};
 ghost use Rattle.dm_base.specs.declared.limits.TheConstants.{PENALTY};
 ghost use Rattle.dm_rows.specs.Rows.{IsSized};
 
-use crate::choices::Side;
+use crate::choices::{Ends, Side};
 use dm_base::{Cost, Secs, Steps};
 use dm_evaluate::Evaluator;
 use dm_network::Network;
-use dm_paths::choice_of;
 use dm_rows::{Choice, Decision, Rows};
 use dm_times::{comes_too_early, span_of};
 use std::alloc::{AllocError, Global};
@@ -80,7 +79,7 @@ impl<'a, L: Ledger> Mover<'a, L> {
 
     /// Makes a decision, if its choice is open and it makes no cycle.
     pub fn decide(&mut self, decision: Decision) -> bool {
-        if !self.evaluator.is_open(self.net, choice_of(decision)) {
+        if !self.evaluator.is_open(self.net, decision.choice()) {
             return false;
         }
         let decided = self.evaluator.decide(self.net, decision, &mut self.steps);
@@ -120,6 +119,16 @@ impl<'a, L: Ledger> Mover<'a, L> {
         let activity = self.net.activity(act);
         let span = span_of(self.net, self.evaluator.rows(), act);
         self.time(activity.head) == self.time(activity.tail).saturating_add(span)
+    }
+
+    /// Two events, and for when the first is scheduled.
+    pub fn ends(&self, tail: usize, head: usize) -> Ends {
+        let when = if tail < self.net.events() {
+            self.net.event(tail).time
+        } else {
+            0
+        };
+        Ends { tail, head, when }
     }
 
     /// The side of a choice that the rows have, by an activity that binds on its first side.

@@ -5,7 +5,9 @@ ghost use Rattle.dm_rows.specs.Rows.{IsSized};
 
 use crate::choices::{Choices, Side, decision_for};
 use crate::moving::Mover;
+use crate::noting::{Moved, Moves, Numbers, Once};
 use dm_base::{Cost, Secs};
+use dm_network::Network;
 use dm_rows::{Choice, Decision};
 use std::alloc::{AllocError, Global};
 use std::sync::ledger::Ledger;
@@ -14,6 +16,7 @@ use std::sync::ledger::Ledger;
 /// and at no others.
 #[derive(Drop)]
 pub struct Scout<'a, L: Ledger> {
+    alloc: Global,
     mover: Mover<'a, L>,
     choices: Choices,
 
@@ -27,29 +30,61 @@ pub struct Scout<'a, L: Ledger> {
     violated: Vec<usize>,
     places: Vec<Option<usize>>,
 
-    /// Events that may have moved, and those that have since [`Scout::forget`].
+    /// Choices and events that are to be looked at again.
+    stale: Vec<usize>,
     pending: Vec<usize>,
-    moved: Vec<usize>,
+
+    /// What has moved since [`Scout::forget`], and since [`Scout::begin`].
+    near: Moves,
+    far: Moves,
+
+    /// The choices that were decided or undecided since [`Scout::begin`], with their sides before.
+    once: Once,
+    turned: Vec<Turned>,
+
+    /// The choices that have become violated, or are so no more.
+    changed: Numbers,
+
+    /// How many decisions were made or tried.
+    tried: u64,
+}
+
+/// A choice, and the side that it had before.
+#[derive(Clone, Copy)]
+pub struct Turned {
+    pub number: usize,
+    pub before: Option<Side>,
 }
 
 impl<'a, L: Ledger> Scout<'a, L> {
     /// A scout at the root, which has looked at nothing.
     pub fn new(alloc: Global, mover: Mover<'a, L>) -> Scout<'a, L> {
         Scout {
+            alloc,
             mover,
             choices: Choices::new(alloc),
             sides: Vec::new(alloc),
             seen: Vec::new(alloc),
             violated: Vec::new(alloc),
             places: Vec::new(alloc),
+            stale: Vec::new(alloc),
             pending: Vec::new(alloc),
-            moved: Vec::new(alloc),
+            near: Moves::new(alloc),
+            far: Moves::new(alloc),
+            once: Once::new(alloc),
+            turned: Vec::new(alloc),
+            changed: Numbers::new(alloc),
+            tried: 0,
         }
     }
 
     /// Takes up the choices, and looks at all of them and all events for the first time.
     pub fn look_at_all(&mut self) -> Result<(), AllocError> {
         self.choices.fill(&mut self.mover)?;
+        self.near.extend(self.mover.net().events())?;
+        self.far.extend(self.mover.net().events())?;
+        self.once.extend(self.choices.len())?;
+        self.changed.extend(self.choices.len())?;
         self.see_events()?;
         self.leave_undecided()?;
         self.judge_all()
@@ -91,12 +126,14 @@ impl<'a, L: Ledger> Scout<'a, L> {
     }
 
     /// The undecided choices that are violated, in no order.
-    pub fn violated(&self) -> &[usize] {
-        &self.violated
+    pub fn violated(&mut self) -> Result<&[usize], AllocError> {
+        self.catch_up()?;
+        Ok(&self.violated)
     }
 
     /// The violated choice that comes first.
-    pub fn first_violated(&self) -> Option<usize> {
+    pub fn first_violated(&mut self) -> Result<Option<usize>, AllocError> {
+        self.catch_up()?;
         let mut first = None;
         for i in &self.violated {
             first = match first {
@@ -104,11 +141,43 @@ impl<'a, L: Ledger> Scout<'a, L> {
                 _ => Some(*i),
             };
         }
-        first
+        Ok(first)
+    }
+
+    /// Whether a choice was violated when all was looked at last.
+    pub fn is_violated(&self, i: usize) -> bool {
+        matches!(self.places.get(i), Some(Some(_)))
+    }
+
+    /// The choices that have become violated or are so no more since they were taken last.
+    pub fn take_changed(&mut self) -> Result<Vec<usize>, AllocError> {
+        self.catch_up()?;
+        let changed = Vec::from_slice(self.alloc, self.changed.list())?;
+        self.changed.forget();
+        Ok(changed)
+    }
+
+    /// Has what is violated among what has changed.
+    pub fn note_violated(&mut self) -> Result<(), AllocError> {
+        self.catch_up()?;
+        self.changed.add_all(&self.violated)
+    }
+
+    /// How many decisions were made or tried.
+    pub fn tried(&self) -> u64 {
+        self.tried
     }
 
     pub fn choice(&self, i: usize) -> Option<Choice> {
         self.choices.choice(i)
+    }
+
+    /// For when a choice is scheduled.
+    pub fn when(&self, i: usize) -> Secs {
+        match self.choices.ends(i) {
+            Some(ends) => ends.when,
+            None => 0,
+        }
     }
 
     /// The side on which a choice is decided.
@@ -124,11 +193,12 @@ impl<'a, L: Ledger> Scout<'a, L> {
         let Some(choice) = self.choices.choice(i) else {
             return Ok(false);
         };
+        self.tried = self.tried.saturating_add(1);
         if !self.mover.decide(decision_for(choice, side)) {
             return Ok(false);
         }
-        self.set_side(i, Some(side));
-        self.follow(i, side)?;
+        self.set_side(i, Some(side))?;
+        self.await_heads(i, side)?;
         Ok(true)
     }
 
@@ -138,41 +208,68 @@ impl<'a, L: Ledger> Scout<'a, L> {
             return Ok(());
         };
         self.mover.undecide(choice);
-        self.set_side(i, None);
-        self.follow(i, side)
+        self.set_side(i, None)?;
+        self.await_heads(i, side)
     }
 
     /// What the path costs with one decision more, and more than anything where that makes a cycle.
-    pub fn cost_with(&mut self, i: usize, side: Side) -> Result<Cost, AllocError> {
-        if !self.decide(i, side)? {
-            return Ok(Cost::MAX);
+    pub fn cost_with(&mut self, i: usize, side: Side) -> Cost {
+        let Some(choice) = self.choices.choice(i) else {
+            return Cost::MAX;
+        };
+        self.tried = self.tried.saturating_add(1);
+        if !self.mover.decide(decision_for(choice, side)) {
+            return Cost::MAX;
         }
-        let cost = self.cost();
+        let cost = self.mover.cost();
+        self.mover.undecide(choice);
+        cost
+    }
+
+    fn set_side(&mut self, i: usize, side: Option<Side>) -> Result<(), AllocError> {
+        let Some(slot) = self.sides.get_mut(i) else {
+            return Ok(());
+        };
+        let before = *slot;
+        *slot = side;
+        if self.once.is_new(i) {
+            self.turned.push(Turned { number: i, before })?;
+        }
+        Ok(())
+    }
+
+    /// Has a choice decided on a side or undecided. It is false where that makes a cycle: then it is undecided.
+    pub fn set(&mut self, i: usize, side: Option<Side>) -> Result<bool, AllocError> {
+        if self.side(i) == side {
+            return Ok(true);
+        }
         self.undecide(i)?;
-        Ok(cost)
-    }
-
-    fn set_side(&mut self, i: usize, side: Option<Side>) {
-        if let Some(slot) = self.sides.get_mut(i) {
-            *slot = side;
+        match side {
+            Some(side) => self.decide(i, side),
+            None => Ok(true),
         }
     }
 
-    /// Looks at a choice that was decided or is so no more, and at each event that it has moved.
-    fn follow(&mut self, i: usize, side: Side) -> Result<(), AllocError> {
-        self.judge(i)?;
-        self.await_heads(i, side)?;
+    /// Looks at each choice that was decided or is so no more, and at each event that has moved.
+    fn catch_up(&mut self) -> Result<(), AllocError> {
+        for _ in 0..u64::MAX {
+            let Some(i) = self.stale.pop() else {
+                break;
+            };
+            self.judge(i)?;
+        }
         for _ in 0..u64::MAX {
             let Some(event) = self.pending.pop() else {
-                return Ok(());
+                break;
             };
             self.look_at(event)?;
         }
         Ok(())
     }
 
-    /// Has the heads of what binds on a side of a choice looked at.
+    /// Has a choice and the heads of what binds on its side looked at.
     fn await_heads(&mut self, i: usize, side: Side) -> Result<(), AllocError> {
+        self.stale.push(i)?;
         let net = self.mover.net();
         for a in self.choices.binding(i, side) {
             if *a < net.activities() {
@@ -185,11 +282,16 @@ impl<'a, L: Ledger> Scout<'a, L> {
     /// Where an event has moved, judges its choices, and has the events behind it looked at.
     fn look_at(&mut self, event: usize) -> Result<(), AllocError> {
         let time = self.mover.time(event);
-        match self.seen.get_mut(event) {
-            Some(seen) if *seen != time => *seen = time,
-            _ => return Ok(()),
+        let Some(seen) = self.seen.get_mut(event) else {
+            return Ok(());
+        };
+        let before = *seen;
+        if before == time {
+            return Ok(());
         }
-        self.moved.push(event)?;
+        *seen = time;
+        self.near.note(event, before)?;
+        self.far.note(event, before)?;
         self.judge_entering(event)?;
         self.judge_leaving(event)
     }
@@ -214,23 +316,81 @@ impl<'a, L: Ledger> Scout<'a, L> {
         Ok(())
     }
 
-    /// Forgets which events have moved.
-    pub fn forget(&mut self) {
-        self.moved.clear();
+    /// Forgets which events have moved near by.
+    pub fn forget(&mut self) -> Result<(), AllocError> {
+        self.catch_up()?;
+        self.near.forget();
+        Ok(())
     }
 
-    /// The choices of the events that have moved, in ascending order, some maybe more than once.
-    pub fn moved(&mut self, alloc: Global) -> Result<Vec<usize>, AllocError> {
-        let events = Vec::from_slice(alloc, &self.moved)?;
-        let mut numbers = Vec::new(alloc);
-        for event in &events {
-            let row = self.mover.entering(*event);
-            self.add_numbers(row, &mut numbers)?;
-            let row = self.mover.leaving(*event);
-            self.add_numbers(row, &mut numbers)?;
+    /// Forgets which events have moved and which choices were turned.
+    pub fn begin(&mut self) -> Result<(), AllocError> {
+        self.catch_up()?;
+        self.far.forget();
+        self.once.forget();
+        self.turned.clear();
+        Ok(())
+    }
+
+    /// The choices at the events that stand elsewhere than at [`Scout::forget`], in ascending order, each once.
+    pub fn near(&mut self) -> Result<Vec<usize>, AllocError> {
+        self.catch_up()?;
+        let moved = Vec::from_slice(self.alloc, self.near.list())?;
+        self.touching(&moved)
+    }
+
+    /// The choices at the events that stand elsewhere than at [`Scout::begin`], in ascending order, each once.
+    pub fn far(&mut self) -> Result<Vec<usize>, AllocError> {
+        self.catch_up()?;
+        let moved = Vec::from_slice(self.alloc, self.far.list())?;
+        self.touching(&moved)
+    }
+
+    fn touching(&mut self, moved: &[Moved]) -> Result<Vec<usize>, AllocError> {
+        let mut numbers = Vec::new(self.alloc);
+        for moved in moved {
+            if self.seen.get(moved.event) != Some(&moved.before) {
+                let row = self.mover.entering(moved.event);
+                self.add_numbers(row, &mut numbers)?;
+                let row = self.mover.leaving(moved.event);
+                self.add_numbers(row, &mut numbers)?;
+            }
         }
         numbers.sort()?;
+        numbers.dedup();
         Ok(numbers)
+    }
+
+    /// The choices that do not stand as at [`Scout::begin`], with their sides there.
+    pub fn turned(&self) -> Result<Vec<Turned>, AllocError> {
+        let mut all = Vec::new(self.alloc);
+        for turned in &self.turned {
+            if self.side(turned.number) != turned.before {
+                all.push(*turned)?;
+            }
+        }
+        Ok(all)
+    }
+
+    /// Goes back to where it was at [`Scout::begin`].
+    pub fn restore(&mut self) -> Result<(), AllocError> {
+        let turned = self.turned()?;
+        for turned in &turned {
+            self.undecide(turned.number)?;
+        }
+        for turned in &turned {
+            let _set = self.set(turned.number, turned.before)?;
+        }
+        Ok(())
+    }
+
+    /// The activities into an event, and those out of it.
+    pub fn rows(&mut self, event: usize) -> (&'a [usize], &'a [usize]) {
+        (self.mover.entering(event), self.mover.leaving(event))
+    }
+
+    pub fn net(&self) -> &'a Network {
+        self.mover.net()
     }
 
     fn add_numbers(&self, row: &[usize], numbers: &mut Vec<usize>) -> Result<(), AllocError> {
@@ -276,19 +436,20 @@ impl<'a, L: Ledger> Scout<'a, L> {
 
     /// Puts a choice among the violated ones, or takes it off.
     fn judge(&mut self, i: usize) -> Result<(), AllocError> {
-        let is_violated = self.is_violated(i);
+        let is_unkept = self.is_unkept(i);
         match self.places.get(i) {
-            Some(None) if is_violated => self.add(i),
-            Some(Some(place)) if !is_violated => {
+            Some(None) if is_unkept => self.add(i),
+            Some(Some(place)) if !is_unkept => {
                 let place = *place;
                 self.take_off(i, place);
+                let _new = self.changed.add(i)?;
                 Ok(())
             }
             _ => Ok(()),
         }
     }
 
-    fn is_violated(&self, i: usize) -> bool {
+    fn is_unkept(&self, i: usize) -> bool {
         if self.side(i).is_some() || !self.is_unmet(i, Side::First) {
             return false;
         }
@@ -312,6 +473,7 @@ impl<'a, L: Ledger> Scout<'a, L> {
         let place = self.violated.len();
         self.violated.push(i)?;
         self.set_place(i, Some(place));
+        let _new = self.changed.add(i)?;
         Ok(())
     }
 

@@ -1,6 +1,14 @@
 //! What a guide says.
 
+use dm_base::Cost;
 use dm_rows::{Choice, Decision};
+
+/// Decisions after which nothing is violated, and what they cost.
+#[derive(Drop)]
+pub struct Found {
+    pub path: Vec<Decision>,
+    pub cost: Cost,
+}
 
 /// Choices that are good, and a tree that tells much. Nothing is promised of it.
 #[derive(Drop)]
@@ -13,7 +21,7 @@ pub struct Guide {
 }
 
 /// A node of a guide's tree.
-#[derive(Clone, Copy, PartialEq, Eq, Debug)]
+#[derive(Clone, Copy)]
 pub struct Hint {
     /// A choice that is violated there: on this one the tree branches.
     pub choice: Option<Choice>,

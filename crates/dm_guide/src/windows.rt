@@ -1,19 +1,15 @@
 //! Choices that are made better some at a time.
 
 use crate::choices::Side;
+use crate::gaining::try_both;
+use crate::noting::Numbers;
 use crate::scouting::Scout;
 use dm_base::Cost;
 use std::alloc::{AllocError, Global};
 use std::sync::ledger::Ledger;
 
-/// How many choices a window has at first, at most.
-const MEMBERS: usize = 32;
-
-/// How often a window branches at most.
-const BRANCHINGS: usize = 32;
-
-/// How many decisions are tried for each node of the budget.
-const TRIES: u64 = 16;
+/// How many choices a window has at most, and how often it branches.
+pub const WIDE: usize = 32;
 
 /// A choice on which a window has branched, and the side that is left with what it costs.
 #[derive(Clone, Copy)]
@@ -31,140 +27,136 @@ struct Pick {
     high: Cost,
 }
 
-/// The search for better choices near choices that bind. Nothing is violated before and after.
-#[derive(Drop)]
-struct Windows {
-    alloc: Global,
-    tries: u64,
-    members: Vec<usize>,
-
-    /// The sides of the members in the best choices so far, none where the times keep the member undecided, and what these cost.
-    sides: Vec<Option<Side>>,
-    best: Cost,
-
-    /// The choices around which a window gained nothing, and nothing has moved there since.
-    fruitless: Vec<bool>,
+/// A choice and the side on which it is to stand, or none where the times keep it undecided.
+#[derive(Clone, Copy)]
+struct Stand {
+    number: usize,
+    side: Option<Side>,
 }
 
-/// Decides choices anew, some at a time, where that makes all of them cost less.
-pub fn improve<L: Ledger>(
+/// The search for better choices near choices that bind. Nothing is violated before and after.
+#[derive(Drop)]
+pub struct Windows {
     alloc: Global,
-    scout: &mut Scout<'_, L>,
-    budget: u64,
-) -> Result<(), AllocError> {
-    let mut windows = Windows::new(alloc, scout.cost(), budget);
-    windows.improve(scout)
+
+    /// How many decisions are made or tried until the search ends.
+    pub limit: u64,
+
+    /// The choices of the window.
+    members: Numbers,
+
+    /// How the members and what else the window has decided stand in the best choices so far, and what these cost.
+    stands: Vec<Stand>,
+    best: Cost,
+
+    /// The choices near which something became better since it was looked at.
+    pub touched: Numbers,
 }
 
 impl Windows {
-    fn new(alloc: Global, best: Cost, budget: u64) -> Windows {
-        Windows {
+    /// No window yet, among so many choices.
+    pub fn new(alloc: Global, choices: usize, limit: u64) -> Result<Windows, AllocError> {
+        let mut windows = Windows {
             alloc,
-            tries: budget.saturating_mul(TRIES),
-            members: Vec::new(alloc),
-            sides: Vec::new(alloc),
-            best,
-            fruitless: Vec::new(alloc),
-        }
+            limit,
+            members: Numbers::new(alloc),
+            stands: Vec::new(alloc),
+            best: 0,
+            touched: Numbers::new(alloc),
+        };
+        windows.members.extend(choices)?;
+        windows.touched.extend(choices)?;
+        Ok(windows)
     }
 
-    /// Opens windows until none of a whole round gains anything.
-    fn improve<L: Ledger>(&mut self, scout: &mut Scout<'_, L>) -> Result<(), AllocError> {
-        self.mark_none_fruitless(scout.choices().len())?;
-        for _ in 0..self.tries {
-            let before = self.best;
-            self.round(scout)?;
-            if self.best >= before || self.tries == 0 {
+    /// Opens windows around these choices, and then around what these touch, until nothing becomes better.
+    pub fn improve<L: Ledger>(
+        &mut self,
+        scout: &mut Scout<'_, L>,
+        seeds: Vec<usize>,
+        size: usize,
+    ) -> Result<(), AllocError> {
+        let mut seeds = seeds;
+        for _ in 0..self.limit {
+            if seeds.is_empty() || scout.tried() >= self.limit {
                 return Ok(());
             }
+            self.touched.forget();
+            self.round(scout, &seeds, size)?;
+            seeds = binding(self.alloc, scout, self.touched.list())?;
         }
         Ok(())
     }
 
-    /// No choice is fruitless before a window was opened around it.
-    fn mark_none_fruitless(&mut self, choices: usize) -> Result<(), AllocError> {
-        for _ in 0..choices {
-            self.fruitless.push(false)?;
-        }
-        Ok(())
-    }
-
-    /// One window around each choice that binds.
-    fn round<L: Ledger>(&mut self, scout: &mut Scout<'_, L>) -> Result<(), AllocError> {
-        for i in 0..scout.choices().len() {
-            if self.tries == 0 {
+    /// One window around each of these choices that binds.
+    pub fn round<L: Ledger>(
+        &mut self,
+        scout: &mut Scout<'_, L>,
+        seeds: &[usize],
+        size: usize,
+    ) -> Result<(), AllocError> {
+        for i in seeds {
+            if scout.tried() >= self.limit {
                 return Ok(());
             }
-            if self.fruitless.get(i) == Some(&false) && scout.is_binding(i) {
-                self.open(scout, i)?;
+            if scout.is_binding(*i) {
+                scout.begin()?;
+                if self.open(scout, *i, size)? {
+                    self.touch(scout)?;
+                }
             }
         }
         Ok(())
     }
 
-    /// Leaves the members of a window undecided, the other decisions fixed, searches there, and decides them as is best.
-    fn open<L: Ledger>(&mut self, scout: &mut Scout<'_, L>, i: usize) -> Result<(), AllocError> {
-        self.gather(scout, i)?;
-        self.note_sides(scout)?;
+    /// Has what was turned since the scout began, and what is near, looked at again.
+    pub fn touch<L: Ledger>(&mut self, scout: &mut Scout<'_, L>) -> Result<(), AllocError> {
+        let near = scout.far()?;
+        self.touched.add_all(&near)?;
+        for turned in &scout.turned()? {
+            let _new = self.touched.add(turned.number)?;
+        }
+        Ok(())
+    }
+
+    /// Leaves the members of a window undecided, the other decisions fixed, searches there, and decides them as is best. It is
+    /// true where this is better than before.
+    pub fn open<L: Ledger>(
+        &mut self,
+        scout: &mut Scout<'_, L>,
+        i: usize,
+        size: usize,
+    ) -> Result<bool, AllocError> {
+        self.gather(scout, i, size)?;
+        self.best = scout.cost();
         let before = self.best;
-        scout.forget();
-        self.leave(scout)?;
-        self.search(scout)?;
-        self.fix(scout)?;
-        if self.best < before {
-            self.reopen(scout)?;
-        } else if let Some(fruitless) = self.fruitless.get_mut(i) {
-            *fruitless = true;
-        }
-        Ok(())
-    }
-
-    /// The choices at the events that have moved are to be looked at again.
-    fn reopen<L: Ledger>(&mut self, scout: &mut Scout<'_, L>) -> Result<(), AllocError> {
-        for i in &scout.moved(self.alloc)? {
-            if let Some(fruitless) = self.fruitless.get_mut(*i) {
-                *fruitless = false;
-            }
-        }
-        Ok(())
-    }
-
-    /// The sides on which the members stand are the best so far.
-    fn note_sides<L: Ledger>(&mut self, scout: &Scout<'_, L>) -> Result<(), AllocError> {
-        self.sides.clear();
-        for member in &self.members {
-            self.sides.push(scout.side(*member))?;
-        }
-        Ok(())
-    }
-
-    /// Leaves the members undecided.
-    fn leave<L: Ledger>(&self, scout: &mut Scout<'_, L>) -> Result<(), AllocError> {
-        for member in &self.members {
+        self.note_stands(scout, &[])?;
+        for member in self.members.list() {
             scout.undecide(*member)?;
         }
-        Ok(())
-    }
-
-    /// Decides the members as is best.
-    fn fix<L: Ledger>(&self, scout: &mut Scout<'_, L>) -> Result<(), AllocError> {
-        for (member, side) in self.members.iter().zip(self.sides.iter()) {
-            if let Some(side) = *side {
-                let _decided = scout.decide(*member, side)?;
-            }
+        self.search(scout, size)?;
+        for stand in &self.stands {
+            let _set = scout.set(stand.number, stand.side)?;
         }
-        Ok(())
+        Ok(self.best < before)
     }
 
-    /// The members of the window around a choice: breadth first, those that bind at the events that a turn of one moves.
-    fn gather<L: Ledger>(&mut self, scout: &mut Scout<'_, L>, i: usize) -> Result<(), AllocError> {
-        self.members.clear();
-        self.members.push(i)?;
-        for k in 0..MEMBERS {
-            let Some(member) = self.members.get(k).copied() else {
+    /// The members of the window around a choice: breadth first, those that are decided at the events that a turn of one moves.
+    fn gather<L: Ledger>(
+        &mut self,
+        scout: &mut Scout<'_, L>,
+        i: usize,
+        size: usize,
+    ) -> Result<(), AllocError> {
+        self.members.forget();
+        let _new = self.members.add(i)?;
+        for k in 0..size {
+            let Some(member) = self.members.list().get(k).copied() else {
                 return Ok(());
             };
-            self.join(scout, member)?;
+            if self.members.list().len() < size {
+                self.join(scout, member, size)?;
+            }
         }
         Ok(())
     }
@@ -174,72 +166,91 @@ impl Windows {
         &mut self,
         scout: &mut Scout<'_, L>,
         member: usize,
+        size: usize,
     ) -> Result<(), AllocError> {
         let Some(side) = scout.side(member) else {
             return Ok(());
         };
-        self.tries = self.tries.saturating_sub(1);
-        scout.forget();
-        scout.undecide(member)?;
-        if scout.decide(member, side.other())? {
-            scout.undecide(member)?;
-        }
-        let _decided = scout.decide(member, side)?;
-        let numbers = scout.moved(self.alloc)?;
-        for j in &numbers {
-            if self.members.len() >= MEMBERS {
-                return Ok(());
-            }
-            if scout.is_binding(*j) && !self.members.contains(j) {
-                self.members.push(*j)?;
+        scout.forget()?;
+        let is_turned = scout.set(member, Some(side.other()))?;
+        let near = if is_turned {
+            scout.near()?
+        } else {
+            Vec::new(self.alloc)
+        };
+        let _back = scout.set(member, Some(side))?;
+        for i in &near {
+            if self.members.list().len() < size && scout.side(*i).is_some() {
+                let _new = self.members.add(*i)?;
             }
         }
         Ok(())
     }
 
-    /// Searches depth first, the cheaper side first, below the best cost.
-    fn search<L: Ledger>(&mut self, scout: &mut Scout<'_, L>) -> Result<(), AllocError> {
-        let mut branchings = Vec::new(self.alloc);
-        self.search_along(scout, &mut branchings)
+    /// Notes how the members stand, and these branchings.
+    fn note_stands<L: Ledger>(
+        &mut self,
+        scout: &Scout<'_, L>,
+        branchings: &[Branching],
+    ) -> Result<(), AllocError> {
+        self.stands.clear();
+        for member in self.members.list() {
+            self.stands.push(Stand {
+                number: *member,
+                side: scout.side(*member),
+            })?;
+        }
+        for branching in branchings {
+            self.stands.push(Stand {
+                number: branching.number,
+                side: scout.side(branching.number),
+            })?;
+        }
+        Ok(())
     }
 
-    fn search_along<L: Ledger>(
+    /// Searches depth first, the cheaper side first, below the best cost, with so many branchings at most.
+    fn search<L: Ledger>(
         &mut self,
         scout: &mut Scout<'_, L>,
-        branchings: &mut Vec<Branching>,
+        most: usize,
     ) -> Result<(), AllocError> {
-        for _ in 0..BRANCHINGS {
-            if !self.goes_on(scout, branchings)? {
-                return Ok(());
+        let mut branchings = Vec::new(self.alloc);
+        let mut left = most;
+        let mut is_new = true;
+        for _ in 0..u64::MAX {
+            if is_new && self.branch(scout, &mut branchings, left > 0)? {
+                left = left.saturating_sub(1);
+            } else {
+                let Some(branching) = branchings.pop() else {
+                    return Ok(());
+                };
+                is_new = self.turn(scout, &mut branchings, branching, left > 0)?;
             }
         }
-        undo_all(scout, branchings)
+        Ok(())
     }
 
-    /// Branches, or turns where that brings nothing. It is false where no side is left.
-    fn goes_on<L: Ledger>(
-        &mut self,
-        scout: &mut Scout<'_, L>,
-        branchings: &mut Vec<Branching>,
-    ) -> Result<bool, AllocError> {
-        if self.branch(scout, branchings)? {
-            return Ok(true);
-        }
-        self.turn(scout, branchings)
-    }
-
-    /// Branches where the scout stands, or takes what stands there where nothing is violated.
+    /// Branches where the scout stands, if that may be better, or takes what stands there where nothing is violated.
     fn branch<L: Ledger>(
         &mut self,
         scout: &mut Scout<'_, L>,
         branchings: &mut Vec<Branching>,
+        may: bool,
     ) -> Result<bool, AllocError> {
         let cost = scout.cost();
         if cost >= self.best {
             return Ok(false);
         }
-        let Some(pick) = self.pick(scout)? else {
-            self.take(scout, cost, branchings)?;
+        if scout.violated()?.is_empty() {
+            self.best = cost;
+            self.note_stands(scout, branchings)?;
+            return Ok(false);
+        }
+        if !may {
+            return Ok(false);
+        }
+        let Some(pick) = self.pick(scout, cost)? else {
             return Ok(false);
         };
         if pick.low >= self.best || !scout.decide(pick.number, pick.near)? {
@@ -252,36 +263,54 @@ impl Windows {
         Ok(true)
     }
 
-    /// Goes back to the last branching of which a side is left that may be better, and takes that side.
+    /// Takes the side that is left of a branching, if there is one that may be better.
     fn turn<L: Ledger>(
         &mut self,
         scout: &mut Scout<'_, L>,
         branchings: &mut Vec<Branching>,
+        branching: Branching,
+        may: bool,
     ) -> Result<bool, AllocError> {
-        for _ in 0..MEMBERS {
-            let Some(branching) = branchings.pop() else {
-                return Ok(false);
-            };
-            undo(scout, branching)?;
-            if let Some((side, cost)) = branching.later {
-                if cost < self.best && scout.decide(branching.number, side)? {
-                    branchings.push(Branching {
-                        number: branching.number,
-                        later: None,
-                    })?;
-                    return Ok(true);
-                }
-            }
+        scout.undecide(branching.number)?;
+        let Some((side, cost)) = branching.later else {
+            return Ok(false);
+        };
+        if !may || cost >= self.best || !scout.decide(branching.number, side)? {
+            return Ok(false);
         }
-        Ok(false)
+        branchings.push(Branching {
+            number: branching.number,
+            later: None,
+        })?;
+        Ok(true)
     }
 
-    /// The violated choice of which the cheaper side costs most, and then the other side.
-    fn pick<L: Ledger>(&mut self, scout: &mut Scout<'_, L>) -> Result<Option<Pick>, AllocError> {
-        let violated = Vec::from_slice(self.alloc, scout.violated())?;
-        let mut most = None;
+    /// The violated choice of which the cheaper side costs most, and then the other side: the first met of which the cheaper
+    /// side is not better than the best.
+    fn pick<L: Ledger>(
+        &mut self,
+        scout: &mut Scout<'_, L>,
+        cost: Cost,
+    ) -> Result<Option<Pick>, AllocError> {
+        let violated = Vec::from_slice(self.alloc, scout.violated()?)?;
+        let mut most: Option<Pick> = None;
         for i in &violated {
-            let pick = self.try_both(scout, *i)?;
+            let gains = try_both(scout, *i);
+            let (first, second) = (gains.first, gains.second);
+            let near = if first <= second {
+                Side::First
+            } else {
+                Side::Second
+            };
+            let pick = Pick {
+                number: *i,
+                near,
+                low: cost.saturating_add(first.min(second)),
+                high: cost.saturating_add(first.max(second)),
+            };
+            if pick.low >= self.best {
+                return Ok(Some(pick));
+            }
             most = match most {
                 Some(other) if !is_more(pick, other) => Some(other),
                 _ => Some(pick),
@@ -289,58 +318,6 @@ impl Windows {
         }
         Ok(most)
     }
-
-    fn try_both<L: Ledger>(
-        &mut self,
-        scout: &mut Scout<'_, L>,
-        i: usize,
-    ) -> Result<Pick, AllocError> {
-        self.tries = self.tries.saturating_sub(2);
-        let first = scout.cost_with(i, Side::First)?;
-        let second = scout.cost_with(i, Side::Second)?;
-        let near = if first <= second {
-            Side::First
-        } else {
-            Side::Second
-        };
-        Ok(Pick {
-            number: i,
-            near,
-            low: first.min(second),
-            high: first.max(second),
-        })
-    }
-
-    /// Takes the sides where the scout stands as the best. The choices on which the window has branched become members.
-    fn take<L: Ledger>(
-        &mut self,
-        scout: &Scout<'_, L>,
-        cost: Cost,
-        branchings: &[Branching],
-    ) -> Result<(), AllocError> {
-        self.best = cost;
-        for branching in branchings {
-            if !self.members.contains(&branching.number) {
-                self.members.push(branching.number)?;
-            }
-        }
-        self.note_sides(scout)
-    }
-}
-
-/// Undoes branchings, the last one first.
-fn undo_all<L: Ledger>(
-    scout: &mut Scout<'_, L>,
-    branchings: &[Branching],
-) -> Result<(), AllocError> {
-    for branching in branchings.iter().rev() {
-        undo(scout, *branching)?;
-    }
-    Ok(())
-}
-
-fn undo<L: Ledger>(scout: &mut Scout<'_, L>, branching: Branching) -> Result<(), AllocError> {
-    scout.undecide(branching.number)
 }
 
 /// Whether a choice is to be branched on before another.
@@ -348,4 +325,36 @@ fn is_more(one: Pick, other: Pick) -> bool {
     let costs = (one.low, one.high);
     let others = (other.low, other.high);
     costs > others || (costs == others && one.number < other.number)
+}
+
+/// Those of these choices that bind, by the time for which they are scheduled.
+pub fn binding<L: Ledger>(
+    alloc: Global,
+    scout: &Scout<'_, L>,
+    numbers: &[usize],
+) -> Result<Vec<usize>, AllocError> {
+    let mut all = Vec::new(alloc);
+    for i in numbers {
+        if scout.is_binding(*i) {
+            all.push((scout.when(*i), *i))?;
+        }
+    }
+    all.sort()?;
+    let mut numbers = Vec::new(alloc);
+    for (_when, i) in &all {
+        numbers.push(*i)?;
+    }
+    Ok(numbers)
+}
+
+/// All choices that bind, by the time for which they are scheduled.
+pub fn all_binding<L: Ledger>(
+    alloc: Global,
+    scout: &Scout<'_, L>,
+) -> Result<Vec<usize>, AllocError> {
+    let mut all = Vec::new(alloc);
+    for i in 0..scout.choices().len() {
+        all.push(i)?;
+    }
+    binding(alloc, scout, &all)
 }

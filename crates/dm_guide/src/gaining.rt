@@ -1,0 +1,190 @@
+//! What deciding choices adds to the cost, and which of many scores is greatest.
+
+use crate::choices::Side;
+use crate::scouting::Scout;
+use dm_base::Cost;
+use std::alloc::{AllocError, Global};
+use std::sync::ledger::Ledger;
+
+/// A gain that stands for no limit.
+const LIMIT: Cost = 1_152_921_504_606_846_976;
+
+/// What deciding a choice on either side added to the cost when it was tried last.
+#[derive(Clone, Copy)]
+pub struct Gains {
+    pub first: Cost,
+    pub second: Cost,
+}
+
+impl Gains {
+    /// The gains where either side costs so much.
+    pub fn over(cost: Cost, first: Cost, second: Cost) -> Gains {
+        Gains {
+            first: first.saturating_sub(cost).min(LIMIT),
+            second: second.saturating_sub(cost).min(LIMIT),
+        }
+    }
+
+    pub fn larger(&self) -> Cost {
+        self.first.max(self.second)
+    }
+
+    /// Twice the smaller gain and once the larger, neither counting for more than the cap.
+    pub fn promise(&self, cap: Cost) -> Cost {
+        let low = self.first.min(self.second).min(cap);
+        let high = self.first.max(self.second).min(cap);
+        low.saturating_mul(2).saturating_add(high)
+    }
+
+    /// How far the two gains are apart.
+    pub fn regret(&self) -> Cost {
+        let low = self.first.min(self.second);
+        self.first.max(self.second).saturating_sub(low)
+    }
+}
+
+/// Tries both sides of a choice.
+pub fn try_both<L: Ledger>(scout: &mut Scout<'_, L>, i: usize) -> Gains {
+    let cost = scout.cost();
+    let first = scout.cost_with(i, Side::First);
+    let second = scout.cost_with(i, Side::Second);
+    Gains::over(cost, first, second)
+}
+
+/// The gains of each choice that was tried.
+#[derive(Drop)]
+pub struct Table {
+    gains: Vec<Option<Gains>>,
+}
+
+impl Table {
+    /// A table of so many choices, of which none was tried.
+    pub fn new(alloc: Global, choices: usize) -> Result<Table, AllocError> {
+        let mut gains = Vec::new(alloc);
+        for _ in 0..choices {
+            gains.push(None)?;
+        }
+        Ok(Table { gains })
+    }
+
+    pub fn copy(&self, alloc: Global) -> Result<Table, AllocError> {
+        Ok(Table {
+            gains: Vec::from_slice(alloc, &self.gains)?,
+        })
+    }
+
+    pub fn get(&self, i: usize) -> Option<Gains> {
+        self.gains.get(i).copied().flatten()
+    }
+
+    pub fn set(&mut self, i: usize, gains: Gains) {
+        if let Some(slot) = self.gains.get_mut(i) {
+            *slot = Some(gains);
+        }
+    }
+}
+
+/// By what choices are scored.
+#[derive(Clone, Copy)]
+pub enum By {
+    Promise,
+    Regret,
+}
+
+/// The scores of the violated choices as a tree of greatest ones: a violated choice that was never tried has the greatest.
+#[derive(Drop)]
+pub struct Scores {
+    by: By,
+    leaves: usize,
+    tree: Vec<Cost>,
+}
+
+impl Scores {
+    /// The scores of so many choices, of which none is violated.
+    pub fn new(alloc: Global, by: By, choices: usize) -> Result<Scores, AllocError> {
+        let mut leaves = 1_usize;
+        for _ in 0..64 {
+            if leaves < choices {
+                leaves = leaves.saturating_mul(2);
+            }
+        }
+        let tree = Vec::new(alloc);
+        let mut scores = Scores { by, leaves, tree };
+        scores.fill()?;
+        Ok(scores)
+    }
+
+    fn fill(&mut self) -> Result<(), AllocError> {
+        for _ in 0..self.leaves.saturating_mul(2) {
+            self.tree.push(0)?;
+        }
+        Ok(())
+    }
+
+    fn at(&self, place: usize) -> Cost {
+        match self.tree.get(place) {
+            Some(score) => *score,
+            None => 0,
+        }
+    }
+
+    /// Sets the score of a choice, and the greatest ones above it.
+    fn set(&mut self, i: usize, score: Cost) {
+        let mut place = i.saturating_add(self.leaves);
+        let mut greatest = score;
+        for _ in 0..64 {
+            match self.tree.get_mut(place) {
+                Some(slot) if *slot != greatest => *slot = greatest,
+                _ => return,
+            }
+            greatest = self.at(place).max(self.at(place ^ 1));
+            place /= 2;
+        }
+    }
+
+    /// Looks again at the choices that have become violated, or are so no more.
+    pub fn follow<L: Ledger>(
+        &mut self,
+        scout: &mut Scout<'_, L>,
+        table: &Table,
+    ) -> Result<(), AllocError> {
+        for i in &scout.take_changed()? {
+            self.look_at(scout, table, *i);
+        }
+        Ok(())
+    }
+
+    /// Scores a choice anew.
+    pub fn look_at<L: Ledger>(&mut self, scout: &Scout<'_, L>, table: &Table, i: usize) {
+        let score = if !scout.is_violated(i) {
+            0
+        } else {
+            match (table.get(i), self.by) {
+                (None, _) => Cost::MAX,
+                (Some(gains), By::Promise) => gains.promise(LIMIT).saturating_add(1),
+                (Some(gains), By::Regret) => gains.regret().saturating_add(1),
+            }
+        };
+        self.set(i, score);
+    }
+
+    /// The choice of the greatest score, the first of several, or None where nothing is violated.
+    pub fn top(&self) -> Option<usize> {
+        if self.at(1) == 0 {
+            return None;
+        }
+        let mut place = 1_usize;
+        for _ in 0..64 {
+            if place < self.leaves {
+                let left = place.saturating_mul(2);
+                let is_left = self.at(left) == self.at(place);
+                place = if is_left {
+                    left
+                } else {
+                    left.saturating_add(1)
+                };
+            }
+        }
+        Some(place.saturating_sub(self.leaves))
+    }
+}

@@ -1,0 +1,187 @@
+//! Choices that are turned by force, with what is near decided anew.
+
+use crate::diving::decide_cheaper;
+use crate::gaining::try_both;
+use crate::noting::Numbers;
+use crate::scouting::Scout;
+use crate::windows::{Windows, all_binding, binding};
+use dm_base::Cost;
+use std::alloc::{AllocError, Global};
+use std::sync::ledger::Ledger;
+
+/// How many rounds of kicks there are at most.
+const ROUNDS: usize = 4;
+
+/// How many choices near a kick are left undecided, how many events are looked at for them, and how many windows follow.
+const BALL: usize = 8;
+
+const EVENTS: usize = 128;
+
+const WINDOWS: usize = 8;
+
+/// How many choices a window behind a kick has at most, and how often it branches.
+const NARROW: usize = 16;
+
+/// The search for better choices by kicks, and windows where one is better.
+#[derive(Drop)]
+pub struct Kicks {
+    alloc: Global,
+    windows: Windows,
+    ball: Numbers,
+    events: Numbers,
+}
+
+impl Kicks {
+    /// No kick yet. The search ends when so many decisions were made or tried.
+    pub fn new<L: Ledger>(
+        alloc: Global,
+        scout: &Scout<'_, L>,
+        limit: u64,
+    ) -> Result<Kicks, AllocError> {
+        let choices = scout.choices().len();
+        let mut kicks = Kicks {
+            alloc,
+            windows: Windows::new(alloc, choices, limit)?,
+            ball: Numbers::new(alloc),
+            events: Numbers::new(alloc),
+        };
+        kicks.ball.extend(choices)?;
+        kicks.events.extend(scout.net().events())?;
+        Ok(kicks)
+    }
+
+    /// Kicks each choice that binds, and later those near which something became better.
+    pub fn improve<L: Ledger>(&mut self, scout: &mut Scout<'_, L>) -> Result<(), AllocError> {
+        let mut seeds = all_binding(self.alloc, scout)?;
+        for _ in 0..ROUNDS {
+            self.windows.touched.forget();
+            self.round(scout, &seeds)?;
+            let touched = Vec::from_slice(self.alloc, self.windows.touched.list())?;
+            let near = binding(self.alloc, scout, &touched)?;
+            self.windows.improve(scout, near, NARROW)?;
+            seeds = binding(self.alloc, scout, &touched)?;
+            if seeds.is_empty() || scout.tried() >= self.windows.limit {
+                return Ok(());
+            }
+        }
+        Ok(())
+    }
+
+    /// One kick of each of these choices that binds.
+    pub fn round<L: Ledger>(
+        &mut self,
+        scout: &mut Scout<'_, L>,
+        seeds: &[usize],
+    ) -> Result<(), AllocError> {
+        for i in seeds {
+            if scout.tried() >= self.windows.limit {
+                return Ok(());
+            }
+            if scout.is_binding(*i) {
+                self.kick(scout, *i)?;
+            }
+        }
+        Ok(())
+    }
+
+    /// Turns a choice to its other side, decides what is near anew, and keeps what is better.
+    fn kick<L: Ledger>(&mut self, scout: &mut Scout<'_, L>, i: usize) -> Result<(), AllocError> {
+        let Some(side) = scout.side(i) else {
+            return Ok(());
+        };
+        let before = scout.cost();
+        scout.begin()?;
+        self.gather(scout, i)?;
+        for member in self.ball.list() {
+            scout.undecide(*member)?;
+        }
+        if !scout.decide(i, side.other())? || !repair(scout, before)? {
+            return scout.restore();
+        }
+        if scout.cost() >= before {
+            self.mend(scout, i)?;
+        }
+        if scout.cost() >= before {
+            return scout.restore();
+        }
+        self.windows.touch(scout)
+    }
+
+    /// Opens small windows around the first choices that bind where something has moved.
+    fn mend<L: Ledger>(&mut self, scout: &mut Scout<'_, L>, i: usize) -> Result<(), AllocError> {
+        let mut left = WINDOWS;
+        let far = scout.far()?;
+        for j in &far {
+            if left > 0 && scout.is_binding(*j) {
+                left = left.saturating_sub(1);
+                if *j != i {
+                    let _better = self.windows.open(scout, *j, NARROW)?;
+                }
+            }
+        }
+        Ok(())
+    }
+
+    /// The decided choices that are nearest to one in the network, itself first.
+    fn gather<L: Ledger>(&mut self, scout: &mut Scout<'_, L>, i: usize) -> Result<(), AllocError> {
+        self.ball.forget();
+        self.events.forget();
+        let _new = self.ball.add(i)?;
+        if let Some(ends) = scout.choices().ends(i) {
+            let _new = self.events.add(ends.tail)?;
+            let _new = self.events.add(ends.head)?;
+        }
+        for k in 0..EVENTS {
+            let Some(event) = self.events.list().get(k).copied() else {
+                return Ok(());
+            };
+            if self.ball.list().len() >= BALL {
+                return Ok(());
+            }
+            let (into, out_of) = scout.rows(event);
+            self.add_near(scout, into)?;
+            self.add_near(scout, out_of)?;
+        }
+        Ok(())
+    }
+
+    /// Adds the decided choices and the events of a row.
+    fn add_near<L: Ledger>(
+        &mut self,
+        scout: &Scout<'_, L>,
+        row: &[usize],
+    ) -> Result<(), AllocError> {
+        let net = scout.net();
+        for a in row {
+            if let Some(j) = scout.choices().number(*a) {
+                if self.ball.list().len() < BALL && scout.side(j).is_some() {
+                    let _new = self.ball.add(j)?;
+                }
+            }
+            if *a < net.activities() {
+                let _new = self.events.add(net.activity(*a).tail)?;
+                let _new = self.events.add(net.activity(*a).head)?;
+            }
+        }
+        Ok(())
+    }
+}
+
+/// Decides the first violated choice on its cheaper side until nothing is violated. It is false where that costs more than a
+/// thousandth above a cost, or each side of a choice makes a cycle.
+fn repair<L: Ledger>(scout: &mut Scout<'_, L>, before: Cost) -> Result<bool, AllocError> {
+    let most = before.saturating_add(before / 1000);
+    for _ in 0..scout.choices().len() {
+        if scout.cost() > most {
+            return Ok(false);
+        }
+        let Some(i) = scout.first_violated()? else {
+            return Ok(true);
+        };
+        let gains = try_both(scout, i);
+        if !decide_cheaper(scout, i, gains.first <= gains.second)? {
+            return Ok(false);
+        }
+    }
+    Ok(false)
+}
