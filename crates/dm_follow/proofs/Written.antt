@@ -1,0 +1,305 @@
+-- The lines of a journal in print: what is told where they stand, and how they stand where they are told.
+use Rattle.std.proofs.Common.{◌≡◌, ℕ, zero, suc, ◌+◌, ◌<◌, ◌≤◌, List, [], ◌∷◌, ◌++◌, length, fold, get_or, Some, All, Result, Ok, refl, sym, ap, subst, ◌∙◌, inl, inr, arith, append_assoc, append-nil, length-append, codes, slice_get}
+use Rattle.std.specs.Fmt.{decimal}
+use Rattle.std.proofs.Math.Seq.{get_or-append_seam, take-append_seam, take-length}
+use Rattle.std.proofs.lemmas.Option.{slice_get-get_or}
+use Rattle.std.proofs.lemmas.List.Elements.{All-nil, All-cons, All-head, All-tail}
+use Rattle.dm_base.specs.declared.limits.TheConstants.{FEEDS, ENTRIES}
+use Rattle.dm_text.specs.Places.{Place}
+use Rattle.dm_text.specs.Judging.{Times, Demands}
+use Rattle.dm_network.specs.Net.{Net}
+use Rattle.dm_rows.specs.declared.messages.Entry.{Entry}
+use Rattle.dm_rows.specs.declared.messages.Refusal.{Refusal}
+use Rattle.dm_rows.specs.Rows.{RowsValue}
+use Rattle.dm_rows.specs.Refuse.{Refuses}
+use Rattle.dm_rows.specs.Resolve.{after}
+use Rattle.dm_rows.specs.History.{rows_at, IsLegal}
+use Rattle.dm_feed.specs.Parts.{largest_id}
+use Rattle.dm_feed.specs.Lines.{spelling_of_message}
+use Rattle.dm_cert.specs.PlanTexts.{line_end, largest_cost, IsVersion}
+use Rattle.dm_cert.specs.RunTexts.{header_text, entry_text, entries_text, FitsEntry}
+use Rattle.dm_cert.proofs.LineFeeds.{NoFeed, has_no_feed, no_feed_append, no_feed_decimal}
+use Rattle.dm_cert.proofs.SpelledPlans.{HasLine}
+use Rattle.dm_cert.proofs.ToldTexts.{line_told}
+use Rattle.dm_records.specs.RunLines.{Numbered, IsNumberLine, IsVersionLine, IsEntryLine}
+use Rattle.dm_records.proofs.Splitting.{message_no_feed}
+use Rattle.dm_follow.specs.declared.faults.FollowKind.{FollowKind}
+use Rattle.dm_follow.specs.declared.faults.FollowKind.TheVariants as kind
+use Rattle.dm_follow.specs.Journals.{Halt, broken, Header, header, Reads, Rules, TellsHeader, TellsPenalty, TellsFeeds, TellsEntries, IsNextEntry, TellsEntry}
+use Rattle.dm_follow.specs.Followed.{IsEntryOf}
+
+-- ---- lines that stand
+
+abbrev next_line : Place → List ℕ → Place
+next_line place rest = record { left = rest; line = place.line + 1 }
+
+reads_there : {V : Type 0} (spells : V → List ℕ → Type 0) (text : V → List ℕ) (v : V) (place : Place) (rest : List ℕ) → HasLine spells text v → place.left ≡ text v ++ rest →
+    Reads spells place (Ok (v, next_line place rest))
+reads_there spells text v place rest has left = record {
+  bytes = has.line;
+  stands = record {
+    whole = left ∙ (ap (λ xs. xs ++ rest) has.text_is ∙ append_assoc has.line line_end rest);
+    one_line = has.one_line;
+    counted = refl;
+  };
+  spelled = has.spelled;
+}
+
+rules_there : {V W : Type 0} (spells : V → List ℕ → Type 0) (text : V → List ℕ) (rule : V → Type 0) (k : FollowKind) (gives : V → W) (v : V) (place : Place) (rest : List ℕ) → HasLine spells text v →
+    rule v → place.left ≡ text v ++ rest → Rules spells rule k gives place (Ok (gives v, next_line place rest))
+rules_there spells text rule k gives v place rest has holds left =
+    record { value = v; behind = next_line place rest; told = reads_there spells text v place rest has left; then = (holds, refl, refl) }
+
+-- ---- the header
+
+-- the text of a line of a number
+abbrev counted : List ℕ → ℕ → List ℕ
+counted words n = words ++ (decimal n ++ line_end)
+
+numbered_text : (words : List ℕ) (k : ℕ) (line : List ℕ) → IsNumberLine words k line → counted words k ≡ line ++ line_end
+numbered_text words k line is =
+    ap (λ xs. words ++ xs) (ap (λ ys. ys ++ line_end) (sym (append-nil (decimal k)))) ∙ (sym (append_assoc words (decimal k ++ []) line_end) ∙ ap (λ xs. xs ++ line_end) is.spelled)
+
+version_text : (v : ℕ) (line : List ℕ) → IsVersionLine v line → counted (codes "dm-run ") v ≡ line ++ line_end
+version_text v line is =
+    ap (λ xs. codes "dm-run " ++ xs) (ap (λ ys. ys ++ line_end) (sym (append-nil (decimal v)))) ∙ (sym (append_assoc (codes "dm-run ") (decimal v ++ []) line_end) ∙ ap (λ xs. xs ++ line_end) is.spelled)
+
+number_then : (n : ℕ) (rest : List ℕ) → n ≤ largest_cost → NoFeed rest → NoFeed (decimal n ++ rest)
+number_then n rest fits none = no_feed_append (decimal n) rest (no_feed_decimal n (omega arith)) none
+
+number_has_line : (words : List ℕ) (n : ℕ) → NoFeed words → n ≤ largest_cost → HasLine (IsNumberLine words) (counted words) n
+number_has_line words n none fits =
+    let is : IsNumberLine words n (words ++ (decimal n ++ [])) = record { spelled = refl; fits = fits } in
+    record {
+      line = words ++ (decimal n ++ []);
+      text_is = numbered_text words n (words ++ (decimal n ++ [])) is;
+      one_line = has_no_feed (words ++ (decimal n ++ [])) (no_feed_append words (decimal n ++ []) none (number_then n [] fits refl));
+      spelled = is;
+    }
+
+version_low : (version : ℕ) → IsVersion version → version ≤ 2
+version_low version (inl one) = omega arith
+version_low version (inr two) = omega arith
+
+version_has_line : (version : ℕ) → IsVersion version → HasLine IsVersionLine (counted (codes "dm-run ")) version
+version_has_line version is_version =
+    let words : List ℕ = codes "dm-run " in
+    let is : IsVersionLine version (words ++ (decimal version ++ [])) = record { spelled = refl; is_version = is_version } in
+    let low = version_low version is_version in
+    record {
+      line = words ++ (decimal version ++ []);
+      text_is = version_text version (words ++ (decimal version ++ [])) is;
+      one_line = has_no_feed (words ++ (decimal version ++ [])) (no_feed_append words (decimal version ++ []) refl (number_then version [] (omega arith) refl));
+      spelled = is;
+    }
+
+header_regroup : (v p f e rest : List ℕ) →
+    (codes "dm-run " ++ (v ++ line_end)) ++ ((codes "penalty " ++ (p ++ line_end)) ++ ((codes "feeds " ++ (f ++ line_end)) ++ ((codes "entries " ++ (e ++ line_end)) ++ rest)))
+    ≡ (codes "dm-run " ++ (v ++ (line_end ++ (codes "penalty " ++ (p ++ (line_end ++ (codes "feeds " ++ (f ++ (line_end ++ (codes "entries " ++ (e ++ (line_end ++ [])))))))))))) ++ rest
+header_regroup v p f e rest = simp (append_assoc, append-nil)
+
+header_is : (v p f e : ℕ) (rest : List ℕ) →
+    counted (codes "dm-run ") v ++ (counted (codes "penalty ") p ++ (counted (codes "feeds ") f ++ (counted (codes "entries ") e ++ rest))) ≡ header_text v p f e ++ rest
+unfolding header_text
+header_is v p f e rest = header_regroup (decimal v) (decimal p) (decimal f) (decimal e) rest
+
+-- where the header stands, it is told, and this is left behind it
+pub record HeaderThere (penalty feeds entries : ℕ) (place : Place) (rest : List ℕ) : Type 0 where
+  pub behind : Place
+  pub left : behind.left ≡ rest
+  pub told : TellsHeader penalty place (Ok (header feeds entries, behind))
+
+pub header_there : (version penalty feeds entries : ℕ) (place : Place) (rest : List ℕ) → IsVersion version → penalty ≤ largest_cost → 1 ≤ feeds → feeds ≤ FEEDS → entries ≤ ENTRIES →
+    place.left ≡ header_text version penalty feeds entries ++ rest → HeaderThere penalty feeds entries place rest
+header_there version penalty feeds entries place rest is_version low some few many left =
+    let d : List ℕ = counted (codes "entries ") entries ++ rest in
+    let c : List ℕ = counted (codes "feeds ") feeds ++ d in
+    let b : List ℕ = counted (codes "penalty ") penalty ++ c in
+    let one : Place = next_line place b in
+    let two : Place = next_line one c in
+    let three : Place = next_line two d in
+    let four : Place = next_line three rest in
+    record {
+      behind = four;
+      left = refl;
+      told = record {
+        value = version;
+        behind = one;
+        told = reads_there IsVersionLine (counted (codes "dm-run ")) version place b (version_has_line version is_version) (left ∙ sym (header_is version penalty feeds entries rest));
+        then = record {
+          value = penalty;
+          behind = two;
+          told = rules_there (IsNumberLine (codes "penalty ")) (counted (codes "penalty ")) (λ n. n ≡ penalty) kind.Form (λ n. n) penalty one c (number_has_line (codes "penalty ") penalty refl low) refl refl;
+          then = record {
+            value = feeds;
+            behind = three;
+            told = rules_there (IsNumberLine (codes "feeds ")) (counted (codes "feeds ")) (λ n. (1 ≤ n) × (n ≤ FEEDS)) kind.Form (λ n. n) feeds two d (number_has_line (codes "feeds ") feeds refl (omega (arith, few))) (some, few) refl;
+            then = rules_there (IsNumberLine (codes "entries ")) (counted (codes "entries ")) (λ n. n ≤ ENTRIES) kind.Form (header feeds) entries three rest (number_has_line (codes "entries ") entries refl (omega (arith, many))) many refl;
+          };
+        };
+      };
+    }
+
+rules_left : {V W : Type 0} (spells : V → List ℕ → Type 0) (text : V → List ℕ) → ((v : V) (line : List ℕ) → spells v line → text v ≡ line ++ line_end) →
+    (rule : V → Type 0) (k : FollowKind) (gives : V → W) (place next : Place) (w : W) → (told : Rules spells rule k gives place (Ok (w, next))) → place.left ≡ text told.value ++ next.left
+rules_left spells text spelled rule k gives place next w told =
+    line_told spells text spelled place told.behind told.value told.told ∙ ap (λ (p : Place). text told.value ++ p.left) (sym told.then.2)
+
+-- how a header stands that is told
+pub record HeaderTold (penalty : ℕ) (h : Header) (place next : Place) : Type 0 where
+  pub version : ℕ
+  pub is_version : IsVersion version
+  pub some_feed : 1 ≤ h.feeds
+  pub few_feeds : h.feeds ≤ FEEDS
+  pub few_entries : h.entries ≤ ENTRIES
+  pub left : place.left ≡ header_text version penalty h.feeds h.entries ++ next.left
+
+pub header_told : (penalty : ℕ) (h : Header) (place next : Place) → TellsHeader penalty place (Ok (h, next)) → HeaderTold penalty h place next
+header_told penalty h place next told =
+    let p = told.then in
+    let f = p.then in
+    let e = f.then in
+    let v : ℕ = told.value in
+    let one = line_told IsVersionLine (counted (codes "dm-run ")) version_text place told.behind v told.told in
+    let two = rules_left (IsNumberLine (codes "penalty ")) (counted (codes "penalty ")) (numbered_text (codes "penalty ")) (λ n. n ≡ penalty) kind.Form (λ n. n) told.behind p.behind p.value p.told in
+    let three = rules_left (IsNumberLine (codes "feeds ")) (counted (codes "feeds ")) (numbered_text (codes "feeds ")) (λ n. (1 ≤ n) × (n ≤ FEEDS)) kind.Form (λ n. n) p.behind f.behind f.value f.told in
+    let four = rules_left (IsNumberLine (codes "entries ")) (counted (codes "entries ")) (numbered_text (codes "entries ")) (λ n. n ≤ ENTRIES) kind.Form (header f.value) f.behind next h e in
+    let same_penalty : p.told.value ≡ penalty = p.told.then.0 in
+    let feeds_is : h.feeds ≡ f.value = ap (λ (x : Header). x.feeds) e.then.1 in
+    let entries_is : h.entries ≡ e.value = ap (λ (x : Header). x.entries) e.then.1 in
+    let feeds_said : f.value ≡ f.told.value = f.told.then.1 in
+    let low = f.told.then.0.0 in
+    let top = f.told.then.0.1 in
+    let many = e.then.0 in
+    record {
+      version = v;
+      is_version = told.told.spelled.is_version;
+      some_feed = omega (arith, low, feeds_is, feeds_said);
+      few_feeds = omega (arith, top, feeds_is, feeds_said);
+      few_entries = omega (arith, many, entries_is);
+      left =
+          one
+          ∙ (ap (λ xs. counted (codes "dm-run ") v ++ xs)
+          (two ∙ (ap (λ n. counted (codes "penalty ") n ++ p.behind.left) same_penalty
+          ∙ ap (λ xs. counted (codes "penalty ") penalty ++ xs)
+          (three ∙ (ap (λ n. counted (codes "feeds ") n ++ f.behind.left) (sym (feeds_is ∙ feeds_said))
+          ∙ ap (λ xs. counted (codes "feeds ") h.feeds ++ xs)
+          (four ∙ ap (λ n. counted (codes "entries ") n ++ next.left) (sym entries_is))))))
+          ∙ header_is v penalty h.feeds h.entries next.left);
+    }
+
+-- ---- entries
+
+abbrev entry_bytes : ℕ → Entry → List ℕ
+entry_bytes n e =
+    codes "entry " ++ (decimal n ++ (codes " feed " ++ (decimal e.feed ++ (codes " line " ++ (decimal e.line ++ (codes " " ++ spelling_of_message e.message))))))
+
+entry_is : (n : ℕ) (e : Entry) → entry_text n e ≡ entry_bytes n e ++ line_end
+unfolding entry_text
+entry_is n e = sym (simp (append_assoc, append-nil))
+
+entry_no_feed : (n : ℕ) (e : Entry) → n ≤ largest_id → FitsEntry e → NoFeed (entry_bytes n e)
+entry_no_feed n e low fits =
+    let message : List ℕ = codes " " ++ spelling_of_message e.message in
+    let line : List ℕ = codes " line " ++ (decimal e.line ++ message) in
+    let feed : List ℕ = codes " feed " ++ (decimal e.feed ++ line) in
+    let a : NoFeed message = no_feed_append (codes " ") (spelling_of_message e.message) refl (message_no_feed e.message fits.2) in
+    let b : NoFeed line = no_feed_append (codes " line ") (decimal e.line ++ message) refl (number_then e.line message (let l = fits.1 in omega arith) a) in
+    let c : NoFeed feed = no_feed_append (codes " feed ") (decimal e.feed ++ line) refl (number_then e.feed line (let f = fits.0 in omega arith) b) in
+    no_feed_append (codes "entry ") (decimal n ++ feed) refl (number_then n feed (omega arith) c)
+
+entry_has_line : (n : ℕ) (e : Entry) → n ≤ largest_id → FitsEntry e → HasLine IsEntryLine (λ said. entry_text said.number said.entry) (record { number = n; entry = e })
+entry_has_line n e low fits = record {
+  line = entry_bytes n e;
+  text_is = entry_is n e;
+  one_line = has_no_feed (entry_bytes n e) (entry_no_feed n e low fits);
+  spelled = record { spelled = entry_is n e; number = low; feed = (let f = fits.0 in omega arith); of_line = fits.1; message = fits.2 };
+}
+
+-- the rows after the entries before one are the same, whatever stands behind them
+pub rows_before : (net : Net) (start : RowsValue) (before later : List Entry) → rows_at net start (before ++ later) (length before) ≡ rows_at net start before (length before)
+rows_before net start before later =
+    ap (λ es. fold (λ rows (entry : Entry). after net rows entry.message) start es) (take-append_seam before later ∙ sym (take-length before))
+
+at_seam : {V : Type 0} (before : List V) (v : V) (later : List V) → slice_get (before ++ v ∷ later) (length before) ≡ Some v
+at_seam before v later =
+    slice_get-get_or (before ++ v ∷ later) (length before) v (omega (arith, length-append before (v ∷ later))) ∙ ap Some (get_or-append_seam before v later v)
+
+-- where the entries stand that are left, they are told
+pub record EntriesThere (net : Net) (start : RowsValue) (feeds : ℕ) (before tail : List Entry) (place : Place) (rest : List ℕ) : Type 0 where
+  pub behind : Place
+  pub left : behind.left ≡ rest
+  pub told : Times {F = Halt} (length tail) (TellsEntry net start feeds) before place (Ok (before ++ tail, behind))
+
+pub entries_there : (net : Net) (start : RowsValue) (feeds : ℕ) (before tail : List Entry) (place : Place) (rest : List ℕ) → IsLegal net start (before ++ tail) → All (IsEntryOf feeds) tail →
+    place.left ≡ entries_text (length before + 1) tail ++ rest → EntriesThere net start feeds before tail place rest
+entries_there net start feeds before [] place rest legal each left =
+    record { behind = place; left = left; told = (append-nil before, refl) }
+entries_there net start feeds before (e ∷ tail) place rest legal each left =
+    let here = All-head (IsEntryOf feeds) e tail each in
+    let n : ℕ = length before + 1 in
+    let more : List ℕ = entries_text (n + 1) tail ++ rest in
+    let said : Numbered = record { number = n; entry = e } in
+    let few = legal.size in
+    let size = length-append before (e ∷ tail) in
+    let next_is : IsNextEntry net start feeds before said = record {
+      number = refl;
+      feed = here.feed;
+      line = here.line;
+      accepted = λ r refuses. legal.accepted (length before) e r (at_seam before e tail)
+          (subst (λ (rows : RowsValue). Refuses net rows (length before) e.message r) (sym (rows_before net start before (e ∷ tail))) refuses);
+    } in
+    let one = rules_there IsEntryLine (λ (s : Numbered). entry_text s.number s.entry) (IsNextEntry net start feeds before) kind.Entry (λ (s : Numbered). s.entry) said place more
+    (entry_has_line n e (omega (arith, few, size)) here.fits) next_is (left ∙ append_assoc (entry_text n e) (entries_text (n + 1) tail) rest) in
+    let together : (before ++ e ∷ []) ++ tail ≡ before ++ e ∷ tail = append_assoc before (e ∷ []) tail in
+    let two = entries_there net start feeds (before ++ e ∷ []) tail (next_line place more) rest (subst (IsLegal net start) (sym together) legal) (All-tail (IsEntryOf feeds) e tail each)
+    (ap (λ k. entries_text k tail ++ rest) (ap (λ k. k + 1) (sym (length-append before (e ∷ []))))) in
+    record {
+      behind = two.behind;
+      left = two.left;
+      told = record {
+        value = e;
+        behind = next_line place more;
+        told = one;
+        then = subst (λ (all : List Entry). Times {F = Halt} (length tail) (TellsEntry net start feeds) (before ++ e ∷ []) (next_line place more) (Ok (all, two.behind))) together two.told;
+      };
+    }
+
+-- how entries stand that are told
+pub record EntriesTold (feeds n : ℕ) (before all : List Entry) (place next : Place) : Type 0 where
+  pub tail : List Entry
+  pub is : all ≡ before ++ tail
+  pub left : place.left ≡ entries_text (length before + 1) tail ++ next.left
+  pub each : All (IsEntryOf feeds) tail
+
+pub entries_told : (net : Net) (start : RowsValue) (feeds n : ℕ) (before all : List Entry) (place next : Place) → feeds ≤ FEEDS → Times {F = Halt} n (TellsEntry net start feeds) before place (Ok (all, next)) →
+    EntriesTold feeds n before all place next
+entries_told net start feeds zero before all place next few told = record {
+  tail = [];
+  is = told.0 ∙ sym (append-nil before);
+  left = ap (λ (p : Place). p.left) (sym told.1);
+  each = All-nil (IsEntryOf feeds);
+}
+entries_told net start feeds (suc n) before all place next few told =
+    let e : Entry = told.value in
+    let one = told.told in
+    let said : Numbered = one.value in
+    let rest = entries_told net start feeds n (before ++ e ∷ []) all told.behind next few told.then in
+    let k : ℕ = length before + 1 in
+    let same : e ≡ said.entry = one.then.1 in
+    let text = rules_left IsEntryLine (λ (s : Numbered). entry_text s.number s.entry) (λ s line is. is.spelled) (IsNextEntry net start feeds before) kind.Entry (λ (s : Numbered). s.entry) place told.behind e one
+    ∙ (ap (λ m. entry_text m said.entry ++ told.behind.left) one.then.0.number ∙ ap (λ x. entry_text k x ++ told.behind.left) (sym same)) in
+    let count : length (before ++ e ∷ []) ≡ k = length-append before (e ∷ []) in
+    let feed = one.then.0.feed in
+    let here : IsEntryOf feeds said.entry = record {
+      feed = feed;
+      line = one.then.0.line;
+      fits = (omega (arith, feed, few), one.told.spelled.of_line, one.told.spelled.message);
+    } in
+    record {
+      tail = e ∷ rest.tail;
+      is = rest.is ∙ append_assoc before (e ∷ []) rest.tail;
+      left = text ∙ (ap (λ xs. entry_text k e ++ xs) (rest.left ∙ ap (λ m. entries_text (m + 1) rest.tail ++ next.left) count)
+          ∙ sym (append_assoc (entry_text k e) (entries_text (k + 1) rest.tail) next.left));
+      each = All-cons (IsEntryOf feeds) e rest.tail (subst (IsEntryOf feeds) (sym same) here) rest.each;
+    }

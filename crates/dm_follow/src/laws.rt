@@ -1,0 +1,13 @@
+//! What holds of all texts. A law has no code: it is proved as the contract of an empty function.
+ghost use Rattle.dm_follow.specs.Laws.{FollowedIsOne, FrontsAreFollowed};
+
+/// Bytes carry one followed history alone, have one front fault at most, and their journal has one tail.
+pub fn followed_is_one()
+    ensures { FollowedIsOne }
+{}
+
+/// The front of the text of a true run, of whatever length, has no front fault, and the history that is followed there is a front
+/// of the run's.
+pub fn fronts_are_followed()
+    ensures { FrontsAreFollowed }
+{}
