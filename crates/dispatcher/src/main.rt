@@ -1,11 +1,13 @@
 //! The dispatcher's server: keeps the timetable of a railway network up to date while feeds report delays.
 //!
 //! It makes the real shelf, sink and gate, and a board in the file `DIR/board-S.txt` for each stop S that the words give, calls
-//! `dm_program::dispatch` with the words of the command line, and ends with its status. It stands on dm_program for `dispatch`, on
-//! dm_words for the folder and the stops of the boards, and on dm_boards and dm_outside for the real forms.
+//! `dm_program::dispatch` with the words of the command line, says on the standard error what went amiss, and ends with its status.
+//! It stands on dm_program for `dispatch`, on dm_hints for what is said, on dm_words for the folder and the stops of the boards, and
+//! on dm_boards and dm_outside for the real forms.
 #![tactic(auto)]
 
 use dm_boards::FileBoard;
+use dm_hints::{Listener, tell};
 use dm_outside::{Board, FolderShelf, OpenGate, StdSink};
 use dm_program::{Status, dispatch};
 use dm_words::{CommandWords, board_words, read_words};
@@ -33,8 +35,8 @@ fn main(rt: HostRuntime) -> ExitCode {
         };
     }
     let mut shelf = FolderShelf::new(&rt);
-    let mut out = StdSink::new(rt.stdout());
-    end(dispatch(
+    let mut out = Listener::new(StdSink::new(rt.stdout()));
+    let status = dispatch(
         &rt,
         rt.alloc(),
         words.as_slice(),
@@ -42,7 +44,9 @@ fn main(rt: HostRuntime) -> ExitCode {
         &mut boards,
         &OpenGate,
         &mut out,
-    ))
+    );
+    let _ = tell(&rt, words.as_slice(), status as u8, &out);
+    end(status)
 }
 
 fn end(status: Status) -> ExitCode {

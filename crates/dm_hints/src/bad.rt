@@ -1,0 +1,86 @@
+//! What the verdict on a text means.
+use crate::files::front_of;
+use crate::text::{cut, has, is_same, line_at, number, word_at};
+use dm_words::CheckWords;
+use std::fs::File;
+use std::io;
+use std::rt::Files;
+
+/// What a kind of a bad record means.
+fn meaning(kind: &[u8]) -> &'static str {
+    match kind {
+        b"form" => "the line has not the form that must stand there",
+        b"truncated" => "the text ends before this line is whole",
+        b"entry" =>
+            "the entry is not the next one, or its message is refused by the rows before it",
+        b"reply" => "the answer is not the one that the rows at its entry give",
+        b"plan" => "the plan, or its tree, is not true of the rows at its entry",
+        b"unnamed" => "some entry is named by no `ok` of a log",
+        b"board" => "the note of a board is out of order or of no board",
+        b"time" => "the time is not that of the least timetable after all entries",
+        b"cost" => "the cost is not that of the rows after all entries",
+        _ => "the record breaks its rule",
+    }
+}
+
+/// Says what `bad LINE KIND` means, and what to look at first.
+pub fn tell_bad<R: Eprint + Files<File = File>>(
+    rt: &R,
+    check: &CheckWords<'_>,
+    verdict: &[u8],
+) -> io::Result<()> {
+    let Some(line) = number(word_at(verdict, 1)) else {
+        return Ok(());
+    };
+    let kind = word_at(verdict, 2);
+    let name = check.text;
+    let means = meaning(kind);
+    eprintln!(rt; "dispatcher: {name} line {line}: {means}")?;
+    if is_same(kind, "form") {
+        return tell_form(rt, check, line);
+    }
+    if is_same(kind, "truncated") {
+        return eprintln!(rt;
+            "dispatcher: line {line}: was the run cut off, or the text not copied whole?"
+        );
+    }
+    eprintln!(rt;
+        "dispatcher: line {line}: are the network, its columns and the delays at the start those of the run, and the text unchanged?"
+    )
+}
+
+/// Says what to look at first where a line has not its form.
+fn tell_form<R: Eprint + Files<File = File>>(
+    rt: &R,
+    check: &CheckWords<'_>,
+    line: u64,
+) -> io::Result<()> {
+    let front = front_of(rt, check.text);
+    let (first, _) = cut(front.bytes(), b'\n');
+    if has(first, b'\r') {
+        return eprintln!(rt;
+            "dispatcher: line {line}: the text has the line ends of Windows, CR before LF: a run writes LF alone"
+        );
+    }
+    if line == 1 {
+        return eprintln!(rt;
+            "dispatcher: line 1: the text of a run begins with `dm-run 2` or `dm-run 1`"
+        );
+    }
+    if line == 2 {
+        return tell_penalty(rt, check.files.penalty, line_at(front.bytes(), 2));
+    }
+    eprintln!(rt; "dispatcher: line {line}: is the text of this network, whole and unchanged?")
+}
+
+/// Says how the penalty of a text and that of a check differ.
+fn tell_penalty<R: Eprint>(rt: &R, penalty: u64, line: &[u8]) -> io::Result<()> {
+    match number(word_at(line, 1)) {
+        Some(other) => eprintln!(rt;
+            "dispatcher: line 2: the text's penalty is not the one of this check, which is {penalty}: give --penalty={other}"
+        ),
+        None => eprintln!(rt;
+            "dispatcher: line 2: the penalty of the run stands here, as `penalty {penalty}`"
+        ),
+    }
+}

@@ -1,0 +1,188 @@
+//! What is amiss in the feeds of a run.
+use crate::files::{is_plain, path_of, tell_reason};
+use crate::hearing::{FeedHeard, Heard, REASONS, Stop, TOLD};
+use crate::text::{cut, has, has_capital, line_at, shown};
+use dm_base::EventRow;
+use dm_base::limits::{FEED, FILE, LINE};
+use dm_input::{File as InputFile, take_name};
+use dm_lintim::read_events;
+use dm_outside::FolderShelf;
+use dm_words::{FileWords, RunWords};
+use std::fs::File;
+use std::io;
+use std::rt::Files;
+
+/// The first words of lines, and the form of such a line.
+const FORMS: [(&str, &str); 12] = [
+    (
+        "delay",
+        "the form is `delay event E D` or `delay activity A D`",
+    ),
+    ("pass", "the form is `pass E T`"),
+    ("recall", "the form is `recall E`"),
+    ("keep", "the form is `keep A`"),
+    ("drop", "the form is `drop A`"),
+    ("first", "the form is `first E F`"),
+    ("now", "the form is `now T`"),
+    ("time", "the form is `time E`"),
+    ("cost", "the form is `cost`"),
+    ("read", "the form is `read`"),
+    ("plan", "the form is `plan B`"),
+    ("adopt", "the form is `adopt`"),
+];
+
+/// Says what is amiss in a run: in its feeds, in its answers, and in its boards.
+pub fn tell_run<R: Eprint + Files<File = File> + AllocGlobal>(
+    rt: &R,
+    run: &RunWords<'_>,
+    heard: &Heard,
+) -> io::Result<()> {
+    let mut rest = run.feeds;
+    for (place, feed) in heard.feeds.iter().enumerate() {
+        let Some((name, others)) = rest.split_first() else {
+            break;
+        };
+        tell_feed(rt, place.saturating_add(1), name, feed)?;
+        rest = others;
+    }
+    tell_refusals(rt, heard)?;
+    tell_boards(rt, &run.files, run.boards.as_slice())
+}
+
+/// Says what is amiss in a feed.
+fn tell_feed<R: Eprint + Files<File = File> + AllocGlobal>(
+    rt: &R,
+    number: usize,
+    name: &str,
+    feed: &FeedHeard,
+) -> io::Result<()> {
+    match feed.stop {
+        Stop::End => {}
+        Stop::Fault => {
+            eprintln!(rt; "dispatcher: feed {number} ended with a fault")?;
+            tell_reason(rt, name)?;
+        }
+        Stop::Long => eprintln!(rt;
+            "dispatcher: feed {number}, {name}, has more than 262144 bytes: what lies behind them was not answered"
+        )?,
+    }
+    if feed.malformed == 0 {
+        return Ok(());
+    }
+    let count = feed.malformed;
+    eprintln!(rt; "dispatcher: feed {number}, {name}: malformed lines: {count}")?;
+    if !is_plain(rt, name) {
+        return tell_numbers(rt, name, feed);
+    }
+    let mut shelf = FolderShelf::new(rt);
+    let Ok(bytes) = take_name(rt.alloc(), &mut shelf, name, FEED) else {
+        return tell_numbers(rt, name, feed);
+    };
+    tell_lines(rt, name, feed, bytes.as_slice())
+}
+
+/// Says the numbers of the first malformed lines of a feed.
+fn tell_numbers<R: Eprint>(rt: &R, name: &str, feed: &FeedHeard) -> io::Result<()> {
+    for number in feed.first.iter().take(told_lines(feed)) {
+        eprintln!(rt; "dispatcher: {name} line {number}")?;
+    }
+    Ok(())
+}
+
+/// Says the first malformed lines of a feed, with a guess why.
+fn tell_lines<R: Eprint>(rt: &R, name: &str, feed: &FeedHeard, bytes: &[u8]) -> io::Result<()> {
+    for number in feed.first.iter().take(told_lines(feed)) {
+        let line = line_at(bytes, *number);
+        let (text, why) = (shown(line), guess(line, is_ended(bytes, *number)));
+        eprintln!(rt; "dispatcher: {name} line {number}: \"{text}\": {why}")?;
+    }
+    Ok(())
+}
+
+/// How many malformed lines of a feed are told.
+fn told_lines(feed: &FeedHeard) -> usize {
+    TOLD.min(feed.malformed as usize)
+}
+
+/// Whether an LF stands behind a line.
+fn is_ended(bytes: &[u8], number: u64) -> bool {
+    let ends = bytes.iter().filter(|byte| **byte == b'\n').count();
+    number <= ends as u64
+}
+
+/// Why a line may be malformed, behind which an LF stands or none.
+fn guess(line: &[u8], is_ended: bool) -> &'static str {
+    let bare = if is_ended {
+        line.strip_suffix(b"\r").unwrap_or(line)
+    } else {
+        line
+    };
+    if line.starts_with(b"\xef\xbb\xbf") {
+        "a byte order mark stands before it: save the feed as UTF-8 without one"
+    } else if bare.len() > LINE {
+        "it has more than 1024 bytes"
+    } else if has(line, b'\t') {
+        "a tab: words stand between spaces"
+    } else if has(line, b'-') {
+        "a minus sign: numbers are 0 or more"
+    } else if has(bare, b'\r') {
+        "a CR without LF: lines end with LF, or with CR and LF"
+    } else if has_capital(line) {
+        "a capital letter: words are written in small letters"
+    } else {
+        form_of(bare)
+    }
+}
+
+/// The form of a line that begins with such a word.
+fn form_of(line: &[u8]) -> &'static str {
+    let (word, _) = cut(line.trim_ascii(), b' ');
+    for (name, form) in &FORMS {
+        if word == name.as_bytes() {
+            return *form;
+        }
+    }
+    "no line begins with this word: delay, pass, recall, keep, drop, first, now, time, cost, read, plan, adopt"
+}
+
+/// Says how many lines were refused for each reason.
+fn tell_refusals<R: Eprint>(rt: &R, heard: &Heard) -> io::Result<()> {
+    for (reason, count) in REASONS.iter().zip(heard.refused.iter()) {
+        if *count > 0 {
+            eprintln!(rt; "dispatcher: lines answered with `{reason}`: {count}")?;
+        }
+    }
+    Ok(())
+}
+
+/// Says which stops of boards have no event.
+fn tell_boards<R: Eprint + Files<File = File> + AllocGlobal>(
+    rt: &R,
+    files: &FileWords<'_>,
+    stops: &[u32],
+) -> io::Result<()> {
+    if stops.is_empty() {
+        return Ok(());
+    }
+    let Some(path) = path_of(rt.alloc(), files, InputFile::Events) else {
+        return Ok(());
+    };
+    let mut shelf = FolderShelf::new(rt);
+    let Ok(bytes) = take_name(rt.alloc(), &mut shelf, path.as_str(), FILE) else {
+        return Ok(());
+    };
+    let Ok(rows) = read_events(rt.alloc(), bytes.as_slice(), &files.columns) else {
+        return Ok(());
+    };
+    for stop in stops {
+        if !has_event(rows.as_slice(), *stop) {
+            eprintln!(rt; "dispatcher: no event has the stop {stop}, so its board shows nothing")?;
+        }
+    }
+    Ok(())
+}
+
+/// Whether an event has this stop.
+fn has_event(rows: &[EventRow], stop: u32) -> bool {
+    rows.iter().any(|row| row.stop.0 == stop)
+}

@@ -1,0 +1,205 @@
+//! What is heard in the text that a command prints.
+use crate::text::{cut, is_same, number, word_at};
+use dm_base::limits::FEEDS;
+
+/// How many bytes of a line are kept.
+pub const KEPT: usize = 240;
+
+/// How many malformed lines of a feed are told by number.
+pub const TOLD: usize = 5;
+
+/// The front of a line.
+#[derive(Clone, Copy)]
+pub struct Line {
+    bytes: [u8; KEPT],
+    len: usize,
+}
+
+impl Line {
+    pub fn new() -> Line {
+        Line {
+            bytes: [0; KEPT],
+            len: 0,
+        }
+    }
+
+    fn push(&mut self, byte: u8) {
+        if let Some(place) = self.bytes.get_mut(self.len) {
+            *place = byte;
+            self.len = self.len.saturating_add(1);
+        }
+    }
+
+    /// The bytes that were kept.
+    pub fn kept(&self) -> &[u8] {
+        self.bytes.get(..self.len).unwrap_or_default()
+    }
+}
+
+/// The malformed lines of a feed, and how it ended.
+#[derive(Clone, Copy)]
+pub struct FeedHeard {
+    /// How many lines were malformed, and the numbers of the first of them.
+    pub malformed: u32,
+    pub first: [u64; TOLD],
+    pub stop: Stop,
+}
+
+/// How a feed ended.
+#[derive(Clone, Copy, PartialEq, Eq)]
+pub enum Stop {
+    End,
+    Fault,
+    Long,
+}
+
+/// Why a line is refused.
+pub const REASONS: [&str; 13] = [
+    "range",
+    "unknown-event",
+    "unknown-activity",
+    "unknown-change",
+    "unknown-pair",
+    "passed",
+    "not-passed",
+    "cycle",
+    "back",
+    "full",
+    "noplan",
+    "old",
+    "plans",
+];
+
+/// The word that may be a reason in an answer: `N refused REASON ..`, `N old`, or the reason alone.
+fn reason_in(answer: &[u8]) -> &[u8] {
+    let word = word_at(answer, 1);
+    if is_same(word, "refused") {
+        word_at(answer, 2)
+    } else if is_same(word, "old") {
+        word
+    } else {
+        word_at(answer, 0)
+    }
+}
+
+/// The number of a feed, or 0 where the word is none.
+fn feed_number(word: &[u8]) -> usize {
+    match number(word) {
+        Some(number) if number <= FEEDS as u64 => number as usize,
+        _ => 0,
+    }
+}
+
+/// What a text has told so far.
+#[derive(Drop)]
+pub struct Heard {
+    /// Its first line.
+    pub first: Line,
+    line: Line,
+    has_first: bool,
+    is_run: bool,
+    feed: usize,
+    pub feeds: [FeedHeard; FEEDS],
+
+    /// How many lines were refused for each reason, in the order of `REASONS`.
+    pub refused: [u32; 13],
+}
+
+impl Heard {
+    pub fn new() -> Heard {
+        let silent = FeedHeard {
+            malformed: 0,
+            first: [0; TOLD],
+            stop: Stop::End,
+        };
+        Heard {
+            first: Line::new(),
+            line: Line::new(),
+            has_first: false,
+            is_run: false,
+            feed: 0,
+            feeds: [silent; FEEDS],
+            refused: [0; 13],
+        }
+    }
+
+    /// Whether it is the text of a run.
+    pub fn is_run(&self) -> bool {
+        self.is_run
+    }
+
+    /// Hears bytes.
+    pub fn hear_all(&mut self, bytes: &[u8]) {
+        for byte in bytes {
+            self.hear(*byte);
+        }
+    }
+
+    /// Hears a byte.
+    fn hear(&mut self, byte: u8) {
+        if byte == b'\n' {
+            self.end_line();
+            self.line.len = 0;
+        } else {
+            self.line.push(byte);
+        }
+    }
+
+    fn end_line(&mut self) {
+        let line = self.line;
+        if !self.has_first {
+            self.has_first = true;
+            self.first = line;
+            self.is_run = is_same(word_at(line.kept(), 0), "dm-run");
+            return;
+        }
+        if self.is_run {
+            self.hear_line(line.kept());
+        }
+    }
+
+    /// Hears a line of a run's text behind the first.
+    fn hear_line(&mut self, line: &[u8]) {
+        let (front, rest) = cut(line, b' ');
+        if is_same(front, "feed") {
+            self.feed = feed_number(word_at(rest, 0));
+        } else if is_same(line, "fault") {
+            self.end_feed(Stop::Fault);
+        } else if is_same(line, "long") {
+            self.end_feed(Stop::Long);
+        } else if is_same(rest, "malformed") {
+            self.hear_malformed(number(front).unwrap_or(0));
+        } else {
+            self.hear_answer(rest);
+        }
+    }
+
+    fn end_feed(&mut self, stop: Stop) {
+        if let Some(feed) = self.feeds.get_mut(self.feed.wrapping_sub(1)) {
+            feed.stop = stop;
+        }
+    }
+
+    fn hear_malformed(&mut self, line: u64) {
+        if let Some(feed) = self.feeds.get_mut(self.feed.wrapping_sub(1)) {
+            if let Some(place) = feed.first.get_mut(feed.malformed as usize) {
+                *place = line;
+            }
+            feed.malformed = feed.malformed.saturating_add(1);
+        }
+    }
+
+    /// Hears what stands behind a number: a line, an arrow and its answer.
+    fn hear_answer(&mut self, rest: &[u8]) {
+        let (_, arrow) = cut(rest, b'>');
+        let answer = arrow.get(1..).unwrap_or_default();
+        let reason = reason_in(answer);
+        for (place, known) in REASONS.iter().enumerate() {
+            if is_same(reason, known) {
+                if let Some(count) = self.refused.get_mut(place) {
+                    *count = count.saturating_add(1);
+                }
+            }
+        }
+    }
+}

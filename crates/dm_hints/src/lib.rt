@@ -1,0 +1,25 @@
+//! What somebody who makes a mistake is told: lines on the standard error, each of which begins with `dispatcher: `.
+//!
+//! It stands on dm_words and dm_lintim for what words and columns mean, on dm_input, which reads the files again, with the faults
+//! of dm_network and dm_rows, on dm_outside for the sink that it listens at, and on dm_base for limits and numbers. [`Listener`]
+//! passes on what is written, unchanged, and remembers what is worth a word; [`tell`] says it once the program has ended with its
+//! status. Nothing is promised of the words: that every call is safe and ends is proved.
+#![tactic(auto)]
+
+mod bad;
+mod cycles;
+mod feeds;
+mod files;
+mod hearing;
+mod help;
+mod listening;
+mod memory;
+mod records;
+mod refused;
+mod tables;
+mod telling;
+mod text;
+mod usage;
+
+pub use listening::Listener;
+pub use telling::tell;

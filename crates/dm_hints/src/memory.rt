@@ -1,0 +1,70 @@
+//! How much memory the inputs take.
+use crate::files::{path_of, size_of_file};
+use dm_input::File as InputFile;
+use dm_words::{CommandWords, FileWords, Names};
+use std::fs::File;
+use std::io;
+use std::rt::Files;
+
+/// Says how many bytes the files have that the words name.
+pub fn tell_memory<R: Eprint + Files<File = File> + AllocGlobal>(
+    rt: &R,
+    asked: &CommandWords<'_>,
+) -> io::Result<()> {
+    let bytes = match asked {
+        CommandWords::Run(run) => {
+            folder_bytes(rt, &run.files).saturating_add(feed_bytes(rt, run.feeds))
+        }
+        CommandWords::Check(check) => {
+            folder_bytes(rt, &check.files).saturating_add(size_of_file(rt, check.text))
+        }
+        CommandWords::Gen(_) => return eprintln!(rt;
+            "dispatcher: there is not enough memory for so many trains"
+        ),
+    };
+    eprintln!(rt;
+        "dispatcher: there is not enough memory: the files alone have {bytes} bytes, and take some times that when they are read"
+    )
+}
+
+/// How many bytes the files of the folder have.
+fn folder_bytes<R: Files<File = File> + AllocGlobal>(rt: &R, files: &FileWords<'_>) -> u64 {
+    file_bytes(rt, files, InputFile::Events)
+        .saturating_add(file_bytes(rt, files, InputFile::Activities))
+        .saturating_add(file_bytes(rt, files, InputFile::EventDelays))
+        .saturating_add(file_bytes(rt, files, InputFile::ActivityDelays))
+}
+
+/// How many bytes a file of the folder has, or none where the words name no such file.
+fn file_bytes<R: Files<File = File> + AllocGlobal>(
+    rt: &R,
+    files: &FileWords<'_>,
+    file: InputFile,
+) -> u64 {
+    let is_named = match file {
+        InputFile::EventDelays => files.event_delays.is_some(),
+        InputFile::ActivityDelays => files.activity_delays.is_some(),
+        InputFile::Events | InputFile::Activities => true,
+    };
+    if !is_named {
+        return 0;
+    }
+    match path_of(rt.alloc(), files, file) {
+        Some(path) => size_of_file(rt, path.as_str()),
+        None => 0,
+    }
+}
+
+/// How many bytes the feeds have.
+fn feed_bytes<R: Files<File = File>>(rt: &R, feeds: Names<'_>) -> u64 {
+    let mut bytes: u64 = 0;
+    let mut rest = feeds;
+    for _ in 0..dm_base::limits::FEEDS {
+        let Some((name, others)) = rest.split_first() else {
+            return bytes;
+        };
+        bytes = bytes.saturating_add(size_of_file(rt, name));
+        rest = others;
+    }
+    bytes
+}

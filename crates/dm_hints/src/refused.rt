@@ -1,0 +1,196 @@
+//! Why the files of a folder make no network with start rows.
+use crate::cycles::tell_network;
+use crate::files::{columns_of, path_of, size_of_file, tell_reason};
+use crate::records::{FileLine, field_under, fields, line_of_record};
+use crate::text::shown;
+use dm_base::limits::FILE;
+use dm_input::{File as InputFile, FileFlaw, InputFlaw, InputStop, read_opening, take_name};
+use dm_lintim::{Column, FileFault, FileKind};
+use dm_outside::FolderShelf;
+use dm_rows::StartFault;
+use dm_words::FileWords;
+use std::fs::File;
+use std::io;
+use std::rt::Files;
+
+/// Reads the files again, and says why they make no network with start rows, where they make none.
+pub fn tell_opening<R: Eprint + Files<File = File> + AllocGlobal>(
+    rt: &R,
+    words: &[String],
+    files: &FileWords<'_>,
+) -> io::Result<()> {
+    let mut shelf = FolderShelf::new(rt);
+    match read_opening(rt.alloc(), &mut shelf, files) {
+        Ok(_) | Err(InputStop::NoMemory) => Ok(()),
+        Err(InputStop::ReadFault(file)) => tell_unread(rt, files, file),
+        Err(InputStop::Refused(flaw)) => tell_flaw(rt, words, files, &flaw),
+    }
+}
+
+/// Says why a file of the folder could not be read.
+fn tell_unread<R: Eprint + Files<File = File> + AllocGlobal>(
+    rt: &R,
+    files: &FileWords<'_>,
+    file: InputFile,
+) -> io::Result<()> {
+    match path_of(rt.alloc(), files, file) {
+        Some(path) => tell_reason(rt, path.as_str()),
+        None => Ok(()),
+    }
+}
+
+/// Says what is refused, and why.
+fn tell_flaw<R: Eprint + Files<File = File> + AllocGlobal>(
+    rt: &R,
+    words: &[String],
+    files: &FileWords<'_>,
+    flaw: &InputFlaw,
+) -> io::Result<()> {
+    match flaw {
+        InputFlaw::InFile(file, why) => tell_file(rt, words, files, *file, *why),
+        InputFlaw::Network(fault) => tell_network(rt, files, fault),
+        InputFlaw::Start(fault) => tell_start(rt, files, fault),
+    }
+}
+
+/// Says why a file is refused.
+fn tell_file<R: Eprint + Files<File = File> + AllocGlobal>(
+    rt: &R,
+    words: &[String],
+    files: &FileWords<'_>,
+    file: InputFile,
+    why: FileFlaw,
+) -> io::Result<()> {
+    let Some(path) = path_of(rt.alloc(), files, file) else {
+        return Ok(());
+    };
+    let path = path.as_str();
+    match why {
+        FileFlaw::TooLong => {
+            let size = size_of_file(rt, path);
+            eprintln!(rt; "dispatcher: {path} has {size} bytes, and a file may have 67108864")
+        }
+        FileFlaw::Record(fault) => tell_record(rt, columns_of(words, file), file, path, fault),
+    }
+}
+
+/// Says what stands in the line of a record, and what is wanted there.
+fn tell_record<R: Eprint + Files<File = File> + AllocGlobal>(
+    rt: &R,
+    columns: &str,
+    file: InputFile,
+    path: &str,
+    fault: FileFault,
+) -> io::Result<()> {
+    if fault.kind == FileKind::ByteOrderMark {
+        return eprintln!(rt;
+            "dispatcher: {path} begins with a byte order mark (EF BB BF): save it as UTF-8 without one"
+        );
+    }
+    let mut shelf = FolderShelf::new(rt);
+    let Ok(bytes) = take_name(rt.alloc(), &mut shelf, path, FILE) else {
+        return Ok(());
+    };
+    let Some(line) = line_of_record(bytes.as_slice(), fault.number) else {
+        return Ok(());
+    };
+    tell_kind(rt, columns, file, path, line, fault.kind)
+}
+
+/// Says which rule a line breaks.
+fn tell_kind<R: Eprint>(
+    rt: &R,
+    columns: &str,
+    file: InputFile,
+    path: &str,
+    line: FileLine<'_>,
+    kind: FileKind,
+) -> io::Result<()> {
+    let number = line.number;
+    match kind {
+        FileKind::FieldCount(_) => tell_count(rt, columns, path, line),
+        FileKind::BadNumber(column) => {
+            let (name, found) = (
+                column.name(),
+                shown(field_under(line.text, columns, column.name())),
+            );
+            eprintln!(rt;
+                "dispatcher: {path} line {number}: column `{name}` holds \"{found}\", and a number is wanted, whole but for a weight"
+            )
+        }
+        FileKind::TooLarge(column) => {
+            let (name, found) = (
+                column.name(),
+                shown(field_under(line.text, columns, column.name())),
+            );
+            let most = largest(column);
+            eprintln!(rt;
+                "dispatcher: {path} line {number}: column `{name}` holds \"{found}\", and {most} is the most"
+            )
+        }
+        FileKind::UnknownType => {
+            let found = shown(field_under(line.text, columns, "type"));
+            let types = types_of(file);
+            eprintln!(rt;
+                "dispatcher: {path} line {number}: column `type` holds \"{found}\", and it is one of {types}"
+            )
+        }
+        FileKind::ByteOrderMark | FileKind::OutOfMemory => Ok(()),
+    }
+}
+
+/// Says how many fields a line has, and what they should be.
+fn tell_count<R: Eprint>(rt: &R, columns: &str, path: &str, line: FileLine<'_>) -> io::Result<()> {
+    let (number, count, found) = (line.number, fields(line.text), shown(line.text));
+    let wanted = columns.split(',').count();
+    eprintln!(rt; "dispatcher: {path} line {number}: \"{found}\" has {count} fields")?;
+    eprintln!(rt;
+        "dispatcher: {path} line {number}: it is to have {wanted}, with semicolons between: {columns}"
+    )
+}
+
+/// The largest number of a column.
+fn largest(column: Column) -> u64 {
+    match column {
+        Column::Time => 1_000_000_000,
+        Column::Weight | Column::Lower | Column::Delay => 1_000_000,
+        _ => 4_294_967_295,
+    }
+}
+
+/// The types of a file.
+fn types_of(file: InputFile) -> &'static str {
+    match file {
+        InputFile::Activities => "drive, wait, turnaround, change and headway",
+        _ => "departure and arrival",
+    }
+}
+
+/// Says which delay is of no event or of no activity.
+fn tell_start<R: Eprint + AllocGlobal>(
+    rt: &R,
+    files: &FileWords<'_>,
+    fault: &StartFault,
+) -> io::Result<()> {
+    match fault {
+        StartFault::UnknownEvent(id) => {
+            let Some(path) = path_of(rt.alloc(), files, InputFile::EventDelays) else {
+                return Ok(());
+            };
+            let (path, id) = (path.as_str(), id.0);
+            eprintln!(rt;
+                "dispatcher: {path} has a delay of event {id}, and the events file has no such event"
+            )
+        }
+        StartFault::UnknownActivity(id) => {
+            let Some(path) = path_of(rt.alloc(), files, InputFile::ActivityDelays) else {
+                return Ok(());
+            };
+            let (path, id) = (path.as_str(), id.0);
+            eprintln!(rt;
+                "dispatcher: {path} has a delay of activity {id}, and the activities file has no such activity"
+            )
+        }
+        StartFault::OutOfMemory => Ok(()),
+    }
+}

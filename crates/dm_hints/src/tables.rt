@@ -1,0 +1,169 @@
+//! The tables of commands and options.
+
+/// A command, with how many names stand behind it.
+#[derive(Clone, Copy)]
+pub struct CommandTable {
+    pub name: &'static str,
+
+    /// How it is written.
+    pub form: &'static str,
+
+    pub least: usize,
+
+    pub most: usize,
+
+    /// Which options it may have, as a sum of their bits.
+    pub options: u32,
+}
+
+/// An option with its bit, an example, and the limits of its number, where it has one.
+#[derive(Clone, Copy)]
+pub struct OptionTable {
+    pub bit: u32,
+
+    /// With the equals sign behind it.
+    pub name: &'static str,
+
+    pub example: &'static str,
+
+    pub least: u64,
+
+    pub most: u64,
+
+    pub has_number: bool,
+
+    pub meaning: &'static str,
+}
+
+/// The columns where the words give none.
+pub const EVENT_WORDS: &str = "id,periodic-id,type,time,weight,stop";
+
+pub const ACTIVITY_WORDS: &str = "id,periodic-id,type,tail,head,lower,upper,weight";
+
+const PENALTY: u32 = 1;
+
+const BATCH: u32 = 2;
+
+const BOARDS: u32 = 4;
+
+const EVENT_COLUMNS: u32 = 8;
+
+const ACTIVITY_COLUMNS: u32 = 16;
+
+const EVENT_DELAYS: u32 = 32;
+
+const ACTIVITY_DELAYS: u32 = 64;
+
+const FILES: u32 = PENALTY + EVENT_COLUMNS + ACTIVITY_COLUMNS + EVENT_DELAYS + ACTIVITY_DELAYS;
+
+/// All commands.
+pub const COMMANDS: [CommandTable; 3] = [
+    CommandTable {
+        name: "run",
+        form: "run DIR FEED..",
+        least: 2,
+        most: 65,
+        options: FILES + BATCH + BOARDS,
+    },
+    CommandTable {
+        name: "check",
+        form: "check DIR TEXT",
+        least: 2,
+        most: 2,
+        options: FILES,
+    },
+    CommandTable {
+        name: "gen",
+        form: "gen NUMBER TRAINS",
+        least: 2,
+        most: 2,
+        options: PENALTY,
+    },
+];
+
+/// All options.
+pub const OPTIONS: [OptionTable; 7] = [
+    OptionTable {
+        bit: PENALTY,
+        name: "--penalty=",
+        example: "--penalty=3600",
+        least: 0,
+        most: 1_000_000,
+        has_number: true,
+        meaning: "seconds for each passenger who misses a change (3600)",
+    },
+    OptionTable {
+        bit: BATCH,
+        name: "--batch=",
+        example: "--batch=16",
+        least: 1,
+        most: 1_000_000,
+        has_number: true,
+        meaning: "lines of each feed that are answered in a round (16)",
+    },
+    OptionTable {
+        bit: BOARDS,
+        name: "--boards=",
+        example: "--boards=4,2",
+        least: 0,
+        most: 0,
+        has_number: false,
+        meaning: "1 to 64 different stops, each with a board in DIR/board-STOP.txt",
+    },
+    OptionTable {
+        bit: EVENT_COLUMNS,
+        name: "--event-columns=",
+        example: "--event-columns=id,periodic-id,type,time,weight,stop",
+        least: 0,
+        most: 0,
+        has_number: false,
+        meaning: "the order of the columns of the events file",
+    },
+    OptionTable {
+        bit: ACTIVITY_COLUMNS,
+        name: "--activity-columns=",
+        example: "--activity-columns=id,periodic-id,type,tail,head,lower,upper,weight",
+        least: 0,
+        most: 0,
+        has_number: false,
+        meaning: "the order of the columns of the activities file",
+    },
+    OptionTable {
+        bit: EVENT_DELAYS,
+        name: "--event-delays=",
+        example: "--event-delays=Delays-Events.giv",
+        least: 0,
+        most: 0,
+        has_number: false,
+        meaning: "a file in DIR with delays of events at the start",
+    },
+    OptionTable {
+        bit: ACTIVITY_DELAYS,
+        name: "--activity-delays=",
+        example: "--activity-delays=Delays-Activities.giv",
+        least: 0,
+        most: 0,
+        has_number: false,
+        meaning: "a file in DIR with delays of activities at the start",
+    },
+];
+
+/// The command of this name.
+pub fn command_of(name: &str) -> Option<CommandTable> {
+    for command in &COMMANDS {
+        if command.name == name {
+            return Some(*command);
+        }
+    }
+    None
+}
+
+/// The option that a word begins with.
+pub fn option_of(word: &str) -> Option<OptionTable> {
+    for option in &OPTIONS {
+        if word.strip_prefix(option.name).is_some() {
+            return Some(*option);
+        }
+    }
+    None
+}
