@@ -1,0 +1,191 @@
+#!/usr/bin/env python3
+"""Plays a day over regions that tell each other their boundary times: play.py DISPATCHER FOLDER [--regions N] [--port P]
+
+It cuts the day of ../day at the middle stops of its lines into N regions (2, or 4), starts a Mosquitto broker and a dispatcher for
+each region on this machine, tells the control rooms' delays, waits until nothing is told any more, ends the feeds, and compares: the
+times of all regions together with those of one dispatcher over the whole network. It needs `mosquitto` and `mosquitto-clients`.
+
+Topics: `feed/N` are the lines of region N's feed, `board/N/S` those of its board of stop S, with the last one retained.
+"""
+import argparse
+import os
+import shutil
+import subprocess
+import sys
+import tempfile
+import threading
+import time
+
+HERE = os.path.dirname(os.path.abspath(__file__))
+TOOLS = os.path.join(HERE, '..', '..', 'tools')
+sys.path.insert(0, TOOLS)
+
+from railway import read_network  # noqa: E402
+from runtext import read_run  # noqa: E402
+
+NET = os.path.join(HERE, '..', 'day', 'net')
+MIDDLES = [11 * line + 6 for line in range(8)]
+
+# The delays of the day, an event and how late it is, with corrections down. Those of trains whose passengers change to a train of
+# another region go across.
+DELAYS = [(5, 420), (69, 700), (149, 640), (107, 600), (229, 500), (245, 500), (311, 420), (469, 540), (69, 100), (107, 120),
+          (591, 660), (5, 60), (629, 800), (149, 0)]
+
+# So many seconds of silence say that the relays have come to rest.
+SILENCE = 2.0
+PATIENCE = 120.0
+
+
+class Play:
+    """The processes of a play, which all end with it."""
+
+    def __init__(self, folder, port):
+        self.folder, self.port = folder, port
+        self.running = []
+        self.last = time.monotonic()
+
+    def start(self, command, **files):
+        process = subprocess.Popen(command, **files)
+        self.running.append(process)
+        return process
+
+    def client(self, name, *words):
+        return [name, '-h', '127.0.0.1', '-p', str(self.port), *words]
+
+    def broker(self):
+        config = os.path.join(self.folder, 'mosquitto.conf')
+        with open(config, 'w', encoding='ascii') as file:
+            file.write(f'listener {self.port} 127.0.0.1\nallow_anonymous true\npersistence false\nmax_queued_messages 0\n')
+        self.start(['mosquitto', '-c', config], stderr=subprocess.DEVNULL)
+        for _ in range(100):
+            if subprocess.run(self.client('mosquitto_pub', '-t', 'begin', '-m', 'x'), stderr=subprocess.DEVNULL).returncode == 0:
+                return
+            time.sleep(0.1)
+        raise SystemExit('the broker does not start')
+
+    def pipe(self, *commands, last=None):
+        """Commands each of which reads what the one before it writes."""
+        source = None
+        for command in commands:
+            is_last = command is commands[-1]
+            process = self.start(command, stdin=source, stdout=last if is_last else subprocess.PIPE, stderr=subprocess.DEVNULL)
+            if source is not None:
+                source.close()
+            source = process.stdout
+        return process
+
+    def listen(self):
+        """Notes when the last line was told on any topic."""
+        listener = self.start(self.client('mosquitto_sub', '-q', '1', '-t', '#'), stdout=subprocess.PIPE)
+
+        def note():
+            for _ in listener.stdout:
+                self.last = time.monotonic()
+        threading.Thread(target=note, daemon=True).start()
+
+    def settle(self):
+        """Waits until nothing has been told for a while."""
+        self.last = begun = time.monotonic()
+        while time.monotonic() - self.last < SILENCE:
+            if time.monotonic() - begun > PATIENCE:
+                raise SystemExit('the relays do not come to rest')
+            time.sleep(0.05)
+
+    def end(self):
+        for process in self.running:
+            process.terminate()
+        for process in self.running:
+            process.wait()
+
+
+class Region:
+    """A region's folder, its dispatcher, and the subscriber that is its feed."""
+
+    def __init__(self, play, number, boundaries):
+        self.play, self.number, self.boundaries = play, number, boundaries
+        self.folder = os.path.join(play.folder, f'region-{number}')
+        self.network = read_network(os.path.join(self.folder, 'net'))
+        self.stops = sorted({event.stop for event in self.network.events} & set(MIDDLES))
+        self.text = os.path.join(self.folder, 'text')
+
+    def begin(self, program):
+        """Starts the dispatcher over a pipe, its boards on the broker, and the relay that tells it its neighbours' times."""
+        feed = os.path.join(self.folder, 'feed')
+        os.mkfifo(feed)
+        boards = ','.join(map(str, self.stops))
+        with open(self.text, 'wb') as out:
+            self.dispatcher = self.play.start([program, 'run', 'net', 'feed', '--batch=1', f'--boards={boards}'], cwd=self.folder, stdout=out)
+        into = open(feed, 'wb', buffering=0)
+        self.subscriber = self.play.start(self.play.client('mosquitto_sub', '-q', '1', '-t', f'feed/{self.number}'), stdout=into)
+        into.close()
+        for stop in self.stops:
+            board = os.path.join(self.folder, 'net', f'board-{stop}.txt')
+            open(board, 'ab').close()
+            self.play.pipe(['tail', '-n', '+1', '-f', board],
+                           self.play.client('mosquitto_pub', '-q', '1', '-l', '-r', '-t', f'board/{self.number}/{stop}'))
+        self.play.pipe(self.play.client('mosquitto_sub', '-q', '1', '-t', 'board/#'),
+                       [sys.executable, '-u', os.path.join(TOOLS, 'relay.py'), *self.boundaries, '--region', str(self.number)],
+                       self.play.client('mosquitto_pub', '-q', '1', '-l', '-t', f'feed/{self.number}'))
+
+    def say(self, line):
+        subprocess.run(self.play.client('mosquitto_pub', '-q', '1', '-t', f'feed/{self.number}', '-m', line), check=True)
+
+    def times(self):
+        """Ends the feed, and reads the times at the end of the text."""
+        self.subscriber.terminate()
+        self.dispatcher.wait()
+        with open(self.text, 'rb') as file:
+            return read_run(file.read(), len(self.network.events)).times
+
+
+def times_of_the_whole(program, folder):
+    """The times of one dispatcher that hears all delays."""
+    feed = os.path.join(folder, 'feed')
+    with open(feed, 'w', encoding='ascii') as file:
+        file.writelines(f'delay event {event} {delay}\n' for event, delay in DELAYS)
+    done = subprocess.run([program, 'run', NET, feed], capture_output=True, check=True)
+    return read_run(done.stdout, len(read_network(NET).events)).times
+
+
+def played(play, program, count):
+    """The times of all regions after the day was told."""
+    middles = ','.join(map(str, MIDDLES))
+    subprocess.run([sys.executable, os.path.join(TOOLS, 'split.py'), NET, middles, play.folder, '--regions', str(count)], check=True)
+    boundaries = [os.path.join(play.folder, f'region-{number}', 'Boundary.csv') for number in range(1, count + 1)]
+    regions = [Region(play, number, boundaries) for number in range(1, count + 1)]
+    play.broker()
+    play.listen()
+    for region in regions:
+        region.begin(program)
+    play.settle()
+    for event, delay in DELAYS:
+        owner = next(region for region in regions if event in region.network.event_place)
+        owner.say(f'delay event {event} {delay}')
+    play.settle()
+    return {event: time for region in regions for event, time in region.times().items()}
+
+
+def main():
+    words = argparse.ArgumentParser(description=__doc__, formatter_class=argparse.RawDescriptionHelpFormatter)
+    words.add_argument('dispatcher', metavar='DISPATCHER', type=os.path.abspath)
+    words.add_argument('folder', metavar='FOLDER', nargs='?', help='where files go; by default a folder that is taken away at the end')
+    words.add_argument('--regions', type=int, default=2, choices=(2, 4), metavar='N')
+    words.add_argument('--port', type=int, default=18830, metavar='P')
+    given = words.parse_args()
+    folder = os.path.abspath(given.folder) if given.folder else tempfile.mkdtemp()
+    os.makedirs(folder, exist_ok=True)
+    play = Play(folder, given.port)
+    try:
+        came = played(play, given.dispatcher, given.regions)
+    finally:
+        play.end()
+    due = times_of_the_whole(given.dispatcher, folder)
+    if not given.folder:
+        shutil.rmtree(folder)
+    differing = sorted(event for event in due if came.get(event) != due[event])
+    print(f'{given.regions} regions, {len(due)} events: {len(differing)} times differ from those of one server')
+    sys.exit(1 if differing or len(came) != len(due) else 0)
+
+
+if __name__ == '__main__':
+    main()

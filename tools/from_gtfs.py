@@ -1,0 +1,266 @@
+#!/usr/bin/env python3
+"""Makes a network of a service day of a timetable in GTFS:
+
+    python3 tools/from_gtfs.py FEED DATE DIR [OPTION..]
+
+FEED is a zip file or a folder, and DATE a service day, as 20261128. DIR gets the two files of a network, Events-expanded.giv and
+Activities-expanded.giv, and three files that say what its numbers stand for: Stops.csv, Events.csv and Trains.csv. A service day
+runs past midnight, and its times count on: 25:10:00. A trip of frequencies.txt becomes one train for each departure, named as
+TRIP@06:30:00.
+
+  events       each departure and arrival of a trip; a stop of the network is a station (parent_station)
+  drives       at least the scheduled time less --reserve
+  waits        at least --dwell seconds, or the scheduled ones where these are fewer
+  turnarounds  between trips of one block_id, at least --turn seconds, or the scheduled ones where these are fewer
+  changes      from an arrival to the next departure of each other route and direction at the station that leaves at most
+               --longest-change seconds later and not before the change is made, which takes the min_transfer_time of
+               transfers.txt or else --change seconds; never to a train of the same route or vehicle, nor to one that goes next to
+               the station from which the arriving train has come
+  headways     both ways between departures that follow each other from one station to the next, --headway seconds, or the
+               scheduled ones where these are fewer
+
+What a feed has and a network cannot hold is told on standard error, with how many there are of everything. The status is 0; or 2,
+and no file is written, where the words or the feed are not as they should be, or where the network would be too large.
+"""
+from __future__ import annotations
+
+import argparse
+import re
+import sys
+from collections import Counter
+from dataclasses import dataclass
+from datetime import date
+from fractions import Fraction
+from typing import Iterator, Optional, Sequence
+
+from expand import Expanded, Notes, Passengers, Refused, Rules, Window, expand, trains_of
+from files import write_all
+from gtfs import (
+    TYPES, Feed, Route, Stops, clock, date_of, read_day, read_routes, read_rows, read_services, read_stops,
+    read_transfers, told_as,
+)
+from names import EventName, StopName, TrainName, in_print
+from railway import KINDS, BadFile, network_files
+from words import time_of_day, whole_between
+
+LONGEST_BOUND = 1_000_000
+MOST_PASSENGERS = 1_000_000
+STATIONS_SHOWN = 20
+
+# Later than all times of a day.
+EVER = 10 ** 9
+
+
+# ---- Words
+
+
+def share(text: str) -> Fraction:
+    """Reads a share such as 7% or 7.5%."""
+    found = re.fullmatch(r'([0-9]{1,3}(?:\.[0-9]{1,3})?)%', text)
+    if found is None or Fraction(found[1]) > 100:
+        raise argparse.ArgumentTypeError(f'"{text}" is no share from 0% to 100%')
+    return Fraction(found[1]) / 100
+
+
+def service_day(text: str) -> date:
+    day = date_of(text.replace('-', ''))
+    if day is None:
+        raise argparse.ArgumentTypeError(f'"{text}" is no date, as 20261128')
+    return day
+
+
+def kinds_of_routes(text: str) -> Optional[set[int]]:
+    """Reads kinds of routes, by word or number; None for all."""
+    if text == 'all':
+        return None
+    kinds: set[int] = set()
+    for word in text.split(','):
+        if word not in TYPES and not re.fullmatch('[0-9]{1,4}', word):
+            raise argparse.ArgumentTypeError(f'"{word}" is neither all, a number nor one of {", ".join(TYPES)}')
+        kinds |= TYPES[word] if word in TYPES else {int(word)}
+    return kinds
+
+
+def names_of_routes(text: str) -> list[str]:
+    return text.split(',')
+
+
+def words_read(given: Optional[Sequence[str]]) -> argparse.Namespace:
+    words = argparse.ArgumentParser(
+        description=__doc__, formatter_class=argparse.RawDescriptionHelpFormatter, allow_abbrev=False,
+        usage='%(prog)s FEED DATE DIR [OPTION..]',
+    )
+    words.add_argument('feed', metavar='FEED', help='a zip file or a folder')
+    words.add_argument('date', metavar='DATE', type=service_day, help='a service day')
+    words.add_argument('folder', metavar='DIR', help='where the network is written')
+    add_choices(words)
+    add_rules(words)
+    return words.parse_args(given)
+
+
+def add_choices(words: argparse.ArgumentParser) -> None:
+    """The options that choose trains, and say how many passengers they have."""
+    kinds = f'all, or some of {", ".join(TYPES)} and numbers of route_type, with commas (rail)'
+    words.add_argument('--types', metavar='KINDS', type=kinds_of_routes, default='rail', help=kinds)
+    words.add_argument('--routes', metavar='NAMES', type=names_of_routes, help='routes by id or short name, with commas (all)')
+    words.add_argument('--from', metavar='TIME', type=time_of_day, dest='start', default=0, help='trains that run then or later')
+    words.add_argument('--to', metavar='TIME', type=time_of_day, dest='end', default=EVER, help='trains that run then or earlier')
+    words.add_argument('--passengers', metavar='FILE', help='trip_id,stop_id,number: how many leave a trip at a stop (1 each)')
+    words.add_argument('--changing', metavar='SHARE', type=share, default='10%', help='of these, how many take each change (10%%)')
+
+
+def add_rules(words: argparse.ArgumentParser) -> None:
+    """The options that say how long activities take."""
+    words.add_argument('--reserve', metavar='SHARE', type=share, default='7%', help='of a scheduled drive (7%%)')
+    for name, usual in ('dwell', 30), ('turn', 300), ('change', 180), ('longest-change', 1800), ('headway', 120):
+        seconds = whole_between(1 if name == 'headway' else 0, LONGEST_BOUND)
+        words.add_argument(f'--{name}', metavar='SECONDS', type=seconds, default=usual, help=f'({usual})')
+    words.add_argument('--no-headways', action='store_true', help='make no headways')
+
+
+# ---- From a feed to a network
+
+
+def chosen_routes(
+    feed: Feed, routes: dict[str, Route], types: Optional[set[int]], names: Optional[list[str]],
+) -> set[str]:
+    """The routes of these kinds that are named so by id or short name; Refused where there is none."""
+    for name in names or []:
+        if not any(name in (route.id, route.name) for route in routes.values()):
+            raise Refused(f'{feed.name} has no route {name}')
+    chosen = {
+        route.id for route in routes.values()
+        if (types is None or route.type in types) and (names is None or route.id in names or route.name in names)
+    }
+    if not chosen:
+        counts = Counter(route.type for route in routes.values())
+        have = ', '.join(f'{count} of type {kind}' for kind, count in sorted(counts.items())) or 'none'
+        raise Refused(f'no route is chosen by --types and --routes; the feed has {have}')
+    return chosen
+
+
+def read_passengers(name: Optional[str], feed: Feed, stops: Stops) -> Passengers:
+    """The numbers of a file in thousandths, by trip and stop."""
+    if name is None:
+        return Passengers()
+    numbers: dict[tuple[str, str], int] = {}
+    with told_as(name), open(name, 'rb') as file:
+        for row in read_rows(name, file, ['trip_id', 'stop_id', 'number']):
+            key = row.text('trip_id'), row.text('stop_id')
+            if key[1] not in stops.stations:
+                raise row.fault('stop_id', f'{feed.name} has no stop {key[1]}')
+            if key in numbers:
+                raise row.fault('stop_id', f'trip {key[0]} and stop {key[1]} stand twice')
+            numbers[key] = passengers_of(row['number'])
+            if not 0 <= numbers[key] <= MOST_PASSENGERS * 1000:
+                raise row.fault('number', f'"{row["number"]}" is no number from 0 to {MOST_PASSENGERS}')
+    return Passengers(numbers)
+
+
+def passengers_of(text: str) -> int:
+    """A decimal number in thousandths, of which further digits are dropped; -1 where it is none."""
+    if not re.fullmatch(r'[0-9]{1,12}(\.[0-9]*)?', text):
+        return -1
+    return int(Fraction(text) * 1000)
+
+
+@dataclass
+class Made:
+    """A network with what it was made of."""
+    stops: Stops
+    expanded: Expanded
+    notes: Notes
+
+
+def make(feed: Feed, words: argparse.Namespace) -> Made:
+    """The network that the words ask for."""
+    stops, routes, services = read_stops(feed), read_routes(feed), read_services(feed, words.date)
+    chosen = chosen_routes(feed, routes, words.types, words.routes)
+    day = read_day(feed, stops, services, routes, chosen)
+    notes = Notes(day.left_out)
+    trains = trains_of(day, Window(words.start, words.end), notes)
+    if not trains:
+        running = len(services.running)
+        raise Refused(f'{feed.name} has no train on {words.date} that is chosen: {running} services run then, and {services.span()}')
+    passengers = read_passengers(words.passengers, feed, stops)
+    transfers = read_transfers(feed, stops, words.change)
+    expanded = expand(trains, stops.stations, passengers, transfers, rules_of(words), notes)
+    notes.left_out += transfers.left_out
+    notes.left_out['numbers of passengers of which no arrival is there'] += len(passengers.numbers or ()) - len(passengers.used)
+    notes.besides['times between two stops with times, spread evenly'] += day.timed_between
+    return Made(stops, expanded, notes)
+
+
+def rules_of(words: argparse.Namespace) -> Rules:
+    headway = None if words.no_headways else words.headway
+    return Rules(words.reserve, words.dwell, words.turn, words.longest_change, headway, words.changing)
+
+
+# ---- What is written
+
+
+def texts_of(made: Made) -> dict[str, str]:
+    """The files of a network, and those of its names."""
+    expanded = made.expanded
+    stops = [StopName(number, made.stops.names[station]) for station, number in expanded.stations.items()]
+    trains = [
+        TrainName(
+            train.moments[0].event.id, train.label, train.name, train.trip.route.name, train.trip.direction, train.trip.headsign,
+            train.trip.block,
+        )
+        for train in expanded.trains
+    ]
+    events = [
+        EventName(
+            one.event.id, train.moments[0].event.id, train.name, one.call.sequence, one.call.stop, one.event.kind,
+            clock(one.event.time),
+        )
+        for train in expanded.trains for one in train.moments
+    ]
+    return {
+        **network_files(expanded.events, expanded.activities),
+        'Stops.csv': in_print(['id', *StopName._fields[1:]], stops),
+        'Events.csv': in_print(EventName._fields, events),
+        'Trains.csv': in_print(['first event', *TrainName._fields[1:]], trains),
+    }
+
+
+def summary(made: Made, words: argparse.Namespace) -> Iterator[str]:
+    """What the network comes to, and what the feed has that is not in it."""
+    expanded = made.expanded
+    repeated = sum(train.repeats for train in expanded.trains)
+    routes = {train.trip.route.id for train in expanded.trains}
+    yield f'{words.date}: trains {len(expanded.trains)} ({repeated} by frequencies), routes {len(routes)}'
+    kinds = Counter(activity.kind for activity in expanded.activities)
+    counts = ', '.join(f'{kind}s {kinds[kind]}' for kind in KINDS)
+    yield f'stations {len(expanded.stations)}, events {len(expanded.events)}, activities {len(expanded.activities)}: {counts}'
+    names = {number: made.stops.names[station] for station, number in expanded.stations.items()}
+    yield from stations_with_changes(names, expanded.changes_at)
+    yield from made.notes.in_print()
+
+
+def stations_with_changes(names: dict[int, str], changes: Counter[int]) -> Iterator[str]:
+    ordered = sorted(changes.items(), key=lambda item: (-item[1], item[0]))
+    for station, count in ordered[:STATIONS_SHOWN]:
+        yield f'changes at {names[station]}: {count}'
+    rest = ordered[STATIONS_SHOWN:]
+    if rest:
+        yield f'changes at {len(rest)} more stations: {sum(count for _, count in rest)}'
+
+
+def main(given: Optional[Sequence[str]] = None) -> int:
+    words = words_read(given)
+    try:
+        with Feed(words.feed) as feed:
+            made = make(feed, words)
+        write_all(words.folder, texts_of(made))
+    except (BadFile, Refused) as error:
+        print(f'from_gtfs: {error}', file=sys.stderr)
+        return 2
+    for line in summary(made, words):
+        print(line, file=sys.stderr)
+    return 0
+
+
+if __name__ == '__main__':
+    sys.exit(main())

@@ -1,0 +1,510 @@
+"""Timetables in GTFS, read: which trips a feed has on a service day, and where and when they call.
+
+A feed is a zip file or a folder with the files of the GTFS reference (https://gtfs.org/documentation/schedule/reference/). Times
+are in seconds from the beginning of the service day, and go on past midnight. What is not as the reference wants it is told by
+`railway.BadFile`, with the file, the line and the column; rows of trips that nobody asks for are not looked at.
+"""
+from __future__ import annotations
+
+import csv
+import io
+import os
+import re
+import zipfile
+import zlib
+from collections import Counter
+from contextlib import contextmanager
+from dataclasses import dataclass, field
+from datetime import date
+from functools import lru_cache
+from typing import BinaryIO, Collection, Iterable, Iterator, Optional
+
+from railway import BadFile
+
+WEEKDAYS = ('monday', 'tuesday', 'wednesday', 'thursday', 'friday', 'saturday', 'sunday')
+
+# Above all times of a feed, so that no time between two of them is too long for a bound of an activity.
+LATEST = 1_000_000
+
+# The most digits of a number that is read.
+LONGEST_NUMBER = 20
+
+# Kinds of routes by what `route_type` may be: the basic numbers, and the ranges of the extended ones.
+TYPES = {
+    'rail': {2, *range(100, 200)},
+    'subway': {1, *range(400, 405)},
+    'tram': {0, *range(900, 907)},
+    'bus': {3, 11, 800, *range(200, 210), *range(700, 717)},
+    'ferry': {4, 1000, 1200},
+}
+
+
+# ---- Files and rows
+
+
+class Row:
+    """A row of a file: its fields by column, and where it stands."""
+
+    __slots__ = ('file', 'line', 'fields')
+
+    def __init__(self, file: str, line: int, fields: dict[str, str]):
+        self.file, self.line, self.fields = file, line, fields
+
+    def __getitem__(self, column: str) -> str:
+        """The field of a column, which is empty where there is no such column."""
+        return self.fields.get(column, '')
+
+    def fault(self, column: str, what: str) -> BadFile:
+        return BadFile(self.file, self.line, f'column {column}: {what}')
+
+    def text(self, column: str) -> str:
+        """The field of a column, which may not be empty."""
+        text = self[column]
+        if not text:
+            raise self.fault(column, 'nothing stands here')
+        return self.name(column)
+
+    def name(self, column: str) -> str:
+        """The field of a column, which has to be in UTF-8, in one line."""
+        text = self[column]
+        if not text.isascii() and any('\ud800' <= character <= '\udfff' for character in text):
+            raise self.fault(column, 'this is not in UTF-8')
+        return ' '.join(text.splitlines())
+
+    def number(self, column: str, most: int, default: Optional[int] = None) -> int:
+        """The whole number of a column, which has to be there where there is no default."""
+        text = self[column]
+        if not text and default is not None:
+            return default
+        if not (text.isascii() and text.isdecimal()):
+            raise self.fault(column, f'"{text}" is no whole number')
+        if len(text) > LONGEST_NUMBER or int(text) > most:
+            raise self.fault(column, f'{text} is above {most}')
+        return int(text)
+
+    def time(self, column: str) -> Optional[int]:
+        """The time of a column, or None where the field is empty."""
+        text = self[column]
+        if not text:
+            return None
+        seconds = seconds_of(text)
+        if seconds is None:
+            raise self.fault(column, f'"{text}" is no time, as 06:30:00')
+        if seconds >= LATEST:
+            raise self.fault(column, f'{text} is not before {clock(LATEST)}')
+        return seconds
+
+    def date(self, column: str) -> date:
+        day = date_of(self[column])
+        if day is None:
+            raise self.fault(column, f'"{self[column]}" is no date, as 20261128')
+        return day
+
+
+def read_rows(name: str, file: BinaryIO, required: Iterable[str]) -> Iterator[Row]:
+    """The rows of a file, whose first one names the columns."""
+    with io.TextIOWrapper(file, encoding='utf-8-sig', errors='surrogateescape', newline='') as lines:
+        reader = csv.reader(lines)
+        try:
+            columns = [column.strip() for column in next(reader, [])]
+            check_columns(name, columns, required)
+            for fields in reader:
+                if len(fields) > len(columns) and any(fields[len(columns):]):
+                    raise BadFile(name, reader.line_num, f'{len(fields)} fields, and {len(columns)} columns')
+                if any(fields):
+                    yield Row(name, reader.line_num, dict(zip(columns, map(str.strip, fields))))
+        except csv.Error as error:
+            raise BadFile(name, reader.line_num, str(error)) from error
+
+
+def check_columns(name: str, columns: list[str], required: Iterable[str]) -> None:
+    for column in required:
+        if column not in columns:
+            raise BadFile(name, 1, f'there is no column {column}')
+    for column, count in Counter(columns).items():
+        if count > 1 and column:
+            raise BadFile(name, 1, f'column {column} stands twice')
+
+
+class Feed:
+    """The files of a feed. In a zip file they may stand in one folder together."""
+
+    def __init__(self, name: str):
+        self.name = name
+        self.zip = None
+        self.inside = ''
+        if os.path.isdir(name):
+            return
+        with told_as(name):
+            self.zip = zipfile.ZipFile(name)
+        tops = [member for member in self.zip.namelist() if os.path.basename(member) == 'stop_times.txt']
+        if len(tops) == 1:
+            self.inside = tops[0].removesuffix('stop_times.txt')
+
+    def __enter__(self) -> Feed:
+        return self
+
+    def __exit__(self, *_: object) -> None:
+        if self.zip is not None:
+            self.zip.close()
+
+    def has(self, file: str) -> bool:
+        if self.zip is None:
+            return os.path.isfile(os.path.join(self.name, file))
+        return self.inside + file in self.zip.namelist()
+
+    def rows(self, file: str, required: Iterable[str]) -> Iterator[Row]:
+        """The rows of a file that has to be there."""
+        name = os.path.join(self.name, file)
+        if not self.has(file):
+            raise BadFile(name, None, 'there is no such file')
+        with told_as(name), self.opened(file) as opened:
+            yield from read_rows(name, opened, required)
+
+    def rows_if_any(self, file: str, required: Iterable[str]) -> Iterator[Row]:
+        """The rows of a file that may be missing."""
+        return self.rows(file, required) if self.has(file) else iter(())
+
+    def fault(self, file: str, line: int, column: str, what: str) -> BadFile:
+        return BadFile(os.path.join(self.name, file), line, f'column {column}: {what}')
+
+    def opened(self, file: str) -> BinaryIO:
+        if self.zip is None:
+            return open(os.path.join(self.name, file), 'rb')
+        return self.zip.open(self.inside + file)
+
+
+@contextmanager
+def told_as(name: str) -> Iterator[None]:
+    """Tells by BadFile what the system and the zip module raise."""
+    try:
+        yield
+    except OSError as error:
+        raise BadFile(name, None, error.strerror or 'cannot be read') from error
+    except (zipfile.BadZipFile, zlib.error, EOFError, NotImplementedError, RuntimeError) as error:
+        raise BadFile(name, None, f'no zip file that can be read ({error})') from error
+
+
+# ---- Times and dates
+
+
+@lru_cache(maxsize=100_000)
+def seconds_of(text: str) -> Optional[int]:
+    """The seconds of a time such as 6:30:00 or 25:10:00, or None where it is no time."""
+    found = re.fullmatch('([0-9]{1,3}):([0-5][0-9]):([0-5][0-9])', text)
+    if found is None:
+        return None
+    hours, minutes, seconds = map(int, found.groups())
+    return hours * 3600 + minutes * 60 + seconds
+
+
+def clock(seconds: int) -> str:
+    """A time in print."""
+    return f'{seconds // 3600:02}:{seconds // 60 % 60:02}:{seconds % 60:02}'
+
+
+def date_of(text: str) -> Optional[date]:
+    """The date of a text such as 20261128, or None where it is no date."""
+    if not re.fullmatch('[0-9]{8}', text):
+        return None
+    try:
+        return date(int(text[:4]), int(text[4:6]), int(text[6:]))
+    except ValueError:
+        return None
+
+
+# ---- Stops
+
+
+@dataclass(frozen=True)
+class Stops:
+    """The station that each stop belongs to, in the order of the file, and what each stop is called."""
+    stations: dict[str, str]
+    names: dict[str, str]
+
+
+def read_stops(feed: Feed) -> Stops:
+    parents: dict[str, str] = {}
+    names: dict[str, str] = {}
+    rows: dict[str, Row] = {}
+    for row in feed.rows('stops.txt', ['stop_id']):
+        stop = row.text('stop_id')
+        if stop in parents:
+            raise row.fault('stop_id', f'stop {stop} stands twice')
+        parents[stop], names[stop], rows[stop] = row['parent_station'], row.name('stop_name') or stop, row
+    return Stops({stop: station_of(stop, parents, rows) for stop in parents}, names)
+
+
+def station_of(stop: str, parents: dict[str, str], rows: dict[str, Row]) -> str:
+    """The last of a stop's parents, which is itself where it has none."""
+    seen = {stop}
+    station = stop
+    while parents[station]:
+        row, station = rows[station], parents[station]
+        if station not in parents:
+            raise row.fault('parent_station', f'there is no stop {station}')
+        if station in seen:
+            raise row.fault('parent_station', f'{station} is a parent of itself')
+        seen.add(station)
+    return station
+
+
+# ---- Days
+
+
+@dataclass(frozen=True)
+class Services:
+    """The services that a feed names, those that run on a day, and all dates that it names."""
+    known: set[str]
+    running: set[str]
+    dates: set[date]
+
+    def span(self) -> str:
+        return f'its dates go from {min(self.dates)} to {max(self.dates)}' if self.dates else 'it has no dates'
+
+
+def read_services(feed: Feed, day: date) -> Services:
+    if not feed.has('calendar.txt') and not feed.has('calendar_dates.txt'):
+        raise BadFile(feed.name, None, 'there is neither calendar.txt nor calendar_dates.txt')
+    services = Services(set(), set(), set())
+    for row in feed.rows_if_any('calendar.txt', ['service_id', *WEEKDAYS, 'start_date', 'end_date']):
+        first, last = row.date('start_date'), row.date('end_date')
+        services.known.add(row.text('service_id'))
+        services.dates.update((first, last))
+        if row.number(WEEKDAYS[day.weekday()], 1) and first <= day <= last:
+            services.running.add(row['service_id'])
+    for row in feed.rows_if_any('calendar_dates.txt', ['service_id', 'date', 'exception_type']):
+        services.known.add(row.text('service_id'))
+        services.dates.add(row.date('date'))
+        if row.date('date') == day:
+            change_service(services.running, row)
+    return services
+
+
+def change_service(running: set[str], row: Row) -> None:
+    """Takes in what an exception says of its day."""
+    kind = row.number('exception_type', 2)
+    if kind == 0:
+        raise row.fault('exception_type', '0 is neither 1 nor 2')
+    if kind == 1:
+        running.add(row['service_id'])
+    else:
+        running.discard(row['service_id'])
+
+
+# ---- Trips
+
+
+@dataclass(frozen=True)
+class Route:
+    id: str
+    name: str
+    type: int
+
+
+@dataclass(slots=True)
+class Call:
+    """A stop that a trip calls at, whether passengers may board and leave there, and the line of the file that says so.
+
+    A call of a day has both times; while the file is read a time may be missing.
+    """
+    line: int
+    stop: str
+    sequence: int
+    arrival: Optional[int]
+    departure: Optional[int]
+    boards: bool
+    leaves: bool
+
+
+@dataclass
+class Trip:
+    id: str
+    route: Route
+    direction: str
+    short_name: str
+    headsign: str
+    block: str
+    calls: list[Call] = field(default_factory=list)
+
+
+@dataclass(frozen=True)
+class Frequency:
+    """From a first departure on, before an end, a trip leaves again and again."""
+    start: int
+    end: int
+    every: int
+
+
+@dataclass
+class Day:
+    """What a feed has on a day: its trips, how some of them repeat, and what was left out and why."""
+    trips: dict[str, Trip]
+    frequencies: dict[str, list[Frequency]]
+    left_out: Counter[str]
+    timed_between: int = 0
+
+
+def read_routes(feed: Feed) -> dict[str, Route]:
+    routes: dict[str, Route] = {}
+    for row in feed.rows('routes.txt', ['route_id', 'route_type']):
+        route = row.text('route_id')
+        if route in routes:
+            raise row.fault('route_id', f'route {route} stands twice')
+        name = row.name('route_short_name') or row.name('route_long_name') or route
+        routes[route] = Route(route, name, row.number('route_type', 9999))
+    return routes
+
+
+def read_day(feed: Feed, stops: Stops, services: Services, routes: dict[str, Route], chosen: Collection[str]) -> Day:
+    """The trips of the chosen routes on the day of the services."""
+    day = Day({}, {}, Counter())
+    others: set[str] = set()
+    for row in feed.rows('trips.txt', ['route_id', 'service_id', 'trip_id']):
+        trip = row.text('trip_id')
+        if trip in day.trips or trip in others:
+            raise row.fault('trip_id', f'trip {trip} stands twice')
+        if row['route_id'] not in routes:
+            raise row.fault('route_id', f'there is no route {row["route_id"]}')
+        if row['route_id'] not in chosen:
+            day.left_out['trips of other types or routes'] += 1
+            others.add(trip)
+        elif row['service_id'] not in services.running:
+            is_known = row['service_id'] in services.known
+            day.left_out['trips that do not run on the day' if is_known else 'trips of services that no calendar names'] += 1
+            others.add(trip)
+        else:
+            day.trips[trip] = trip_of(row, routes)
+    read_calls(feed, stops, day, others)
+    read_frequencies(feed, day, others)
+    return day
+
+
+def trip_of(row: Row, routes: dict[str, Route]) -> Trip:
+    direction = row['direction_id'] and str(row.number('direction_id', 1))
+    names = [row.name(column) for column in ('trip_short_name', 'trip_headsign', 'block_id')]
+    return Trip(row['trip_id'], routes[row['route_id']], direction, *names)
+
+
+def read_calls(feed: Feed, stops: Stops, day: Day, others: set[str]) -> None:
+    """Gives each trip of a day its calls."""
+    columns = ['trip_id', 'arrival_time', 'departure_time', 'stop_id', 'stop_sequence']
+    for row in feed.rows('stop_times.txt', columns):
+        trip = row['trip_id']
+        if trip in day.trips:
+            day.trips[trip].calls.append(call_of(row, stops))
+        elif trip not in others:
+            raise row.fault('trip_id', f'there is no trip {trip}')
+    for trip in list(day.trips.values()):
+        if len(trip.calls) < 2:
+            day.left_out['trips with fewer than two stops'] += 1
+            del day.trips[trip.id]
+        else:
+            trip.calls.sort(key=lambda call: call.sequence)
+            day.timed_between += fill_times(feed, trip.calls)
+            check_calls(feed, trip.calls)
+
+
+def call_of(row: Row, stops: Stops) -> Call:
+    """The call of a row, at which one time stands for both where one alone is there."""
+    if row['stop_id'] not in stops.stations:
+        raise row.fault('stop_id', f'there is no stop {row["stop_id"]}')
+    arrival, departure = row.time('arrival_time'), row.time('departure_time')
+    return Call(
+        row.line, row['stop_id'], row.number('stop_sequence', 10 ** 9), departure if arrival is None else arrival,
+        arrival if departure is None else departure, row.number('pickup_type', 3, 0) != 1, row.number('drop_off_type', 3, 0) != 1,
+    )
+
+
+def fill_times(feed: Feed, calls: list[Call]) -> int:
+    """Spreads the calls without times evenly between those with times; how many they are."""
+    for end in calls[0], calls[-1]:
+        if end.arrival is None:
+            raise feed.fault('stop_times.txt', end.line, 'arrival_time', 'the first and the last stop of a trip need a time')
+    known = [place for place, call in enumerate(calls) if call.arrival is not None]
+    for before, after in zip(known, known[1:]):
+        start, length = calls[before].departure, calls[after].arrival - calls[before].departure
+        for place in range(before + 1, after):
+            time = start + length * (place - before) // (after - before)
+            calls[place].arrival = calls[place].departure = time
+    return len(calls) - len(known)
+
+
+def check_calls(feed: Feed, calls: list[Call]) -> None:
+    """That the calls of a trip stand at different places in its order, and that it does not run back in time."""
+    time, sequence = 0, -1
+    for call in calls:
+        if call.sequence == sequence:
+            raise feed.fault('stop_times.txt', call.line, 'stop_sequence', f'{sequence} stands twice in the trip')
+        if call.arrival < time:
+            raise feed.fault('stop_times.txt', call.line, 'arrival_time', f'{clock(call.arrival)} is before {clock(time)}')
+        if call.departure < call.arrival:
+            what = f'{clock(call.departure)} is before the arrival at {clock(call.arrival)}'
+            raise feed.fault('stop_times.txt', call.line, 'departure_time', what)
+        time, sequence = call.departure, call.sequence
+
+
+def read_frequencies(feed: Feed, day: Day, others: set[str]) -> None:
+    """Takes in how trips repeat."""
+    for row in feed.rows_if_any('frequencies.txt', ['trip_id', 'start_time', 'end_time', 'headway_secs']):
+        trip = row.text('trip_id')
+        if trip in day.trips:
+            start, end = row.time('start_time'), row.time('end_time')
+            for column, time in ('start_time', start), ('end_time', end):
+                if time is None:
+                    raise row.fault(column, 'nothing stands here')
+            every = row.number('headway_secs', LATEST)
+            if every == 0:
+                raise row.fault('headway_secs', '0 is no time between two trips')
+            day.frequencies.setdefault(trip, []).append(Frequency(start, end, every))
+        elif trip not in others:
+            raise row.fault('trip_id', f'there is no trip {trip}')
+
+
+# ---- Transfers
+
+
+@dataclass
+class Transfers:
+    """How long a change takes at least between two stops of a station: `usual` seconds where `said` names none of their pairs.
+
+    What is said is by pairs of stops and stations; None says that there is no change.
+    """
+    usual: int
+    stations: dict[str, str]
+    said: dict[tuple[str, str], Optional[int]]
+    left_out: Counter[str]
+
+    def between(self, stop: str, other: str) -> Optional[int]:
+        station = self.stations[stop]
+        for pair in (stop, other), (stop, station), (station, other), (station, station):
+            if pair in self.said:
+                return self.said[pair]
+        return self.usual
+
+
+def read_transfers(feed: Feed, stops: Stops, usual: int) -> Transfers:
+    transfers = Transfers(usual, stops.stations, {}, Counter())
+    for row in feed.rows_if_any('transfers.txt', ['transfer_type']):
+        kind = row.number('transfer_type', 5, 0)
+        if kind > 3 or any(row[f'{end}_{of}_id'] for end in ('from', 'to') for of in ('trip', 'route')):
+            transfers.left_out['rows of transfers.txt that are for single trips or routes'] += 1
+            continue
+        ends = tuple(row.text(column) for column in ('from_stop_id', 'to_stop_id'))
+        for column, stop in zip(('from_stop_id', 'to_stop_id'), ends):
+            if stop not in stops.stations:
+                raise row.fault(column, f'there is no stop {stop}')
+        if stops.stations[ends[0]] != stops.stations[ends[1]]:
+            transfers.left_out['rows of transfers.txt between two stations'] += 1
+        else:
+            transfers.said[ends] = least_change(row, kind, usual)
+    return transfers
+
+
+def least_change(row: Row, kind: int, usual: int) -> Optional[int]:
+    """How long a change takes by a row. The train of a timed one waits, so it takes no time where none is told."""
+    if kind == 3:
+        return None
+    if kind == 2:
+        return row.number('min_transfer_time', LATEST)
+    return row.number('min_transfer_time', LATEST, 0 if kind == 1 else usual)

@@ -1,0 +1,152 @@
+"""Diagrams and pages of runs: trains and lines that are found, the states of changes, and what stands in the pictures."""
+import os
+import subprocess
+import sys
+import tempfile
+import unittest
+import xml.etree.ElementTree as xml
+
+from samples import TOOLS, network, text
+
+from diagram import drawing, frame_of
+from railway import Activity, Event, Network
+from scene import cost_parts, distances, lines_of, links_of, path_of, read_scene, trains_of, turned_pairs
+from view import page, tree_part
+
+
+def scene(folder, name):
+    return read_scene(network(folder), text(name))
+
+
+def classes(svg):
+    """The classes of the elements of a drawing, legend left out."""
+    root = xml.fromstring(svg)
+    return [name for element in root for part in element.iter() for name in part.get('class', '').split()]
+
+
+def line_of_trains(paths):
+    """A network in which each path of stops is a train, its stops 100 seconds apart."""
+    events, activities, begin = [], [], 0
+    for path in paths:
+        first = len(events) + 1
+        for place, stop in enumerate(path):
+            events.append(Event(first + place, 'departure' if place == 0 else 'arrival', begin + 100 * place, 0, stop))
+        for place in range(len(path) - 1):
+            activities.append(Activity(len(activities) + 1, 'drive', first + place, first + place + 1, 90, 0))
+        begin += 1000
+    return Network(events, activities)
+
+
+class TrainsAndLines(unittest.TestCase):
+    def test_trains_of_the_connection(self):
+        found = scene('connection', 'empty_feed')
+        self.assertEqual(found.trains, [[0, 1, 2, 3], [4, 5]])
+        self.assertEqual([path_of(found.network, train) for train in found.trains], [(1, 2, 3), (2, 4)])
+
+    def test_busiest_line_first(self):
+        net = line_of_trains([(1, 2, 3), (3, 2, 1), (2, 9, 8, 7, 6), (1, 2, 3)])
+        self.assertEqual([sorted(line) for line in lines_of(net, trains_of(net))], [[1, 2, 3], [2, 6, 7, 8, 9]])
+
+    def test_few_stops_are_one_line(self):
+        net = line_of_trains([(1, 2, 3), (2, 9)])
+        self.assertEqual(lines_of(net, trains_of(net)), [[1, 2, 3, 9]])
+
+    def test_stops_lie_as_far_apart_as_trains_drive(self):
+        net = line_of_trains([(1, 2, 3)])
+        self.assertEqual(distances(net, trains_of(net), [1, 2, 3]), [0.0, 0.5, 1.0])
+
+    def test_network_without_events(self):
+        net = Network([], [])
+        self.assertEqual((trains_of(net), lines_of(net, [])), ([], []))
+
+
+class StatesOfChanges(unittest.TestCase):
+    def test_kept(self):
+        self.assertEqual([link.state for link in links_of(scene('connection', 'late_first_train'))], ['kept'])
+
+    def test_dropped_and_turned(self):
+        found = scene('connection', 'plan_that_is_adopted')
+        self.assertEqual([link.state for link in links_of(found)], ['dropped'])
+        self.assertEqual(turned_pairs(found), [(2, 4)])
+
+    def test_missed(self):
+        found = scene('connection', 'passed_time_that_misses_a_change')
+        self.assertEqual([link.state for link in links_of(found)], ['missed'])
+        self.assertEqual(cost_parts(found), (30000, 0, 40000))
+
+    def test_parts_add_up_to_the_cost(self):
+        for name in ('late_first_train', 'plan_that_is_adopted', 'passed_time_that_misses_a_change'):
+            found = scene('connection', name)
+            self.assertEqual(sum(cost_parts(found)), found.run.cost)
+
+
+class Drawings(unittest.TestCase):
+    def draw(self, name, line=(1, 2, 3), **limits):
+        return ''.join(drawing(scene('connection', name), list(line), **limits))
+
+    def test_marks_of_an_adopted_plan(self):
+        found = classes(self.draw('plan_that_is_adopted'))
+        self.assertEqual([found.count(kind) for kind in ('train', 'link', 'turned')], [1, 1, 2])
+
+    def test_marks_of_a_passed_event(self):
+        self.assertEqual(classes(self.draw('passed_time_that_misses_a_change')).count('passed'), 2)
+
+    def test_lateness_moves_a_path_to_the_right(self):
+        found = scene('connection', 'late_first_train')
+        frame, _ = frame_of(found, [1, 2, 3], None, None)
+        self.assertLess(frame.x(found.scheduled(0)), frame.x(found.times[0]))
+
+    def test_nothing_outside_the_times_asked_for(self):
+        found = classes(self.draw('late_first_train', begin=0, end=60))
+        self.assertNotIn('train', found)
+
+    def test_names_are_text_and_not_markup(self):
+        found = scene('connection', 'late_first_train')._replace(names={1: '<b>&'})
+        self.assertIn('&lt;b&gt;&amp;', ''.join(drawing(found, [1, 2, 3])))
+
+
+class Pages(unittest.TestCase):
+    def test_page_loads_nothing(self):
+        found = page(scene('connection', 'plan_that_is_adopted'))
+        self.assertNotIn('src=', found)
+        self.assertNotIn('http', found.replace('http://www.w3.org/2000/svg', ''))
+
+    def test_tree_of_two_levels(self):
+        nodes = [('inner', ('change', 5)), ('inner', ('pair', 3, 5)), ('bound', 1), ('cycle',), ('open', 2)]
+        tree = xml.fromstring(tree_part(nodes))
+        self.assertEqual([mark.text for mark in tree.iter('b')], ['keep 5', 'first 3 5', 'first 5 3', 'drop 5'])
+        self.assertEqual([leaf.text for leaf in tree.iter('span')], ['bound 1', 'cycle', 'open 2'])
+
+    def test_cost_and_replies_stand_there(self):
+        found = page(scene('connection', 'plan_that_is_adopted'))
+        self.assertIn('940,000', found)
+        self.assertIn('<td>delay event 1 60</td><td>1 ok</td>', found)
+
+
+class Commands(unittest.TestCase):
+    def run_tool(self, name, *words):
+        return subprocess.run([sys.executable, os.path.join(TOOLS, name), *words], capture_output=True, text=True)
+
+    def test_bad_files_are_told_in_one_line(self):
+        with tempfile.TemporaryDirectory() as folder:
+            with open(os.path.join(folder, 'Events-expanded.giv'), 'w', encoding='utf-8') as file:
+                file.write('# events\n1; 1; "departure"; 100; 10; 1\n2; 2; "arrives"; 200; 10; 2\n')
+            for tool in ('diagram.py', 'view.py'):
+                done = self.run_tool(tool, folder, text('late_first_train'))
+                self.assertEqual((done.returncode, done.stdout), (2, ''))
+                self.assertEqual(done.stderr.count('\n'), 1)
+                self.assertIn('Events-expanded.giv, line 3', done.stderr)
+
+    def test_unknown_stop_of_a_line(self):
+        done = self.run_tool('diagram.py', network('connection'), text('late_first_train'), '--line', '1,77')
+        self.assertEqual((done.returncode, done.stdout), (2, ''))
+        self.assertIn('77', done.stderr)
+
+    def test_drawing_is_whole(self):
+        done = self.run_tool('diagram.py', network('connection'), text('late_first_train'))
+        self.assertEqual(done.returncode, 0)
+        xml.fromstring(done.stdout)
+
+
+if __name__ == '__main__':
+    unittest.main()

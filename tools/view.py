@@ -1,0 +1,212 @@
+#!/usr/bin/env python3
+"""Makes one page of a run, to be opened in a browser: view.py NET TEXT > day.html
+
+NET is the folder of a network, TEXT the text of a run over it. The page loads nothing from elsewhere. It shows the time-distance
+diagram of each line (as diagram.py draws it) with zoom and pan by mouse, touch and keys; a box that finds a train, an event or a
+stop; the board of a stop (scheduled, now, late); the journal with each reply; each plan with its choices and its tree as a list
+that folds, with bounds; and the cost by late arrivals, dropped changes and missed ones. It works by keyboard, in light and dark,
+and on a narrow screen. Names come from NET/Stops.csv and NET/Trains.csv where these are there.
+"""
+import argparse
+import json
+import os
+import sys
+from html import escape
+
+from diagram import drawing
+from railway import BadFile
+from scene import clock_time, cost_parts, counted, lateness_class, lines_of, read_scene
+
+# At most so many lines are drawn, trees shown node by node, and lines of logs listed.
+MOST_LINES = 8
+MOST_NODES = 2_000
+MOST_ITEMS = 20_000
+
+
+# ---- Words for people
+
+
+def cost_words(cost):
+    """A cost in passenger minutes."""
+    return f'{cost / 60_000:,.1f} passenger minutes'
+
+
+def decision_words(decision):
+    return ' '.join(map(str, decision))
+
+
+def message_words(message):
+    if message[0] == 'adopt' and len(message) > 1:
+        return ' '.join(['adopt', *map(decision_words, message[1])])
+    return ' '.join(map(str, message))
+
+
+def answer_words(answer):
+    """An answer as it is printed; of a plan its first line."""
+    if answer.kind == 'plan':
+        plan = answer.value
+        return f'{answer.entry} plan {plan.mark} cost {plan.cost} bound {plan.bound}'
+    value = answer.value
+    if answer.kind == 'refused' and value[0] == 'cycle':
+        value = ' '.join(['cycle', *map(str, value[1])])
+    elif isinstance(value, tuple):
+        value = ' '.join(map(str, value))
+    parts = [answer.entry, answer.kind, value]
+    return ' '.join(str(part) for part in parts if part is not None)
+
+
+# ---- Parts of the page
+
+
+def cost_part(scene):
+    parts = cost_parts(scene)
+    rows = [('Late arrivals', parts.lateness), ('Dropped changes', parts.dropped), ('Missed changes', parts.missed), ('Cost', scene.run.cost)]
+    cells = ''.join(f'<tr><th scope="row">{name}</th><td>{cost_words(cost)}</td><td>{cost:,}</td></tr>' for name, cost in rows)
+    return (f'<table><caption>Cost after all entries, at a penalty of {scene.run.penalty} s for each passenger who misses a change'
+            f'</caption><tbody>{cells}</tbody></table><p class="note">On the right in thousandths of passenger seconds.</p>')
+
+
+def journal_part(scene):
+    """A table of each feed's lines with their replies."""
+    tables = []
+    for number, log in enumerate(scene.run.logs, 1):
+        rows = []
+        for item in log.items[:MOST_ITEMS]:
+            said = 'malformed' if item.said is None else message_words(item.said)
+            answer = '' if item.answer is None else answer_words(item.answer)
+            kind = ' class="no"' if item.answer is None or item.answer.kind in ('refused', 'range', 'plans', 'noplan') else ''
+            rows.append(f'<tr{kind}><td>{item.line}</td><td>{escape(said)}</td><td>{escape(answer)}</td></tr>')
+        left = len(log.items) - MOST_ITEMS
+        more = f'<p class="note">{left} further lines are left out.</p>' if left > 0 else ''
+        tables.append(f'<details{" open" if number == 1 else ""}><summary>Feed {number}: {len(log.items)} lines, {log.stop}</summary>'
+                      f'<table><thead><tr><th>Line</th><th>Said</th><th>Answered</th></tr></thead><tbody>{"".join(rows)}</tbody></table>'
+                      f'{more}</details>')
+    return ''.join(tables)
+
+
+def node_words(node):
+    kind, *said = node
+    return f'branches on {said[0][0]} {" ".join(map(str, said[0][1:]))}' if kind == 'inner' else ' '.join(map(str, node))
+
+
+def ways(choice):
+    """The words of the two decisions of a choice."""
+    if choice[0] == 'change':
+        return f'keep {choice[1]}', f'drop {choice[1]}'
+    return f'first {choice[1]} {choice[2]}', f'first {choice[2]} {choice[1]}'
+
+
+def tree_part(nodes):
+    """The tree as lists that fold, from its nodes in preorder; `waiting` holds the second ways not yet begun."""
+    out, waiting = ['<ul class="tree"><li>'], []
+    for node in nodes:
+        if node[0] == 'inner':
+            first, second = ways(node[1])
+            out.append(f'<details open=""><summary>{node_words(node)}</summary><ul><li><b>{first}</b>: ')
+            waiting.append([second])
+            continue
+        out.append(f'<span>{node_words(node)}</span>')
+        while waiting and not waiting[-1]:
+            waiting.pop()
+            out.append('</li></ul></details>')
+        if waiting:
+            out.append(f'</li><li><b>{waiting[-1].pop()}</b>: ')
+    out.append('</li></ul>')
+    return ''.join(out)
+
+
+def plan_part(feed, item):
+    """A plan with its choices and its tree."""
+    plan = item.answer.value
+    choices = ''.join(f'<li>{decision_words(choice)}</li>' for choice in plan.choices) or '<li>none: the rows are as good as any</li>'
+    gap = 0 if plan.cost == 0 else 100 * (plan.cost - plan.bound) / plan.cost
+    tree = tree_part(plan.nodes) if len(plan.nodes) <= MOST_NODES else f'<p class="note">{len(plan.nodes)} nodes are too many to be shown.</p>'
+    return (f'<details><summary>Feed {feed}, line {item.line}, entry {plan.entry}: {plan.mark}, cost {cost_words(plan.cost)}, '
+            f'proved bound {cost_words(plan.bound)} (gap {gap:.2f} %)</summary><h4>Choices</h4><ul class="choices">{choices}</ul>'
+            f'<h4>Tree of {len(plan.nodes)} nodes</h4>{tree}</details>')
+
+
+def plans_part(scene):
+    parts = [
+        plan_part(feed, item)
+        for feed, log in enumerate(scene.run.logs, 1) for item in log.items if item.answer is not None and item.answer.kind == 'plan'
+    ]
+    return ''.join(parts) or '<p>No plan was asked for.</p>'
+
+
+def lines_part(scene):
+    """The drawing of each line, of which one is shown, and the choice between them."""
+    lines = lines_of(scene.network, scene.trains, MOST_LINES) or [sorted({event.stop for event in scene.network.events})]
+    lines = [line for line in lines if line]
+    names = [f'{scene.stop_name(line[0])} – {scene.stop_name(line[-1])}' for line in lines]
+    options = ''.join(f'<option value="{place}">{escape(name)}</option>' for place, name in enumerate(names))
+    drawings = ''.join(
+        f'<div class="line" id="line{place}"{"" if place == 0 else " hidden"}>{"".join(drawing(scene, line))}</div>'
+        for place, line in enumerate(lines)
+    )
+    return f'<label>Line <select id="lines">{options}</select></label>', drawings
+
+
+def differences(numbers):
+    return [after - before for before, after in zip([0, *numbers], numbers)]
+
+
+def data_of(scene):
+    """What the page's script looks up: events in order of ids, and trains by places, both as differences to the one before."""
+    events = scene.network.events
+    return {
+        'ids': differences([event.id for event in events]), 'times': differences([event.time for event in events]),
+        'late': [now - event.time for event, now in zip(events, scene.times)], 'stops': differences([event.stop for event in events]),
+        'arrivals': ''.join(str(int(event.kind == 'arrival')) for event in events),
+        'passed': [place for place, time in enumerate(scene.rows.passed) if time is not None],
+        'trains': [differences(train) for train in scene.trains], 'names': scene.names,
+        'labels': [scene.train_label(place) for place in range(len(scene.trains))] if scene.labels else [],
+    }
+
+
+def page(scene):
+    """The whole page."""
+    here = os.path.dirname(os.path.abspath(__file__))
+    with open(os.path.join(here, 'view.css'), encoding='utf-8') as css, open(os.path.join(here, 'view.js'), encoding='utf-8') as js:
+        style, script = css.read(), js.read()
+    choice, drawings = lines_part(scene)
+    late = sum(lateness_class(scene.lateness(place)) > 0 for place in range(len(scene.times)))
+    clock = f', clock {clock_time(scene.rows.clock, True)}' if scene.rows.clock else ''
+    return f'''<!doctype html>
+<html lang="en"><head><meta charset="utf-8"><meta name="viewport" content="width=device-width,initial-scale=1">
+<title>A day of {len(scene.trains)} trains</title><style>{style}</style></head><body>
+<header><h1>A day of {len(scene.trains)} trains</h1>
+<p>{counted(len(scene.run.journal), "entry", "entries")} from {counted(len(scene.run.logs), "feed", "feeds")}; {late} of {len(scene.times)} events a minute late or more{clock}.</p>
+<form id="find" role="search"><label for="wanted">Find a train, an event or a stop</label>
+<input id="wanted" type="search" autocomplete="off" placeholder="train 1, event 5, a name of a stop"><button>Find</button></form>
+<p id="found" role="status" aria-live="polite"></p></header>
+<main><section aria-labelledby="h-diagram"><h2 id="h-diagram">Diagram</h2>
+<div class="tools">{choice}<button type="button" data-zoom="in" aria-label="Zoom in">+</button>
+<button type="button" data-zoom="out" aria-label="Zoom out">−</button><button type="button" data-zoom="all">All</button>
+<span class="note">Wheel or + and − to zoom, drag or arrow keys to move, 0 for all.</span></div>
+<div id="view" tabindex="0" role="application" aria-label="Time-distance diagram">{drawings}</div></section>
+<section aria-labelledby="h-board"><h2 id="h-board">Board</h2><label>Stop <select id="stops"></select></label><div id="board"></div></section>
+<section aria-labelledby="h-cost"><h2 id="h-cost">Cost</h2>{cost_part(scene)}</section>
+<section aria-labelledby="h-plans"><h2 id="h-plans">Plans</h2>{plans_part(scene)}</section>
+<section aria-labelledby="h-journal"><h2 id="h-journal">Journal</h2>{journal_part(scene)}</section></main>
+<script>const DAY={json.dumps(data_of(scene), separators=(",", ":"))};
+{script}</script></body></html>'''
+
+
+def main():
+    words = argparse.ArgumentParser(description=__doc__, formatter_class=argparse.RawDescriptionHelpFormatter)
+    words.add_argument('net', metavar='NET', help='folder with Events-expanded.giv and Activities-expanded.giv')
+    words.add_argument('text', metavar='TEXT', help='the text of a run over it')
+    words.add_argument('--event-delays', metavar='NAME', help='delays of events at the start, as given to the run')
+    words.add_argument('--activity-delays', metavar='NAME', help='delays of activities at the start, as given to the run')
+    given = words.parse_args()
+    try:
+        scene = read_scene(given.net, given.text, given.event_delays, given.activity_delays)
+    except BadFile as fault:
+        print(f'view.py: {fault}', file=sys.stderr)
+        sys.exit(2)
+    print(page(scene))
+
+
+if __name__ == '__main__':
+    main()
