@@ -25,12 +25,12 @@ import sys
 import tempfile
 from collections import Counter
 
-from judge import LINES, Judge, in_print, read_form, read_node, verdict_on
-from railway import Activity, Event, Network, Rows, times_of, ways_of
+from judge import Judge, in_print, verdict_on
+from railway import Activity, Event, Network, Rows, decimal, times_of, ways_of
+from runtext import due_items, read_form, read_node
 
 # Changed texts of each number.
 CHANGED = 12
-LONGEST_LINE = 1024
 SECONDS = 100
 
 ODD_LINES = [
@@ -99,11 +99,6 @@ def drawn_network(draws):
         network = Network(events, drawn_activities(draws, events))
         if times_of(network, Rows(network)) is not None:
             return network
-
-
-def decimal(thousandths):
-    whole, rest = divmod(thousandths, 1000)
-    return f'{whole}.{rest:03d}' if rest else str(whole)
 
 
 def write_network(draws, network, folder):
@@ -194,23 +189,6 @@ def drawn_feed(draws, network):
 
 
 # ---- What a run of feeds comes to
-
-
-def heard(line):
-    """What is heard in a line of a feed, None where it is malformed, or 'nothing' where it is blank or a comment."""
-    if len(line) > LONGEST_LINE:
-        return None
-    words = [word for word in line.split(' ') if word]
-    if not words or words[0].startswith('#'):
-        return 'nothing'
-    return read_form(LINES, [re.sub('^0+(?=[0-9])', '', word) if word.isdecimal() else word for word in words])
-
-
-def due_items(feed):
-    """The due lines of a feed, each with its number and what is heard in it."""
-    *lines, rest = feed.split('\n')
-    lines = [line.removesuffix('\r') for line in lines] + ([rest] if rest else [])
-    return [(number, heard(line)) for number, line in enumerate(lines, 1) if heard(line) != 'nothing']
 
 
 def keeps_rounds(logs, batch):

@@ -1,18 +1,29 @@
 #!/usr/bin/env python3
 """Prints how good the plans of generated days are, and what they cost: python3 bench/plans.py PROGRAM [TRAINS ..]
 
-PROGRAM is the built dispatcher (`rt run` leaves crates/dispatcher/out/dispatcher). Each day is that of bench/day.py with number 7,
-its 500 delays, and `plan 16384` behind them; the penalty is 3600. Costs and bounds are in millions. The last but one column is
-the processor time of the whole run less that of the run without the plan, the last the most memory that the run took.
+PROGRAM is the built dispatcher (`rt run` leaves crates/dispatcher/out/dispatcher). The days are those of bench/day.py with numbers
+1 to 9, their 500 delays, and `plan 16384` behind them; the penalty is 3600. Costs and bounds are in millions. The columns behind them
+are the processor time of the whole run less that of the run without the plan, the most memory that the run took, and how far the cost
+is above the best that is known, where it is.
 
-The last line is of the largest day: `plan 4096` and `adopt` behind each eighth of the delays.
+The last line is of the largest day with number 7: `plan 4096` and `adopt` behind each eighth of the delays.
 """
 import os
 import subprocess
 import sys
 import tempfile
 
-TRAINS = [20, 40, 100, 200, 2000]
+TRAINS = [20, 40, 100, 200, 500, 2000]
+
+# The least costs that are known, in millions, by trains, for numbers 1 to 9.
+BEST = {
+    20: [1361.29, 1313.78, 1388.01, 1313.49, 1335.50, 1289.03, 1365.49, 1324.13, 1303.91],
+    40: [2404.51, 2319.56, 2430.01, 2351.82, 2307.57, 2304.04, 2424.22, 2417.89, 2311.79],
+    100: [4434.35, 4462.54, 4440.64, 4376.76, 4385.33, 4375.58, 4260.31, 4476.96, 4432.00],
+    200: [6213.40, 6329.67, 6276.89, 6144.71, 6044.66, 6303.05, 5805.17, 6253.45, 6251.35],
+    500: [8033.56, 8376.92, 8364.40, 8193.75, 7612.69, 8241.48, 7569.26, 8309.44, 8372.29],
+    2000: [9626.07, 9737.15, 9836.29, 9626.23, 9147.01, 9994.31, 9102.51, 9840.12, 10158.74],
+}
 
 
 def run(program, folder, feed):
@@ -53,10 +64,19 @@ def adopting(delays, plans):
     return lines
 
 
-def day(program, trains, last):
+def behind(trains, number, cost):
+    """How far a cost is above the best that is known, as the end of a line."""
+    if trains not in BEST or cost <= BEST[trains][number - 1]:
+        return ''
+    best = BEST[trains][number - 1]
+    return f'  {100 * (cost - best) / best:.4f} % above {best:.2f}'
+
+
+def day(program, trains, number, last):
+    """Prints the line of a day. It is false where the plan costs more than the best that is known."""
     with tempfile.TemporaryDirectory() as folder:
         script = os.path.join(os.path.dirname(os.path.abspath(__file__)), 'day.py')
-        subprocess.run([sys.executable, script, '7', str(trains), folder], check=True)
+        subprocess.run([sys.executable, script, str(number), str(trains), folder], check=True)
         feed = os.path.join(folder, 'delays')
         with open(feed) as file:
             delays = file.readlines()
@@ -64,18 +84,23 @@ def day(program, trains, last):
         text, whole, memory = run(program, folder, write(folder, 'plan', delays + ['plan 16384\n']))
         mark, *rest = plan_of(text)
         values = dict(zip(rest[0::2], rest[1::2]))
-        print(f'{trains:6} {mark:8} {int(values["cost"]) / 1e6:9.2f} {int(values["bound"]) / 1e6:9.2f} '
-              f'{values["nodes"]:>6} {whole - without:6.2f} s {memory:4.0f} MB')
+        above = behind(trains, number, int(values['cost']) / 1e6)
+        print(f'{trains:6} {number:6} {mark:8} {int(values["cost"]) / 1e6:9.2f} {int(values["bound"]) / 1e6:9.2f} '
+              f'{values["nodes"]:>6} {whole - without:6.2f} s {memory:4.0f} MB{above}')
         if last:
             _, whole, memory = run(program, folder, write(folder, 'adopted', adopting(delays, 8)))
-            print(f'{trains:6} 8 plans of 4096 nodes, adopted          {whole - without:6.2f} s {memory:4.0f} MB')
+            print(f'{trains:6} {number:6} 8 plans of 4096 nodes, adopted          {whole - without:6.2f} s {memory:4.0f} MB')
+        return not above
 
 
 def main():
-    print('trains mark          cost     bound  nodes      time memory')
+    print('trains number mark          cost     bound  nodes      time memory')
     trains = [int(word) for word in sys.argv[2:]] or TRAINS
-    for k, count in enumerate(trains):
-        day(sys.argv[1], count, k + 1 == len(trains))
+    short = 0
+    for count in trains:
+        for number in range(1, 10):
+            short += not day(sys.argv[1], count, number, count == trains[-1] and number == 7)
+    print(f'{short} plans cost more than the best that is known')
 
 
 main()

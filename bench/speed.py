@@ -1,5 +1,5 @@
 #!/usr/bin/env python3
-"""Times runs of a generated day: python3 bench/speed.py FOLDER DISPATCHER [BEFORE]
+"""Times runs of a generated day: python3 bench/speed.py FOLDER DISPATCHER [BEFORE] [--country=COUNTRY]
 
 FOLDER is a day that day.py wrote, DISPATCHER a built dispatcher and BEFORE another one, as of the commit before a change. Each
 row runs some feeds so often, and gives the least processor and wall time, and the ratio of the processor time to that of an
@@ -9,28 +9,44 @@ which is what whoever waits for a run sees, and else that of the processor times
     delays     a full feed of delays against an empty one          2.0
     mixed      a full feed of mixed lines against an empty one     2.5
     few        500 delays against an empty feed                    1.3
-    four       four feeds of as many lines in all against one      1.3
-    four-1000  the same in rounds of 1,000 lines a feed            1.3
+    4, 16, 64  so many feeds of as many lines in all against one   1.2
+    4-1000 ..  the same in rounds of 1,000 lines a feed            1.2
     boards     boards of 64 of the stops against none              1.5
     rounds     with --batch=1000, against BEFORE                   1.1
     default    with the default batch, against BEFORE              1.5
 
+With COUNTRY, a folder that country.py wrote, its full feeds are run too, in rounds of 1,000 lines, each with its bound against one of
+them by wall time: 16 feeds 2.1, and 64, each of the 16 four times, 2.9; what the system takes for them is at most a tenth of what
+the program does.
+
 A ratio over its bound is marked, and the status is then 1. Behind these stand the ratios of the processor times where feeds work
 at once, which have no bound.
 """
+import argparse
 import os
 import resource
 import subprocess
 import sys
 import time
+from typing import NamedTuple
 
 REPEATS = 15
+COUNTRY_REPEATS = 3
 
 # As many boards as a run may have.
 BOARDS = range(1, 65)
 
-# The full feed, split into four.
-QUARTERS = ['quarter-1', 'quarter-2', 'quarter-3', 'quarter-4']
+# Into how many feeds the full feed is split.
+SPLITS = (4, 16, 64)
+
+# How many feeds of the country are run at once, and the bound of their time against that of one.
+COUNTRY_BOUNDS = {16: 2.1, 64: 2.9}
+
+
+def part_names(count):
+    """The names of the feeds that the full feed is split into."""
+    return [f'part-{number}-of-{count}' for number in range(1, count + 1)]
+
 
 # Name, feeds, further words.
 RUNS = [
@@ -41,18 +57,30 @@ RUNS = [
     ('questions', ['questions'], []),
     ('boards', ['full'], ['--boards=' + ','.join(str(stop) for stop in BOARDS)]),
     ('rounds', ['full'], ['--batch=1000']),
-    ('four', QUARTERS, []),
-    ('four-1000', QUARTERS, ['--batch=1000']),
+    *((str(count), part_names(count), []) for count in SPLITS),
+    *((f'{count}-1000', part_names(count), ['--batch=1000']) for count in SPLITS),
 ]
 
 
-def quarters(folder):
-    """Splits the full feed into four feeds of as many lines in all."""
+class Taken(NamedTuple):
+    """The seconds of a run: of the program, of the system for it, and by the clock."""
+    user: float
+    system: float
+    wall: float
+
+    @property
+    def processor(self):
+        return self.user + self.system
+
+
+def split_full(folder):
+    """Splits the full feed into feeds of as many lines in all."""
     with open(os.path.join(folder, 'full')) as file:
         lines = file.readlines()
-    for number, name in enumerate(QUARTERS):
-        with open(os.path.join(folder, name), 'w') as file:
-            file.writelines(lines[number::len(QUARTERS)])
+    for count in SPLITS:
+        for number, name in enumerate(part_names(count)):
+            with open(os.path.join(folder, name), 'w') as file:
+                file.writelines(lines[number::count])
 
 
 def board_files(folder):
@@ -74,61 +102,109 @@ def remove_boards(folder):
 
 
 def timed(program, folder, feeds, words):
-    """The processor and wall seconds of a run."""
-    empty_boards(folder)
+    """What a run takes."""
     command = [program, 'run', 'net', '--penalty=3600'] + words + feeds
     before = resource.getrusage(resource.RUSAGE_CHILDREN)
     start = time.monotonic()
     subprocess.run(command, cwd=folder, stdout=subprocess.DEVNULL, check=True)
     wall = time.monotonic() - start
     after = resource.getrusage(resource.RUSAGE_CHILDREN)
-    return after.ru_utime + after.ru_stime - before.ru_utime - before.ru_stime, wall
+    return Taken(after.ru_utime - before.ru_utime, after.ru_stime - before.ru_stime, wall)
+
+
+def least_of(run, known):
+    """What took the least processor time, with the least time by the clock."""
+    if known is None:
+        return run
+    quicker = min(run, known, key=lambda taken: taken.processor)
+    return quicker._replace(wall=min(run.wall, known.wall))
 
 
 def least(programs, folder):
-    """The least processor and wall seconds of each program's run of each row. All run in turn, again and again, so that a
-    machine that is slower for a while is so for all of them."""
+    """The least that each program takes for each row. All run in turn, again and again, so that a machine that is slower for a while
+    is so for all of them."""
     seconds = [{} for _ in programs]
     for _ in range(REPEATS):
         for name, feeds, words in RUNS:
-            for least_of, program in zip(seconds, programs):
-                run = timed(program, folder, feeds, words)
-                least_of[name] = tuple(map(min, run, least_of.get(name, run)))
+            for taken, program in zip(seconds, programs):
+                empty_boards(folder)
+                taken[name] = least_of(timed(program, folder, feeds, words), taken.get(name))
     remove_boards(folder)
     return seconds
 
 
-def print_table(title, seconds):
-    print(f'{title}:{"processor":>21}{"wall":>9}{"ratio":>8}')
-    for name, (used, wall) in seconds.items():
-        print(f'  {name:<16}{used:>10.3f} s{wall:>7.3f} s{used / seconds["empty"][0]:>8.2f}')
-    return {name: used for name, (used, _) in seconds.items()}
+def country_feeds(count):
+    return [f'feed{number % 16 + 1}' for number in range(count)]
+
+
+def least_of_country(program, folder):
+    """The least that one, 16 and 64 feeds of a country take."""
+    taken = {}
+    for _ in range(COUNTRY_REPEATS):
+        for count in (1, *COUNTRY_BOUNDS):
+            run = timed(program, folder, country_feeds(count), ['--batch=1000'])
+            taken[f'country-{count}'] = least_of(run, taken.get(f'country-{count}'))
+    return taken
+
+
+def print_table(title, seconds, unit):
+    print(f'{title}:{"processor":>21}{"system":>9}{"wall":>9}{"ratio":>8}')
+    for name, taken in seconds.items():
+        ratio = taken.processor / seconds[unit].processor
+        print(f'  {name:<16}{taken.processor:>10.3f} s{taken.system:>7.3f} s{taken.wall:>7.3f} s{ratio:>8.2f}')
+
+
+def ratios_of_day(seconds):
+    """The name, the ratio and the bound of what is bounded, of the program and the one before it, where there is one."""
+    now = seconds[0]
+    used = {name: taken.processor for name, taken in now.items()}
+    ratios = [
+        ('delays', used['delays'] / used['empty'], 2.0),
+        ('mixed', used['mixed'] / used['empty'], 2.5),
+        ('few', used['few'] / used['empty'], 1.3),
+        *((str(count), now[str(count)].wall / now['delays'].wall, 1.2) for count in SPLITS),
+        *((f'{count}-1000', now[f'{count}-1000'].wall / now['rounds'].wall, 1.2) for count in SPLITS),
+        ('boards', used['boards'] / used['delays'], 1.5),
+    ]
+    for before in seconds[1:]:
+        ratios.append(('rounds', used['rounds'] / before['rounds'].processor, 1.1))
+        ratios.append(('default', used['delays'] / before['delays'].processor, 1.5))
+    return ratios
+
+
+def ratios_of_country(taken):
+    one = taken['country-1']
+    for count, bound in COUNTRY_BOUNDS.items():
+        many = taken[f'country-{count}']
+        yield f'country-{count}', many.wall / one.wall, bound
+        yield f'system-{count}', many.system / many.user, 0.1
+
+
+def arguments():
+    words = argparse.ArgumentParser(description=__doc__, formatter_class=argparse.RawDescriptionHelpFormatter)
+    words.add_argument('folder', metavar='FOLDER')
+    words.add_argument('programs', metavar='DISPATCHER', nargs='+', type=os.path.abspath)
+    words.add_argument('--country', metavar='COUNTRY')
+    return words.parse_args()
 
 
 def main():
-    folder, programs = sys.argv[1], [os.path.abspath(program) for program in sys.argv[2:4]]
-    quarters(folder)
-    seconds = least(programs, folder)
-    now = print_table('now', seconds[0])
-    wall = {name: least_wall for name, (_, least_wall) in seconds[0].items()}
-    ratios = [
-        ('delays', now['delays'] / now['empty'], 2.0),
-        ('mixed', now['mixed'] / now['empty'], 2.5),
-        ('few', now['few'] / now['empty'], 1.3),
-        ('four', wall['four'] / wall['delays'], 1.3),
-        ('four-1000', wall['four-1000'] / wall['rounds'], 1.3),
-        ('boards', now['boards'] / now['delays'], 1.5),
-    ]
-    if len(seconds) > 1:
-        before = print_table('before', seconds[1])
-        ratios.append(('rounds', now['rounds'] / before['rounds'], 1.1))
-        ratios.append(('default', now['delays'] / before['delays'], 1.5))
-    over = [name for name, ratio, bound in ratios if ratio > bound]
+    given = arguments()
+    split_full(given.folder)
+    seconds = least(given.programs, given.folder)
+    for title, taken in zip(('now', 'before'), seconds):
+        print_table(title, taken, 'empty')
+    ratios = ratios_of_day(seconds)
+    if given.country is not None:
+        taken = least_of_country(given.programs[0], given.country)
+        print_table('country', taken, 'country-1')
+        ratios += ratios_of_country(taken)
     for name, ratio, bound in ratios:
-        print(f'{name:<10}{ratio:6.2f} of {bound}{"  over" if name in over else ""}')
-    for name, one in [('four', 'delays'), ('four-1000', 'rounds')]:
-        print(f'{name:<10}{now[name] / now[one]:6.2f} of processor time')
-    sys.exit(1 if over else 0)
+        print(f'{name:<12}{ratio:6.2f} of {bound}{"  over" if ratio > bound else ""}')
+    for count in SPLITS:
+        for name, one in ((str(count), 'delays'), (f'{count}-1000', 'rounds')):
+            print(f'{name:<12}{seconds[0][name].processor / seconds[0][one].processor:6.2f} of processor time')
+    sys.exit(any(ratio > bound for _, ratio, bound in ratios))
 
 
 if __name__ == '__main__':
