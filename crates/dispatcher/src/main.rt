@@ -1,9 +1,9 @@
 //! The dispatcher's server: keeps the timetable of a railway network up to date while feeds report delays.
 //!
 //! It makes the real shelf, sink and gate, and a board in the file `DIR/board-S.txt` for each stop S that the words give, calls
-//! `dm_program::dispatch` with the words of the command line, says on the standard error what went amiss, and ends with its status.
-//! It stands on dm_program for `dispatch`, on dm_hints for what is said, on dm_words for the folder and the stops of the boards, and
-//! on dm_boards and dm_outside for the real forms.
+//! `dm_program::dispatch` with the words of the command line, says on the standard error what went amiss, and ends with its
+//! status. It stands on dm_program for `dispatch`, on dm_hints for what is said, on dm_words for the folder and the stops of
+//! the boards, and on dm_boards and dm_outside for the real forms.
 #![tactic(auto)]
 
 use dm_boards::FileBoard;

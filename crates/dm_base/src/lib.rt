@@ -2,6 +2,12 @@
 //!
 //! It stands on std alone. It promises that [`read_whole`] and [`read_milli`] read decimal texts exactly, that
 //! [`Items`] is the list that it was made from, and that a [`Steps`] counts each tick and nothing else.
+//!
+//! # What is promised
+//!
+//! `read_whole` and `read_milli` answer exactly what the text spells: `reads` (the value), `not_a_number` and `too_large`
+//! (each exactly where it comes), for texts of any length and without memory. `Items` is the list that it was made of. A
+//! `Steps` counts each tick; it exists for contracts alone.
 #![tactic(auto)]
 
 mod counter;

@@ -106,7 +106,8 @@ fn put_numbers<K: Sink>(
     first: u128,
     second: u128,
 ) -> Result<(), WriteFault>
-    ensures { Prints K.taken K.faults sink.old sink.new page.old page.new result (joined (words.now ∷ decimal first ∷ codes " " ∷ decimal second ∷ codes "\n" ∷ [])) }
+    ensures { Prints K.taken K.faults sink.old sink.new page.old page.new result
+        (joined (words.now ∷ decimal first ∷ codes " " ∷ decimal second ∷ codes "\n" ∷ [])) }
 {
     let pieces = [
         Piece::Text(words),

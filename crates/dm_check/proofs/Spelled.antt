@@ -27,6 +27,7 @@ use Rattle.dm_cert.specs.PlansRead.{size_words, IsChoiceLine, IsLeafLine, IsNode
 use Rattle.dm_cert.specs.RunTexts.{Run, run_text, header_text, entry_text, entries_text, item_text, reply_text, feed_text, stop_text, log_text, logs_text, note_text, time_text, timetable_text, boards_text, heading_text, ending_text}
 use Rattle.dm_cert.proofs.ToldTexts.{line_told}
 use Rattle.dm_records.specs.RunLines.{Opening, PlanOpening, ItemLine, lone, planned, Timed, IsNumberLine, IsVersionLine, IsEntryLine, IsOpeningLine, IsItemLine, IsStopLine, IsNoteLine, IsTimeLine, IsWordLine, opening_text}
+use Rattle.dm_records.proofs.LinesSpelled.{numbered, version_line}
 use Rattle.dm_check.specs.declared.faults.Fault.{Fault}
 use Rattle.dm_check.specs.FalseRecords.{bad, Reads, Rules, TellsEntry, TellsItem, TellsBehind, TellsLog, TellsBoards, TellsNote, TellsTime, TellsCost, TellsEnd, TellsNumber, TellsRest, TellsBody, IsNextPlan, IsGood, plan_opened}
 use Rattle.dm_check.specs.Laws.{IsSpelledIn}
@@ -94,9 +95,6 @@ pub entry_left : (s : Setting) (feeds : ℕ) (before : List Entry) (place : Plac
 entry_left s feeds before place e next told =
     rules_left IsEntryLine (λ said. entry_text said.number said.entry) (λ said line is. is.spelled) _ _ (λ said. said.entry) place next e told
     ∙ (ap (λ n. entry_text n told.value.entry ++ next.left) told.then.0.number ∙ ap (λ x. entry_text (length before + 1) x ++ next.left) (sym told.then.1))
-
-pub numbered : (words : List ℕ) (k : ℕ) (line : List ℕ) → IsNumberLine words k line → words ++ (decimal k ++ line_end) ≡ line ++ line_end
-numbered words k line is = ap (λ xs. words ++ xs) (ap (λ ys. ys ++ line_end) (sym (append-nil (decimal k)))) ∙ (sym (append_assoc words (decimal k ++ []) line_end) ∙ ap (λ xs. xs ++ line_end) is.spelled)
 
 pub timed_line : (said : Timed) (line : List ℕ) → IsTimeLine said line → joined (decimal said.event ∷ codes "; " ∷ decimal said.time ∷ line_end ∷ []) ≡ line ++ line_end
 timed_line said line is =
@@ -371,11 +369,6 @@ body_told s place run next told =
     ∙ ap (λ xs. entries_text 1 e.value ++ xs) (told_logs
     ∙ ap (λ xs. logs_text s.version 1 f.value ++ xs) rest.left)))) in
     subst (λ (r : Run). place.left ≡ body_text s.version r) (sym rest.is) all
-
-pub version_line : (version : ℕ) (line : List ℕ) → IsVersionLine version line → codes "dm-run " ++ (decimal version ++ line_end) ≡ line ++ line_end
-version_line version line is =
-    ap (λ xs. codes "dm-run " ++ xs) (ap (λ ys. ys ++ line_end) (sym (append-nil (decimal version))))
-    ∙ (sym (append_assoc (codes "dm-run ") (decimal version ++ []) line_end) ∙ ap (λ xs. xs ++ line_end) is.spelled)
 
 -- the version is the one that the first line tells
 pub good_is_spelled_so : (net : Net) (start : RowsValue) (penalty : ℕ) (text : List ℕ) (entries plans : ℕ) (good : IsGood net start penalty text entries plans) →

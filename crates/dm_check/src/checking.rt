@@ -116,9 +116,11 @@ fn journal_told(
     requires version { IsVersion version }
     requires few { feeds ≤ FEEDS }
     requires stands { AreCheckedRowsOf net.now checked }
-    requires rows_are { checked.rows ≡ rows_after (record { net = net.now; start = start.now; penalty = penalty; version = version }) history.now (length history.now) }
+    requires rows_are { checked.rows ≡ rows_after (record { net = net.now; start = start.now; penalty = penalty; version = version })
+        history.now (length history.now) }
     requires counted { length history.now ≡ entries }
-    ensures { LogsAndRestOn (record { net = net.now; start = start.now; penalty = penalty; version = version }) history.now feeds lines.old lines.new result }
+    ensures { LogsAndRestOn (record { net = net.now; start = start.now; penalty = penalty; version = version }) history.now feeds lines.old
+        lines.new result }
 {
     let journal = Journal {
         net,
@@ -149,7 +151,8 @@ fn entries_then_logs_told(
     requires few_entries { entries ≤ ENTRIES }
     requires stands { AreCheckedRowsOf net.now checked }
     requires copied { checked.rows ≡ start.now }
-    ensures { HistoryOn (record { net = net.now; start = start.now; penalty = penalty; version = version }) feeds entries lines.old lines.new result }
+    ensures { HistoryOn (record { net = net.now; start = start.now; penalty = penalty; version = version }) feeds entries lines.old
+        lines.new result }
 {
     let mut checked = checked;
     let history = match all_entries(alloc, lines, net, &mut checked, feeds, entries) {
@@ -183,7 +186,8 @@ fn history_told(
     requires version { IsVersion version }
     requires few { feeds ≤ FEEDS }
     requires few_entries { entries ≤ ENTRIES }
-    ensures { HistoryOn (record { net = net.now; start = start.now; penalty = penalty; version = version }) feeds entries lines.old lines.new result }
+    ensures { HistoryOn (record { net = net.now; start = start.now; penalty = penalty; version = version }) feeds entries lines.old
+        lines.new result }
 {
     let Ok(rows) = start.copy() else {
         return Err(Stop::OutOfMemory);

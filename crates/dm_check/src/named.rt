@@ -20,7 +20,8 @@ use dm_text::Lines;
 
 /// Flags the entry that an answer names as accepted.
 pub(crate) fn flag_named(named: &mut [bool], answer: &Answer)
-    ensures flagged { (items : List LogItem) (line : ℕ) (said : Said) → AreFlagged items named.old → AreFlagged (items ++ Answered line said (reply_of answer.now) ∷ []) named.new }
+    ensures flagged { (items : List LogItem) (line : ℕ) (said : Said) → AreFlagged items named.old
+        → AreFlagged (items ++ Answered line said (reply_of answer.now) ∷ []) named.new }
     ensures size { length named.new ≡ length named.old }
 {
     match answer {
@@ -41,7 +42,8 @@ fn flag(named: &mut [bool], number: u32)
 
 /// How many notes follow the logs.
 pub(crate) fn boards_told(lines: &mut Lines, named: &[bool]) -> Result<u128, Fault>
-    ensures { (history : List EntryValue) (logs : List FeedLog) → length named.now ≡ length history → AreFlagged (all_items logs) named.now → Judges (TellsBoards history logs) (λ n. n) lines.old lines.new result }
+    ensures { (history : List EntryValue) (logs : List FeedLog) → length named.now ≡ length history → AreFlagged (all_items logs) named.now
+        → Judges (TellsBoards history logs) (λ n. n) lines.old lines.new result }
 {
     let line = lines.line();
     let number = match number_told(lines, "boards ") {

@@ -28,7 +28,9 @@ pub(crate) fn is_true_plan_answer(
 ) -> Result<bool, AllocError>
     requires journal { IsJournal journal.now }
     requires stands { IsReplay journal.now replay.old }
-    ensures tells { (before : List LogItem) → IsPast before past.now → IfOk result (Tells (IsTrueReply (setting_of journal.now) (history_of journal.now) feed before line said.now (PlanReply plan.now))) }
+    ensures tells { (before : List LogItem) → IsPast before past.now
+        → IfOk result (Tells (IsTrueReply (setting_of journal.now) (history_of journal.now) feed before line said.now
+        (PlanReply plan.now))) }
     ensures fewer { result ≡ Ok true → past.now.plans < PLANS }
     ensures stands { IsReplay journal.now replay.new }
 {

@@ -29,7 +29,8 @@ pub(crate) fn next_entry(
     requires stands { AreCheckedRowsOf net.now checked.old }
     requires few { entries < ENTRIES }
     requires few_feeds { feeds ≤ FEEDS }
-    ensures tells { (s : Setting) (before : List EntryValue) → IsAfter s net.now before entries checked.old.rows → TellsNextEntry s feeds before entries lines.old lines.new checked.new.rows result }
+    ensures tells { (s : Setting) (before : List EntryValue) → IsAfter s net.now before entries checked.old.rows
+        → TellsNextEntry s feeds before entries lines.old lines.new checked.new.rows result }
     ensures stands { AreCheckedRowsOf net.now checked.new }
 {
     let line = lines.line();
@@ -91,7 +92,8 @@ pub(crate) fn all_entries(
     requires stands { AreCheckedRowsOf net.now checked.old }
     requires few { count ≤ ENTRIES }
     requires few_feeds { feeds ≤ FEEDS }
-    ensures tells { (s : Setting) → s.net ≡ net.now → checked.old.rows ≡ s.start → TellsEntries (λ v. v.items) s feeds count lines.old lines.new checked.new.rows result }
+    ensures tells { (s : Setting) → s.net ≡ net.now → checked.old.rows ≡ s.start
+        → TellsEntries (λ v. v.items) s feeds count lines.old lines.new checked.new.rows result }
     ensures stands { AreCheckedRowsOf net.now checked.new }
 {
     let mut entries = Vec::new(alloc);

@@ -42,7 +42,9 @@ fn is_next_answer(
     requires journal { IsJournal journal.now }
     requires stands { IsReplay journal.now replay.old }
     requires said { IsSpelledLine said.now }
-    ensures tells { (before : List LogItem) → IsPast before past.now → IfOk result (Tells (IsNextItem (setting_of journal.now) (history_of journal.now) feed before (Answered line said.now (reply_of answer.now)))) }
+    ensures tells { (before : List LogItem) → IsPast before past.now
+        → IfOk result (Tells (IsNextItem (setting_of journal.now) (history_of journal.now) feed before
+        (Answered line said.now (reply_of answer.now)))) }
     ensures stands { IsReplay journal.now replay.new }
 {
     if !past.is_next_line(line) {
@@ -67,7 +69,9 @@ fn is_next_plan(
 ) -> Result<bool, AllocError>
     requires journal { IsJournal journal.now }
     requires stands { IsReplay journal.now replay.old }
-    ensures tells { (before : List LogItem) → IsPast before past.now → IfOk result (Tells (IsNextItem (setting_of journal.now) (history_of journal.now) feed before (Answered line said.now (PlanReply plan.now)))) }
+    ensures tells { (before : List LogItem) → IsPast before past.now
+        → IfOk result (Tells (IsNextItem (setting_of journal.now) (history_of journal.now) feed before
+        (Answered line said.now (PlanReply plan.now)))) }
     ensures fewer { result ≡ Ok true → past.now.plans < PLANS }
     ensures stands { IsReplay journal.now replay.new }
 {
@@ -82,7 +86,8 @@ fn is_next_plan(
 
 /// A malformed line, as the next item.
 fn malformed_told(past: &mut Past, first: u32, number: u32) -> Result<(), Stop>
-    ensures { (s : Setting) (history : List EntryValue) (feed : ℕ) (before : List LogItem) (place : Place) (named : List Bool) → IsPast before past.old → BehindOn s history feed before first (lone (Malformed number)) place place past.new named named result }
+    ensures { (s : Setting) (history : List EntryValue) (feed : ℕ) (before : List LogItem) (place : Place) (named : List Bool)
+        → IsPast before past.old → BehindOn s history feed before first (lone (Malformed number)) place place past.new named named result }
 {
     if !past.is_next_line(number) {
         return Err(Stop::Fault(Fault {
@@ -110,7 +115,9 @@ fn answer_told(
     requires journal { IsJournal journal.now }
     requires stands { IsReplay journal.now replay.old }
     requires said { IsSpelledLine said.now }
-    ensures tells { (before : List LogItem) (place : Place) → IsPast before past.old → BehindOn (setting_of journal.now) (history_of journal.now) feed before first (lone (Answered number said.now (reply_of answer.now))) place place past.new named.old named.new result }
+    ensures tells { (before : List LogItem) (place : Place) → IsPast before past.old
+        → BehindOn (setting_of journal.now) (history_of journal.now) feed before first
+        (lone (Answered number said.now (reply_of answer.now))) place place past.new named.old named.new result }
     ensures stands { IsReplay journal.now replay.new }
 {
     match is_next_answer(alloc, journal, replay, past, feed, number, said, answer) {
@@ -140,7 +147,10 @@ fn shown_told(
 ) -> Result<(), Stop>
     requires journal { IsJournal journal.now }
     requires stands { IsReplay journal.now replay.old }
-    ensures tells { (before : List LogItem) (old new : Place) (named : List Bool) → ShowsPlan (setting_of journal.now).version (opening_of opening.now) old new plan → IsPast before past.old → BehindOn (setting_of journal.now) (history_of journal.now) feed before first (planned (opening_of opening.now)) old new past.new named named result }
+    ensures tells { (before : List LogItem) (old new : Place) (named : List Bool)
+        → ShowsPlan (setting_of journal.now).version (opening_of opening.now) old new plan → IsPast before past.old
+        → BehindOn (setting_of journal.now) (history_of journal.now) feed before first (planned (opening_of opening.now)) old new past.new
+        named named result }
     ensures stands { IsReplay journal.now replay.new }
 {
     let line = opening.line;
@@ -180,7 +190,9 @@ fn plan_told(
     requires journal { IsJournal journal.now }
     requires stands { IsReplay journal.now replay.old }
     requires behind { 1 ≤ lines.old.line }
-    ensures tells { (before : List LogItem) (named : List Bool) → IsPast before past.old → BehindOn (setting_of journal.now) (history_of journal.now) feed before first (planned (opening_of opening.now)) lines.old lines.new past.new named named result }
+    ensures tells { (before : List LogItem) (named : List Bool) → IsPast before past.old
+        → BehindOn (setting_of journal.now) (history_of journal.now) feed before first (planned (opening_of opening.now)) lines.old
+        lines.new past.new named named result }
     ensures stands { IsReplay journal.now replay.new }
 {
     let shown = match block_told(alloc, lines, journal.version, opening) {
@@ -208,7 +220,8 @@ fn next_item(
 ) -> Result<(), Stop>
     requires journal { IsJournal journal.now }
     requires stands { IsReplay journal.now replay.old }
-    ensures tells { (before : List LogItem) → IsPast before past.old → ItemOn (setting_of journal.now) (history_of journal.now) feed before lines.old lines.new past.new named.old named.new result }
+    ensures tells { (before : List LogItem) → IsPast before past.old
+        → ItemOn (setting_of journal.now) (history_of journal.now) feed before lines.old lines.new past.new named.old named.new result }
     ensures stands { IsReplay journal.now replay.new }
 {
     let first = lines.line();

@@ -45,7 +45,8 @@ fn next_log(
 ) -> Result<usize, Stop>
     requires journal { IsJournal journal.now }
     requires stands { IsReplay journal.now replay.old }
-    ensures tells { (before : List FeedLog) → length before + 1 ≡ feed → LogOn (setting_of journal.now) (history_of journal.now) before lines.old lines.new named.old named.new result }
+    ensures tells { (before : List FeedLog) → length before + 1 ≡ feed
+        → LogOn (setting_of journal.now) (history_of journal.now) before lines.old lines.new named.old named.new result }
     ensures stands { IsReplay journal.now replay.new }
 {
     let items = match feed_told(lines, feed) {

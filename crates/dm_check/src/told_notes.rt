@@ -45,7 +45,8 @@ fn is_free(boards: &[u128], board: u128) -> bool
 
 /// Whether the note is true at so many entries, and in order behind those before it.
 fn is_next_note(notes: &Notes, entries: usize, said: &NoteLine) -> bool
-    ensures { (history : List EntryValue) (before : List Note) → length history ≡ entries → AreBefore before notes.now → Tells (IsNextNote history before (note said.now)) result }
+    ensures { (history : List EntryValue) (before : List Note) → length history ≡ entries → AreBefore before notes.now
+        → Tells (IsNextNote history before (note said.now)) result }
 {
     if said.board < 1 || said.board > BOARDS as u128 || said.stop > LARGEST_STOP {
         return false;
@@ -58,7 +59,8 @@ fn is_next_note(notes: &Notes, entries: usize, said: &NoteLine) -> bool
 
 /// The next note, at so many entries.
 fn next_note(lines: &mut Lines, notes: &mut Notes, entries: usize) -> Result<(), Stop>
-    ensures { (history : List EntryValue) (before : List Note) → length history ≡ entries → AreBefore before notes.old → NotesOn history before lines.old lines.new notes.new result }
+    ensures { (history : List EntryValue) (before : List Note) → length history ≡ entries → AreBefore before notes.old
+        → NotesOn history before lines.old lines.new notes.new result }
 {
     let line = lines.line();
     let said = match note_told(lines) {

@@ -103,7 +103,8 @@ pub(crate) fn event_told(
     requires stands { AreCheckedRowsOf net.now checked.now }
     requires least { IsLeast net.now checked.now.rows (times_of checked.now) }
     requires is_event { i < length net.now.events }
-    ensures { (before : List ℕ) → length before ≡ i → Judges (TellsTime net.now checked.now.rows before) (λ t. t) lines.old lines.new result }
+    ensures { (before : List ℕ) → length before ≡ i
+        → Judges (TellsTime net.now checked.now.rows before) (λ t. t) lines.old lines.new result }
 {
     let line = lines.line();
     let said = match time_told(lines) {

@@ -34,7 +34,8 @@ fn priced_told(
     requires stands { AreCheckedRowsOf journal.now.net.now checked.old }
     requires least { IsLeast journal.now.net.now checked.old.rows (times_of checked.old) }
     requires early { AreBelowLimit (times_of checked.old) }
-    ensures { (logs : List FeedLog) (notes : List Note) → EndingOn (setting_of journal.now) (history_of journal.now) logs notes checked.old.rows lines.old lines.new result }
+    ensures { (logs : List FeedLog) (notes : List Note)
+        → EndingOn (setting_of journal.now) (history_of journal.now) logs notes checked.old.rows lines.old lines.new result }
 {
     match timetable_told(lines, journal.net, checked) {
         Ok(()) => (),
@@ -53,7 +54,8 @@ fn priced_told(
 /// The first time, which is not true where the rows have a cycle.
 fn untimed_told(lines: &mut Lines, journal: &Journal<'_>, rows: &Rows) -> Result<(), Stop>
     requires cyclic { HasNoCycle journal.now.net.now rows.now → ⊥ }
-    ensures { (logs : List FeedLog) (notes : List Note) → EndingOn (setting_of journal.now) (history_of journal.now) logs notes rows.now lines.old lines.new result }
+    ensures { (logs : List FeedLog) (notes : List Note)
+        → EndingOn (setting_of journal.now) (history_of journal.now) logs notes rows.now lines.old lines.new result }
 {
     journal.net.sound();
     let line = lines.line();
@@ -74,7 +76,8 @@ fn ending_told(
 ) -> Result<(), Stop>
     requires journal { IsJournal journal.now }
     requires stands { AreCheckedRowsOf journal.now.net.now checked.old }
-    ensures { (logs : List FeedLog) (notes : List Note) → EndingOn (setting_of journal.now) (history_of journal.now) logs notes checked.old.rows lines.old lines.new result }
+    ensures { (logs : List FeedLog) (notes : List Note)
+        → EndingOn (setting_of journal.now) (history_of journal.now) logs notes checked.old.rows lines.old lines.new result }
 {
     match checked.settle(journal.net) {
         Ok(()) => priced_told(lines, journal, checked),
@@ -96,7 +99,8 @@ pub(crate) fn rest_told(
     requires rows_are { checked.old.rows ≡ rows_after (setting_of journal.now) (history_of journal.now) (length (history_of journal.now)) }
     requires each { length named.now ≡ length (history_of journal.now) }
     requires counted { length (history_of journal.now) ≡ entries }
-    ensures { (logs : List FeedLog) → AreFlagged (all_items logs) named.now → RestOn (setting_of journal.now) (history_of journal.now) logs lines.old lines.new result }
+    ensures { (logs : List FeedLog) → AreFlagged (all_items logs) named.now
+        → RestOn (setting_of journal.now) (history_of journal.now) logs lines.old lines.new result }
 {
     let notes = match boards_told(lines, named) {
         Ok(notes) => notes,

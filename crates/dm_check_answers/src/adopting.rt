@@ -42,7 +42,8 @@ pub(crate) fn is_true_of_adopt(
     line: u32,
     answer: &Answer,
 ) -> bool
-    ensures { (before : List LogItem) → IsPast before past.now → Tells (IsTrueReply (setting_of journal.now) (history_of journal.now) feed before line AskAdopt (reply_of answer.now)) result }
+    ensures { (before : List LogItem) → IsPast before past.now
+        → Tells (IsTrueReply (setting_of journal.now) (history_of journal.now) feed before line AskAdopt (reply_of answer.now)) result }
 {
     match &past.latest {
         Some(plan) => is_true_of_adopted(journal.entries, feed, line, plan, answer),

@@ -20,7 +20,8 @@ use std::alloc::{AllocError, Global};
 
 /// Whether the answer to the question for the number of entries is true.
 fn is_true_of_read(journal: &Journal<'_>, feed: u32, line: u32, answer: &Answer) -> bool
-    ensures { (before : List LogItem) → Tells (IsTrueReply (setting_of journal.now) (history_of journal.now) feed before line AskRead (reply_of answer.now)) result }
+    ensures { (before : List LogItem)
+        → Tells (IsTrueReply (setting_of journal.now) (history_of journal.now) feed before line AskRead (reply_of answer.now)) result }
 {
     match answer {
         Answer::Read(n) => *n as usize <= journal.entries.len(),
@@ -43,7 +44,9 @@ pub fn is_true_answer(
     requires journal { IsJournal journal.now }
     requires stands { IsReplay journal.now replay.old }
     requires said { IsSpelledLine said.now }
-    ensures tells { (before : List LogItem) → IsPast before past.now → IfOk result (Tells (IsTrueReply (setting_of journal.now) (history_of journal.now) feed before line said.now (reply_of answer.now))) }
+    ensures tells { (before : List LogItem) → IsPast before past.now
+        → IfOk result (Tells (IsTrueReply (setting_of journal.now) (history_of journal.now) feed before line said.now
+        (reply_of answer.now))) }
     ensures stands { IsReplay journal.now replay.new }
 {
     match said {

@@ -4,6 +4,12 @@
 //! are judged by: the entries, and the rows that they began with. A [`Replay`] goes over it, so that the rows at rising
 //! entry numbers cost one walk. [`Past`] is what the next answer of a feed needs of the items before it.
 //! [`is_true_answer`] tells exactly which answers of one line are true.
+//!
+//! # What is promised
+//!
+//! Whether the answers of a feed's log are true, over `dm_check_rows`: `is_true_answer` tells exactly which answers of one
+//! line are; `Replay` goes over the entries of a `Journal`, and `Past` is what an answer needs of the items before it.
+//! Memory is taken for the rows, and for the admission of an `Adopt`.
 #![tactic(auto)]
 
 mod adopting;

@@ -44,7 +44,8 @@ impl Past {
 
     /// Whether the entry number of an answer, where it has one, is in order.
     pub fn is_in_order(&self, answer: &Answer) -> bool
-        ensures { (before : List LogItem) → IsPast before self.now → Tells (Follows (number_before before) (kind_of_reply (reply_of answer.now))) result }
+        ensures { (before : List LogItem) → IsPast before self.now
+            → Tells (Follows (number_before before) (kind_of_reply (reply_of answer.now))) result }
     {
         match answer {
             Answer::Ok(n) => self.number < *n,
@@ -66,7 +67,8 @@ impl Past {
 
     /// An answer of one line comes behind.
     pub fn add_answer(&mut self, line: u32, answer: &Answer)
-        ensures { (before : List LogItem) (said : Said) → IsPast before self.old → IsPast (before ++ Answered line said (reply_of answer.now) ∷ []) self.new }
+        ensures { (before : List LogItem) (said : Said) → IsPast before self.old
+            → IsPast (before ++ Answered line said (reply_of answer.now) ∷ []) self.new }
     {
         self.line = line;
         match answer {
@@ -83,7 +85,8 @@ impl Past {
     /// A plan comes behind, where there are not all plans yet.
     pub fn add_plan(&mut self, line: u32, plan: Plan)
         requires { self.old.plans < PLANS }
-        ensures { (before : List LogItem) (said : Said) → IsPast before self.old → IsPast (before ++ Answered line said (Planned plan) ∷ []) self.new }
+        ensures { (before : List LogItem) (said : Said) → IsPast before self.old
+            → IsPast (before ++ Answered line said (Planned plan) ∷ []) self.new }
     {
         self.line = line;
         self.number = plan.entry;

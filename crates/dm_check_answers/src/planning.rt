@@ -37,7 +37,9 @@ pub(crate) fn is_true_of_plan(
     budget: u64,
     answer: &Answer,
 ) -> bool
-    ensures { (before : List LogItem) → IsPast before past.now → Tells (IsTrueReply (setting_of journal.now) (history_of journal.now) feed before line (AskPlan budget) (reply_of answer.now)) result }
+    ensures { (before : List LogItem) → IsPast before past.now
+        → Tells (IsTrueReply (setting_of journal.now) (history_of journal.now) feed before line (AskPlan budget) (reply_of answer.now))
+        result }
 {
     let is_budget = is_budget(journal, budget);
     match answer {

@@ -30,7 +30,8 @@ fn is_refused_at(
     requires journal { IsJournal journal.now }
     requires stands { IsReplay journal.now replay.old }
     requires said { IsSaid message.now }
-    ensures tells { IfOk result (Tells (IsRefused (setting_of journal.now) (history_of journal.now) number message.now (reason_of why.now))) }
+    ensures tells { IfOk result (Tells (IsRefused (setting_of journal.now) (history_of journal.now) number message.now
+        (reason_of why.now))) }
     ensures stands { IsReplay journal.now replay.new }
 {
     if number as usize > journal.entries.len() {
@@ -56,7 +57,9 @@ pub(crate) fn is_true_of_message(
     requires journal { IsJournal journal.now }
     requires stands { IsReplay journal.now replay.old }
     requires said { IsSaid message.now }
-    ensures tells { (before : List LogItem) → IfOk result (Tells (IsTrueReply (setting_of journal.now) (history_of journal.now) feed before line (Say message.now) (reply_of answer.now))) }
+    ensures tells { (before : List LogItem)
+        → IfOk result (Tells (IsTrueReply (setting_of journal.now) (history_of journal.now) feed before line (Say message.now)
+        (reply_of answer.now))) }
     ensures stands { IsReplay journal.now replay.new }
 {
     match answer {
@@ -125,7 +128,9 @@ pub(crate) fn is_true_of_time(
 ) -> Result<bool, AllocError>
     requires journal { IsJournal journal.now }
     requires stands { IsReplay journal.now replay.old }
-    ensures tells { (before : List LogItem) → IfOk result (Tells (IsTrueReply (setting_of journal.now) (history_of journal.now) feed before line (AskTime event) (reply_of answer.now))) }
+    ensures tells { (before : List LogItem)
+        → IfOk result (Tells (IsTrueReply (setting_of journal.now) (history_of journal.now) feed before line (AskTime event)
+        (reply_of answer.now))) }
     ensures stands { IsReplay journal.now replay.new }
 {
     match answer {
@@ -173,7 +178,9 @@ pub(crate) fn is_true_of_cost(
 ) -> Result<bool, AllocError>
     requires journal { IsJournal journal.now }
     requires stands { IsReplay journal.now replay.old }
-    ensures tells { (before : List LogItem) → IfOk result (Tells (IsTrueReply (setting_of journal.now) (history_of journal.now) feed before line AskCost (reply_of answer.now))) }
+    ensures tells { (before : List LogItem)
+        → IfOk result (Tells (IsTrueReply (setting_of journal.now) (history_of journal.now) feed before line AskCost
+        (reply_of answer.now))) }
     ensures stands { IsReplay journal.now replay.new }
 {
     match answer {

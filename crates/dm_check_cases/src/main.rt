@@ -2,12 +2,11 @@
 //!
 //! It reads the file `cases`, a case a line: its name, which is that of a file under `texts`, the verdict that is due, the
 //! network, which is a folder under `networks`, and the penalty. Where `every front truncated` is due, each front of the text
-//! is to lack its next line; where `every byte judged` is, each byte is replaced by five others in turn, and what is due is a line
-//! for each byte in a file under `bytes`. For each case it prints `NAME ok`, or what is told of the
-//! text instead.
+//! is to lack its next line; where `every byte judged` is, each byte is replaced by five others in turn, and what is due is a
+//! line for each byte in a file under `bytes`. For each case it prints `NAME ok`, or what is told of the text instead.
 //!
-//! It stands on dm_check for what it tries, and on dm_words and dm_input for the network and the start rows of a case. It promises
-//! nothing.
+//! It stands on dm_check for what it tries, and on dm_words and dm_input for the network and the start rows of a case. It
+//! promises nothing.
 //!
 //! What is due comes from the rules of run texts, worked out by hand; the files under `bytes` come from `bench/judge.py`, a
 //! reading of these rules in another language.

@@ -38,7 +38,15 @@ impl Model for HeldTimetable {
 
     ghost Value = { HeldTimetableValue };
 
-    ghost view = { λ t. record { held = t.held.items; spans = t.spans.items; floors = t.floors.items; times = t.times.items; stale = t.stale; due = t.due; first = t.first } };
+    ghost view = { λ t. record {
+      held = t.held.items;
+      spans = t.spans.items;
+      floors = t.floors.items;
+      times = t.times.items;
+      stale = t.stale;
+      due = t.due;
+      first = t.first;
+    } };
 
     ghost invariant = { λ t. Unit {0} };
 }
@@ -114,7 +122,8 @@ impl HeldTimetable {
         ensures timetable { IsTimetableOf net.now self.new }
         ensures held { self.new.held ≡ self.old.held }
         ensures keeps { KeepsSpans self.old self.new }
-        ensures least { (holds : ℕ → Bool) → AreFlags net.now holds self.old.held → EntersNoPassed net.now rows.now holds → OnOk result (IsLeastHolding net.now rows.now holds self.new.times) }
+        ensures least { (holds : ℕ → Bool) → AreFlags net.now holds self.old.held → EntersNoPassed net.now rows.now holds
+            → OnOk result (IsLeastHolding net.now rows.now holds self.new.times) }
         ensures none { (holds : ℕ → Bool) → AreFlags net.now holds self.old.held → OnOk result (HasNoCycleOf net.now holds) }
         ensures cyclic { (holds : ℕ → Bool) → AreFlags net.now holds self.old.held → OnErr result (HasNoCycleOf net.now holds → ⊥) }
         ensures early { OnOk result (AreBelowLimit self.new.times) }

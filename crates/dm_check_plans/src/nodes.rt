@@ -38,7 +38,8 @@ pub fn are_all_true(
     requires penalty { penalty ≤ PENALTY }
     requires own { IsOwnCost net.now rows.now penalty costs.own }
     requires whole { fills false 0 nodes.now ≡ true }
-    ensures { IfOk result (λ b. (budget : ℕ) → Tells (AreTrueNodes (whole_task net.now rows.now penalty budget) costs.plan ([] ∷ []) nodes.now) b) }
+    ensures { IfOk result (λ b. (budget : ℕ)
+        → Tells (AreTrueNodes (whole_task net.now rows.now penalty budget) costs.plan ([] ∷ []) nodes.now) b) }
 {
     net.sound();
     let mut problem = match RelaxedProblem::new(alloc, net, rows) {
@@ -86,7 +87,8 @@ fn turn_back(net: &Network, rows: &Rows, problem: &mut RelaxedProblem) -> Result
     requires sized { IsSized net.now rows.now }
     requires problem { IsRelaxedProblemOf net.now rows.now problem.old }
     ensures problem { OnOk result (IsRelaxedProblemOf net.now rows.now problem.new) }
-    ensures next { IfOk result (λ more. MatchBool more (pending problem.old.path ≡ problem.new.path ∷ pending problem.new.path) (pending problem.old.path ≡ [])) }
+    ensures next { IfOk result (λ more. MatchBool more (pending problem.old.path ≡ problem.new.path ∷ pending problem.new.path)
+        (pending problem.old.path ≡ [])) }
 {
     while let Some(decision) = problem.take_back(net, rows) {
         if decision.is_first() {

@@ -106,7 +106,8 @@ fn are_true_choices(
     requires sized { IsSized net.now rows.now }
     requires penalty { penalty ≤ PENALTY }
     requires room { IsRoomOf net.now timetable.old }
-    ensures tells { IfOk result (λ b. (budget : ℕ) → Tells (AreTrueChoices (whole_task net.now rows.now penalty budget) choices.now cost) b) }
+    ensures tells { IfOk result (λ b. (budget : ℕ)
+        → Tells (AreTrueChoices (whole_task net.now rows.now penalty budget) choices.now cost) b) }
     ensures room { IsRoomOf net.now timetable.new }
 {
     let free = match free_choices(alloc, net, rows) {

@@ -36,7 +36,14 @@ impl Model for RelaxedProblem {
 
     ghost Value = { RelaxedProblemValue };
 
-    ghost view = { λ r. record { path = r.path.items; changes = r.undecided.changes.items; pairs = r.undecided.pairs.items; charged = r.charged.items; timetable = r.timetable; kept_cost = r.kept_cost } };
+    ghost view = { λ r. record {
+      path = r.path.items;
+      changes = r.undecided.changes.items;
+      pairs = r.undecided.pairs.items;
+      charged = r.charged.items;
+      timetable = r.timetable;
+      kept_cost = r.kept_cost;
+    } };
 
     ghost invariant = { λ r. Unit {0} };
 }

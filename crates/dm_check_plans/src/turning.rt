@@ -64,7 +64,8 @@ fn turn_one(net: &Network, pair: usize, a: usize, value: bool, timetable: &mut H
     requires timetable { IsTimetableOf net.now timetable.old }
     ensures timetable { IsTimetableOf net.now timetable.new }
     ensures keeps { KeepsSpans timetable.old timetable.new }
-    ensures held { MatchBool (is_of_pair pair (activity_at net.now a).pair) (timetable.new.held ≡ slice_set timetable.old.held a value) (timetable.new.held ≡ timetable.old.held) }
+    ensures held { MatchBool (is_of_pair pair (activity_at net.now a).pair) (timetable.new.held ≡ slice_set timetable.old.held a value)
+        (timetable.new.held ≡ timetable.old.held) }
 {
     if is_headway_of(net, a, pair) {
         timetable.hold(net, a, value);

@@ -35,7 +35,10 @@ pub fn is_any_violated(
     requires pairs { length undecided.now.pairs.items ≡ length net.now.pairs }
     requires size { length times.now ≡ length net.now.events }
     requires early { AreBelowLimit times.now }
-    ensures { (path : List Decision) → AreFlags (is_undecided_change net.now rows.now path) (length net.now.activities) undecided.now.changes.items → AreFlags (is_undecided_pair net.now rows.now path) (length net.now.pairs) undecided.now.pairs.items → Tells (IsSomeViolated net.now rows.now path times.now) result }
+    ensures { (path : List Decision)
+        → AreFlags (is_undecided_change net.now rows.now path) (length net.now.activities) undecided.now.changes.items
+        → AreFlags (is_undecided_pair net.now rows.now path) (length net.now.pairs) undecided.now.pairs.items
+        → Tells (IsSomeViolated net.now rows.now path times.now) result }
 {
     if is_any_change_early(net, rows, &undecided.changes, places, times) {
         return true;
@@ -57,7 +60,8 @@ fn is_any_change_early(
     requires size { length times.now ≡ length net.now.events }
     requires early { AreBelowLimit times.now }
     ensures some { result ≡ true → SomeFlagged changes.now (comes_too_early net.now rows.now times.now) (length net.now.activities) }
-    ensures none { result ≡ false → AreFlagsOfChanges net.now changes.now → NoneFlagged changes.now (comes_too_early net.now rows.now times.now) (length net.now.activities) }
+    ensures none { result ≡ false → AreFlagsOfChanges net.now changes.now
+        → NoneFlagged changes.now (comes_too_early net.now rows.now times.now) (length net.now.activities) }
 {
     for a in places {
         if changes[*a] && comes_too_early(net, rows, times, *a) {
@@ -97,7 +101,10 @@ pub fn is_violated(
     requires pairs { length undecided.now.pairs.items ≡ length net.now.pairs }
     requires size { length times.now ≡ length net.now.events }
     requires early { AreBelowLimit times.now }
-    ensures { (path : List Decision) → AreFlags (is_undecided_change net.now rows.now path) (length net.now.activities) undecided.now.changes.items → AreFlags (is_undecided_pair net.now rows.now path) (length net.now.pairs) undecided.now.pairs.items → IsTrue result ↔ IsViolated net.now rows.now path times.now choice }
+    ensures { (path : List Decision)
+        → AreFlags (is_undecided_change net.now rows.now path) (length net.now.activities) undecided.now.changes.items
+        → AreFlags (is_undecided_pair net.now rows.now path) (length net.now.pairs) undecided.now.pairs.items
+        → IsTrue result ↔ IsViolated net.now rows.now path times.now choice }
 {
     net.sound();
     let Some(place) = place_of_choice(net, choice) else {

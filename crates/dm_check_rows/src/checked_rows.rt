@@ -49,7 +49,15 @@ impl Model for CheckedRows {
 
     ghost Value = { CheckedRowsValue };
 
-    ghost view = { λ d. record { rows = d.rows; is_free = d.is_free; is_kept = d.is_kept; is_settled = d.is_settled; schedule = d.schedule.items; timetable = d.timetable; kept_cost = d.kept_cost } };
+    ghost view = { λ d. record {
+      rows = d.rows;
+      is_free = d.is_free;
+      is_kept = d.is_kept;
+      is_settled = d.is_settled;
+      schedule = d.schedule.items;
+      timetable = d.timetable;
+      kept_cost = d.kept_cost;
+    } };
 
     ghost invariant = { λ d. Unit {0} };
 }
@@ -236,7 +244,8 @@ impl CheckedRows {
     /// Whether this is the time of the event at this place, where the times are the least ones.
     pub fn is_time(&self, i: usize, time: u128) -> bool
         requires { i < length (times_of self.now) }
-        ensures { (net : Net) → IsLeast net self.now.rows (times_of self.now) → i < length net.events → Tells (IsTimeOf net self.now.rows i time) result }
+        ensures { (net : Net) → IsLeast net self.now.rows (times_of self.now) → i < length net.events
+            → Tells (IsTimeOf net self.now.rows i time) result }
     {
         self.timetable.time(i) as u128 == time
     }
@@ -282,7 +291,8 @@ fn keep_if(
     requires room { IsRoomOf net.now timetable.old }
     requires timetable { IsTrue is_kept → IsTimetableOf net.now timetable.old }
     ensures room { IsRoomOf net.now timetable.new }
-    ensures kept { (before : RowsValue) → rows.now ≡ after_change before change.now → IsKept net.now before timetable.old is_kept → IsKept net.now rows.now timetable.new result }
+    ensures kept { (before : RowsValue) → rows.now ≡ after_change before change.now → IsKept net.now before timetable.old is_kept
+        → IsKept net.now rows.now timetable.new result }
 {
     if !is_kept {
         return false;

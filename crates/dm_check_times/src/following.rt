@@ -96,7 +96,8 @@ fn spread_once(
     requires as_many_stale { length stale.old ≡ length net.now.events }
     requires as_many_due { length due.old ≡ length net.now.events }
     requires early { AreWithin times.now (2 ^ 38) }
-    ensures spread { (before : List Bool) → HasSpread net.now held.now spans.now times.now before stale.old due.old → HasSpread net.now held.now spans.now times.now before stale.new due.new }
+    ensures spread { (before : List Bool) → HasSpread net.now held.now spans.now times.now before stale.old due.old
+        → HasSpread net.now held.now spans.now times.now before stale.new due.new }
     ensures as_many_stale { length stale.new ≡ length net.now.events }
     ensures as_many_due { length due.new ≡ length net.now.events }
 {

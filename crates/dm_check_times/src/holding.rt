@@ -29,8 +29,10 @@ pub fn hold(
     requires as_many_due { length due.old ≡ length net.now.events }
     requires early { AreWithin times.now (2 ^ 38) }
     ensures held { held.new ≡ slice_set held.old a value }
-    ensures follows { (floors : List ℕ) → Follows net.now held.old spans.now floors times.now stale.old → Follows net.now held.new spans.now floors times.now stale.new }
-    ensures all_due { ((e : ℕ) → is_marked stale.old e ≡ true → is_due due.old e ≡ true) → (e : ℕ) → is_marked stale.new e ≡ true → is_due due.new e ≡ true }
+    ensures follows { (floors : List ℕ) → Follows net.now held.old spans.now floors times.now stale.old
+        → Follows net.now held.new spans.now floors times.now stale.new }
+    ensures all_due { ((e : ℕ) → is_marked stale.old e ≡ true → is_due due.old e ≡ true) → (e : ℕ) → is_marked stale.new e ≡ true
+        → is_due due.new e ≡ true }
     ensures as_many_stale { length stale.new ≡ length stale.old }
     ensures as_many_due { length due.new ≡ length due.old }
 {

@@ -28,7 +28,8 @@ pub fn keep_up(
     requires timetable { IsTimetableOf net.now timetable.old }
     requires within { ChangesNet net.now change.now }
     ensures timetable { IsTimetableOf net.now timetable.new }
-    ensures agrees { result ≡ true → (before : RowsValue) → rows.now ≡ after_change before change.now → AgreesWith net.now before timetable.old → AgreesWith net.now rows.now timetable.new }
+    ensures agrees { result ≡ true → (before : RowsValue) → rows.now ≡ after_change before change.now
+        → AgreesWith net.now before timetable.old → AgreesWith net.now rows.now timetable.new }
 {
     net.sound();
     match change {

@@ -160,9 +160,11 @@ impl KeptCost {
         requires kept { IsKeptCostOf net.now self.now }
         requires sized { IsSized net.now rows.now }
         requires flags { length charged.now ≡ length net.now.activities }
-        requires changes { (a : ℕ) → a < length net.now.activities → is_change (activity_at net.now a).kind ≡ false → is_held charged.now a ≡ false }
+        requires changes { (a : ℕ) → a < length net.now.activities → is_change (activity_at net.now a).kind ≡ false
+            → is_held charged.now a ≡ false }
         requires penalty { penalty ≤ PENALTY }
-        ensures { (charges : ℕ → Bool) → AreFlags net.now charges charged.now → result ≡ cost_charging net.now rows.now charges self.now.times penalty }
+        ensures { (charges : ℕ → Bool) → AreFlags net.now charges charged.now
+            → result ≡ cost_charging net.now rows.now charges self.now.times penalty }
     {
         net.sound();
         let penalty = penalty as u128;

@@ -39,7 +39,15 @@ impl Model for KeptTimetable {
 
     ghost Value = { KeptTimetableValue };
 
-    ghost view = { λ t. record { held = t.held.items; spans = t.spans.items; floors = t.floors.items; times = t.times.items; stale = t.stale; due = t.due; clock = t.clock } };
+    ghost view = { λ t. record {
+      held = t.held.items;
+      spans = t.spans.items;
+      floors = t.floors.items;
+      times = t.times.items;
+      stale = t.stale;
+      due = t.due;
+      clock = t.clock;
+    } };
 
     ghost invariant = { λ t. Unit {0} };
 }

@@ -1,15 +1,26 @@
 //! Least times by rounds of relaxation, over activities in any order.
 //!
-//! It stands on dm_rows for what timetables and costs are, and computes them apart from all that goes along an order of
-//! events. A round raises the head of each held activity to its span after the tail, and leaves out events whose times have
-//! not risen; rounds are made until nothing changes. That more rounds than there are events have changed something comes
-//! exactly where the held activities have a cycle. Rounds may begin from any times that are not too late ([`raise`]). Times that
-//! were least may also follow what binds as it changes ([`follow`], after [`hold`]): the events that this may concern begin anew
-//! from their floors, and rounds from there. A [`KeptTimetable`] is filled from rows, or kept with them ([`keep_up`]), where a clock
-//! looks at the events that are scheduled before it. What a timetable costs is added up place by place ([`cost_of`]), or kept while
-//! its times change ([`KeptCost`]): the times are compared with those of before by blocks, and each change of trains is looked at.
-//! Memory is taken once, for a timetable and for marks. Every time is below 2^38 seconds, and every cost below 2^100 thousandths of
-//! passenger seconds.
+//! It stands on dm_rows for what timetables and costs are, and computes them apart from all that goes along an order of events.
+//! A round raises the head of each held activity to its span after the tail, and leaves out events whose times have not risen;
+//! rounds are made until nothing changes. That more rounds than there are events have changed something comes exactly where the
+//! held activities have a cycle. Rounds may begin from any times that are not too late ([`raise`]). Times that were least may
+//! also follow what binds as it changes ([`follow`], after [`hold`]): the events that this may concern begin anew from their
+//! floors, and rounds from there. A [`KeptTimetable`] is filled from rows, or kept with them ([`keep_up`]), where a clock looks
+//! at the events that are scheduled before it. What a timetable costs is added up place by place ([`cost_of`]), or kept while
+//! its times change ([`KeptCost`]): the times are compared with those of before by blocks, and each change of trains is looked
+//! at. Memory is taken once, for a timetable and for marks. Every time is below 2^38 seconds, and every cost below 2^100
+//! thousandths of passenger seconds.
+//!
+//! # What is promised
+//!
+//! `raise`: the least times of held activities, by rounds of relaxation that go along no order of events, from any times
+//! that are not too late, or that the held activities have a cycle, exactly. `KeptTimetable::fill`: so the least timetable
+//! of rows, from scratch. It is kept with rows as these change (`keep_up`): what has changed is marked, and `settle` begins
+//! the marked events, and those that were held to their times, anew from their floors.
+//!
+//! `cost_of`: exactly what a timetable costs; a `KeptCost` tells the same of the times that it follows, and what they cost
+//! where other activities are charged for. That a timetable and a cost so take what has changed alone is no clause, nor
+//! that memory is taken once, for a timetable, for marks and for a kept cost, nor that times are compared many at once.
 #![tactic(auto)]
 
 mod comparing;

@@ -33,8 +33,10 @@ pub fn raise(
     requires as_many_times { length times.old ≡ length net.now.events }
     requires as_many_flags { length due.old ≡ length net.now.events }
     requires early { AreWithin times.old (2 ^ 38) }
-    ensures least { (floor : ℕ → ℕ) → MayBegin (graph_with net.now held.now spans.now floor) times.old due.old → OnOk result (IsLeast (graph_with net.now held.now spans.now floor) (slice_index times.new)) }
-    ensures cyclic { (floor : ℕ → ℕ) → MayBegin (graph_with net.now held.now spans.now floor) times.old due.old → OnErr result (HasNoCycle (graph_with net.now held.now spans.now floor).shape → ⊥) }
+    ensures least { (floor : ℕ → ℕ) → MayBegin (graph_with net.now held.now spans.now floor) times.old due.old
+        → OnOk result (IsLeast (graph_with net.now held.now spans.now floor) (slice_index times.new)) }
+    ensures cyclic { (floor : ℕ → ℕ) → MayBegin (graph_with net.now held.now spans.now floor) times.old due.old
+        → OnErr result (HasNoCycle (graph_with net.now held.now spans.now floor).shape → ⊥) }
     ensures none_due { OnOk result ((e : ℕ) → is_due due.new e ≡ false) }
     ensures as_many { length times.new ≡ length times.old }
     ensures as_many_due { length due.new ≡ length due.old }
@@ -58,8 +60,10 @@ fn raise_with<L: Ledger>(
     requires name { blank.name ≡ L.name }
     requires parts { blank.parts ≡ L.parts }
     requires has_a_part { 0 < blank.parts }
-    ensures least { (floor : ℕ → ℕ) → MayBegin (graph_with net.now held.now spans.now floor) times.old due.old → OnOk result (IsLeast (graph_with net.now held.now spans.now floor) (slice_index times.new)) }
-    ensures cyclic { (floor : ℕ → ℕ) → MayBegin (graph_with net.now held.now spans.now floor) times.old due.old → OnErr result (HasNoCycle (graph_with net.now held.now spans.now floor).shape → ⊥) }
+    ensures least { (floor : ℕ → ℕ) → MayBegin (graph_with net.now held.now spans.now floor) times.old due.old
+        → OnOk result (IsLeast (graph_with net.now held.now spans.now floor) (slice_index times.new)) }
+    ensures cyclic { (floor : ℕ → ℕ) → MayBegin (graph_with net.now held.now spans.now floor) times.old due.old
+        → OnErr result (HasNoCycle (graph_with net.now held.now spans.now floor).shape → ⊥) }
     ensures none_due { OnOk result ((e : ℕ) → is_due due.new e ≡ false) }
     ensures as_many { length times.new ≡ length times.old }
     ensures as_many_due { length due.new ≡ length due.old }
@@ -90,7 +94,8 @@ fn sweep<L: Ledger>(
     requires few { round ≤ length net.now.events }
     requires within { AreWithin times.old (latest round 0) }
     ensures within { AreWithin times.new (latest (round + 1) 0) }
-    ensures swept { (floor : ℕ → ℕ) → AreMet (graph_with net.now held.now spans.now floor) times.old due.old → HasSwept (graph_with net.now held.now spans.now floor) (length net.now.events) times.old times.new due.new }
+    ensures swept { (floor : ℕ → ℕ) → AreMet (graph_with net.now held.now spans.now floor) times.old due.old
+        → HasSwept (graph_with net.now held.now spans.now floor) (length net.now.events) times.old times.new due.new }
     ensures as_many { length times.new ≡ length times.old }
     ensures as_many_due { length due.new ≡ length due.old }
 {

@@ -7,6 +7,20 @@
 //! log is true of the one history that the server has in the end, each entry is named by one item, no number of a later round
 //! is below one of an earlier round, and each board that no note names shows the last times. That a call which waits returns is
 //! not promised.
+//!
+//! # What is promised
+//!
+//! `answer_at_once` answers a day's feeds over a server of its rows, in rounds of so many lines a feed: in a round each
+//! feed has a pass split from the main one, and then all passes are joined; before the first round it publishes the times
+//! on a list of boards, and after each round those that have moved (`shown`: in the end those without a note show the
+//! table's times).
+//!
+//! By the clause `answers` (`AnswersDay`) every log is true of the one history that the table has in the end and has a
+//! spelling, each entry is named by one item, and rounds are kept; and the table is one of these rows at this penalty.
+//! `ServerDesk` is a pass of a server as a desk. The code hands the work of a round to threads, where two or more feeds are
+//! still read; no clause says that they run, or that a call which waits returns.
+//!
+//! Want of memory may come at any point.
 #![tactic(auto)]
 
 mod day;

@@ -48,7 +48,14 @@ impl Model for Evaluator {
 
     ghost Value = { EvaluatorValue };
 
-    ghost view = { λ e. record { rows = e.rows; path = e.path.items; changes = e.undecided.changes.items; pairs = e.undecided.pairs.items; priced = e.priced; marks = record { changes = e.marks.changes; pairs = e.marks.pairs } } };
+    ghost view = { λ e. record {
+      rows = e.rows;
+      path = e.path.items;
+      changes = e.undecided.changes.items;
+      pairs = e.undecided.pairs.items;
+      priced = e.priced;
+      marks = record { changes = e.marks.changes; pairs = e.marks.pairs };
+    } };
 
     ghost invariant = { λ e. length e.undecided.changes.items + length e.undecided.pairs.items ≤ vec_capacity e.path };
 }

@@ -29,15 +29,19 @@ pub fn hold_direction<L: Ledger>(
 ) -> Result<(), Cyclic>
     requires priced { IsPriced net.now priced.old }
     requires is_event { tail < length net.now.events }
-    requires marks { MarksUnkept net.now priced.old.live.given.spans priced.old.live.times (record { changes = marks.old.changes; pairs = marks.old.pairs }) }
-    requires off { (b : ℕ) → b < length net.now.activities → is_directed net.now pair tail b ≡ true → is_held priced.old.live.given.held b ≡ false }
+    requires marks { MarksUnkept net.now priced.old.live.given.spans priced.old.live.times
+        (record { changes = marks.old.changes; pairs = marks.old.pairs }) }
+    requires off { (b : ℕ) → b < length net.now.activities → is_directed net.now pair tail b ≡ true
+        → is_held priced.old.live.given.held b ≡ false }
     requires open { NoneFixed priced.old.live.fixed }
     ensures priced { IsPriced net.now priced.new }
     ensures at_rest { IsAtRest priced.new.live }
-    ensures marks { MarksUnkept net.now priced.new.live.given.spans priced.new.live.times (record { changes = marks.new.changes; pairs = marks.new.pairs }) }
+    ensures marks { MarksUnkept net.now priced.new.live.given.spans priced.new.live.times
+        (record { changes = marks.new.changes; pairs = marks.new.pairs }) }
     ensures turns { OnOk result (TurnsTo net.now (is_directed net.now pair tail) (λ b. false) true priced.old priced.new) }
     ensures stays { OnErr result (Stays net.now priced.old priced.new) }
-    ensures cycle { OnErr result (IsCycleOf net.now (set_where (is_directed net.now pair tail) true (is_held priced.old.live.given.held)) priced.new.live.order.cycle) }
+    ensures cycle { OnErr result (IsCycleOf net.now (set_where (is_directed net.now pair tail) true (is_held priced.old.live.given.held))
+        priced.new.live.order.cycle) }
 {
     let row = net.out_row(tail, steps);
     match hold_each(priced, net, pair, row) {
@@ -64,10 +68,12 @@ pub fn release_direction<L: Ledger>(
 )
     requires priced { IsPriced net.now priced.old }
     requires is_event { tail < length net.now.events }
-    requires marks { MarksUnkept net.now priced.old.live.given.spans priced.old.live.times (record { changes = marks.old.changes; pairs = marks.old.pairs }) }
+    requires marks { MarksUnkept net.now priced.old.live.given.spans priced.old.live.times
+        (record { changes = marks.old.changes; pairs = marks.old.pairs }) }
     ensures priced { IsPriced net.now priced.new }
     ensures at_rest { IsAtRest priced.new.live }
-    ensures marks { MarksUnkept net.now priced.new.live.given.spans priced.new.live.times (record { changes = marks.new.changes; pairs = marks.new.pairs }) }
+    ensures marks { MarksUnkept net.now priced.new.live.given.spans priced.new.live.times
+        (record { changes = marks.new.changes; pairs = marks.new.pairs }) }
     ensures turns { TurnsTo net.now (is_directed net.now pair tail) (λ b. false) false priced.old priced.new }
 {
     let row = net.out_row(tail, steps);

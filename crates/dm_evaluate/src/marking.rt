@@ -28,7 +28,8 @@ pub fn mark_early(
     requires is_event { event < length net.now.events }
     requires early { time < 2 ^ 38 }
     requires are_activities { All (λ a. a < length net.now.activities) row.now }
-    ensures { MarksWhere (IsEarlyAmong net.now constraints.now.spans (slice_set times.now event time) row.now (length row.now)) changes.old changes.new }
+    ensures { MarksWhere (IsEarlyAmong net.now constraints.now.spans (slice_set times.now event time) row.now (length row.now)) changes.old
+        changes.new }
 {
     for a in row {
         mark_if_early(changes, net, constraints, times, event, time, *a);
@@ -82,7 +83,8 @@ pub fn mark_unmet(
     requires early { time < 2 ^ 38 }
     requires into_activities { All (λ a. a < length net.now.activities) into.now }
     requires out_activities { All (λ a. a < length net.now.activities) out_of.now }
-    ensures { MarksWhere (IsEarlyBothWaysAmong net.now constraints.now.spans (slice_set times.now event time) into.now out_of.now (length out_of.now)) pairs.old pairs.new }
+    ensures { MarksWhere (IsEarlyBothWaysAmong net.now constraints.now.spans (slice_set times.now event time) into.now out_of.now
+        (length out_of.now)) pairs.old pairs.new }
 {
     for a in out_of {
         mark_pair_of(pairs, net, constraints, times, event, time, into, *a);
@@ -137,7 +139,8 @@ fn has_early_of(
     requires is_event { event < length net.now.events }
     requires early { time < 2 ^ 38 }
     requires are_activities { All (λ a. a < length net.now.activities) row.now }
-    ensures { (b : ℕ) → IsAmong row.now (length row.now) b → IsEarlyHeadway net.now constraints.now.spans (slice_set times.now event time) p b → result ≡ true }
+    ensures { (b : ℕ) → IsAmong row.now (length row.now) b
+        → IsEarlyHeadway net.now constraints.now.spans (slice_set times.now event time) p b → result ≡ true }
 {
     for a in row {
         if is_headway_of(net, *a, p) && is_early_where(net, constraints, times, event, time, *a) {

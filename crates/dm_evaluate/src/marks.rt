@@ -23,7 +23,8 @@ pub struct ViolationMarks {
 impl ViolationMarks {
     /// Marks at every change and every pair. Their time is linear in these.
     pub fn all(alloc: Global, net: &Network) -> Result<ViolationMarks, AllocError>
-        ensures { IfOk result (λ m. (spans : List ℕ) (x : List ℕ) → MarksUnkept net.now spans x (record { changes = m.changes; pairs = m.pairs })) }
+        ensures { IfOk result (λ m. (spans : List ℕ) (x : List ℕ)
+            → MarksUnkept net.now spans x (record { changes = m.changes; pairs = m.pairs })) }
     {
         let mut changes = Marks::new(alloc, net.activities())?;
         mark_changes(&mut changes, net);
@@ -36,7 +37,8 @@ impl ViolationMarks {
 fn mark_changes(changes: &mut Marks, net: &Network)
     requires { length changes.old ≡ length net.now.activities }
     ensures size { length changes.new ≡ length changes.old }
-    ensures marked { (a : ℕ) → a < length net.now.activities → is_change (activity_at net.now a).kind ≡ true → is_marked changes.new a ≡ true }
+    ensures marked { (a : ℕ) → a < length net.now.activities → is_change (activity_at net.now a).kind ≡ true
+        → is_marked changes.new a ≡ true }
 {
     for a in 0..net.activities() {
         if matches!(net.activity(a).kind, ActKind::Change) {

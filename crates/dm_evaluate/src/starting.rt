@@ -146,7 +146,10 @@ fn set_passed_at<L: Ledger>(
     requires sized { IsSized net.now rows.now }
     requires is_event { i < length net.now.events }
     ensures priced { IsPriced net.now priced.new }
-    ensures passed { priced.new ≡ record priced.old { passed = slice_set priced.old.passed i (has_passed rows.now i); sums = priced.new.sums } }
+    ensures passed { priced.new ≡ record priced.old {
+      passed = slice_set priced.old.passed i (has_passed rows.now i);
+      sums = priced.new.sums;
+    } }
 {
     let into = net.in_row(i, steps);
     match rows.passed(i) {

@@ -28,16 +28,19 @@ pub fn turn_on<L: Ledger>(
 ) -> Result<(), Cyclic>
     requires priced { IsPriced net.now priced.old }
     requires at_rest { IsAtRest priced.old.live }
-    requires marks { MarksUnkept net.now priced.old.live.given.spans priced.old.live.times (record { changes = marks.old.changes; pairs = marks.old.pairs }) }
+    requires marks { MarksUnkept net.now priced.old.live.given.spans priced.old.live.times
+        (record { changes = marks.old.changes; pairs = marks.old.pairs }) }
     requires reaches { ReachesNet net.now flip }
     requires open { NoneFixed priced.old.live.fixed }
     requires off { IsOff net.now flip priced.old }
     ensures priced { IsPriced net.now priced.new }
     ensures at_rest { IsAtRest priced.new.live }
-    ensures marks { MarksUnkept net.now priced.new.live.given.spans priced.new.live.times (record { changes = marks.new.changes; pairs = marks.new.pairs }) }
+    ensures marks { MarksUnkept net.now priced.new.live.given.spans priced.new.live.times
+        (record { changes = marks.new.changes; pairs = marks.new.pairs }) }
     ensures turns { OnOk result (Turns net.now flip true priced.old priced.new) }
     ensures stays { OnErr result (Stays net.now priced.old priced.new) }
-    ensures cycle { OnErr result (IsCycleOf net.now (set_where (is_held_by net.now flip) true (is_held priced.old.live.given.held)) priced.new.live.order.cycle) }
+    ensures cycle { OnErr result (IsCycleOf net.now (set_where (is_held_by net.now flip) true (is_held priced.old.live.given.held))
+        priced.new.live.order.cycle) }
 {
     net.sound();
     match flip {
@@ -63,11 +66,13 @@ pub fn turn_off<L: Ledger>(
 )
     requires priced { IsPriced net.now priced.old }
     requires at_rest { IsAtRest priced.old.live }
-    requires marks { MarksUnkept net.now priced.old.live.given.spans priced.old.live.times (record { changes = marks.old.changes; pairs = marks.old.pairs }) }
+    requires marks { MarksUnkept net.now priced.old.live.given.spans priced.old.live.times
+        (record { changes = marks.old.changes; pairs = marks.old.pairs }) }
     requires reaches { ReachesNet net.now flip }
     ensures priced { IsPriced net.now priced.new }
     ensures at_rest { IsAtRest priced.new.live }
-    ensures marks { MarksUnkept net.now priced.new.live.given.spans priced.new.live.times (record { changes = marks.new.changes; pairs = marks.new.pairs }) }
+    ensures marks { MarksUnkept net.now priced.new.live.given.spans priced.new.live.times
+        (record { changes = marks.new.changes; pairs = marks.new.pairs }) }
     ensures turns { Turns net.now flip false priced.old priced.new }
 {
     net.sound();
@@ -94,15 +99,18 @@ fn keep<L: Ledger>(
 ) -> Result<(), Cyclic>
     requires priced { IsPriced net.now priced.old }
     requires at_rest { IsAtRest priced.old.live }
-    requires marks { MarksUnkept net.now priced.old.live.given.spans priced.old.live.times (record { changes = marks.old.changes; pairs = marks.old.pairs }) }
+    requires marks { MarksUnkept net.now priced.old.live.given.spans priced.old.live.times
+        (record { changes = marks.old.changes; pairs = marks.old.pairs }) }
     requires is_activity { act < length net.now.activities }
     requires open { NoneFixed priced.old.live.fixed }
     ensures priced { IsPriced net.now priced.new }
     ensures at_rest { IsAtRest priced.new.live }
-    ensures marks { MarksUnkept net.now priced.new.live.given.spans priced.new.live.times (record { changes = marks.new.changes; pairs = marks.new.pairs }) }
+    ensures marks { MarksUnkept net.now priced.new.live.given.spans priced.new.live.times
+        (record { changes = marks.new.changes; pairs = marks.new.pairs }) }
     ensures turns { OnOk result (Turns net.now (Flip.Keep act) true priced.old priced.new) }
     ensures stays { OnErr result (Stays net.now priced.old priced.new) }
-    ensures cycle { OnErr result (IsCycleOf net.now (set_where (is_held_by net.now (Flip.Keep act)) true (is_held priced.old.live.given.held)) priced.new.live.order.cycle) }
+    ensures cycle { OnErr result (IsCycleOf net.now (set_where (is_held_by net.now (Flip.Keep act)) true
+        (is_held priced.old.live.given.held)) priced.new.live.order.cycle) }
 {
     match priced.hold(net, act) {
         Ok(()) => {

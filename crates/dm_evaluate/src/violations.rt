@@ -36,7 +36,8 @@ pub fn violated_behind<L: Ledger>(
     requires is_place { IfSome past (IsWithin net.now) }
     requires size { length times.now ≡ length net.now.events }
     requires marked { AreMarked net.now rows.now times.now undecided.now marks.old }
-    ensures first { (path : List Decision) → LeavesUndecided net.now rows.now path undecided.now → result ≡ violated_behind net.now rows.now path times.now past }
+    ensures first { (path : List Decision) → LeavesUndecided net.now rows.now path undecided.now
+        → result ≡ violated_behind net.now rows.now path times.now past }
     ensures flagged { IfSome result (IsFlagged net.now undecided.now) }
     ensures cleared { AreCleared net.now rows.now times.now marks.old marks.new }
 {
@@ -71,7 +72,8 @@ fn violated_from<L: Ledger>(
     requires sized { IsSized net.now rows.now }
     requires size { length times.now ≡ length net.now.events }
     requires marked { AreMarked net.now rows.now times.now undecided.now marks.old }
-    ensures first { (path : List Decision) → LeavesUndecided net.now rows.now path undecided.now → result ≡ violated_from net.now rows.now path times.now first }
+    ensures first { (path : List Decision) → LeavesUndecided net.now rows.now path undecided.now
+        → result ≡ violated_from net.now rows.now path times.now first }
     ensures flagged { IfSome result (IsFlagged net.now undecided.now) }
     ensures cleared { AreCleared net.now rows.now times.now marks.old marks.new }
 {
@@ -95,7 +97,8 @@ fn violated_pair_from<L: Ledger>(
     requires sized { IsSized net.now rows.now }
     requires size { length times.now ≡ length net.now.events }
     requires marked { AreMarked net.now rows.now times.now undecided.now marks.old }
-    ensures first { (path : List Decision) → LeavesUndecided net.now rows.now path undecided.now → result ≡ violated_pair_from net.now rows.now path times.now first }
+    ensures first { (path : List Decision) → LeavesUndecided net.now rows.now path undecided.now
+        → result ≡ violated_pair_from net.now rows.now path times.now first }
     ensures flagged { IfSome result (IsFlagged net.now undecided.now) }
     ensures cleared { AreCleared net.now rows.now times.now marks.old marks.new }
 {
@@ -118,7 +121,8 @@ pub fn is_violated<L: Ledger>(
     requires sized { IsSized net.now rows.now }
     requires flags { AreFlagsFor net.now undecided.now }
     requires size { length times.now ≡ length net.now.events }
-    ensures { (path : List Decision) → LeavesUndecided net.now rows.now path undecided.now → IsTrue result ↔ IsViolated net.now rows.now path times.now choice }
+    ensures { (path : List Decision) → LeavesUndecided net.now rows.now path undecided.now
+        → IsTrue result ↔ IsViolated net.now rows.now path times.now choice }
 {
     net.sound();
     let Some(place) = place_of_choice(net, choice) else {

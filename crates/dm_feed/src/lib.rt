@@ -7,6 +7,20 @@
 //!
 //! It stands on dm_rows for messages, on dm_outside for sources, sinks and pages, and on dm_base for numbers. It
 //! promises what each call's clauses say in the words of `specs/`; `specs/Inside` need not be believed.
+//!
+//! # What is promised
+//!
+//! `read_line` hears exactly what a line's bytes say: nothing, a line, or what is in no form. `print_line` and
+//! `print_message` put the one spelling; `read_message` reads exactly the spellings of messages, adopted lists too.
+//!
+//! `LineReader::next` gives the due items of its feed in order with their numbers and meanings (`in_order`, `exactly`:
+//! where the source tells what is left, they determine the answer, unless a read fails), stops at the end, where the feed
+//! is too long, or where a read failed, with its cause, and takes at most one byte above the limit. All but `read_message`
+//! take no memory.
+//!
+//! Laws: bytes have one meaning; a printed line is heard as itself; two messages with one spelling are one; and, whatever
+//! its source tells, what a new reader gives up to its stop are the due items of some bytes, which are those that the
+//! source told (`given_lines_have_a_feed`).
 #![tactic(auto)]
 
 mod buffer;

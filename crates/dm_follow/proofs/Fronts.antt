@@ -25,8 +25,8 @@ use Rattle.dm_follow.specs.Laws.{FollowedIsOne, IsFrontOf, FrontsAreFollowed}
 use Rattle.dm_follow.proofs.Chains.{times_front, times_grow}
 use Rattle.dm_follow.proofs.Single.{journal_once, times_once}
 use Rattle.dm_follow.proofs.Carried.{ok_same, ok_or_err, stands_told, same_header, ends_there}
-use Rattle.dm_follow.proofs.Each.{Each, each_of_splits, all_there}
-use Rattle.dm_follow.proofs.Named.{IsTrueBehind, CameSomehow, named_somewhere}
+use Rattle.dm_records.proofs.Each.{Each, each_of_splits, all_there}
+use Rattle.dm_records.proofs.Named.{IsTrueBehind, CameSomehow, named_somewhere}
 use Rattle.dm_follow.proofs.Longer.{fault_stays}
 
 -- ---- two histories that one text carries

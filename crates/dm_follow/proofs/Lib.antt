@@ -7,7 +7,5 @@ pub mod HeaderSteps
 pub mod EntrySteps
 pub mod Taken
 pub mod Advancing
-pub mod Each
-pub mod Named
 pub mod Longer
 pub mod Fronts

@@ -15,14 +15,12 @@ use Rattle.dm_rows.specs.Refuse.{Refuses}
 use Rattle.dm_rows.specs.Resolve.{after}
 use Rattle.dm_rows.specs.History.{rows_at, IsLegal}
 use Rattle.dm_feed.specs.Parts.{largest_id}
-use Rattle.dm_feed.specs.Lines.{spelling_of_message}
 use Rattle.dm_cert.specs.PlanTexts.{line_end, largest_cost, IsVersion}
 use Rattle.dm_cert.specs.RunTexts.{header_text, entry_text, entries_text, FitsEntry}
-use Rattle.dm_cert.proofs.LineFeeds.{NoFeed, has_no_feed, no_feed_append, no_feed_decimal}
 use Rattle.dm_cert.proofs.SpelledPlans.{HasLine}
 use Rattle.dm_cert.proofs.ToldTexts.{line_told}
 use Rattle.dm_records.specs.RunLines.{Numbered, IsNumberLine, IsVersionLine, IsEntryLine}
-use Rattle.dm_records.proofs.Splitting.{message_no_feed}
+use Rattle.dm_records.proofs.LinesSpelled.{counted, number_line, version_has_line, entry_line}
 use Rattle.dm_follow.specs.declared.faults.FollowKind.{FollowKind}
 use Rattle.dm_follow.specs.declared.faults.FollowKind.TheVariants as kind
 use Rattle.dm_follow.specs.Journals.{Halt, broken, Header, header, Reads, Rules, TellsHeader, TellsPenalty, TellsFeeds, TellsEntries, IsNextEntry, TellsEntry}
@@ -51,47 +49,6 @@ rules_there spells text rule k gives v place rest has holds left =
     record { value = v; behind = next_line place rest; told = reads_there spells text v place rest has left; then = (holds, refl, refl) }
 
 -- ---- the header
-
--- the text of a line of a number
-abbrev counted : List ℕ → ℕ → List ℕ
-counted words n = words ++ (decimal n ++ line_end)
-
-numbered_text : (words : List ℕ) (k : ℕ) (line : List ℕ) → IsNumberLine words k line → counted words k ≡ line ++ line_end
-numbered_text words k line is =
-    ap (λ xs. words ++ xs) (ap (λ ys. ys ++ line_end) (sym (append-nil (decimal k)))) ∙ (sym (append_assoc words (decimal k ++ []) line_end) ∙ ap (λ xs. xs ++ line_end) is.spelled)
-
-version_text : (v : ℕ) (line : List ℕ) → IsVersionLine v line → counted (codes "dm-run ") v ≡ line ++ line_end
-version_text v line is =
-    ap (λ xs. codes "dm-run " ++ xs) (ap (λ ys. ys ++ line_end) (sym (append-nil (decimal v)))) ∙ (sym (append_assoc (codes "dm-run ") (decimal v ++ []) line_end) ∙ ap (λ xs. xs ++ line_end) is.spelled)
-
-number_then : (n : ℕ) (rest : List ℕ) → n ≤ largest_cost → NoFeed rest → NoFeed (decimal n ++ rest)
-number_then n rest fits none = no_feed_append (decimal n) rest (no_feed_decimal n (omega arith)) none
-
-number_has_line : (words : List ℕ) (n : ℕ) → NoFeed words → n ≤ largest_cost → HasLine (IsNumberLine words) (counted words) n
-number_has_line words n none fits =
-    let is : IsNumberLine words n (words ++ (decimal n ++ [])) = record { spelled = refl; fits = fits } in
-    record {
-      line = words ++ (decimal n ++ []);
-      text_is = numbered_text words n (words ++ (decimal n ++ [])) is;
-      one_line = has_no_feed (words ++ (decimal n ++ [])) (no_feed_append words (decimal n ++ []) none (number_then n [] fits refl));
-      spelled = is;
-    }
-
-version_low : (version : ℕ) → IsVersion version → version ≤ 2
-version_low version (inl one) = omega arith
-version_low version (inr two) = omega arith
-
-version_has_line : (version : ℕ) → IsVersion version → HasLine IsVersionLine (counted (codes "dm-run ")) version
-version_has_line version is_version =
-    let words : List ℕ = codes "dm-run " in
-    let is : IsVersionLine version (words ++ (decimal version ++ [])) = record { spelled = refl; is_version = is_version } in
-    let low = version_low version is_version in
-    record {
-      line = words ++ (decimal version ++ []);
-      text_is = version_text version (words ++ (decimal version ++ [])) is;
-      one_line = has_no_feed (words ++ (decimal version ++ [])) (no_feed_append words (decimal version ++ []) refl (number_then version [] (omega arith) refl));
-      spelled = is;
-    }
 
 header_regroup : (v p f e rest : List ℕ) →
     (codes "dm-run " ++ (v ++ line_end)) ++ ((codes "penalty " ++ (p ++ line_end)) ++ ((codes "feeds " ++ (f ++ line_end)) ++ ((codes "entries " ++ (e ++ line_end)) ++ rest)))
@@ -129,12 +86,12 @@ header_there version penalty feeds entries place rest is_version low some few ma
         then = record {
           value = penalty;
           behind = two;
-          told = rules_there (IsNumberLine (codes "penalty ")) (counted (codes "penalty ")) (λ n. n ≡ penalty) kind.Form (λ n. n) penalty one c (number_has_line (codes "penalty ") penalty refl low) refl refl;
+          told = rules_there (IsNumberLine (codes "penalty ")) (counted (codes "penalty ")) (λ n. n ≡ penalty) kind.Form (λ n. n) penalty one c (number_line (codes "penalty ") penalty refl low) refl refl;
           then = record {
             value = feeds;
             behind = three;
-            told = rules_there (IsNumberLine (codes "feeds ")) (counted (codes "feeds ")) (λ n. (1 ≤ n) × (n ≤ FEEDS)) kind.Form (λ n. n) feeds two d (number_has_line (codes "feeds ") feeds refl (omega (arith, few))) (some, few) refl;
-            then = rules_there (IsNumberLine (codes "entries ")) (counted (codes "entries ")) (λ n. n ≤ ENTRIES) kind.Form (header feeds) entries three rest (number_has_line (codes "entries ") entries refl (omega (arith, many))) many refl;
+            told = rules_there (IsNumberLine (codes "feeds ")) (counted (codes "feeds ")) (λ n. (1 ≤ n) × (n ≤ FEEDS)) kind.Form (λ n. n) feeds two d (number_line (codes "feeds ") feeds refl (omega (arith, few))) (some, few) refl;
+            then = rules_there (IsNumberLine (codes "entries ")) (counted (codes "entries ")) (λ n. n ≤ ENTRIES) kind.Form (header feeds) entries three rest (number_line (codes "entries ") entries refl (omega (arith, many))) many refl;
           };
         };
       };
@@ -190,32 +147,6 @@ header_told penalty h place next told =
 
 -- ---- entries
 
-abbrev entry_bytes : ℕ → Entry → List ℕ
-entry_bytes n e =
-    codes "entry " ++ (decimal n ++ (codes " feed " ++ (decimal e.feed ++ (codes " line " ++ (decimal e.line ++ (codes " " ++ spelling_of_message e.message))))))
-
-entry_is : (n : ℕ) (e : Entry) → entry_text n e ≡ entry_bytes n e ++ line_end
-unfolding entry_text
-entry_is n e = sym (simp (append_assoc, append-nil))
-
-entry_no_feed : (n : ℕ) (e : Entry) → n ≤ largest_id → FitsEntry e → NoFeed (entry_bytes n e)
-entry_no_feed n e low fits =
-    let message : List ℕ = codes " " ++ spelling_of_message e.message in
-    let line : List ℕ = codes " line " ++ (decimal e.line ++ message) in
-    let feed : List ℕ = codes " feed " ++ (decimal e.feed ++ line) in
-    let a : NoFeed message = no_feed_append (codes " ") (spelling_of_message e.message) refl (message_no_feed e.message fits.2) in
-    let b : NoFeed line = no_feed_append (codes " line ") (decimal e.line ++ message) refl (number_then e.line message (let l = fits.1 in omega arith) a) in
-    let c : NoFeed feed = no_feed_append (codes " feed ") (decimal e.feed ++ line) refl (number_then e.feed line (let f = fits.0 in omega arith) b) in
-    no_feed_append (codes "entry ") (decimal n ++ feed) refl (number_then n feed (omega arith) c)
-
-entry_has_line : (n : ℕ) (e : Entry) → n ≤ largest_id → FitsEntry e → HasLine IsEntryLine (λ said. entry_text said.number said.entry) (record { number = n; entry = e })
-entry_has_line n e low fits = record {
-  line = entry_bytes n e;
-  text_is = entry_is n e;
-  one_line = has_no_feed (entry_bytes n e) (entry_no_feed n e low fits);
-  spelled = record { spelled = entry_is n e; number = low; feed = (let f = fits.0 in omega arith); of_line = fits.1; message = fits.2 };
-}
-
 -- the rows after the entries before one are the same, whatever stands behind them
 pub rows_before : (net : Net) (start : RowsValue) (before later : List Entry) → rows_at net start (before ++ later) (length before) ≡ rows_at net start before (length before)
 rows_before net start before later =
@@ -250,7 +181,7 @@ entries_there net start feeds before (e ∷ tail) place rest legal each left =
           (subst (λ (rows : RowsValue). Refuses net rows (length before) e.message r) (sym (rows_before net start before (e ∷ tail))) refuses);
     } in
     let one = rules_there IsEntryLine (λ (s : Numbered). entry_text s.number s.entry) (IsNextEntry net start feeds before) kind.Entry (λ (s : Numbered). s.entry) said place more
-    (entry_has_line n e (omega (arith, few, size)) here.fits) next_is (left ∙ append_assoc (entry_text n e) (entries_text (n + 1) tail) rest) in
+    (entry_line n e (omega (arith, few, size)) here.fits) next_is (left ∙ append_assoc (entry_text n e) (entries_text (n + 1) tail) rest) in
     let together : (before ++ e ∷ []) ++ tail ≡ before ++ e ∷ tail = append_assoc before (e ∷ []) tail in
     let two = entries_there net start feeds (before ++ e ∷ []) tail (next_line place more) rest (subst (IsLegal net start) (sym together) legal) (All-tail (IsEntryOf feeds) e tail each)
     (ap (λ k. entries_text k tail ++ rest) (ap (λ k. k + 1) (sym (length-append before (e ∷ []))))) in

@@ -82,7 +82,8 @@ fn entry_behind(
     said: Option<EntryLine>,
 ) -> Result<Stage, AllocError>
     requires { length table.old.history < entries }
-    ensures advances { (line : List ℕ) → IsRead IsEntryLine numbered line said → IfOk result (Advances table.old table.new (Stage.Journal feeds entries) line) }
+    ensures advances { (line : List ℕ) → IsRead IsEntryLine numbered line said
+        → IfOk result (Advances table.old table.new (Stage.Journal feeds entries) line) }
     ensures kept { OnErr result (KeepsEntries table.old table.new) }
 {
     table.sound();

@@ -6,6 +6,13 @@
 //!
 //! It promises that [`make`] gives exactly the lists of `specs/`, where only memory may be wanting; [`laws`] has their
 //! sizes.
+//!
+//! # What is promised
+//!
+//! `make` gives exactly the generated day of its definitions: the events of 1 to 2,000 trains, their drives, waits,
+//! headways and changes, and a feed of 500 delays drawn from one number. Laws: the first draw from 7, the sizes of the
+//! lists; nothing but want of memory refuses the records (`records_make_network`), whose numbers are within the limits;
+//! each line of the feed delays an event of that network by at most 900 seconds (`feed_delays_events`).
 #![tactic(auto)]
 
 mod activities;

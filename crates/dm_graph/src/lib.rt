@@ -7,6 +7,13 @@
 //! `search` finds an order of all events in which every arc that is held to goes forward, or a cycle of such arcs.
 //!
 //! It stands on the standard library alone, and computes no times.
+//!
+//! # What is promised
+//!
+//! The laws of `laws`: at most one timetable is least; an order leaves no cycle; a graph whose cycles have positive spans
+//! can be met exactly where it has none; joins along an order are least; what asks less is no later. `Search` finds an
+//! order of all events or a cycle, exactly; `search` takes no memory. Without a cycle no least time exceeds the highest
+//! floor by more than the longest span for each event.
 #![tactic(auto)]
 
 pub mod laws;

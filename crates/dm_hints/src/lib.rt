@@ -4,6 +4,12 @@
 //! of dm_network and dm_rows, on dm_outside for the sink that it listens at, and on dm_base for limits and numbers. [`Listener`]
 //! passes on what is written, unchanged, and remembers what is worth a word; [`tell`] says it once the program has ended with its
 //! status. Nothing is promised of the words: that every call is safe and ends is proved.
+//!
+//! # What is promised
+//!
+//! `Listener` hands each write on to another sink unchanged: contracts see it as that sink, so what is promised of a call
+//! into a sink holds of it. `tell` says on the standard error what went amiss; that it is safe and ends is proved, and
+//! nothing of its words. It reads the files again for that, and may take memory, want of which leaves something unsaid.
 #![tactic(auto)]
 
 mod bad;

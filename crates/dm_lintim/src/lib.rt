@@ -5,6 +5,12 @@
 //! `specs/` relates to the bytes, in file order, or the first record that breaks a rule and in it the first column;
 //! that [`Columns::read`] refuses at the first word that breaks a rule; and, in [`laws`], that the grammar relates at
 //! most one answer to given bytes, and that the split of `csv` is the plain one.
+//!
+//! # What is promised
+//!
+//! `read_events`, `read_activities`, `read_delays`: exactly the rows that the grammar of the files relates to the bytes, in
+//! file order, or the first fault with its record and column; `Columns::read` and `Columns::standard`. Laws: the grammar
+//! has at most one answer, and `csv` cuts a file as the plain rule does.
 #![tactic(auto)]
 
 mod activities;

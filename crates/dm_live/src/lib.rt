@@ -8,6 +8,16 @@
 //! timetable. [`LiveTimetable::fix`] gives an event into which nothing is held its time at once, as one that passes: what is
 //! held out of it needs no place in the order, until [`LiveTimetable::free`] lets its time move again. An activity that would
 //! make a cycle with those held is refused, and nothing has changed then. Once it is made, a timetable takes no memory.
+//!
+//! # What is promised
+//!
+//! A timetable kept while floors, spans and held activities change: after any moves `settle` leaves exactly the least
+//! timetable of what is held, and reads one in-row for each event that was marked or follows one whose time changed, and
+//! one out-row for each whose time changed; `settle_watched` is the same with two watchers. `hold` is refused exactly where
+//! it would make a cycle, and then nothing but the cycle shown has changed; `fix` gives a time to an event that nothing
+//! held enters, whose activities leave the order until `free` brings them back.
+//!
+//! All but `new` take no memory. It keeps no cost.
 #![tactic(auto)]
 
 mod aligning;

@@ -20,7 +20,8 @@ pub fn add_unless_fixed(
     requires ordered { IsOrderOf net.now order.old }
     requires is_activity { a < length net.now.activities }
     ensures ordered { IsOrderOf net.now order.new }
-    ensures held { OnOk result ((b : ℕ) → is_held order.new.held b ≡ (if fixed then is_held order.old.held b else held_with order.old.held (a ∷ []) b)) }
+    ensures held { OnOk result ((b : ℕ) → is_held order.new.held
+        b ≡ (if fixed then is_held order.old.held b else held_with order.old.held (a ∷ []) b)) }
     ensures cycle_stays { OnOk result (order.new.cycle ≡ order.old.cycle) }
     ensures unchanged { OnErr result (order.new ≡ record order.old { cycle = order.new.cycle }) }
     ensures cycle { OnErr result (IsCycleOf net.now (held_with order.old.held (a ∷ [])) order.new.cycle) }
@@ -49,7 +50,9 @@ pub fn add_out_of(
     requires no_cycle { HasNoCycleOf net.now (is_held constraints.now.held) }
     requires out_of { out_of.now ≡ places_out_of net.now event }
     ensures ordered { IsOrderOf net.now order.new }
-    ensures held { (b : ℕ) → b < length net.now.activities → is_held order.new.held b ≡ (if (activity_at net.now b).tail == event then is_held constraints.now.held b else is_held order.old.held b) }
+    ensures held { (b : ℕ) → b < length net.now.activities
+        → is_held order.new.held b ≡ (if (activity_at net.now b).tail == event then is_held constraints.now.held b else is_held
+        order.old.held b) }
     ensures cycle_stays { order.new.cycle ≡ order.old.cycle }
 {
     let _event = event;

@@ -157,8 +157,10 @@ impl LiveTimetable {
         requires stays { is_fixed self.old.fixed i ≡ true → floor ≡ slice_index self.old.given.floors i }
         ensures live { IsLive net.now self.new }
         ensures floor { self.new.given ≡ with_floor self.old.given i floor }
-        ensures marked { (floor < slice_index self.old.given.floors i) ⊎ (slice_index self.old.times i < floor) → self.new.marks ≡ with_mark self.old.marks i }
-        ensures unmarked { slice_index self.old.given.floors i ≤ floor → floor ≤ slice_index self.old.times i → self.new.marks ≡ self.old.marks }
+        ensures marked { (floor < slice_index self.old.given.floors i) ⊎ (slice_index self.old.times i < floor)
+            → self.new.marks ≡ with_mark self.old.marks i }
+        ensures unmarked { slice_index self.old.given.floors i ≤ floor → floor ≤ slice_index self.old.times i
+            → self.new.marks ≡ self.old.marks }
         ensures order { self.new.order ≡ self.old.order }
         ensures times { self.new.times ≡ self.old.times }
         ensures fixed_stay { self.new.fixed ≡ self.old.fixed }

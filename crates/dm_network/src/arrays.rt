@@ -140,7 +140,8 @@ pub fn held_at_start(
     pairs: &[Pair],
 ) -> Result<Vec<bool>, AllocError>
     requires { All (KnowsPair (net_with events.now activities.now pairs.now)) activities.now }
-    ensures { IfOk result (λ held. held.items ≡ map (is_start_active (net_with events.now activities.now pairs.now)) (range_with_len 0 (length activities.now))) }
+    ensures { IfOk result (λ held. held.items ≡ map (is_start_active (net_with events.now activities.now pairs.now))
+        (range_with_len 0 (length activities.now))) }
 {
     let mut held = Vec::new(alloc);
     for activity in activities {

@@ -98,7 +98,8 @@ fn start_cycle(
 ) -> Result<Option<Vec<ActId>>, AllocError>
     requires formed { IsFormed (net_with events.now activities.now pairs.now) }
     requires arrays { StandBeside (net_with events.now activities.now pairs.now) arrays.now }
-    ensures { IfOk result (λ found. MatchOption found (HasNoStartCycle (net_with events.now activities.now pairs.now)) (λ ids. ShowsStartCycle (net_with events.now activities.now pairs.now) ids.items)) }
+    ensures { IfOk result (λ found. MatchOption found (HasNoStartCycle (net_with events.now activities.now pairs.now))
+        (λ ids. ShowsStartCycle (net_with events.now activities.now pairs.now) ids.items)) }
 {
     let held = held_at_start(alloc, events, activities, pairs)?;
     let mut search = Search::new(alloc, events.len())?;

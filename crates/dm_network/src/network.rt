@@ -46,7 +46,8 @@ impl Model for Network {
 
     ghost view = { λ n. record { events = n.events.items; activities = n.activities.items; pairs = n.pairs.items } };
 
-    ghost invariant = { λ n. HasArrays (record { events = n.events.items; activities = n.activities.items; pairs = n.pairs.items }) n.incoming n.outgoing n.tails.items n.stops.items n.by_stop.items };
+    ghost invariant = { λ n. HasArrays (record { events = n.events.items; activities = n.activities.items; pairs = n.pairs.items })
+        n.incoming n.outgoing n.tails.items n.stops.items n.by_stop.items };
 }
 
 /// The network of these parts, beside their arrays.

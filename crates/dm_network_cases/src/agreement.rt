@@ -1,7 +1,8 @@
 //! dm_times beside the definitions of rows, timetables and costs as a plain program.
 //!
 //! The plain program knows the records, the messages that were said, and the inequalities: it goes over all activities, round
-//! after round, until nothing changes. Over networks and messages from a fixed generator, its times and costs are those of dm_times.
+//! after round, until nothing changes. Over networks and messages from a fixed generator, its times and costs are those of
+//! dm_times.
 ghost use Rattle.dm_rows.specs.Rows.{IsSized};
 
 use crate::dice::Dice;

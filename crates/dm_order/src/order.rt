@@ -51,7 +51,8 @@ impl Order {
     pub fn new(alloc: Global, net: &Network, rows: &Rows) -> Result<Order, OrderFault>
         requires { IsSized net.now rows.now }
         ensures order { IfOk result (IsOrderOf net.now) }
-        ensures held { IfOk result (λ order. (a : ℕ) → a < length net.now.activities → is_held order.held a ≡ is_ordered net.now rows.now a) }
+        ensures held { IfOk result (λ order. (a : ℕ) → a < length net.now.activities
+            → is_held order.held a ≡ is_ordered net.now rows.now a) }
         ensures no_cycle { OnOk result (HasNoCycle net.now rows.now) }
         ensures refused { IfErr result (RefusesOrder net.now rows.now) }
     {

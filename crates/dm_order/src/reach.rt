@@ -106,7 +106,8 @@ impl Reach {
         requires ranks { length ranks.now ≡ length net.now.events }
         requires within { high < length self.old.causes.items }
         requires is_event { event < length net.now.events }
-        ensures causes { self.new.causes.items ≡ followed_all net.now held.now ranks.now at high self.old.causes.items (places_out_of net.now event) }
+        ensures causes { self.new.causes.items ≡ followed_all net.now held.now ranks.now at high self.old.causes.items
+            (places_out_of net.now event) }
         ensures as_many { length self.new.causes.items ≡ length self.old.causes.items }
     {
         net.sound();

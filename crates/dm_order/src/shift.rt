@@ -36,7 +36,8 @@ impl Places {
         requires spare { length self.old.spare.items ≡ length self.old.order.items }
         requires within { low + count ≤ length self.old.order.items }
         requires few { length self.old.order.items + 1 < 2 ^ 64 }
-        ensures ranks { AreRankedAnew (reached_from causes.now low) self.old.order.items low count count self.old.ranks.items self.new.ranks.items }
+        ensures ranks { AreRankedAnew (reached_from causes.now low) self.old.order.items low count count self.old.ranks.items
+            self.new.ranks.items }
         ensures order { ArePutAnew (reached_from causes.now low) low count count self.old.order.items self.new.order.items }
         ensures spare { length self.new.spare.items ≡ length self.old.spare.items }
     {
@@ -53,7 +54,8 @@ impl Places {
         requires within { low + count ≤ length self.old.order.items }
         requires few { length self.old.order.items + 1 < 2 ^ 64 }
         requires others { others ≡ failing (reached_from causes.now low) count }
-        ensures ranks { AreRankedAnew (reached_from causes.now low) self.old.order.items low count count self.old.ranks.items self.new.ranks.items }
+        ensures ranks { AreRankedAnew (reached_from causes.now low) self.old.order.items low count count self.old.ranks.items
+            self.new.ranks.items }
         ensures copied { AreCopied self.old.order.items low count self.new.spare.items }
         ensures order { self.new.order.items ≡ self.old.order.items }
         ensures as_much_spare { length self.new.spare.items ≡ length self.old.spare.items }

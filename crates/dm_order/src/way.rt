@@ -39,8 +39,10 @@ impl Way {
         requires room { length self.old.arcs.items ≡ length net.now.events }
         requires is_activity { first < length net.now.activities }
         requires holds { IsTrue (is_held held.now first) }
-        requires backward { slice_index ranks.now (activity_at net.now first).head ≤ slice_index ranks.now (activity_at net.now first).tail }
-        requires reached { HasReached net.now held.now ranks.now (slice_index ranks.now (activity_at net.now first).head) (slice_index ranks.now (activity_at net.now first).tail) (slice_index ranks.now (activity_at net.now first).tail) causes.now }
+        requires backward { slice_index ranks.now (activity_at net.now first).head ≤ slice_index ranks.now
+            (activity_at net.now first).tail }
+        requires reached { HasReached net.now held.now ranks.now (slice_index ranks.now (activity_at net.now first).head)
+            (slice_index ranks.now (activity_at net.now first).tail) (slice_index ranks.now (activity_at net.now first).tail) causes.now }
         requires tail_reached { is_reached causes.now (slice_index ranks.now (activity_at net.now first).tail) ≡ true }
         ensures cycle { IsCycleOf net.now (is_held held.now) (drop self.new.start self.new.arcs.items) }
         ensures as_many { length self.new.arcs.items ≡ length self.old.arcs.items }

@@ -11,6 +11,21 @@
 //! `take_all` takes a whole source up to a limit. `put_all` puts bytes into a sink, and `Page`
 //! gathers the pieces of a long text before the sink takes them. On a fault the sink has taken a
 //! front of the text and not all of it. It stands on `itoa` for the digits of numbers.
+//!
+//! # What is promised
+//!
+//! The traits `Source`, `Sink`, `Shelf` and `Board` say what an object may tell, and keep a count of faults that never
+//! falls and has risen (or stands at its last value) after each failed call; a source, a shelf and a board may tell that
+//! they are sound. A `Gate` tells nothing and has no count.
+//!
+//! The forms in memory meet them with all that they tell: a call fails exactly where its number is listed, where a full
+//! sink is given bytes, or where a shelf has no file of the name; calls and faults are counted exactly, by `Calls`, and but
+//! for the bytes all else stays. `take_all` takes exactly what is left: `TooLong` comes exactly above the limit, and then
+//! one byte more than the limit was taken; `ReadFault` only where the count rose and the source did not tell that it is
+//! sound.
+//!
+//! `put_all`, and a `Page` with its `finish`, put exactly the text into the sink; on a fault a proper front of it was
+//! taken. `put_all` and a `Page` take no memory.
 #![tactic(auto)]
 
 mod boards;

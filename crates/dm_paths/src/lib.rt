@@ -1,9 +1,17 @@
 //! Choices by place, and paths of decisions: what a path leaves undecided, and what one decision more binds and charges for.
 //!
-//! It stands on dm_rows for choices and rows, and on dm_tree for trees of decisions; it computes no times. What searches plans and
-//! what judges them both stand on it. [`place_of_choice`] and [`flip_of`] answer exactly where a choice stands and what a
-//! decision names, without memory; [`all_undecided`] and [`binding_flags`] make the flags of the path without decisions. Its lemmas say what two
-//! paths have in common of which one has one decision more.
+//! It stands on dm_rows for choices and rows, and on dm_tree for trees of decisions; it computes no times. What searches plans
+//! and what judges them both stand on it. [`place_of_choice`] and [`flip_of`] answer exactly where a choice stands and what a
+//! decision names, without memory; [`all_undecided`] and [`binding_flags`] make the flags of the path without decisions. Its
+//! lemmas say what two paths have in common of which one has one decision more.
+//!
+//! # What is promised
+//!
+//! Choices by place and paths of decisions. `place_of_choice` answers exactly where a choice stands in the network, or that
+//! it is none of its choices; `choice_of` what a decision decides, `flip_of` what one of a free choice names;
+//! `all_undecided` and `bound_flags` are the flags of the path without decisions: what is undecided, and what binds then.
+//! `Undecided` sets one flag. The last two take memory. What search plans (`dm_relax`, `dm_evaluate`) and what judges them
+//! (`dm_check_plans`) stand on it.
 #![tactic(auto)]
 
 mod flips;

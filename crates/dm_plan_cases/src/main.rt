@@ -1,11 +1,11 @@
 //! Plans beside a slow reading of what a true plan is.
 //!
-//! It goes over every list of three messages where two trains meet, and over generated days of 9 to 12 trains with drawn messages:
-//! events that have passed or are recalled, dropped changes, pairs that are turned, delays and a clock. For each it has plans
-//! made of up to 64 nodes, and judges each plan over plain lists: the times of a path come by rounds over all activities, and
-//! where there are few choices the costs of all of them are compared. For each case it prints `NAME ok`, or what is wrong with a
-//! plan. It stands on dm_samples for networks and messages and on dm_search for the plans; its reading stands on no crate that
-//! computes times or judges plans. It promises nothing.
+//! It goes over every list of three messages where two trains meet, and over generated days of 9 to 12 trains with drawn
+//! messages: events that have passed or are recalled, dropped changes, pairs that are turned, delays and a clock. For each it
+//! has plans made of up to 64 nodes, and judges each plan over plain lists: the times of a path come by rounds over all
+//! activities, and where there are few choices the costs of all of them are compared. For each case it prints `NAME ok`, or
+//! what is wrong with a plan. It stands on dm_samples for networks and messages and on dm_search for the plans; its reading
+//! stands on no crate that computes times or judges plans. It promises nothing.
 #![tactic(auto)]
 
 mod changed;

@@ -49,7 +49,8 @@ pub fn missed_with(net: &Network, passed: &[bool], times: &Times, a: usize, span
     requires as_many { length passed.now ≡ length net.now.events }
     requires as_many_times { length times.now ≡ length net.now.events }
     requires limit { span ≤ BOUND + DELAY }
-    ensures weight { result ≡ missed_at net.now passed.now a (slice_index times.now (activity_at net.now a).tail) (slice_index times.now (activity_at net.now a).head) span }
+    ensures weight { result ≡ missed_at net.now passed.now a (slice_index times.now (activity_at net.now a).tail)
+        (slice_index times.now (activity_at net.now a).head) span }
     ensures limit { result ≤ WEIGHT }
 {
     net.sound();
@@ -192,7 +193,8 @@ pub fn missed_into(
     requires is_event { event < length net.now.events }
     requires early { (earlier < 2 ^ 38) × (later < 2 ^ 38) }
     requires into { into.now ≡ places_into net.now event }
-    ensures was { result.was ≡ sum_by (missed_weight net.now passed.now constraints.now.spans (slice_set times.now event earlier)) into.now }
+    ensures was { result.was ≡ sum_by (missed_weight net.now passed.now constraints.now.spans (slice_set times.now event earlier))
+        into.now }
     ensures now { result.now ≡ sum_by (missed_weight net.now passed.now constraints.now.spans (slice_set times.now event later)) into.now }
     ensures was_limit { result.was < 2 ^ 96 }
     ensures now_limit { result.now < 2 ^ 96 }

@@ -15,5 +15,6 @@ pub fn costs_as_charged()
 /// Where it follows rows and charges for their dropped changes, it costs what the rows do.
 pub fn costs_as_rows()
     ensures { (net : Net) (rows : RowsValue) (priced : PricedValue) (penalty : ℕ) → EndsAreKnown net →
-        FollowsPrice net rows (is_dropped_change net rows) priced → priced_cost net priced penalty ≡ cost_of net rows priced.live.times penalty }
+        FollowsPrice net rows (is_dropped_change net rows) priced
+        → priced_cost net priced penalty ≡ cost_of net rows priced.live.times penalty }
 {}

@@ -44,7 +44,12 @@ impl Model for PricedTimetable {
 
     ghost Value = { PricedValue };
 
-    ghost view = { λ p. record { live = p.live; passed = p.passed.items; charged = p.charged.items; sums = record { lateness = p.lateness; charged = p.charged_weight; missed = p.missed_weight } } };
+    ghost view = { λ p. record {
+      live = p.live;
+      passed = p.passed.items;
+      charged = p.charged.items;
+      sums = record { lateness = p.lateness; charged = p.charged_weight; missed = p.missed_weight };
+    } };
 
     ghost invariant = { λ p. AreWithin (record { lateness = p.lateness; charged = p.charged_weight; missed = p.missed_weight }) };
 }
@@ -83,7 +88,11 @@ impl PricedTimetable {
         ensures priced { IsPriced net.now self.new }
         ensures least { AreLeast (graph_given net.now self.new.live.given) self.new.live.times }
         ensures at_rest { IsAtRest self.new.live }
-        ensures unchanged { self.new ≡ record self.old { live = record self.old.live { times = self.new.live.times; marks = self.new.live.marks }; sums = self.new.sums } }
+        ensures unchanged { self.new ≡ record self.old {
+          live = record self.old.live
+              { times = self.new.live.times; marks = self.new.live.marks };
+          sums = self.new.sums;
+        } }
         ensures few_reads { ReadsFew (arcs_given net.now self.old.live.given) self.old.live self.new.live steps.old steps.new }
     {
         self.settle_watched(net, &mut Unwatched, steps);
@@ -101,7 +110,11 @@ impl PricedTimetable {
         ensures priced { IsPriced net.now self.new }
         ensures least { AreLeast (graph_given net.now self.new.live.given) self.new.live.times }
         ensures at_rest { IsAtRest self.new.live }
-        ensures unchanged { self.new ≡ record self.old { live = record self.old.live { times = self.new.live.times; marks = self.new.live.marks }; sums = self.new.sums } }
+        ensures unchanged { self.new ≡ record self.old {
+          live = record self.old.live
+              { times = self.new.live.times; marks = self.new.live.marks };
+          sums = self.new.sums;
+        } }
         ensures few_reads { ReadsFew (arcs_given net.now self.old.live.given) self.old.live self.new.live steps.old steps.new }
         ensures knows { W.knows watcher.new net.now self.new.live.given self.new.live.times }
     {
@@ -125,8 +138,10 @@ impl PricedTimetable {
         requires stays { is_fixed self.old.live.fixed i ≡ true → floor ≡ slice_index self.old.live.given.floors i }
         ensures priced { IsPriced net.now self.new }
         ensures floor { self.new.live.given ≡ with_floor self.old.live.given i floor }
-        ensures marked { (floor < slice_index self.old.live.given.floors i) ⊎ (slice_index self.old.live.times i < floor) → self.new.live.marks ≡ with_mark self.old.live.marks i }
-        ensures unmarked { slice_index self.old.live.given.floors i ≤ floor → floor ≤ slice_index self.old.live.times i → self.new.live.marks ≡ self.old.live.marks }
+        ensures marked { (floor < slice_index self.old.live.given.floors i) ⊎ (slice_index self.old.live.times i < floor)
+            → self.new.live.marks ≡ with_mark self.old.live.marks i }
+        ensures unmarked { slice_index self.old.live.given.floors i ≤ floor → floor ≤ slice_index self.old.live.times i
+            → self.new.live.marks ≡ self.old.live.marks }
         ensures order { self.new.live.order ≡ self.old.live.order }
         ensures times { self.new.live.times ≡ self.old.live.times }
         ensures fixed_stay { self.new.live.fixed ≡ self.old.live.fixed }
@@ -195,7 +210,11 @@ impl PricedTimetable {
         requires is_activity { a < length net.now.activities }
         requires limit { span ≤ BOUND + DELAY }
         ensures priced { IsPriced net.now self.new }
-        ensures span { self.new ≡ record self.old { live = record self.old.live { given = with_span self.old.live.given a span; marks = with_head net.now self.old.live.marks a }; sums = self.new.sums } }
+        ensures span { self.new ≡ record self.old {
+          live = record self.old.live
+              { given = with_span self.old.live.given a span; marks = with_head net.now self.old.live.marks a };
+          sums = self.new.sums;
+        } }
     {
         net.sound();
         let earlier = self.live.span(a);
@@ -232,7 +251,8 @@ impl PricedTimetable {
         ensures times { self.new.live.times ≡ self.old.live.times }
         ensures no_cycle { OnOk result (HasNoCycleOf net.now (is_held (with_held self.old.live.given a true).held)) }
         ensures cycle_stays { OnOk result (self.new.live.order.cycle ≡ self.old.live.order.cycle) }
-        ensures unchanged { OnErr result (self.new.live ≡ record self.old.live { order = record self.old.live.order { cycle = self.new.live.order.cycle } }) }
+        ensures unchanged { OnErr result (self.new.live ≡ record self.old.live
+            { order = record self.old.live.order { cycle = self.new.live.order.cycle } }) }
         ensures cycle { OnErr result (IsCycleOf net.now (is_held (with_held self.old.live.given a true).held) self.new.live.order.cycle) }
         ensures others { self.new ≡ record self.old { live = self.new.live } }
     {

@@ -45,7 +45,8 @@ fn turn_event<L: Ledger>(
     ensures fixed { priced.new.live.fixed ≡ slice_set priced.old.live.fixed event (has_passed rows.now event) }
     ensures floors { priced.new.live.given.floors ≡ slice_set priced.old.live.given.floors event (floor_of net.now rows.now event) }
     ensures times { OnOk result (KeepsTimesBut (λ e. e ≡ event) priced.old.live.times priced.new.live.times) }
-    ensures passed { OnOk result ((t : ℕ) → passed_at rows.now event ≡ Some t → HasPassed net.now rows.now event t priced.old.live priced.new.live steps.old steps.new) }
+    ensures passed { OnOk result ((t : ℕ) → passed_at rows.now event ≡ Some t
+        → HasPassed net.now rows.now event t priced.old.live priced.new.live steps.old steps.new) }
 {
     let into = net.in_row(event, steps);
     let out = net.out_row(event, steps);
@@ -71,8 +72,10 @@ fn turn_by_flips<L: Ledger>(
     requires reaches { All (ReachesFlip rows.now) flips.now }
     requires open { FixesNoOther rows.now priced.old.live.fixed }
     ensures priced { IsPriced net.now priced.new }
-    ensures turned { OnOk result (Turns net.now rows.now (IsDecidedBefore net.now flips.now (length flips.now)) priced.old.live priced.new.live) }
-    ensures refused { OnErr result (IsTurnRefused net.now rows.now (IsDecidedBefore net.now flips.now (length flips.now)) priced.old.live priced.new.live) }
+    ensures turned { OnOk result (Turns net.now rows.now (IsDecidedBefore net.now flips.now (length flips.now)) priced.old.live
+        priced.new.live) }
+    ensures refused { OnErr result (IsTurnRefused net.now rows.now (IsDecidedBefore net.now flips.now (length flips.now)) priced.old.live
+        priced.new.live) }
     ensures flags { SetsFlagsBy net.now rows.now flips.now (flags_of priced.old) (flags_of priced.new) }
     ensures floors { priced.new.live.given.floors ≡ priced.old.live.given.floors }
     ensures times { OnOk result (priced.new.live.times ≡ priced.old.live.times) }

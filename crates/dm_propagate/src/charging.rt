@@ -70,7 +70,10 @@ fn set_passed(
     requires is_event { event < length net.now.events }
     requires into { into.now ≡ places_into net.now event }
     ensures priced { IsPriced net.now priced.new }
-    ensures passed { priced.new ≡ record priced.old { passed = slice_set priced.old.passed event (has_passed rows.now event); sums = priced.new.sums } }
+    ensures passed { priced.new ≡ record priced.old {
+      passed = slice_set priced.old.passed event (has_passed rows.now event);
+      sums = priced.new.sums;
+    } }
 {
     match rows.passed(event) {
         Some(_) => priced.pass(net, event, into),

@@ -110,7 +110,9 @@ impl Engine {
         ensures unchanged { OnErr result ((self.new.rows ≡ self.old.rows) × (times_of self.new ≡ times_of self.old)) }
         ensures cycle { OnErr result (IsCycle net.now (after_change self.old.rows change.now) (cycle_of self.new)) }
         ensures moved { TakesInMoved self.old.moved.flags self.new.moved.flags (times_of self.old) (times_of self.new) }
-        ensures few_reads { IsDelayPassOrClock change.now → KeepsClock self.old.rows change.now → ReadsFew net.now (after_change self.old.rows change.now) change.now (times_of self.old) (times_of self.new) steps.old steps.new }
+        ensures few_reads { IsDelayPassOrClock change.now → KeepsClock self.old.rows change.now
+            → ReadsFew net.now (after_change self.old.rows change.now) change.now (times_of self.old) (times_of self.new) steps.old
+            steps.new }
     {
         net.sound();
         self.twin.apply(change);
@@ -278,7 +280,12 @@ impl Engine {
     #[tactic(auto, using(crate::proofs::Following::forgetting_engine))]
     pub fn forget_moved(&mut self)
         ensures engine { (net : Net) → IsEngineOf net self.old → IsEngineOf net self.new }
-        ensures forgets { self.new ≡ record self.old { moved = record { flags = replicate (length self.old.moved.flags) false; places = [] } } }
+        ensures forgets { self.new ≡ record self.old {
+          moved = record {
+            flags = replicate (length self.old.moved.flags) false;
+            places = [];
+          };
+        } }
     {
         self.moved.clear();
     }

@@ -7,6 +7,22 @@
 //! a cycle it is brought back in the same way, so that a refused change leaves the engine as it was. The events stand by their
 //! scheduled times too, and a clock looks only at those that are scheduled before it. Once it is made, an engine takes no
 //! memory.
+//!
+//! # What is promised
+//!
+//! `Engine` holds rows and their least timetable. `update` makes a change, `adopt` sets a list of decisions, `try_update`
+//! and `try_adopt` only tell whether it would be refused. On Ok the rows are those after the change and the times are their
+//! least (`rows`, `least`); `Cyclic` comes exactly where the changed rows have a cycle, `last_cycle` is such a cycle, and
+//! rows and times are as before (`unchanged`, `cycle`).
+//!
+//! `few_reads`: for a delay, a pass or a clock that is not taken back, the rows of the network that are read are, beside
+//! one, at most one for each of a list of different events that are touched or follow a changed one, and one for each of a
+//! list of different events whose time has changed. `moved`: each event whose time is not what it was before is one of the
+//! engine's `moved` ones from then on, and what was one stays so until `forget_moved`.
+//!
+//! `cost` is the cost of these times, a sum of three kept numbers. Its order holds exactly the active activities between
+//! events that have not passed, so that a pass, a delay, a clock and a drop add nothing to it. All but `new` take no
+//! memory.
 #![tactic(auto)]
 
 mod changing;

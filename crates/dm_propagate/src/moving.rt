@@ -67,7 +67,8 @@ pub fn move_to<L: Ledger>(
     ensures flags_back { OnErr result (AreFlagsOf net.now rows.now (flags_of priced.new)) }
     ensures times { OnErr result (priced.new.live.times ≡ priced.old.live.times) }
     ensures cycle { OnErr result (IsCycle net.now other.now priced.new.live.order.cycle) }
-    ensures few_reads { IsDelayPassOrClock (change_in what.now) → KeepsClock rows.now (change_in what.now) → ReadsFew net.now other.now (change_in what.now) priced.old.live.times priced.new.live.times steps.old steps.new }
+    ensures few_reads { IsDelayPassOrClock (change_in what.now) → KeepsClock rows.now (change_in what.now)
+        → ReadsFew net.now other.now (change_in what.now) priced.old.live.times priced.new.live.times steps.old steps.new }
     ensures moved { TakesInMoved moved.old.flags moved.new.flags priced.old.live.times priced.new.live.times }
 {
     net.sound();

@@ -109,7 +109,11 @@ pub fn settle_noted<L: Ledger>(
     ensures priced { IsPriced net.now priced.new }
     ensures least { AreLeast (graph_given net.now priced.new.live.given) priced.new.live.times }
     ensures at_rest { IsAtRest priced.new.live }
-    ensures unchanged { priced.new ≡ record priced.old { live = record priced.old.live { times = priced.new.live.times; marks = priced.new.live.marks }; sums = priced.new.sums } }
+    ensures unchanged { priced.new ≡ record priced.old {
+      live = record priced.old.live
+          { times = priced.new.live.times; marks = priced.new.live.marks };
+      sums = priced.new.sums;
+    } }
     ensures few_reads { ReadsFew (arcs_given net.now priced.old.live.given) priced.old.live priced.new.live steps.old steps.new }
     ensures moved { TakesInMoved moved.old.flags moved.new.flags priced.old.live.times priced.new.live.times }
 {
@@ -135,7 +139,11 @@ fn settle_from<L: Ledger, P: Opening>(
     ensures priced { IsPriced net.now priced.new }
     ensures least { AreLeast (graph_given net.now priced.new.live.given) priced.new.live.times }
     ensures at_rest { IsAtRest priced.new.live }
-    ensures unchanged { priced.new ≡ record priced.old { live = record priced.old.live { times = priced.new.live.times; marks = priced.new.live.marks }; sums = priced.new.sums } }
+    ensures unchanged { priced.new ≡ record priced.old {
+      live = record priced.old.live
+          { times = priced.new.live.times; marks = priced.new.live.marks };
+      sums = priced.new.sums;
+    } }
     ensures few_reads { ReadsFew (arcs_given net.now priced.old.live.given) priced.old.live priced.new.live steps.old steps.new }
     ensures same { noting.new.moved.ghost_name ≡ noting.old.moved.ghost_name }
     ensures moved { TakesInMoved noting.old.moved.now.flags noting.new.moved.now.flags priced.old.live.times priced.new.live.times }

@@ -96,7 +96,8 @@ pub fn set_place<L: Ledger>(
     requires out { out.now ≡ places_out_of net.now event }
     requires entered { (t : ℕ) → passed_at rows.now event ≡ Some t → IsEnteredByNone net.now priced.old.live.given.held event }
     ensures priced { IsPriced net.now priced.new }
-    ensures flags { flags_of priced.new ≡ record (flags_of priced.old) { fixed = slice_set priced.old.live.fixed event (has_passed rows.now event) } }
+    ensures flags { flags_of priced.new ≡ record (flags_of priced.old)
+        { fixed = slice_set priced.old.live.fixed event (has_passed rows.now event) } }
     ensures place { HasPlace net.now rows.now event priced.old.live priced.new.live steps.old steps.new }
 {
     match rows.passed(event) {
@@ -202,7 +203,8 @@ fn take_up_pair<L: Ledger>(
     requires open { FixesNoOther rows.now priced.old.live.fixed }
     ensures priced { IsPriced net.now priced.new }
     ensures flags { flags_of priced.new ≡ flags_of priced.old }
-    ensures taken { OnOk result (TakesUp net.now rows.now (Within net.now (IsDecided net.now (Flip.First pair true))) priced.old.live priced.new.live) }
+    ensures taken { OnOk result (TakesUp net.now rows.now (Within net.now (IsDecided net.now (Flip.First pair true))) priced.old.live
+        priced.new.live) }
     ensures refused { OnErr result (IsRefused net.now rows.now priced.old.live priced.new.live) }
 {
     net.sound();
@@ -230,7 +232,8 @@ pub fn let_go_by_flips<L: Ledger>(
     requires reaches { All (ReachesFlip rows.now) flips.now }
     ensures priced { IsPriced net.now priced.new }
     ensures flags { flags_of priced.new ≡ flags_of priced.old }
-    ensures gone { LetsGo net.now rows.now (Within net.now (IsDecidedBefore net.now flips.now (length flips.now))) priced.old.live priced.new.live }
+    ensures gone { LetsGo net.now rows.now (Within net.now (IsDecidedBefore net.now flips.now (length flips.now))) priced.old.live
+        priced.new.live }
 {
     for flip in flips {
         let_go_by_flip(priced, net, rows, *flip, steps);
@@ -251,7 +254,8 @@ pub fn take_up_by_flips<L: Ledger>(
     requires open { FixesNoOther rows.now priced.old.live.fixed }
     ensures priced { IsPriced net.now priced.new }
     ensures flags { flags_of priced.new ≡ flags_of priced.old }
-    ensures taken { OnOk result (TakesUp net.now rows.now (Within net.now (IsDecidedBefore net.now flips.now (length flips.now))) priced.old.live priced.new.live) }
+    ensures taken { OnOk result (TakesUp net.now rows.now (Within net.now (IsDecidedBefore net.now flips.now (length flips.now)))
+        priced.old.live priced.new.live) }
     ensures refused { OnErr result (IsRefused net.now rows.now priced.old.live priced.new.live) }
 {
     for flip in flips {

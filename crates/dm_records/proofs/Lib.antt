@@ -9,3 +9,6 @@ pub mod RepliesSplit
 pub mod RunsSplit
 pub mod HeldRuns
 pub mod LinesOnce
+pub mod Each
+pub mod Named
+pub mod LinesSpelled

@@ -105,7 +105,8 @@ fn free_line(line: &[u8]) -> Option<Answer>
 
 /// The whole line behind an entry's number as an answer.
 fn told_line(entry: u32, line: &[u8]) -> Option<Answer>
-    ensures { option_map reply_of result ≡ option_map (λ p. told_reply entry p.0 p.1 p.2) (whole (row_in told_text told_shape TOLD line.now)) }
+    ensures { option_map reply_of result ≡ option_map (λ p. told_reply entry p.0 p.1 p.2)
+        (whole (row_in told_text told_shape TOLD line.now)) }
 {
     match told_row(line) {
         Some(((kind, one, two), [])) => Some(told_answer(entry, kind, one, two)),

@@ -44,7 +44,8 @@ pub(crate) fn two_numbers<'l>(
     second: &str,
     second_largest: u128,
 ) -> Option<(u128, u128, &'l [u8])>
-    ensures reads { option_map (λ p. (p.0 ∷ p.1 ∷ [], p.2.now)) result ≡ fields ((first.now, first_largest) ∷ (second.now, second_largest) ∷ []) line.now }
+    ensures reads { option_map (λ p. (p.0 ∷ p.1 ∷ [], p.2.now)) result ≡ fields
+        ((first.now, first_largest) ∷ (second.now, second_largest) ∷ []) line.now }
     ensures first_fits { IfSome result (λ p. p.0 ≤ first_largest) }
     ensures second_fits { IfSome result (λ p. p.1 ≤ second_largest) }
 {
@@ -67,7 +68,8 @@ pub(crate) fn three_numbers<'l>(
     third: &str,
     third_largest: u128,
 ) -> Option<(u128, u128, u128, &'l [u8])>
-    ensures reads { option_map (λ p. (p.0 ∷ p.1 ∷ p.2 ∷ [], p.3.now)) result ≡ fields ((first.now, first_largest) ∷ (second.now, second_largest) ∷ (third.now, third_largest) ∷ []) line.now }
+    ensures reads { option_map (λ p. (p.0 ∷ p.1 ∷ p.2 ∷ [], p.3.now)) result ≡ fields
+        ((first.now, first_largest) ∷ (second.now, second_largest) ∷ (third.now, third_largest) ∷ []) line.now }
     ensures first_fits { IfSome result (λ p. p.0 ≤ first_largest) }
     ensures second_fits { IfSome result (λ p. p.1 ≤ second_largest) }
     ensures third_fits { IfSome result (λ p. p.2 ≤ third_largest) }
@@ -101,7 +103,8 @@ pub(crate) fn two_whole(
     second: &str,
     second_largest: u128,
 ) -> Option<(u128, u128)>
-    ensures reads { option_map (λ p. p.0 ∷ p.1 ∷ []) result ≡ whole (fields ((first.now, first_largest) ∷ (second.now, second_largest) ∷ []) line.now) }
+    ensures reads { option_map (λ p. p.0 ∷ p.1 ∷ []) result ≡ whole
+        (fields ((first.now, first_largest) ∷ (second.now, second_largest) ∷ []) line.now) }
     ensures first_fits { IfSome result (λ p. p.0 ≤ first_largest) }
     ensures second_fits { IfSome result (λ p. p.1 ≤ second_largest) }
 {
@@ -121,7 +124,8 @@ pub(crate) fn three_whole(
     third: &str,
     third_largest: u128,
 ) -> Option<(u128, u128, u128)>
-    ensures reads { option_map (λ p. p.0 ∷ p.1 ∷ p.2 ∷ []) result ≡ whole (fields ((first.now, first_largest) ∷ (second.now, second_largest) ∷ (third.now, third_largest) ∷ []) line.now) }
+    ensures reads { option_map (λ p. p.0 ∷ p.1 ∷ p.2 ∷ []) result ≡ whole
+        (fields ((first.now, first_largest) ∷ (second.now, second_largest) ∷ (third.now, third_largest) ∷ []) line.now) }
     ensures first_fits { IfSome result (λ p. p.0 ≤ first_largest) }
     ensures second_fits { IfSome result (λ p. p.1 ≤ second_largest) }
     ensures third_fits { IfSome result (λ p. p.2 ≤ third_largest) }

@@ -38,7 +38,8 @@ pub fn complete(
 /// The changes of the completion that differ from the rows.
 fn differing_changes(alloc: Global, relaxation: &Relaxation) -> Result<Vec<Decision>, AllocError>
     requires { IsSized relaxation.now.net.now relaxation.now.rows.now }
-    ensures { IfOk result (λ ds. ds.items ≡ differing_changes relaxation.now.net.now relaxation.now.rows.now relaxation.now.path.now (length relaxation.now.net.now.activities)) }
+    ensures { IfOk result (λ ds. ds.items ≡ differing_changes relaxation.now.net.now relaxation.now.rows.now relaxation.now.path.now
+        (length relaxation.now.net.now.activities)) }
 {
     let mut decisions = Vec::new(alloc);
     for a in 0..relaxation.net.activities() {
@@ -57,7 +58,8 @@ fn with_differing_pairs(
 ) -> Result<Vec<Decision>, AllocError>
     requires sized { IsSized relaxation.now.net.now relaxation.now.rows.now }
     requires size { length times.now ≡ length relaxation.now.net.now.events }
-    ensures { IfOk result (λ ds. ds.items ≡ changes.items ++ differing_pairs relaxation.now.net.now relaxation.now.rows.now relaxation.now.path.now times.now (length relaxation.now.net.now.pairs)) }
+    ensures { IfOk result (λ ds. ds.items ≡ changes.items ++ differing_pairs relaxation.now.net.now relaxation.now.rows.now
+        relaxation.now.path.now times.now (length relaxation.now.net.now.pairs)) }
 {
     let mut decisions = changes;
     for p in 0..relaxation.net.pairs() {

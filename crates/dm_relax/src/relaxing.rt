@@ -105,8 +105,10 @@ fn first_violated_pair(
     small: &[bool],
     large: &[bool],
 ) -> Option<Choice>
-    requires small { AreFlags (λ p. has_unmet_from relaxation.now.net.now relaxation.now.rows.now times.now p (end_of relaxation.now.net.now true p)) (length relaxation.now.net.now.pairs) small.now }
-    requires large { AreFlags (λ p. has_unmet_from relaxation.now.net.now relaxation.now.rows.now times.now p (end_of relaxation.now.net.now false p)) (length relaxation.now.net.now.pairs) large.now }
+    requires small { AreFlags (λ p. has_unmet_from relaxation.now.net.now relaxation.now.rows.now times.now p
+        (end_of relaxation.now.net.now true p)) (length relaxation.now.net.now.pairs) small.now }
+    requires large { AreFlags (λ p. has_unmet_from relaxation.now.net.now relaxation.now.rows.now times.now p
+        (end_of relaxation.now.net.now false p)) (length relaxation.now.net.now.pairs) large.now }
     ensures { result ≡ first_violated_pair relaxation.now.net.now relaxation.now.rows.now relaxation.now.path.now times.now }
 {
     let net = relaxation.net;

@@ -43,7 +43,8 @@ pub fn undecided_by(
 ) -> Result<Undecided, AllocError>
     requires sized { IsSized net.now rows.now }
     requires list { IsChoiceList net.now rows.now path.now }
-    ensures changes { IfOk result (λ u. AreFlags (is_undecided_change net.now rows.now path.now) (length net.now.activities) u.changes.items) }
+    ensures changes { IfOk result (λ u. AreFlags (is_undecided_change net.now rows.now path.now) (length net.now.activities)
+        u.changes.items) }
     ensures pairs { IfOk result (λ u. AreFlags (is_undecided_pair net.now rows.now path.now) (length net.now.pairs) u.pairs.items) }
 {
     net.sound();

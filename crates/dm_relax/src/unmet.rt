@@ -21,7 +21,8 @@ pub fn unmet_from(
 ) -> Result<Vec<bool>, AllocError>
     requires sized { IsSized net.now rows.now }
     requires size { length times.now ≡ length net.now.events }
-    ensures { IfOk result (λ flags. AreFlags (λ p. has_unmet_from net.now rows.now times.now p (end_of net.now small p)) (length net.now.pairs) flags.items) }
+    ensures { IfOk result (λ flags. AreFlags (λ p. has_unmet_from net.now rows.now times.now p (end_of net.now small p))
+        (length net.now.pairs) flags.items) }
 {
     net.sound();
     let mut flags = vec![in alloc; false; net.pairs()]?;

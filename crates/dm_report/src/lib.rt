@@ -5,6 +5,13 @@
 //! version 2, [`write_timetable`] the times of a network's events, and [`write_summary`] what a generated day comes to.
 //! Where a write fails the sink has taken a front of the text, and not all of it. [`Run::fits`] tells that a run's numbers are
 //! those of their types. Nothing here takes memory.
+//!
+//! # What is promised
+//!
+//! `print_run`: exactly the run's spelling in version 2, or a proper front of it where a write failed. Its condition is
+//! that the run has a spelling. `Run::fits` reads all numbers of a run and so gives that each is one of its type
+//! (`FitsRun`). `write_timetable`: exactly the lines `id; time` of all events in ascending id. `write_summary`: exactly the
+//! seven lines of a generated day. None takes memory. `dispatch` does not call `write_timetable`, and no test does.
 #![tactic(auto)]
 
 mod answers;

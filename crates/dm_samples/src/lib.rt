@@ -5,6 +5,12 @@
 //! decisions over them from a seed. [`decide`], [`undecide`] and [`violated`] are an evaluator's calls for programs that count no
 //! steps. [`report`] prints how a case came out. It stands on dm_network for networks, on dm_gen for
 //! days, on dm_rows for messages and on dm_evaluate for decisions, and promises nothing.
+//!
+//! # What is promised
+//!
+//! `decide`, `undecide` and `violated` of an evaluator, with no count of steps, for test programs: they leave an evaluator
+//! of its rows. Their clauses say the decision made at the path's end or a shown cycle with the path as it was, the path
+//! without a choice's decision, the first violated choice.
 #![tactic(auto)]
 
 mod days;

@@ -95,8 +95,10 @@ fn search_whole(
     requires sized { IsSized net.now snapshot.now.rows }
     requires penalty { penalty ≤ PENALTY }
     requires budget { budget ≤ BUDGET }
-    requires stands { Stands (whole_task net.now snapshot.now.rows penalty budget) standing.nodes.items standing.best.choices standing.best.cost }
-    ensures stands { IfOk result (λ s. Stands (whole_task net.now snapshot.now.rows penalty budget) s.nodes.items s.best.choices s.best.cost) }
+    requires stands { Stands (whole_task net.now snapshot.now.rows penalty budget) standing.nodes.items standing.best.choices
+        standing.best.cost }
+    ensures stands { IfOk result (λ s. Stands (whole_task net.now snapshot.now.rows penalty budget) s.nodes.items s.best.choices
+        s.best.cost) }
     ensures used { IfOk result (λ s. (c : ℕ) → Contains s.nodes.items (OpenNode c) → IsUsedUp budget (length s.nodes.items) s.best.cost c) }
 {
     let guide = guide_for(alloc, net, penalty, snapshot, &standing, budget)?;
@@ -115,8 +117,10 @@ fn search_guided(
     requires sized { IsSized net.now snapshot.now.rows }
     requires penalty { penalty ≤ PENALTY }
     requires budget { budget ≤ BUDGET }
-    requires stands { Stands (whole_task net.now snapshot.now.rows penalty budget) standing.nodes.items standing.best.choices standing.best.cost }
-    ensures stands { IfOk result (λ s. Stands (whole_task net.now snapshot.now.rows penalty budget) s.nodes.items s.best.choices s.best.cost) }
+    requires stands { Stands (whole_task net.now snapshot.now.rows penalty budget) standing.nodes.items standing.best.choices
+        standing.best.cost }
+    ensures stands { IfOk result (λ s. Stands (whole_task net.now snapshot.now.rows penalty budget) s.nodes.items s.best.choices
+        s.best.cost) }
     ensures used { IfOk result (λ s. (c : ℕ) → Contains s.nodes.items (OpenNode c) → IsUsedUp budget (length s.nodes.items) s.best.cost c) }
 {
     let mut evaluator = evaluator_of(alloc, net, snapshot)?;
@@ -146,8 +150,10 @@ fn search_with(
     requires penalty { penalty ≤ PENALTY }
     requires evaluator { IsOver net.now snapshot.now.rows evaluator.old }
     requires budget { budget ≤ BUDGET }
-    requires stands { Stands (whole_task net.now snapshot.now.rows penalty budget) standing.nodes.items standing.best.choices standing.best.cost }
-    ensures stands { IfOk result (λ s. Stands (whole_task net.now snapshot.now.rows penalty budget) s.nodes.items s.best.choices s.best.cost) }
+    requires stands { Stands (whole_task net.now snapshot.now.rows penalty budget) standing.nodes.items standing.best.choices
+        standing.best.cost }
+    ensures stands { IfOk result (λ s. Stands (whole_task net.now snapshot.now.rows penalty budget) s.nodes.items s.best.choices
+        s.best.cost) }
     ensures used { IfOk result (λ s. (c : ℕ) → Contains s.nodes.items (OpenNode c) → IsUsedUp budget (length s.nodes.items) s.best.cost c) }
 {
     let path = guide.path.as_slice();
@@ -176,8 +182,10 @@ fn improve(
     requires penalty { penalty ≤ PENALTY }
     requires evaluator { IsOver net.now snapshot.now.rows evaluator.old }
     requires budget { budget ≤ BUDGET }
-    requires stands { Stands (whole_task net.now snapshot.now.rows penalty budget) standing.nodes.items standing.best.choices standing.best.cost }
-    ensures stands { IfOk result (λ s. Stands (whole_task net.now snapshot.now.rows penalty budget) s.nodes.items s.best.choices s.best.cost) }
+    requires stands { Stands (whole_task net.now snapshot.now.rows penalty budget) standing.nodes.items standing.best.choices
+        standing.best.cost }
+    ensures stands { IfOk result (λ s. Stands (whole_task net.now snapshot.now.rows penalty budget) s.nodes.items s.best.choices
+        s.best.cost) }
     ensures evaluator { IsOver net.now snapshot.now.rows evaluator.new }
 {
     let Standing { nodes, best } = standing;
@@ -202,8 +210,10 @@ fn last_traversal(
     requires penalty { penalty ≤ PENALTY }
     requires evaluator { IsOver net.now snapshot.now.rows evaluator.old }
     requires budget { budget ≤ BUDGET }
-    requires stands { Stands (whole_task net.now snapshot.now.rows penalty budget) standing.nodes.items standing.best.choices standing.best.cost }
-    ensures stands { IfOk result (λ s. Stands (whole_task net.now snapshot.now.rows penalty budget) s.nodes.items s.best.choices s.best.cost) }
+    requires stands { Stands (whole_task net.now snapshot.now.rows penalty budget) standing.nodes.items standing.best.choices
+        standing.best.cost }
+    ensures stands { IfOk result (λ s. Stands (whole_task net.now snapshot.now.rows penalty budget) s.nodes.items s.best.choices
+        s.best.cost) }
     ensures used { IfOk result (λ s. (c : ℕ) → Contains s.nodes.items (OpenNode c) → IsUsedUp budget (length s.nodes.items) s.best.cost c) }
 {
     let limit = standing.best.cost;
@@ -325,8 +335,10 @@ fn traverse_all(
     requires penalty { penalty ≤ PENALTY }
     requires evaluator { IsOver net.now snapshot.now.rows evaluator.old }
     requires budget { budget ≤ BUDGET }
-    requires stands { Stands (whole_task net.now snapshot.now.rows penalty budget) standing.nodes.items standing.best.choices standing.best.cost }
-    ensures stands { IfOk result (λ s. Stands (whole_task net.now snapshot.now.rows penalty budget) s.nodes.items s.best.choices s.best.cost) }
+    requires stands { Stands (whole_task net.now snapshot.now.rows penalty budget) standing.nodes.items standing.best.choices
+        standing.best.cost }
+    ensures stands { IfOk result (λ s. Stands (whole_task net.now snapshot.now.rows penalty budget) s.nodes.items s.best.choices
+        s.best.cost) }
     ensures evaluator { IsOver net.now snapshot.now.rows evaluator.new }
 {
     let guide = no_guide(alloc);

@@ -1,8 +1,27 @@
 //! The search for plans, and why true plans are right.
 //!
-//! It stands on dm_relax for the relaxed problem of a path, and on dm_tree for trees and plans. [`step`] says what a search does
-//! with a path, [`finish`] searches on from a tree, and [`plan`] from nothing. The law says that the choices of a true plan that is marked optimal are optimal, that no choices cost less
-//! than the bound of a true plan, and how many nodes are enough; it holds of every task within allowed choices.
+//! It stands on dm_relax for the relaxed problem of a path, and on dm_tree for trees and plans. [`step`] says what a search
+//! does with a path, [`finish`] searches on from a tree, and [`plan`] from nothing. The law says that the choices of a true
+//! plan that is marked optimal are optimal, that no choices cost less than the bound of a true plan, and how many nodes are
+//! enough; it holds of every task within allowed choices.
+//!
+//! # What is promised
+//!
+//! `step` says exactly what a search does with a path: a cycle, pruned, solved with the completion's differences, or the
+//! first violated choice, each exactly where it comes.
+//!
+//! `finish` ends a search from any tree of which the inner nodes, the cycles and the costs at the leaves are right, within
+//! a budget of 1 to 16,384 nodes, and from any choices that cost no more than the rows' own: what it gives is a true plan
+//! of the snapshot's rows for the budget, with the snapshot's entry, or want of memory; how it searches is outside its
+//! clause. `plan` does so from nothing, for rows that have no cycle.
+//!
+//! A guide finds good choices and a tree that tells much; the tree is then gone through in preorder, each node judged anew
+//! by an evaluator that is brought from path to path; what is left of the budget goes, in traversals whose cost limit rises, to
+//! the leaves that cost least.
+//!
+//! Laws: `optimal_plans_are_optimal` (the choices of a true plan that is marked optimal are optimal and its bound is its
+//! cost; no choices cost less than the bound of a true plan; with k choices allowed, a budget of 2^(k+1) - 1 nodes makes a
+//! true plan optimal) and `a_hole_is_a_start` (a tree of one hole and no choices will do where the rows have no cycle).
 #![tactic(auto)]
 
 mod finishing;

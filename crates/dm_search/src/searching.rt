@@ -165,8 +165,10 @@ pub(crate) fn traverse(
     requires penalty { penalty ≤ PENALTY }
     requires evaluator { IsOver net.now snapshot.now.rows evaluator.old }
     requires budget { budget ≤ BUDGET }
-    requires stands { Stands (whole_task net.now snapshot.now.rows penalty budget) standing.nodes.items standing.best.choices standing.best.cost }
-    ensures stands { IfOk result (λ s. Stands (whole_task net.now snapshot.now.rows penalty budget) s.nodes.items s.best.choices s.best.cost) }
+    requires stands { Stands (whole_task net.now snapshot.now.rows penalty budget) standing.nodes.items standing.best.choices
+        standing.best.cost }
+    ensures stands { IfOk result (λ s. Stands (whole_task net.now snapshot.now.rows penalty budget) s.nodes.items s.best.choices
+        s.best.cost) }
     ensures used { IfOk result (λ s. (c : ℕ) → Contains s.nodes.items (OpenNode c) → IsUsedUp budget (length s.nodes.items) limit c) }
     ensures no_dearer { IfOk result (λ s. s.best.cost ≤ standing.best.cost) }
     ensures evaluator { IsOver net.now snapshot.now.rows evaluator.new }
@@ -252,7 +254,8 @@ fn advance(
     requires best { AreBest (whole_task net.now snapshot.now.rows penalty budget) best.choices best.cost }
     requires search { IsSearched (whole_task net.now snapshot.now.rows penalty budget) limit best.cost
         search.old.nodes.items (node ∷ reverse search.old.due.items) search.old.path.items }
-    ensures advanced { IfOk result (IsAdvanced (whole_task net.now snapshot.now.rows penalty budget) limit (length search.old.nodes.items) best.cost
+    ensures advanced { IfOk result (IsAdvanced (whole_task net.now snapshot.now.rows penalty budget) limit (length search.old.nodes.items)
+        best.cost
         search.new.nodes.items (reverse search.new.due.items) search.new.path.items) }
     ensures evaluator { IsOver net.now snapshot.now.rows evaluator.new }
 {
@@ -308,7 +311,8 @@ fn place(
     requires best { AreBest (whole_task net.now snapshot.now.rows penalty budget) best.choices best.cost }
     requires search { IsSearched (whole_task net.now snapshot.now.rows penalty budget) limit best.cost
         search.old.nodes.items (leaf ∷ reverse search.old.due.items) search.old.path.items }
-    ensures advanced { IfOk result (IsAdvanced (whole_task net.now snapshot.now.rows penalty budget) limit (length search.old.nodes.items) best.cost
+    ensures advanced { IfOk result (IsAdvanced (whole_task net.now snapshot.now.rows penalty budget) limit (length search.old.nodes.items)
+        best.cost
         search.new.nodes.items (reverse search.new.due.items) search.new.path.items) }
 {
     net.sound();

@@ -1,8 +1,8 @@
 //! The calls of a server, by one pass and by two.
 //!
 //! On a connection at one station a delay is entered and asked about, messages are refused, and a pass that was split is joined
-//! again. For each case it prints `NAME ok`, or after how many calls it came out otherwise. What is due was worked out by hand. It
-//! stands on dm_server for what it tries and on dm_samples for the network, and promises nothing.
+//! again. For each case it prints `NAME ok`, or after how many calls it came out otherwise. What is due was worked out by hand.
+//! It stands on dm_server for what it tries and on dm_samples for the network, and promises nothing.
 #![tactic(auto)]
 
 mod answers;

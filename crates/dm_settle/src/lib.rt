@@ -7,6 +7,14 @@
 //! the graph, and it reads the rows of few events ([`settle`]). With every event marked it is the computation from
 //! scratch ([`least_times`]), which shows a cycle exactly where the held activities have one. [`Watcher`]s are told of each
 //! time that a sweep writes. Every time is below 2^38 seconds.
+//!
+//! # What is promised
+//!
+//! `least_times`: the least timetable of the constraints that it is given, every time below 2^38, or a cycle of held
+//! activities exactly where there is one. `settle`: from marked events alone, without memory, the least timetable of the
+//! constraints as they are now, with a bound on the rows of arcs that it reads. Two `Watcher`s are told of each time that a
+//! sweep writes, before it is written, with the event's two rows; `settle_watched` ensures that one that knew the old times
+//! knows the new ones.
 #![tactic(auto)]
 
 mod constraints;

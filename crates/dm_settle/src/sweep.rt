@@ -38,7 +38,9 @@ pub fn settle<L: Ledger>(
     ensures early { AreEarly times.new }
     ensures room { length marks.new ≡ length marks.old }
     ensures none_left { NoneFrom marks.new 0 }
-    ensures few_reads { ReadsFew (arcs_given net.now constraints.now) ranks.now (record { marks = marks.old; times = times.old; steps = steps.old }) (record { marks = marks.new; times = times.new; steps = steps.new }) }
+    ensures few_reads { ReadsFew (arcs_given net.now constraints.now) ranks.now
+        (record { marks = marks.old; times = times.old; steps = steps.old })
+        (record { marks = marks.new; times = times.new; steps = steps.new }) }
 {
     settle_watched(
         marks,
@@ -75,7 +77,9 @@ pub fn settle_watched<L: Ledger, W: Watcher, V: Watcher>(
     ensures early { AreEarly times.new }
     ensures room { length marks.new ≡ length marks.old }
     ensures none_left { NoneFrom marks.new 0 }
-    ensures few_reads { ReadsFew (arcs_given net.now constraints.now) ranks.now (record { marks = marks.old; times = times.old; steps = steps.old }) (record { marks = marks.new; times = times.new; steps = steps.new }) }
+    ensures few_reads { ReadsFew (arcs_given net.now constraints.now) ranks.now
+        (record { marks = marks.old; times = times.old; steps = steps.old })
+        (record { marks = marks.new; times = times.new; steps = steps.new }) }
     ensures knows { W.knows watcher.new net.now constraints.now times.new }
     ensures flags { W.flags watcher.new ≡ W.flags watcher.old }
     ensures other_knows { V.knows other.new net.now constraints.now times.new }
@@ -121,7 +125,9 @@ fn renew<L: Ledger, W: Watcher, V: Watcher>(
     requires early { TailsAreEarly (graph_given net.now constraints.now) times.old event }
     requires knows { W.knows watcher.old net.now constraints.now times.old }
     requires other_knows { V.knows other.old net.now constraints.now times.old }
-    ensures renews { Renews result (graph_given net.now constraints.now) ranks.now event (record { marks = marks.old; times = times.old; steps = steps.old }) (record { marks = marks.new; times = times.new; steps = steps.new }) }
+    ensures renews { Renews result (graph_given net.now constraints.now) ranks.now event
+        (record { marks = marks.old; times = times.old; steps = steps.old })
+        (record { marks = marks.new; times = times.new; steps = steps.new }) }
     ensures knows { W.knows watcher.new net.now constraints.now times.new }
     ensures flags { W.flags watcher.new ≡ W.flags watcher.old }
     ensures other_knows { V.knows other.new net.now constraints.now times.new }

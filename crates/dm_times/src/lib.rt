@@ -5,6 +5,13 @@
 //! caller chooses, from the [`constraints_holding`] them; [`cost`] gives exactly what that timetable costs. Every time is
 //! below 2^38 seconds, and every cost below 2^100 thousandths of passenger seconds. Its laws say that rows can be met exactly
 //! where they have no cycle, and which messages never make one.
+//!
+//! # What is promised
+//!
+//! `least`: the rows' least timetable, or a cycle of them by ids exactly where there is one; `least_holding` the same of
+//! activities that the caller chooses. `cost`: exactly the cost of the rows' least timetable, below 2^100, without memory;
+//! `cost_charging` the same with a charge for any changes. Laws: rows reached by messages, by decisions on free choices or
+//! relaxed by a path can be met exactly where they have no cycle; a delay, a pass, a drop and a clock never make one.
 #![tactic(auto)]
 
 mod charging;

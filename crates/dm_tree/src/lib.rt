@@ -6,6 +6,17 @@
 //! [`Tree::second_child`] leads past the first child's tree, [`Tree::child_towards`] from the root to a node, and
 //! [`turn_back`] from a leaf's path to that of the next node.
 //! A path may be 8,191 decisions long, so all is walked by loops. No time and no cost is computed here.
+//!
+//! # What is promised
+//!
+//! What trees of choices, relaxed problems, true plans and optimal choices are. `Tree::from_nodes` takes nodes exactly
+//! where they are one whole tree in preorder; `leaves` gives a tree's leaves with their paths; `assemble` the least tree
+//! that has given leaves, or answers exactly that no tree has them. `Tree::second_child` and `child_towards` lead from the
+//! root to any node, choice by choice and without memory; the decisions on the way are the path at which the node stands.
+//!
+//! Laws: a worked plan is true; the present choices marked optimal with one leaf are not, nor is, at a budget of seven
+//! nodes, the plan with its root as one open leaf; nothing refuses the choices of a true plan where the history has room
+//! (`true_plans_are_admitted`). That `assemble` ends with a tree too large to count is want of memory.
 #![tactic(auto)]
 
 mod adopting;

@@ -1,8 +1,8 @@
 -- The run texts are exactly the good ones.
-use Rattle.std.proofs.Common.{◌≡◌, ℕ, ◌≤◌, List, length, sym, subst}
+use Rattle.std.proofs.Common.{ℕ, ◌≤◌, List, length, subst}
 use Rattle.std.specs.Prelude.{count_by, ◌↔◌}
 use Rattle.dm_base.specs.declared.limits.TheConstants.{PENALTY}
-use Rattle.dm_network.specs.Net.{Net, IsWithinLimits}
+use Rattle.dm_network.specs.Net.{Net, EventIdsFit, IsWithinLimits}
 use Rattle.dm_network.specs.Start.{IsNetwork}
 use Rattle.dm_rows.specs.Rows.{RowsValue, RowsAreWithinLimits}
 use Rattle.dm_cert.specs.Answers.{is_plan}
@@ -12,7 +12,7 @@ use Rattle.dm_check.specs.declared.verdicts.Verdict.{Verdict}
 use Rattle.dm_check.specs.declared.verdicts.Verdict.TheVariants.{Good, Bad}
 use Rattle.dm_check.specs.FalseRecords.{IsVerdict}
 use Rattle.dm_check.proofs.ToldOnce.{verdicts_are_one}
-use Rattle.dm_truth.specs.Laws.{RunTextsAreTheGoodOnes, EventIdsFit, HasNoFalseRecord, SaysGood}
+use Rattle.dm_truth.specs.Laws.{RunTextsAreTheGoodOnes, HasNoFalseRecord, SaysGood}
 use Rattle.dm_truth.proofs.ToldRuns.{good_texts_are_true}
 use Rattle.dm_truth.proofs.WholeRuns.{true_texts_are_good}
 

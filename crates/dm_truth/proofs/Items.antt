@@ -18,7 +18,7 @@ use Rattle.dm_records.specs.RunLines.{lone, IsFormedSaid, IsFormedReply, IsItemL
 use Rattle.dm_records.proofs.ItemsRead.{said_body, malformed_text}
 use Rattle.dm_records.proofs.Splitting.{parts_no_feed}
 use Rattle.dm_check.specs.FalseRecords.{TellsItem, IsNextItem}
-use Rattle.dm_truth.proofs.Lines.{number_then}
+use Rattle.dm_records.proofs.LinesSpelled.{number_then}
 use Rattle.dm_truth.proofs.PlanItems.{plan_told}
 use Rattle.dm_truth.proofs.Replies.{reply_line, formed_or_plan, IsPlanned}
 use Rattle.dm_truth.proofs.Standing.{IsTold, line_stands}

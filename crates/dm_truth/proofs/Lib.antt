@@ -1,11 +1,9 @@
 pub mod Counted
-pub mod Each
 pub mod Standing
 pub mod Lines
 pub mod Replies
 pub mod PlanItems
 pub mod Items
-pub mod Named
 pub mod Truths
 pub mod Logs
 pub mod WholeRuns
@@ -16,4 +14,3 @@ pub mod ToldEach
 pub mod OnceNamed
 pub mod ToldRuns
 pub mod BothWays
-pub mod EventIds

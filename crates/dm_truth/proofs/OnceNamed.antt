@@ -10,8 +10,8 @@ use Rattle.dm_cert.specs.declared.replies.FeedLog.{FeedLog}
 use Rattle.dm_cert.specs.Answers.{Setting, IsEntry, IsTrueAnswer}
 use Rattle.dm_cert.specs.Logs.{kind_of, line_of, number_after, names, all_items, AreTrueAnswers, IsInOrder}
 use Rattle.dm_check.specs.FalseRecords.{AreNamed}
-use Rattle.dm_truth.proofs.Each.{Each}
-use Rattle.dm_truth.proofs.Named.{CameFrom, item_named, IsTrueBehind}
+use Rattle.dm_records.proofs.Each.{Each}
+use Rattle.dm_records.proofs.Named.{CameFrom, item_named, IsTrueBehind}
 
 -- of some items behind a line none names the entry, or one does, and the entry came from a later line of this feed
 abbrev IsOnce : Entry → ℕ → ℕ → ℕ → Type 0

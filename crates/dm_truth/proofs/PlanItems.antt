@@ -32,7 +32,7 @@ use Rattle.dm_records.proofs.Splitting.{parts_no_feed}
 use Rattle.dm_check.specs.declared.faults.Fault.{Fault}
 use Rattle.dm_check.specs.declared.verdicts.BadKind.TheVariants as kind
 use Rattle.dm_check.specs.FalseRecords.{bad, Reads, TellsItem, IsNextItem, IsNextPlan, plan_opened}
-use Rattle.dm_truth.proofs.Lines.{number_then}
+use Rattle.dm_records.proofs.LinesSpelled.{number_then}
 use Rattle.dm_truth.proofs.Standing.{IsTold}
 
 -- ---- lines that are told are told whatever the faults of others are

@@ -28,7 +28,7 @@ use Rattle.dm_cert.specs.PlanTexts.{line_end, largest_cost}
 use Rattle.dm_cert.specs.RunTexts.{reply_text, reason_text, spaced_id, FitsReason, FitsReply, IsSpelledReason, IsSpelledReply}
 use Rattle.dm_cert.proofs.LineFeeds.{NoFeed, no_feed_append, no_feed_decimal}
 use Rattle.dm_records.specs.RunLines.{IsFormedReason, IsFormedReply}
-use Rattle.dm_truth.proofs.Lines.{number_then}
+use Rattle.dm_records.proofs.LinesSpelled.{number_then}
 
 -- ---- an answer of one line
 

@@ -8,7 +8,7 @@ use Rattle.dm_check.specs.declared.faults.Fault.{Fault}
 use Rattle.dm_check.specs.declared.verdicts.BadKind.{BadKind}
 use Rattle.dm_check.specs.FalseRecords.{Reads, Rules}
 use Rattle.dm_check.proofs.Spelled.{texts_from}
-use Rattle.dm_truth.proofs.Each.{Each}
+use Rattle.dm_records.proofs.Each.{Each}
 
 -- the value is told at the place, and this is left behind what it was read from
 pub record Told {V : Type 0} (tells : Place → Result (V × Place) Fault → Type 0) (v : V) (place : Place) (rest : List ℕ) : Type 0 where

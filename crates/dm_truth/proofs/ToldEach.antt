@@ -3,7 +3,7 @@ use Rattle.std.proofs.Common.{◌≡◌, ℕ, zero, suc, List, [], ◌∷◌, �
 use Rattle.dm_text.specs.Places.{Place}
 use Rattle.dm_text.specs.Judging.{Times}
 use Rattle.dm_check.specs.declared.faults.Fault.{Fault}
-use Rattle.dm_truth.proofs.Each.{Each}
+use Rattle.dm_records.proofs.Each.{Each}
 
 record ToldBehind {V : Type 0} (P : List V → V → Type 0) (n : ℕ) (before all : List V) : Type 0 where
   tail : List V

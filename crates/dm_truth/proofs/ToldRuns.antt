@@ -27,9 +27,9 @@ use Rattle.dm_check_answers.specs.Judging.{line_before, number_before}
 use Rattle.dm_check.specs.FalseRecords.{IsNextNote, TellsEntry, TellsItem, TellsLog, TellsNote, TellsTime, entry_before}
 use Rattle.dm_check.proofs.Spelled.{good_is_spelled_so}
 use Rattle.dm_truth.specs.Laws.{GoodTextsAreTrue}
-use Rattle.dm_truth.proofs.Each.{Each, each_at, each_weaker, all_of_each}
+use Rattle.dm_records.proofs.Each.{Each, each_at, each_weaker, all_of_each}
 use Rattle.dm_truth.proofs.Limits.{least_low, legal_within}
-use Rattle.dm_truth.proofs.Named.{IsTrueBehind}
+use Rattle.dm_records.proofs.Named.{IsTrueBehind}
 use Rattle.dm_truth.proofs.Numbers.{IsSound}
 use Rattle.dm_truth.proofs.OnceNamed.{named_once}
 use Rattle.dm_truth.proofs.ToldEach.{told_each, Says}

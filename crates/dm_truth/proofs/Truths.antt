@@ -20,8 +20,8 @@ use Rattle.dm_cert.specs.Runs.{IsTrueNote, AreTrueNotes}
 use Rattle.dm_records.specs.RunLines.{Numbered, Timed}
 use Rattle.dm_check_answers.specs.Judging.{line_before, number_before}
 use Rattle.dm_check.specs.FalseRecords.{IsNextEntry, IsNextItem, AreNamed, IsNextNote, IsNextTime, entry_before}
-use Rattle.dm_truth.proofs.Each.{Each, each_of_splits, all_there}
-use Rattle.dm_truth.proofs.Named.{IsTrueBehind, named_somewhere}
+use Rattle.dm_records.proofs.Each.{Each, each_of_splits, all_there}
+use Rattle.dm_records.proofs.Named.{IsTrueBehind, named_somewhere}
 
 -- ---- values at their places
 

@@ -5,6 +5,7 @@ use Rattle.std.specs.Fmt.{decimal}
 use Rattle.dm_base.specs.declared.limits.TheConstants.{ENTRIES, FEEDS, BOARDS}
 use Rattle.dm_text.specs.Places.{Place, at_start}
 use Rattle.dm_text.specs.Judging.{Times, Then, Demands}
+use Rattle.dm_network.specs.Net.{EventIdsFit}
 use Rattle.dm_rows.specs.Rows.{RowsValue}
 use Rattle.dm_rows.specs.Cost.{Costs}
 use Rattle.dm_feed.specs.Parts.{largest_id, largest_value}
@@ -19,20 +20,18 @@ use Rattle.dm_records.proofs.HeldRuns.{is_in_print}
 use Rattle.dm_check.specs.declared.verdicts.BadKind.TheVariants as kind
 use Rattle.dm_check.specs.FalseRecords.{bad, Reads, IsNextEntry, TellsEntry, TellsLog, TellsBoards, IsNextNote, TellsNote, IsNextTime, TellsTime, TellsCost, TellsEnd, TellsNumber, TellsRest, TellsBody, TellsRun}
 use Rattle.dm_check.proofs.Spelled.{texts_from, same_each, entries_same, logs_same, times_same, timed_text, regroup_all}
-use Rattle.dm_truth.specs.Laws.{EventIdsFit, TrueTextsAreGood}
-use Rattle.dm_truth.proofs.Each.{Each, each_of_splits, each_both, all_there}
-use Rattle.dm_truth.proofs.Lines.{number_line, version_has_line, word_line}
+use Rattle.dm_truth.specs.Laws.{TrueTextsAreGood}
+use Rattle.dm_records.proofs.Each.{Each, each_of_splits, each_both, all_there}
+use Rattle.dm_records.proofs.LinesSpelled.{counted, number_line, version_has_line}
+use Rattle.dm_truth.proofs.Lines.{word_line}
 use Rattle.dm_truth.proofs.Logs.{entry_told, note_told, time_told, log_told, IsPrintedLog}
-use Rattle.dm_truth.proofs.Named.{IsTrueBehind}
+use Rattle.dm_records.proofs.Named.{IsTrueBehind}
 use Rattle.dm_truth.proofs.Standing.{Told, IsTold, line_stands, rule_stands, then_stands, all_stand}
 use Rattle.dm_truth.proofs.Truths.{numbered_next, entries_next, logs_behind, all_named, notes_next, timed_next, times_next}
 
 -- ---- lines with a number
 
 -- the text of a line of a number
-abbrev counted : List ℕ → ℕ → List ℕ
-counted words n = words ++ (decimal n ++ line_end)
-
 number_stands : (words : List ℕ) (rule : ℕ → Type 0) (n : ℕ) (place : Place) (rest : List ℕ) → NoFeed words → n ≤ largest_cost → rule n → place.left ≡ counted words n ++ rest →
     Told (TellsNumber words rule) n place rest
 number_stands words rule n place rest none fits holds left =
@@ -96,7 +95,7 @@ module _ (version : ℕ) (start : RowsValue) (run : Run) (text : List ℕ) (ids 
   times_told : Each (IsTold (TellsTime run.net rows) (timed_text run.net)) [] run.times
   times_told =
       each_both (λ before t. IsNextTime run.net rows before (timed_next run.net before t)) (λ before t. t ≤ largest_value) (IsTold (TellsTime run.net rows) (timed_text run.net))
-      (λ before t next low. time_told run.net rows before t next (ids (length before)) (omega arith)) [] run.times
+      (λ before t next low. time_told run.net rows before t next (let id = ids (length before) in omega (arith, id)) (omega arith)) [] run.times
       (times_next run.net rows run.times is.is_true.least)
       (each_of_splits (λ before t. t ≤ largest_value) run.times (λ before t later e. all_there (λ x. x ≤ largest_value) before t later (subst (All (λ x. x ≤ largest_value)) e is.fits.times)) [] run.times refl)
 

@@ -1,10 +1,9 @@
 -- What the verdict on a text says of runs.
 use Rattle.std.specs.Prelude.{ℕ, ◌≤◌, ◌↔◌, List, length, count_by}
 use Rattle.dm_base.specs.declared.limits.TheConstants.{PENALTY}
-use Rattle.dm_network.specs.Net.{Net, event_at, IsWithinLimits}
+use Rattle.dm_network.specs.Net.{Net, EventIdsFit, IsWithinLimits}
 use Rattle.dm_network.specs.Start.{IsNetwork}
 use Rattle.dm_rows.specs.Rows.{RowsValue, RowsAreWithinLimits}
-use Rattle.dm_feed.specs.Parts.{largest_id}
 use Rattle.dm_cert.specs.Answers.{is_plan}
 use Rattle.dm_cert.specs.Logs.{all_items}
 use Rattle.dm_cert.specs.RunTexts.{Run}
@@ -12,10 +11,6 @@ use Rattle.dm_cert.specs.Runs.{IsTextOf, IsRunText}
 use Rattle.dm_check.specs.declared.verdicts.Verdict.{Verdict}
 use Rattle.dm_check.specs.declared.verdicts.Verdict.TheVariants.{Good, Bad}
 use Rattle.dm_check.specs.FalseRecords.{IsVerdict}
-
--- the ids of events are below 2^32, as those of every network in memory are
-abbrev pub EventIdsFit : Net → Type 0
-EventIdsFit net = (i : ℕ) → (event_at net i).id.0 ≤ largest_id
 
 -- The text, in either version, of a true run over a network is good, with as many entries as its history and as many plans as
 -- its logs have.

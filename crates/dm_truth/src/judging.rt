@@ -2,13 +2,12 @@
 ghost use Rattle.std.specs.Prelude.{◌≤◌, ◌↔◌, length, IfOk};
 ghost use Rattle.dm_base.specs.declared.limits.TheConstants.{TEXT, PENALTY};
 ghost use Rattle.dm_rows.specs.Rows.{IsSized};
-ghost use Rattle.dm_feed.specs.Parts.{largest_id};
 ghost use Rattle.dm_cert.specs.Runs.{IsRunText};
 ghost use Rattle.dm_check.specs.FalseRecords.{IsVerdict};
-ghost use Rattle.dm_truth.specs.Laws.{EventIdsFit, SaysGood};
+ghost use Rattle.dm_truth.specs.Laws.{SaysGood};
 
 use dm_check::{Verdict, check};
-use dm_network::{Event, Network};
+use dm_network::Network;
 use dm_rows::Rows;
 use std::alloc::{AllocError, Global};
 
@@ -30,25 +29,9 @@ pub fn judge(
     ensures good { IfOk result (λ verdict. SaysGood verdict ↔ IsRunText net.now start.now penalty text.now) }
 {
     net.sound();
-    ids_fit(net);
     start.is_within_limits();
     match check(alloc, net, start, penalty, text) {
         Ok(verdict) => Ok(verdict),
         Err(AllocError) => Err(AllocError),
     }
-}
-
-/// The ids of events are numbers of 32 bits. A caller learns it here.
-fn ids_fit(net: &Network)
-    ensures { EventIdsFit net.now }
-{
-    for place in 0..net.events() {
-        id_fits(net.event(place));
-    }
-}
-
-fn id_fits(event: &Event)
-    ensures { event.now.id.0 ≤ largest_id }
-{
-    let _id = event.id.0;
 }

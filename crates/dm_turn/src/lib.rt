@@ -5,6 +5,15 @@
 //! rule in `specs/Rule.antt` holds between any two steps, so whoever takes the state sees all that was seen before, and
 //! at the end the own entries of all passes are the history from its opening on, each once. No call but `new` takes
 //! memory. That a call which waits returns is not promised.
+//!
+//! # What is promised
+//!
+//! `Turn::new`, `split`, `join`, `take`, `add`, `give`, `close`: one history over all passes. What a pass has seen is a
+//! front of it; `take` gives the state whose history is what the pass has then seen; `add` enters exactly one entry under
+//! its number; at `close` the pass's own numbers are exactly those above the opening length. `take` waits, so it promises
+//! if it returns. All but `new` take no memory.
+//!
+//! `rest` has no clause: it is to wake one caller that stands back, and how soon anybody is served is not promised.
 #![tactic(auto)]
 
 mod parking;

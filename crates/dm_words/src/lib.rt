@@ -3,6 +3,12 @@
 //! It stands on dm_lintim for column words and on dm_base for numbers and limits. [`read_words`] gives what the words of
 //! `run`, `check` and `gen` ask for, exactly where they ask for something, and takes no memory. [`board_words`] gives the
 //! stops of the boards that a run is to have. That words ask for one thing at most is a law.
+//!
+//! # What is promised
+//!
+//! `read_words` reads the words of `run`, `check` and `gen` exactly as the tables have them, without memory: what is asked
+//! for exactly where the words are in them, and nothing exactly outside. `board_words` gives the stops of the boards of a
+//! run's words, else none, and may want memory. Words ask for one thing at most.
 #![tactic(auto)]
 
 mod boards;

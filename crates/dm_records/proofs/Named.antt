@@ -16,7 +16,7 @@ use Rattle.dm_cert.specs.declared.replies.LogItem.TheVariants.{Malformed, Answer
 use Rattle.dm_cert.specs.declared.replies.FeedLog.{FeedLog}
 use Rattle.dm_cert.specs.Answers.{Setting, latest_plan, IsEntry, IsAdopted, IsTrueReply, IsTrueAnswer}
 use Rattle.dm_cert.specs.Logs.{kind_of, line_of, number_after, names, all_items, AreTrueAnswers, IsInOrder, IsTrueLog}
-use Rattle.dm_truth.proofs.Each.{Each}
+use Rattle.dm_records.proofs.Each.{Each}
 
 -- the entry of this number came from this line of this feed
 pub record CameFrom (history : List Entry) (feed line n : ℕ) : Type 0 where
