@@ -1,0 +1,4 @@
+pub mod Counts
+pub mod Lowest
+pub mod Standing
+pub mod Keeps
