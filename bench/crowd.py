@@ -1,0 +1,115 @@
+#!/usr/bin/env python3
+"""Runs 64 feeds at once, again and again: python3 bench/crowd.py DISPATCHER [RUNS] [--beside=N]
+
+Each of RUNS runs (10,000 where none are given) answers 64 feeds of ten lines each, drawn from its number, over a generated day of
+20 trains, with batches of 1, 3, 16 and 1,000 lines in turn; N runs go on beside each other (by default as many as there are
+processors). Of each run
+
+    it ends with status 0 within a minute
+    `DISPATCHER check` tells its text good
+    each log answers all ten lines, and ends with `end`
+    the logs keep to rounds of the batch
+
+What differs is printed with the folder of its feeds, which is left there, and the status is then 1.
+"""
+import argparse
+import os
+import subprocess
+import sys
+import tempfile
+import time
+from concurrent.futures import ThreadPoolExecutor
+
+from day import Draws, mixed, write_day, write_feed
+from fuzz import keeps_rounds
+
+sys.path.insert(0, os.path.join(os.path.dirname(os.path.abspath(__file__)), '..', 'tools'))
+
+from runtext import Bad, read_run  # noqa: E402
+
+RUNS = 10_000
+TRAINS = 20
+EVENTS = 20 * TRAINS
+FEEDS = 64
+LINES = 10
+BATCHES = (1, 3, 16, 1_000)
+SECONDS = 60
+
+
+def answer(program, folder, words):
+    """The status of a command and what it prints; None where it does not end in time."""
+    try:
+        done = subprocess.run([program, *words], cwd=folder, stdout=subprocess.PIPE, stderr=subprocess.DEVNULL, timeout=SECONDS)
+    except subprocess.TimeoutExpired:
+        return None
+    return done.returncode, done.stdout
+
+
+def fault_of_text(text, batch):
+    """What is wrong with the logs of a text, or None."""
+    try:
+        run = read_run(text, EVENTS)
+    except Bad as bad:
+        return f'line {bad.args[0]} of its text is of another form'
+    for number, log in enumerate(run.logs, 1):
+        if len(log.items) != LINES or log.stop != 'end':
+            return f'the log of feed {number} has {len(log.items)} items and ends with {log.stop}'
+    if len(run.logs) != FEEDS:
+        return f'it has {len(run.logs)} logs'
+    return None if keeps_rounds(run.logs, batch) else 'the logs do not keep to rounds'
+
+
+def fault_of_run(program, net, folder, number):
+    """What is wrong with a run, or None."""
+    names = [f'feed-{feed}' for feed in range(1, FEEDS + 1)]
+    for feed, name in enumerate(names):
+        write_feed(folder, name, mixed(Draws(FEEDS * number + feed), TRAINS), LINES)
+    batch = BATCHES[number % len(BATCHES)]
+    came = answer(program, folder, ['run', net, f'--batch={batch}', *names])
+    if came is None:
+        return f'it does not end within {SECONDS} seconds'
+    status, text = came
+    if status != 0:
+        return f'its status is {status}'
+    with open(os.path.join(folder, 'text'), 'wb') as file:
+        file.write(text)
+    entries = text.split(b'\n', 4)[3].split()[-1].decode()
+    told = answer(program, folder, ['check', net, 'text'])
+    if told != (0, f'good {entries} 0\n'.encode()):
+        return f'the check tells {told}'
+    return fault_of_text(text, batch)
+
+
+def tried(program, net, number):
+    """Tries a run. It is false where something differs, which is printed."""
+    with tempfile.TemporaryDirectory() as folder:
+        fault = fault_of_run(program, net, folder, number)
+        if fault is not None:
+            kept = tempfile.mkdtemp()
+            os.rename(folder, os.path.join(kept, 'run'))
+            os.mkdir(folder)
+            print(f'run {number}: {fault}: {kept}/run', flush=True)
+    return fault is None
+
+
+def arguments():
+    words = argparse.ArgumentParser(description=__doc__, formatter_class=argparse.RawDescriptionHelpFormatter)
+    words.add_argument('program', metavar='DISPATCHER', type=os.path.abspath)
+    words.add_argument('runs', metavar='RUNS', nargs='?', type=int, default=RUNS)
+    words.add_argument('--beside', metavar='N', type=int, default=os.cpu_count())
+    return words.parse_args()
+
+
+def main():
+    given = arguments()
+    begun = time.monotonic()
+    with tempfile.TemporaryDirectory() as day, ThreadPoolExecutor(given.beside) as pool:
+        write_day(7, TRAINS, day)
+        net = os.path.join(day, 'net')
+        good = sum(pool.map(lambda number: tried(given.program, net, number), range(given.runs)))
+    print(f'{given.runs} runs of {FEEDS} feeds in {time.monotonic() - begun:.0f} s: {given.runs - good} differ')
+    sys.exit(good < given.runs)
+
+
+if __name__ == '__main__':
+    main()
