@@ -103,4 +103,5 @@ def main():
     print(f'{short} plans cost more than the best that is known')
 
 
-main()
+if __name__ == '__main__':
+    main()
