@@ -147,8 +147,8 @@ function showBoard(stop, found) {
   const table = document.createElement('table');
   const head = document.createElement('thead'), body = document.createElement('tbody');
   head.append(row(['Event', 'Train', 'Kind', 'Scheduled', 'Now', 'Late'].map(text => [text]), 'th'));
-  const board = [...atStop.get(stop)].sort((a, b) => events[a].now - events[b].now || a - b);
-  for (const place of board) {
+  const sorted = [...atStop.get(stop)].sort((a, b) => events[a].now - events[b].now || a - b);
+  for (const place of sorted) {
     const event = events[place], late = Math.max(0, event.now - event.time);
     const name = trainOf.has(place) ? trainName(trainOf.get(place)) : '';
     const tr = row([
@@ -160,8 +160,8 @@ function showBoard(stop, found) {
   }
   table.append(head, body);
   element('board').replaceChildren(table);
-  const seen = table.querySelector('.found');
-  if (seen) seen.scrollIntoView({ block: 'center' });
+  const seen = table.querySelector('.found'), board = element('board');
+  board.scrollTop = seen ? seen.offsetTop - board.clientHeight / 2 : 0;
 }
 element('stops').addEventListener('change', event => showBoard(Number(event.target.value)));
 if (stops.length) showBoard(stops[0]);

@@ -11,16 +11,21 @@ import argparse
 import json
 import os
 import sys
+from collections import Counter
 from html import escape
 
 from diagram import drawing
 from railway import BadFile
 from scene import clock_time, cost_parts, counted, lateness_class, lines_of, read_scene
 
-# At most so many lines are drawn, trees shown node by node, and lines of logs listed.
+# At most so many lines are drawn, nodes of trees shown, and items of a log listed, of longer ones as plain text, which is shorter.
 MOST_LINES = 8
 MOST_NODES = 2_000
 MOST_ITEMS = 20_000
+MOST_ROWS = 2_000
+
+# Browsers nest lists no deeper.
+MOST_DEPTH = 150
 
 
 # ---- Words for people
@@ -66,27 +71,74 @@ def cost_part(scene):
             f'</caption><tbody>{cells}</tbody></table><p class="note">On the right in thousandths of passenger seconds.</p>')
 
 
+def item_words(item):
+    """What an item of a log says, and what was answered."""
+    return 'malformed' if item.said is None else message_words(item.said), '' if item.answer is None else answer_words(item.answer)
+
+
+def log_rows(items):
+    """Items of a log as a table."""
+    rows = []
+    for item in items:
+        said, answer = map(escape, item_words(item))
+        kind = ' class="no"' if item.answer is None or item.answer.kind in ('refused', 'range', 'plans', 'noplan') else ''
+        rows.append(f'<tr{kind}><td>{item.line}</td><td>{said}</td><td>{answer}</td></tr>')
+    return f'<table><thead><tr><th>Line</th><th>Said</th><th>Answered</th></tr></thead><tbody>{"".join(rows)}</tbody></table>'
+
+
+def log_lines(items):
+    """Items of a log as lines."""
+    lines = [f'{item.line} {" -> ".join(filter(None, item_words(item)))}' for item in items]
+    return f'<pre tabindex="0">{escape(chr(10).join(lines))}</pre>'
+
+
 def journal_part(scene):
     """A table of each feed's lines with their replies."""
     tables = []
     for number, log in enumerate(scene.run.logs, 1):
-        rows = []
-        for item in log.items[:MOST_ITEMS]:
-            said = 'malformed' if item.said is None else message_words(item.said)
-            answer = '' if item.answer is None else answer_words(item.answer)
-            kind = ' class="no"' if item.answer is None or item.answer.kind in ('refused', 'range', 'plans', 'noplan') else ''
-            rows.append(f'<tr{kind}><td>{item.line}</td><td>{escape(said)}</td><td>{escape(answer)}</td></tr>')
+        listed = log.items[:MOST_ITEMS]
         left = len(log.items) - MOST_ITEMS
         more = f'<p class="note">{left} further lines are left out.</p>' if left > 0 else ''
         tables.append(f'<details{" open" if number == 1 else ""}><summary>Feed {number}: {len(log.items)} lines, {log.stop}</summary>'
-                      f'<table><thead><tr><th>Line</th><th>Said</th><th>Answered</th></tr></thead><tbody>{"".join(rows)}</tbody></table>'
-                      f'{more}</details>')
+                      f'{log_rows(listed) if len(listed) <= MOST_ROWS else log_lines(listed)}{more}</details>')
     return ''.join(tables)
+
+
+def depths_of(nodes):
+    """How many nodes lie above each node of a tree in preorder."""
+    depths, waiting = [], [0]
+    for node in nodes:
+        depths.append(waiting.pop())
+        if node[0] == 'inner':
+            waiting += [depths[-1] + 1] * 2
+    return depths
+
+
+def upper_part(nodes, most):
+    """The nodes of a tree, in preorder, down to the depth to which there are at most so many; one with nodes below that are left out
+    is ('cut', its choice, how many these are)."""
+    depths = depths_of(nodes)
+    counts, depth, whole = Counter(depths), 0, 1
+    while depth < MOST_DEPTH and depth + 1 in counts and whole + counts[depth + 1] <= most:
+        depth += 1
+        whole += counts[depth]
+    shown = []
+    for node, at in zip(nodes, depths):
+        if at < depth or at == depth and node[0] != 'inner':
+            shown.append(node)
+        elif at == depth:
+            shown.append(('cut', node[1], 0))
+        else:
+            shown[-1] = (*shown[-1][:2], shown[-1][2] + 1)
+    return shown
 
 
 def node_words(node):
     kind, *said = node
-    return f'branches on {said[0][0]} {" ".join(map(str, said[0][1:]))}' if kind == 'inner' else ' '.join(map(str, node))
+    if kind not in ('inner', 'cut'):
+        return ' '.join(map(str, node))
+    words = f'branches on {" ".join(map(str, said[0]))}'
+    return words if kind == 'inner' else f'{words}, {said[1]:,} nodes below'
 
 
 def ways(choice):
@@ -97,41 +149,41 @@ def ways(choice):
 
 
 def tree_part(nodes):
-    """The tree as lists that fold, from its nodes in preorder; `waiting` holds the second ways not yet begun."""
-    out, waiting = ['<ul class="tree"><li>'], []
+    """The tree as lists that fold, from its nodes in preorder; `waiting` has the ways to come, and None where a list ends."""
+    out, waiting = ['<ul class="tree">'], ['']
     for node in nodes:
-        if node[0] == 'inner':
-            first, second = ways(node[1])
-            out.append(f'<details open=""><summary>{node_words(node)}</summary><ul><li><b>{first}</b>: ')
-            waiting.append([second])
-            continue
-        out.append(f'<span>{node_words(node)}</span>')
-        while waiting and not waiting[-1]:
+        while waiting[-1] is None:
             waiting.pop()
-            out.append('</li></ul></details>')
-        if waiting:
-            out.append(f'</li><li><b>{waiting[-1].pop()}</b>: ')
-    out.append('</li></ul>')
-    return ''.join(out)
+            out.append('</ul></details></li>')
+        way = waiting.pop()
+        said = f'<b>{way}</b>: ' if way else ''
+        if node[0] == 'inner':
+            out.append(f'<li><details open=""><summary>{said}{node_words(node)}</summary><ul>')
+            waiting += [None, *reversed(ways(node[1]))]
+        else:
+            out.append(f'<li>{said}<span>{node_words(node)}</span></li>')
+    return ''.join([*out, '</ul></details></li>' * len(waiting), '</ul>'])
 
 
-def plan_part(feed, item):
-    """A plan with its choices and its tree."""
+def plan_part(feed, item, most):
+    """A plan with its choices and its tree, of which at most so many nodes are shown."""
     plan = item.answer.value
     choices = ''.join(f'<li>{decision_words(choice)}</li>' for choice in plan.choices) or '<li>none: the rows are as good as any</li>'
     gap = 0 if plan.cost == 0 else 100 * (plan.cost - plan.bound) / plan.cost
-    tree = tree_part(plan.nodes) if len(plan.nodes) <= MOST_NODES else f'<p class="note">{len(plan.nodes)} nodes are too many to be shown.</p>'
+    shown = upper_part(plan.nodes, most)
+    left = f'<p class="note">The {len(shown):,} nodes nearest to the root are shown.</p>' if len(shown) < len(plan.nodes) else ''
     return (f'<details><summary>Feed {feed}, line {item.line}, entry {plan.entry}: {plan.mark}, cost {cost_words(plan.cost)}, '
             f'proved bound {cost_words(plan.bound)} (gap {gap:.2f} %)</summary><h4>Choices</h4><ul class="choices">{choices}</ul>'
-            f'<h4>Tree of {len(plan.nodes)} nodes</h4>{tree}</details>')
+            f'<h4>Tree of {counted(len(plan.nodes), "node", "nodes")}</h4>{left}{tree_part(shown)}</details>')
 
 
 def plans_part(scene):
-    parts = [
-        plan_part(feed, item)
+    plans = [
+        (feed, item)
         for feed, log in enumerate(scene.run.logs, 1) for item in log.items if item.answer is not None and item.answer.kind == 'plan'
     ]
-    return ''.join(parts) or '<p>No plan was asked for.</p>'
+    most = MOST_NODES // max(1, len(plans))
+    return ''.join(plan_part(feed, item, most) for feed, item in plans) or '<p>No plan was asked for.</p>'
 
 
 def lines_part(scene):

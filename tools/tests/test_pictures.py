@@ -11,7 +11,7 @@ from samples import TOOLS, network, text
 from diagram import drawing, frame_of
 from railway import Activity, Event, Network
 from scene import cost_parts, distances, lines_of, links_of, path_of, read_scene, trains_of, turned_pairs
-from view import page, tree_part
+from view import page, tree_part, upper_part
 
 
 def scene(folder, name):
@@ -116,6 +116,13 @@ class Pages(unittest.TestCase):
         tree = xml.fromstring(tree_part(nodes))
         self.assertEqual([mark.text for mark in tree.iter('b')], ['keep 5', 'first 3 5', 'first 5 3', 'drop 5'])
         self.assertEqual([leaf.text for leaf in tree.iter('span')], ['bound 1', 'cycle', 'open 2'])
+
+    def test_upper_part_of_a_tree(self):
+        nodes = [('inner', ('change', 5)), ('inner', ('pair', 3, 5)), ('bound', 1), ('cycle',), ('open', 2)]
+        self.assertEqual(upper_part(nodes, 5), nodes)
+        self.assertEqual(upper_part(nodes, 4), [nodes[0], ('cut', ('pair', 3, 5), 2), ('open', 2)])
+        self.assertEqual(upper_part(nodes, 2), [('cut', ('change', 5), 4)])
+        self.assertIn('branches on pair 3 5, 2 nodes below', tree_part(upper_part(nodes, 4)))
 
     def test_cost_and_replies_stand_there(self):
         found = page(scene('connection', 'plan_that_is_adopted'))
