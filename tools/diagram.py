@@ -24,7 +24,8 @@ COLOURS = ('#2f6db3', '#b8860b', '#d95f02', '#b2182b', '#5b0b3b')
 DARK = ('#7db5f0', '#e6c229', '#ff9e4a', '#ff6f6f', '#e58bd0')
 
 STYLE = '''
-.page{fill:#fff}text{font:12px system-ui,sans-serif;fill:#222}.small{font-size:10px}.title{font-size:15px;font-weight:600}
+.page{fill:#fff}text{font:12px system-ui,sans-serif;fill:#222}.title{font-size:15px;font-weight:600}
+.small{font-size:10px;paint-order:stroke;stroke:#fff;stroke-width:3;stroke-linejoin:round}
 .stop,.ten{stroke:#e2e2e2;stroke-width:1}.ten{stroke:#f0f0f0}.hour{stroke:#c4c4c4;stroke-width:1}
 .plan{fill:none;stroke:#9a9a9a;stroke-width:.8}.run{fill:none;stroke-width:2;stroke-linejoin:round}
 .kept,.dropped,.missed{fill:none;stroke-width:1.6;stroke-dasharray:2 3}.kept{stroke:#00735c}.dropped{stroke:#8a8a8a}
@@ -32,7 +33,7 @@ STYLE = '''
 .passed{fill:#222}.now{stroke:#6a3d9a;stroke-width:1.5;stroke-dasharray:6 3}
 '''
 DARK_STYLE = '''
-@media (prefers-color-scheme:dark){.page{fill:#16181c}text{fill:#e6e6e6}.stop,.ten{stroke:#2c2f36}.ten{stroke:#22252a}
+@media (prefers-color-scheme:dark){.page{fill:#16181c}text{fill:#e6e6e6}.small{stroke:#16181c}.stop,.ten{stroke:#2c2f36}.ten{stroke:#22252a}
 .hour{stroke:#4a4e57}.plan{stroke:#80858f}.kept{stroke:#3fd0a8}.dropped{stroke:#a0a0a0}.missed{stroke:#ff6f6f}
 .cross{stroke:#ccc}.turned{fill:#16181c;stroke:#c9a4ff}.passed{fill:#e6e6e6}.now{stroke:#c9a4ff}}
 '''
@@ -179,8 +180,10 @@ def train_names(frame, scene, trains):
         if not frame.shows(scene.times[place]) or x < taken.get(y, 0):
             continue
         taken[y] = x + 12 + 6 * len(name)
-        at = f'x="{x + 3}" y="{y - 4}"' if y == TOP else f'x="{x - 5}" y="{y + 13}" text-anchor="end"'
-        yield f'<text class="small" {at}>{escape(name)}</text>'
+        across = f'x="{x + 3}"' if y == TOP else f'x="{x - 5}" text-anchor="end"'
+        # Below the last stop stand the hours.
+        down = y - 4 if y in (TOP, TOP + frame.height) else y + 13
+        yield f'<text class="small" {across} y="{down}">{escape(name)}</text>'
 
 
 # ---- Marks
