@@ -20,7 +20,7 @@ use Rattle.dm_cert.specs.RunTexts.{header_text, entry_text, entries_text, FitsEn
 use Rattle.dm_cert.proofs.SpelledPlans.{HasLine}
 use Rattle.dm_cert.proofs.ToldTexts.{line_told}
 use Rattle.dm_records.specs.RunLines.{Numbered, IsNumberLine, IsVersionLine, IsEntryLine}
-use Rattle.dm_records.proofs.LinesSpelled.{counted, number_line, version_has_line, entry_line}
+use Rattle.dm_records.proofs.LinesSpelled.{counted, numbered, number_line, version_line, version_has_line, entry_line}
 use Rattle.dm_follow.specs.declared.faults.FollowKind.{FollowKind}
 use Rattle.dm_follow.specs.declared.faults.FollowKind.TheVariants as kind
 use Rattle.dm_follow.specs.Journals.{Halt, broken, Header, header, Reads, Rules, TellsHeader, TellsPenalty, TellsFeeds, TellsEntries, IsNextEntry, TellsEntry}
@@ -117,10 +117,10 @@ header_told penalty h place next told =
     let f = p.then in
     let e = f.then in
     let v : ℕ = told.value in
-    let one = line_told IsVersionLine (counted (codes "dm-run ")) version_text place told.behind v told.told in
-    let two = rules_left (IsNumberLine (codes "penalty ")) (counted (codes "penalty ")) (numbered_text (codes "penalty ")) (λ n. n ≡ penalty) kind.Form (λ n. n) told.behind p.behind p.value p.told in
-    let three = rules_left (IsNumberLine (codes "feeds ")) (counted (codes "feeds ")) (numbered_text (codes "feeds ")) (λ n. (1 ≤ n) × (n ≤ FEEDS)) kind.Form (λ n. n) p.behind f.behind f.value f.told in
-    let four = rules_left (IsNumberLine (codes "entries ")) (counted (codes "entries ")) (numbered_text (codes "entries ")) (λ n. n ≤ ENTRIES) kind.Form (header f.value) f.behind next h e in
+    let one = line_told IsVersionLine (counted (codes "dm-run ")) version_line place told.behind v told.told in
+    let two = rules_left (IsNumberLine (codes "penalty ")) (counted (codes "penalty ")) (numbered (codes "penalty ")) (λ n. n ≡ penalty) kind.Form (λ n. n) told.behind p.behind p.value p.told in
+    let three = rules_left (IsNumberLine (codes "feeds ")) (counted (codes "feeds ")) (numbered (codes "feeds ")) (λ n. (1 ≤ n) × (n ≤ FEEDS)) kind.Form (λ n. n) p.behind f.behind f.value f.told in
+    let four = rules_left (IsNumberLine (codes "entries ")) (counted (codes "entries ")) (numbered (codes "entries ")) (λ n. n ≤ ENTRIES) kind.Form (header f.value) f.behind next h e in
     let same_penalty : p.told.value ≡ penalty = p.told.then.0 in
     let feeds_is : h.feeds ≡ f.value = ap (λ (x : Header). x.feeds) e.then.1 in
     let entries_is : h.entries ≡ e.value = ap (λ (x : Header). x.entries) e.then.1 in
