@@ -1,0 +1,117 @@
+#!/usr/bin/env python3
+"""Refuses memory to a program: python3 bench/memory.py DISPATCHER [CASE..]
+
+DISPATCHER is a built dispatcher. Each case does one task over the connection of examples/ again and again, and each time another
+call for memory is refused, the first, the second and so on, until a run calls for less. Where memory is refused a run is to end
+with status 6 and nothing written, or with the status and the text that it has with ample memory; a line tells each other end,
+and the status is then 1. For each case a row gives how many calls there are, and how many ends of each kind.
+
+Memory is refused by a library of a few lines that stands before malloc and realloc: it wants a C compiler, `cc`, and a system that
+takes LD_PRELOAD.
+"""
+import os
+import shutil
+import subprocess
+import sys
+import tempfile
+
+SHIM = r'''
+#define _GNU_SOURCE
+#include <dlfcn.h>
+#include <fcntl.h>
+#include <stdatomic.h>
+#include <stdlib.h>
+#include <unistd.h>
+static atomic_long calls;
+/* Whether this call is the one to refuse; a file tells that it came. */
+static int is_refused(void) {
+    const char *number = getenv("REFUSED");
+    if (!number || atomic_fetch_add(&calls, 1) + 1 != atol(number)) return 0;
+    close(open(getenv("CAME"), O_CREAT | O_WRONLY, 0600));
+    return 1;
+}
+void *malloc(size_t size) {
+    static void *(*next)(size_t);
+    if (!next) next = dlsym(RTLD_NEXT, "malloc");
+    return is_refused() ? NULL : next(size);
+}
+void *realloc(void *old, size_t size) {
+    static void *(*next)(void *, size_t);
+    if (!next) next = dlsym(RTLD_NEXT, "realloc");
+    return is_refused() ? NULL : next(old, size);
+}
+'''
+
+NO_MEMORY = 6
+
+# The words of each case and the bytes of its feed. The text is that of the run `plan`.
+CASES = {
+    'run': (['run', 'net', 'feed', '--penalty=10'], b'delay event 1 60\ntime 6\ncost\n'),
+    'plan': (['run', 'net', 'feed', '--penalty=10'], b'delay event 1 60\nplan 100\nadopt\n'),
+    'check': (['check', 'net', 'text', '--penalty=10'], b''),
+    'gen': (['gen', '7', '9', '--penalty=10'], b''),
+    'follow': (['follow', 'net', 'text', '--penalty=10'], b''),
+    'window': (['window', 'net', 'text', '200', '235', '100', '--penalty=10'], b''),
+    'rules': (['rules', 'net', 'text', 'always', '100', '--penalty=10'], b''),
+    'journey': (['journey', 'net', 'text', '1', '4', '150', '--penalty=10'], b''),
+}
+
+# Above this number of calls a case gives up.
+MOST = 20_000
+
+
+def done(program, words, folder, shim, number):
+    """The status and the text of a run whose call of this number is refused, and whether there was such a call."""
+    mark = os.path.join(folder, 'came')
+    if os.path.exists(mark):
+        os.remove(mark)
+    env = {'LD_PRELOAD': shim, 'REFUSED': str(number), 'CAME': mark}
+    ran = subprocess.run([program, *words], cwd=folder, env=env, stdout=subprocess.PIPE, stderr=subprocess.DEVNULL, check=False)
+    return ran.returncode, ran.stdout, os.path.exists(mark)
+
+
+def judge(program, name, folder, shim):
+    """Whether all ends of a case are as they should be; prints its row."""
+    words, feed = CASES[name]
+    with open(os.path.join(folder, 'feed'), 'wb') as file:
+        file.write(feed)
+    status, text, _ = done(program, words, folder, shim, 0)
+    if status == 2:
+        print(f'{name:<8} is no command of this program')
+        return True
+    refused = whole = others = 0
+    for number in range(1, MOST):
+        now, written, came = done(program, words, folder, shim, number)
+        if not came:
+            break
+        if now == NO_MEMORY and not written:
+            refused += 1
+        elif now == status and written == text:
+            whole += 1
+        else:
+            others += 1
+            print(f'{name}: call {number} refused: status {now}, {len(written)} bytes written')
+    print(f'{name:<8}{refused + whole + others:6} calls: {refused} end without memory, {whole} as with it, {others} otherwise')
+    return others == 0
+
+
+def main():
+    if len(sys.argv) < 2 or any(name not in CASES for name in sys.argv[2:]):
+        sys.exit(__doc__)
+    program = os.path.abspath(sys.argv[1])
+    names = sys.argv[2:] or list(CASES)
+    example = os.path.join(os.path.dirname(os.path.dirname(os.path.abspath(__file__))), 'examples', 'connection')
+    with tempfile.TemporaryDirectory() as folder:
+        shutil.copytree(os.path.join(example, 'net'), os.path.join(folder, 'net'))
+        shim = os.path.join(folder, 'refusing.so')
+        subprocess.run(['cc', '-shared', '-fPIC', '-O1', '-x', 'c', '-', '-o', shim, '-ldl'], input=SHIM.encode(), check=True)
+        with open(os.path.join(folder, 'feed'), 'wb') as file:
+            file.write(CASES['plan'][1])
+        with open(os.path.join(folder, 'text'), 'wb') as file:
+            subprocess.run([program, 'run', 'net', 'feed', '--penalty=10'], cwd=folder, stdout=file, check=True)
+        good = [judge(program, name, folder, shim) for name in names]
+    sys.exit(0 if all(good) else 1)
+
+
+if __name__ == '__main__':
+    main()
