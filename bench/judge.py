@@ -77,8 +77,8 @@ class Judge:
             return ('bad', *bad.args)
         return ('good', len(self.history), sum(log.plans for log in self.logs))
 
-    def read_run(self, text):
-        """Reads the whole text; Bad at the first record that breaks its rule."""
+    def read_journal(self, text):
+        """Reads the header and the entries; Bad at the first line that breaks its rule. How many feeds there are."""
         self.version, = text.read('dm-run', 2)
         text.demand(self.version > 0, 'form')
         text.demand(text.read('penalty', NUMBER) == (self.penalty,), 'form')
@@ -87,6 +87,11 @@ class Judge:
         entries, = text.read('entries', MOST_ENTRIES)
         for _ in range(entries):
             self.read_entry(text, feeds)
+        return feeds
+
+    def read_run(self, text):
+        """Reads the whole text; Bad at the first record that breaks its rule."""
+        feeds = self.read_journal(text)
         for feed in range(1, feeds + 1):
             self.read_log(text, feed)
         self.read_boards(text)

@@ -489,13 +489,14 @@ def with_decisions(network, rows, decisions):
 
 
 class Problem:
-    """What a plan is of: rows with what they cost at a penalty, and their free choices."""
+    """What a plan is of: rows with what they cost at a penalty, and the free choices that it may make, which are all of them where none
+    are given; the others stay as the rows have them."""
 
-    def __init__(self, network, rows, penalty):
+    def __init__(self, network, rows, penalty, allowed=None):
         self.network = network
         self.rows = rows
         self.penalty = penalty
-        self.free = free_choices(network, rows)
+        self.free = free_choices(network, rows) if allowed is None else allowed
         self.cost = cost_of(network, rows, times_of(network, rows), penalty)
 
     def is_violated(self, rows, times, choice):
@@ -575,9 +576,9 @@ def is_true_tree(problem, plan):
     return not paths
 
 
-def is_true_plan(network, rows, penalty, budget, plan):
-    """Whether a plan is true of rows at a penalty, for a budget of nodes."""
-    problem = Problem(network, rows, penalty)
+def is_true_plan(network, rows, penalty, budget, plan, allowed=None):
+    """Whether a plan is true of rows at a penalty, for a budget of nodes, with these choices alone where some are given."""
+    problem = Problem(network, rows, penalty, allowed)
     if plan.nodes is None or len(plan.nodes) > budget:
         return False
     if not are_true_choices(problem, plan) or not is_true_tree(problem, plan):
