@@ -1,0 +1,22 @@
+use Rattle.std.proofs.Common.{◌++◌}
+use Rattle.std.specs.List.{flat_map}
+use Rattle.dm_cert.specs.PlanTexts.{choice_text}
+use Rattle.dm_outside.proofs.Printing.{prints_fault, prints_fault_at, prints_last}
+use Rattle.dm_ruling.specs.Texts.{comparison_text, gap_text}
+use Rattle.dm_ruling.proofs.printing.put_comparison.Goals as goal
+
+pub returns-in_default : goal.returns-in_default
+unfolding comparison_text
+returns-in_default g c = prints_fault (flat_map choice_text c.args.compared.now.choices ++ gap_text c.args.compared.now) c.in_default.ensures
+
+pub returns-in_default-put_choices : goal.returns-in_default-put_choices
+unfolding comparison_text
+returns-in_default-put_choices g c =
+    prints_fault_at (gap_text c.args.compared.now) c.in-Ok.ensures (rw (← c.as_slice.ensures) c.in_default-put_choices.ensures)
+
+pub returns : goal.returns
+unfolding comparison_text
+returns g c =
+    let choices = rw c.as_slice.ensures at c.in-Ok-put_choices.ensures in
+    prints_last c.put_gap.new.sink c.put_gap.new.page (flat_map choice_text c.args.compared.now.choices ++ gap_text c.args.compared.now) c.put_gap.result c.in-Ok.ensures
+    (prints_last c.put_gap.new.sink c.put_gap.new.page (gap_text c.args.compared.now) c.put_gap.result choices c.put_gap.ensures)

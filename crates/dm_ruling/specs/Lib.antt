@@ -1,0 +1,2 @@
+-- The text of a rule beside a plan.
+pub mod Texts
