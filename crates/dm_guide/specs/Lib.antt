@@ -1,1 +1,3 @@
--- Nothing is promised, and so nothing is defined.
+-- What a task may be, and which plans it asks for. Nothing is promised of a guide.
+pub mod Posed
+pub mod Tasks

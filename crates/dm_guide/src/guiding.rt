@@ -1,7 +1,6 @@
 //! Good choices first, and then a tree.
-ghost use Rattle.std.specs.Prelude.{◌≡◌, ◌<◌, ◌≤◌};
-ghost use Rattle.dm_base.specs.declared.limits.TheConstants.{PENALTY};
-ghost use Rattle.dm_rows.specs.Rows.{IsSized};
+ghost use Rattle.std.specs.Prelude.{◌≡◌, ◌<◌};
+ghost use Rattle.dm_guide.specs.Tasks.{IsPosedTask};
 
 use crate::choices::side_of;
 use crate::diving::dive;
@@ -10,11 +9,11 @@ use crate::growing::grow;
 use crate::kicking::Kicks;
 use crate::moving::Mover;
 use crate::scouting::Scout;
+use crate::tasks::Task;
 use crate::tree::{Found, Guide};
 use crate::windows::{WIDE, Windows, all_binding};
 use dm_base::{Cost, Steps};
-use dm_network::Network;
-use dm_rows::{Decision, Rows};
+use dm_rows::Decision;
 use dm_tree::Node;
 use std::alloc::{AllocError, Global};
 use std::marker::Brand;
@@ -31,52 +30,43 @@ pub struct Start<'s> {
     pub cost: Cost,
 }
 
-/// A guide for a search over rows that begins from a tree and choices, with a tree of at most `budget` nodes. What binds at the root of the
-/// rows has no cycle. The penalty is in seconds for each passenger, at most 1,000,000.
-pub fn guide(
-    alloc: Global,
-    net: &Network,
-    penalty: u64,
-    rows: &Rows,
-    start: Start<'_>,
-    budget: u64,
-) -> Result<Guide, AllocError>
-    requires sized { IsSized net.now rows.now }
-    requires penalty { penalty ≤ PENALTY }
+/// A guide for a search of a task, which begins from a tree and choices. Every decision behind the base is one of a choice that the
+/// base leaves to be made. The rows have no cycle.
+pub fn guide(task: &Task<'_>, start: Start<'_>) -> Result<Guide, AllocError>
+    requires { IsPosedTask task.now }
 {
-    guide_with::<Brand>(alloc, net, penalty, rows, start, budget, Blank::new(1))
+    guide_with::<Brand>(task, start, Blank::new(1))
 }
 
 fn guide_with<L: Ledger>(
-    alloc: Global,
-    net: &Network,
-    penalty: u64,
-    rows: &Rows,
+    task: &Task<'_>,
     start: Start<'_>,
-    budget: u64,
     blank: Blank,
 ) -> Result<Guide, AllocError>
-    requires sized { IsSized net.now rows.now }
-    requires penalty { penalty ≤ PENALTY }
+    requires posed { IsPosedTask task.now }
     requires name { blank.name ≡ L.name }
     requires parts { blank.parts ≡ L.parts }
     requires has_a_part { 0 < blank.parts }
 {
-    let mover = Mover::<L>::new(alloc, net, rows, penalty, Steps::<L>::new(blank))?;
-    let mut scout = Scout::new(alloc, mover);
-    on_scout(alloc, &mut scout, start, budget)
+    let steps = Steps::<L>::new(blank);
+    let mover = Mover::<L>::new(task.alloc, task.net, task.rows, task.penalty, steps)?;
+    let mut scout = Scout::new(task.alloc, mover);
+    on_scout(task, &mut scout, start)
 }
 
 fn on_scout<L: Ledger>(
-    alloc: Global,
+    task: &Task<'_>,
     scout: &mut Scout<'_, L>,
     start: Start<'_>,
-    budget: u64,
 ) -> Result<Guide, AllocError> {
+    // The rows have the base and no cycle, so that only memory may be missing.
+    if !scout.enter(task.base) {
+        return Err(AllocError);
+    }
     scout.look_at_all()?;
-    let table = tried_at_root(alloc, scout)?;
-    let found = found_by(alloc, scout, &table, start, budget)?;
-    grow(alloc, scout, start.nodes, table, found, budget)
+    let table = tried_at_root(task.alloc, scout)?;
+    let found = found_by(task.alloc, scout, &table, start, task.budget)?;
+    grow(task.alloc, scout, start.nodes, table, found, task.budget)
 }
 
 /// The gains of the choices that are violated at the root.

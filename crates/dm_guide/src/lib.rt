@@ -1,13 +1,18 @@
 //! Where a search for plans looks first.
 //!
-//! It stands on dm_evaluate for the relaxed problem of a path. [`guide`] looks for good choices and for a tree that tells much
-//! within a budget. Nothing is promised of what it finds: who is guided by it judges each node anew.
+//! It stands on dm_evaluate for the relaxed problem of a path. A [`Task`] is what choices are searched for; its `specs/` say
+//! which plan it asks for. [`guide`] looks for good choices and for a tree that tells much within the task's budget. Nothing
+//! is promised of what it finds: who is guided by it judges each node anew.
 //!
 //! # What is promised
 //!
-//! `guide`: choices that are good, and a tree of choices. Nothing is promised of what it finds: it is safe, it ends, and
-//! `dm_search` judges all of it anew. It dives along the cheaper side of each violated choice, makes the choices better
-//! some at a time, and grows a tree where its bound is least, branching where the cost is known to rise most.
+//! `Task`: the rows are of the network, penalty and budget are within their limits, and the base decides free choices, none
+//! twice, as the rows have them. A plan may make every free choice that the base leaves.
+//!
+//! `guide`: choices that are good, and a tree of choices, each among those that the base leaves. Nothing is promised of what
+//! it finds: it is safe, it ends, and `dm_search` judges all of it anew. It dives along the cheaper side of each violated
+//! choice, makes the choices better some at a time, and grows a tree where its bound is least, branching where the cost is
+//! known to rise most.
 #![tactic(auto)]
 
 mod choices;
@@ -19,8 +24,10 @@ mod kicking;
 mod moving;
 mod noting;
 mod scouting;
+mod tasks;
 mod tree;
 mod windows;
 
 pub use guiding::{Start, guide};
+pub use tasks::Task;
 pub use tree::{Guide, Hint};

@@ -86,6 +86,16 @@ impl<'a, L: Ledger> Mover<'a, L> {
         decided.is_ok()
     }
 
+    /// Makes decisions one after the other. It is false where one of them is not made.
+    pub fn enter(&mut self, decisions: &[Decision]) -> bool {
+        for decision in decisions {
+            if !self.decide(*decision) {
+                return false;
+            }
+        }
+        true
+    }
+
     /// Takes back the decision of a choice, if it is decided.
     pub fn undecide(&mut self, choice: Choice) {
         if self.evaluator.has_decided(choice) {

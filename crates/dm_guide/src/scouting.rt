@@ -78,6 +78,11 @@ impl<'a, L: Ledger> Scout<'a, L> {
         }
     }
 
+    /// Makes the decisions with which every path begins, before anything is looked at.
+    pub fn enter(&mut self, base: &[Decision]) -> bool {
+        self.mover.enter(base)
+    }
+
     /// Takes up the choices, and looks at all of them and all events for the first time.
     pub fn look_at_all(&mut self) -> Result<(), AllocError> {
         self.choices.fill(&mut self.mover)?;

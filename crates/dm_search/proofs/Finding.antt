@@ -1,5 +1,5 @@
 -- What one step finds is what is known of a leaf.
-use Rattle.std.proofs.Common.{◌≡◌, ℕ, ◌<◌, ◌≤◌, true, List, refl, sym, subst, ◌∙◌, inl, inr, arith, None, slice_get, lt-ltb}
+use Rattle.std.proofs.Common.{◌≡◌, ℕ, ◌<◌, ◌≤◌, true, List, ◌++◌, refl, sym, subst, ◌∙◌, inl, inr, arith, None, slice_get, lt-ltb}
 use Rattle.std.specs.Prelude.{Contains}
 use Rattle.std.proofs.lemmas.List.Elements.{Contains-append_cases}
 use Rattle.std.proofs.lemmas.Option.{slice_get-get_or}
@@ -7,18 +7,23 @@ use Rattle.dm_network.specs.Net.{Net}
 use Rattle.dm_network.specs.Start.{IsNetwork}
 use Rattle.dm_rows.specs.declared.messages.Choice.{Choice}
 use Rattle.dm_rows.specs.declared.messages.Decision.{Decision}
-use Rattle.dm_rows.specs.Rows.{RowsValue, IsSized}
+use Rattle.dm_rows.specs.Rows.{RowsValue}
 use Rattle.dm_rows.specs.Decide.{free_choices_of, free_changes_of, free_pairs_of, change_choice, pair_choice, is_free_change, is_free_pair, IsChoiceList}
 use Rattle.dm_rows.specs.Relax.{violated_choices_of}
 use Rattle.dm_tree.specs.declared.forms.Node.TheVariants.{Cycle, Bound, Open}
-use Rattle.dm_tree.specs.Plans.{Task, whole_task, IsViolatedThere}
+use Rattle.dm_tree.specs.Plans.{Task, IsViolatedThere}
 use Rattle.dm_rows.specs.Sides.{is_ordered}
 use Rattle.dm_relax.proofs.Differing.{differences_complete}
 use Rattle.dm_paths.proofs.Naming.{from_place, ids_rise}
 use Rattle.dm_search.specs.Steps.{HasRelaxedCycle, IsPruned, IsSolved}
-use Rattle.dm_search.specs.Inside.Walking.{IsBranchThere}
+use Rattle.dm_search.specs.Inside.Walking.{IsBranchThere, IsOver}
 use Rattle.dm_search.specs.Inside.Searching.{AreBest, IsSettled, IsBetter, IsSplit}
+use Rattle.dm_guide.specs.Posed.{task_beside, IsPosed}
+use Rattle.dm_search.proofs.Beside.{beside_is_task, differences_beside}
 use Rattle.dm_search.proofs.Leaves.{violated_is_undecided}
+use Rattle.dm_search.proofs.Optimal.{allowed_there}
+use Rattle.dm_search.proofs.Walks.{path_list}
+use Rattle.dm_evaluate.specs.Evaluator.{EvaluatorValue}
 
 -- a free choice is written in order
 pub free_is_ordered : (net : Net) → IsNetwork net → (rows : RowsValue) (c : Choice) → Contains (free_choices_of net rows) c → is_ordered c ≡ true
@@ -39,15 +44,15 @@ first_of_none xs x none h =
     let at = slice_get-get_or xs 0 x (omega arith) in
     cc
 
-module _ (net : Net) (network : IsNetwork net) (rows : RowsValue) (sized : IsSized net rows) (penalty budget : ℕ) (path : List Decision)
-    (list : IsChoiceList net rows path) (best ceiling : ℕ) where
+module _ (net : Net) (network : IsNetwork net) (rows : RowsValue) (penalty : ℕ) (base : List Decision) (budget : ℕ)
+    (posed : IsPosed net rows penalty base budget) (path : List Decision) (list : IsChoiceList net rows (base ++ path)) (best ceiling : ℕ) where
   abbrev task : Task
-  task = whole_task net rows penalty budget
+  task = task_beside net rows penalty base budget
 
-  pub found_cycle : HasRelaxedCycle net rows path → IsSettled task path best ceiling Cycle
+  pub found_cycle : HasRelaxedCycle net rows (base ++ path) → IsSettled task path best ceiling Cycle
   found_cycle h = record { is_leaf = refl; known = record { cycle = h.cycle; is_cycle = h.is_cycle }; used = λ c e. cc }
 
-  pub found_bound : (c : ℕ) → IsPruned net rows path penalty best c → IsSettled task path best ceiling (Bound c)
+  pub found_bound : (c : ℕ) → IsPruned net rows (base ++ path) penalty best c → IsSettled task path best ceiling (Bound c)
   found_bound c h =
       record {
         is_leaf = refl;
@@ -55,15 +60,15 @@ module _ (net : Net) (network : IsNetwork net) (rows : RowsValue) (sized : IsSiz
         used = λ k e. cc;
       }
 
-  pub found_better : (c : ℕ) (choices old : List Decision) → IsSolved net rows path penalty best c choices → AreBest task old best →
+  pub found_better : (c : ℕ) (choices old : List Decision) → IsSolved net rows (base ++ path) penalty best c choices → AreBest task old best →
       IsBetter task path best (record { choices = choices; cost = c })
   found_better c choices old h are =
-      let done = differences_complete net rows path h.times network sized list
-      (record { least = h.least; none = λ ch v. first_of_none (violated_choices_of net rows path h.times) ch h.nothing v }) in
+      let done = differences_complete net rows (base ++ path) h.times network posed.sized list
+      (record { least = h.least; none = λ ch v. first_of_none (violated_choices_of net rows (base ++ path) h.times) ch h.nothing v }) in
       rw h.completes (record {
         relaxed = record { times = h.times; least = h.least; cost = h.cost };
         are_best = record {
-          choices = done.in_order;
+          choices = differences_beside net network rows posed.sized base path list h.times posed.as_the_rows done.in_order;
           differ = done.differ;
           costs = record {
             no_cycle = done.no_cycle;
@@ -76,7 +81,7 @@ module _ (net : Net) (network : IsNetwork net) (rows : RowsValue) (sized : IsSiz
         less = let a = h.less in omega arith;
       })
 
-  violated_there : (c : ℕ) (choice : Choice) → IsBranchThere net rows path penalty best c choice → IsViolatedThere task path choice c
+  violated_there : (c : ℕ) (choice : Choice) → IsBranchThere net rows (base ++ path) penalty best c choice → IsViolatedThere task path choice c
   violated_there c choice h =
       record {
         times = h.times;
@@ -85,21 +90,21 @@ module _ (net : Net) (network : IsNetwork net) (rows : RowsValue) (sized : IsSiz
         violated = h.violated;
       }
 
-  pub found_open : (c : ℕ) (choice : Choice) → IsBranchThere net rows path penalty best c choice → ceiling ≤ c →
+  pub found_open : (c : ℕ) (choice : Choice) → IsBranchThere net rows (base ++ path) penalty best c choice → ceiling ≤ c →
       IsSettled task path best ceiling (Open c)
   found_open c choice h dear =
       record { is_leaf = refl; known = (choice, violated_there c choice h); used = λ k e. let same : c ≡ k = cc in omega arith }
 
-  pub found_split : (c : ℕ) (choice : Choice) (old : List Decision) → IsBranchThere net rows path penalty best c choice → AreBest task old best →
-      c < ceiling → IsSplit task path ceiling choice
+  pub found_split : (c : ℕ) (choice : Choice) (old : List Decision) → IsBranchThere net rows (base ++ path) penalty best c choice →
+      AreBest task old best → c < ceiling → IsSplit task path ceiling choice
   unfolding violated_there
   found_split c choice old h are less =
       let v = violated_there c choice h in
-      let undecided = violated_is_undecided net rows path h.times choice v.violated in
+      let undecided = violated_is_undecided net rows (base ++ path) h.times choice v.violated in
       record {
         inner = record {
           no_cycle = h.no_cycle;
-          allowed = undecided.free;
+          allowed = allowed_there task (beside_is_task net rows penalty base budget network posed) path choice undecided;
           cost = c;
           violated = v;
           own_cost = are.own_cost;
@@ -109,3 +114,13 @@ module _ (net : Net) (network : IsNetwork net) (rows : RowsValue) (sized : IsSiz
         ordered = free_is_ordered net network rows choice undecided.free;
         below = omega arith;
       }
+
+-- where an evaluator stands, behind the base
+pub better_here : (net : Net) → IsNetwork net → (rows : RowsValue) (penalty : ℕ) (base : List Decision) (budget : ℕ) →
+    IsPosed net rows penalty base budget → (e : EvaluatorValue) → (over : IsOver (task_beside net rows penalty base budget) e) →
+    (best c : ℕ) (choices old : List Decision) → IsSolved net rows e.path penalty best c choices → AreBest (task_beside net rows penalty base budget) old best →
+    IsBetter (task_beside net rows penalty base budget) over.begins.rest best (record { choices = choices; cost = c })
+better_here net network rows penalty base budget posed e over best c choices old solved are =
+    found_better net network rows penalty base budget posed over.begins.rest
+    (subst (IsChoiceList net rows) over.begins.is (path_list (task_beside net rows penalty base budget) e over)) best 0 c choices old
+    (subst (λ p. IsSolved net rows p penalty best c choices) over.begins.is solved) are

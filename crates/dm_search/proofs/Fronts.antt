@@ -1,22 +1,97 @@
--- What two paths have in common at the front.
-use Rattle.std.proofs.Common.{◌≡◌, ℕ, ◌≤◌, List, length, take, sym, ap, subst, ◌∙◌, arith}
-use Rattle.std.proofs.lemmas.List.{length-take-le}
+-- Paths that begin with a base, and what two of them have in common behind it.
+use Rattle.std.proofs.Common.{◌≡◌, ℕ, ◌+◌, ◌<◌, ◌≤◌, List, [], ◌∷◌, ◌++◌, length, get_or, take, drop, sym, ap, subst, ◌∙◌, arith, append_assoc, append-nil, suc}
+use Rattle.std.proofs.lemmas.List.{drop_at, length-append, take-append-drop, take_more, take_all}
+use Rattle.dm_network.specs.Net.{Net}
+use Rattle.dm_network.specs.Start.{IsNetwork}
 use Rattle.dm_rows.specs.declared.messages.Decision.{Decision}
-use Rattle.dm_search.specs.Inside.Walking.{AreFronts}
+use Rattle.dm_rows.specs.Rows.{RowsValue, IsSized}
+use Rattle.dm_rows.specs.Decide.{IsChoiceList}
+use Rattle.dm_evaluate.specs.Evaluator.{EvaluatorValue, IsEvaluatorOf}
+use Rattle.dm_tree.specs.Pending.{IsFront}
+use Rattle.dm_tree.specs.Plans.{Task}
+use Rattle.dm_search.specs.Steps.{HasRelaxedCycle}
+use Rattle.dm_search.specs.Inside.Walking.{AreFronts, IsOver}
+use Rattle.dm_search.proofs.Walks.{front_of, longer_cycle}
 
-module _ (one other shown : List Decision) (many : ℕ) (e : shown ≡ one) (f : AreFronts shown other many) where
-  pub front_within : many ≤ length one
-  front_within = subst (λ xs. many ≤ length xs) e f.of_one
+-- a front of a front
+pub front_of_front : (xs ys zs : List Decision) → IsFront xs ys → IsFront ys zs → IsFront xs zs
+front_of_front xs ys zs f g =
+    record { rest = f.rest ++ g.rest; is = g.is ∙ (ap (λ ws. ws ++ g.rest) f.is ∙ append_assoc xs f.rest g.rest) }
 
-  front_size : (left : List Decision) → left ≡ take many one → length left ≡ many
-  front_size left is = ap length is ∙ length-take-le many one front_within
+pub itself_in_front : (xs ys : List Decision) → ys ≡ xs → IsFront xs ys
+itself_in_front xs ys e = record { rest = []; is = e ∙ sym (append-nil xs) }
 
-  pub front_fits : (left : List Decision) → left ≡ take many one → length left ≤ length other
-  front_fits left is =
-      let le = f.of_other in
-      let size = front_size left is in
-      omega (arith, le, size)
+pub begins_with : (xs more ys : List Decision) → ys ≡ xs ++ more → IsFront xs ys
+begins_with xs more ys e = record { rest = more; is = e }
 
-  pub front_is : (left : List Decision) → left ≡ take many one → left ≡ take (length left) other
-  front_is left is =
-      is ∙ (ap (take many) (sym e) ∙ (f.same ∙ ap (λ (k : ℕ). take k other) (sym (front_size left is))))
+-- an evaluator that was moved is over the task still where its path begins as before
+pub over_longer : (task : Task) (e f : EvaluatorValue) → IsOver task e → IsEvaluatorOf task.net f → f.rows ≡ e.rows → IsFront e.path f.path → IsOver task f
+over_longer task e f over is same front =
+    record { is = is; same = same ∙ over.same; begins = front_of_front task.base e.path f.path over.begins front }
+
+pub over_same : (task : Task) (e f : EvaluatorValue) → IsOver task e → IsEvaluatorOf task.net f → f.rows ≡ e.rows → f.path ≡ e.path → IsOver task f
+over_same task e f over is same at = over_longer task e f over is same (itself_in_front e.path f.path at)
+
+take_behind : (base rest : List Decision) (many : ℕ) → take (length base + many) (base ++ rest) ≡ base ++ take many rest
+take_behind [] rest many = let e : 0 + many ≡ many = omega arith in ap (λ (k : ℕ). take k rest) e
+take_behind (b ∷ base) rest many =
+    let e : length (b ∷ base) + many ≡ suc (length base + many) = omega arith in
+    ap (λ (k : ℕ). take k (b ∷ (base ++ rest))) e ∙ ap (λ xs. b ∷ xs) (take_behind base rest many)
+
+-- a path that begins with a base, of which so many decisions behind it are those of another path
+module _ (base rest path other behind : List Decision) (n many : ℕ) (size : n ≡ length base) (e : path ≡ base ++ rest)
+    (shown : behind ≡ drop n path) (f : AreFronts behind other many) where
+  rest_is : behind ≡ rest
+  rest_is = shown ∙ (ap (drop n) e ∙ drop_at base rest n (sym size))
+
+  pub front_within : n + many ≤ length path
+  front_within =
+      let few = f.of_one in
+      let own : length behind ≡ length rest = ap length rest_is in
+      let whole : length path ≡ length base + length rest = ap length e ∙ length-append base rest in
+      omega (arith, few, own, whole, size)
+
+  left_is : (left : List Decision) → left ≡ take (n + many) path → left ≡ base ++ take many rest
+  left_is left is =
+      let sum : n + many ≡ length base + many = omega (arith, size) in
+      is ∙ (ap (λ (k : ℕ). take k path) sum ∙ (ap (take (length base + many)) e ∙ take_behind base rest many))
+
+  pub front_begins : (left : List Decision) → left ≡ take (n + many) path → IsFront base left
+  front_begins left is = record { rest = take many rest; is = left_is left is }
+
+  pub front_joins : (left more : List Decision) → left ≡ take (n + many) path → more ≡ drop many other → left ++ more ≡ base ++ other
+  front_joins left more is are =
+      let same : take many rest ≡ take many other = ap (take many) (sym rest_is) ∙ f.same in
+      ap (λ xs. xs ++ more) (left_is left is ∙ ap (λ xs. base ++ xs) same)
+      ∙ (append_assoc base (take many other) more
+      ∙ ap (λ xs. base ++ xs) (ap (λ xs. take many other ++ xs) are ∙ take-append-drop many other))
+
+-- decisions that are made one after the other behind a path
+module _ (net : Net) (network : IsNetwork net) (rows : RowsValue) (sized : IsSized net rows) (before decisions : List Decision)
+    (list : IsChoiceList net rows (before ++ decisions)) (path : List Decision) (i : ℕ) (d : Decision) (lt : i < length decisions)
+    (e : path ≡ before ++ take i decisions) (is : d ≡ get_or decisions i d) where
+  pub one_more_made : path ++ d ∷ [] ≡ before ++ take (i + 1) decisions
+  one_more_made =
+      ap (λ xs. xs ++ d ∷ []) e
+      ∙ (append_assoc before (take i decisions) (d ∷ [])
+      ∙ ap (λ xs. before ++ xs) (ap (λ x. take i decisions ++ x ∷ []) is ∙ sym (take_more decisions i d lt)))
+
+  whole_is : (path ++ d ∷ []) ++ drop (i + 1) decisions ≡ before ++ decisions
+  whole_is =
+      ap (λ xs. xs ++ drop (i + 1) decisions) one_more_made
+      ∙ (append_assoc before (take (i + 1) decisions) (drop (i + 1) decisions)
+      ∙ ap (λ xs. before ++ xs) (take-append-drop (i + 1) decisions))
+
+  whole_list : IsChoiceList net rows ((path ++ d ∷ []) ++ drop (i + 1) decisions)
+  whole_list = subst (IsChoiceList net rows) (sym whole_is) list
+
+  pub made_list : IsChoiceList net rows (path ++ d ∷ [])
+  made_list = front_of net rows (path ++ d ∷ []) (drop (i + 1) decisions) whole_list
+
+  pub made_cycle : HasRelaxedCycle net rows (path ++ d ∷ []) → HasRelaxedCycle net rows (before ++ decisions)
+  made_cycle h =
+      subst (HasRelaxedCycle net rows) whole_is
+      (longer_cycle net network rows sized (path ++ d ∷ []) (drop (i + 1) decisions) whole_list made_list h)
+
+pub all_made : (before decisions path : List Decision) (i : ℕ) → length decisions ≤ i → path ≡ before ++ take i decisions → path ≡ before ++ decisions
+all_made before decisions path i all e = e ∙ ap (λ xs. before ++ xs) (take_all i decisions all)

@@ -1,6 +1,7 @@
 pub mod Leaves
 pub mod Sizes
 pub mod Optimal
+pub mod Beside
 pub mod Advancing
 pub mod Exits
 pub mod Finding

@@ -29,7 +29,7 @@ use Rattle.dm_search.proofs.Leaves.{IsUndecided, violated_is_undecided, Fact, ap
 use Rattle.dm_search.proofs.Sizes.{doubled_is, fewer_nodes}
 
 -- some of a list are among it, and all different where it has no element twice
-some_among : (allowed chosen : List Choice) → AreSomeOf allowed chosen → (c : Choice) → Contains chosen c → Contains allowed c
+pub some_among : (allowed chosen : List Choice) → AreSomeOf allowed chosen → (c : Choice) → Contains chosen c → Contains allowed c
 some_among [] chosen some c h = subst (λ cs. Contains cs c) some h
 some_among (a ∷ allowed) [] some c h = absurd (omega (arith, h.1))
 some_among (a ∷ allowed) (b ∷ chosen) (inl both) c h =
@@ -40,7 +40,7 @@ some_among (a ∷ allowed) (b ∷ chosen) (inl both) c h =
 some_among (a ∷ allowed) (b ∷ chosen) (inr later) c h =
     Contains-append_right (a ∷ []) allowed c (some_among allowed (b ∷ chosen) later c h)
 
-some_apart : (allowed chosen : List Choice) → AreSomeOf allowed chosen → Apart allowed → Apart chosen
+pub some_apart : (allowed chosen : List Choice) → AreSomeOf allowed chosen → Apart allowed → Apart chosen
 some_apart [] chosen some apart = subst Apart (sym some) tt
 some_apart (a ∷ allowed) [] some apart = tt
 some_apart (a ∷ allowed) (b ∷ chosen) (inl both) apart = (

@@ -3,23 +3,23 @@ use Rattle.std.proofs.Common.{◌≡◌, ℕ, ◌≤◌, true, List, [], ◌∷�
 use Rattle.std.specs.Prelude.{Contains}
 use Rattle.dm_network.specs.Net.{Net}
 use Rattle.dm_network.specs.Start.{IsNetwork}
-use Rattle.dm_rows.specs.declared.messages.Choice.{Choice}
 use Rattle.dm_rows.specs.declared.messages.Decision.{Decision}
 use Rattle.dm_rows.specs.Active.{HasNoCycle, is_active}
 use Rattle.dm_rows.specs.Cost.{Costs, cost_of}
-use Rattle.dm_rows.specs.Decide.{with_decisions, free_choices_of}
+use Rattle.dm_rows.specs.Decide.{with_decisions}
 use Rattle.dm_rows.specs.Rows.{RowsValue}
 use Rattle.dm_rows.proofs.AsGraph.{active_enter_no_passed}
 use Rattle.dm_rows.proofs.Holding.{least_exists_without_cycle}
 use Rattle.dm_tree.specs.declared.forms.Node.{Node}
 use Rattle.dm_tree.specs.declared.forms.Node.TheVariants.{Inner, Hole}
-use Rattle.dm_tree.specs.Plans.{Task, whole_task, CostsWith, AreSomeOf}
-use Rattle.dm_tree.specs.Trees.{Shape, preorder, leaf, branch, StandsAt, IsProper, HasLeaves, IsLeastTree}
+use Rattle.dm_tree.specs.Plans.{Task, whole_task, CostsWith}
+use Rattle.dm_tree.specs.Trees.{Shape, preorder, leaf, branch, StandsAt, IsProper, HasLeaves, IsLeastTree, Assembles}
 use Rattle.dm_tree.specs.Inside.Filling.{fills, visits}
 use Rattle.dm_tree.proofs.Filled.{filled}
 use Rattle.dm_tree.proofs.Shown.{one_least}
 use Rattle.dm_tree.proofs.Standing.{visits_below, visits_filled, among_stands}
 use Rattle.dm_search.specs.Finish.{IsKnown, IsStart, AHoleIsAStart}
+use Rattle.dm_search.proofs.Beside.{some_of_none}
 use Rattle.dm_search.specs.Inside.Searching.{AreBest, Stands}
 
 -- rows have one cost
@@ -60,10 +60,6 @@ stands_at_start task network nodes best cost s costs =
       are_best = best_at_start task network nodes best cost s costs;
     }
 
-some_of_none : (xs : List Choice) → AreSomeOf xs []
-some_of_none [] = refl
-some_of_none (x ∷ xs) = tt
-
 -- the least tree with no leaves has no choice, and so is one hole
 lone_hole : (shape : Shape) → IsProper shape → IsLeastTree shape [] → preorder shape ≡ Hole ∷ []
 lone_hole (branch c a b) proper least =
@@ -74,15 +70,14 @@ lone_hole (branch c a b) proper least =
 lone_hole (leaf n) proper least =
     elim (least.holes [] n refl proper) [ inl e ↦ ap (λ m. m ∷ []) e | inr h ↦ absurd (omega (arith, h.1)) ]
 
-hole_is_start : (net : Net) (rows : RowsValue) (penalty budget : ℕ) → IsNetwork net → HasNoCycle net rows → 1 ≤ budget →
-    IsStart (whole_task net rows penalty budget) (Hole ∷ []) []
-hole_is_start net rows penalty budget network none some =
+pub hole_is_start : (task : Task) → IsNetwork task.net → HasNoCycle task.net task.rows → 1 ≤ task.budget → IsStart task (Hole ∷ []) []
+hole_is_start task network none some =
     record {
       no_cycle = none;
-      choices = some_of_none (free_choices_of net rows);
+      choices = some_of_none task.allowed;
       differ = λ k d lt. absurd (omega arith);
       no_cycle_with = none;
-      no_dearer = λ c own p q. let same = one_cost net rows penalty c own p.cost q in omega (arith, same);
+      no_dearer = λ c own p q. let same = one_cost task.net task.rows task.penalty c own p.cost q in omega (arith, same);
       few = omega arith;
       shape = leaf Hole;
       in_preorder = refl;
@@ -90,13 +85,17 @@ hole_is_start net rows penalty budget network none some =
       known = λ c costs path n s. at_root c path n s;
     }
   where
-    at_root : (c : ℕ) (path : List Decision) (n : Node) → StandsAt (leaf Hole) path n → IsKnown (whole_task net rows penalty budget) c path n
-    at_root c [] n s = subst (λ m. IsKnown (whole_task net rows penalty budget) c [] m) s tt
+    at_root : (c : ℕ) (path : List Decision) (n : Node) → StandsAt (leaf Hole) path n → IsKnown task c path n
+    at_root c [] n s = subst (λ m. IsKnown task c [] m) s tt
     at_root c (d ∷ path) n s = elim s [ ]
+
+-- no leaves are assembled to one hole
+pub hole_alone : (nodes : List Node) → Assembles [] nodes → nodes ≡ Hole ∷ []
+hole_alone nodes a = sym a.in_preorder ∙ lone_hole a.shape a.proper a.least
 
 pub a_hole_is_a_start : AHoleIsAStart
 a_hole_is_a_start =
     record {
-      hole = λ nodes a. sym a.in_preorder ∙ lone_hole a.shape a.proper a.least;
-      start = hole_is_start;
+      hole = hole_alone;
+      start = λ net rows penalty budget network none some. hole_is_start (whole_task net rows penalty budget) network none some;
     }

@@ -18,6 +18,7 @@ use Rattle.dm_rows.specs.Active.{is_active}
 use Rattle.dm_evaluate.specs.Evaluator.{EvaluatorValue, IsEvaluatorOf, times_of, path_without}
 use Rattle.dm_evaluate.proofs.Relaxing.{relaxed_least, no_relaxed_cycle}
 use Rattle.dm_relax.specs.Relaxed.{first_violated}
+use Rattle.dm_tree.specs.Plans.{Task}
 use Rattle.dm_tree.specs.Relaxed.{relaxed_cost_of, IsViolated}
 use Rattle.dm_evaluate.proofs.Lists.{without_at}
 use Rattle.dm_paths.proofs.Paths.{one_passes}
@@ -31,26 +32,18 @@ use Rattle.dm_search.specs.Steps.{HasRelaxedCycle, IsPruned, IsOutcome}
 use Rattle.dm_search.specs.Inside.Walking.{IsBranchThere, IsFoundThere, IsOver}
 use Rattle.dm_search.proofs.Optimal.{decided_longer}
 
--- one decision more of a path
-pub next_front : (p path : List Decision) (i : ℕ) (d : Decision) → i < length path → p ≡ take i path → d ≡ get_or path i d → p ++ d ∷ [] ≡ take (i + 1) path
-next_front p path i d lt e is = rw e (ap (λ x. take i path ++ x ∷ []) is ∙ sym (take_more path i d lt))
-
 got_before : (xs ys : List Decision) (k : ℕ) (x : Decision) → slice_get xs k ≡ Some x → slice_get (xs ++ ys) k ≡ Some x
 got_before [] ys k x at = cc
 got_before (y ∷ xs) ys zero x at = at
 got_before (y ∷ xs) ys (suc k) x at = got_before xs ys k x at
 
-front_of : (net : Net) (rows : RowsValue) (front rest : List Decision) → IsChoiceList net rows (front ++ rest) → IsChoiceList net rows front
+pub front_of : (net : Net) (rows : RowsValue) (front rest : List Decision) → IsChoiceList net rows (front ++ rest) → IsChoiceList net rows front
 front_of net rows front rest list =
     record {
       free = all_from (λ d. Contains (free_choices_of net rows) (choice_of d)) front
           (λ d h. All-contains (λ e. Contains (free_choices_of net rows) (choice_of e)) (front ++ rest) d list.free (Contains-append_left front rest d h));
       once = λ m n d e a b same. list.once m n d e (got_before front rest m d a) (got_before front rest n e b) same;
     }
-
-pub front_list : (net : Net) (rows : RowsValue) (path : List Decision) (n : ℕ) → IsChoiceList net rows path → IsChoiceList net rows (take n path)
-front_list net rows path n list =
-    front_of net rows (take n path) (drop n path) (subst (IsChoiceList net rows) (sym (take-append-drop n path)) list)
 
 -- a front of a front
 take_of_take : (m n : ℕ) (xs : List Decision) → m ≤ n → n ≤ length xs → take m (take n xs) ≡ take m xs
@@ -96,11 +89,6 @@ last_is path d some is =
     sym (take_all (length path - 1 + 1) path (omega arith)) in
     whole ∙ (take_more path (length path - 1) d (omega arith) ∙ ap (λ x. take (length path - 1) path ++ x ∷ []) (sym is))
 
-pub goes_on_list : (net : Net) (rows : RowsValue) (p path : List Decision) (i : ℕ) (d : Decision) → IsChoiceList net rows path → i < length path →
-    p ≡ take i path → d ≡ get_or path i d → IsChoiceList net rows (p ++ d ∷ [])
-goes_on_list net rows p path i d list lt e is =
-    subst (IsChoiceList net rows) (sym (next_front p path i d lt e is)) (front_list net rows path (i + 1) list)
-
 fewer : (free before after : Bool) → (before ≡ true → after ≡ true) → (free && not before) ≡ false → (free && not after) ≡ false
 fewer false before after h e = refl
 fewer true true after h e = rw (h refl) refl
@@ -142,15 +130,6 @@ module _ (net : Net) (network : IsNetwork net) (rows : RowsValue) (sized : IsSiz
         cycle = h.cycle;
         is_cycle = cycle_carries (arcs_of net (is_relaxed_active net rows front)) (arcs_of net (is_relaxed_active net rows (front ++ rest))) there h.cycle h.is_cycle;
       }
-
-pub cycle_of_front : (net : Net) → IsNetwork net → (rows : RowsValue) → IsSized net rows → (p path : List Decision) (i : ℕ) (d : Decision) →
-    IsChoiceList net rows path → i < length path → p ≡ take i path → d ≡ get_or path i d → HasRelaxedCycle net rows (p ++ d ∷ []) → HasRelaxedCycle net rows path
-cycle_of_front net network rows sized p path i d list lt e is h =
-    let whole = take-append-drop (i + 1) path in
-    let front : HasRelaxedCycle net rows (take (i + 1) path) = subst (HasRelaxedCycle net rows) (next_front p path i d lt e is) h in
-    subst (HasRelaxedCycle net rows) whole
-    (longer_cycle net network rows sized (take (i + 1) path) (drop (i + 1) path) (subst (IsChoiceList net rows) (sym whole) list)
-    (front_list net rows path (i + 1) list) front)
 
 -- what an evaluator shows at its path
 module _ (net : Net) (network : IsNetwork net) (e : EvaluatorValue) (is : IsEvaluatorOf net e) (rows : RowsValue) (path : List Decision)
@@ -212,5 +191,10 @@ step_is_there net rows path penalty best (Outcome.Branch c choice) h =
     }
 
 -- an evaluator's path is one of its rows
-pub path_of : (net : Net) (rows : RowsValue) (e : EvaluatorValue) (path : List Decision) → IsOver net rows e → path ≡ e.path → IsChoiceList net rows path
-path_of net rows e path over is = rw is (subst (λ r. IsChoiceList net r e.path) over.same over.is.is_path)
+pub path_list : (task : Task) (e : EvaluatorValue) → IsOver task e → IsChoiceList task.net task.rows e.path
+path_list task e over = subst (λ r. IsChoiceList task.net r e.path) over.same over.is.is_path
+
+pub found_along : (net : Net) (rows : RowsValue) (path at : List Decision) (penalty best : ℕ) (o : Outcome) → at ≡ path →
+    IsOutcome net rows at penalty best o → IsFoundThere net rows path penalty best o
+found_along net rows path at penalty best o e h =
+    step_is_there net rows path penalty best o (subst (λ p. IsOutcome net rows p penalty best o) e h)

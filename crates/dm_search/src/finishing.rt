@@ -1,24 +1,25 @@
 //! A search that ends with a true plan.
-ghost use Rattle.std.specs.Prelude.{ℕ, ◌≡◌, ◌≤◌, List, length, Contains, IfOk, map, fold};
+ghost use Rattle.std.specs.Prelude.{◌≡◌, ◌≤◌, [], IfOk, map, fold};
 ghost use Rattle.std.specs.List.{list_any};
 ghost use Rattle.dm_base.specs.declared.limits.TheConstants.{PENALTY, BUDGET};
+ghost use Rattle.dm_evaluate.specs.Evaluator.{IsEvaluatorOf};
+ghost use Rattle.dm_guide.specs.Tasks.{IsPosedTask, task_of};
 ghost use Rattle.dm_rows.specs.Rows.{IsSized};
 ghost use Rattle.dm_rows.specs.Active.{HasNoCycle};
 ghost use Rattle.dm_rows.specs.Cost.{Costs};
 ghost use Rattle.dm_rows.specs.Decide.{IsChoiceList, with_decisions};
-ghost use Rattle.dm_tree.specs.declared.forms.Node.TheVariants.{Open as OpenNode};
 ghost use Rattle.dm_tree.specs.Plans.{whole_task, IsTruePlan};
 ghost use Rattle.dm_search.specs.Finish.{IsStart};
-ghost use Rattle.dm_search.specs.Inside.Searching.{AreBest, IsUsedUp, Stands};
+ghost use Rattle.dm_search.specs.Inside.Searching.{AreBest, AreUsedUp, Stands};
 ghost use Rattle.dm_search.specs.Inside.Walking.{IsOver};
 ghost use Rattle.dm_search.specs.Inside.Ending.{closed, carried, least_with, bound_of, is_open, mark_of, IsPlanOf};
 
+use crate::Outcome;
 use crate::searching::{Best, Standing, traverse};
-use crate::walking::make;
-use crate::{Outcome, step};
+use crate::walking::{behind, make, make_all, outcome_here};
 use dm_base::{Cost, Items};
 use dm_evaluate::Evaluator;
-use dm_guide::{Guide, Start, guide};
+use dm_guide::{Guide, Start, Task, guide};
 use dm_network::Network;
 use dm_relax::with_decisions;
 use dm_rows::{Decision, Rows, Snapshot};
@@ -44,13 +45,8 @@ pub fn plan(
     ensures plan { IfOk result (IsTruePlan (whole_task net.now snapshot.now.rows penalty budget)) }
     ensures entry { IfOk result (λ plan. plan.entry ≡ snapshot.now.entry) }
 {
-    net.sound();
-    // No leaves are those of a tree, so that only memory may be missing.
-    let Ok(unsearched) = assemble(alloc, Vec::new(alloc)) else {
-        return Err(AllocError);
-    };
-    let choices = Vec::new(alloc);
-    finish(alloc, net, penalty, snapshot, unsearched, choices, budget)
+    let rows = &snapshot.rows;
+    plan_task(&whole(alloc, net, rows, penalty, budget), snapshot.entry)
 }
 
 /// A true plan for the rows of a snapshot, with the snapshot's entry and a tree of at most `budget` nodes, of which there are
@@ -73,123 +69,146 @@ pub fn finish(
     ensures plan { IfOk result (IsTruePlan (whole_task net.now snapshot.now.rows penalty budget)) }
     ensures entry { IfOk result (λ plan. plan.entry ≡ snapshot.now.entry) }
 {
-    net.sound();
-    let cost = cost_with(alloc, net, penalty, &snapshot.rows, &best)?;
+    let rows = &snapshot.rows;
+    let task = whole(alloc, net, rows, penalty, budget);
+    finish_task(&task, snapshot.entry, partial, best)
+}
+
+/// The task of a whole network: no choice stands before the search.
+fn whole<'t>(alloc: Global, net: &'t Network, rows: &'t Rows, penalty: u64, budget: u64) -> Task<'t>
+    requires sized { IsSized net.now rows.now }
+    requires penalty { penalty ≤ PENALTY }
+    requires budget { budget ≤ BUDGET }
+    ensures posed { IsPosedTask result }
+    ensures task { task_of result ≡ whole_task net.now rows.now penalty budget }
+{
+    Task {
+        alloc,
+        net,
+        rows,
+        penalty,
+        base: &[],
+        budget,
+    }
+}
+
+/// A true plan for a task, with an entry. The rows have no cycle, and the budget is at least 1. It is what is made of a tree of one
+/// hole and no choices.
+pub fn plan_task(task: &Task<'_>, entry: u32) -> Result<Plan, AllocError>
+    requires posed { IsPosedTask task.now }
+    requires no_cycle { HasNoCycle task.now.net.now task.now.rows.now }
+    requires some { 1 ≤ task.now.budget }
+    ensures plan { IfOk result (IsTruePlan (task_of task.now)) }
+    ensures entry { IfOk result (λ plan. plan.entry ≡ entry) }
+{
+    task.net.sound();
+    // No leaves are those of a tree, so that only memory may be missing.
+    let Ok(unsearched) = assemble(task.alloc, Vec::new(task.alloc)) else {
+        return Err(AllocError);
+    };
+    let choices = Vec::new(task.alloc);
+    finish_task(task, entry, unsearched, choices)
+}
+
+/// A true plan for a task, with an entry, from a tree and choices.
+fn finish_task(
+    task: &Task<'_>,
+    entry: u32,
+    partial: Partial,
+    best: Vec<Decision>,
+) -> Result<Plan, AllocError>
+    requires posed { IsPosedTask task.now }
+    requires start { IsStart (task_of task.now) partial best.items }
+    ensures plan { IfOk result (IsTruePlan (task_of task.now)) }
+    ensures entry { IfOk result (λ plan. plan.entry ≡ entry) }
+{
+    task.net.sound();
+    let cost = cost_with(task, &best)?;
     let choices = Items::from_vec(best);
-    let nodes = Vec::from_slice(alloc, partial.as_slice())?;
+    let nodes = Vec::from_slice(task.alloc, partial.as_slice())?;
     let best = Best { choices, cost };
     let standing = Standing { nodes, best };
-    let searched = search_whole(alloc, net, penalty, snapshot, standing, budget)?;
-    plan_of(alloc, snapshot.entry, searched)
+    let searched = search_whole(task, standing)?;
+    plan_of(task.alloc, entry, searched)
 }
 
 /// Searches a tree until each open leaf that costs less than the best choices is one for which there is no room.
-fn search_whole(
-    alloc: Global,
-    net: &Network,
-    penalty: u64,
-    snapshot: &Snapshot,
-    standing: Standing,
-    budget: u64,
-) -> Result<Standing, AllocError>
-    requires sized { IsSized net.now snapshot.now.rows }
-    requires penalty { penalty ≤ PENALTY }
-    requires budget { budget ≤ BUDGET }
-    requires stands { Stands (whole_task net.now snapshot.now.rows penalty budget) standing.nodes.items standing.best.choices
-        standing.best.cost }
-    ensures stands { IfOk result (λ s. Stands (whole_task net.now snapshot.now.rows penalty budget) s.nodes.items s.best.choices
-        s.best.cost) }
-    ensures used { IfOk result (λ s. (c : ℕ) → Contains s.nodes.items (OpenNode c) → IsUsedUp budget (length s.nodes.items) s.best.cost c) }
+fn search_whole(task: &Task<'_>, standing: Standing) -> Result<Standing, AllocError>
+    requires posed { IsPosedTask task.now }
+    requires stands { Stands (task_of task.now) standing.nodes.items standing.best.choices standing.best.cost }
+    ensures stands { IfOk result (λ s. Stands (task_of task.now) s.nodes.items s.best.choices s.best.cost) }
+    ensures used { IfOk result (λ s. AreUsedUp task.now.budget s.best.cost s.nodes.items) }
 {
-    let guide = guide_for(alloc, net, penalty, snapshot, &standing, budget)?;
-    search_guided(alloc, net, penalty, snapshot, standing, budget, &guide)
+    let guide = guide_for(task, &standing)?;
+    search_guided(task, standing, &guide)
 }
 
-fn search_guided(
-    alloc: Global,
-    net: &Network,
-    penalty: u64,
-    snapshot: &Snapshot,
+fn search_guided(task: &Task<'_>, standing: Standing, guide: &Guide) -> Result<Standing, AllocError>
+    requires posed { IsPosedTask task.now }
+    requires stands { Stands (task_of task.now) standing.nodes.items standing.best.choices standing.best.cost }
+    ensures stands { IfOk result (λ s. Stands (task_of task.now) s.nodes.items s.best.choices s.best.cost) }
+    ensures used { IfOk result (λ s. AreUsedUp task.now.budget s.best.cost s.nodes.items) }
+{
+    let mut evaluator = evaluator_of(task)?;
+    search_from(task, &mut evaluator, standing, guide)
+}
+
+/// Searches a tree by an evaluator that has decided nothing.
+fn search_from(
+    task: &Task<'_>,
+    evaluator: &mut Evaluator,
     standing: Standing,
-    budget: u64,
     guide: &Guide,
 ) -> Result<Standing, AllocError>
-    requires sized { IsSized net.now snapshot.now.rows }
-    requires penalty { penalty ≤ PENALTY }
-    requires budget { budget ≤ BUDGET }
-    requires stands { Stands (whole_task net.now snapshot.now.rows penalty budget) standing.nodes.items standing.best.choices
-        standing.best.cost }
-    ensures stands { IfOk result (λ s. Stands (whole_task net.now snapshot.now.rows penalty budget) s.nodes.items s.best.choices
-        s.best.cost) }
-    ensures used { IfOk result (λ s. (c : ℕ) → Contains s.nodes.items (OpenNode c) → IsUsedUp budget (length s.nodes.items) s.best.cost c) }
+    requires posed { IsPosedTask task.now }
+    requires evaluator { IsEvaluatorOf task.now.net.now evaluator.old }
+    requires rows { evaluator.old.rows ≡ task.now.rows.now }
+    requires path { evaluator.old.path ≡ [] }
+    requires stands { Stands (task_of task.now) standing.nodes.items standing.best.choices standing.best.cost }
+    ensures stands { IfOk result (λ s. Stands (task_of task.now) s.nodes.items s.best.choices s.best.cost) }
+    ensures used { IfOk result (λ s. AreUsedUp task.now.budget s.best.cost s.nodes.items) }
 {
-    let mut evaluator = evaluator_of(alloc, net, snapshot)?;
-    search_with(
-        alloc,
-        net,
-        penalty,
-        snapshot,
-        &mut evaluator,
-        standing,
-        budget,
-        guide,
-    )
+    // The rows have the base and no cycle, so that only memory may be missing.
+    let Ok(()) = make_all(task.net, evaluator, task.base) else {
+        return Err(AllocError);
+    };
+    search_with(task, evaluator, standing, guide)
 }
 
 fn search_with(
-    alloc: Global,
-    net: &Network,
-    penalty: u64,
-    snapshot: &Snapshot,
+    task: &Task<'_>,
     evaluator: &mut Evaluator,
     standing: Standing,
-    budget: u64,
     guide: &Guide,
 ) -> Result<Standing, AllocError>
-    requires sized { IsSized net.now snapshot.now.rows }
-    requires penalty { penalty ≤ PENALTY }
-    requires evaluator { IsOver net.now snapshot.now.rows evaluator.old }
-    requires budget { budget ≤ BUDGET }
-    requires stands { Stands (whole_task net.now snapshot.now.rows penalty budget) standing.nodes.items standing.best.choices
-        standing.best.cost }
-    ensures stands { IfOk result (λ s. Stands (whole_task net.now snapshot.now.rows penalty budget) s.nodes.items s.best.choices
-        s.best.cost) }
-    ensures used { IfOk result (λ s. (c : ℕ) → Contains s.nodes.items (OpenNode c) → IsUsedUp budget (length s.nodes.items) s.best.cost c) }
+    requires posed { IsPosedTask task.now }
+    requires evaluator { IsOver (task_of task.now) evaluator.old }
+    requires stands { Stands (task_of task.now) standing.nodes.items standing.best.choices standing.best.cost }
+    ensures stands { IfOk result (λ s. Stands (task_of task.now) s.nodes.items s.best.choices s.best.cost) }
+    ensures used { IfOk result (λ s. AreUsedUp task.now.budget s.best.cost s.nodes.items) }
 {
-    let path = guide.path.as_slice();
-    let improved = improve(
-        alloc, net, penalty, snapshot, evaluator, standing, budget, path,
-    )?;
-    let guided = traverse(
-        alloc, net, penalty, snapshot, evaluator, improved, budget, 0, guide,
-    )?;
-    let spread = traverse_all(alloc, net, penalty, snapshot, evaluator, guided, budget)?;
-    last_traversal(alloc, net, penalty, snapshot, evaluator, spread, budget)
+    let path = behind(guide.path.as_slice(), task.base.len());
+    let improved = improve(task, evaluator, standing, path)?;
+    let guided = traverse(task, evaluator, improved, 0, guide)?;
+    let spread = traverse_all(task, evaluator, guided)?;
+    last_traversal(task, evaluator, spread)
 }
 
-/// The tree with the choices to which a guide's path leads, where they cost less.
+/// The tree with the choices to which a path leads, where they cost less.
 fn improve(
-    alloc: Global,
-    net: &Network,
-    penalty: u64,
-    snapshot: &Snapshot,
+    task: &Task<'_>,
     evaluator: &mut Evaluator,
     standing: Standing,
-    budget: u64,
     path: &[Decision],
 ) -> Result<Standing, AllocError>
-    requires sized { IsSized net.now snapshot.now.rows }
-    requires penalty { penalty ≤ PENALTY }
-    requires evaluator { IsOver net.now snapshot.now.rows evaluator.old }
-    requires budget { budget ≤ BUDGET }
-    requires stands { Stands (whole_task net.now snapshot.now.rows penalty budget) standing.nodes.items standing.best.choices
-        standing.best.cost }
-    ensures stands { IfOk result (λ s. Stands (whole_task net.now snapshot.now.rows penalty budget) s.nodes.items s.best.choices
-        s.best.cost) }
-    ensures evaluator { IsOver net.now snapshot.now.rows evaluator.new }
+    requires posed { IsPosedTask task.now }
+    requires evaluator { IsOver (task_of task.now) evaluator.old }
+    requires stands { Stands (task_of task.now) standing.nodes.items standing.best.choices standing.best.cost }
+    ensures stands { IfOk result (λ s. Stands (task_of task.now) s.nodes.items s.best.choices s.best.cost) }
+    ensures evaluator { IsOver (task_of task.now) evaluator.new }
 {
     let Standing { nodes, best } = standing;
-    let better = better(alloc, net, penalty, snapshot, evaluator, path, best, budget)?;
+    let better = better(task, evaluator, path, best)?;
     Ok(Standing {
         nodes,
         best: better,
@@ -198,66 +217,50 @@ fn improve(
 
 /// Goes through the tree with no limit but the cost of the best choices.
 fn last_traversal(
-    alloc: Global,
-    net: &Network,
-    penalty: u64,
-    snapshot: &Snapshot,
+    task: &Task<'_>,
     evaluator: &mut Evaluator,
     standing: Standing,
-    budget: u64,
 ) -> Result<Standing, AllocError>
-    requires sized { IsSized net.now snapshot.now.rows }
-    requires penalty { penalty ≤ PENALTY }
-    requires evaluator { IsOver net.now snapshot.now.rows evaluator.old }
-    requires budget { budget ≤ BUDGET }
-    requires stands { Stands (whole_task net.now snapshot.now.rows penalty budget) standing.nodes.items standing.best.choices
-        standing.best.cost }
-    ensures stands { IfOk result (λ s. Stands (whole_task net.now snapshot.now.rows penalty budget) s.nodes.items s.best.choices
-        s.best.cost) }
-    ensures used { IfOk result (λ s. (c : ℕ) → Contains s.nodes.items (OpenNode c) → IsUsedUp budget (length s.nodes.items) s.best.cost c) }
+    requires posed { IsPosedTask task.now }
+    requires evaluator { IsOver (task_of task.now) evaluator.old }
+    requires stands { Stands (task_of task.now) standing.nodes.items standing.best.choices standing.best.cost }
+    ensures stands { IfOk result (λ s. Stands (task_of task.now) s.nodes.items s.best.choices s.best.cost) }
+    ensures used { IfOk result (λ s. AreUsedUp task.now.budget s.best.cost s.nodes.items) }
 {
     let limit = standing.best.cost;
-    let guide = no_guide(alloc);
-    let searched = traverse(
-        alloc, net, penalty, snapshot, evaluator, standing, budget, limit, &guide,
-    )?;
+    let guide = no_guide(task.alloc);
+    let searched = traverse(task, evaluator, standing, limit, &guide)?;
     Ok(searched)
 }
 
-/// The evaluator of the snapshot's rows, which have no cycle.
-fn evaluator_of(alloc: Global, net: &Network, snapshot: &Snapshot) -> Result<Evaluator, AllocError>
-    requires { IsSized net.now snapshot.now.rows }
-    ensures { IfOk result (IsOver net.now snapshot.now.rows) }
+/// The evaluator of a task's rows, which have no cycle.
+fn evaluator_of(task: &Task<'_>) -> Result<Evaluator, AllocError>
+    requires posed { IsPosedTask task.now }
+    ensures evaluator { IfOk result (IsEvaluatorOf task.now.net.now) }
+    ensures rows { IfOk result (λ evaluator. evaluator.rows ≡ task.now.rows.now) }
+    ensures path { IfOk result (λ evaluator. evaluator.path ≡ []) }
 {
-    let rows = snapshot.rows.copy()?;
+    let rows = task.rows.copy()?;
     // What binds at the root has no cycle where the rows have none, so that only memory may be missing.
-    match Evaluator::new(alloc, net, rows) {
+    match Evaluator::new(task.alloc, task.net, rows) {
         Ok(evaluator) => Ok(evaluator),
         Err(_no_times) => Err(AllocError),
     }
 }
 
 /// What guides the search, where there is room for a choice.
-fn guide_for(
-    alloc: Global,
-    net: &Network,
-    penalty: u64,
-    snapshot: &Snapshot,
-    standing: &Standing,
-    budget: u64,
-) -> Result<Guide, AllocError>
-    requires sized { IsSized net.now snapshot.now.rows }
-    requires penalty { penalty ≤ PENALTY }
+fn guide_for(task: &Task<'_>, standing: &Standing) -> Result<Guide, AllocError>
+    requires { IsPosedTask task.now }
 {
-    if budget >= 3 {
+    if task.budget >= 3 {
         let start = Start {
             nodes: &standing.nodes,
             choices: standing.best.choices.as_slice(),
             cost: standing.best.cost,
         };
-        guide(alloc, net, penalty, &snapshot.rows, start, budget)
+        guide(task, start)
     } else {
-        Ok(no_guide(alloc))
+        Ok(no_guide(task.alloc))
     }
 }
 
@@ -268,53 +271,39 @@ fn no_guide(alloc: Global) -> Guide {
     }
 }
 
-/// The choices to which a guide's path leads, where they cost less.
+/// The choices to which a path leads, where they cost less.
 fn better(
-    alloc: Global,
-    net: &Network,
-    penalty: u64,
-    snapshot: &Snapshot,
+    task: &Task<'_>,
     evaluator: &mut Evaluator,
     path: &[Decision],
     best: Best,
-    budget: u64,
 ) -> Result<Best, AllocError>
-    requires sized { IsSized net.now snapshot.now.rows }
-    requires penalty { penalty ≤ PENALTY }
-    requires evaluator { IsOver net.now snapshot.now.rows evaluator.old }
-    requires best { AreBest (whole_task net.now snapshot.now.rows penalty budget) best.choices best.cost }
-    ensures best { IfOk result (λ b. AreBest (whole_task net.now snapshot.now.rows penalty budget) b.choices b.cost) }
+    requires posed { IsPosedTask task.now }
+    requires evaluator { IsOver (task_of task.now) evaluator.old }
+    requires best { AreBest (task_of task.now) best.choices best.cost }
+    ensures best { IfOk result (λ b. AreBest (task_of task.now) b.choices b.cost) }
     ensures no_dearer { IfOk result (λ b. b.cost ≤ best.cost) }
-    ensures evaluator { IsOver net.now snapshot.now.rows evaluator.new }
+    ensures evaluator { IsOver (task_of task.now) evaluator.new }
 {
     for decision in path {
-        if !make(net, evaluator, *decision) {
+        if !make(task.net, evaluator, *decision) {
             return Ok(best);
         }
     }
-    solved_at(alloc, net, penalty, snapshot, evaluator, best, budget)
+    solved_at(task, evaluator, best)
 }
 
 /// The choices of the completion where the evaluator stands, if nothing is violated there and they cost less than the best.
-fn solved_at(
-    alloc: Global,
-    net: &Network,
-    penalty: u64,
-    snapshot: &Snapshot,
-    evaluator: &Evaluator,
-    best: Best,
-    budget: u64,
-) -> Result<Best, AllocError>
-    requires sized { IsSized net.now snapshot.now.rows }
-    requires penalty { penalty ≤ PENALTY }
-    requires evaluator { IsOver net.now snapshot.now.rows evaluator.now }
-    requires best { AreBest (whole_task net.now snapshot.now.rows penalty budget) best.choices best.cost }
-    ensures best { IfOk result (λ b. AreBest (whole_task net.now snapshot.now.rows penalty budget) b.choices b.cost) }
+fn solved_at(task: &Task<'_>, evaluator: &Evaluator, best: Best) -> Result<Best, AllocError>
+    requires posed { IsPosedTask task.now }
+    requires evaluator { IsOver (task_of task.now) evaluator.now }
+    requires best { AreBest (task_of task.now) best.choices best.cost }
+    ensures best { IfOk result (λ b. AreBest (task_of task.now) b.choices b.cost) }
     ensures no_dearer { IfOk result (λ b. b.cost ≤ best.cost) }
 {
-    net.sound();
-    let path = evaluator.path();
-    match step(alloc, net, penalty, snapshot, path, best.cost)? {
+    task.net.sound();
+    let outcome = outcome_here(task, evaluator, best.cost)?;
+    match outcome {
         Outcome::Solved(cost, choices) => Ok(Best { choices, cost }),
         Outcome::Cycle | Outcome::Pruned(_) | Outcome::Branch(_, _) => Ok(best),
     }
@@ -323,33 +312,24 @@ fn solved_at(
 /// Goes through the tree with a limit that rises from the least cost of an open leaf, so that the budget is spent where least
 /// is known.
 fn traverse_all(
-    alloc: Global,
-    net: &Network,
-    penalty: u64,
-    snapshot: &Snapshot,
+    task: &Task<'_>,
     evaluator: &mut Evaluator,
     standing: Standing,
-    budget: u64,
 ) -> Result<Standing, AllocError>
-    requires sized { IsSized net.now snapshot.now.rows }
-    requires penalty { penalty ≤ PENALTY }
-    requires evaluator { IsOver net.now snapshot.now.rows evaluator.old }
-    requires budget { budget ≤ BUDGET }
-    requires stands { Stands (whole_task net.now snapshot.now.rows penalty budget) standing.nodes.items standing.best.choices
-        standing.best.cost }
-    ensures stands { IfOk result (λ s. Stands (whole_task net.now snapshot.now.rows penalty budget) s.nodes.items s.best.choices
-        s.best.cost) }
-    ensures evaluator { IsOver net.now snapshot.now.rows evaluator.new }
+    requires posed { IsPosedTask task.now }
+    requires evaluator { IsOver (task_of task.now) evaluator.old }
+    requires stands { Stands (task_of task.now) standing.nodes.items standing.best.choices standing.best.cost }
+    ensures stands { IfOk result (λ s. Stands (task_of task.now) s.nodes.items s.best.choices s.best.cost) }
+    ensures evaluator { IsOver (task_of task.now) evaluator.new }
 {
-    let guide = no_guide(alloc);
+    let guide = no_guide(task.alloc);
     let mut standing = standing;
     for _ in 0..TRAVERSALS {
-        let Some(limit) = next_limit(&standing.nodes, standing.best.cost, budget) else {
+        let best = standing.best.cost;
+        let Some(limit) = next_limit(&standing.nodes, best, task.budget) else {
             return Ok(standing);
         };
-        standing = traverse(
-            alloc, net, penalty, snapshot, evaluator, standing, budget, limit, &guide,
-        )?;
+        standing = traverse(task, evaluator, standing, limit, &guide)?;
     }
     Ok(standing)
 }
@@ -389,25 +369,18 @@ fn lower(low: Cost, node: Node) -> Cost
     }
 }
 
-/// What the rows cost with choices with which they have no cycle.
-fn cost_with(
-    alloc: Global,
-    net: &Network,
-    penalty: u64,
-    rows: &Rows,
-    choices: &[Decision],
-) -> Result<Cost, AllocError>
-    requires sized { IsSized net.now rows.now }
-    requires penalty { penalty ≤ PENALTY }
-    requires list { IsChoiceList net.now rows.now choices.now }
-    ensures { IfOk result (Costs net.now (with_decisions net.now rows.now choices.now) penalty) }
+/// What a task's rows cost with choices with which they have no cycle.
+fn cost_with(task: &Task<'_>, choices: &[Decision]) -> Result<Cost, AllocError>
+    requires posed { IsPosedTask task.now }
+    requires list { IsChoiceList task.now.net.now task.now.rows.now choices.now }
+    ensures { IfOk result (Costs task.now.net.now (with_decisions task.now.net.now task.now.rows.now choices.now) task.now.penalty) }
 {
-    let set = with_decisions(alloc, net, rows, choices)?;
+    let set = with_decisions(task.alloc, task.net, task.rows, choices)?;
     // Rows without a cycle have no times for want of memory alone.
-    let Ok(times) = least(alloc, net, &set) else {
+    let Ok(times) = least(task.alloc, task.net, &set) else {
         return Err(AllocError);
     };
-    Ok(cost(net, &set, &times, penalty))
+    Ok(cost(task.net, &set, &times, task.penalty))
 }
 
 /// The plan with these choices and nodes.

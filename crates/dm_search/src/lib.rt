@@ -13,7 +13,8 @@
 //! `finish` ends a search from any tree of which the inner nodes, the cycles and the costs at the leaves are right, within
 //! a budget of 1 to 16,384 nodes, and from any choices that cost no more than the rows' own: what it gives is a true plan
 //! of the snapshot's rows for the budget, with the snapshot's entry, or want of memory; how it searches is outside its
-//! clause. `plan` does so from nothing, for rows that have no cycle.
+//! clause. `plan` does so from nothing, for rows that have no cycle, and `plan_task` for a task: a true plan of it, in which
+//! every path begins with the task's base and what the base decides stays as it is.
 //!
 //! A guide finds good choices and a tree that tells much; the tree is then gone through in preorder, each node judged anew
 //! by an evaluator that is brought from path to path; what is left of the budget goes, in traversals whose cost limit rises, to
@@ -30,5 +31,6 @@ mod searching;
 mod steps;
 mod walking;
 
-pub use finishing::{finish, plan};
+pub use dm_guide::Task;
+pub use finishing::{finish, plan, plan_task};
 pub use steps::{Outcome, step};

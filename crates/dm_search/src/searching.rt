@@ -1,25 +1,23 @@
 //! A tree that is searched node by node in preorder.
-ghost use Rattle.std.specs.Prelude.{ℕ, ◌≡◌, ◌∷◌, ◌++◌, ◌+◌, ◌⊎◌, ◌≤◌, [], length, reverse, List, Contains, IfOk, OnOk, MatchBool, None};
-ghost use Rattle.dm_base.specs.declared.limits.TheConstants.{PENALTY, BUDGET};
+ghost use Rattle.std.specs.Prelude.{◌≡◌, ◌∷◌, ◌++◌, ◌+◌, ◌⊎◌, ◌≤◌, [], length, reverse, List, IfOk, OnOk, MatchBool, None};
+ghost use Rattle.dm_base.specs.declared.limits.TheConstants.{BUDGET};
 ghost use Rattle.dm_rows.specs.declared.messages.Decision.{Decision as DecisionValue};
-ghost use Rattle.dm_rows.specs.Rows.{IsSized};
 ghost use Rattle.dm_rows.specs.Decide.{IsChoiceList};
-ghost use Rattle.dm_tree.specs.declared.forms.Node.TheVariants.{Inner as InnerNode, Open as OpenNode, Hole as HoleNode};
+ghost use Rattle.dm_tree.specs.declared.forms.Node.TheVariants.{Inner as InnerNode, Hole as HoleNode};
 ghost use Rattle.dm_tree.specs.Trees.{choice_in};
 ghost use Rattle.dm_rows.specs.Sides.{first_decision};
-ghost use Rattle.dm_tree.specs.Plans.{whole_task};
+ghost use Rattle.dm_guide.specs.Tasks.{IsPosedTask, task_of};
 ghost use Rattle.dm_tree.specs.Pending.{pending};
 ghost use Rattle.dm_search.specs.Finish.{IsKnown};
 ghost use Rattle.dm_search.specs.Inside.Walking.{IsOver};
-ghost use Rattle.dm_search.specs.Inside.Searching.{AreBest, IsUsedUp, IsSearched, Stands, IsCeiling, IsFound, IsAdvanced};
+ghost use Rattle.dm_search.specs.Inside.Searching.{AreBest, AreUsedUp, IsSearched, Stands, IsCeiling, IsFound, IsAdvanced};
 
 use crate::Outcome;
 use crate::walking::step_there;
 use dm_base::{Cost, Items};
 use dm_evaluate::Evaluator;
-use dm_guide::{Guide, Hint};
-use dm_network::Network;
-use dm_rows::{Choice, Decision, Snapshot};
+use dm_guide::{Guide, Hint, Task};
+use dm_rows::{Choice, Decision};
 use dm_tree::{Node, turn_back};
 use std::alloc::{AllocError, Global};
 
@@ -151,47 +149,28 @@ fn beside(below: Option<usize>) -> Option<usize> {
 /// Goes through a tree in preorder: each hole is searched, and each leaf below the limit while there is room for two nodes
 /// more.
 pub(crate) fn traverse(
-    alloc: Global,
-    net: &Network,
-    penalty: u64,
-    snapshot: &Snapshot,
+    task: &Task<'_>,
     evaluator: &mut Evaluator,
     standing: Standing,
-    budget: u64,
     limit: Cost,
     guide: &Guide,
 ) -> Result<Standing, AllocError>
-    requires sized { IsSized net.now snapshot.now.rows }
-    requires penalty { penalty ≤ PENALTY }
-    requires evaluator { IsOver net.now snapshot.now.rows evaluator.old }
-    requires budget { budget ≤ BUDGET }
-    requires stands { Stands (whole_task net.now snapshot.now.rows penalty budget) standing.nodes.items standing.best.choices
-        standing.best.cost }
-    ensures stands { IfOk result (λ s. Stands (whole_task net.now snapshot.now.rows penalty budget) s.nodes.items s.best.choices
-        s.best.cost) }
-    ensures used { IfOk result (λ s. (c : ℕ) → Contains s.nodes.items (OpenNode c) → IsUsedUp budget (length s.nodes.items) limit c) }
+    requires posed { IsPosedTask task.now }
+    requires evaluator { IsOver (task_of task.now) evaluator.old }
+    requires stands { Stands (task_of task.now) standing.nodes.items standing.best.choices standing.best.cost }
+    ensures stands { IfOk result (λ s. Stands (task_of task.now) s.nodes.items s.best.choices s.best.cost) }
+    ensures used { IfOk result (λ s. AreUsedUp task.now.budget limit s.nodes.items) }
     ensures no_dearer { IfOk result (λ s. s.best.cost ≤ standing.best.cost) }
-    ensures evaluator { IsOver net.now snapshot.now.rows evaluator.new }
+    ensures evaluator { IsOver (task_of task.now) evaluator.new }
 {
-    net.sound();
+    task.net.sound();
     let mut hints = Hints {
         guide,
-        due: vec![in alloc; Some(0)]?,
+        due: vec![in task.alloc; Some(0)]?,
     };
-    let mut search = Search::new(alloc, standing.nodes);
+    let mut search = Search::new(task.alloc, standing.nodes);
     let best = standing.best;
-    let best = search_all(
-        alloc,
-        net,
-        penalty,
-        snapshot,
-        evaluator,
-        &mut search,
-        best,
-        budget,
-        limit,
-        &mut hints,
-    )?;
+    let best = search_all(task, evaluator, &mut search, best, limit, &mut hints)?;
     Ok(Standing {
         nodes: search.nodes,
         best,
@@ -200,122 +179,96 @@ pub(crate) fn traverse(
 
 /// Settles each node that is due, and gives the best choices that are found on the way.
 fn search_all(
-    alloc: Global,
-    net: &Network,
-    penalty: u64,
-    snapshot: &Snapshot,
+    task: &Task<'_>,
     evaluator: &mut Evaluator,
     search: &mut Search,
     best: Best,
-    budget: u64,
     limit: Cost,
     hints: &mut Hints<'_>,
 ) -> Result<Best, AllocError>
-    requires sized { IsSized net.now snapshot.now.rows }
-    requires penalty { penalty ≤ PENALTY }
-    requires evaluator { IsOver net.now snapshot.now.rows evaluator.old }
-    requires budget { budget ≤ BUDGET }
-    requires best { AreBest (whole_task net.now snapshot.now.rows penalty budget) best.choices best.cost }
-    requires search { IsSearched (whole_task net.now snapshot.now.rows penalty budget) limit best.cost
+    requires posed { IsPosedTask task.now }
+    requires evaluator { IsOver (task_of task.now) evaluator.old }
+    requires best { AreBest (task_of task.now) best.choices best.cost }
+    requires search { IsSearched (task_of task.now) limit best.cost
         search.old.nodes.items (reverse search.old.due.items) search.old.path.items }
-    ensures best { IfOk result (λ b. AreBest (whole_task net.now snapshot.now.rows penalty budget) b.choices b.cost) }
-    ensures search { IfOk result (λ b. IsSearched (whole_task net.now snapshot.now.rows penalty budget) limit b.cost
+    ensures best { IfOk result (λ b. AreBest (task_of task.now) b.choices b.cost) }
+    ensures search { IfOk result (λ b. IsSearched (task_of task.now) limit b.cost
         search.new.nodes.items [] search.new.path.items) }
     ensures no_dearer { IfOk result (λ b. b.cost ≤ best.cost) }
-    ensures evaluator { IsOver net.now snapshot.now.rows evaluator.new }
+    ensures evaluator { IsOver (task_of task.now) evaluator.new }
 {
     let mut now = best;
     while let Some(node) = search.due.pop() {
-        now = advance(
-            alloc, net, penalty, snapshot, evaluator, search, node, now, budget, limit, hints,
-        )?;
+        now = advance(task, evaluator, search, node, now, limit, hints)?;
     }
     Ok(now)
 }
 
 /// Settles the node that stands next.
 fn advance(
-    alloc: Global,
-    net: &Network,
-    penalty: u64,
-    snapshot: &Snapshot,
+    task: &Task<'_>,
     evaluator: &mut Evaluator,
     search: &mut Search,
     node: Node,
     best: Best,
-    budget: u64,
     limit: Cost,
     hints: &mut Hints<'_>,
 ) -> Result<Best, AllocError>
-    requires sized { IsSized net.now snapshot.now.rows }
-    requires penalty { penalty ≤ PENALTY }
-    requires evaluator { IsOver net.now snapshot.now.rows evaluator.old }
-    requires budget { budget ≤ BUDGET }
-    requires best { AreBest (whole_task net.now snapshot.now.rows penalty budget) best.choices best.cost }
-    requires search { IsSearched (whole_task net.now snapshot.now.rows penalty budget) limit best.cost
+    requires posed { IsPosedTask task.now }
+    requires evaluator { IsOver (task_of task.now) evaluator.old }
+    requires best { AreBest (task_of task.now) best.choices best.cost }
+    requires search { IsSearched (task_of task.now) limit best.cost
         search.old.nodes.items (node ∷ reverse search.old.due.items) search.old.path.items }
-    ensures advanced { IfOk result (IsAdvanced (whole_task net.now snapshot.now.rows penalty budget) limit (length search.old.nodes.items)
-        best.cost
+    ensures advanced { IfOk result (IsAdvanced (task_of task.now) limit (length search.old.nodes.items) best.cost
         search.new.nodes.items (reverse search.new.due.items) search.new.path.items) }
-    ensures evaluator { IsOver net.now snapshot.now.rows evaluator.new }
+    ensures evaluator { IsOver (task_of task.now) evaluator.new }
 {
-    net.sound();
+    task.net.sound();
     let hint = hints.next();
     if let Some(choice) = node.choice() {
         hints.branch(hint, choice)?;
         search.descend(choice)?;
         return Ok(best);
     }
-    let total = (search.nodes.len() + 1 + search.due.len()) as u64;
-    let ceiling = ceiling_of(total, budget, limit, wanted_at(hint, limit, best.cost));
+    let wanted = wanted_at(hint, limit, best.cost);
+    let ceiling = ceiling_of(search, task.budget, limit, wanted);
     let path = search.path.as_slice();
     let found = found_at(
-        alloc,
-        net,
-        penalty,
-        snapshot,
+        task,
         evaluator,
         path,
         node,
         best.cost,
-        budget,
         ceiling,
         hinted(hint),
     )?;
     if let Found::Split(choice) = &found {
         hints.branch(hint, *choice)?;
     }
-    place(
-        net, penalty, snapshot, search, node, best, budget, limit, total, ceiling, found,
-    )
+    place(task, search, node, best, limit, ceiling, found)
 }
 
 /// Settles what was found at the leaf that stands next.
 fn place(
-    net: &Network,
-    penalty: u64,
-    snapshot: &Snapshot,
+    task: &Task<'_>,
     search: &mut Search,
     leaf: Node,
     best: Best,
-    budget: u64,
     limit: Cost,
-    total: u64,
     ceiling: Cost,
     found: Found,
 ) -> Result<Best, AllocError>
-    requires total { total ≡ length search.old.nodes.items + 1 + length search.old.due.items }
-    requires ceiling { IsCeiling budget total limit ceiling }
+    requires posed { IsPosedTask task.now }
+    requires ceiling { IsCeiling task.now.budget (length search.old.nodes.items + 1 + length search.old.due.items) limit ceiling }
     requires leaf { None ≡ choice_in leaf }
-    requires found { IsFound (whole_task net.now snapshot.now.rows penalty budget) search.old.path.items best.cost ceiling found }
-    requires best { AreBest (whole_task net.now snapshot.now.rows penalty budget) best.choices best.cost }
-    requires search { IsSearched (whole_task net.now snapshot.now.rows penalty budget) limit best.cost
+    requires found { IsFound (task_of task.now) search.old.path.items best.cost ceiling found }
+    requires best { AreBest (task_of task.now) best.choices best.cost }
+    requires search { IsSearched (task_of task.now) limit best.cost
         search.old.nodes.items (leaf ∷ reverse search.old.due.items) search.old.path.items }
-    ensures advanced { IfOk result (IsAdvanced (whole_task net.now snapshot.now.rows penalty budget) limit (length search.old.nodes.items)
-        best.cost
+    ensures advanced { IfOk result (IsAdvanced (task_of task.now) limit (length search.old.nodes.items) best.cost
         search.new.nodes.items (reverse search.new.due.items) search.new.path.items) }
 {
-    net.sound();
+    task.net.sound();
     match found {
         Found::Settled(leaf) => {
             search.leave(leaf)?;
@@ -350,40 +303,36 @@ fn hinted(hint: Option<Hint>) -> Option<Choice> {
     }
 }
 
-/// How little a leaf costs that is searched in a tree of so many nodes: none is where two nodes more have no room.
-fn ceiling_of(total: u64, budget: u64, limit: Cost, wanted: Cost) -> Cost
-    requires total { total ≤ BUDGET }
+/// How little a leaf costs that is searched where one node stands next: none is where two nodes more have no room.
+fn ceiling_of(search: &Search, budget: u64, limit: Cost, wanted: Cost) -> Cost
+    requires total { length search.now.nodes.items + 1 + length search.now.due.items ≤ BUDGET }
     requires wanted { limit ≤ wanted }
-    ensures { IsCeiling budget total limit result }
+    ensures { IsCeiling budget (length search.now.nodes.items + 1 + length search.now.due.items) limit result }
 {
+    let total = (search.nodes.len() + 1 + search.due.len()) as u64;
     if total + 2 <= budget { wanted } else { 0 }
 }
 
 /// What is found at a leaf: at a hole, and at an open leaf below the ceiling, what one step finds.
 fn found_at(
-    alloc: Global,
-    net: &Network,
-    penalty: u64,
-    snapshot: &Snapshot,
+    task: &Task<'_>,
     evaluator: &mut Evaluator,
     path: &[Decision],
     leaf: Node,
     best: Cost,
-    budget: u64,
     ceiling: Cost,
     hint: Option<Choice>,
 ) -> Result<Found, AllocError>
-    requires sized { IsSized net.now snapshot.now.rows }
-    requires penalty { penalty ≤ PENALTY }
-    requires evaluator { IsOver net.now snapshot.now.rows evaluator.old }
-    requires list { IsChoiceList net.now snapshot.now.rows path.now }
+    requires posed { IsPosedTask task.now }
+    requires evaluator { IsOver (task_of task.now) evaluator.old }
+    requires list { IsChoiceList task.now.net.now task.now.rows.now (task.now.base.now ++ path.now) }
     requires leaf { choice_in leaf ≡ None }
-    requires best { (choices : List DecisionValue) × AreBest (whole_task net.now snapshot.now.rows penalty budget) choices best }
-    requires known { IsKnown (whole_task net.now snapshot.now.rows penalty budget) best path.now leaf }
-    ensures found { IfOk result (IsFound (whole_task net.now snapshot.now.rows penalty budget) path.now best ceiling) }
-    ensures evaluator { IsOver net.now snapshot.now.rows evaluator.new }
+    requires best { (choices : List DecisionValue) × AreBest (task_of task.now) choices best }
+    requires known { IsKnown (task_of task.now) best path.now leaf }
+    ensures found { IfOk result (IsFound (task_of task.now) path.now best ceiling) }
+    ensures evaluator { IsOver (task_of task.now) evaluator.new }
 {
-    net.sound();
+    task.net.sound();
     match leaf {
         Node::Hole => {}
         Node::Open(cost) if cost < ceiling => {}
@@ -391,7 +340,7 @@ fn found_at(
             return Ok(Found::Settled(leaf));
         }
     }
-    match step_there(alloc, net, penalty, snapshot, evaluator, path, best, hint)? {
+    match step_there(task, evaluator, path, best, hint)? {
         Outcome::Cycle => Ok(Found::Settled(Node::Cycle)),
         Outcome::Pruned(cost) => Ok(Found::Settled(Node::Bound(cost))),
         Outcome::Solved(cost, choices) => Ok(Found::Better(Best { choices, cost })),

@@ -46,8 +46,25 @@ pub fn step(
     requires list { IsChoiceList net.now snapshot.now.rows path.now }
     ensures { IfOk result (IsOutcome net.now snapshot.now.rows path.now penalty best) }
 {
-    match relax(alloc, net, penalty, &snapshot.rows, path) {
-        Ok(relaxed) => outcome_of(alloc, net, penalty, &snapshot.rows, path, best, &relaxed),
+    outcome_at(alloc, net, penalty, &snapshot.rows, path, best)
+}
+
+/// What a search does with a path over some rows.
+pub(crate) fn outcome_at(
+    alloc: Global,
+    net: &Network,
+    penalty: u64,
+    rows: &Rows,
+    path: &[Decision],
+    best: Cost,
+) -> Result<Outcome, AllocError>
+    requires sized { IsSized net.now rows.now }
+    requires penalty { penalty ≤ PENALTY }
+    requires list { IsChoiceList net.now rows.now path.now }
+    ensures { IfOk result (IsOutcome net.now rows.now path.now penalty best) }
+{
+    match relax(alloc, net, penalty, rows, path) {
+        Ok(relaxed) => outcome_of(alloc, net, penalty, rows, path, best, &relaxed),
         Err(NoTimes::Cycle(_)) => Ok(Outcome::Cycle),
         Err(NoTimes::OutOfMemory) => Err(AllocError),
     }

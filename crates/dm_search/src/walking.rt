@@ -1,55 +1,76 @@
 //! One step of a search by an evaluator that is brought to the path.
-ghost use Rattle.std.specs.Prelude.{◌≡◌, ◌<◌, ◌≤◌, ◌+◌, ◌-◌, ◌++◌, ◌∷◌, [], length, take, IfOk, OnOk, OnErr, MatchBool, IsTrue, ◌↔◌, IfSome};
+ghost use Rattle.std.specs.Prelude.{◌≡◌, ◌<◌, ◌≤◌, ◌+◌, ◌-◌, ◌++◌, ◌∷◌, [], length, take, drop, IfOk, OnOk, OnErr, MatchBool, IsTrue, ◌↔◌, IfSome};
 ghost use Rattle.dm_rows.specs.Decide.{IsChoiceList, choice_of};
 ghost use Rattle.dm_evaluate.specs.Evaluator.{IsEvaluatorOf, times_of};
 ghost use Rattle.dm_paths.specs.Decisions.{IsOpen};
-ghost use Rattle.dm_base.specs.declared.limits.TheConstants.{PENALTY};
+ghost use Rattle.dm_guide.specs.Tasks.{IsPosedTask, task_of};
 ghost use Rattle.dm_relax.specs.Relaxed.{first_violated};
+ghost use Rattle.dm_tree.specs.Pending.{IsFront};
 ghost use Rattle.dm_tree.specs.Relaxed.{IsViolated};
-ghost use Rattle.dm_search.specs.Steps.{HasRelaxedCycle};
+ghost use Rattle.dm_search.specs.Steps.{HasRelaxedCycle, IsOutcome};
 ghost use Rattle.dm_search.specs.Inside.Walking.{AreFronts, IsFoundThere, IsOver};
 
-use crate::{Outcome, step};
+use crate::Outcome;
+use crate::steps::outcome_at;
 use dm_base::{Cost, Steps};
 use dm_evaluate::Evaluator;
 use dm_graph::search::Cyclic;
+use dm_guide::Task;
 use dm_network::Network;
-use dm_rows::{Choice, Decision, Snapshot};
-use std::alloc::{AllocError, Global};
+use dm_rows::{Choice, Decision};
+use std::alloc::AllocError;
 use std::marker::Brand;
 use std::sync::ledger::{Blank, Ledger};
 
-/// What [`step`] says of a path over the rows of a snapshot, in the time that the evaluator of these rows takes to go there. It
-/// branches on the choice that it is hinted at, where that one is violated.
+/// What a search does with a path behind the base of a task, in the time that the task's evaluator takes to go there. It branches on
+/// the choice that it is hinted at, where that one is violated.
 pub(crate) fn step_there(
-    alloc: Global,
-    net: &Network,
-    penalty: u64,
-    snapshot: &Snapshot,
+    task: &Task<'_>,
     evaluator: &mut Evaluator,
     path: &[Decision],
     best: Cost,
     hint: Option<Choice>,
 ) -> Result<Outcome, AllocError>
-    requires penalty { penalty ≤ PENALTY }
-    requires evaluator { IsOver net.now snapshot.now.rows evaluator.old }
-    requires list { IsChoiceList net.now snapshot.now.rows path.now }
-    ensures outcome { IfOk result (IsFoundThere net.now snapshot.now.rows path.now penalty best) }
-    ensures evaluator { IsOver net.now snapshot.now.rows evaluator.new }
+    requires posed { IsPosedTask task.now }
+    requires evaluator { IsOver (task_of task.now) evaluator.old }
+    requires list { IsChoiceList task.now.net.now task.now.rows.now (task.now.base.now ++ path.now) }
+    ensures outcome { IfOk result (IsFoundThere task.now.net.now task.now.rows.now (task.now.base.now ++ path.now) task.now.penalty best) }
+    ensures evaluator { IsOver (task_of task.now) evaluator.new }
 {
+    let net = task.net;
     net.sound();
-    let Ok(()) = walk(net, evaluator, path) else {
+    let Ok(()) = walk(task, evaluator, path) else {
         return Ok(Outcome::Cycle);
     };
-    let cost = evaluator.cost(net, penalty);
+    let cost = evaluator.cost(net, task.penalty);
     if best <= cost {
         return Ok(Outcome::Pruned(cost));
     }
     match violated_there(net, evaluator, hint) {
         Some(choice) => Ok(Outcome::Branch(cost, choice)),
         // The choices of a completion are made out from the whole relaxed problem, which is seldom.
-        None => step(alloc, net, penalty, snapshot, path, best),
+        None => outcome_here(task, evaluator, best),
     }
+}
+
+/// What a search does with the path of a task's evaluator.
+pub(crate) fn outcome_here(
+    task: &Task<'_>,
+    evaluator: &Evaluator,
+    best: Cost,
+) -> Result<Outcome, AllocError>
+    requires posed { IsPosedTask task.now }
+    requires evaluator { IsOver (task_of task.now) evaluator.now }
+    ensures { IfOk result (IsOutcome task.now.net.now task.now.rows.now evaluator.now.path task.now.penalty best) }
+{
+    outcome_at(
+        task.alloc,
+        task.net,
+        task.penalty,
+        task.rows,
+        evaluator.path(),
+        best,
+    )
 }
 
 /// A choice that the evaluator's times violate: the one that it is hinted at, or the first.
@@ -58,6 +79,7 @@ fn violated_there(net: &Network, evaluator: &mut Evaluator, hint: Option<Choice>
     requires { IsEvaluatorOf net.now evaluator.old }
     ensures evaluator { IsEvaluatorOf net.now evaluator.new }
     ensures rows { evaluator.new.rows ≡ evaluator.old.rows }
+    ensures path { evaluator.new.path ≡ evaluator.old.path }
     ensures violated { IfSome result (IsViolated net.now evaluator.old.rows evaluator.old.path (times_of evaluator.old)) }
 {
     match hint {
@@ -95,6 +117,7 @@ fn violated_in(net: &Network, evaluator: &mut Evaluator) -> Option<Choice>
     requires { IsEvaluatorOf net.now evaluator.old }
     ensures evaluator { IsEvaluatorOf net.now evaluator.new }
     ensures rows { evaluator.new.rows ≡ evaluator.old.rows }
+    ensures path { evaluator.new.path ≡ evaluator.old.path }
     ensures first { result ≡ first_violated net.now evaluator.old.rows evaluator.old.path (times_of evaluator.old) }
 {
     violated_with::<Brand>(net, evaluator, Blank::new(1))
@@ -111,29 +134,43 @@ fn violated_with<L: Ledger>(
     requires has_a_part { 0 < blank.parts }
     ensures evaluator { IsEvaluatorOf net.now evaluator.new }
     ensures rows { evaluator.new.rows ≡ evaluator.old.rows }
+    ensures path { evaluator.new.path ≡ evaluator.old.path }
     ensures first { result ≡ first_violated net.now evaluator.old.rows evaluator.old.path (times_of evaluator.old) }
 {
     let mut steps = Steps::<L>::new(blank);
     evaluator.violated(net, &mut steps)
 }
 
-/// Brings an evaluator to a path: decisions are taken back from the end of its own path down to what both have in front, and
-/// the others of the path are made. It is refused where the relaxed problem of the path has a cycle.
+/// Brings a task's evaluator to a path behind the base: decisions are taken back from the end of its own path down to what both have
+/// in front, and the others of the path are made. It is refused where the relaxed problem of the path has a cycle.
 pub(crate) fn walk(
-    net: &Network,
+    task: &Task<'_>,
     evaluator: &mut Evaluator,
     path: &[Decision],
 ) -> Result<(), Cyclic>
-    requires evaluator { IsEvaluatorOf net.now evaluator.old }
-    requires list { IsChoiceList net.now evaluator.old.rows path.now }
-    ensures evaluator { IsEvaluatorOf net.now evaluator.new }
-    ensures rows { evaluator.new.rows ≡ evaluator.old.rows }
-    ensures there { OnOk result (evaluator.new.path ≡ path.now) }
-    ensures cycle { OnErr result (HasRelaxedCycle net.now evaluator.old.rows path.now) }
+    requires posed { IsPosedTask task.now }
+    requires evaluator { IsOver (task_of task.now) evaluator.old }
+    requires list { IsChoiceList task.now.net.now task.now.rows.now (task.now.base.now ++ path.now) }
+    ensures evaluator { IsOver (task_of task.now) evaluator.new }
+    ensures there { OnOk result (evaluator.new.path ≡ task.now.base.now ++ path.now) }
+    ensures cycle { OnErr result (HasRelaxedCycle task.now.net.now task.now.rows.now (task.now.base.now ++ path.now)) }
 {
-    let common = common_front(evaluator.path(), path);
-    back_to(net, evaluator, common);
-    go_on(net, evaluator, path)
+    let base = task.base.len();
+    let common = common_front(behind(evaluator.path(), base), path);
+    let left = base + common;
+    back_to(task.net, evaluator, left);
+    make_all(task.net, evaluator, &path[common..])
+}
+
+/// The decisions of a path behind the first so many, and none where it has no more.
+pub(crate) fn behind(path: &[Decision], many: usize) -> &[Decision]
+    ensures { result.now ≡ drop many path.now }
+{
+    if many < path.len() {
+        &path[many..]
+    } else {
+        &[]
+    }
 }
 
 /// How many decisions the two have in common at the front.
@@ -195,20 +232,23 @@ fn undecide_with<L: Ledger>(net: &Network, evaluator: &mut Evaluator, last: Deci
     evaluator.undecide(net, last.choice(), &mut steps);
 }
 
-/// Makes the decisions of a path of which the evaluator's is a front.
-fn go_on(net: &Network, evaluator: &mut Evaluator, path: &[Decision]) -> Result<(), Cyclic>
+/// Makes decisions behind an evaluator's path. It is refused where the relaxed problem of the path with all of them has a cycle.
+pub(crate) fn make_all(
+    net: &Network,
+    evaluator: &mut Evaluator,
+    decisions: &[Decision],
+) -> Result<(), Cyclic>
     requires evaluator { IsEvaluatorOf net.now evaluator.old }
-    requires list { IsChoiceList net.now evaluator.old.rows path.now }
-    requires within { length evaluator.old.path ≤ length path.now }
-    requires front { evaluator.old.path ≡ take (length evaluator.old.path) path.now }
+    requires list { IsChoiceList net.now evaluator.old.rows (evaluator.old.path ++ decisions.now) }
     ensures evaluator { IsEvaluatorOf net.now evaluator.new }
     ensures rows { evaluator.new.rows ≡ evaluator.old.rows }
-    ensures there { OnOk result (evaluator.new.path ≡ path.now) }
-    ensures cycle { OnErr result (HasRelaxedCycle net.now evaluator.old.rows path.now) }
+    ensures front { IsFront evaluator.old.path evaluator.new.path }
+    ensures there { OnOk result (evaluator.new.path ≡ evaluator.old.path ++ decisions.now) }
+    ensures cycle { OnErr result (HasRelaxedCycle net.now evaluator.old.rows (evaluator.old.path ++ decisions.now)) }
 {
     net.sound();
-    for i in evaluator.path().len()..path.len() {
-        match decide_with::<Brand>(net, evaluator, path[i], Blank::new(1)) {
+    for i in 0..decisions.len() {
+        match decide_with::<Brand>(net, evaluator, decisions[i], Blank::new(1)) {
             Ok(()) => {}
             Err(Cyclic) => return Err(Cyclic),
         }
@@ -221,6 +261,7 @@ pub(crate) fn make(net: &Network, evaluator: &mut Evaluator, decision: Decision)
     requires { IsEvaluatorOf net.now evaluator.old }
     ensures evaluator { IsEvaluatorOf net.now evaluator.new }
     ensures rows { evaluator.new.rows ≡ evaluator.old.rows }
+    ensures path { IsFront evaluator.old.path evaluator.new.path }
 {
     if !evaluator.is_open(net, decision.choice()) {
         return false;
@@ -241,10 +282,13 @@ fn make_open<L: Ledger>(
     requires has_a_part { 0 < blank.parts }
     ensures evaluator { IsEvaluatorOf net.now evaluator.new }
     ensures rows { evaluator.new.rows ≡ evaluator.old.rows }
+    ensures path { IsFront evaluator.old.path evaluator.new.path }
 {
     let mut steps = Steps::<L>::new(blank);
-    let made = evaluator.decide(net, decision, &mut steps);
-    made.is_ok()
+    match evaluator.decide(net, decision, &mut steps) {
+        Ok(()) => true,
+        Err(Cyclic) => false,
+    }
 }
 
 fn decide_with<L: Ledger>(
@@ -261,6 +305,7 @@ fn decide_with<L: Ledger>(
     ensures evaluator { IsEvaluatorOf net.now evaluator.new }
     ensures rows { evaluator.new.rows ≡ evaluator.old.rows }
     ensures path { OnOk result (evaluator.new.path ≡ evaluator.old.path ++ decision ∷ []) }
+    ensures unchanged { OnErr result (evaluator.new.path ≡ evaluator.old.path) }
     ensures cycle { OnErr result (HasRelaxedCycle net.now evaluator.old.rows (evaluator.old.path ++ decision ∷ [])) }
 {
     let mut steps = Steps::<L>::new(blank);

@@ -38,6 +38,10 @@ pub record IsGoing (task : Task) (best : ℕ) (nodes rest : List Node) (path : L
 abbrev pub IsUsedUp : ℕ → ℕ → ℕ → ℕ → Type 0
 IsUsedUp budget total limit c = (budget < total + 2) ⊎ (limit ≤ c)
 
+-- each open leaf of a tree is used up
+abbrev pub AreUsedUp : ℕ → ℕ → List Node → Type 0
+AreUsedUp budget limit nodes = (c : ℕ) → Contains nodes (Open c) → IsUsedUp budget (length nodes) limit c
+
 -- The first nodes of a tree are settled, and others are left. Together they keep to the budget, and where a node that costs
 -- less than the limit was left open two further ones would not.
 pub record IsSearched (task : Task) (limit best : ℕ) (nodes rest : List Node) (path : List Decision) : Type 0 where

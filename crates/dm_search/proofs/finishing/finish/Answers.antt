@@ -1,25 +1,13 @@
+use Rattle.std.proofs.Common.{sym, subst}
 use Rattle.std.proofs.lemmas.Result.{IfOk-weaker}
-use Rattle.dm_search.proofs.Optimal.{whole_is_task, chosen}
-use Rattle.dm_search.proofs.Limits.{at_most_itself}
-use Rattle.dm_search.proofs.Started.{stands_at_start}
-use Rattle.dm_search.proofs.Ended.{plan_is_true}
-use Rattle.dm_search.specs.Inside.Ending.{IsPlanOf}
+use Rattle.dm_tree.specs.Plans.{Task, IsTruePlan}
+use Rattle.dm_search.specs.Finish.{IsStart}
 use Rattle.dm_search.proofs.finishing.finish.Goals as goal
 
-pub cost_with-requires-clause-list : goal.cost_with-requires-clause-list
-cost_with-requires-clause-list c =
-    rw c.deref.ensures.value
-    (chosen _ (whole_is_task _ _ c.args.penalty c.args.budget c.sound.ensures.network c.requires.sized) _ c.requires.start.choices).0
-
-pub search_whole-requires-clause-stands : goal.search_whole-requires-clause-stands
-search_whole-requires-clause-stands c =
-    rw (c.in_ok-nodes.ensures.items, c.as_slice.ensures.nodes, c.from_vec-choices.ensures)
-    (stands_at_start _ c.sound.ensures.network _ _ _ c.requires.start (rw c.deref.ensures.value at c.in_ok-cost.ensures))
+pub finish_task-requires-clause-start : goal.finish_task-requires-clause-start
+finish_task-requires-clause-start c =
+    subst (λ (t : Task). IsStart t c.args.partial c.args.best.items) (sym c.whole-task.ensures.task) c.requires.start
 
 pub returns-clause-plan : goal.returns-clause-plan
 returns-clause-plan c =
-    IfOk-weaker _ _ _ (λ p of. plan_is_true _ (whole_is_task _ _ c.args.penalty c.args.budget c.sound.ensures.network c.requires.sized) _ _ _ _ _ p
-    c.in_ok-searched.ensures.stands c.in_ok-searched.ensures.used (at_most_itself _) of) c.plan_of.ensures
-
-pub returns-clause-entry : goal.returns-clause-entry
-returns-clause-entry c = IfOk-weaker _ _ _ (λ p (of : IsPlanOf c.args.snapshot.now.entry _ _ _ p). of.of_entry) c.plan_of.ensures
+    IfOk-weaker _ _ _ (λ p is. subst (λ (t : Task). IsTruePlan t p) c.whole-task.ensures.task is) c.finish_task.ensures.plan

@@ -6,7 +6,7 @@ pub returns-in_ok-leave-in-Settled : goal.returns-in_ok-leave-in-Settled
 returns-in_ok-leave-in-Settled c =
     record {
       advanced = past_leaf _ c.sound.ensures.network _ _ _ _ _ _ _ _ _ _ _ _ _ refl c.requires.leaf (rw c.in-Settled.is at c.requires.found)
-          c.requires.ceiling c.requires.total c.in_ok-leave-in-Settled.ensures.nodes
+          c.requires.ceiling refl c.in_ok-leave-in-Settled.ensures.nodes
           c.in_ok-leave-in-Settled.ensures.path c.in_ok-leave-in-Settled.ensures.due c.requires.search c.requires.best;
     }
 
@@ -14,7 +14,7 @@ pub returns-in_ok-leave-in-Better : goal.returns-in_ok-leave-in-Better
 returns-in_ok-leave-in-Better c =
     record {
       advanced = past_better _ c.sound.ensures.network _ _ _ _ _ _ _ _ _ _ _ _ _ refl c.requires.leaf (rw c.in-Better.is at c.requires.found)
-          c.requires.ceiling c.requires.total c.in_ok-leave-in-Better.ensures.nodes
+          c.requires.ceiling refl c.in_ok-leave-in-Better.ensures.nodes
           c.in_ok-leave-in-Better.ensures.path c.in_ok-leave-in-Better.ensures.due c.requires.search;
     }
 
@@ -22,6 +22,6 @@ pub returns-in_ok-split-in-Split : goal.returns-in_ok-split-in-Split
 returns-in_ok-split-in-Split c =
     record {
       advanced = past_split _ c.sound.ensures.network _ _ _ _ _ _ _ _ _ _ _ _ _ refl c.requires.leaf (rw c.in-Split.is at c.requires.found)
-          c.requires.ceiling c.requires.total c.in_ok-split-in-Split.ensures.nodes
+          c.requires.ceiling refl c.in_ok-split-in-Split.ensures.nodes
           c.in_ok-split-in-Split.ensures.path c.in_ok-split-in-Split.ensures.due c.requires.search c.requires.best;
     }

@@ -1,12 +1,11 @@
 use Rattle.std.proofs.Common.{ap, ◌∙◌, reverse}
 use Rattle.std.proofs.lemmas.List.{reverse-reverse}
-use Rattle.dm_search.proofs.Optimal.{whole_is_task}
 use Rattle.dm_search.proofs.Advancing.{search_anew, used_in_all, stands_searched}
 use Rattle.dm_search.proofs.searching.traverse.Goals as goal
 
 pub search_all-requires-clause-search : goal.search_all-requires-clause-search
 search_all-requires-clause-search c =
-    search_anew _ (whole_is_task _ _ c.args.penalty c.args.budget c.sound.ensures.network c.requires.sized).base _ _ _ _ _ _ _
+    search_anew _ c.requires.posed.decides _ _ _ _ _ _ _
     c.new-search.ensures.nodes c.new-search.ensures.path (ap reverse c.new-search.ensures.due ∙ reverse-reverse _) c.requires.stands
 
 pub returns-clause-stands : goal.returns-clause-stands
