@@ -1,0 +1,279 @@
+//! Queries on generated days, beside all walks.
+ghost use Rattle.std.specs.Prelude.{◌≡◌, ◌<◌, length, IfOk};
+ghost use Rattle.dm_rows.specs.Rows.{IsSized};
+ghost use Rattle.dm_rows.specs.Timetable.{IsLeast};
+
+use crate::plain::{End, all_walks, change_of, is_usable};
+use dm_base::{EventKind, Secs, StopId};
+use dm_journey::{Journey, journeys};
+use dm_network::Network;
+use dm_rows::{Message, Rows, admit};
+use dm_samples::{Draws, Failure, generated_day, rows_on_time};
+use dm_times::{Times, least};
+use std::alloc::Global;
+
+/// How many messages the rows of a day have heard, and how many queries are asked then.
+const MESSAGES: u32 = 40;
+
+const ASKED: u32 = 150;
+
+/// What is asked.
+#[derive(Clone, Copy)]
+struct Query {
+    from: StopId,
+    to: StopId,
+    after: Secs,
+    most: u32,
+}
+
+/// Asks so many queries on a generated day, and compares each answer with all walks. Of the answers more than ten are not empty,
+/// and more than two have a change.
+pub fn day_agrees(alloc: Global, trains: u32) -> Result<(), Failure> {
+    let net = generated_day(alloc, trains)?;
+    let mut draws = Draws {
+        state: u64::from(trains),
+        trains,
+    };
+    on_network(alloc, &net, &mut draws)
+}
+
+fn on_network(alloc: Global, net: &Network, draws: &mut Draws) -> Result<(), Failure> {
+    let rows = drawn_rows(alloc, net, draws)?;
+    match least(alloc, net, &rows) {
+        Ok(times) => in_timetable(alloc, net, &rows, &times, draws),
+        Err(_) => Err(Failure::NoDay),
+    }
+}
+
+/// The rows of a day after drawn messages of all kinds.
+fn drawn_rows(alloc: Global, net: &Network, draws: &mut Draws) -> Result<Rows, Failure>
+    ensures { IfOk result (IsSized net.now) }
+{
+    let mut rows = rows_on_time(alloc, net)?;
+    for turn in 0..MESSAGES {
+        let message = draws.message(alloc, turn)?;
+        hear(alloc, net, &mut rows, &message);
+    }
+    Ok(rows)
+}
+
+/// Makes the change of a message that nothing refuses.
+fn hear(alloc: Global, net: &Network, rows: &mut Rows, message: &Message)
+    requires { IsSized net.now rows.old }
+    ensures { IsSized net.now rows.new }
+{
+    if let Ok(change) = admit(alloc, net, rows, message) {
+        rows.apply(&change);
+    }
+}
+
+fn in_timetable(
+    alloc: Global,
+    net: &Network,
+    rows: &Rows,
+    times: &Times,
+    draws: &mut Draws,
+) -> Result<(), Failure>
+    requires sized { IsSized net.now rows.now }
+    requires least { IsLeast net.now rows.now times.now }
+{
+    let mut found: usize = 0;
+    let mut with_changes: usize = 0;
+    for asked in 0..ASKED {
+        let query = drawn(net, times, draws);
+        let answer = answer_to(alloc, net, rows, times, query)?;
+        let ends = all_walks(alloc, net, rows, times, query.from, query.after)?;
+        if !is_front(net, rows, times, query, answer.as_slice(), &ends) {
+            return Err(Failure::Differs(asked));
+        }
+        found = found.saturating_add(answer.len());
+        with_changes = with_changes.saturating_add(answer.iter().filter(|j| j.changes > 0).count());
+    }
+    if found > 10 && with_changes > 2 {
+        Ok(())
+    } else {
+        Err(Failure::TooFew)
+    }
+}
+
+/// A query from the stop of a drawn event to that of one soon after it, from a time around the first event on.
+fn drawn(net: &Network, times: &Times, draws: &mut Draws) -> Query
+    requires { length times.now ≡ length net.now.events }
+{
+    let first = draws.below(800) as usize % net.events().max(1);
+    let behind = draws.below(40) as usize;
+    let last = first.saturating_add(behind) % net.events().max(1);
+    Query {
+        from: stop_at(net, first),
+        to: stop_at(net, last),
+        after: time_around(net, times, draws, first),
+        most: draws.below(9),
+    }
+}
+
+fn stop_at(net: &Network, place: usize) -> StopId {
+    if place < net.events() {
+        net.event(place).stop
+    } else {
+        StopId(0)
+    }
+}
+
+/// A time at most ten minutes before that of an event.
+fn time_around(net: &Network, times: &Times, draws: &mut Draws, place: usize) -> Secs
+    requires { length times.now ≡ length net.now.events }
+{
+    if place < net.events() {
+        times
+            .time(place)
+            .saturating_sub(Secs::from(draws.below(600)))
+    } else {
+        0
+    }
+}
+
+fn answer_to(
+    alloc: Global,
+    net: &Network,
+    rows: &Rows,
+    times: &Times,
+    query: Query,
+) -> Result<Vec<Journey>, Failure>
+    requires sized { IsSized net.now rows.now }
+    requires least { IsLeast net.now rows.now times.now }
+{
+    let answer = journeys(
+        alloc,
+        net,
+        rows,
+        times,
+        query.from,
+        query.to,
+        query.after,
+        query.most.min(8),
+    )?;
+    Ok(answer)
+}
+
+/// Whether an answer lists walks, and of all that arrive exactly those that are best.
+fn is_front(
+    net: &Network,
+    rows: &Rows,
+    times: &Times,
+    query: Query,
+    answer: &[Journey],
+    ends: &[End],
+) -> bool
+    requires sized { IsSized net.now rows.now }
+    requires as_many { length times.now ≡ length net.now.events }
+{
+    are_walks(net, rows, times, query, answer)
+        && is_met_by(net, times, query, answer, ends)
+        && answer.iter().all(|j| j.changes <= query.most)
+        && trade(answer)
+}
+
+/// Whether along the answer the changes rise and the arrivals fall.
+fn trade(answer: &[Journey]) -> bool {
+    answer.windows(2).all(
+        |pair| matches!(pair, [one, later] if one.changes < later.changes && one.arrival > later.arrival),
+    )
+}
+
+/// Whether each walk that arrives with few enough changes is met by a journey.
+fn is_met_by(net: &Network, times: &Times, query: Query, answer: &[Journey], ends: &[End]) -> bool
+    requires { length times.now ≡ length net.now.events }
+{
+    for end in ends {
+        if end.changes <= query.most && !is_end_met(net, times, query, answer, *end) {
+            return false;
+        }
+    }
+    true
+}
+
+/// Whether a walk that arrives at the stop is met by a journey.
+fn is_end_met(net: &Network, times: &Times, query: Query, answer: &[Journey], end: End) -> bool
+    requires { length times.now ≡ length net.now.events }
+{
+    if end.event >= net.events() || !arrives(net, query.to, end.event) {
+        return true;
+    }
+    let arrival = times.time(end.event);
+    answer
+        .iter()
+        .any(|j| j.changes <= end.changes && j.arrival <= arrival)
+}
+
+/// Whether each journey of an answer is a walk.
+fn are_walks(net: &Network, rows: &Rows, times: &Times, query: Query, answer: &[Journey]) -> bool
+    requires sized { IsSized net.now rows.now }
+    requires as_many { length times.now ≡ length net.now.events }
+{
+    for journey in answer {
+        if !is_walk(net, rows, times, query, journey) {
+            return false;
+        }
+    }
+    true
+}
+
+/// Whether a journey is a walk of a query, with its arrival and its changes.
+fn is_walk(net: &Network, rows: &Rows, times: &Times, query: Query, journey: &Journey) -> bool
+    requires sized { IsSized net.now rows.now }
+    requires as_many { length times.now ≡ length net.now.events }
+{
+    let mut reached = None;
+    let mut changes: u32 = 0;
+    for a in journey.walk.as_slice() {
+        if *a >= net.activities() || !is_usable(net, rows, times, *a) {
+            return false;
+        }
+        if !goes_on(net, times, query, reached, net.activity(*a).tail) {
+            return false;
+        }
+        changes = changes.saturating_add(change_of(net, *a));
+        reached = Some(net.activity(*a).head);
+    }
+    changes == journey.changes && ends_well(net, times, query, reached, journey.arrival)
+}
+
+/// Whether a walk that has reached an event goes on from this one, or begins there.
+fn goes_on(net: &Network, times: &Times, query: Query, reached: Option<usize>, tail: usize) -> bool
+    requires { length times.now ≡ length net.now.events }
+{
+    match reached {
+        Some(event) => event == tail,
+        None => {
+            tail < net.events()
+                && matches!(net.event(tail).kind, EventKind::Departure)
+                && net.event(tail).stop.0 == query.from.0
+                && times.time(tail) >= query.after
+        }
+    }
+}
+
+/// Whether a walk that has reached an event arrives there at this time.
+fn ends_well(
+    net: &Network,
+    times: &Times,
+    query: Query,
+    reached: Option<usize>,
+    arrival: Secs,
+) -> bool
+    requires { length times.now ≡ length net.now.events }
+{
+    match reached {
+        Some(event) => {
+            event < net.events() && arrives(net, query.to, event) && times.time(event) == arrival
+        }
+        None => false,
+    }
+}
+
+/// Whether an event is an arrival at a stop.
+fn arrives(net: &Network, stop: StopId, event: usize) -> bool
+    requires { event < length net.now.events }
+{
+    matches!(net.event(event).kind, EventKind::Arrival) && net.event(event).stop.0 == stop.0
+}
