@@ -2,7 +2,8 @@
 """Times updates on a generated day: python3 bench/updates.py DM_SPEED [COUNT]
 
 DM_SPEED is a built dm_speed. Each row makes COUNT changes of a kind, a million where no number is given, and gives the
-nanoseconds of processor time for each, less those of a day without changes.
+nanoseconds of processor time for each, less those of a day without changes. `pass` passes and recalls the last event of a day, and
+`apart` one of a pair between whose events 20,000 others stand.
 """
 import os
 import resource
@@ -11,7 +12,7 @@ import sys
 
 REPEATS = 3
 
-KINDS = ['still', 'event', 'train', 'order', 'choice', 'pass', 'decision']
+KINDS = ['still', 'event', 'train', 'order', 'choice', 'pass', 'apart', 'decision']
 
 
 def timed(words):

@@ -1,20 +1,25 @@
 //! The time of an update: a million changes of one kind on a generated day of two thousand trains.
 //!
 //! `dm_speed [COUNT [KIND]]` makes so many changes of a kind, or of each kind in turn, and then two more that stay, and prints
-//! what the day costs then. The kind `decision` moves an evaluator in place of an engine. The time is taken from outside. At the
-//! end the times are compared with those from scratch. It stands on dm_propagate and dm_evaluate for what it times and on
-//! dm_samples for the day, and promises nothing.
+//! what the day costs then. The kind `decision` moves an evaluator in place of an engine, and `apart` passes and recalls an event
+//! of a pair between whose events 20,000 others stand. The time is taken from outside. At the end the times are compared with
+//! those from scratch. It stands on dm_propagate and dm_evaluate for what it times and on dm_samples for the day, and promises
+//! nothing.
 //!
 //! The costs in `stdout` are worked out by hand, from what the generator makes. The last train starts 600 seconds late. Each leg
 //! has 30 seconds to spare under way and 30 at the stop behind it, so it arrives 570, 510, .. 30 seconds late, 3,000 seconds over
 //! ten legs, with ten passengers each time: 30,000 passenger seconds. Five passengers miss the dropped change, at 3,600 seconds
-//! each: 18,000 passenger seconds, which is all that the decisions leave. In thousandths that is 48,000,000 and 18,000,000.
+//! each: 18,000 passenger seconds, which is all that the decisions leave. In thousandths that is 48,000,000 and 18,000,000. The
+//! event of the pair that passes last is 110 seconds late, of which the ten to spare behind it leave 100, for one passenger:
+//! 100,000.
 #![tactic(auto)]
 
+mod apart;
 mod deciding;
 mod kinds;
 mod updating;
 
+use apart::day_apart;
 use deciding::cost_after_moves;
 use dm_base::Cost;
 use dm_samples::{Failure, generated_day};
@@ -22,7 +27,7 @@ use kinds::Kind;
 use std::alloc::Global;
 use std::rt::Env;
 use std::{env, io};
-use updating::cost_after_changes;
+use updating::{cost_after_changes, cost_after_passes};
 
 /// How many changes are made where no number is given.
 const CHANGES: u32 = 24_000;
@@ -35,12 +40,18 @@ enum Timed {
     /// Changes of this kind, or of each kind in turn.
     Changes(Option<Kind>),
     Decisions,
+
+    /// Passes and recalls of an event whose pair's other event stands far before it.
+    Passes,
 }
 
 impl Timed {
     fn named(word: &str) -> Option<Timed> {
         if word == "decision" {
             return Some(Timed::Decisions);
+        }
+        if word == "apart" {
+            return Some(Timed::Passes);
         }
         let kind = Kind::named(word)?;
         Some(Timed::Changes(Some(kind)))
@@ -50,6 +61,7 @@ impl Timed {
         match self {
             Timed::Changes(_kind) => "changes",
             Timed::Decisions => "decisions",
+            Timed::Passes => "passes",
         }
     }
 }
@@ -65,7 +77,7 @@ fn main(rt: HostRuntime) -> io::Result<()> {
     let asked = read_words(&rt)?;
     match asked.timed {
         Some(timed) => print_cost(&rt, timed, asked.count),
-        None => print_both(&rt, asked.count),
+        None => print_all(&rt, asked.count),
     }
 }
 
@@ -88,9 +100,10 @@ fn count_of(word: &str) -> u32 {
     word.parse().unwrap_or(CHANGES)
 }
 
-fn print_both<R: Print + AllocGlobal>(rt: &R, count: u32) -> io::Result<()> {
+fn print_all<R: Print + AllocGlobal>(rt: &R, count: u32) -> io::Result<()> {
     print_cost(rt, Timed::Changes(None), count)?;
-    print_cost(rt, Timed::Decisions, count)
+    print_cost(rt, Timed::Decisions, count)?;
+    print_cost(rt, Timed::Passes, count)
 }
 
 /// Prints what the day then costs.
@@ -105,9 +118,24 @@ fn print_cost<R: Print + AllocGlobal>(rt: &R, timed: Timed, count: u32) -> io::R
 
 /// What the day costs after so many of what is timed.
 fn run(alloc: Global, timed: Timed, count: u32) -> Result<Cost, Failure> {
-    let net = generated_day(alloc, TRAINS)?;
     match timed {
-        Timed::Changes(kind) => cost_after_changes(alloc, &net, count, kind),
-        Timed::Decisions => cost_after_moves(alloc, &net, count),
+        Timed::Changes(kind) => changed_day(alloc, count, kind),
+        Timed::Decisions => decided_day(alloc, count),
+        Timed::Passes => passed_day(alloc, count),
     }
+}
+
+fn changed_day(alloc: Global, count: u32, kind: Option<Kind>) -> Result<Cost, Failure> {
+    let net = generated_day(alloc, TRAINS)?;
+    cost_after_changes(alloc, &net, count, kind)
+}
+
+fn decided_day(alloc: Global, count: u32) -> Result<Cost, Failure> {
+    let net = generated_day(alloc, TRAINS)?;
+    cost_after_moves(alloc, &net, count)
+}
+
+fn passed_day(alloc: Global, count: u32) -> Result<Cost, Failure> {
+    let net = day_apart(alloc)?;
+    cost_after_passes(alloc, &net, count)
 }

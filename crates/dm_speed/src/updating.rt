@@ -3,6 +3,7 @@ ghost use Rattle.std.specs.Prelude.{◌≡◌, ◌<◌};
 ghost use Rattle.dm_propagate.specs.Engine.{IsEngineOf};
 ghost use Rattle.dm_rows.specs.Reach.{Reaches};
 
+use crate::apart::{LATER, LATER_TIME};
 use crate::kinds::Kind;
 use dm_base::{Cost, Steps};
 use dm_graph::search::Cyclic;
@@ -100,6 +101,36 @@ pub fn cost_after_changes(
     let mut day = Day::new(alloc, net)?;
     make_changes(alloc, &mut day, count, kind)?;
     day.cost(alloc)
+}
+
+/// What the day of a pair far apart costs after its later event has passed and was recalled so many times, and has passed 110
+/// seconds late.
+pub fn cost_after_passes(alloc: Global, net: &Network, count: u32) -> Result<Cost, Failure> {
+    let mut day = Day::new(alloc, net)?;
+    cost_behind_passes(alloc, &mut day, count)
+}
+
+fn cost_behind_passes(alloc: Global, day: &mut Day<'_>, count: u32) -> Result<Cost, Failure> {
+    make_passes(alloc, day, count)?;
+    day.cost(alloc)
+}
+
+fn make_passes(alloc: Global, day: &mut Day<'_>, count: u32) -> Result<(), Failure> {
+    for turn in 0..count {
+        let message = if turn % 2 == 1 {
+            Message::Recall(LATER)
+        } else {
+            Message::Pass(LATER, LATER_TIME)
+        };
+        if !day.change(alloc, &message) {
+            return Err(Failure::Differs(turn));
+        }
+    }
+    if day.change(alloc, &Message::Pass(LATER, LATER_TIME + 110)) {
+        Ok(())
+    } else {
+        Err(Failure::Differs(count))
+    }
 }
 
 fn make_changes(
