@@ -1,49 +1,101 @@
 #!/usr/bin/env python3
-"""Times the checking of runs of a generated day: python3 bench/check.py FOLDER DISPATCHER
+"""Times the checking of runs: python3 bench/check.py DAY DISPATCHER [COUNTRY]
 
-FOLDER is a day that day.py wrote, and DISPATCHER a built dispatcher. Each row runs a feed, checks the text that the run printed,
-and gives the least processor time of both and the ratio, which is bounded:
+DAY is a folder that day.py wrote, COUNTRY one that country.py wrote, and DISPATCHER a built dispatcher. Each row runs feeds, checks the
+text that the run printed, and gives the least processor time of both, the ratio, and that of the most memory. Both are bounded: the
+times as below, the memory by 2.5.
 
-    delays     a full feed of delays              2.0
-    mixed      a full feed of mixed lines         2.0
-    plans      plans of 4,096 nodes               5.0
+    day        delays      a full feed of delays                      0.8
+               mixed       a full feed of mixed lines                 1.3
+               plans       16 plans of 4,096 nodes                    1.2
+    country    questions, delays, activity-delays, drops, keeps       1.5
+               feeds       1, 4, 16 and 64 full feeds at once         1.5
 
-A ratio over its bound is marked, and the status is then 1.
+With COUNTRY, one record of the text of four feeds is replaced at the front, in the middle and at the end of the logs: each such text is
+judged in no more than 1.1 times the time of the good one. A ratio over its bound is marked, and the status is then 1.
 """
 import os
-import resource
 import subprocess
 import sys
 
-# Name, feed, bound, and how often it is timed.
-RUNS = [('delays', 'full', 2.0, 3), ('mixed', 'mixed', 2.0, 3), ('plans', 'plans', 5.0, 1)]
+MEMORY = 2.5
+REPLACED = 1.1
+
+# Name, feeds, bound, and how often it is timed.
+DAY = [('delays', ['full'], 0.8, 3), ('mixed', ['mixed'], 1.3, 3), ('plans', ['plans'], 1.2, 1)]
+ONE_FEED = [(name, [name], 1.5, 3) for name in ('questions', 'delays', 'activity-delays', 'drops', 'keeps')]
+FEEDS = [(f'{many} feeds', [f'feed{feed % 16 + 1}' for feed in range(many)], 1.5, 1) for many in (1, 4, 16, 64)]
 
 
-def timed(command, folder, output):
-    """The processor seconds of a command, whose output goes into a file."""
-    before = resource.getrusage(resource.RUSAGE_CHILDREN)
+def used(command, folder, output):
+    """The processor seconds of a command whose output goes into a file, the most memory in kilobytes, and its status."""
     with open(os.path.join(folder, output), 'w') as file:
-        subprocess.run(command, cwd=folder, stdout=file, check=True)
-    after = resource.getrusage(resource.RUSAGE_CHILDREN)
-    return after.ru_utime + after.ru_stime - before.ru_utime - before.ru_stime
+        process = subprocess.Popen(command, cwd=folder, stdout=file)
+        _, status, usage = os.wait4(process.pid, 0)
+    process.returncode = os.waitstatus_to_exitcode(status)
+    return usage.ru_utime + usage.ru_stime, usage.ru_maxrss, process.returncode
 
 
-def least(command, folder, output, repeats):
-    return min(timed(command, folder, output) for _ in range(repeats))
+def least(command, folder, output, repeats, statuses):
+    """The least of as many measurements. Only these statuses are right."""
+    measured = [used(command, folder, output) for _ in range(repeats)]
+    for _, _, status in measured:
+        if status not in statuses:
+            sys.exit(f'{" ".join(command)} ended with {status}')
+    return min(time for time, _, _ in measured), max(memory for _, memory, _ in measured)
+
+
+def verdict_of(folder):
+    with open(os.path.join(folder, 'verdict')) as file:
+        return file.read().strip()
+
+
+class Bench:
+    def __init__(self, program):
+        self.program = os.path.abspath(program)
+        self.over = False
+
+    def mark(self, value, bound):
+        self.over = self.over or value > bound
+        return '  over' if value > bound else ''
+
+    def check(self, folder, text, repeats):
+        command = [self.program, 'check', 'net', text, '--penalty=3600']
+        return least(command, folder, 'verdict', repeats, (0, 1))
+
+    def row(self, folder, name, feeds, bound, repeats):
+        run, run_memory = least([self.program, 'run', 'net', '--penalty=3600', *feeds], folder, 'text', repeats, (0,))
+        check, check_memory = self.check(folder, 'text', repeats)
+        ratio, memory = check / run, check_memory / run_memory
+        print(f'{name:<16}run {run:8.3f} s  check {check:8.3f} s{ratio:8.2f} of {bound}{self.mark(ratio, bound)}'
+              f'  memory{memory:6.2f} of {MEMORY}{self.mark(memory, MEMORY)}  {verdict_of(folder)}', flush=True)
+
+    def replaced(self, folder, feeds):
+        least([self.program, 'run', 'net', '--penalty=3600', *feeds], folder, 'text', 1, (0,))
+        good, _ = self.check(folder, 'text', 1)
+        with open(os.path.join(folder, 'text')) as file:
+            lines = file.readlines()
+        costs = [place for place, line in enumerate(lines) if ' cost -> ' in line]
+        for name, place in (('front', costs[0]), ('middle', costs[len(costs) // 2]), ('end', costs[-1])):
+            words = lines[place].split()
+            words[-1] = str(int(words[-1]) + 1)
+            with open(os.path.join(folder, 'replaced'), 'w') as file:
+                file.writelines([*lines[:place], ' '.join(words) + '\n', *lines[place + 1:]])
+            check, _ = self.check(folder, 'replaced', 1)
+            print(f'{name + " replaced":<16}good{good:8.3f} s  check {check:8.3f} s{check / good:8.2f} of {REPLACED}'
+                  f'{self.mark(check / good, REPLACED)}  {verdict_of(folder)}', flush=True)
 
 
 def main():
-    folder, program = sys.argv[1], os.path.abspath(sys.argv[2])
-    over = False
-    for name, feed, bound, repeats in RUNS:
-        run = least([program, 'run', 'net', '--penalty=3600', feed], folder, 'text', repeats)
-        check = least([program, 'check', 'net', 'text', '--penalty=3600'], folder, 'verdict', repeats)
-        with open(os.path.join(folder, 'verdict')) as file:
-            verdict = file.read().strip()
-        is_over = check > bound * run
-        over = over or is_over
-        print(f'{name:<8}run {run:8.3f} s  check {check:8.3f} s{check / run:8.2f} of {bound}  {verdict}{"  over" if is_over else ""}')
-    sys.exit(1 if over else 0)
+    day, program = sys.argv[1:3]
+    bench = Bench(program)
+    for row in DAY:
+        bench.row(day, *row)
+    for country in sys.argv[3:]:
+        for row in ONE_FEED + FEEDS:
+            bench.row(country, *row)
+        bench.replaced(country, FEEDS[1][1])
+    sys.exit(1 if bench.over else 0)
 
 
 if __name__ == '__main__':

@@ -10,3 +10,4 @@ pub mod Logs
 pub mod Wholes
 pub mod Flags
 pub mod Notes
+pub mod Gathered

@@ -1,2 +1,3 @@
 -- What the judges compute. Who believes what is told need not read it.
 pub mod Blocks
+pub mod Gathering

@@ -10,6 +10,7 @@ ghost use Rattle.dm_check.specs.FalseRecords.{IsVerdict};
 ghost use Rattle.dm_check.specs.Judged.{AreFlagged, BodyOn, LogsAndRestOn, HistoryOn, RunOn};
 
 use crate::faults::{Fault, Stop};
+use crate::gathering::replay_for;
 use crate::told_entries::all_entries;
 use crate::told_lines::version_told;
 use crate::told_logs::all_logs;
@@ -82,7 +83,7 @@ fn logs_and_rest_told(
         return Err(Stop::OutOfMemory);
     };
     let mut checked = checked;
-    let mut replay = match Replay::new(alloc, journal) {
+    let mut replay = match replay_for(alloc, lines, journal, feeds) {
         Ok(replay) => replay,
         Err(AllocError) => return Err(Stop::OutOfMemory),
     };

@@ -3,7 +3,8 @@
 //! It stands on dm_check_answers for answers and on dm_check_plans for plans, on dm_cert for the texts and for what a true
 //! answer is, and on dm_text for the words in which a text is judged record by record; dm_records says how the line of each
 //! record is written, and reads it. `specs/FalseRecords` says what each record must say after those before it, and of which
-//! kind and at which line its fault is. [`check`] promises exactly what `specs/FalseRecords` tells of a text.
+//! kind and at which line its fault is. [`check`] promises exactly what `specs/FalseRecords` tells of a text. Where there are
+//! several logs, what their answers claim of rows is gathered and judged first, all claims in the order of their entries.
 //!
 //! # What is promised
 //!
@@ -18,6 +19,7 @@
 
 mod checking;
 mod faults;
+mod gathering;
 pub mod laws;
 mod named;
 mod planning;

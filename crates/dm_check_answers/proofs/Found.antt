@@ -1,15 +1,11 @@
 -- Entries found by their number.
-use Rattle.std.proofs.Common.{◌≡◌, ℕ, ◌-◌, ◌+◌, ◌<◌, ◌≤◌, Bool, true, false, List, Option, Some, None, refl, sym, ap, subst, ◌∙◌, arith, slice_get, take, length, get_or, ◌++◌, ◌∷◌, []}
-use Rattle.std.proofs.lemmas.List.{take_more, take_all, get_or_default}
-use Rattle.std.specs.Borrow.{Bor}
+use Rattle.std.proofs.Common.{◌≡◌, ℕ, ◌+◌, ◌<◌, List, Some, sym, ap, subst, ◌∙◌, take, length, get_or, ◌++◌, ◌∷◌, []}
+use Rattle.std.proofs.lemmas.List.{take_more}
+use Rattle.dm_base.specs.declared.ids.ActId.{ActId}
 use Rattle.dm_rows.specs.declared.messages.Decision.{Decision}
 use Rattle.dm_rows.specs.declared.messages.Entry.{Entry}
 use Rattle.dm_rows.specs.declared.messages.Message.{Message}
-use Rattle.dm_rows.specs.declared.messages.Message.TheVariants.{Adopt}
-use Rattle.dm_tree.specs.declared.plans.Plan.{Plan}
-use Rattle.dm_cert.specs.Answers.{IsEntry, IsAdopted}
-use Rattle.dm_check_rows.specs.Claims.{Tells}
-use Rattle.dm_check_answers.specs.Judging.{IsEntryAt}
+use Rattle.dm_cert.specs.Answers.{IsEntry}
 
 -- an entry of this number is the one that was found
 pub found_one : (history : List Entry) (n : ℕ) (one other : Entry) → IsEntry history n one → IsEntry history n other → one ≡ other
@@ -37,4 +33,9 @@ module _ (history : List Entry) (n : ℕ) (found : Entry) (feed line : ℕ) (m :
 pub same_more : (one other : List Decision) (i : ℕ) (a b : Decision) → i < length one → i < length other → take i one ≡ take i other → a ≡ get_or one i a → b ≡ get_or other i b → a ≡ b →
     take (i + 1) one ≡ take (i + 1) other
 same_more one other i a b p q so here there same =
+    take_more one i a p ∙ (ap (λ xs. xs ++ get_or one i a ∷ []) so ∙ (ap (λ x. take i other ++ x ∷ []) (sym here ∙ (same ∙ there)) ∙ sym (take_more other i b q)))
+
+pub same_ids : (one other : List ActId) (i : ℕ) (a b : ActId) → i < length one → i < length other → take i one ≡ take i other → a ≡ get_or one i a → b ≡ get_or other i b → a ≡ b →
+    take (i + 1) one ≡ take (i + 1) other
+same_ids one other i a b p q so here there same =
     take_more one i a p ∙ (ap (λ xs. xs ++ get_or one i a ∷ []) so ∙ (ap (λ x. take i other ++ x ∷ []) (sym here ∙ (same ∙ there)) ∙ sym (take_more other i b q)))

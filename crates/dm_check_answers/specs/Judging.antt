@@ -1,5 +1,5 @@
 -- What answers are judged by, and what stands before them.
-use Rattle.std.specs.Prelude.{ℕ, ◌≡◌, ◌-◌, ◌<◌, ◌≤◌, List, length, Bool, fold, count_by, Option, Some, None}
+use Rattle.std.specs.Prelude.{ℕ, ◌≡◌, ◌≤◌, List, length, Bool, fold, count_by, Option, Some, None}
 use Rattle.std.specs.Borrow.{Bor}
 use Rattle.dm_base.specs.declared.limits.TheConstants.{PENALTY, PLANS}
 use Rattle.dm_rows.specs.declared.messages.Entry.{Entry}
@@ -12,6 +12,7 @@ use Rattle.dm_cert.specs.Answers.{Setting, rows_after, is_plan, latest_plan, IsE
 use Rattle.dm_cert.specs.Logs.{kind_of, line_of, number_after}
 use Rattle.dm_cert.specs.PlanTexts.{IsVersion}
 use Rattle.dm_check_rows.specs.Claims.{AreCheckedRowsOf, Tells}
+use Rattle.dm_check_answers.specs.Claims.{IsKnown}
 use Rattle.dm_check_answers.specs.declared.journal.Journal.{Journal}
 use Rattle.dm_check_answers.specs.declared.replay.Replay.{Replay}
 use Rattle.dm_check_answers.specs.declared.past.Past.{Past}
@@ -30,11 +31,12 @@ pub record IsJournal (j : Journal) : Type 0 where
   pub penalty : j.penalty ≤ PENALTY
   pub version : IsVersion j.version
 
--- these are the rows after so many entries
+-- these are the rows after so many entries, and what is known of claims is right
 pub record IsReplay (j : Journal) (r : Replay) : Type 0 where
   pub rows_are : r.checked.rows ≡ rows_after (setting_of j) (history_of j) r.entry
   pub within : r.entry ≤ length (history_of j)
   pub stands : AreCheckedRowsOf j.net.now r.checked
+  pub known : IsKnown (setting_of j) (history_of j) r.known
 
 -- ---- what stands before an item of a log
 

@@ -5,6 +5,8 @@ ghost use Rattle.dm_cert.specs.Answers.{IsEntry, IsAdopted};
 ghost use Rattle.dm_check_rows.specs.Claims.{Tells};
 ghost use Rattle.dm_check_answers.specs.Judging.{IsEntryAt};
 
+use dm_base::ActId;
+use dm_records::Reason;
 use dm_rows::{Decision, Entry, Message};
 use dm_tree::Plan;
 
@@ -84,6 +86,73 @@ pub(crate) fn is_message(one: &Message, other: &Message) -> bool
             Message::Now(u) => *t == *u,
             _ => false,
         },
+    }
+}
+
+/// Whether two ids are one.
+fn is_id(one: ActId, other: ActId) -> bool
+    ensures { Tells (one ≡ other) result }
+{
+    one.0 == other.0
+}
+
+/// Whether two lists of ids are one.
+fn are_ids(one: &[ActId], other: &[ActId]) -> bool
+    ensures { Tells (one.now ≡ other.now) result }
+{
+    if one.len() != other.len() {
+        return false;
+    }
+    for i in 0..one.len() {
+        if !is_id(one[i], other[i]) {
+            return false;
+        }
+    }
+    true
+}
+
+/// Whether two reasons are one.
+pub(crate) fn is_reason(one: &Reason, other: &Reason) -> bool
+    ensures { Tells (one.now ≡ other.now) result }
+{
+    match one {
+        Reason::Range(v) => match other {
+            Reason::Range(w) => *v == *w,
+            _ => false,
+        },
+        Reason::UnknownEvent(e) => match other {
+            Reason::UnknownEvent(f) => e.0 == f.0,
+            _ => false,
+        },
+        Reason::UnknownActivity(a) => match other {
+            Reason::UnknownActivity(b) => a.0 == b.0,
+            _ => false,
+        },
+        Reason::UnknownChange(a) => match other {
+            Reason::UnknownChange(b) => a.0 == b.0,
+            _ => false,
+        },
+        Reason::UnknownPair(i, j) => match other {
+            Reason::UnknownPair(k, l) => i.0 == k.0 && j.0 == l.0,
+            _ => false,
+        },
+        Reason::Passed(e, t) => match other {
+            Reason::Passed(f, u) => e.0 == f.0 && *t == *u,
+            _ => false,
+        },
+        Reason::NotPassed(e) => match other {
+            Reason::NotPassed(f) => e.0 == f.0,
+            _ => false,
+        },
+        Reason::Back(v) => match other {
+            Reason::Back(w) => *v == *w,
+            _ => false,
+        },
+        Reason::Cycle(ids) => match other {
+            Reason::Cycle(others) => are_ids(ids.as_slice(), others.as_slice()),
+            _ => false,
+        },
+        Reason::Full => matches!(other, Reason::Full),
     }
 }
 

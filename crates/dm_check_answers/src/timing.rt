@@ -18,8 +18,8 @@ use dm_records::{Answer, Reason};
 use dm_rows::Message;
 use std::alloc::{AllocError, Global};
 
-/// Whether the rows after so many entries refuse a message for this reason.
-fn is_refused_at(
+/// Whether the rows after so many entries refuse a message for this reason. Told from the rows.
+pub(crate) fn is_refused_there(
     alloc: Global,
     journal: &Journal<'_>,
     replay: &mut Replay,
@@ -42,6 +42,32 @@ fn is_refused_at(
         Err(AllocError) => return Err(AllocError),
     }
     is_refused(alloc, journal.net, &replay.checked, number, message, why)
+}
+
+/// Whether the rows after so many entries refuse a message for this reason. It is told from what is known of
+/// claims, or else from the rows.
+fn is_refused_at(
+    alloc: Global,
+    journal: &Journal<'_>,
+    replay: &mut Replay,
+    number: u32,
+    message: &Message,
+    why: &Reason,
+) -> Result<bool, AllocError>
+    requires journal { IsJournal journal.now }
+    requires stands { IsReplay journal.now replay.old }
+    requires said { IsSaid message.now }
+    ensures tells { IfOk result (Tells (IsRefused (setting_of journal.now) (history_of journal.now) number message.now
+        (reason_of why.now))) }
+    ensures stands { IsReplay journal.now replay.new }
+{
+    match replay.known.is_refused(number, message, why) {
+        Some(known) => {
+            replay.known.go_on();
+            Ok(known)
+        }
+        None => is_refused_there(alloc, journal, replay, number, message, why),
+    }
 }
 
 /// Whether the answer to a message is true.
@@ -69,8 +95,8 @@ pub(crate) fn is_true_of_message(
     }
 }
 
-/// Whether this is the time of the event after so many entries.
-fn is_time_at(
+/// Whether this is the time of the event after so many entries. Told from the rows.
+pub(crate) fn is_time_there(
     alloc: Global,
     journal: &Journal<'_>,
     replay: &mut Replay,
@@ -97,6 +123,30 @@ fn is_time_at(
     match replay.checked.settle_times(journal.net) {
         Ok(()) => Ok(replay.checked.is_time(place, time)),
         Err(HeldCycle) => Ok(false),
+    }
+}
+
+/// Whether this is the time of the event after so many entries. It is told from what is known of
+/// claims, or else from the rows.
+fn is_time_at(
+    alloc: Global,
+    journal: &Journal<'_>,
+    replay: &mut Replay,
+    number: u32,
+    event: EventId,
+    time: u128,
+) -> Result<bool, AllocError>
+    requires journal { IsJournal journal.now }
+    requires stands { IsReplay journal.now replay.old }
+    ensures tells { IfOk result (Tells (IsTimeAt (setting_of journal.now) (history_of journal.now) number event time)) }
+    ensures stands { IsReplay journal.now replay.new }
+{
+    match replay.known.is_time(number, event, time) {
+        Some(known) => {
+            replay.known.go_on();
+            Ok(known)
+        }
+        None => is_time_there(alloc, journal, replay, number, event, time),
     }
 }
 
@@ -140,8 +190,8 @@ pub(crate) fn is_true_of_time(
     }
 }
 
-/// Whether this is the cost after so many entries.
-fn is_cost_at(
+/// Whether this is the cost after so many entries. Told from the rows.
+pub(crate) fn is_cost_there(
     alloc: Global,
     journal: &Journal<'_>,
     replay: &mut Replay,
@@ -164,6 +214,29 @@ fn is_cost_at(
     match replay.checked.settle(journal.net) {
         Ok(()) => Ok(replay.checked.is_cost(journal.net, journal.penalty, cost)),
         Err(HeldCycle) => Ok(false),
+    }
+}
+
+/// Whether this is the cost after so many entries. It is told from what is known of
+/// claims, or else from the rows.
+fn is_cost_at(
+    alloc: Global,
+    journal: &Journal<'_>,
+    replay: &mut Replay,
+    number: u32,
+    cost: Cost,
+) -> Result<bool, AllocError>
+    requires journal { IsJournal journal.now }
+    requires stands { IsReplay journal.now replay.old }
+    ensures tells { IfOk result (Tells (IsCostAt (setting_of journal.now) (history_of journal.now) number cost)) }
+    ensures stands { IsReplay journal.now replay.new }
+{
+    match replay.known.is_cost(number, cost) {
+        Some(known) => {
+            replay.known.go_on();
+            Ok(known)
+        }
+        None => is_cost_there(alloc, journal, replay, number, cost),
     }
 }
 

@@ -4,6 +4,7 @@ pub mod Open
 pub mod Cycles
 pub mod Relaxed
 pub mod Begun
+pub mod Weighed
 pub mod Turned
 pub mod Visited
 pub mod Chosen

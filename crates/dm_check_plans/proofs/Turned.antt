@@ -18,7 +18,8 @@ use Rattle.dm_paths.specs.Decisions.{is_held_by, is_charged_by}
 use Rattle.dm_paths.specs.Decisions.{AddsDecision, IsOpen, IsFlipOf}
 use Rattle.dm_check_plans.specs.Inside.Timetables.{HeldTimetableValue, IsTimetableOf, AreOfRows, KeepsSpans}
 use Rattle.dm_check_plans.proofs.Begun.{still_of_rows}
-use Rattle.dm_check_times.specs.KeptCosts.{KeptCostValue, IsKeptCostOf}
+use Rattle.dm_check_times.specs.Changes.{AreChangesTo}
+use Rattle.dm_check_times.specs.KeptCosts.{KeptCostValue, IsKeptCostOf, IsPricedFor}
 use Rattle.dm_check_plans.specs.Inside.RelaxedProblems.{RelaxedProblemValue, IsRelaxedProblemOf}
 use Rattle.dm_paths.proofs.Apart.{Apart, choice_list_from}
 use Rattle.dm_paths.proofs.Decided.{changes_decided, pairs_decided, changes_undecided, pairs_undecided}
@@ -56,10 +57,10 @@ last_is_open net rows path d list = record { free = decides_free net rows path d
 
 module _ (net : Net) (network : IsNetwork net) (rows : RowsValue) (sized : IsSized net rows) (old : RelaxedProblemValue) (was : IsRelaxedProblemOf net rows old)
     (d : Decision) (flip : Flip) (named : IsFlipOf net rows d flip) (timetable : HeldTimetableValue) (is_timetable : IsTimetableOf net timetable) (keeps : KeepsSpans old.timetable timetable)
-    (charged : List Bool) where
+    (charged : List Bool) (cost : KeptCostValue) (is_cost : IsKeptCostOf net cost) (priced : IsPricedFor net rows (is_flagged charged) cost) where
   pub decided : IsOpen net rows old.path (choice_of d) →
       AreSetWhere (is_held_by net flip) true (length net.activities) old.timetable.held timetable.held → AreSetWhere (is_charged_by flip) true (length net.activities) old.charged charged →
-      IsRelaxedProblemOf net rows (record { path = old.path ++ d ∷ []; changes = with_change flip false old.changes; pairs = with_pair flip false old.pairs; charged = charged; timetable = timetable; kept_cost = old.kept_cost })
+      IsRelaxedProblemOf net rows (record { path = old.path ++ d ∷ []; changes = with_change flip false old.changes; pairs = with_pair flip false old.pairs; charged = charged; timetable = timetable; kept_cost = cost; places = old.places })
   decided opened holds charges =
       let other : List Decision = old.path ++ d ∷ [] in
       let list : IsChoiceList net rows other = open_list net rows old.path d was.is_path opened in
@@ -74,12 +75,14 @@ module _ (net : Net) (network : IsNetwork net) (rows : RowsValue) (sized : IsSiz
             (charge_differs net network rows sized old.path other was.is_path list d adds flip named);
         timetable = is_timetable;
         of_rows = still_of_rows net rows old.timetable timetable was.of_rows keeps;
-        cost = was.cost;
+        cost = is_cost;
+        priced = priced;
+        places = was.places;
       }
 
   pub taken_back : (path : List Decision) → old.path ≡ path ++ d ∷ [] →
       AreSetWhere (is_held_by net flip) false (length net.activities) old.timetable.held timetable.held → AreSetWhere (is_charged_by flip) false (length net.activities) old.charged charged →
-      IsRelaxedProblemOf net rows (record { path = path; changes = with_change flip true old.changes; pairs = with_pair flip true old.pairs; charged = charged; timetable = timetable; kept_cost = old.kept_cost })
+      IsRelaxedProblemOf net rows (record { path = path; changes = with_change flip true old.changes; pairs = with_pair flip true old.pairs; charged = charged; timetable = timetable; kept_cost = cost; places = old.places })
   taken_back path is holds charges =
       let other : List Decision = path ++ d ∷ [] in
       let list : IsChoiceList net rows other = subst (IsChoiceList net rows) is was.is_path in
@@ -99,14 +102,16 @@ module _ (net : Net) (network : IsNetwork net) (rows : RowsValue) (sized : IsSiz
             (charge_differs net network rows sized path other less list d adds flip named);
         timetable = is_timetable;
         of_rows = still_of_rows net rows old.timetable timetable was.of_rows keeps;
-        cost = was.cost;
+        cost = is_cost;
+        priced = priced;
+        places = was.places;
       }
 
 -- the same with a timetable that holds as much, and another kept cost
 pub settled_again : (net : Net) (rows : RowsValue) (old : RelaxedProblemValue) → IsRelaxedProblemOf net rows old → (timetable : HeldTimetableValue) (cost : KeptCostValue) →
-    IsTimetableOf net timetable → timetable.held ≡ old.timetable.held → KeepsSpans old.timetable timetable → IsKeptCostOf net cost →
-    IsRelaxedProblemOf net rows (record { path = old.path; changes = old.changes; pairs = old.pairs; charged = old.charged; timetable = timetable; kept_cost = cost })
-settled_again net rows old was timetable cost is held keeps kept = record {
+    IsTimetableOf net timetable → timetable.held ≡ old.timetable.held → KeepsSpans old.timetable timetable → IsKeptCostOf net cost → IsPricedFor net rows (is_flagged old.charged) cost →
+    IsRelaxedProblemOf net rows (record { path = old.path; changes = old.changes; pairs = old.pairs; charged = old.charged; timetable = timetable; kept_cost = cost; places = old.places })
+settled_again net rows old was timetable cost is held keeps kept priced = record {
   is_path = was.is_path;
   changes = was.changes;
   pairs = was.pairs;
@@ -115,6 +120,8 @@ settled_again net rows old was timetable cost is held keeps kept = record {
   timetable = is;
   of_rows = still_of_rows net rows old.timetable timetable was.of_rows keeps;
   cost = kept;
+  priced = priced;
+  places = was.places;
 }
 
 -- where nothing is decided nothing is charged for
@@ -133,12 +140,13 @@ no_change_charged net rows path a other =
     ap (λ (b : Bool). (b && not (kept_at (with_decisions net rows path) a) && not (has_passed (with_decisions net rows path) (activity_at net a).head)) && not (is_undecided_change net rows path a)) other
 
 -- where nothing is decided
-pub begins : (net : Net) (rows : RowsValue) (changes pairs charged : List Bool) (timetable : HeldTimetableValue) (cost : KeptCostValue) (path : List Decision) → path ≡ [] →
+pub begins : (net : Net) (rows : RowsValue) (changes pairs charged : List Bool) (timetable : HeldTimetableValue) (cost : KeptCostValue) (places : List ℕ) (path : List Decision) → path ≡ [] →
     AreFlags (is_undecided_change net rows []) (length net.activities) changes → AreFlags (is_undecided_pair net rows []) (length net.pairs) pairs →
     charged ≡ replicate (length net.activities) false → IsTimetableOf net timetable → AreOfRows net rows timetable → AreFlags (is_relaxed_active net rows []) (length net.activities) timetable.held → IsKeptCostOf net cost →
-    IsRelaxedProblemOf net rows (record { path = path; changes = changes; pairs = pairs; charged = charged; timetable = timetable; kept_cost = cost })
-begins net rows changes pairs charged timetable cost path is are_changes are_pairs none is_timetable of_rows held kept =
-    subst (λ (p : List Decision). IsRelaxedProblemOf net rows (record { path = p; changes = changes; pairs = pairs; charged = charged; timetable = timetable; kept_cost = cost })) (sym is) (record {
+    IsPricedFor net rows (is_flagged charged) cost → AreChangesTo net (length net.activities) places →
+    IsRelaxedProblemOf net rows (record { path = path; changes = changes; pairs = pairs; charged = charged; timetable = timetable; kept_cost = cost; places = places })
+begins net rows changes pairs charged timetable cost places path is are_changes are_pairs none is_timetable of_rows held kept priced are_places =
+    subst (λ (p : List Decision). IsRelaxedProblemOf net rows (record { path = p; changes = changes; pairs = pairs; charged = charged; timetable = timetable; kept_cost = cost; places = places })) (sym is) (record {
       is_path = choice_list_from net rows [] tt (λ d c. let past = c.1 in absurd (omega (arith, past)));
       changes = are_changes;
       pairs = are_pairs;
@@ -150,6 +158,8 @@ begins net rows changes pairs charged timetable cost path is are_changes are_pai
       timetable = is_timetable;
       of_rows = of_rows;
       cost = kept;
+      priced = priced;
+      places = are_places;
     })
 
 -- flags that are set in a vector's slice
@@ -161,11 +171,11 @@ over_vec some value n v now after is turned =
     (subst (λ (f : List Bool). AreSetWhere some value n f after) is turned)
 
 -- the same with other names for the path and the flags of what is undecided
-pub moved : (net : Net) (rows : RowsValue) (old_path : List Decision) (old_changes old_pairs charged : List Bool) (timetable : HeldTimetableValue) (cost : KeptCostValue) (path now : List Decision)
+pub moved : (net : Net) (rows : RowsValue) (old_path : List Decision) (old_changes old_pairs charged : List Bool) (timetable : HeldTimetableValue) (cost : KeptCostValue) (places : List ℕ) (path now : List Decision)
     (changes pairs : List Bool) → now ≡ path → changes ≡ old_changes → pairs ≡ old_pairs →
-    IsRelaxedProblemOf net rows (record { path = path; changes = old_changes; pairs = old_pairs; charged = charged; timetable = timetable; kept_cost = cost }) →
-    IsRelaxedProblemOf net rows (record { path = now; changes = changes; pairs = pairs; charged = charged; timetable = timetable; kept_cost = cost })
-moved net rows old_path old_changes old_pairs charged timetable cost path now changes pairs path_is changes_are pairs_are is =
-    subst (λ (p : List Decision). IsRelaxedProblemOf net rows (record { path = p; changes = changes; pairs = pairs; charged = charged; timetable = timetable; kept_cost = cost })) (sym path_is)
-    (subst (λ (f : List Bool). IsRelaxedProblemOf net rows (record { path = path; changes = f; pairs = pairs; charged = charged; timetable = timetable; kept_cost = cost })) (sym changes_are)
-    (subst (λ (f : List Bool). IsRelaxedProblemOf net rows (record { path = path; changes = old_changes; pairs = f; charged = charged; timetable = timetable; kept_cost = cost })) (sym pairs_are) is))
+    IsRelaxedProblemOf net rows (record { path = path; changes = old_changes; pairs = old_pairs; charged = charged; timetable = timetable; kept_cost = cost; places = places }) →
+    IsRelaxedProblemOf net rows (record { path = now; changes = changes; pairs = pairs; charged = charged; timetable = timetable; kept_cost = cost; places = places })
+moved net rows old_path old_changes old_pairs charged timetable cost places path now changes pairs path_is changes_are pairs_are is =
+    subst (λ (p : List Decision). IsRelaxedProblemOf net rows (record { path = p; changes = changes; pairs = pairs; charged = charged; timetable = timetable; kept_cost = cost; places = places })) (sym path_is)
+    (subst (λ (f : List Bool). IsRelaxedProblemOf net rows (record { path = path; changes = f; pairs = pairs; charged = charged; timetable = timetable; kept_cost = cost; places = places })) (sym changes_are)
+    (subst (λ (f : List Bool). IsRelaxedProblemOf net rows (record { path = path; changes = old_changes; pairs = f; charged = charged; timetable = timetable; kept_cost = cost; places = places })) (sym pairs_are) is))

@@ -6,7 +6,7 @@ use Rattle.std.proofs.lemmas.Bool.{cases_lt, false_from_ne_true, cond-true, cond
 use Rattle.std.proofs.lemmas.List.Sums.{sum_by-cons, get_or-le-sum_by}
 use Rattle.std.proofs.lemmas.List.FromFn.{length-range_with_len, get_or-range_with_len}
 use Rattle.dm_network.specs.Net.{Net, activity_at, is_change}
-use Rattle.dm_check_times.specs.KeptCosts.{AreChangesTo}
+use Rattle.dm_check_times.specs.Changes.{AreChangesTo}
 use Rattle.dm_paths.specs.Flags.{is_flagged}
 use Rattle.dm_check_plans.specs.Inside.Violations.{NoneFlagged, NoneFlaggedAmong, AreFlagsOfChanges}
 

@@ -1,13 +1,9 @@
 -- From a node to the next one in preorder.
-use Rattle.std.proofs.Common.{◌≡◌, ℕ, Bool, true, false, List, [], ◌∷◌, ◌++◌, Some, None, refl, sym, ap, subst, ◌∙◌, inl, inr, lt-ltb, arith}
+use Rattle.std.proofs.Common.{◌≡◌, Bool, true, false, List, [], ◌∷◌, ◌++◌, Some, None, sym, ap, subst, ◌∙◌}
 use Rattle.std.specs.Prelude.{MatchBool, Result, Ok, Err, IfOk}
-use Rattle.std.proofs.lemmas.Bool.{cases_lt, le-ltb}
-use Rattle.dm_base.specs.declared.ids.EventId.{EventId}
 use Rattle.dm_network.specs.Net.{Net}
 use Rattle.dm_rows.specs.declared.messages.Choice.{Choice}
-use Rattle.dm_rows.specs.declared.messages.Choice.TheVariants.{Change, Pair}
 use Rattle.dm_rows.specs.declared.messages.Decision.{Decision}
-use Rattle.dm_rows.specs.declared.messages.Decision.TheVariants.{Keep, Drop, First}
 use Rattle.dm_rows.specs.Decide.{choice_of}
 use Rattle.dm_rows.specs.Rows.{RowsValue}
 use Rattle.dm_tree.specs.declared.forms.Node.{Node}

@@ -5,15 +5,17 @@ ghost use Rattle.dm_rows.specs.Rows.{IsSized};
 ghost use Rattle.dm_rows.specs.Decide.{choice_of};
 ghost use Rattle.dm_tree.specs.Relaxed.{relaxed_cost_of, IsViolated};
 ghost use Rattle.dm_check_rows.specs.Claims.{Tells};
+ghost use Rattle.dm_check_times.specs.KeptCosts.{IsKeptCostOf, IsPricedFor};
+ghost use Rattle.dm_paths.specs.Flags.{is_flagged};
 ghost use Rattle.dm_paths.specs.Decisions.{IsOpen};
 ghost use Rattle.dm_check_plans.specs.Inside.RelaxedProblems.{IsRelaxedProblemOf, IsSolved, HasRelaxedCycle, times_of};
 ghost use Rattle.dm_check_plans.specs.Inside.Violations.{IsSomeViolated};
 
 use crate::held_timetable::HeldTimetable;
-use crate::turning::turn;
+use crate::turning::{turn, weigh};
 use crate::violations::{is_any_violated, is_violated};
 use dm_base::Cost;
-use dm_check_times::{HeldCycle, KeptCost};
+use dm_check_times::{Charges, HeldCycle, KeptCost, changes_of};
 use dm_network::Network;
 use dm_paths::{Undecided, all_undecided, binding_flags, flip_of};
 use dm_rows::{Choice, Decision, Rows};
@@ -29,6 +31,9 @@ pub struct RelaxedProblem {
     charged: Vec<bool>,
     timetable: HeldTimetable,
     kept_cost: KeptCost,
+
+    /// The places of the network's changes.
+    places: Vec<usize>,
 }
 
 impl Model for RelaxedProblem {
@@ -43,6 +48,7 @@ impl Model for RelaxedProblem {
       charged = r.charged.items;
       timetable = r.timetable;
       kept_cost = r.kept_cost;
+      places = r.places.items;
     } };
 
     ghost invariant = { λ r. Unit {0} };
@@ -56,12 +62,15 @@ impl RelaxedProblem {
         ensures path { IfOk result (λ problem. problem.path ≡ []) }
     {
         let held = binding_flags(alloc, net, rows)?;
+        let charged = vec![in alloc; false; net.activities()]?;
+        let kept_cost = cost_charging(alloc, net, rows, &charged)?;
         Ok(RelaxedProblem {
             path: Vec::new(alloc),
             undecided: all_undecided(alloc, net, rows)?,
-            charged: vec![in alloc; false; net.activities()]?,
+            charged,
             timetable: HeldTimetable::new(alloc, net, rows, held)?,
-            kept_cost: KeptCost::new(alloc, net)?,
+            kept_cost,
+            places: changes_of(alloc, net)?,
         })
     }
 
@@ -76,7 +85,9 @@ impl RelaxedProblem {
     {
         match self.timetable.settle(net, rows) {
             Ok(()) => {
-                self.kept_cost.follow(net, self.timetable.times());
+                let charges = Charges::Flagged(&self.charged);
+                self.kept_cost
+                    .follow(net, rows, &charges, self.timetable.times());
                 Ok(())
             }
             Err(HeldCycle) => Err(HeldCycle),
@@ -99,6 +110,7 @@ impl RelaxedProblem {
         net.sound();
         let flip = flip_of(net, rows, decision);
         turn(net, flip, true, &mut self.timetable, &mut self.charged);
+        weigh(net, rows, flip, &self.charged, &mut self.kept_cost);
         self.undecided.set(flip, false);
         let Ok(()) = self.path.push(decision) else {
             return Err(AllocError);
@@ -121,6 +133,7 @@ impl RelaxedProblem {
             Some(decision) => {
                 let flip = flip_of(net, rows, decision);
                 turn(net, flip, false, &mut self.timetable, &mut self.charged);
+                weigh(net, rows, flip, &self.charged, &mut self.kept_cost);
                 self.undecided.set(flip, true);
                 Some(decision)
             }
@@ -136,8 +149,7 @@ impl RelaxedProblem {
         requires penalty { penalty ≤ PENALTY }
         ensures { result ≡ relaxed_cost_of net.now rows.now self.now.path (times_of self.now) penalty }
     {
-        self.kept_cost
-            .cost_charging(net, rows, &self.charged, penalty)
+        self.kept_cost.cost(net, penalty)
     }
 
     /// Whether a choice is undecided and violated, where the times are the least ones.
@@ -161,8 +173,25 @@ impl RelaxedProblem {
             net,
             rows,
             &self.undecided,
-            self.kept_cost.changes(),
+            &self.places,
             self.timetable.times(),
         )
     }
+}
+
+/// A cost of the rows with every event at 0, where the flagged activities are charged for.
+fn cost_charging(
+    alloc: Global,
+    net: &Network,
+    rows: &Rows,
+    charged: &[bool],
+) -> Result<KeptCost, AllocError>
+    requires sized { IsSized net.now rows.now }
+    requires flags { length charged.now ≡ length net.now.activities }
+    ensures kept { IfOk result (IsKeptCostOf net.now) }
+    ensures priced { IfOk result (IsPricedFor net.now rows.now (is_flagged charged.now)) }
+{
+    let mut cost = KeptCost::new(alloc, net)?;
+    cost.renew_all(net, rows, &Charges::Flagged(charged));
+    Ok(cost)
 }

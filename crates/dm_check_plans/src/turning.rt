@@ -1,16 +1,19 @@
 //! What a decision holds and charges for, flagged or no longer.
-ghost use Rattle.std.specs.Prelude.{ℕ, ◌≡◌, ◌<◌, true, length, slice_set, MatchBool};
+ghost use Rattle.std.specs.Prelude.{ℕ, ◌≡◌, ◌<◌, true, Bool, List, length, slice_set, MatchBool};
 ghost use Rattle.dm_network.specs.Net.{activity_at};
 ghost use Rattle.dm_network.specs.Start.{first_event};
 ghost use Rattle.dm_rows.specs.Relax.{is_of_pair};
+ghost use Rattle.dm_rows.specs.Rows.{IsSized};
+ghost use Rattle.dm_check_times.specs.KeptCosts.{IsKeptCostOf, IsPricedFor};
+ghost use Rattle.dm_paths.specs.Flags.{is_flagged};
 ghost use Rattle.dm_check_plans.specs.Inside.Flags.{AreSetWhere};
 ghost use Rattle.dm_check_plans.specs.Inside.Timetables.{IsTimetableOf, KeepsSpans};
 ghost use Rattle.dm_paths.specs.Decisions.{is_directed, is_held_by, is_charged_by, ReachesNet};
 
 use crate::held_timetable::HeldTimetable;
-use dm_check_times::row_out_of;
+use dm_check_times::{Charges, KeptCost, row_out_of};
 use dm_network::Network;
-use dm_rows::Flip;
+use dm_rows::{Flip, Rows};
 
 /// Makes held and flags what a decision holds and charges for, or lets it go and takes the flags away.
 pub fn turn(
@@ -35,6 +38,25 @@ pub fn turn(
             let first = first_event(net, pair, small);
             turn_direction(net, pair, first, value, timetable);
         }
+    }
+}
+
+/// Takes the weight anew of what a decision charges for, whose flag has been set or taken away.
+pub fn weigh(net: &Network, rows: &Rows, flip: Flip, charged: &[bool], cost: &mut KeptCost)
+    requires sized { IsSized net.now rows.now }
+    requires reaches { ReachesNet net.now flip }
+    requires flags { length charged.now ≡ length net.now.activities }
+    requires kept { IsKeptCostOf net.now cost.old }
+    ensures kept { IsKeptCostOf net.now cost.new }
+    ensures times { cost.new.times ≡ cost.old.times }
+    ensures priced { (before : List Bool) (value : Bool)
+        → AreSetWhere (is_charged_by flip) value (length net.now.activities) before charged.now
+        → IsPricedFor net.now rows.now (is_flagged before) cost.old → IsPricedFor net.now rows.now (is_flagged charged.now) cost.new }
+{
+    match flip {
+        Flip::Keep { .. } => {}
+        Flip::Drop { act } => cost.renew(net, rows, &Charges::Flagged(charged), act),
+        Flip::First { .. } => {}
     }
 }
 

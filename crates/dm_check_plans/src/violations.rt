@@ -9,7 +9,7 @@ ghost use Rattle.dm_tree.specs.Relaxed.{IsViolated};
 ghost use Rattle.dm_check_rows.specs.Claims.{Tells};
 ghost use Rattle.dm_paths.specs.Flags.{AreFlags};
 ghost use Rattle.dm_paths.specs.Places.{at_place, IsWithin};
-ghost use Rattle.dm_check_times.specs.KeptCosts.{AreChangesTo};
+ghost use Rattle.dm_check_times.specs.Changes.{AreChangesTo};
 ghost use Rattle.dm_check_plans.specs.Inside.Violations.{SomeFlagged, NoneFlagged, AreFlagsOfChanges, IsSomeViolated};
 ghost use Rattle.dm_paths.specs.Decisions.{is_unmet_pair};
 

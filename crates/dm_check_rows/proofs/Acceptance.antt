@@ -11,7 +11,7 @@ use Rattle.dm_rows.specs.Rows.{RowsValue, IsSized}
 use Rattle.dm_rows.specs.Active.{HasNoCycle}
 use Rattle.dm_rows.specs.Resolve.{after, after_change, after_named, change_named}
 use Rattle.dm_rows.specs.Refuse.{RefusesAdmission, PassesAtOnce, IsNow}
-use Rattle.dm_check_rows.specs.Claims.{IsAccepted, IsKnownFree, IsKept, AreCheckedRowsOf, TellsAcceptance}
+use Rattle.dm_check_rows.specs.Claims.{IsAccepted, IsKnownFree, IsKept, IsPriced, AreCheckedRowsOf, TellsAcceptance}
 use Rattle.dm_schedule.specs.Schedule.{IsScheduleOf}
 use Rattle.dm_schedule.specs.declared.schedule.Scheduled.{Scheduled}
 use Rattle.dm_check_times.specs.KeptCosts.{KeptCostValue, IsKeptCostOf}
@@ -42,28 +42,33 @@ pub stays_known : (net : Net) (rows : RowsValue) (m : Message) (known : Bool) �
 stays_known net rows m known harmless free is_known = never_make_cycles net rows m harmless (free is_known)
 
 -- the rows after a message, with what is known of them
-pub entered : (net : Net) (m : Message) (change : Change) (was now : RowsValue) (known stays kept still : Bool) (t new : KeptTimetableValue) (cost : KeptCostValue) (settled : Bool) (schedule : List Scheduled) →
-    AreCheckedRowsOf net (record { rows = was; is_free = known; is_kept = kept; is_settled = settled; schedule = schedule; timetable = t; kept_cost = cost }) → change_named net m ≡ Some change → now ≡ after_change was change →
+pub entered : (net : Net) (m : Message) (change : Change) (was now : RowsValue) (known stays kept still priced priced_still : Bool) (t new : KeptTimetableValue) (cost cost_new : KeptCostValue) (settled : Bool) (schedule : List Scheduled) →
+    AreCheckedRowsOf net (record { rows = was; is_free = known; is_kept = kept; is_priced = priced; is_settled = settled; schedule = schedule; timetable = t; kept_cost = cost }) → change_named net m ≡ Some change → now ≡ after_change was change →
     ((rows : RowsValue) → IsKnownFree net rows known → IsKnownFree net (after net rows m) stays) → (IsSized net was → IsSized net now) → IsRoomOf net new →
-    ((before : RowsValue) → now ≡ after_change before change → IsKept net before t kept → IsKept net now new still) → AreCheckedRowsOf net (record { rows = now; is_free = stays; is_kept = still; is_settled = false; schedule = schedule; timetable = new; kept_cost = cost })
-entered net m change was now known stays kept still t new cost settled schedule stands named is free sized room keeps = record {
+    ((before : RowsValue) → now ≡ after_change before change → IsKept net before t kept → IsKept net now new still) → IsKeptCostOf net cost_new →
+    ((before : RowsValue) → now ≡ after_change before change → IsPriced net before cost priced → IsPriced net now cost_new priced_still) →
+    AreCheckedRowsOf net (record { rows = now; is_free = stays; is_kept = still; is_priced = priced_still; is_settled = false; schedule = schedule; timetable = new; kept_cost = cost_new })
+entered net m change was now known stays kept still priced priced_still t new cost cost_new settled schedule stands named is free sized room keeps is_cost prices = record {
   sized = sized stands.sized;
   free = subst (λ (rows : RowsValue). IsKnownFree net rows stays) (sym (after_is net was now m change named is)) (free was stands.free);
   schedule = stands.schedule;
   room = room;
   kept = keeps was is stands.kept;
-  cost = stands.cost;
+  cost = is_cost;
+  priced = prices was is stands.priced;
   settled = λ is. absurd cc;
 }
 
 -- rows whose least timetable is computed
-pub settles : (net : Net) (rows : RowsValue) (t : KeptTimetableValue) (cost : KeptCostValue) (schedule : List Scheduled) → IsSized net rows → IsScheduleOf net schedule → IsKeptCostOf net cost → IsSettledFor net rows t → AreCheckedRowsOf net (record { rows = rows; is_free = true; is_kept = true; is_settled = false; schedule = schedule; timetable = t; kept_cost = cost })
-settles net rows t cost schedule sized scheduled is_cost settled = record {
+pub settles : (net : Net) (rows : RowsValue) (t : KeptTimetableValue) (cost : KeptCostValue) (priced : Bool) (schedule : List Scheduled) → IsSized net rows → IsScheduleOf net schedule → IsKeptCostOf net cost → IsPriced net rows cost priced → IsSettledFor net rows t →
+    AreCheckedRowsOf net (record { rows = rows; is_free = true; is_kept = true; is_priced = priced; is_settled = false; schedule = schedule; timetable = t; kept_cost = cost })
+settles net rows t cost priced schedule sized scheduled is_cost is_priced settled = record {
   sized = sized;
   free = λ _. settled.no_cycle;
   schedule = scheduled;
   room = settled.timetable.room;
   kept = λ _. record { timetable = settled.timetable; agrees = settled.agrees };
   cost = is_cost;
+  priced = is_priced;
   settled = λ is. absurd cc;
 }

@@ -6,13 +6,14 @@ use Rattle.dm_rows.specs.declared.messages.Refusal.{Refusal}
 use Rattle.dm_rows.specs.declared.messages.Refusal.TheVariants.{Cycle, Full, OutOfMemory}
 use Rattle.dm_rows.specs.Rows.{RowsValue, IsSized}
 use Rattle.dm_rows.specs.Active.{HasNoCycle}
+use Rattle.dm_rows.specs.Cost.{is_dropped_change}
 use Rattle.dm_rows.specs.Refuse.{Refuses}
 use Rattle.dm_rows.specs.Resolve.{after}
 use Rattle.dm_rows.specs.Timetable.{IsLeast, time_at}
 use Rattle.dm_schedule.specs.Schedule.{IsScheduleOf}
 use Rattle.dm_schedule.specs.declared.schedule.Scheduled.{Scheduled}
 use Rattle.dm_check_times.specs.Binding.{AreBelowLimit}
-use Rattle.dm_check_times.specs.KeptCosts.{KeptCostValue, IsKeptCostOf}
+use Rattle.dm_check_times.specs.KeptCosts.{KeptCostValue, IsKeptCostOf, IsPricedFor}
 use Rattle.dm_check_times.specs.Timetables.{KeptTimetableValue, IsRoomOf, IsTimetableOf, AgreesWith}
 
 -- nothing refuses the message at so many entries
@@ -45,12 +46,13 @@ pub record IsTimeOf (net : Net) (rows : RowsValue) (i time : ℕ) : Type 0 where
 
 -- ---- rows as messages come
 
--- rows, whether they are known to have no cycle, whether the timetable is kept with them, whether it is settled, the events by
--- their scheduled times, the timetable, and what its times cost
+-- rows, whether they are known to have no cycle, whether the timetable is kept with them, whether the weights of the cost are, whether
+-- the timetable is settled, the events by their scheduled times, the timetable, and what its times cost
 pub record CheckedRowsValue : Type 0 where
   pub rows : RowsValue
   pub is_free : Bool
   pub is_kept : Bool
+  pub is_priced : Bool
   pub is_settled : Bool
   pub schedule : List Scheduled
   pub timetable : KeptTimetableValue
@@ -72,12 +74,17 @@ pub record KeepsTo (net : Net) (rows : RowsValue) (t : KeptTimetableValue) : Typ
 abbrev pub IsKept : Net → RowsValue → KeptTimetableValue → Bool → Type 0
 IsKept net rows t kept = IsTrue kept → KeepsTo net rows t
 
+-- the weights of the cost are those of the rows, where dropped changes are charged for
+abbrev pub IsPriced : Net → RowsValue → KeptCostValue → Bool → Type 0
+IsPriced net rows cost priced = IsTrue priced → IsPricedFor net rows (is_dropped_change net rows) cost
+
 -- the times are the rows' least ones, and what these cost is kept
 pub record IsCosted (net : Net) (rows : RowsValue) (t : KeptTimetableValue) (kept : KeptCostValue) : Type 0 where
   pub least : IsLeast net rows t.times
   pub early : AreBelowLimit t.times
   pub no_cycle : HasNoCycle net rows
   pub times : kept.times ≡ t.times
+  pub priced : IsPricedFor net rows (is_dropped_change net rows) kept
 
 abbrev pub IsSettledIf : Net → RowsValue → KeptTimetableValue → KeptCostValue → Bool → Type 0
 IsSettledIf net rows t kept settled = IsTrue settled → IsCosted net rows t kept
@@ -90,6 +97,7 @@ pub record AreCheckedRowsOf (net : Net) (d : CheckedRowsValue) : Type 0 where
   pub room : IsRoomOf net d.timetable
   pub kept : IsKept net d.rows d.timetable d.is_kept
   pub cost : IsKeptCostOf net d.kept_cost
+  pub priced : IsPriced net d.rows d.kept_cost d.is_priced
   pub settled : IsSettledIf net d.rows d.timetable d.kept_cost d.is_settled
 
 -- ---- refusals

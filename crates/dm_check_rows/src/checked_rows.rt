@@ -7,16 +7,17 @@ ghost use Rattle.dm_rows.specs.Active.{HasNoCycle};
 ghost use Rattle.dm_rows.specs.Resolve.{after, after_change};
 ghost use Rattle.dm_rows.specs.Refuse.{PassesAtOnce, RefusesAdmission, IsNow};
 ghost use Rattle.dm_rows.specs.Timetable.{IsLeast, time_at};
-ghost use Rattle.dm_rows.specs.Cost.{Costs, cost_of};
+ghost use Rattle.dm_rows.specs.Cost.{Costs, cost_of, is_dropped_change};
 ghost use Rattle.dm_rows.specs.declared.messages.Refusal.TheVariants.{OutOfMemory};
 ghost use Rattle.dm_schedule.specs.Schedule.{IsScheduleOf};
 ghost use Rattle.dm_check_times.specs.Binding.{AreBelowLimit};
+ghost use Rattle.dm_check_times.specs.KeptCosts.{IsKeptCostOf, IsPricedFor};
 ghost use Rattle.dm_check_times.specs.Timetables.{IsRoomOf, IsTimetableOf, IsSettledFor, ChangesNet};
-ghost use Rattle.dm_check_rows.specs.Claims.{AreCheckedRowsOf, IsTimeOf, IsKnownFree, IsKept, Tells, TellsAcceptance, times_of};
+ghost use Rattle.dm_check_rows.specs.Claims.{AreCheckedRowsOf, IsTimeOf, IsKnownFree, IsKept, IsPriced, Tells, TellsAcceptance, times_of};
 ghost use Rattle.dm_rows.specs.Harmless.{IsHarmless};
 
-use dm_base::Cost;
-use dm_check_times::{HeldCycle, KeptCost, KeptTimetable, cost_of, keep_up};
+use dm_base::{Cost, Secs};
+use dm_check_times::{Charges, HeldCycle, KeptCost, KeptTimetable, cost_of, keep_cost, keep_up};
 use dm_network::Network;
 use dm_rows::{Change, Message, Refusal, Rows, admit};
 use dm_schedule::{Scheduled, schedule_of};
@@ -34,6 +35,9 @@ pub struct CheckedRows {
 
     /// Whether the timetable is kept with the rows.
     is_kept: bool,
+
+    /// Whether the weights of the cost are kept with the rows.
+    is_priced: bool,
 
     /// Whether the timetable is that of the rows, and the cost is kept of its times.
     is_settled: bool,
@@ -53,6 +57,7 @@ impl Model for CheckedRows {
       rows = d.rows;
       is_free = d.is_free;
       is_kept = d.is_kept;
+      is_priced = d.is_priced;
       is_settled = d.is_settled;
       schedule = d.schedule.items;
       timetable = d.timetable;
@@ -73,6 +78,7 @@ impl CheckedRows {
             rows,
             is_free: false,
             is_kept: false,
+            is_priced: false,
             is_settled: false,
             schedule: schedule_of(alloc, net)?,
             timetable: KeptTimetable::new(alloc, net)?,
@@ -103,6 +109,7 @@ impl CheckedRows {
     {
         self.is_free = false;
         self.is_kept = false;
+        self.is_priced = false;
         self.is_settled = false;
         self.rows.copy_from(rows);
     }
@@ -157,6 +164,13 @@ impl CheckedRows {
             &mut self.timetable,
             net,
             &self.schedule,
+            &self.rows,
+            &change,
+        );
+        self.is_priced = price_if(
+            self.is_priced,
+            &mut self.kept_cost,
+            net,
             &self.rows,
             &change,
         );
@@ -237,7 +251,14 @@ impl CheckedRows {
         ensures rows { self.new.rows ≡ self.old.rows }
         ensures times { times_of self.new ≡ times_of self.old }
     {
-        self.kept_cost.follow(net, self.timetable.times());
+        take_cost(
+            self.is_priced,
+            &mut self.kept_cost,
+            net,
+            &self.rows,
+            self.timetable.times(),
+        );
+        self.is_priced = true;
         self.is_settled = true;
     }
 
@@ -269,7 +290,7 @@ impl CheckedRows {
         ensures { result ≡ cost_of net.now self.now.rows (times_of self.now) penalty }
     {
         if self.is_settled {
-            self.kept_cost.cost(net, &self.rows, penalty)
+            self.kept_cost.cost(net, penalty)
         } else {
             cost_of(net, &self.rows, self.timetable.times(), penalty)
         }
@@ -298,6 +319,45 @@ fn keep_if(
         return false;
     }
     keep_up(timetable, net, schedule, rows, change)
+}
+
+/// Keeps the weights of a cost with rows that have just changed so, if they are. Answers whether they are kept still.
+fn price_if(
+    is_priced: bool,
+    cost: &mut KeptCost,
+    net: &Network,
+    rows: &Rows,
+    change: &Change,
+) -> bool
+    requires sized { IsSized net.now rows.now }
+    requires within { ChangesNet net.now change.now }
+    requires kept { IsKeptCostOf net.now cost.old }
+    ensures kept { IsKeptCostOf net.now cost.new }
+    ensures priced { (before : RowsValue) → rows.now ≡ after_change before change.now
+        → IsPriced net.now before cost.old is_priced → IsPriced net.now rows.now cost.new result }
+{
+    if !is_priced {
+        return false;
+    }
+    keep_cost(cost, net, rows, change)
+}
+
+/// Takes other times of rows into a cost, with what has changed where its weights are kept with the rows, and else anew.
+fn take_cost(is_priced: bool, cost: &mut KeptCost, net: &Network, rows: &Rows, times: &[Secs])
+    requires sized { IsSized net.now rows.now }
+    requires as_many { length times.now ≡ length net.now.events }
+    requires early { AreBelowLimit times.now }
+    requires kept { IsKeptCostOf net.now cost.old }
+    requires priced { IsPriced net.now rows.now cost.old is_priced }
+    ensures kept { IsKeptCostOf net.now cost.new }
+    ensures times { cost.new.times ≡ times.now }
+    ensures priced { IsPricedFor net.now rows.now (is_dropped_change net.now rows.now) cost.new }
+{
+    if is_priced {
+        cost.follow(net, rows, &Charges::Dropped, times);
+    } else {
+        cost.take(net, rows, &Charges::Dropped, times);
+    }
 }
 
 /// The least timetable of rows, from that of before where it is kept with them.

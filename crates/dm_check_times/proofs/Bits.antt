@@ -1,5 +1,5 @@
 -- Bits in which numbers differ.
-use Rattle.std.proofs.Common.{◌≡◌, ℕ, ◌+◌, ◌<◌, ◌≤◌, ◌%◌, List, length, refl, sym, ap, subst, ◌∙◌, inl, inr, arith, slice_index}
+use Rattle.std.proofs.Common.{◌≡◌, ℕ, ◌+◌, ◌%◌, List, length, refl, sym, ap, subst, ◌∙◌, inl, inr, arith, slice_index}
 use Rattle.std.specs.Int.{bit_at}
 use Rattle.std.specs.Int.Bits.{bit_or, bit_xor, xor_self, or_self}
 use Rattle.std.proofs.lemmas.Bool.{cases_lt}

@@ -1,27 +1,22 @@
 -- Costs that are kept.
-use Rattle.std.proofs.Common.{◌≡◌, ℕ, zero, suc, ◌+◌, ◌-◌, ◌*◌, ◌^◌, ◌<◌, ◌≤◌, ◌&&◌, ◌++◌, [], ◌∷◌, Bool, true, false, not, cond, List, length, take, refl, sym, ap, subst, ◌∙◌, inl, inr, arith, slice_index, slice_range, length-set, length-append, get_or-set_same, get_or-set_other, if◌then◌else◌, Vec, Result, Ok, Err}
-use Rattle.std.specs.Prelude.{sum_by, slice_set, IfOk}
+use Rattle.std.proofs.Common.{◌≡◌, ℕ, zero, suc, ◌+◌, ◌-◌, ◌*◌, ◌^◌, ◌<◌, ◌≤◌, ◌&&◌, [], ◌∷◌, Bool, true, false, not, cond, List, length, refl, sym, ap, subst, ◌∙◌, inl, inr, arith, slice_index, slice_range, length-set, get_or-set_same, get_or-set_other, if◌then◌else◌}
+use Rattle.std.specs.Prelude.{sum_by, slice_set, replicate}
 use Rattle.std.specs.List.{range_with_len}
 use Rattle.std.proofs.lemmas.Bool.{cases_eq, cases_lt}
-use Rattle.std.proofs.lemmas.List.{get_or_past, take_all}
+use Rattle.std.proofs.lemmas.List.{get_or_past, get_or-replicate, length-replicate}
 use Rattle.std.proofs.lemmas.List.Edits.{get_or-between}
 use Rattle.std.proofs.lemmas.Grind.{same_number_lists}
-use Rattle.std.proofs.Math.ListN.{get_or-append}
-use Rattle.std.proofs.Math.Seq.{get_or-append_seam}
-use Rattle.std.proofs.lemmas.List.Sums.{sum_by-cons, sum_by_push, sum_by_more}
+use Rattle.std.proofs.lemmas.List.Sums.{sum_by-cons}
 use native.Mathlib.Nat.{mul-le-mul}
 use Rattle.std.proofs.Math.Nat.{mul-add}
 use Rattle.dm_base.specs.declared.limits.TheConstants.{EVENTS, WEIGHT}
-use Rattle.dm_network.proofs.Filling.{range_more}
 use Rattle.dm_network.specs.Net.{Net, event_at, activity_at, is_change, IsWithinLimits}
-use Rattle.dm_network.specs.Held.{is_held}
 use Rattle.dm_rows.specs.Rows.{RowsValue, kept_at}
 use Rattle.dm_rows.specs.Active.{has_passed}
 use Rattle.dm_rows.specs.Cost.{event_cost, charged_weight, dropped_weight, missed_weight, comes_too_early, cost_of, cost_charging, is_arrival}
-use Rattle.dm_check_times.specs.Binding.{AreFlags, AreBelowLimit}
+use Rattle.dm_check_times.specs.Binding.{AreBelowLimit}
 use Rattle.dm_check_times.specs.Inside.Taking.{HasTaken}
-use Rattle.dm_check_times.specs.KeptCosts.{KeptCostValue, AreWithin, AreChangesTo, IsKeptCostOf, penalized_weight}
-use Rattle.dm_check_times.proofs.OfRows.{cost_of_flags}
+use Rattle.dm_check_times.specs.KeptCosts.{KeptCostValue, IsKeptCostOf, IsPricedFor, priced_weight, penalized_weight}
 use Rattle.dm_rows.proofs.Totals.{sum_alike, sum_within}
 
 -- ---- sums over places
@@ -55,85 +50,7 @@ one_of_all f i a (suc n) le lt =
       | inr ne ↦ let rest = one_of_all f i (a + 1) n (omega arith) (omega arith) in omega (arith, all, rest)
     ]
 
--- one more at the end
-sum_one_more : (f : ℕ → ℕ) (n : ℕ) → sum_by f (range_with_len 0 (n + 1)) ≡ sum_by f (range_with_len 0 n) + f n
-sum_one_more f n =
-    let same : f (0 + n) ≡ f n = ap f (let e : 0 + n ≡ n = omega arith in e) in
-    let more = ap (λ (xs : List ℕ). sum_by f xs) (range_more 0 n) ∙ sum_by_push f (range_with_len 0 n) (0 + n) in
-    omega (arith, more, same)
-
--- ---- the changes among the first activities
-
-pub changes_none : (net : Net) → AreChangesTo net 0 []
-changes_none net = record { each = λ k below. absurd (omega arith); few = omega arith; add_up = λ f zeros. refl }
-
-pub changes_same : (net : Net) (n : ℕ) (places : List ℕ) → is_change (activity_at net n).kind ≡ false → AreChangesTo net n places → AreChangesTo net (n + 1) places
-changes_same net n places other are = record {
-  each = λ k below. let b = are.each k below in omega arith;
-  few = let f = are.few in omega arith;
-  add_up = λ f zeros.
-      let had = are.add_up f (λ a below other. zeros a (omega arith) other) in
-      let here : f n ≡ 0 = zeros n (omega arith) other in
-      let more = sum_one_more f n in
-      omega (arith, had, here, more);
-}
-
-pub changes_more : (net : Net) (n : ℕ) (places : List ℕ) → AreChangesTo net n places → AreChangesTo net (n + 1) (places ++ n ∷ [])
-changes_more net n places are = record {
-  each = λ k below. elim (cases_lt k (length places)) [
-    | inl less ↦ let b = are.each k less in let same : slice_index (places ++ n ∷ []) k ≡ slice_index places k = get_or-append places (n ∷ []) 0 k less in omega arith
-    | inr past ↦
-        let l = length-append places (n ∷ []) in
-        let is : k ≡ length places = omega arith in
-        let same : slice_index (places ++ n ∷ []) k ≡ n = subst (λ (j : ℕ). slice_index (places ++ n ∷ []) j ≡ n) (sym is) (get_or-append_seam places n [] 0) in
-        omega arith
-  ];
-  few = let f = are.few in let l = length-append places (n ∷ []) in omega arith;
-  add_up = λ f zeros.
-      let had = are.add_up f (λ a below other. zeros a (omega arith) other) in
-      let more = sum_one_more f n in
-      let pushed = sum_by_push f places n in
-      omega (arith, had, more, pushed);
-}
-
-pub change_added : {E : Type 0} {Z : Type 0} (net : Net) (n : ℕ) (places : List ℕ) (result : Result (Vec ℕ Z) E) → AreChangesTo net n places → IfOk result (λ more. more.items ≡ places ++ n ∷ []) →
-    IfOk result (λ more. AreChangesTo net (n + 1) more.items)
-change_added net n places (Ok more) are is = subst (λ (xs : List ℕ). AreChangesTo net (n + 1) xs) (sym is) (changes_more net n places are)
-change_added net n places (Err fault) are is = tt
-
-pub changes_within : (net : Net) (places : List ℕ) → AreChangesTo net (length net.activities) places → AreWithin net places
-changes_within net places are = record { each = are.each; few = are.few }
-
--- ---- the total over the first places of a list
-
-pub record IsTotalAmong (f : ℕ → ℕ) (places : List ℕ) (most i total : ℕ) : Type 0 where
-  pub sum : total ≡ sum_by f (take i places)
-  pub bound : total ≤ i * most
-
-pub among_none : (f : ℕ → ℕ) (places : List ℕ) (most : ℕ) → IsTotalAmong f places most 0 0
-among_none f places most = record { sum = refl; bound = omega arith }
-
-pub among_next : (f : ℕ → ℕ) (places : List ℕ) (most i total new : ℕ) → i < length places → new ≤ most → new ≡ f (slice_index places i) → IsTotalAmong f places most i total → IsTotalAmong f places most (i + 1) (total + new)
-among_next f places most i total new lt le is had =
-    let more = sum_by_more f places i 0 lt in
-    let sum = had.sum in
-    let bound = had.bound in
-    record { sum = omega (arith, more, sum, is); bound = omega arith }
-
-pub among_all : (f : ℕ → ℕ) (places : List ℕ) (most i total : ℕ) → length places ≤ i → IsTotalAmong f places most i total → total ≡ sum_by f places
-among_all f places most i total le had = had.sum ∙ ap (λ (xs : List ℕ). sum_by f xs) (take_all i places le)
-
--- ---- what costs nothing
-
-none_penalized : (net : Net) (rows : RowsValue) (times : List ℕ) (a : ℕ) → is_change (activity_at net a).kind ≡ false → penalized_weight net rows times a ≡ 0
-none_penalized net rows times a other =
-    ap (λ (b : Bool). cond (b && (if has_passed rows (activity_at net a).head then comes_too_early net rows times a else not (kept_at rows a))) (activity_at net a).weight 0) other
-
-none_missed : (net : Net) (rows : RowsValue) (times : List ℕ) (a : ℕ) → is_change (activity_at net a).kind ≡ false → missed_weight net rows times a ≡ 0
-none_missed net rows times a other = ap (λ (b : Bool). cond (b && has_passed rows (activity_at net a).head && comes_too_early net rows times a) (activity_at net a).weight 0) other
-
-none_charged : (net : Net) (charged : List Bool) (a : ℕ) → is_held charged a ≡ false → charged_weight net (is_held charged) a ≡ 0
-none_charged net charged a other = ap (λ (b : Bool). cond b (activity_at net a).weight 0) other
+-- ---- what costs
 
 -- a sum in two parts
 sum_parts : (f g h : ℕ → ℕ) (xs : List ℕ) → ((k : ℕ) → f k ≡ g k + h k) → sum_by f xs ≡ sum_by g xs + sum_by h xs
@@ -166,22 +83,16 @@ cost_in_parts net rows times penalty late total cost late_is total_is is =
     let product = ap (λ (n : ℕ). penalty * n) (total_is ∙ parts) in
     omega (arith, is, late_is, product, each)
 
-pub kept_cost : (net : Net) (rows : RowsValue) (kept : KeptCostValue) → IsKeptCostOf net kept → (penalty total cost : ℕ) → total ≡ sum_by (penalized_weight net rows kept.times) kept.changes →
-    cost ≡ kept.lateness + penalty * total → cost ≡ cost_of net rows kept.times penalty
-kept_cost net rows kept is_kept penalty total cost total_is is =
-    cost_in_parts net rows kept.times penalty kept.lateness total cost is_kept.lateness
-    (total_is ∙ is_kept.changes.add_up (penalized_weight net rows kept.times) (λ a below other. none_penalized net rows kept.times a other)) is
-
-module _ (net : Net) (rows : RowsValue) (kept : KeptCostValue) (is_kept : IsKeptCostOf net kept) (penalty missed : ℕ) (missed_is : missed ≡ sum_by (missed_weight net rows kept.times) kept.changes) where
-  missed_all : missed ≡ sum_by (missed_weight net rows kept.times) (range_with_len 0 (length net.activities))
-  missed_all = missed_is ∙ is_kept.changes.add_up (missed_weight net rows kept.times) (λ a below other. none_missed net rows kept.times a other)
-
-  pub kept_charging : (charges : ℕ → Bool) (charged : List Bool) (weights cost : ℕ) → ((a : ℕ) → a < length net.activities → is_change (activity_at net a).kind ≡ false → is_held charged a ≡ false) → AreFlags net charges charged →
-      weights ≡ sum_by (charged_weight net (is_held charged)) kept.changes → cost ≡ kept.lateness + penalty * weights + penalty * missed → cost ≡ cost_charging net rows charges kept.times penalty
-  kept_charging charges charged weights cost changes flags weights_are is =
-      cost_of_flags net rows charges charged kept.times penalty kept.lateness weights missed cost flags is_kept.lateness
-      (weights_are ∙ is_kept.changes.add_up (charged_weight net (is_held charged)) (λ a below other. none_charged net charged a (changes a below other)))
-      missed_all is
+-- where each weight is that of the rows, the two sums are their cost
+pub kept_cost : (net : Net) (rows : RowsValue) (charges : ℕ → Bool) (kept : KeptCostValue) → IsKeptCostOf net kept → IsPricedFor net rows charges kept → (penalty cost : ℕ) →
+    cost ≡ kept.lateness + penalty * kept.penalized → cost ≡ cost_charging net rows charges kept.times penalty
+kept_cost net rows charges kept is_kept priced penalty cost is =
+    let same = sum_alike (slice_index kept.weights) (priced_weight net rows charges kept.times) 0 (length net.activities) (λ a from below. priced a (omega arith)) in
+    let parts = sum_parts (priced_weight net rows charges kept.times) (charged_weight net charges) (missed_weight net rows kept.times) (range_with_len 0 (length net.activities)) (λ a. refl) in
+    let each = mul-add penalty (sum_by (charged_weight net charges) (range_with_len 0 (length net.activities))) (sum_by (missed_weight net rows kept.times) (range_with_len 0 (length net.activities))) in
+    let product = ap (λ (n : ℕ). penalty * n) (is_kept.penalized ∙ (same ∙ parts)) in
+    let late = is_kept.lateness in
+    omega (arith, is, late, product, each)
 
 -- ---- a time that changes
 
@@ -218,18 +129,105 @@ other_cost net x i time k ne =
 
 pub puts : (net : Net) → IsWithinLimits net → (kept : KeptCostValue) (i time was now lateness : ℕ) → IsKeptCostOf net kept → i < length net.events → time < 2 ^ 38 →
     was ≡ event_cost net kept.times i → now ≡ event_cost net (slice_set kept.times i time) i → lateness ≡ kept.lateness + now - was →
-    IsKeptCostOf net (record { changes = kept.changes; times = slice_set kept.times i time; lateness = lateness })
+    IsKeptCostOf net (record { times = slice_set kept.times i time; lateness = lateness; weights = kept.weights; penalized = kept.penalized })
 puts net within kept i time was now lateness is_kept below early was_is now_is is =
     let moves = sum_moves (event_cost net kept.times) (event_cost net (slice_set kept.times i time)) i (other_cost net kept.times i time) 0 (length net.events) (omega arith) (omega arith) in
     let had = is_kept.lateness in
     let all : lateness ≡ sum_by (event_cost net (slice_set kept.times i time)) (range_with_len 0 (length net.events)) = omega (arith, moves, had, was_is, now_is, is) in
     let few = lateness_within net within (slice_set kept.times i time) (below_set kept.times i time is_kept.early early) in
     record {
-      changes = is_kept.changes;
       as_many = length-set kept.times i time ∙ is_kept.as_many;
       early = below_set kept.times i time is_kept.early early;
       lateness = all;
       limit = omega (arith, all, few);
+      as_many_weights = is_kept.as_many_weights;
+      small = is_kept.small;
+      penalized = is_kept.penalized;
+      penalized_limit = is_kept.penalized_limit;
+    }
+
+-- whole other times
+pub takes : (net : Net) (kept : KeptCostValue) (times : List ℕ) (lateness : ℕ) → IsKeptCostOf net kept → length times ≡ length net.events → AreBelowLimit times →
+    lateness ≡ sum_by (event_cost net times) (range_with_len 0 (length net.events)) → lateness ≤ EVENTS * (WEIGHT * 2 ^ 38) →
+    IsKeptCostOf net (record { times = times; lateness = lateness; weights = kept.weights; penalized = kept.penalized })
+takes net kept times lateness is_kept size early is limit = record {
+  as_many = size;
+  early = early;
+  lateness = is;
+  limit = limit;
+  as_many_weights = is_kept.as_many_weights;
+  small = is_kept.small;
+  penalized = is_kept.penalized;
+  penalized_limit = is_kept.penalized_limit;
+}
+
+-- ---- a weight that changes
+
+small_set : (xs : List ℕ) (a weight most : ℕ) → ((k : ℕ) → slice_index xs k ≤ most) → weight ≤ most → (k : ℕ) → slice_index (slice_set xs a weight) k ≤ most
+small_set xs a weight most small le k =
+    elim (cases_eq k a) [
+      | inl here ↦ elim (cases_lt a (length xs)) [
+        | inl below ↦
+            let e : slice_index (slice_set xs a weight) k ≡ weight = subst (λ (j : ℕ). slice_index (slice_set xs a weight) j ≡ weight) (sym here) (get_or-set_same xs a weight 0 below) in
+            omega arith
+        | inr past ↦ let e : slice_index (slice_set xs a weight) k ≡ 0 = get_or_past (slice_set xs a weight) k 0 (let l = length-set xs a weight in omega arith) in omega arith
+      ]
+      | inr ne ↦ let e = get_or-set_other xs a k weight 0 ne in let s = small k in omega arith
+    ]
+
+pub sets : (net : Net) → IsWithinLimits net → (kept : KeptCostValue) (a weight penalized : ℕ) → IsKeptCostOf net kept → a < length net.activities → weight ≤ 2 * WEIGHT →
+    penalized ≡ kept.penalized + weight - slice_index kept.weights a →
+    IsKeptCostOf net (record { times = kept.times; lateness = kept.lateness; weights = slice_set kept.weights a weight; penalized = penalized })
+sets net within kept a weight penalized is_kept below le is =
+    let size = is_kept.as_many_weights in
+    let moves = sum_moves (slice_index kept.weights) (slice_index (slice_set kept.weights a weight)) a (λ k ne. get_or-set_other kept.weights a k weight 0 ne) 0 (length net.activities) (omega arith) (omega arith) in
+    let there : slice_index (slice_set kept.weights a weight) a ≡ weight = get_or-set_same kept.weights a weight 0 (omega arith) in
+    let had = is_kept.penalized in
+    let all : penalized ≡ sum_by (slice_index (slice_set kept.weights a weight)) (range_with_len 0 (length net.activities)) = omega (arith, moves, there, had, is) in
+    let small = small_set kept.weights a weight (2 * WEIGHT) is_kept.small le in
+    let few = sum_within (slice_index (slice_set kept.weights a weight)) (2 * WEIGHT) 0 (length net.activities) small in
+    let activities = within.activities in
+    record {
+      as_many = is_kept.as_many;
+      early = is_kept.early;
+      lateness = is_kept.lateness;
+      limit = is_kept.limit;
+      as_many_weights = length-set kept.weights a weight ∙ size;
+      small = small;
+      penalized = all;
+      penalized_limit = omega (arith, all, few, activities);
+    }
+
+-- what is taken off is no more than there is
+pub enough_weight : (net : Net) (kept : KeptCostValue) (a was : ℕ) → IsKeptCostOf net kept → a < length net.activities → was ≡ slice_index kept.weights a → was ≤ kept.penalized
+enough_weight net kept a was is_kept below is =
+    let part = one_of_all (slice_index kept.weights) a 0 (length net.activities) (omega arith) (omega arith) in
+    let had = is_kept.penalized in
+    omega (arith, part, had, is)
+
+-- no weights yet
+no_weight : (n k : ℕ) → slice_index (replicate n 0) k ≤ 0
+no_weight n k =
+    elim (cases_lt k n) [
+      | inl below ↦ let e : slice_index (replicate n 0) k ≡ 0 = get_or-replicate n k 0 0 below in omega arith
+      | inr past ↦ let e : slice_index (replicate n 0) k ≡ 0 = get_or_past (replicate n 0) k 0 (subst (λ (m : ℕ). m ≤ k) (sym (length-replicate n 0)) past) in omega arith
+    ]
+
+pub begins : (net : Net) (times seen weights : List ℕ) (lateness : ℕ) → times ≡ replicate (length net.events) 0 → seen ≡ times → lateness ≡ sum_by (event_cost net seen) (range_with_len 0 (length net.events)) →
+    lateness ≤ EVENTS * (WEIGHT * 2 ^ 38) → weights ≡ replicate (length net.activities) 0 → IsKeptCostOf net (record { times = times; lateness = lateness; weights = weights; penalized = 0 })
+begins net times seen weights lateness zeros same is limit none =
+    let early : (k : ℕ) → slice_index times k ≤ 0 = λ k. subst (λ (xs : List ℕ). slice_index xs k ≤ 0) (sym zeros) (no_weight (length net.events) k) in
+    let small : (k : ℕ) → slice_index weights k ≤ 0 = λ k. subst (λ (xs : List ℕ). slice_index xs k ≤ 0) (sym none) (no_weight (length net.activities) k) in
+    let all = sum_within (slice_index weights) 0 0 (length net.activities) small in
+    record {
+      as_many = ap (λ (xs : List ℕ). length xs) zeros ∙ length-replicate (length net.events) 0;
+      early = λ k. let e = early k in omega arith;
+      lateness = is ∙ ap (λ (x : List ℕ). sum_by (event_cost net x) (range_with_len 0 (length net.events))) same;
+      limit = limit;
+      as_many_weights = ap (λ (xs : List ℕ). length xs) none ∙ length-replicate (length net.activities) 0;
+      small = λ k. let s = small k in omega arith;
+      penalized = omega (arith, all);
+      penalized_limit = omega arith;
     }
 
 -- what is taken off is no more than there is

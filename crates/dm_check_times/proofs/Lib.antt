@@ -7,4 +7,6 @@ pub mod Renewing
 pub mod OfTimetables
 pub mod Agreeing
 pub mod Kept
+pub mod Weighing
+pub mod Changing
 pub mod Bits

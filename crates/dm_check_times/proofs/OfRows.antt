@@ -1,5 +1,5 @@
 -- What is least over flags and spans is least for the rows that they are of.
-use Rattle.std.proofs.Common.{◌≡◌, ℕ, zero, suc, ◌+◌, ◌-◌, ◌*◌, ◌^◌, ◌<◌, ◌≤◌, List, length, Bool, true, false, cond, Option, Some, None, refl, sym, ap, ◌∙◌, arith, slice_index, inl, inr}
+use Rattle.std.proofs.Common.{◌≡◌, ℕ, zero, suc, ◌+◌, ◌-◌, ◌*◌, ◌^◌, ◌<◌, ◌≤◌, List, length, Bool, cond, Option, Some, None, refl, sym, ap, ◌∙◌, arith, slice_index, inl, inr}
 use Rattle.std.specs.Prelude.{unwrap_or, max, sum_by}
 use Rattle.std.specs.List.{range_with_len}
 use Rattle.std.proofs.lemmas.List.Sums.{sum_by-cons}
@@ -21,7 +21,7 @@ use Rattle.dm_rows.specs.Cost.{cost_charging, event_cost, charged_weight, missed
 use Rattle.dm_rows.specs.Laws.{EntersNoPassed}
 use Rattle.dm_rows.proofs.AsGraph.{least_from_graph}
 use Rattle.dm_rows.proofs.Holding.{cycles_are_positive}
-use Rattle.dm_check_times.specs.Binding.{graph_with, is_due, MayBegin, AreBindings, AreFlags, AreSpansOf, AreFloorsOf, AreBelowLimit}
+use Rattle.dm_check_times.specs.Binding.{graph_with, AreBindings, AreFlags, AreSpansOf, AreFloorsOf, AreBelowLimit}
 use Rattle.dm_check_times.specs.Inside.Rising.{AreWithin}
 
 -- ---- limits

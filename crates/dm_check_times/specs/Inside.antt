@@ -1,7 +1,8 @@
--- States of rounds, and of times that are taken.
+-- States of rounds, of times that are noted as moved, and of weights that are made right.
 pub mod Rising
 pub mod Spreading
 pub mod Renewing
 pub mod Agreeing
 pub mod Taking
 pub mod Differing
+pub mod Pricing

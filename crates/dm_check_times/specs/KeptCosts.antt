@@ -1,42 +1,67 @@
--- What a timetable costs, kept while its times change.
-use Rattle.std.specs.Prelude.{ℕ, ◌≡◌, ◌*◌, ◌^◌, ◌<◌, ◌≤◌, ◌&&◌, Bool, not, false, List, length, slice_index, if◌then◌else◌, sum_by}
+-- What a timetable costs, kept while its times and the rows change.
+use Rattle.std.specs.Prelude.{ℕ, ◌≡◌, ◌+◌, ◌*◌, ◌^◌, ◌<◌, ◌≤◌, ◌&&◌, Bool, not, List, length, slice_index, if◌then◌else◌, sum_by}
 use Rattle.std.specs.List.{range_with_len}
-use Rattle.dm_base.specs.declared.limits.TheConstants.{EVENTS, WEIGHT}
+use Rattle.dm_base.specs.declared.limits.TheConstants.{EVENTS, ACTIVITIES, WEIGHT}
 use Rattle.dm_network.specs.Net.{Net, activity_at, is_change}
+use Rattle.dm_network.specs.Held.{is_held}
 use Rattle.dm_rows.specs.Active.{has_passed}
-use Rattle.dm_rows.specs.Cost.{event_cost, comes_too_early}
+use Rattle.dm_rows.specs.Cost.{event_cost, charged_weight, missed_weight, comes_too_early, is_dropped_change}
 use Rattle.dm_rows.specs.Rows.{RowsValue, kept_at}
 use Rattle.dm_check_times.specs.Binding.{AreBelowLimit}
+use Rattle.dm_check_times.specs.declared.charges.Charges.{Charges}
+use Rattle.dm_check_times.specs.declared.charges.Charges.TheVariants.{Dropped, Flagged}
 
--- the places of changes, times, and what their lateness costs
+-- ---- what is charged for
+
+-- whether an activity is charged for
+abbrev pub charges_of : Net → RowsValue → Charges → ℕ → Bool
+charges_of net rows Dropped = is_dropped_change net rows
+charges_of net rows (Flagged flags) = is_held flags.now
+
+-- there is a flag for each activity of the network
+abbrev pub AreChargesTo : Net → Charges → Type 0
+AreChargesTo net Dropped = Unit {0}
+AreChargesTo net (Flagged flags) = length flags.now ≡ length net.activities
+
+-- the weight of which the penalty is taken at an activity: charged for, and missed
+abbrev pub priced_weight : Net → RowsValue → (ℕ → Bool) → List ℕ → ℕ → ℕ
+priced_weight net rows charges x a = charged_weight net charges a + missed_weight net rows x a
+
+-- ---- kept costs
+
+-- times, what their lateness costs, a weight for each activity, and the sum of these
 pub record KeptCostValue : Type 0 where
-  pub changes : List ℕ
   pub times : List ℕ
   pub lateness : ℕ
+  pub weights : List ℕ
+  pub penalized : ℕ
 
--- the places are of activities, and there are no more than activities
-pub record AreWithin (net : Net) (places : List ℕ) : Type 0 where
-  pub each : (k : ℕ) → k < length places → slice_index places k < length net.activities
-  pub few : length places ≤ length net.activities
-
--- what is 0 of every activity that is no change adds up over the places to what it adds up to over the first n activities
-abbrev pub AddsUp : Net → ℕ → List ℕ → (ℕ → ℕ) → Type 0
-AddsUp net n places f =
-    ((a : ℕ) → a < n → is_change (activity_at net a).kind ≡ false → f a ≡ 0) → sum_by f places ≡ sum_by f (range_with_len 0 n)
-
--- the places are those of the changes among the first n activities
-pub record AreChangesTo (net : Net) (n : ℕ) (places : List ℕ) : Type 0 where
-  pub each : (k : ℕ) → k < length places → slice_index places k < n
-  pub few : length places ≤ n
-  pub add_up : (f : ℕ → ℕ) → AddsUp net n places f
-
--- the changes are the network's, and the lateness is that of the times
+-- the lists are as long as the network's, and the sums are those of the times and of the weights
 pub record IsKeptCostOf (net : Net) (kept : KeptCostValue) : Type 0 where
-  pub changes : AreChangesTo net (length net.activities) kept.changes
   pub as_many : length kept.times ≡ length net.events
   pub early : AreBelowLimit kept.times
   pub lateness : kept.lateness ≡ sum_by (event_cost net kept.times) (range_with_len 0 (length net.events))
   pub limit : kept.lateness ≤ EVENTS * (WEIGHT * 2 ^ 38)
+  pub as_many_weights : length kept.weights ≡ length net.activities
+  pub small : (a : ℕ) → slice_index kept.weights a ≤ 2 * WEIGHT
+  pub penalized : kept.penalized ≡ sum_by (slice_index kept.weights) (range_with_len 0 (length net.activities))
+  pub penalized_limit : kept.penalized ≤ ACTIVITIES * (2 * WEIGHT)
+
+-- the weight that is kept of an activity is that of the rows, for these charges, at the times that are kept
+abbrev pub IsPricedAt : Net → RowsValue → (ℕ → Bool) → KeptCostValue → ℕ → Type 0
+IsPricedAt net rows charges kept a = slice_index kept.weights a ≡ priced_weight net rows charges kept.times a
+
+-- and so is every one
+abbrev pub IsPricedFor : Net → RowsValue → (ℕ → Bool) → KeptCostValue → Type 0
+IsPricedFor net rows charges kept = (a : ℕ) → a < length net.activities → IsPricedAt net rows charges kept a
+
+-- the weight of one activity is right now, and whichever was right still is
+pub record RenewsWeight (net : Net) (rows : RowsValue) (charges : ℕ → Bool) (a : ℕ) (old new : KeptCostValue) : Type 0 where
+  pub times : new.times ≡ old.times
+  pub there : IsPricedAt net rows charges new a
+  pub kept : (b : ℕ) → IsPricedAt net rows charges old b → IsPricedAt net rows charges new b
+
+-- ---- the weights of rows that are not kept
 
 -- a change that its passed head has missed, or that is dropped and whose head has not passed
 abbrev pub is_penalized : Net → RowsValue → List ℕ → ℕ → Bool

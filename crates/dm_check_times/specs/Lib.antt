@@ -4,7 +4,9 @@ pub mod Binding
 pub mod Following
 -- The least timetable of rows, as these change.
 pub mod Timetables
--- What a timetable costs, kept while its times change.
+-- The changes of a network, by place.
+pub mod Changes
+-- What a timetable costs, kept while its times and the rows change.
 pub mod KeptCosts
 -- How far a round has come: checked, and not to be believed.
 pub mod Inside

@@ -1,10 +1,9 @@
 //! What a timetable costs.
-ghost use Rattle.std.specs.Prelude.{ℕ, ◌≡◌, ◌+◌, ◌*◌, ◌^◌, ◌<◌, ◌≤◌, Bool, length, sum_by};
+ghost use Rattle.std.specs.Prelude.{ℕ, ◌≡◌, ◌+◌, ◌*◌, ◌^◌, ◌<◌, ◌≤◌, length, sum_by};
 ghost use Rattle.std.specs.List.{range_with_len};
 ghost use Rattle.dm_base.specs.declared.limits.TheConstants.{EVENTS, ACTIVITIES, WEIGHT, PENALTY};
-ghost use Rattle.dm_network.specs.Held.{is_held};
 ghost use Rattle.dm_rows.specs.Rows.{IsSized};
-ghost use Rattle.dm_rows.specs.Cost.{cost_of, event_cost, charged_weight, missed_weight, comes_too_early};
+ghost use Rattle.dm_rows.specs.Cost.{cost_of, event_cost, missed_weight, comes_too_early};
 ghost use Rattle.dm_check_times.specs.Binding.{AreBelowLimit};
 ghost use Rattle.dm_check_times.specs.KeptCosts.{is_penalized, penalized_weight};
 
@@ -73,21 +72,6 @@ pub(crate) fn event_cost(net: &Network, times: &[Secs], i: usize) -> Cost
     }
 }
 
-/// The weight of an activity, if it is charged for.
-pub(crate) fn charged_weight(net: &Network, charged: &[bool], a: usize) -> Milli
-    requires flags { length charged.now ≡ length net.now.activities }
-    requires is_activity { a < length net.now.activities }
-    ensures weight { result ≡ charged_weight net.now (is_held charged.now) a }
-    ensures limit { result ≤ WEIGHT }
-{
-    net.sound();
-    if charged[a] {
-        net.activity(a).weight
-    } else {
-        0
-    }
-}
-
 /// The weight of a change that its passed head has missed for good.
 pub(crate) fn missed_weight(net: &Network, rows: &Rows, times: &[Secs], a: usize) -> Milli
     requires sized { IsSized net.now rows.now }
@@ -110,7 +94,7 @@ pub(crate) fn missed_weight(net: &Network, rows: &Rows, times: &[Secs], a: usize
 }
 
 /// The weight of a change that costs the penalty.
-pub(crate) fn penalized_weight(net: &Network, rows: &Rows, times: &[Secs], a: usize) -> Milli
+fn penalized_weight(net: &Network, rows: &Rows, times: &[Secs], a: usize) -> Milli
     requires sized { IsSized net.now rows.now }
     requires as_many { length times.now ≡ length net.now.events }
     requires early { AreBelowLimit times.now }

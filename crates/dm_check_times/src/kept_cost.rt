@@ -1,17 +1,19 @@
 //! What a timetable costs, kept while its times change.
-ghost use Rattle.std.specs.Prelude.{ℕ, ◌≡◌, ◌+◌, ◌*◌, ◌^◌, ◌<◌, ◌≤◌, ◌++◌, [], ◌∷◌, true, false, Bool, List, length, slice_index, slice_set, sum_by, IfOk};
-ghost use Rattle.dm_base.specs.declared.limits.TheConstants.{ACTIVITIES, WEIGHT, PENALTY};
-ghost use Rattle.dm_network.specs.Held.{is_held};
-ghost use Rattle.dm_network.specs.Net.{activity_at, is_change};
-ghost use Rattle.dm_rows.specs.Rows.{IsSized};
-ghost use Rattle.dm_rows.specs.Cost.{cost_charging, cost_of, charged_weight, missed_weight};
-ghost use Rattle.dm_check_times.specs.Binding.{AreFlags, AreBelowLimit};
-ghost use Rattle.dm_check_times.specs.KeptCosts.{IsKeptCostOf, AreChangesTo, AreWithin, penalized_weight};
+ghost use Rattle.std.specs.Prelude.{ℕ, ◌≡◌, ◌*◌, ◌^◌, ◌<◌, ◌≤◌, true, Bool, length, slice_index, slice_set, IfOk};
+ghost use Rattle.dm_base.specs.declared.limits.TheConstants.{PENALTY, WEIGHT};
+ghost use Rattle.dm_rows.specs.Rows.{RowsValue, IsSized};
+ghost use Rattle.dm_rows.specs.Cost.{cost_charging};
+ghost use Rattle.dm_check_times.specs.Binding.{AreBelowLimit};
+ghost use Rattle.dm_check_times.specs.KeptCosts.{IsKeptCostOf, IsPricedFor, RenewsWeight, charges_of, AreChargesTo};
+ghost use Rattle.dm_check_times.specs.Inside.Agreeing.{InRow};
+ghost use Rattle.dm_check_times.specs.Inside.Pricing.{Reprices};
 ghost use Rattle.dm_check_times.specs.Inside.Taking.{HasTaken};
 
+use crate::charges::{Charges, priced_weight};
 use crate::comparing::are_equal;
-use crate::costing::{charged_weight, event_cost, lateness_cost, missed_weight, penalized_weight};
-use dm_base::{ActKind, Cost, Secs};
+use crate::costing::{event_cost, lateness_cost};
+use crate::row::{row_into, row_out_of};
+use dm_base::{Cost, Milli, Secs};
 use dm_network::Network;
 use dm_rows::Rows;
 use std::alloc::{AllocError, Global};
@@ -20,13 +22,14 @@ use std::marker::Model;
 /// How many times are compared at once.
 const BLOCK: usize = 64;
 
-/// Times of a network's events, with what their lateness costs, and the network's changes. What these times cost is added up
-/// over the changes alone.
+/// Times of a network's events, with what their lateness costs, and for each activity the weight of which the penalty is taken, with
+/// their sum. So the cost of these times is a sum of two numbers.
 #[derive(Debug, Drop)]
 pub struct KeptCost {
-    changes: Vec<usize>,
     times: Vec<Secs>,
     lateness: Cost,
+    weights: Vec<Milli>,
+    penalized: Cost,
 }
 
 impl Model for KeptCost {
@@ -34,13 +37,14 @@ impl Model for KeptCost {
 
     ghost Value = { KeptCostValue };
 
-    ghost view = { λ k. record { changes = k.changes.items; times = k.times.items; lateness = k.lateness } };
+    ghost view = { λ k. record { times = k.times.items; lateness = k.lateness; weights = k.weights.items; penalized = k.penalized } };
 
     ghost invariant = { λ k. Unit {0} };
 }
 
 impl KeptCost {
-    /// That of a network, with every event at 0.
+    /// That of a network, with every event at 0 and no weight. Its weights are to be taken from rows
+    /// ([`take`](KeptCost::take), [`renew_all`](KeptCost::renew_all)).
     pub fn new(alloc: Global, net: &Network) -> Result<KeptCost, AllocError>
         ensures { IfOk result (IsKeptCostOf net.now) }
     {
@@ -48,32 +52,89 @@ impl KeptCost {
         let times = vec![in alloc; 0; net.events()]?;
         let lateness = lateness_cost(net, &times);
         Ok(KeptCost {
-            changes: changes_of(alloc, net)?,
             times,
             lateness,
+            weights: vec![in alloc; 0; net.activities()]?,
+            penalized: 0,
         })
     }
 
-    /// Takes other times, in seconds. It takes no memory, compares them with those of before many at once, and looks at the single
-    /// times where some differ.
-    pub fn follow(&mut self, net: &Network, times: &[Secs])
+    /// Takes whole other times of rows, in seconds, and every weight anew. It takes no memory.
+    pub fn take(&mut self, net: &Network, rows: &Rows, charges: &Charges<'_>, times: &[Secs])
+        requires kept { IsKeptCostOf net.now self.old }
+        requires sized { IsSized net.now rows.now }
+        requires charges { AreChargesTo net.now charges.now }
+        requires as_many { length times.now ≡ length net.now.events }
+        requires early { AreBelowLimit times.now }
+        ensures kept { IsKeptCostOf net.now self.new }
+        ensures times { self.new.times ≡ times.now }
+        ensures priced { IsPricedFor net.now rows.now (charges_of net.now rows.now charges.now) self.new }
+    {
+        self.take_times(net, times);
+        self.renew_all(net, rows, charges);
+    }
+
+    /// Takes whole other times, and leaves the weights.
+    fn take_times(&mut self, net: &Network, times: &[Secs])
         requires kept { IsKeptCostOf net.now self.old }
         requires as_many { length times.now ≡ length net.now.events }
         requires early { AreBelowLimit times.now }
         ensures kept { IsKeptCostOf net.now self.new }
         ensures times { self.new.times ≡ times.now }
     {
+        self.lateness = lateness_cost(net, times);
+        self.times.copy_from_slice(times);
+    }
+
+    /// Takes every weight anew. It takes no memory.
+    pub fn renew_all(&mut self, net: &Network, rows: &Rows, charges: &Charges<'_>)
+        requires kept { IsKeptCostOf net.now self.old }
+        requires sized { IsSized net.now rows.now }
+        requires charges { AreChargesTo net.now charges.now }
+        ensures kept { IsKeptCostOf net.now self.new }
+        ensures times { self.new.times ≡ self.old.times }
+        ensures priced { IsPricedFor net.now rows.now (charges_of net.now rows.now charges.now) self.new }
+    {
+        for a in 0..net.activities() {
+            self.renew(net, rows, charges, a);
+        }
+    }
+
+    /// Takes other times, in seconds. It takes no memory, compares them with those of before many at once, and looks at the single
+    /// times where some differ, and at the activities into and out of the events that have moved.
+    pub fn follow(&mut self, net: &Network, rows: &Rows, charges: &Charges<'_>, times: &[Secs])
+        requires kept { IsKeptCostOf net.now self.old }
+        requires sized { IsSized net.now rows.now }
+        requires charges { AreChargesTo net.now charges.now }
+        requires priced { IsPricedFor net.now rows.now (charges_of net.now rows.now charges.now) self.old }
+        requires as_many { length times.now ≡ length net.now.events }
+        requires early { AreBelowLimit times.now }
+        ensures kept { IsKeptCostOf net.now self.new }
+        ensures times { self.new.times ≡ times.now }
+        ensures priced { IsPricedFor net.now rows.now (charges_of net.now rows.now charges.now) self.new }
+    {
         for block in 0..times.len() / BLOCK {
             let from = block * BLOCK;
-            self.follow_block(net, times, from, from + BLOCK);
+            self.follow_block(net, rows, charges, times, from, from + BLOCK);
         }
         let from = times.len() / BLOCK * BLOCK;
-        self.follow_block(net, times, from, times.len());
+        self.follow_block(net, rows, charges, times, from, times.len());
     }
 
     /// Takes those of a block, where those before it are taken. Equal blocks are left out.
-    fn follow_block(&mut self, net: &Network, times: &[Secs], from: usize, to: usize)
+    fn follow_block(
+        &mut self,
+        net: &Network,
+        rows: &Rows,
+        charges: &Charges<'_>,
+        times: &[Secs],
+        from: usize,
+        to: usize,
+    )
         requires kept { IsKeptCostOf net.now self.old }
+        requires sized { IsSized net.now rows.now }
+        requires charges { AreChargesTo net.now charges.now }
+        requires priced { IsPricedFor net.now rows.now (charges_of net.now rows.now charges.now) self.old }
         requires as_many { length times.now ≡ length net.now.events }
         requires early { AreBelowLimit times.now }
         requires block { from ≤ to }
@@ -81,11 +142,12 @@ impl KeptCost {
         requires taken { HasTaken times.now self.old.times from }
         ensures kept { IsKeptCostOf net.now self.new }
         ensures taken { HasTaken times.now self.new.times to }
+        ensures priced { IsPricedFor net.now rows.now (charges_of net.now rows.now charges.now) self.new }
     {
         if self.has(times, from, to) {
             return;
         }
-        self.follow_each(net, times, from, to);
+        self.follow_each(net, rows, charges, times, from, to);
     }
 
     /// Whether these are the times of a block already.
@@ -99,8 +161,19 @@ impl KeptCost {
     }
 
     /// Takes those of a block, each looked at.
-    fn follow_each(&mut self, net: &Network, times: &[Secs], from: usize, to: usize)
+    fn follow_each(
+        &mut self,
+        net: &Network,
+        rows: &Rows,
+        charges: &Charges<'_>,
+        times: &[Secs],
+        from: usize,
+        to: usize,
+    )
         requires kept { IsKeptCostOf net.now self.old }
+        requires sized { IsSized net.now rows.now }
+        requires charges { AreChargesTo net.now charges.now }
+        requires priced { IsPricedFor net.now rows.now (charges_of net.now rows.now charges.now) self.old }
         requires as_many { length times.now ≡ length net.now.events }
         requires early { AreBelowLimit times.now }
         requires block { from ≤ to }
@@ -108,32 +181,63 @@ impl KeptCost {
         requires taken { HasTaken times.now self.old.times from }
         ensures kept { IsKeptCostOf net.now self.new }
         ensures taken { HasTaken times.now self.new.times to }
+        ensures priced { IsPricedFor net.now rows.now (charges_of net.now rows.now charges.now) self.new }
     {
         for i in from..to {
-            self.follow_at(net, i, times[i]);
+            self.follow_at(net, rows, charges, i, times[i]);
         }
     }
 
     /// Takes another time of an event.
-    fn follow_at(&mut self, net: &Network, i: usize, time: Secs)
+    fn follow_at(&mut self, net: &Network, rows: &Rows, charges: &Charges<'_>, i: usize, time: Secs)
         requires kept { IsKeptCostOf net.now self.old }
+        requires sized { IsSized net.now rows.now }
+        requires charges { AreChargesTo net.now charges.now }
+        requires priced { IsPricedFor net.now rows.now (charges_of net.now rows.now charges.now) self.old }
         requires is_event { i < length net.now.events }
         requires early { time < 2 ^ 38 }
         ensures kept { IsKeptCostOf net.now self.new }
         ensures times { self.new.times ≡ slice_set self.old.times i time }
+        ensures priced { IsPricedFor net.now rows.now (charges_of net.now rows.now charges.now) self.new }
     {
-        if self.times[i] != time {
-            self.put(net, i, time);
+        if self.time(i) != time {
+            self.move_at(net, rows, charges, i, time);
         }
     }
 
-    /// The same, of a time that has changed.
+    /// The time of an event.
+    fn time(&self, i: usize) -> Secs
+        requires { i < length self.now.times }
+        ensures { result ≡ slice_index self.now.times i }
+    {
+        self.times[i]
+    }
+
+    /// Takes another time of an event, and the weights of the activities into it and out of it anew.
+    fn move_at(&mut self, net: &Network, rows: &Rows, charges: &Charges<'_>, i: usize, time: Secs)
+        requires kept { IsKeptCostOf net.now self.old }
+        requires sized { IsSized net.now rows.now }
+        requires charges { AreChargesTo net.now charges.now }
+        requires priced { IsPricedFor net.now rows.now (charges_of net.now rows.now charges.now) self.old }
+        requires is_event { i < length net.now.events }
+        requires early { time < 2 ^ 38 }
+        ensures kept { IsKeptCostOf net.now self.new }
+        ensures times { self.new.times ≡ slice_set self.old.times i time }
+        ensures priced { IsPricedFor net.now rows.now (charges_of net.now rows.now charges.now) self.new }
+    {
+        self.put(net, i, time);
+        self.renew_row(net, rows, charges, row_into(net, i));
+        self.renew_row(net, rows, charges, row_out_of(net, i));
+    }
+
+    /// Takes another time of an event, and leaves the weights.
     fn put(&mut self, net: &Network, i: usize, time: Secs)
         requires kept { IsKeptCostOf net.now self.old }
         requires is_event { i < length net.now.events }
         requires early { time < 2 ^ 38 }
         ensures kept { IsKeptCostOf net.now self.new }
         ensures times { self.new.times ≡ slice_set self.old.times i time }
+        ensures weights { self.new.weights ≡ self.old.weights }
     {
         net.sound();
         let was = event_cost(net, &self.times, i);
@@ -142,42 +246,73 @@ impl KeptCost {
         self.lateness = self.lateness + now - was;
     }
 
-    /// What the times cost under rows. It takes no memory.
-    pub fn cost(&self, net: &Network, rows: &Rows, penalty: u64) -> Cost
-        requires kept { IsKeptCostOf net.now self.now }
+    /// Takes the weights of some activities anew.
+    pub(crate) fn renew_row(
+        &mut self,
+        net: &Network,
+        rows: &Rows,
+        charges: &Charges<'_>,
+        row: &[usize],
+    )
+        requires kept { IsKeptCostOf net.now self.old }
         requires sized { IsSized net.now rows.now }
-        requires penalty { penalty ≤ PENALTY }
-        ensures { result ≡ cost_of net.now rows.now self.now.times penalty }
+        requires charges { AreChargesTo net.now charges.now }
+        requires row { (k : ℕ) → k < length row.now → slice_index row.now k < length net.now.activities }
+        ensures kept { IsKeptCostOf net.now self.new }
+        ensures reprices { Reprices net.now rows.now (charges_of net.now rows.now charges.now) (InRow row.now (length row.now))
+            self.old self.new }
     {
-        net.sound();
-        let penalty = penalty as u128;
-        self.lateness + penalty * penalized_among(net, rows, &self.times, &self.changes)
+        for a in row {
+            self.renew(net, rows, charges, *a);
+        }
     }
 
-    /// What the times cost where the penalty is charged for the flagged activities, which are changes, and for each change that
-    /// its passed head has missed. It takes no memory.
-    pub fn cost_charging(&self, net: &Network, rows: &Rows, charged: &[bool], penalty: u64) -> Cost
-        requires kept { IsKeptCostOf net.now self.now }
+    /// Takes the weight of an activity anew. It takes no memory.
+    pub fn renew(&mut self, net: &Network, rows: &Rows, charges: &Charges<'_>, a: usize)
+        requires kept { IsKeptCostOf net.now self.old }
         requires sized { IsSized net.now rows.now }
-        requires flags { length charged.now ≡ length net.now.activities }
-        requires changes { (a : ℕ) → a < length net.now.activities → is_change (activity_at net.now a).kind ≡ false
-            → is_held charged.now a ≡ false }
-        requires penalty { penalty ≤ PENALTY }
-        ensures { (charges : ℕ → Bool) → AreFlags net.now charges charged.now
-            → result ≡ cost_charging net.now rows.now charges self.now.times penalty }
+        requires charges { AreChargesTo net.now charges.now }
+        requires is_activity { a < length net.now.activities }
+        ensures kept { IsKeptCostOf net.now self.new }
+        ensures renews { RenewsWeight net.now rows.now (charges_of net.now rows.now charges.now) a self.old self.new }
     {
         net.sound();
-        let penalty = penalty as u128;
-        self.lateness
-            + penalty * charged_among(net, charged, &self.changes)
-            + penalty * missed_among(net, rows, &self.times, &self.changes)
+        let weight = priced_weight(net, rows, charges, &self.times, a);
+        self.set(net, a, weight);
     }
 
-    /// The places of the network's changes.
-    pub fn changes(&self) -> &[usize]
-        ensures { result.now ≡ self.now.changes }
+    /// Takes another weight of an activity.
+    fn set(&mut self, net: &Network, a: usize, weight: Milli)
+        requires kept { IsKeptCostOf net.now self.old }
+        requires is_activity { a < length net.now.activities }
+        requires small { weight ≤ 2 * WEIGHT }
+        ensures kept { IsKeptCostOf net.now self.new }
+        ensures weights { self.new.weights ≡ slice_set self.old.weights a weight }
+        ensures times { self.new.times ≡ self.old.times }
     {
-        &self.changes
+        net.sound();
+        let was = self.weight(a);
+        self.weights[a] = weight;
+        self.penalized = self.penalized + weight as u128 - was as u128;
+    }
+
+    /// The weight that is kept of an activity.
+    fn weight(&self, a: usize) -> Milli
+        requires { a < length self.now.weights }
+        ensures { result ≡ slice_index self.now.weights a }
+    {
+        self.weights[a]
+    }
+
+    /// What the times cost, in thousandths of passenger seconds, where the weights are those of rows and charges.
+    pub fn cost(&self, net: &Network, penalty: u64) -> Cost
+        requires kept { IsKeptCostOf net.now self.now }
+        requires penalty { penalty ≤ PENALTY }
+        ensures { (rows : RowsValue) (charges : ℕ → Bool) → IsPricedFor net.now rows charges self.now
+            → result ≡ cost_charging net.now rows charges self.now.times penalty }
+    {
+        net.sound();
+        self.lateness + penalty as u128 * self.penalized
     }
 }
 
@@ -189,95 +324,4 @@ fn are_same_between(kept: &[Secs], times: &[Secs], from: usize, to: usize) -> bo
     ensures { result ≡ true → (k : ℕ) → from ≤ k → k < to → slice_index kept.now k ≡ slice_index times.now k }
 {
     are_equal(&kept[from..to], &times[from..to])
-}
-
-/// The places of a network's changes.
-fn changes_of(alloc: Global, net: &Network) -> Result<Vec<usize>, AllocError>
-    ensures { IfOk result (λ changes. AreChangesTo net.now (length net.now.activities) changes.items) }
-{
-    let mut changes = Vec::new(alloc);
-    for a in 0..net.activities() {
-        changes = with_change(net, a, changes)?;
-    }
-    Ok(changes)
-}
-
-/// The places with that of an activity, if it is a change.
-fn with_change(net: &Network, a: usize, changes: Vec<usize>) -> Result<Vec<usize>, AllocError>
-    requires is_activity { a < length net.now.activities }
-    requires changes { AreChangesTo net.now a changes.items }
-    ensures { IfOk result (λ more. AreChangesTo net.now (a + 1) more.items) }
-{
-    if is_change(net, a) {
-        pushed(changes, a)
-    } else {
-        Ok(changes)
-    }
-}
-
-/// Whether an activity is a change.
-fn is_change(net: &Network, a: usize) -> bool
-    requires { a < length net.now.activities }
-    ensures { result ≡ is_change (activity_at net.now a).kind }
-{
-    net.sound();
-    matches!(net.activity(a).kind, ActKind::Change)
-}
-
-/// The places with one more.
-fn pushed(places: Vec<usize>, a: usize) -> Result<Vec<usize>, AllocError>
-    ensures { IfOk result (λ more. more.items ≡ places.items ++ a ∷ []) }
-{
-    let mut places = places;
-    places.push(a)?;
-    Ok(places)
-}
-
-/// The weight of the activities among these that are charged for.
-fn charged_among(net: &Network, charged: &[bool], places: &[usize]) -> Cost
-    requires flags { length charged.now ≡ length net.now.activities }
-    requires within { AreWithin net.now places.now }
-    ensures weight { result ≡ sum_by (charged_weight net.now (is_held charged.now)) places.now }
-    ensures limit { result ≤ ACTIVITIES * WEIGHT }
-{
-    net.sound();
-    let mut total = 0;
-    for a in places {
-        total += charged_weight(net, charged, *a) as u128;
-    }
-    total
-}
-
-/// The weight of the changes among these that cost the penalty.
-fn penalized_among(net: &Network, rows: &Rows, times: &[Secs], places: &[usize]) -> Cost
-    requires sized { IsSized net.now rows.now }
-    requires as_many { length times.now ≡ length net.now.events }
-    requires early { AreBelowLimit times.now }
-    requires within { AreWithin net.now places.now }
-    ensures weight { result ≡ sum_by (penalized_weight net.now rows.now times.now) places.now }
-    ensures limit { result ≤ ACTIVITIES * WEIGHT }
-{
-    net.sound();
-    let mut total = 0;
-    for a in places {
-        total += penalized_weight(net, rows, times, *a) as u128;
-    }
-    total
-}
-
-/// The weight of the changes among these that their passed heads have missed.
-fn missed_among(net: &Network, rows: &Rows, times: &[Secs], places: &[usize]) -> Cost
-    requires sized { IsSized net.now rows.now }
-    requires as_many { length times.now ≡ length net.now.events }
-    requires early { AreBelowLimit times.now }
-    requires within { AreWithin net.now places.now }
-    ensures weight { result ≡ sum_by (missed_weight net.now rows.now times.now) places.now }
-    ensures limit { result ≤ ACTIVITIES * WEIGHT }
-{
-    net.sound();
-    let mut total = 0;
-    for a in places {
-        total += missed_weight(net, rows, times, *a) as u128;
-    }
-    total
 }

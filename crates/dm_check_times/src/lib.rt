@@ -7,9 +7,10 @@
 //! also follow what binds as it changes ([`follow`], after [`hold`]): the events that this may concern begin anew from their
 //! floors, and rounds from there. A [`KeptTimetable`] is filled from rows, or kept with them ([`keep_up`]), where a clock looks
 //! at the events that are scheduled before it. What a timetable costs is added up place by place ([`cost_of`]), or kept while
-//! its times change ([`KeptCost`]): the times are compared with those of before by blocks, and each change of trains is looked
-//! at. Memory is taken once, for a timetable and for marks. Every time is below 2^38 seconds, and every cost below 2^100
-//! thousandths of passenger seconds.
+//! its times and the rows change ([`KeptCost`], [`keep_cost`]), as a sum of two numbers: what a change of rows is about is
+//! weighed anew, and the times are compared with those of before by blocks, where each event that has moved, and each activity
+//! at it, is looked at. Memory is taken once, for a timetable, for marks and for a kept cost. Every time is below 2^38 seconds,
+//! and every cost below 2^100 thousandths of passenger seconds.
 //!
 //! # What is promised
 //!
@@ -18,11 +19,14 @@
 //! of rows, from scratch. It is kept with rows as these change (`keep_up`): what has changed is marked, and `settle` begins
 //! the marked events, and those that were held to their times, anew from their floors.
 //!
-//! `cost_of`: exactly what a timetable costs; a `KeptCost` tells the same of the times that it follows, and what they cost
-//! where other activities are charged for. That a timetable and a cost so take what has changed alone is no clause, nor
-//! that memory is taken once, for a timetable, for marks and for a kept cost, nor that times are compared many at once.
+//! `cost_of`: exactly what a timetable costs. A `KeptCost` tells the same of the times that it follows, where the rows' dropped
+//! changes are charged for or other activities ([`Charges`]), for the rows from which its weights are taken; `keep_cost` keeps
+//! them with rows as these change. That a timetable and a cost so take what has changed alone is no clause, nor that memory is
+//! taken once, for a timetable, for marks and for a kept cost, nor that times are compared many at once.
 #![tactic(auto)]
 
+mod changes;
+mod charges;
 mod comparing;
 mod costing;
 mod following;
@@ -30,16 +34,20 @@ mod holding;
 mod keeping;
 mod kept_cost;
 mod kept_timetable;
+mod pricing;
 mod rounds;
 mod row;
 mod rows;
 
+pub use changes::changes_of;
+pub use charges::Charges;
 pub use costing::{comes_too_early, cost_of};
 pub use following::follow;
 pub use holding::hold;
 pub use keeping::keep_up;
 pub use kept_cost::KeptCost;
 pub use kept_timetable::KeptTimetable;
+pub use pricing::keep_cost;
 pub use rounds::{HeldCycle, raise};
 pub use row::{row_into, row_out_of};
 pub use rows::{fill_floors, fill_spans, flag_active, floor_of, span_of};

@@ -7,12 +7,13 @@ use Rattle.dm_rows.specs.Relax.{is_undecided_change, is_undecided_pair, is_relax
 use Rattle.dm_rows.specs.Rows.{RowsValue}
 use Rattle.dm_tree.specs.Relaxed.{IsRelaxedLeast, IsRelaxedCycle, HasNoRelaxedCycle}
 use Rattle.dm_check_times.specs.Binding.{AreBelowLimit}
-use Rattle.dm_check_times.specs.KeptCosts.{KeptCostValue, IsKeptCostOf}
-use Rattle.dm_paths.specs.Flags.{AreFlags}
+use Rattle.dm_check_times.specs.Changes.{AreChangesTo}
+use Rattle.dm_check_times.specs.KeptCosts.{KeptCostValue, IsKeptCostOf, IsPricedFor}
+use Rattle.dm_paths.specs.Flags.{AreFlags, is_flagged}
 use Rattle.dm_check_plans.specs.Inside.Timetables.{HeldTimetableValue, IsTimetableOf, AreOfRows}
 
 -- a path, which changes and which pairs it leaves undecided, what its relaxed problem charges for, its timetable with what it
--- holds, and what the times cost that it had last
+-- holds, what the times cost that it had last, and the places of the network's changes
 pub record RelaxedProblemValue : Type 0 where
   pub path : List Decision
   pub changes : List Bool
@@ -20,6 +21,7 @@ pub record RelaxedProblemValue : Type 0 where
   pub charged : List Bool
   pub timetable : HeldTimetableValue
   pub kept_cost : KeptCostValue
+  pub places : List ℕ
 
 abbrev pub times_of : RelaxedProblemValue → List ℕ
 times_of problem = problem.timetable.times
@@ -34,6 +36,8 @@ pub record IsRelaxedProblemOf (net : Net) (rows : RowsValue) (problem : RelaxedP
   pub timetable : IsTimetableOf net problem.timetable
   pub of_rows : AreOfRows net rows problem.timetable
   pub cost : IsKeptCostOf net problem.kept_cost
+  pub priced : IsPricedFor net rows (is_flagged problem.charged) problem.kept_cost
+  pub places : AreChangesTo net (length net.activities) problem.places
 
 -- the times are the least of the relaxed problem, which has no cycle, and what they cost is kept
 pub record IsSolved (net : Net) (rows : RowsValue) (problem : RelaxedProblemValue) : Type 0 where

@@ -1,9 +1,10 @@
 use Rattle.dm_check_times.specs.Inside.Taking.{HasTaken}
-use Rattle.dm_check_times.specs.KeptCosts.{IsKeptCostOf}
+use Rattle.dm_check_times.specs.KeptCosts.{IsKeptCostOf, IsPricedFor, charges_of}
 use Rattle.dm_check_times.proofs.kept_cost.KeptCost.follow_each.Given as goal
 
 abbrev pub invariant-loop-i : goal.invariant-loop-i
 invariant-loop-i l = record {
   kept : IsKeptCostOf l.net l.self;
+  priced : IsPricedFor l.net l.rows (charges_of l.net l.rows l.charges) l.self;
   taken : HasTaken l.times l.self.times l.i;
 }

@@ -1,7 +1,0 @@
-use Rattle.std.proofs.Common.{ℕ, List, sym, subst}
-use Rattle.dm_check_times.specs.KeptCosts.{AreChangesTo}
-use Rattle.dm_check_times.proofs.Kept.{changes_none}
-use Rattle.dm_check_times.proofs.kept_cost.changes_of.Goals as goal
-
-pub loop-a-init : goal.loop-a-init
-loop-a-init c = subst (λ (xs : List ℕ). AreChangesTo c.args.net.now 0 xs) (sym c.new-changes.ensures.items) (changes_none c.args.net.now)

@@ -1,5 +1,0 @@
-use Rattle.dm_check_times.specs.KeptCosts.{AreChangesTo}
-use Rattle.dm_check_times.proofs.kept_cost.changes_of.Given as goal
-
-abbrev pub invariant-loop-a : goal.invariant-loop-a
-invariant-loop-a l = AreChangesTo l.net l.a l.changes.items

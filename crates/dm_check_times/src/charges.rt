@@ -1,0 +1,83 @@
+//! What the penalty is charged for, and the weight of which it is taken at an activity.
+ghost use Rattle.std.specs.Prelude.{◌≡◌, ◌<◌, ◌≤◌, ◌*◌, length};
+ghost use Rattle.dm_base.specs.declared.limits.TheConstants.{WEIGHT};
+ghost use Rattle.dm_rows.specs.Rows.{IsSized};
+ghost use Rattle.dm_rows.specs.Cost.{charged_weight, is_dropped_change};
+ghost use Rattle.dm_check_times.specs.Binding.{AreBelowLimit};
+ghost use Rattle.dm_check_times.specs.KeptCosts.{charges_of, AreChargesTo, priced_weight};
+
+use crate::costing::missed_weight;
+use dm_base::{ActKind, Milli, Secs};
+use dm_network::Network;
+use dm_rows::Rows;
+
+/// The activities that the penalty is charged for, beside the changes that their passed heads have missed.
+#[derive(Clone, Copy)]
+pub enum Charges<'a> {
+    /// The dropped changes of the rows, where their heads have not passed.
+    Dropped,
+
+    /// Those that are flagged. There is a flag for each activity.
+    Flagged(&'a [bool]),
+}
+
+/// The weight of which the penalty is taken at an activity: its own where it is charged for, and where it is missed.
+pub(crate) fn priced_weight(
+    net: &Network,
+    rows: &Rows,
+    charges: &Charges<'_>,
+    times: &[Secs],
+    a: usize,
+) -> Milli
+    requires sized { IsSized net.now rows.now }
+    requires charges { AreChargesTo net.now charges.now }
+    requires as_many { length times.now ≡ length net.now.events }
+    requires early { AreBelowLimit times.now }
+    requires is_activity { a < length net.now.activities }
+    ensures weight { result ≡ priced_weight net.now rows.now (charges_of net.now rows.now charges.now) times.now a }
+    ensures limit { result ≤ 2 * WEIGHT }
+{
+    charged_weight(net, rows, charges, a) + missed_weight(net, rows, times, a)
+}
+
+/// The weight of an activity, if it is charged for.
+fn charged_weight(net: &Network, rows: &Rows, charges: &Charges<'_>, a: usize) -> Milli
+    requires sized { IsSized net.now rows.now }
+    requires charges { AreChargesTo net.now charges.now }
+    requires is_activity { a < length net.now.activities }
+    ensures weight { result ≡ charged_weight net.now (charges_of net.now rows.now charges.now) a }
+    ensures limit { result ≤ WEIGHT }
+{
+    net.sound();
+    if is_charged(net, rows, charges, a) {
+        net.activity(a).weight
+    } else {
+        0
+    }
+}
+
+/// Whether an activity is charged for.
+fn is_charged(net: &Network, rows: &Rows, charges: &Charges<'_>, a: usize) -> bool
+    requires sized { IsSized net.now rows.now }
+    requires charges { AreChargesTo net.now charges.now }
+    requires is_activity { a < length net.now.activities }
+    ensures { result ≡ charges_of net.now rows.now charges.now a }
+{
+    match charges {
+        Charges::Dropped => is_dropped_change(net, rows, a),
+        Charges::Flagged(flags) => flags[a],
+    }
+}
+
+/// Whether an activity is a dropped change whose head has not passed.
+fn is_dropped_change(net: &Network, rows: &Rows, a: usize) -> bool
+    requires sized { IsSized net.now rows.now }
+    requires is_activity { a < length net.now.activities }
+    ensures { result ≡ is_dropped_change net.now rows.now a }
+{
+    net.sound();
+    let activity = net.activity(a);
+    matches!(activity.kind, ActKind::Change)
+        && !rows.kept(a)
+        && !rows.passed(activity.head).is_some()
+}
