@@ -15,3 +15,8 @@ pub record IsOpened (turn : TableId) (net : Net) (seats : ℕ) (pass : PassValue
 -- but for what it has seen and its own entries the pass is as before
 abbrev pub IsSame : PassValue Base → PassValue Base → Type 0
 IsSame before now = now ≡ record before { seen = now.seen; mine = now.mine }
+
+-- the pass is of a server of this network at this penalty
+pub record IsOver (net : Net) (price : ℕ) (pass : PassValue Base) : Type 0 where
+  pub rows : RowsValue
+  pub is : pass.base ≡ Some (record { network = net; start = rows; penalty = price })

@@ -1,0 +1,74 @@
+//! A copy of the times that follows a delay.
+ghost use Rattle.std.specs.Prelude.{◌≡◌, ◌≤◌, false, length, vec_capacity};
+ghost use Rattle.std.specs.Option.{ForSome};
+ghost use Rattle.dm_server_cases.specs.Passes.{IsOpened, IsSame};
+
+use crate::calls::{LATE, opened, post};
+use dm_base::Secs;
+use dm_network::Network;
+use dm_samples::{Failure, Sample};
+use dm_server::{Kept, Server};
+use dm_settle::Times;
+use dm_turn::Pass;
+use std::sync::Wait;
+
+/// The times of the late connection.
+const TIMES: [Secs; 6] = [160, 250, 260, 340, 270, 365];
+
+/// A copy of the times follows a delay of a minute, which moves every event, and then nothing.
+pub fn follows_a_delay<R: Wait + AllocGlobal>(rt: &R) -> Result<(), Failure> {
+    let net = Sample::Connection.network(rt.alloc())?;
+    on_connection(rt, &net)
+}
+
+fn on_connection<R: Wait + AllocGlobal>(rt: &R, net: &Network) -> Result<(), Failure> {
+    let mut times = Times::room(rt.alloc(), net)?;
+    let mut listed = Vec::with_capacity(rt.alloc(), net.events())?;
+    let (server, pass) = opened(rt.alloc(), net, 1)?;
+    follow(rt, net, server, pass, &mut times, &mut listed)
+}
+
+fn follow<'n, R: Wait>(
+    rt: &R,
+    _net: &'n Network,
+    server: Server<'n>,
+    mut pass: Pass<Kept<'n>>,
+    times: &mut Times,
+    listed: &mut Vec<usize>,
+) -> Result<(), Failure>
+    requires seats { server.seats ≡ 1 }
+    requires pass { IsOpened server.id _net.now 1 pass }
+    requires size { length times.old ≡ length _net.now.events }
+    requires room { length _net.now.events ≤ vec_capacity listed.old }
+{
+    let due = moves_all(rt, &server, &mut pass, times, listed);
+    let entries = server.close(pass).len();
+    if due && entries == 1 {
+        Ok(())
+    } else {
+        Err(Failure::Differs(1))
+    }
+}
+
+/// Whether the times before the delay come to those after it, and these to themselves.
+fn moves_all<'n, R: Wait>(
+    rt: &R,
+    server: &Server<'n>,
+    pass: &mut Pass<Kept<'n>>,
+    times: &mut Times,
+    listed: &mut Vec<usize>,
+) -> bool
+    requires turn { pass.old.turn ≡ server.now.id }
+    requires idle { pass.old.holds ≡ false }
+    requires size { ForSome pass.old.base (λ base. length times.old ≡ length base.network.events) }
+    requires room { ForSome pass.old.base (λ base. length base.network.events ≤ vec_capacity listed.old) }
+    ensures { IsSame pass.old pass.new }
+{
+    let opened = server.copy_times(rt, pass, times);
+    let entered = post(rt, server, pass, LATE) == Ok(1);
+    let entry = server.follow_times(rt, pass, times, opened, listed);
+    let all = times.as_slice() == TIMES.as_slice() && listed.len() == 6;
+    let last = server.follow_times(rt, pass, times, entry, listed);
+    let still = times.as_slice() == TIMES.as_slice() && listed.is_empty();
+    opened == 0 && entered && entry == 1 && all && last == 1 && still
+}
