@@ -1,7 +1,7 @@
 //! What the verdict on a text means.
 use crate::files::front_of;
 use crate::text::{cut, has, is_same, line_at, number, word_at};
-use dm_words::CheckWords;
+use dm_words::FileWords;
 use std::fs::File;
 use std::io;
 use std::rt::Files;
@@ -26,18 +26,18 @@ fn meaning(kind: &[u8]) -> &'static str {
 /// Says what `bad LINE KIND` means, and what to look at first.
 pub fn tell_bad<R: Eprint + Files<File = File>>(
     rt: &R,
-    check: &CheckWords<'_>,
+    files: &FileWords<'_>,
+    name: &str,
     verdict: &[u8],
 ) -> io::Result<()> {
     let Some(line) = number(word_at(verdict, 1)) else {
         return Ok(());
     };
     let kind = word_at(verdict, 2);
-    let name = check.text;
     let means = meaning(kind);
     eprintln!(rt; "dispatcher: {name} line {line}: {means}")?;
     if is_same(kind, "form") {
-        return tell_form(rt, check, line);
+        return tell_form(rt, files.penalty, name, line);
     }
     if is_same(kind, "truncated") {
         return eprintln!(rt;
@@ -52,10 +52,11 @@ pub fn tell_bad<R: Eprint + Files<File = File>>(
 /// Says what to look at first where a line has not its form.
 fn tell_form<R: Eprint + Files<File = File>>(
     rt: &R,
-    check: &CheckWords<'_>,
+    penalty: u64,
+    name: &str,
     line: u64,
 ) -> io::Result<()> {
-    let front = front_of(rt, check.text);
+    let front = front_of(rt, name);
     let (first, _) = cut(front.bytes(), b'\n');
     if has(first, b'\r') {
         return eprintln!(rt;
@@ -68,16 +69,16 @@ fn tell_form<R: Eprint + Files<File = File>>(
         );
     }
     if line == 2 {
-        return tell_penalty(rt, check.files.penalty, line_at(front.bytes(), 2));
+        return tell_penalty(rt, penalty, line_at(front.bytes(), 2));
     }
     eprintln!(rt; "dispatcher: line {line}: is the text of this network, whole and unchanged?")
 }
 
-/// Says how the penalty of a text and that of a check differ.
+/// Says how the penalty of a text and that of the words differ.
 fn tell_penalty<R: Eprint>(rt: &R, penalty: u64, line: &[u8]) -> io::Result<()> {
     match number(word_at(line, 1)) {
         Some(other) => eprintln!(rt;
-            "dispatcher: line 2: the text's penalty is not the one of this check, which is {penalty}: give --penalty={other}"
+            "dispatcher: line 2: the text's penalty is not the one of these words, which is {penalty}: give --penalty={other}"
         ),
         None => eprintln!(rt;
             "dispatcher: line 2: the penalty of the run stands here, as `penalty {penalty}`"

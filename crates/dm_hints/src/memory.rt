@@ -18,6 +18,9 @@ pub fn tell_memory<R: Eprint + Files<File = File> + AllocGlobal>(
         CommandWords::Check(check) => {
             folder_bytes(rt, &check.files).saturating_add(size_of_file(rt, check.text))
         }
+        CommandWords::Query(query) => {
+            folder_bytes(rt, &query.files).saturating_add(size_of_file(rt, query.text))
+        }
         CommandWords::Gen(_) => return eprintln!(rt;
             "dispatcher: there is not enough memory for so many trains"
         ),

@@ -54,10 +54,12 @@ const EVENT_DELAYS: u32 = 32;
 
 const ACTIVITY_DELAYS: u32 = 64;
 
+const CHANGES: u32 = 128;
+
 const FILES: u32 = PENALTY + EVENT_COLUMNS + ACTIVITY_COLUMNS + EVENT_DELAYS + ACTIVITY_DELAYS;
 
 /// All commands.
-pub const COMMANDS: [CommandTable; 3] = [
+pub const COMMANDS: [CommandTable; 5] = [
     CommandTable {
         name: "run",
         form: "run DIR FEED..",
@@ -79,10 +81,24 @@ pub const COMMANDS: [CommandTable; 3] = [
         most: 2,
         options: PENALTY,
     },
+    CommandTable {
+        name: "follow",
+        form: "follow DIR TEXT",
+        least: 2,
+        most: 2,
+        options: FILES,
+    },
+    CommandTable {
+        name: "journey",
+        form: "journey DIR TEXT FROM TO AFTER",
+        least: 5,
+        most: 5,
+        options: FILES + CHANGES,
+    },
 ];
 
 /// All options.
-pub const OPTIONS: [OptionTable; 7] = [
+pub const OPTIONS: [OptionTable; 8] = [
     OptionTable {
         bit: PENALTY,
         name: "--penalty=",
@@ -145,6 +161,15 @@ pub const OPTIONS: [OptionTable; 7] = [
         most: 0,
         has_number: false,
         meaning: "a file in DIR with delays of activities at the start",
+    },
+    OptionTable {
+        bit: CHANGES,
+        name: "--changes=",
+        example: "--changes=4",
+        least: 0,
+        most: 8,
+        has_number: true,
+        meaning: "the most changes of a journey (4)",
     },
 ];
 

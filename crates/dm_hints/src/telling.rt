@@ -9,7 +9,7 @@ use crate::memory::tell_memory;
 use crate::refused::tell_opening;
 use crate::usage::tell_usage;
 use dm_outside::Sink;
-use dm_words::{CheckWords, CommandWords, RunWords, read_words};
+use dm_words::{CommandWords, FileWords, RunWords, read_words};
 use std::fs::File;
 use std::io;
 use std::rt::Files;
@@ -29,7 +29,12 @@ pub fn tell<R: Eprint + Files<File = File> + AllocGlobal, K: Sink>(
         (5, _) => eprintln!(rt; "dispatcher: the output could not be written to its end"),
         (6, _) => tell_memory(rt, &asked),
         (_, CommandWords::Run(run)) => tell_after_run(rt, words, run, out.heard()),
-        (_, CommandWords::Check(check)) => tell_after_check(rt, words, check, status, out.heard()),
+        (_, CommandWords::Check(check)) => {
+            tell_after_text(rt, words, &check.files, check.text, status, out.heard())
+        }
+        (_, CommandWords::Query(query)) => {
+            tell_after_text(rt, words, &query.files, query.text, status, out.heard())
+        }
         (_, CommandWords::Gen(_)) => Ok(()),
     }
 }
@@ -56,31 +61,27 @@ fn tell_after_run<R: Eprint + Files<File = File> + AllocGlobal>(
     tell_opening(rt, words, &run.files)
 }
 
-/// Says why a text is not good.
-fn tell_after_check<R: Eprint + Files<File = File> + AllocGlobal>(
+/// Says why a text, or its journal, is not good.
+fn tell_after_text<R: Eprint + Files<File = File> + AllocGlobal>(
     rt: &R,
     words: &[String],
-    check: &CheckWords<'_>,
+    files: &FileWords<'_>,
+    name: &str,
     status: u8,
     heard: &Heard,
 ) -> io::Result<()> {
     match status {
-        1 => tell_bad(rt, check, heard.first.kept()),
+        1 => tell_bad(rt, files, name, heard.first.kept()),
         3 | 4 => {
-            tell_opening(rt, words, &check.files)?;
-            tell_text(rt, check, heard.first.kept())
+            tell_opening(rt, words, files)?;
+            tell_text(rt, name, heard.first.kept())
         }
         _ => Ok(()),
     }
 }
 
 /// Says why a text was not read, where it was not.
-fn tell_text<R: Eprint + Files<File = File>>(
-    rt: &R,
-    check: &CheckWords<'_>,
-    line: &[u8],
-) -> io::Result<()> {
-    let name = check.text;
+fn tell_text<R: Eprint + Files<File = File>>(rt: &R, name: &str, line: &[u8]) -> io::Result<()> {
     if line.strip_prefix(b"read fault ") == Some(name.as_bytes()) {
         return tell_reason(rt, name);
     }

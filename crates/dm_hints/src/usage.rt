@@ -15,7 +15,7 @@ pub fn tell_usage<R: Eprint>(rt: &R, words: &[String]) -> io::Result<()> {
     let Some(table) = command_of(command.as_str()) else {
         let name = command.as_str();
         return eprintln!(rt;
-            "dispatcher: word 1: \"{name}\" is no command; commands are run, check and gen"
+            "dispatcher: word 1: \"{name}\" is no command; commands are run, check, gen, follow and journey"
         );
     };
     for (place, word) in rest.iter().enumerate() {
@@ -128,11 +128,11 @@ fn tell_names<R: Eprint>(rt: &R, table: CommandTable, words: &[String]) -> io::R
             "dispatcher: gen takes a NUMBER of 0 to 18446744073709551615 and 1 to 2000 TRAINS"
         );
     }
-    tell_lists(rt, words)
+    tell_lists(rt, table, words)
 }
 
-/// Says what is wrong with the column words, or else with the boards.
-fn tell_lists<R: Eprint>(rt: &R, words: &[String]) -> io::Result<()> {
+/// Says what is wrong with the column words, or else with the numbers of a journey or the boards of a run.
+fn tell_lists<R: Eprint>(rt: &R, table: CommandTable, words: &[String]) -> io::Result<()> {
     let events = value_or("--event-columns=", words, EVENT_WORDS);
     let activities = value_or("--activity-columns=", words, ACTIVITY_WORDS);
     if let Err(fault) = Columns::read(events, ACTIVITY_WORDS) {
@@ -140,6 +140,11 @@ fn tell_lists<R: Eprint>(rt: &R, words: &[String]) -> io::Result<()> {
     }
     if let Err(fault) = Columns::read(EVENT_WORDS, activities) {
         return tell_columns(rt, "--activity-columns", ACTIVITY_WORDS, activities, fault);
+    }
+    if table.name == "journey" {
+        return eprintln!(rt;
+            "dispatcher: journey takes two stops, FROM and TO, of 0 to 4294967295, and a time AFTER of 0 to 2000000000 seconds"
+        );
     }
     eprintln!(rt; "dispatcher: --boards takes 1 to 64 different numbers of stops, as --boards=4,2")
 }

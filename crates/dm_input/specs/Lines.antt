@@ -78,4 +78,5 @@ abbrev pub read_fault_line : FilesAsked → File → List ℕ
 read_fault_line asked file = codes "read fault " ++ (name_of asked file ++ line_end)
 
 abbrev pub usage_line : List ℕ
-usage_line = codes "usage: run DIR FEED.. | check DIR TEXT | gen NUMBER TRAINS" ++ line_end
+usage_line =
+    codes "usage: run DIR FEED.. | check DIR TEXT | gen NUMBER TRAINS | follow DIR TEXT | journey DIR TEXT FROM TO AFTER" ++ line_end

@@ -3,9 +3,16 @@ use Rattle.std.proofs.Common.{codes, eqb, eq-eqb, get_or, true, false, ◌≡◌
 use Rattle.dm_lintim.specs.Columns.{FileColumns, ReadsFileColumns}
 use Rattle.dm_lintim.specs.declared.columns.ColumnFault.{ColumnFault}
 use Rattle.dm_lintim.proofs.WordLemmas.{columns_one}
-use Rattle.dm_words.specs.Options.{GivesOption, penalty_option, batch_option, boards_option, event_columns_option, activity_columns_option, event_delays_option, activity_delays_option}
+use Rattle.dm_words.specs.Options.{GivesOption, penalty_option, batch_option, boards_option, event_columns_option, activity_columns_option, event_delays_option, activity_delays_option, changes_option}
 use Rattle.dm_words.specs.Stops.{AreBoards}
-use Rattle.dm_words.specs.Words.{Command, FilesAsked, RunAsked, CheckAsked, GenAsked, RunOf, CheckOf, GenOf, Asks, AsksFiles, AsksRun, AsksCheck, AsksGen, IsNumber, IsNumberOr, IsPenalty, IsBatch, HasBoards, event_words, activity_words}
+use Rattle.dm_words.specs.Values.{IsNumber, IsNumberOr}
+use Rattle.dm_words.specs.Words.{Command, FilesAsked, RunAsked, CheckAsked, GenAsked, QueryAsked, RunOf, CheckOf, GenOf, QueryOf, Asks, AsksFiles, AsksRun, AsksCheck, AsksGen, AsksQuery, IsPenalty, IsBatch, HasBoards, event_words, activity_words}
+use Rattle.dm_words.specs.Queries.{AsksJourney, AsksOwn, HasChanges, kind_of, word_of}
+use Rattle.dm_words.specs.declared.options.QueryKind.{QueryKind}
+use Rattle.dm_words.specs.declared.options.QueryKind.TheVariants as kind
+use Rattle.dm_words.specs.declared.queries.JourneyWords.{JourneyWords}
+use Rattle.dm_words.specs.declared.queries.Query.{Query}
+use Rattle.dm_words.specs.declared.queries.Query.TheVariants.{Follow, Journey}
 use Rattle.dm_words.proofs.Stopping.{spell_one}
 
 given_one : (option : List ℕ) (words : List (List ℕ)) (a b : Option (List ℕ)) → GivesOption option words a → GivesOption option words b → a ≡ b
@@ -111,12 +118,83 @@ gen_one words x y p q =
     (number_one q.trains _ _ x.trains y.trains (subst (λ (t : List ℕ). IsNumber t _ _ x.trains) trains p.are_trains) q.are_trains)
     (penalty_one words x.penalty y.penalty p.penalty q.penalty)
 
+-- ---- questions to a journal
+
+changes_one : (words : List (List ℕ)) (a b : ℕ) → HasChanges words a → HasChanges words b → a ≡ b
+changes_one words a b p q =
+    let same = given_one changes_option words p.value q.value p.given q.given in
+    number_or_one q.value _ _ _ a b (subst (λ (v : Option (List ℕ)). IsNumberOr v _ _ _ a) same p.is) q.is
+
+third_name : (a b c d e f : List ℕ) → a ∷ b ∷ c ∷ [] ≡ d ∷ e ∷ f ∷ [] → c ≡ f
+third_name a b c d e f is = cc
+
+middle_name : (a b c d e f : List ℕ) → a ∷ b ∷ c ∷ [] ≡ d ∷ e ∷ f ∷ [] → b ≡ e
+middle_name a b c d e f is = cc
+
+journey_is : (x y : JourneyWords) → x.from ≡ y.from → x.to ≡ y.to → x.after ≡ y.after → x.changes ≡ y.changes → x ≡ y
+journey_is x y from to after changes =
+    ap (λ v. record x { from = v }) from
+    ∙ (ap (λ v. record x { from = y.from; to = v }) to
+    ∙ (ap (λ v. record x { from = y.from; to = y.to; after = v }) after
+    ∙ ap (λ v. record y { changes = v }) changes))
+
+journey_one : (names words : List (List ℕ)) (x y : JourneyWords) → AsksJourney x names words → AsksJourney y names words → x ≡ y
+journey_one names words x y p q =
+    let same = sym p.are_names ∙ q.are_names in
+    let from = first_name p.from q.from (p.to ∷ p.after ∷ []) (q.to ∷ q.after ∷ []) same in
+    let to = middle_name p.from p.to p.after q.from q.to q.after same in
+    let after = third_name p.from p.to p.after q.from q.to q.after same in
+    journey_is x y (number_one q.from _ _ x.from y.from (subst (λ (t : List ℕ). IsNumber t _ _ x.from) from p.is_from) q.is_from)
+    (number_one q.to _ _ x.to y.to (subst (λ (t : List ℕ). IsNumber t _ _ x.to) to p.is_to) q.is_to)
+    (number_one q.after _ _ x.after y.after (subst (λ (t : List ℕ). IsNumber t _ _ x.after) after p.is_after) q.is_after)
+    (changes_one words x.changes y.changes p.changes q.changes)
+
+-- each kind of question is asked in one way
+own_one : (names words : List (List ℕ)) (x y : Query) → kind_of x ≡ kind_of y → AsksOwn x names words → AsksOwn y names words → x ≡ y
+own_one names words Follow Follow same p q = refl
+own_one names words (Journey x) (Journey y) same p q = ap Journey (journey_one names words x y p q)
+own_one names words Follow (Journey y) same p q = absurd cc
+own_one names words (Journey x) Follow same p q = absurd cc
+
+query_is : (x y : QueryAsked) → x.files ≡ y.files → x.text ≡ y.text → x.query ≡ y.query → x ≡ y
+query_is x y files text query =
+    ap (λ v. record x { files = v }) files
+    ∙ (ap (λ v. record x { files = y.files; text = v }) text ∙ ap (λ v. record y { query = v }) query)
+
+query_one : (words : List (List ℕ)) (x y : QueryAsked) → kind_of x.query ≡ kind_of y.query → AsksQuery words x → AsksQuery words y → x ≡ y
+query_one words x y kind p q =
+    let names = sym p.names ∙ q.names in
+    let behind = later_names x.files.folder y.files.folder (x.text ∷ p.own) (y.text ∷ q.own) names in
+    let own = later_names x.text y.text p.own q.own behind in
+    query_is x y (files_one words x.files y.files (first_name x.files.folder y.files.folder (x.text ∷ p.own) (y.text ∷ q.own) names) p.files q.files)
+    (first_name x.text y.text p.own q.own behind)
+    (own_one q.own words x.query y.query kind (subst (λ (l : List (List ℕ)). AsksOwn x.query l words) own p.says) q.says)
+
 -- words that begin otherwise are not one word
 pub differ : (a b word : List ℕ) → word ≡ a → word ≡ b → eqb (get_or a 0 0) (get_or b 0 0) ≡ false → ⊥
 differ a b word p q other =
     let same : get_or a 0 0 ≡ get_or b 0 0 = ap (λ (w : List ℕ). get_or w 0 0) (sym p ∙ q) in
     let both : false ≡ true = sym other ∙ eq-eqb (get_or a 0 0) (get_or b 0 0) same in
     cc
+
+-- a question is asked by a word of its own
+word_one : (x y : QueryKind) → word_of x ≡ word_of y → x ≡ y
+word_one kind.Follow kind.Follow is = refl
+word_one kind.Journey kind.Journey is = refl
+word_one kind.Follow kind.Journey is = absurd (differ (codes "follow") (codes "journey") (codes "follow") refl is refl)
+word_one kind.Journey kind.Follow is = absurd (differ (codes "journey") (codes "follow") (codes "journey") refl is refl)
+
+pub no_word_run : (k : QueryKind) (word : List ℕ) → word ≡ word_of k → word ≡ codes "run" → ⊥
+no_word_run kind.Follow word p q = differ (codes "follow") (codes "run") word p q refl
+no_word_run kind.Journey word p q = differ (codes "journey") (codes "run") word p q refl
+
+pub no_word_check : (k : QueryKind) (word : List ℕ) → word ≡ word_of k → word ≡ codes "check" → ⊥
+no_word_check kind.Follow word p q = differ (codes "follow") (codes "check") word p q refl
+no_word_check kind.Journey word p q = differ (codes "journey") (codes "check") word p q refl
+
+pub no_word_gen : (k : QueryKind) (word : List ℕ) → word ≡ word_of k → word ≡ codes "gen" → ⊥
+no_word_gen kind.Follow word p q = differ (codes "follow") (codes "gen") word p q refl
+no_word_gen kind.Journey word p q = differ (codes "journey") (codes "gen") word p q refl
 
 pub one_command : (words : List (List ℕ)) (x y : Command) → Asks words x → Asks words y → x ≡ y
 one_command [] x y p q = absurd p
@@ -129,3 +207,10 @@ one_command (word ∷ words) (CheckOf x) (RunOf y) p q = absurd (differ (codes "
 one_command (word ∷ words) (CheckOf x) (GenOf y) p q = absurd (differ (codes "check") (codes "gen") word p.0 q.0 refl)
 one_command (word ∷ words) (GenOf x) (RunOf y) p q = absurd (differ (codes "gen") (codes "run") word p.0 q.0 refl)
 one_command (word ∷ words) (GenOf x) (CheckOf y) p q = absurd (differ (codes "gen") (codes "check") word p.0 q.0 refl)
+one_command (word ∷ words) (QueryOf x) (QueryOf y) p q = ap QueryOf (query_one words x y (word_one (kind_of x.query) (kind_of y.query) (sym p.0 ∙ q.0)) p.1 q.1)
+one_command (word ∷ words) (QueryOf x) (RunOf y) p q = absurd (no_word_run (kind_of x.query) word p.0 q.0)
+one_command (word ∷ words) (QueryOf x) (CheckOf y) p q = absurd (no_word_check (kind_of x.query) word p.0 q.0)
+one_command (word ∷ words) (QueryOf x) (GenOf y) p q = absurd (no_word_gen (kind_of x.query) word p.0 q.0)
+one_command (word ∷ words) (RunOf x) (QueryOf y) p q = absurd (no_word_run (kind_of y.query) word q.0 p.0)
+one_command (word ∷ words) (CheckOf x) (QueryOf y) p q = absurd (no_word_check (kind_of y.query) word q.0 p.0)
+one_command (word ∷ words) (GenOf x) (QueryOf y) p q = absurd (no_word_gen (kind_of y.query) word q.0 p.0)

@@ -2,14 +2,15 @@
 use Rattle.std.specs.Prelude.{ℕ, List, map, filter, string_bytes}
 use Rattle.std.specs.Option.{option_map}
 use Rattle.dm_words.specs.Options.{is_name}
-use Rattle.dm_words.specs.Words.{Command, FilesAsked, RunAsked, CheckAsked, GenAsked, RunOf, CheckOf, GenOf}
+use Rattle.dm_words.specs.Words.{Command, FilesAsked, RunAsked, CheckAsked, GenAsked, QueryAsked, RunOf, CheckOf, GenOf, QueryOf}
 use Rattle.dm_words.specs.declared.files.FileWords.{FileWords}
 use Rattle.dm_words.specs.declared.options.Names.{Names}
 use Rattle.dm_words.specs.declared.command.RunWords.{RunWords}
 use Rattle.dm_words.specs.declared.command.CheckWords.{CheckWords}
 use Rattle.dm_words.specs.declared.command.GenWords.{GenWords}
 use Rattle.dm_words.specs.declared.command.CommandWords.{CommandWords}
-use Rattle.dm_words.specs.declared.command.CommandWords.TheVariants.{Run, Check, Gen}
+use Rattle.dm_words.specs.declared.command.CommandWords.TheVariants.{Run, Check, Gen, Query}
+use Rattle.dm_words.specs.declared.queries.QueryWords.{QueryWords}
 
 abbrev pub files_of : FileWords → FilesAsked
 files_of words =
@@ -39,7 +40,11 @@ check_of words = record { files = files_of words.files; text = words.text.now }
 abbrev pub gen_of : GenWords → GenAsked
 gen_of words = record { number = words.number; trains = words.trains; penalty = words.penalty }
 
+abbrev pub query_of : QueryWords → QueryAsked
+query_of words = record { files = files_of words.files; text = words.text.now; query = words.query }
+
 abbrev pub command_of : CommandWords → Command
 command_of (Run words) = RunOf (run_of words)
 command_of (Check words) = CheckOf (check_of words)
 command_of (Gen words) = GenOf (gen_of words)
+command_of (Query words) = QueryOf (query_of words)

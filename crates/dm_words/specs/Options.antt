@@ -6,7 +6,8 @@ use Rattle.std.specs.Prelude.{ℕ, ◌≡◌, ◌≢◌, Bool, false, not, ◌==
 use Rattle.std.specs.List.{filter_map, list_any}
 use Rattle.std.specs.Str.{bytes_eq}
 use Rattle.dm_words.specs.declared.options.Kind.{Kind}
-use Rattle.dm_words.specs.declared.options.Kind.TheVariants.{Run, Check, Gen}
+use Rattle.dm_words.specs.declared.options.Kind.TheVariants.{Run, Check, Gen, Query}
+use Rattle.dm_words.specs.declared.options.QueryKind.TheVariants.{Follow, Journey}
 
 -- how the word of each option begins
 abbrev pub penalty_option : List ℕ
@@ -30,6 +31,9 @@ activity_delays_option = codes "--activity-delays="
 abbrev pub boards_option : List ℕ
 boards_option = codes "--boards="
 
+abbrev pub changes_option : List ℕ
+changes_option = codes "--changes="
+
 -- the options of the files of a folder
 abbrev pub file_options : List (List ℕ)
 file_options =
@@ -40,6 +44,8 @@ abbrev pub options_of : Kind → List (List ℕ)
 options_of Run = batch_option ∷ boards_option ∷ file_options
 options_of Check = file_options
 options_of Gen = penalty_option ∷ []
+options_of (Query Follow) = file_options
+options_of (Query Journey) = changes_option ∷ file_options
 
 -- what stands behind the text, where the word begins with it
 abbrev pub behind : List ℕ → List ℕ → Option (List ℕ)

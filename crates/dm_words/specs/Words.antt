@@ -1,15 +1,18 @@
--- What the words of a command line ask for: `run DIR FEED..`, `check DIR TEXT` or `gen NUMBER TRAINS`, with options among them.
-use Rattle.std.specs.Prelude.{ℕ, ◌≡◌, ◌≤◌, true, ◌||◌, List, [], ◌∷◌, ◌++◌, length, filter, Option, Some, None, unwrap_or, Ok, codes}
+-- What the words of a command line ask for: `run DIR FEED..`, `check DIR TEXT`, `gen NUMBER TRAINS`, or a question to the journal of
+-- a text, with options among them.
+use Rattle.std.specs.Prelude.{ℕ, ◌≡◌, ◌≤◌, true, ◌||◌, List, [], ◌∷◌, ◌++◌, length, filter, Option, unwrap_or, Ok, codes}
 use Rattle.std.specs.List.{list_all}
 use Rattle.dm_base.specs.declared.limits.TheConstants.{PENALTY, FEEDS}
-use Rattle.dm_base.specs.Numbers.{IsDigits, whole_value}
 use Rattle.dm_lintim.specs.Columns.{FileColumns, ReadsFileColumns}
 use Rattle.dm_words.specs.Options.{GivesOption, activity_columns_option, activity_delays_option, batch_option, boards_option, event_columns_option, event_delays_option, is_name, is_option, options_of, penalty_option}
 use Rattle.dm_words.specs.Stops.{AreBoards}
+use Rattle.dm_words.specs.Values.{IsNumber, IsNumberOr}
+use Rattle.dm_words.specs.Queries.{AsksOwn, kind_of, word_of}
 use Rattle.dm_words.specs.declared.files.TheConstants.{STANDARD_PENALTY}
 use Rattle.dm_words.specs.declared.command.TheConstants.{BATCH, STANDARD_BATCH, TRAINS, LARGEST_NUMBER}
 use Rattle.dm_words.specs.declared.options.Kind.{Kind}
-use Rattle.dm_words.specs.declared.options.Kind.TheVariants.{Run, Check, Gen}
+use Rattle.dm_words.specs.declared.options.Kind.TheVariants.{Run, Check, Gen, Query as Asking}
+use Rattle.dm_words.specs.declared.queries.Query.{Query}
 
 -- the files of a folder, and the options that go with them; the files of delays are named where there are any
 pub record FilesAsked : Type 0 where
@@ -37,23 +40,18 @@ pub record GenAsked : Type 0 where
   pub trains : ℕ
   pub penalty : ℕ
 
+-- something asked of the journal of a text, over these files
+pub record QueryAsked : Type 0 where
+  pub files : FilesAsked
+  pub text : List ℕ
+  pub query : Query
+
 -- what words may ask for
 pub data Command : Type 0 where
   RunOf : RunAsked → Command
   CheckOf : CheckAsked → Command
   GenOf : GenAsked → Command
-
--- the text is this number, in decimal digits, from least to most
-pub record IsNumber (text : List ℕ) (least most n : ℕ) : Type 0 where
-  pub digits : IsDigits text
-  pub is : n ≡ whole_value text
-  pub from : least ≤ n
-  pub to : n ≤ most
-
--- the same of an option's value, or the standard number where it is not given
-abbrev pub IsNumberOr : Option (List ℕ) → ℕ → ℕ → ℕ → ℕ → Type 0
-IsNumberOr None least most standard n = n ≡ standard
-IsNumberOr (Some text) least most standard n = IsNumber text least most n
+  QueryOf : QueryAsked → Command
 
 -- the penalty in seconds for each passenger
 pub record IsPenalty (words : List (List ℕ)) (penalty : ℕ) : Type 0 where
@@ -127,12 +125,22 @@ pub record AsksGen (words : List (List ℕ)) (asked : GenAsked) : Type 0 where
   pub are_trains : IsNumber trains 1 TRAINS asked.trains
   pub penalty : IsPenalty words asked.penalty
 
+-- What the words behind a question's command word ask: the names are a folder, a text and those that the question has of its own,
+-- which say it with its options.
+pub record AsksQuery (words : List (List ℕ)) (asked : QueryAsked) : Type 0 where
+  pub own : List (List ℕ)
+  pub known : AreKnown (Asking (kind_of asked.query)) words
+  pub names : filter is_name words ≡ asked.files.folder ∷ asked.text ∷ own
+  pub files : AsksFiles words asked.files
+  pub says : AsksOwn asked.query own words
+
 -- the words, without the program's name, ask for this
 abbrev pub Asks : List (List ℕ) → Command → Type 0
 Asks [] command = ⊥
 Asks (word ∷ words) (RunOf asked) = (word ≡ codes "run") × AsksRun words asked
 Asks (word ∷ words) (CheckOf asked) = (word ≡ codes "check") × AsksCheck words asked
 Asks (word ∷ words) (GenOf asked) = (word ≡ codes "gen") × AsksGen words asked
+Asks (word ∷ words) (QueryOf asked) = (word ≡ word_of (kind_of asked.query)) × AsksQuery words asked
 
 -- the words ask for nothing
 abbrev pub AsksNothing : List (List ℕ) → Type 0
@@ -147,6 +155,7 @@ abbrev pub boards_of_command : Command → List ℕ
 boards_of_command (RunOf asked) = asked.boards
 boards_of_command (CheckOf asked) = []
 boards_of_command (GenOf asked) = []
+boards_of_command (QueryOf asked) = []
 
 -- the stops are those that the words ask for, or none where they ask for nothing
 pub record AreStopsOf (words : List (List ℕ)) (stops : List ℕ) : Type 0 where

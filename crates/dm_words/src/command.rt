@@ -1,12 +1,13 @@
 //! What the words of a command line ask for.
 ghost use Rattle.std.specs.Prelude.{ℕ, ◌≡◌, ◌∷◌, List, map, filter, string_bytes, MatchOption};
-ghost use Rattle.dm_words.specs.Words.{Asks, AsksCheck, AsksGen, AsksNothing, AsksRun, CheckAsked, GenAsked, IsBatch, HasBoards, RunAsked};
-ghost use Rattle.dm_words.specs.Asked.{check_of, command_of, gen_of, run_of};
+ghost use Rattle.dm_words.specs.Words.{Asks, AsksCheck, AsksGen, AsksNothing, AsksRun, CheckAsked, GenAsked, IsBatch, HasBoards, QueryAsked, QueryOf, RunAsked};
+ghost use Rattle.dm_words.specs.Asked.{check_of, command_of, gen_of, query_of, run_of};
 
 use crate::files::{FileWords, number_of, number_or, penalty_of, read_files};
 use crate::options::{
     BATCH_OPTION, BOARDS_OPTION, Kind, Names, are_known, count_names, given, next_name, two_names,
 };
+use crate::queries::{QueryWords, kind_of_word, read_query};
 use crate::stops::{Stops, boards_of};
 use dm_base::limits::FEEDS;
 
@@ -63,6 +64,7 @@ pub enum CommandWords<'a> {
     Run(RunWords<'a>),
     Check(CheckWords<'a>),
     Gen(GenWords),
+    Query(QueryWords<'a>),
 }
 
 /// How many lines of each feed are answered in a round.
@@ -185,7 +187,21 @@ fn read_with<'a>(command: &str, rest: &'a [String]) -> Option<CommandWords<'a>>
             None => None,
         };
     }
-    None
+    read_other(command, rest)
+}
+
+/// What a command word that asks something of a journal, and the words behind it, ask for.
+fn read_other<'a>(command: &str, rest: &'a [String]) -> Option<CommandWords<'a>>
+    ensures asks { MatchOption result ((asked : QueryAsked) → Asks (command.now ∷ map string_bytes rest.now) (QueryOf asked) → ⊥)
+        (λ asked. Asks (command.now ∷ map string_bytes rest.now) (command_of asked)) }
+{
+    let Some(kind) = kind_of_word(command) else {
+        return None;
+    };
+    match read_query(kind, rest) {
+        Some(query) => Some(CommandWords::Query(query)),
+        None => None,
+    }
 }
 
 /// What the words ask for, which are those without the program's name, or nothing where they are in no form.

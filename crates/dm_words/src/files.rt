@@ -2,7 +2,8 @@
 ghost use Rattle.std.specs.Prelude.{ℕ, ◌≡◌, ◌≤◌, Option, List, Some, None, Ok, map, string_bytes, MatchOption, unwrap_or};
 ghost use Rattle.std.specs.Option.{option_map};
 ghost use Rattle.dm_lintim.specs.Columns.{FileColumns, ReadsFileColumns};
-ghost use Rattle.dm_words.specs.Words.{AsksFiles, FilesAsked, IsNumber, IsPenalty, IsNumberOr, event_words, activity_words};
+ghost use Rattle.dm_words.specs.Values.{IsNumber, IsNumberOr};
+ghost use Rattle.dm_words.specs.Words.{AsksFiles, FilesAsked, IsPenalty, event_words, activity_words};
 ghost use Rattle.dm_words.specs.Asked.{files_of};
 
 use crate::options::{

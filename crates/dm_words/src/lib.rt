@@ -1,13 +1,13 @@
 //! The words of a command line, and what they ask for.
 //!
-//! It stands on dm_lintim for column words and on dm_base for numbers and limits. [`read_words`] gives what the words of
-//! `run`, `check` and `gen` ask for, exactly where they ask for something, and takes no memory. [`board_words`] gives the
-//! stops of the boards that a run is to have. That words ask for one thing at most is a law.
+//! It stands on dm_lintim for column words and on dm_base for numbers and limits. [`read_words`] gives what the words of a
+//! command ask for, exactly where they ask for something, and takes no memory. [`board_words`] gives the stops of the boards
+//! that a run is to have. That words ask for one thing at most is a law.
 //!
 //! # What is promised
 //!
-//! `read_words` reads the words of `run`, `check` and `gen` exactly as the tables have them, without memory: what is asked
-//! for exactly where the words are in them, and nothing exactly outside. `board_words` gives the stops of the boards of a
+//! `read_words` reads the words of `run`, `check`, `gen`, `follow` and `journey` exactly as the tables have them, without
+//! memory: what is asked for exactly where the words are in them, and nothing exactly outside. `board_words` gives the stops of the boards of a
 //! run's words, else none, and may want memory. Words ask for one thing at most.
 #![tactic(auto)]
 
@@ -16,10 +16,12 @@ mod command;
 mod files;
 pub mod laws;
 mod options;
+mod queries;
 mod stops;
 
 pub use boards::board_words;
 pub use command::{CheckWords, CommandWords, GenWords, RunWords, read_words};
 pub use files::FileWords;
 pub use options::Names;
+pub use queries::{JourneyWords, Query, QueryWords};
 pub use stops::Stops;

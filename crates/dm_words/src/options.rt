@@ -20,12 +20,22 @@ pub const ACTIVITY_DELAYS: &str = "--activity-delays=";
 
 pub const BOARDS_OPTION: &str = "--boards=";
 
+pub const CHANGES_OPTION: &str = "--changes=";
+
+/// A question to the journal of a text.
+#[derive(Clone, Copy, PartialEq, Eq, Debug)]
+pub enum QueryKind {
+    Follow,
+    Journey,
+}
+
 /// A command, by which its words may have these options or those.
 #[derive(Clone, Copy, PartialEq, Eq, Debug)]
 pub enum Kind {
     Run,
     Check,
     Gen,
+    Query(QueryKind),
 }
 
 /// What stands behind the text, where the word begins with it.
@@ -65,8 +75,11 @@ fn is_option(kind: Kind, word: &str) -> bool
                 || behind(BOARDS_OPTION, word).is_some()
                 || is_file_option(word)
         }
-        Kind::Check => is_file_option(word),
+        Kind::Check | Kind::Query(QueryKind::Follow) => is_file_option(word),
         Kind::Gen => behind(PENALTY_OPTION, word).is_some(),
+        Kind::Query(QueryKind::Journey) => {
+            behind(CHANGES_OPTION, word).is_some() || is_file_option(word)
+        }
     }
 }
 
@@ -150,6 +163,20 @@ pub fn two_names(words: &[String]) -> Option<(&str, &str)>
         return None;
     }
     Some((one, other))
+}
+
+/// The three names of the words, where they are three.
+pub fn three_names(words: &[String]) -> Option<(&str, &str, &str)>
+    ensures { MatchOption result ((one other third : List ℕ) → filter is_name (map string_bytes words.now) ≡ one ∷ other ∷ third ∷ [] → ⊥)
+        (λ names. filter is_name (map string_bytes words.now) ≡ names.0.now ∷ names.1.now ∷ names.2.now ∷ []) }
+{
+    let Some((one, rest)) = next_name(words) else {
+        return None;
+    };
+    let Some((other, third)) = two_names(rest) else {
+        return None;
+    };
+    Some((one, other, third))
 }
 
 /// The names among some words, in their order.
