@@ -1,0 +1,3 @@
+-- Bytes that are given to a follower, and a source that is followed to its end.
+pub mod Given
+pub mod Followed
