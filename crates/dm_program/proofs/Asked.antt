@@ -2,7 +2,12 @@
 use Rattle.std.proofs.Common.{◌≡◌, ℕ, ◌≤◌, List, [], ◌∷◌, Option, Some, None, Ok, sym, subst, arith}
 use Rattle.dm_base.specs.declared.limits.TheConstants.{PENALTY}
 use Rattle.dm_input.specs.Input.{Told, Opening, OpeningAnswer, IsAnswer}
-use Rattle.dm_words.specs.Words.{RunAsked, CheckAsked, GenAsked, FilesAsked, Command, RunOf, CheckOf, GenOf, Asks, IsNumberOr}
+use Rattle.dm_words.specs.Queries.{AsksOwn}
+use Rattle.dm_words.specs.Values.{IsNumberOr}
+use Rattle.dm_words.specs.Words.{RunAsked, CheckAsked, GenAsked, QueryAsked, FilesAsked, Command, RunOf, CheckOf, GenOf, QueryOf, Asks}
+use Rattle.dm_words.specs.declared.queries.Query.{Query}
+use Rattle.dm_words.specs.declared.queries.Query.TheVariants.{Follow, Journey}
+use Rattle.dm_words.specs.declared.queries.TheConstants.{CHANGES, STANDARD_CHANGES}
 use Rattle.dm_words.specs.declared.command.TheConstants.{BATCH, STANDARD_BATCH}
 use Rattle.dm_words.specs.declared.files.TheConstants.{STANDARD_PENALTY}
 use Rattle.dm_network.specs.Net.{Net}
@@ -10,7 +15,7 @@ use Rattle.dm_network.specs.Start.{IsNetwork}
 use Rattle.dm_rows.specs.Active.{HasNoCycle}
 use Rattle.dm_rows.specs.Rows.{RowsValue}
 use Rattle.dm_times.proofs.Meeting.{start_has_no_cycle}
-use Rattle.dm_program.specs.Inside.Stages.{IsAtStart, AreWithin, IsWithin}
+use Rattle.dm_program.specs.Inside.Stages.{IsAtStart, AreWithin, IsQueryWithin, IsWithin, IsWithinLimits}
 use Rattle.dm_program.specs.Inside.Generating.{IsDayWithin}
 
 no_more : (given : Option (List ℕ)) (least most standard n : ℕ) → standard ≤ most → IsNumberOr given least most standard n → n ≤ most
@@ -50,10 +55,24 @@ day_within (word ∷ words) asked asks =
       penalty = no_more penalty.value 0 PENALTY STANDARD_PENALTY asked.penalty (omega arith) penalty.is;
     }
 
+limits_within : (query : Query) (names words : List (List ℕ)) → AsksOwn query names words → IsWithinLimits query
+limits_within Follow names words asks = tt
+limits_within (Journey journey) names words asks = no_more asks.changes.value 0 CHANGES STANDARD_CHANGES journey.changes (omega arith) asks.changes.is
+
+pub query_within : (words : List (List ℕ)) (asked : QueryAsked) → Asks words (QueryOf asked) → IsQueryWithin asked
+query_within [] asked asks = absurd asks
+query_within (word ∷ words) asked asks =
+    let penalty = asks.1.files.penalty in
+    record {
+      penalty = no_more penalty.value 0 PENALTY STANDARD_PENALTY asked.files.penalty (omega arith) penalty.is;
+      limits = limits_within asked.query asks.1.own words asks.1.says;
+    }
+
 pub command_within : (words : List (List ℕ)) (command : Command) → Asks words command → IsWithin command
 command_within words (RunOf asked) asks = asked_within words asked asks
 command_within words (CheckOf asked) asks = check_within words asked asks
 command_within words (GenOf asked) asks = day_within words asked asks
+command_within words (QueryOf asked) asks = query_within words asked asks
 
 ok_is : (x y : Opening) → IsAnswer x (Ok y) → y ≡ x
 ok_is x y e = cc

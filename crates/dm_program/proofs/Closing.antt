@@ -16,7 +16,8 @@ use Rattle.dm_program.specs.declared.status.Status.{Status}
 use Rattle.dm_program.specs.declared.status.Status.TheVariants.{Ok as Well, Bad, Usage, Refused, ReadFault, WriteFault, NoMemory}
 use Rattle.dm_program.specs.Feeds.{is_fault, is_long, status_of}
 use Rattle.dm_program.specs.Headline.{IsRunOf}
-use Rattle.dm_program.specs.Ends.{IsDue, Ends, EndsAs, AsksOver, WantsMemory}
+use Rattle.dm_program.specs.Commands.{AsksOver}
+use Rattle.dm_program.specs.Ends.{IsDue, Ends, EndsAs, WantsMemory}
 use Rattle.dm_program.specs.Inside.Stages.{EndsStopped}
 
 -- the status of logs is that of a run
@@ -33,7 +34,7 @@ module _ (told : Told) (is_sound : List ℕ → Type 0) (end_boards : Option Run
       elim (of_two (list_any (λ log. is_fault log.stop) logs) (list_any (λ log. is_long log.stop) logs) s e) [
         | inl well ↦ subst D (sym well) (inl (subst R well run))
         | inr other ↦ elim other [
-          | inl refused ↦ subst D (sym refused) (inr (inr (subst R refused run)))
+          | inl refused ↦ subst D (sym refused) (inr (inr (inl (subst R refused run))))
           | inr fault ↦ subst D (sym fault) (inr (inr (subst R fault run)))
         ]
       ]
@@ -91,7 +92,7 @@ ends_wanting {K} taken faults told is_sound end_boards words before now asked as
     let W : K → Type 0 = λ k. WantsMemory (taken before) (taken k) words in
     subst E (sym is) (subst W (sym same) (wants_memory taken before words asked asks))
 
--- a run or a check that its files stopped
+-- a command that its files stopped
 pub ends_stopped : {K : Type 0} (taken : K → Option (List ℕ)) (faults : K → ℕ) (told : Told) (is_sound : List ℕ → Type 0) (end_boards : Option Run → Type 0) (words : List (List ℕ)) (before now : K) (files : FilesAsked) → end_boards None → AsksOver words files → (stop : InputStop) (result : Status)
     → StopsOpening told is_sound files stop → EndsStopped taken faults files stop before now result → Ends taken faults told is_sound end_boards words before now result
 ends_stopped taken faults told is_sound end_boards words before now files left over (StopRefused flaw) result stops h = ends_refused taken faults told is_sound end_boards words before now files flaw result left over stops h

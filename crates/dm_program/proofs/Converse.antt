@@ -9,7 +9,7 @@ use Rattle.dm_outside.specs.Faults.{HasRisen}
 use Rattle.dm_input.specs.Input.{Told, IsHeld, Opening, OpeningAnswer, IsUnread}
 use Rattle.dm_input.specs.Order.{SameFlaw}
 use Rattle.dm_input.specs.Lines.{refused_line, read_fault_line}
-use Rattle.dm_words.specs.Words.{RunAsked, RunOf, CheckAsked, CheckOf, GenAsked, GenOf, FilesAsked, Asks, AsksNothing}
+use Rattle.dm_words.specs.Words.{RunAsked, RunOf, CheckAsked, CheckOf, GenAsked, GenOf, QueryAsked, QueryOf, FilesAsked, Asks, AsksNothing}
 use Rattle.dm_input.specs.declared.flaws.InputFlaw.{InputFlaw}
 use Rattle.dm_words.proofs.OneCommand.{one_command}
 use Rattle.dm_input.proofs.OneOpening.{opening_is_one, not_after}
@@ -23,8 +23,10 @@ use Rattle.dm_program.specs.declared.status.Status.{Status}
 use Rattle.dm_program.specs.declared.status.Status.TheVariants.{Ok as Well, Bad, Usage, Refused, ReadFault, WriteFault, NoMemory}
 use Rattle.dm_program.specs.Feeds.{IsLogOfName, AreLogsOf, is_fault, is_long, status_of}
 use Rattle.dm_program.specs.Headline.{IsRunOf}
+use Rattle.dm_program.specs.Answers.{IsAnswerFor}
 use Rattle.dm_program.specs.Checked.{IsVerdictFor}
-use Rattle.dm_program.specs.Ends.{Ends, AsksOver, files_of_command, EndsAt, AreSound, AreShort}
+use Rattle.dm_program.specs.Commands.{AsksAbout, AsksOver, files_of_command, text_of_command}
+use Rattle.dm_program.specs.Ends.{Ends, EndsAt, AreSound, AreShort}
 
 some_is : {X : Type 0} (x y : X) → Some x ≡ Some y → x ≡ y
 some_is x y e = cc
@@ -42,19 +44,37 @@ no_day run day e = cc
 no_check : (run : RunAsked) (check : CheckAsked) → RunOf run ≡ CheckOf check → ⊥
 no_check run check e = cc
 
-none_is_some : (files : FilesAsked) → None ≡ Some files → ⊥
-none_is_some files e = cc
+no_query : (run : RunAsked) (query : QueryAsked) → RunOf run ≡ QueryOf query → ⊥
+no_query run query e = cc
+
+none_is_some : {X : Type 0} (x : X) → None ≡ Some x → ⊥
+none_is_some x e = cc
 
 -- words name files at most once
 pub same_files : (words : List (List ℕ)) (one other : FilesAsked) → AsksOver words one → AsksOver words other → one ≡ other
 same_files words one other a b = some_is one other (sym a.reads ∙ (ap files_of_command (one_command words a.asked b.asked a.is_asked b.is_asked) ∙ b.reads))
 
+-- words name one text at most
+pub same_text : (words : List (List ℕ)) (files others : FilesAsked) (one other : List ℕ) → AsksAbout words files one → AsksAbout words others other → one ≡ other
+same_text words files others one other a b = some_is one other (sym a.names ∙ (ap text_of_command (one_command words a.asked b.asked a.is_asked b.is_asked) ∙ b.names))
+
+-- what is asked about a text is asked over files
+pub about_over : (words : List (List ℕ)) (files : FilesAsked) (text : List ℕ) → AsksAbout words files text → AsksOver words files
+about_over words files text about = record { asked = about.asked; is_asked = about.is_asked; reads = about.reads }
+
+-- a run is of no text
+pub no_text : (words : List (List ℕ)) (files : FilesAsked) (text : List ℕ) (run : RunAsked) → AsksAbout words files text → Asks words (RunOf run) → ⊥
+no_text words files text run about asks = none_is_some text (ap text_of_command (one_command words (RunOf run) about.asked asks about.is_asked) ∙ about.names)
+
 -- words that ask for a generated day name none
-no_files : (words : List (List ℕ)) (files : FilesAsked) (day : GenAsked) → AsksOver words files → Asks words (GenOf day) → ⊥
+pub no_files : (words : List (List ℕ)) (files : FilesAsked) (day : GenAsked) → AsksOver words files → Asks words (GenOf day) → ⊥
 no_files words files day over asks = none_is_some files (ap files_of_command (one_command words (GenOf day) over.asked asks over.is_asked) ∙ over.reads)
 
 run_over : (words : List (List ℕ)) (run : RunAsked) → Asks words (RunOf run) → AsksOver words run.files
 run_over words run asks = record { asked = RunOf run; is_asked = asks; reads = refl }
+
+query_over : (words : List (List ℕ)) (query : QueryAsked) → Asks words (QueryOf query) → AsksOver words query.files
+query_over words query asks = record { asked = QueryOf query; is_asked = asks; reads = refl }
 
 check_over : (words : List (List ℕ)) (check : CheckAsked) → Asks words (CheckOf check) → AsksOver words check.files
 check_over words check asks = record { asked = CheckOf check; is_asked = asks; reads = refl }
@@ -97,18 +117,25 @@ module _ {K : Type 0} (taken : K → Option (List ℕ)) (faults : K → ℕ) (to
   ends_outside nothing Well h =
       elim (h.holds) [
         | inl r ↦ absurd (nothing (RunOf r.asked) r.is_asked)
-        | inr other ↦ elim other [ inl d ↦ absurd (nothing (GenOf d.asked) d.is_asked) | inr v ↦ absurd (nothing (CheckOf v.asked) v.is_asked) ]
+        | inr other ↦ elim other [
+          | inl d ↦ absurd (nothing (GenOf d.asked) d.is_asked)
+          | inr last ↦ elim last [ inl v ↦ absurd (nothing (CheckOf v.asked) v.is_asked) | inr a ↦ absurd (nothing (QueryOf a.asked) a.is_asked) ]
+        ]
       ]
-  ends_outside nothing Bad h = absurd (nothing (CheckOf h.holds.asked) h.holds.is_asked)
+  ends_outside nothing Bad h =
+      elim (h.holds) [ inl v ↦ absurd (nothing (CheckOf v.asked) v.is_asked) | inr a ↦ absurd (nothing (QueryOf a.asked) a.is_asked) ]
   ends_outside nothing Refused h =
       elim (h.holds) [
         | inl r ↦ absurd (nothing r.over.asked r.over.is_asked)
-        | inr other ↦ elim other [ inl t ↦ absurd (nothing (CheckOf t.asked) t.is_asked) | inr r ↦ absurd (nothing (RunOf r.asked) r.is_asked) ]
+        | inr other ↦ elim other [
+          | inl t ↦ absurd (nothing t.about.asked t.about.is_asked)
+          | inr last ↦ elim last [ inl r ↦ absurd (nothing (RunOf r.asked) r.is_asked) | inr a ↦ absurd (nothing (QueryOf a.asked) a.is_asked) ]
+        ]
       ]
   ends_outside nothing ReadFault h =
       elim (h.holds) [
         | inl r ↦ absurd (nothing r.over.asked r.over.is_asked)
-        | inr other ↦ elim other [ inl t ↦ absurd (nothing (CheckOf t.asked) t.is_asked) | inr r ↦ absurd (nothing (RunOf r.asked) r.is_asked) ]
+        | inr other ↦ elim other [ inl t ↦ absurd (nothing t.about.asked t.about.is_asked) | inr r ↦ absurd (nothing (RunOf r.asked) r.is_asked) ]
       ]
   ends_outside nothing NoMemory h = absurd (nothing h.asked h.is_asked)
 
@@ -125,14 +152,20 @@ module _ {K : Type 0} (taken : K → Option (List ℕ)) (faults : K → ℕ) (to
     no_verdict : (status : Status) (text : List ℕ) → IsVerdictFor told end_boards words status text → ⊥
     no_verdict status text v = never_opened v.asked.files v.opening (check_over words v.asked v.is_asked) v.opens
 
+    no_answer : (status : Status) (text : List ℕ) → IsAnswerFor told end_boards words status text → ⊥
+    no_answer status text a = never_opened a.asked.files a.opening (query_over words a.asked a.is_asked) a.opens
+
     -- how a call ends of which this is the first refusal
     pub ends_at : (result : Status) → Ends taken faults told is_sound end_boards words before now result → EndsAt files flaw (taken before) (taken now) result
     ends_at Well h =
         elim (h.holds) as (λ _. EndsAt files flaw (taken before) (taken now) Well) [
           | inl r ↦ absurd (no_run Well h.text r)
-          | inr other ↦ elim other [ inl d ↦ absurd (no_files words files d.asked over d.is_asked) | inr v ↦ absurd (no_verdict Well h.text v) ]
+          | inr other ↦ elim other as (λ _. EndsAt files flaw (taken before) (taken now) Well) [
+            | inl d ↦ absurd (no_files words files d.asked over d.is_asked)
+            | inr last ↦ elim last [ inl v ↦ absurd (no_verdict Well h.text v) | inr a ↦ absurd (no_answer Well h.text a) ]
+          ]
         ]
-    ends_at Bad h = absurd (no_verdict Bad h.text h.holds)
+    ends_at Bad h = elim (h.holds) as (λ _. EndsAt files flaw (taken before) (taken now) Bad) [ inl v ↦ absurd (no_verdict Bad h.text v) | inr a ↦ absurd (no_answer Bad h.text a) ]
     ends_at Usage h = absurd (h.holds.outside over.asked over.is_asked)
     ends_at Refused h =
         elim (h.holds) as (λ _. EndsAt files flaw (taken before) (taken now) Refused) [
@@ -141,8 +174,8 @@ module _ {K : Type 0} (taken : K → Option (List ℕ)) (faults : K → ℕ) (to
               let shown : SameFlaw r.flaw flaw = opening_is_one told files known (Err r.flaw) (Err flaw) (subst (λ (f : FilesAsked). OpeningAnswer told f (Err r.flaw)) same r.refusal) first in
               record { text = h.text; holds = (r.flaw, shown, r.line ∙ ap (λ (f : FilesAsked). refused_line f r.flaw) same); appended = h.appended }
           | inr other ↦ elim other as (λ _. EndsAt files flaw (taken before) (taken now) Refused) [
-            | inl t ↦ absurd (never_opened t.asked.files t.opening (check_over words t.asked t.is_asked) t.opens)
-            | inr r ↦ absurd (no_run Refused h.text r)
+            | inl t ↦ absurd (never_opened t.files t.opening (about_over words t.files t.text t.about) t.opens)
+            | inr last ↦ elim last as (λ _. EndsAt files flaw (taken before) (taken now) Refused) [ inl r ↦ absurd (no_run Refused h.text r) | inr a ↦ absurd (no_answer Refused h.text a) ]
           ]
         ]
     ends_at ReadFault h =
@@ -152,7 +185,7 @@ module _ {K : Type 0} (taken : K → Option (List ℕ)) (faults : K → ℕ) (to
               let unread : IsUnread told is_sound files r.file = subst (λ (f : FilesAsked). IsUnread told is_sound f r.file) same r.unread in
               record { text = h.text; holds = (r.file, not_after told files known flaw first r.file unread.passes, r.line ∙ ap (λ (f : FilesAsked). read_fault_line f r.file) same); appended = h.appended }
           | inr other ↦ elim other as (λ _. EndsAt files flaw (taken before) (taken now) ReadFault) [
-            | inl t ↦ absurd (never_opened t.asked.files t.opening (check_over words t.asked t.is_asked) t.opens)
+            | inl t ↦ absurd (never_opened t.files t.opening (about_over words t.files t.text t.about) t.opens)
             | inr r ↦ absurd (no_run ReadFault h.text r)
           ]
         ]
@@ -165,6 +198,9 @@ module _ {K : Type 0} (taken : K → Option (List ℕ)) (faults : K → ℕ) (to
 
     never_check : (check : CheckAsked) → Asks words (CheckOf check) → ⊥
     never_check check also = no_check asked check (one_command words (RunOf asked) (CheckOf check) asks also)
+
+    never_query : (query : QueryAsked) → Asks words (QueryOf query) → ⊥
+    never_query query also = no_query asked query (one_command words (RunOf asked) (QueryOf query) asks also)
 
     -- the feeds of a run all end well where each is short and sound
     run_ends_well : AreShort told asked → AreSound is_sound asked → (status : Status) (text : List ℕ) → IsRunOf told is_sound end_boards words status text → status ≡ Well
@@ -184,14 +220,18 @@ module _ {K : Type 0} (taken : K → Option (List ℕ)) (faults : K → ℕ) (to
     ends_well opening opens short sound unrisen Well h = inl refl
     ends_well opening opens short sound unrisen NoMemory h = inr refl
     ends_well opening opens short sound unrisen WriteFault h = absurd (unrisen h.front.risen)
-    ends_well opening opens short sound unrisen Bad h = absurd (never_check h.holds.asked h.holds.is_asked)
+    ends_well opening opens short sound unrisen Bad h =
+        elim (h.holds) as (λ _. (Bad ≡ Well) ⊎ (Bad ≡ NoMemory)) [ inl v ↦ absurd (never_check v.asked v.is_asked) | inr a ↦ absurd (never_query a.asked a.is_asked) ]
     ends_well opening opens short sound unrisen Usage h = absurd (h.holds.outside (RunOf asked) asks)
     ends_well opening opens short sound unrisen Refused h =
         elim (h.holds) as (λ _. (Refused ≡ Well) ⊎ (Refused ≡ NoMemory)) [
           | inl r ↦
               let same : r.files ≡ asked.files = same_files words r.files asked.files r.over (run_over words asked asks) in
               absurd (opening_is_one told asked.files known (Ok opening) (Err r.flaw) opens (subst (λ (f : FilesAsked). OpeningAnswer told f (Err r.flaw)) same r.refusal))
-          | inr other ↦ elim other as (λ _. (Refused ≡ Well) ⊎ (Refused ≡ NoMemory)) [ inl t ↦ absurd (never_check t.asked t.is_asked) | inr r ↦ inl (run_ends_well short sound Refused h.text r) ]
+          | inr other ↦ elim other as (λ _. (Refused ≡ Well) ⊎ (Refused ≡ NoMemory)) [
+            | inl t ↦ absurd (no_text words t.files t.text asked t.about asks)
+            | inr last ↦ elim last as (λ _. (Refused ≡ Well) ⊎ (Refused ≡ NoMemory)) [ inl r ↦ inl (run_ends_well short sound Refused h.text r) | inr a ↦ absurd (never_query a.asked a.is_asked) ]
+          ]
         ]
     ends_well opening opens short sound unrisen ReadFault h =
         elim (h.holds) as (λ _. (ReadFault ≡ Well) ⊎ (ReadFault ≡ NoMemory)) [
@@ -199,5 +239,5 @@ module _ {K : Type 0} (taken : K → Option (List ℕ)) (faults : K → ℕ) (to
               let same : r.files ≡ asked.files = same_files words r.files asked.files r.over (run_over words asked asks) in
               let unread : IsUnread told is_sound asked.files r.file = subst (λ (f : FilesAsked). IsUnread told is_sound f r.file) same r.unread in
               absurd (unread.unsound (sound.files r.file unread.name unread.named))
-          | inr other ↦ elim other as (λ _. (ReadFault ≡ Well) ⊎ (ReadFault ≡ NoMemory)) [ inl t ↦ absurd (never_check t.asked t.is_asked) | inr r ↦ inl (run_ends_well short sound ReadFault h.text r) ]
+          | inr other ↦ elim other as (λ _. (ReadFault ≡ Well) ⊎ (ReadFault ≡ NoMemory)) [ inl t ↦ absurd (no_text words t.files t.text asked t.about asks) | inr r ↦ inl (run_ends_well short sound ReadFault h.text r) ]
         ]

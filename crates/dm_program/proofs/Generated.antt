@@ -1,15 +1,17 @@
 -- How words that ask for a generated day end.
 use Rattle.std.proofs.Common.{◌≡◌, ℕ, ◌⊎◌, inl, inr, List, Option, Some, None, refl, sym, ap, ◌∙◌}
 use Rattle.dm_input.specs.Input.{Told}
-use Rattle.dm_words.specs.Words.{GenAsked, GenOf, RunAsked, RunOf, CheckAsked, CheckOf, FilesAsked, Asks}
+use Rattle.dm_words.specs.Words.{GenAsked, GenOf, RunAsked, RunOf, CheckAsked, CheckOf, QueryAsked, QueryOf, FilesAsked, Asks}
 use Rattle.dm_words.proofs.OneCommand.{one_command}
 use Rattle.dm_report.specs.Summaries.{summary_text}
 use Rattle.dm_cert.specs.RunTexts.{Run}
 use Rattle.dm_program.specs.declared.status.Status.{Status}
 use Rattle.dm_program.specs.declared.status.Status.TheVariants.{Ok as Well, Bad, Usage, Refused, ReadFault, WriteFault, NoMemory}
-use Rattle.dm_program.specs.Ends.{Ends, AsksOver, files_of_command}
+use Rattle.dm_program.specs.Commands.{AsksOver, files_of_command}
+use Rattle.dm_program.specs.Ends.{Ends}
 use Rattle.dm_program.specs.Inside.Generating.{EndsGenerated}
 use Rattle.dm_program.proofs.Closing.{ends_due, ends_wanting}
+use Rattle.dm_program.proofs.Converse.{about_over}
 
 day_is : (x y : GenAsked) → GenOf x ≡ GenOf y → x ≡ y
 day_is x y e = cc
@@ -19,6 +21,9 @@ no_run run day e = cc
 
 no_check : (check : CheckAsked) (day : GenAsked) → CheckOf check ≡ GenOf day → ⊥
 no_check check day e = cc
+
+no_query : (query : QueryAsked) (day : GenAsked) → QueryOf query ≡ GenOf day → ⊥
+no_query query day e = cc
 
 none_is_some : (files : FilesAsked) → Some files ≡ None → ⊥
 none_is_some files e = cc
@@ -36,6 +41,9 @@ module _ {K : Type 0} (taken : K → Option (List ℕ)) (faults : K → ℕ) (to
   never_check : (check : CheckAsked) → Asks words (CheckOf check) → ⊥
   never_check check also = no_check check asked (one_command words (CheckOf check) (GenOf asked) also asks)
 
+  never_query : (query : QueryAsked) → Asks words (QueryOf query) → ⊥
+  never_query query also = no_query query asked (one_command words (QueryOf query) (GenOf asked) also asks)
+
   never_over : (files : FilesAsked) → AsksOver words files → ⊥
   never_over files over = none_is_some files (sym over.reads ∙ ap files_of_command (one_command words over.asked (GenOf asked) over.is_asked asks))
 
@@ -44,7 +52,18 @@ module _ {K : Type 0} (taken : K → Option (List ℕ)) (faults : K → ℕ) (to
   generated_ends Well h = inl refl
   generated_ends WriteFault h = inr (inl refl)
   generated_ends NoMemory h = inr (inr refl)
-  generated_ends Bad h = absurd (never_check h.holds.asked h.holds.is_asked)
+  generated_ends Bad h = elim (h.holds) [ inl v ↦ absurd (never_check v.asked v.is_asked) | inr a ↦ absurd (never_query a.asked a.is_asked) ]
   generated_ends Usage h = absurd (h.holds.outside (GenOf asked) asks)
-  generated_ends Refused h = elim (h.holds) [ inl r ↦ absurd (never_over r.files r.over) | inr other ↦ elim other [ inl t ↦ absurd (never_check t.asked t.is_asked) | inr r ↦ absurd (never_run r.asked r.is_asked) ] ]
-  generated_ends ReadFault h = elim (h.holds) [ inl r ↦ absurd (never_over r.files r.over) | inr other ↦ elim other [ inl t ↦ absurd (never_check t.asked t.is_asked) | inr r ↦ absurd (never_run r.asked r.is_asked) ] ]
+  generated_ends Refused h =
+      elim (h.holds) [
+        | inl r ↦ absurd (never_over r.files r.over)
+        | inr other ↦ elim other [
+          | inl t ↦ absurd (never_over t.files (about_over words t.files t.text t.about))
+          | inr last ↦ elim last [ inl r ↦ absurd (never_run r.asked r.is_asked) | inr a ↦ absurd (never_query a.asked a.is_asked) ]
+        ]
+      ]
+  generated_ends ReadFault h =
+      elim (h.holds) [
+        | inl r ↦ absurd (never_over r.files r.over)
+        | inr other ↦ elim other [ inl t ↦ absurd (never_over t.files (about_over words t.files t.text t.about)) | inr r ↦ absurd (never_run r.asked r.is_asked) ]
+      ]

@@ -1,3 +1,4 @@
+pub mod Answered
 pub mod Asked
 pub mod Boarding
 pub mod Checked
@@ -7,3 +8,6 @@ pub mod Judging
 pub mod Converse
 pub mod Opened
 pub mod Printed
+pub mod Putting
+pub mod Questions
+pub mod Texts

@@ -6,28 +6,18 @@ use Rattle.dm_base.specs.declared.limits.TheConstants.{FEED}
 use Rattle.dm_input.specs.Input.{Told, IsHeld, OpeningAnswer, IsUnread, file_name}
 use Rattle.dm_input.specs.Lines.{usage_line, refused_line, read_fault_line}
 use Rattle.dm_input.specs.Order.{SameFlaw, IsReadBy}
-use Rattle.dm_words.specs.Words.{Command, FilesAsked, RunAsked, CheckAsked, RunOf, CheckOf, GenOf, Asks, AsksNothing}
+use Rattle.dm_words.specs.Words.{Command, FilesAsked, RunAsked, RunOf, Asks, AsksNothing}
 use Rattle.dm_cert.specs.RunTexts.{Run}
 use Rattle.dm_input.specs.declared.flaws.File.{File}
 use Rattle.dm_input.specs.declared.flaws.InputFlaw.{InputFlaw}
 use Rattle.dm_outside.specs.Printing.{TakesAll, TakesFront}
 use Rattle.dm_program.specs.declared.status.Status.{Status}
 use Rattle.dm_program.specs.declared.status.Status.TheVariants.{Ok, Bad, Usage, Refused, ReadFault, WriteFault, NoMemory}
+use Rattle.dm_program.specs.Commands.{AsksOver}
 use Rattle.dm_program.specs.Headline.{IsRunOf}
 use Rattle.dm_program.specs.Generated.{IsSummaryFor}
 use Rattle.dm_program.specs.Checked.{IsVerdictFor, IsLongText, IsUnreadText}
-
--- the files that a command reads before all else
-abbrev pub files_of_command : Command → Option FilesAsked
-files_of_command (RunOf asked) = Some asked.files
-files_of_command (CheckOf asked) = Some asked.files
-files_of_command (GenOf asked) = None
-
--- the words ask for a run, or for a check, over these files
-pub record AsksOver (words : List (List ℕ)) (files : FilesAsked) : Type 0 where
-  pub asked : Command
-  pub is_asked : Asks words asked
-  pub reads : files_of_command asked ≡ Some files
+use Rattle.dm_program.specs.Answers.{IsAnswerFor}
 
 -- the words ask for nothing
 pub record IsUsage (end_boards : Option Run → Type 0) (words : List (List ℕ)) (text : List ℕ) : Type 0 where
@@ -53,15 +43,17 @@ pub record IsReadFault (told : Told) (is_sound : List ℕ → Type 0) (end_board
   pub line : text ≡ read_fault_line files file
   pub boards : end_boards None
 
--- The text that is due at a status, of a run, of a generated day or of a checked text; a write fault and want of memory have
--- none of their own. A run whose feeds did not all end well has its whole text.
+-- The text that is due at a status, of a run, of a generated day, of a checked text or of what is asked of a journal; a write fault
+-- and want of memory have none of their own. A run whose feeds did not all end well has its whole text.
 abbrev pub IsDue : Told → (List ℕ → Type 0) → (Option Run → Type 0) → List (List ℕ) → Status → List ℕ → Type 0
 IsDue told is_sound end_boards words Ok text =
-    IsRunOf told is_sound end_boards words Ok text ⊎ (IsSummaryFor end_boards words text ⊎ IsVerdictFor told end_boards words Ok text)
-IsDue told is_sound end_boards words Bad text = IsVerdictFor told end_boards words Bad text
+    IsRunOf told is_sound end_boards words Ok text
+    ⊎ (IsSummaryFor end_boards words text ⊎ (IsVerdictFor told end_boards words Ok text ⊎ IsAnswerFor told end_boards words Ok text))
+IsDue told is_sound end_boards words Bad text = IsVerdictFor told end_boards words Bad text ⊎ IsAnswerFor told end_boards words Bad text
 IsDue told is_sound end_boards words Usage text = IsUsage end_boards words text
 IsDue told is_sound end_boards words Refused text =
-    IsRefusal told end_boards words text ⊎ (IsLongText told end_boards words text ⊎ IsRunOf told is_sound end_boards words Refused text)
+    IsRefusal told end_boards words text
+    ⊎ (IsLongText told end_boards words text ⊎ (IsRunOf told is_sound end_boards words Refused text ⊎ IsAnswerFor told end_boards words Refused text))
 IsDue told is_sound end_boards words ReadFault text =
     IsReadFault told is_sound end_boards words text
     ⊎ (IsUnreadText told is_sound end_boards words text ⊎ IsRunOf told is_sound end_boards words ReadFault text)
@@ -117,14 +109,19 @@ abbrev pub EndsTold : Status → List ℕ → Option (List ℕ) → Option (List
 EndsTold status line before now result =
     ((result ≡ status) × Writes before now (λ text. text ≡ line)) ⊎ ((result ≡ ReadFault) ⊎ ((result ≡ WriteFault) ⊎ (result ≡ NoMemory)))
 
+-- How a call ends to which one of these texts is due, each at its status: so, but for a read fault, a write fault and want of memory.
+abbrev pub EndsAnswered : (Status → List ℕ → Type 0) → Option (List ℕ) → Option (List ℕ) → Status → Type 0
+EndsAnswered answers before now result =
+    Writes before now (answers result) ⊎ ((result ≡ ReadFault) ⊎ ((result ≡ WriteFault) ⊎ (result ≡ NoMemory)))
+
 -- the words ask for no run
 abbrev pub AsksNoRun : List (List ℕ) → Type 0
 AsksNoRun words = (asked : RunAsked) → Asks words (RunOf asked) → ⊥
 
--- the shelf tells each name of the check sound
-pub record IsSoundFor (is_sound : List ℕ → Type 0) (asked : CheckAsked) : Type 0 where
-  pub files : (file : File) (name : List ℕ) → file_name asked.files file ≡ Some name → is_sound name
-  pub text : is_sound asked.text
+-- the shelf tells each of the files, and the text of this name, sound
+pub record IsSoundFor (is_sound : List ℕ → Type 0) (files : FilesAsked) (text : List ℕ) : Type 0 where
+  pub of_files : (file : File) (name : List ℕ) → file_name files file ≡ Some name → is_sound name
+  pub of_text : is_sound text
 
 -- the shelf tells each name of the run sound
 pub record AreSound (is_sound : List ℕ → Type 0) (asked : RunAsked) : Type 0 where

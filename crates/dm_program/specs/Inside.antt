@@ -1,3 +1,4 @@
 pub mod Stages
 pub mod Generating
 pub mod Checking
+pub mod Asking

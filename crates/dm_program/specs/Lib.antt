@@ -1,8 +1,12 @@
--- What becomes of boards, what a run's text is, which logs answer its feeds, what is printed of generated days and of checked
--- texts, and how a call ends.
+-- What becomes of boards, what a run's text is, which logs answer its feeds, what is printed of generated days, of checked texts and
+-- of what is asked of a journal, and how a call ends.
+pub mod Commands
 pub mod Generated
 pub mod Verdicts
 pub mod Checked
+pub mod Followed
+pub mod Travelled
+pub mod Answers
 pub mod Boards
 pub mod Headline
 pub mod Feeds

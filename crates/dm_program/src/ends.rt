@@ -4,12 +4,15 @@ ghost use Rattle.dm_input.specs.Lines.{usage_line, refused_line, read_fault_line
 ghost use Rattle.dm_words.specs.Asked.{files_of};
 ghost use Rattle.dm_program.specs.Ends.{EndsAs};
 ghost use Rattle.dm_program.specs.Verdicts.{verdict_line, verdict_status, long_text_line, unread_text_line};
+ghost use Rattle.dm_check.specs.declared.verdicts.Verdict.TheVariants.{Bad as BadVerdict};
+ghost use Rattle.dm_program.specs.Inside.Asking.{kind_of_rule};
 ghost use Rattle.dm_program.specs.Inside.Stages.{EndsStopped};
 
 use crate::status::Status;
 use crate::verdicts::{put_long_text, put_unread_text, put_verdict};
-use dm_check::Verdict;
+use dm_check::{BadKind, Verdict};
 use dm_input::{File, InputFlaw, InputStop, put_read_fault, put_refused, put_usage};
+use dm_journal::{BrokenLine, BrokenRule};
 use dm_outside::{Sink, WriteFault};
 use dm_words::FileWords;
 
@@ -91,4 +94,33 @@ pub fn end_unread_text<K: Sink>(name: &str, out: &mut K) -> Status
         Ok(()) => Status::ReadFault,
         Err(WriteFault) => Status::WriteFault,
     }
+}
+
+/// Says that a line of a journal breaks its rule.
+pub fn end_broken<K: Sink>(broken: BrokenLine, out: &mut K) -> Status
+    ensures ends { EndsAs K.taken K.faults out.old out.new (verdict_line (BadVerdict broken.line (kind_of_rule broken.rule))) Status.Bad result }
+    ensures later { K.faults out.old ≤ K.faults out.new }
+{
+    let line = broken.line;
+    let kind = kind_of(broken.rule);
+    end_verdict(Verdict::Bad { line, kind }, out)
+}
+
+/// The kind of a line that breaks a rule.
+fn kind_of(rule: BrokenRule) -> BadKind
+    ensures { result ≡ kind_of_rule rule }
+{
+    match rule {
+        BrokenRule::Form => BadKind::Form,
+        BrokenRule::Entry => BadKind::Entry,
+    }
+}
+
+/// Says that a line of a journal is not whole.
+pub fn end_torn<K: Sink>(line: u32, out: &mut K) -> Status
+    ensures ends { EndsAs K.taken K.faults out.old out.new (verdict_line (BadVerdict line BadKind.Truncated)) Status.Bad result }
+    ensures later { K.faults out.old ≤ K.faults out.new }
+{
+    let kind = BadKind::Truncated;
+    end_verdict(Verdict::Bad { line, kind }, out)
 }

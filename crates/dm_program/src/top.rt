@@ -6,18 +6,21 @@ ghost use Rattle.dm_input.specs.declared.flaws.InputFlaw.{InputFlaw as AFlaw};
 ghost use Rattle.dm_input.specs.Input.{Opening, OpeningAnswer, IsHeld};
 ghost use Rattle.dm_input.specs.Stops.{IsKept, IsLong};
 ghost use Rattle.dm_words.specs.Asked.{command_of};
-ghost use Rattle.dm_words.specs.Words.{Asks, AsksNothing, CheckAsked, CheckOf, FilesAsked, GenAsked, GenOf, RunAsked, RunOf};
+ghost use Rattle.dm_words.specs.Words.{Asks, AsksNothing, CheckAsked, CheckOf, FilesAsked, GenAsked, GenOf, QueryAsked, QueryOf, RunAsked, RunOf};
 ghost use Rattle.dm_cert.specs.Runs.{IsRunText};
 ghost use Rattle.dm_check.specs.declared.verdicts.Verdict.{Verdict};
 ghost use Rattle.dm_check.specs.FalseRecords.{IsVerdict};
+ghost use Rattle.dm_program.specs.Answers.{IsAnswerAt};
 ghost use Rattle.dm_program.specs.Boards.{EndBoards};
-ghost use Rattle.dm_program.specs.Ends.{IsDue, Writes, FailsToWrite, WantsMemory, AsksOver, AsksNoRun, EndsAt, EndsTold, AreSound, AreShort, IsSoundFor, Ends};
+ghost use Rattle.dm_program.specs.Commands.{AsksAbout, AsksOver};
+ghost use Rattle.dm_program.specs.Ends.{IsDue, Writes, FailsToWrite, WantsMemory, AsksNoRun, EndsAnswered, EndsAt, EndsTold, AreSound, AreShort, IsSoundFor, Ends};
 ghost use Rattle.dm_program.specs.Verdicts.{verdict_line, verdict_status, long_text_line};
 ghost use Rattle.dm_program.specs.Inside.Stages.{IsWithin};
 
 use crate::checking::check_text;
 use crate::ends::end_usage;
 use crate::generate::generate;
+use crate::queries::answer_query;
 use crate::run::run_feeds;
 use crate::status::Status;
 use dm_desk::Hold;
@@ -40,12 +43,12 @@ pub fn dispatch<R: Threads + Wait + Sync, H: Shelf, K: Sink, G: Gate>(
     requires { vec_len boards.old ≤ BOARDS }
 
     // The text is that of a run whose journal, logs, notes, times and cost are true, and whose feeds all ended well, or the
-    // summary of a generated day, or the verdict that a text is good. Each board that no note names shows the final times of its
-    // stop. At every end without a run, but for want of memory, the boards are as before.
+    // summary of a generated day, or the verdict that a text is good, or the answer to what is asked of a journal. Each board that
+    // no note names shows the final times of its stop. At every end without a run, but for want of memory, the boards are as before.
     ensures headline { result ≡ Status.Ok → Writes (K.taken out.old) (K.taken out.new) (IsDue (H.files shelf.old) (H.is_sound shelf.old) (EndBoards place times (λ b. (Board-box b).faults b.value) (λ b. (Board-box b).is_sound b.value) boards.old.items boards.new.items) (map string_bytes words.now) Status.Ok) }
 
-    // Each other status has its cause. That a text is bad comes with the first record that breaks its rule. Where a feed alone is
-    // the cause, the text is that of a run too.
+    // Each other status has its cause. That a text is bad comes with the first record that breaks its rule, or the first line of a
+    // journal. Where a feed alone is the cause, the text is that of a run too.
     ensures bad { result ≡ Status.Bad → Writes (K.taken out.old) (K.taken out.new) (IsDue (H.files shelf.old) (H.is_sound shelf.old) (EndBoards place times (λ b. (Board-box b).faults b.value) (λ b. (Board-box b).is_sound b.value) boards.old.items boards.new.items) (map string_bytes words.now) Status.Bad) }
     ensures usage { result ≡ Status.Usage → Writes (K.taken out.old) (K.taken out.new) (IsDue (H.files shelf.old) (H.is_sound shelf.old) (EndBoards place times (λ b. (Board-box b).faults b.value) (λ b. (Board-box b).is_sound b.value) boards.old.items boards.new.items) (map string_bytes words.now) Status.Usage) }
     ensures refused { result ≡ Status.Refused → Writes (K.taken out.old) (K.taken out.new) (IsDue (H.files shelf.old) (H.is_sound shelf.old) (EndBoards place times (λ b. (Board-box b).faults b.value) (λ b. (Board-box b).is_sound b.value) boards.old.items boards.new.items) (map string_bytes words.now) Status.Refused) }
@@ -62,14 +65,20 @@ pub fn dispatch<R: Threads + Wait + Sync, H: Shelf, K: Sink, G: Gate>(
     // The first refusal comes exactly where it is, but for the faults that go before.
     ensures first_refusal { (files : FilesAsked) (flaw : AFlaw) → AsksOver (map string_bytes words.now) files → IsSome (H.files shelf.old)
         → OpeningAnswer (H.files shelf.old) files (Err flaw) → EndsAt files flaw (K.taken out.old) (K.taken out.new) result }
-    ensures long_text { (asked : CheckAsked) (opening : Opening) → Asks (map string_bytes words.now) (CheckOf asked) → IsSome (H.files shelf.old)
-        → OpeningAnswer (H.files shelf.old) asked.files (Ok opening) → IsLong (H.files shelf.old) asked.text TEXT
-        → EndsTold Status.Refused (long_text_line asked.text) (K.taken out.old) (K.taken out.new) result }
+    ensures long_text { (files : FilesAsked) (text : List ℕ) (opening : Opening) → AsksAbout (map string_bytes words.now) files text → IsSome (H.files shelf.old)
+        → OpeningAnswer (H.files shelf.old) files (Ok opening) → IsLong (H.files shelf.old) text TEXT
+        → EndsTold Status.Refused (long_text_line text) (K.taken out.old) (K.taken out.new) result }
 
     // The verdict on a text comes exactly where it is, but for the same.
     ensures judged { (asked : CheckAsked) (opening : Opening) (bytes : List ℕ) (verdict : Verdict) → Asks (map string_bytes words.now) (CheckOf asked) → IsSome (H.files shelf.old)
         → OpeningAnswer (H.files shelf.old) asked.files (Ok opening) → IsHeld (H.files shelf.old) asked.text bytes → length bytes ≤ TEXT
         → IsVerdict opening.net opening.rows asked.files.penalty bytes verdict → EndsTold (verdict_status verdict) (verdict_line verdict) (K.taken out.old) (K.taken out.new) result }
+
+    // What is asked of the journal of a text is answered from its bytes, but for the same: a line that breaks its rule is told, or a
+    // torn line where all are wanted, or the question is answered.
+    ensures answered { (asked : QueryAsked) (opening : Opening) (bytes : List ℕ) → Asks (map string_bytes words.now) (QueryOf asked) → IsSome (H.files shelf.old)
+        → OpeningAnswer (H.files shelf.old) asked.files (Ok opening) → IsHeld (H.files shelf.old) asked.text bytes → length bytes ≤ TEXT
+        → EndsAnswered (IsAnswerAt asked.query opening.net opening.rows asked.files.penalty bytes) (K.taken out.old) (K.taken out.new) result }
 
     // Good words, files and feeds, a sound shelf and a sink without a fault give a run, or want of memory.
     ensures complete { (asked : RunAsked) (opening : Opening) → Asks (map string_bytes words.now) (RunOf asked) → IsSome (H.files shelf.old)
@@ -80,14 +89,20 @@ pub fn dispatch<R: Threads + Wait + Sync, H: Shelf, K: Sink, G: Gate>(
     // not fail.
     ensures complete_check { (asked : CheckAsked) (opening : Opening) (bytes : List ℕ) → Asks (map string_bytes words.now) (CheckOf asked) → IsSome (H.files shelf.old)
         → OpeningAnswer (H.files shelf.old) asked.files (Ok opening) → IsHeld (H.files shelf.old) asked.text bytes → length bytes ≤ TEXT
-        → IsSoundFor (H.is_sound shelf.old) asked → (HasRisen (K.faults out.old) (K.faults out.new) → ⊥)
+        → IsSoundFor (H.is_sound shelf.old) asked.files asked.text → (HasRisen (K.faults out.old) (K.faults out.new) → ⊥)
         → (result ≡ Status.Ok) ⊎ ((result ≡ Status.Bad) ⊎ (result ≡ Status.NoMemory)) }
 
     // Where the same hold, the text of a true run is good, or wants memory.
     ensures run_texts_are_good { (asked : CheckAsked) (opening : Opening) (bytes : List ℕ) → Asks (map string_bytes words.now) (CheckOf asked) → IsSome (H.files shelf.old)
         → OpeningAnswer (H.files shelf.old) asked.files (Ok opening) → IsHeld (H.files shelf.old) asked.text bytes → length bytes ≤ TEXT
-        → IsRunText opening.net opening.rows asked.files.penalty bytes → IsSoundFor (H.is_sound shelf.old) asked → (HasRisen (K.faults out.old) (K.faults out.new) → ⊥)
+        → IsRunText opening.net opening.rows asked.files.penalty bytes → IsSoundFor (H.is_sound shelf.old) asked.files asked.text → (HasRisen (K.faults out.old) (K.faults out.new) → ⊥)
         → (result ≡ Status.Ok) ⊎ (result ≡ Status.NoMemory) }
+
+    // What is asked of the journal of a text that is not too long is answered, or wants memory, where the same hold.
+    ensures complete_query { (asked : QueryAsked) (opening : Opening) (bytes : List ℕ) → Asks (map string_bytes words.now) (QueryOf asked) → IsSome (H.files shelf.old)
+        → OpeningAnswer (H.files shelf.old) asked.files (Ok opening) → IsHeld (H.files shelf.old) asked.text bytes → length bytes ≤ TEXT
+        → IsSoundFor (H.is_sound shelf.old) asked.files asked.text → (HasRisen (K.faults out.old) (K.faults out.new) → ⊥)
+        → Writes (K.taken out.old) (K.taken out.new) (IsAnswerAt asked.query opening.net opening.rows asked.files.penalty bytes result) ⊎ (result ≡ Status.NoMemory) }
 
     // Whatever the status, words that ask for no run leave the boards as they were, the shelf tells what it told, the sink's
     // count has not fallen and the list has its boards in their order.
@@ -144,5 +159,6 @@ fn do_command<R: Threads + Wait + Sync, H: Shelf, K: Sink, G: Hold + Sync>(
         CommandWords::Run(run) => run_feeds(rt, alloc, run, shelf, boards, gate, out),
         CommandWords::Check(check) => check_text(alloc, check, shelf, out),
         CommandWords::Gen(day) => generate(alloc, day, out),
+        CommandWords::Query(query) => answer_query(alloc, query, shelf, out),
     }
 }

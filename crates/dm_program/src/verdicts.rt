@@ -24,7 +24,7 @@ fn kind_word(kind: BadKind) -> &'static str
 }
 
 /// Puts the pieces, one after another.
-fn put_pieces<K: Sink>(sink: &mut K, pieces: &[Piece<'_>]) -> Result<(), WriteFault>
+pub fn put_pieces<K: Sink>(sink: &mut K, pieces: &[Piece<'_>]) -> Result<(), WriteFault>
     ensures { Puts K.taken K.faults sink.old sink.new result (pieces_text pieces.now) }
 {
     let mut page = Page::new();

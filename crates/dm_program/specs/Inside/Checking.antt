@@ -8,7 +8,7 @@ use Rattle.dm_outside.specs.declared.faults.TakeFault.TheVariants.{ReadFault as 
 use Rattle.dm_input.specs.Input.{Told, IsHeld, Opening, OpeningAnswer}
 use Rattle.dm_input.specs.Stops.{IsLong, StopsOpening}
 use Rattle.dm_input.specs.declared.flaws.InputStop.{InputStop}
-use Rattle.dm_words.specs.Words.{CheckAsked}
+use Rattle.dm_words.specs.Words.{CheckAsked, FilesAsked}
 use Rattle.dm_cert.specs.Runs.{IsRunText}
 use Rattle.dm_check.specs.declared.verdicts.Verdict.{Verdict}
 use Rattle.dm_check.specs.FalseRecords.{IsVerdict}
@@ -47,11 +47,11 @@ pub record EndsJudged {K : Type 0} (taken : K → Option (List ℕ)) (faults : K
   pub judges : Judges told is_sound name net rows penalty judgement
   pub ends : EndsBy taken faults name judgement before now result
 
--- its files stopped it
-pub record EndsAtFiles {K : Type 0} (taken : K → Option (List ℕ)) (faults : K → ℕ) (told : Told) (is_sound : List ℕ → Type 0) (asked : CheckAsked) (before now : K) (result : Status) : Type 0 where
+-- its files stopped a command
+pub record EndsAtFiles {K : Type 0} (taken : K → Option (List ℕ)) (faults : K → ℕ) (told : Told) (is_sound : List ℕ → Type 0) (files : FilesAsked) (before now : K) (result : Status) : Type 0 where
   pub stop : InputStop
-  pub stops : StopsOpening told is_sound asked.files stop
-  pub ends : EndsStopped taken faults asked.files stop before now result
+  pub stops : StopsOpening told is_sound files stop
+  pub ends : EndsStopped taken faults files stop before now result
 
 -- its files made a network with rows
 pub record EndsAtText {K : Type 0} (taken : K → Option (List ℕ)) (faults : K → ℕ) (told : Told) (is_sound : List ℕ → Type 0) (asked : CheckAsked) (before now : K) (result : Status) : Type 0 where
@@ -62,4 +62,4 @@ pub record EndsAtText {K : Type 0} (taken : K → Option (List ℕ)) (faults : K
 -- how a check ends
 abbrev pub EndsChecked : {K : Type 0} → (K → Option (List ℕ)) → (K → ℕ) → Told → (List ℕ → Type 0) → CheckAsked → K → K → Status → Type 0
 EndsChecked taken faults told is_sound asked before now result =
-    EndsAtFiles taken faults told is_sound asked before now result ⊎ EndsAtText taken faults told is_sound asked before now result
+    EndsAtFiles taken faults told is_sound asked.files before now result ⊎ EndsAtText taken faults told is_sound asked before now result

@@ -4,7 +4,9 @@ use Rattle.dm_base.specs.declared.limits.TheConstants.{FEEDS, PENALTY}
 use Rattle.dm_base.specs.declared.rows.DelayRow.{DelayRow}
 use Rattle.dm_input.specs.Input.{Told, IsHeld}
 use Rattle.dm_input.specs.Lines.{refused_line, read_fault_line}
-use Rattle.dm_words.specs.Words.{RunAsked, FilesAsked, Command, RunOf, CheckOf, GenOf}
+use Rattle.dm_words.specs.Words.{RunAsked, QueryAsked, FilesAsked, Command, RunOf, CheckOf, GenOf, QueryOf}
+use Rattle.dm_words.specs.declared.queries.Query.{Query}
+use Rattle.dm_words.specs.declared.queries.Query.TheVariants.{Follow, Journey}
 use Rattle.dm_input.specs.declared.flaws.InputStop.{InputStop}
 use Rattle.dm_input.specs.declared.flaws.InputStop.TheVariants.{Refused, ReadFault, NoMemory}
 use Rattle.dm_network.specs.Net.{Net}
@@ -35,10 +37,20 @@ pub record AreWithin (asked : RunAsked) : Type 0 where
   pub some_lines : 0 < asked.batch
   pub few_lines : asked.batch < 2 ^ 32
 
+-- the numbers of a question to a journal
+abbrev pub IsWithinLimits : Query → Type 0
+IsWithinLimits Follow = Unit {0}
+IsWithinLimits (Journey asked) = asked.changes ≤ 8
+
+pub record IsQueryWithin (asked : QueryAsked) : Type 0 where
+  pub penalty : asked.files.penalty ≤ PENALTY
+  pub limits : IsWithinLimits asked.query
+
 abbrev pub IsWithin : Command → Type 0
 IsWithin (RunOf asked) = AreWithin asked
 IsWithin (CheckOf asked) = asked.files.penalty ≤ PENALTY
 IsWithin (GenOf asked) = IsDayWithin asked
+IsWithin (QueryOf asked) = IsQueryWithin asked
 
 -- ---- feeds
 

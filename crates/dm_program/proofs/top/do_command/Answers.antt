@@ -1,8 +1,9 @@
 use Rattle.std.proofs.Common.{refl, subst}
-use Rattle.dm_words.specs.Asked.{command_of, check_of, gen_of}
+use Rattle.dm_words.specs.Asked.{command_of, check_of, gen_of, query_of}
 use Rattle.dm_words.specs.Words.{Asks}
 use Rattle.dm_words.specs.declared.command.CommandWords.{CommandWords}
 use Rattle.dm_program.specs.Inside.Stages.{IsWithin}
+use Rattle.dm_program.proofs.Answered.{ends_queried}
 use Rattle.dm_program.proofs.Checked.{ends_checked}
 use Rattle.dm_program.proofs.Generated.{ends_generated}
 use Rattle.dm_program.proofs.top.do_command.Goals as goal
@@ -19,3 +20,11 @@ returns-in-Gen-clause-ends g c = λ words asks.
 
 pub generate-requires : goal.generate-requires
 generate-requires g c = subst (λ (x : CommandWords). IsWithin (command_of x)) c.in-Gen.is c.requires.within
+
+pub returns-in-Query-clause-ends : goal.returns-in-Query-clause-ends
+returns-in-Query-clause-ends g c = λ words asks.
+    ends_queried g.K.Sink.taken g.K.Sink.faults _ _ _ words c.args.out.now c.answer_query.new.out (query_of c.in-Query.query)
+    (subst (λ (x : CommandWords). Asks words (command_of x)) c.in-Query.is asks) refl c.answer_query.result c.answer_query.ensures.ends
+
+pub answer_query-requires-clause-limits : goal.answer_query-requires-clause-limits
+answer_query-requires-clause-limits g c = λ lifetimes bounds. (subst (λ (x : CommandWords). IsWithin (command_of x)) c.in-Query.is c.requires.within).limits
