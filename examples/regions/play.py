@@ -3,9 +3,12 @@
 
 It cuts the day of ../day at the middle stops of its lines into N regions (2, or 4), starts a Mosquitto broker and a dispatcher for
 each region on this machine, tells the control rooms' delays, waits until nothing is told any more, ends the feeds, and compares: the
-times of all regions together with those of one dispatcher over the whole network. It needs `mosquitto` and `mosquitto-clients`.
+times of all regions together with those of one dispatcher over the whole network. Then the text of region 1 goes to a second site,
+which follows its journal: when half of it has come, and when all has, the times there are compared with those after the same entries
+of the region. It needs `mosquitto` and `mosquitto-clients`.
 
-Topics: `feed/N` are the lines of region N's feed, `board/N/S` those of its board of stop S, with the last one retained.
+Topics: `feed/N` are the lines of region N's feed, `board/N/S` those of its board of stop S, with the last one retained, and
+`text/N` those of the text of its run.
 """
 import argparse
 import os
@@ -15,13 +18,15 @@ import sys
 import tempfile
 import threading
 import time
+from typing import NamedTuple
 
 HERE = os.path.dirname(os.path.abspath(__file__))
 TOOLS = os.path.join(HERE, '..', '..', 'tools')
 sys.path.insert(0, TOOLS)
 
-from railway import read_network  # noqa: E402
+from railway import Rows, read_network, times_of  # noqa: E402
 from runtext import read_run  # noqa: E402
+from scene import rows_of  # noqa: E402
 
 NET = os.path.join(HERE, '..', 'day', 'net')
 MIDDLES = [11 * line + 6 for line in range(8)]
@@ -34,6 +39,9 @@ DELAYS = [(5, 420), (69, 700), (149, 640), (107, 600), (229, 500), (245, 500), (
 # So many seconds of silence say that the relays have come to rest.
 SILENCE = 2.0
 PATIENCE = 120.0
+
+# So many lines of a text stand before its journal.
+HEADER = 4
 
 
 class Play:
@@ -130,12 +138,58 @@ class Region:
     def say(self, line):
         subprocess.run(self.play.client('mosquitto_pub', '-q', '1', '-t', f'feed/{self.number}', '-m', line), check=True)
 
-    def times(self):
-        """Ends the feed, and reads the times at the end of the text."""
+    def end(self):
+        """Ends the feed, and reads the text of the run."""
         self.subscriber.terminate()
         self.dispatcher.wait()
         with open(self.text, 'rb') as file:
-            return read_run(file.read(), len(self.network.events)).times
+            self.run = read_run(file.read(), len(self.network.events))
+
+    def times_after(self, entries):
+        """The times after so many entries of its journal."""
+        run = self.run._replace(journal=self.run.journal[:entries])
+        rows = rows_of(self.network, Rows(self.network), run, self.text)
+        return dict(zip((event.id for event in self.network.events), times_of(self.network, rows)))
+
+
+class Followed(NamedTuple):
+    """What `follow` tells of the text that has come: how many entries it has, its tail, and the times by event."""
+    entries: int
+    tail: str
+    times: dict
+
+
+def read_followed(text):
+    """What `follow` prints."""
+    entries, tail, *times, _ = text.splitlines()
+    return Followed(int(entries.split()[1]), tail, dict(tuple(map(int, line.split('; '))) for line in times))
+
+
+class SecondSite:
+    """A site to which the text of a region's run comes over the broker, and which has the files of its network."""
+
+    def __init__(self, play, region):
+        self.play, self.region = play, region
+        self.topic = f'text/{region.number}'
+        self.text = os.path.join(play.folder, f'text-of-region-{region.number}')
+        with open(self.text, 'wb') as into:
+            play.start(play.client('mosquitto_sub', '-q', '1', '-t', self.topic), stdout=into)
+        play.settle()
+
+    def hear(self, lines):
+        """Sends lines of the text to the site, and waits until they are there."""
+        words = self.play.client('mosquitto_pub', '-q', '1', '-l', '-t', self.topic)
+        subprocess.run(words, input=b''.join(lines), check=True)
+        self.play.settle()
+
+    def differing(self, program, entries, tail):
+        """How many times it has otherwise than the region after so many entries; it must have these, and such a tail."""
+        words = [program, 'follow', os.path.join(self.region.folder, 'net'), self.text]
+        followed = read_followed(subprocess.run(words, stdout=subprocess.PIPE, check=True, text=True).stdout)
+        if (followed.entries, followed.tail) != (entries, tail):
+            raise SystemExit(f'the second site has {followed.entries} entries, {followed.tail}, and not {entries}, {tail}')
+        due = self.region.times_after(entries)
+        return sum(followed.times.get(event) != time for event, time in due.items())
 
 
 def times_of_the_whole(program, folder):
@@ -147,8 +201,21 @@ def times_of_the_whole(program, folder):
     return read_run(done.stdout, len(read_network(NET).events)).times
 
 
+def followed_otherwise(play, program, region):
+    """How many times a second site has otherwise than the region, when half of the journal has come and when all has."""
+    site = SecondSite(play, region)
+    with open(region.text, 'rb') as file:
+        lines = file.readlines()
+    entries = len(region.run.journal)
+    half = HEADER + entries // 2
+    site.hear(lines[:half])
+    torn = site.differing(program, entries // 2, f'tail torn {half + 1} 0')
+    site.hear(lines[half:])
+    return torn + site.differing(program, entries, 'tail whole')
+
+
 def played(play, program, count):
-    """The times of all regions after the day was told."""
+    """The regions after the day was told and their feeds have ended."""
     middles = ','.join(map(str, MIDDLES))
     subprocess.run([sys.executable, os.path.join(TOOLS, 'split.py'), NET, middles, play.folder, '--regions', str(count)], check=True)
     boundaries = [os.path.join(play.folder, f'region-{number}', 'Boundary.csv') for number in range(1, count + 1)]
@@ -162,7 +229,9 @@ def played(play, program, count):
         owner = next(region for region in regions if event in region.network.event_place)
         owner.say(f'delay event {event} {delay}')
     play.settle()
-    return {event: time for region in regions for event, time in region.times().items()}
+    for region in regions:
+        region.end()
+    return regions
 
 
 def main():
@@ -176,15 +245,18 @@ def main():
     os.makedirs(folder, exist_ok=True)
     play = Play(folder, given.port)
     try:
-        came = played(play, given.dispatcher, given.regions)
+        regions = played(play, given.dispatcher, given.regions)
+        followed = followed_otherwise(play, given.dispatcher, regions[0])
     finally:
         play.end()
     due = times_of_the_whole(given.dispatcher, folder)
     if not given.folder:
         shutil.rmtree(folder)
-    differing = sorted(event for event in due if came.get(event) != due[event])
-    print(f'{given.regions} regions, {len(due)} events: {len(differing)} times differ from those of one server')
-    sys.exit(1 if differing or len(came) != len(due) else 0)
+    came = {event: time for region in regions for event, time in region.run.times.items()}
+    differing = sum(came.get(event) != time for event, time in due.items())
+    print(f'{given.regions} regions, {len(due)} events: {differing} times differ from those of one server')
+    print(f'a second site that follows region 1: {followed} times differ from those of the region')
+    sys.exit(1 if differing or followed or len(came) != len(due) else 0)
 
 
 if __name__ == '__main__':
