@@ -109,6 +109,40 @@ impl Day {
         Ok(ids)
     }
 
+    /// Leaves free what is in the window from one time to another: a change by its head, a pair by both of its events.
+    pub fn narrow(&mut self, alloc: Global, from: Secs, to: Secs) -> Result<(), AllocError> {
+        let mut left = Vec::new(alloc);
+        for choice in &self.free {
+            if self.is_within(*choice, from, to) {
+                left.push(*choice)?;
+            }
+        }
+        self.free = left;
+        Ok(())
+    }
+
+    fn is_within(&self, choice: Choice, from: Secs, to: Secs) -> bool {
+        match choice {
+            Choice::Change(id) => self.activities.iter().any(|line| {
+                line.id == id && self.is_scheduled(self.event_id(line.head), from, to)
+            }),
+            Choice::Pair(one, other) => {
+                self.is_scheduled(one, from, to) && self.is_scheduled(other, from, to)
+            }
+        }
+    }
+
+    fn is_scheduled(&self, id: EventId, from: Secs, to: Secs) -> bool {
+        self.events.iter().any(|line| line.id == id
+            && from <= line.scheduled
+            && line.scheduled <= to)
+    }
+
+    /// Whether a choice is left free.
+    pub fn leaves_free(&self, choice: Choice) -> bool {
+        self.free.iter().any(|other| *other == choice)
+    }
+
     /// Whether the event at a place has passed.
     pub fn has_passed(&self, place: usize) -> bool {
         match self.events.get(place) {

@@ -6,6 +6,7 @@ ghost use Rattle.dm_rows.specs.Rows.{IsSized};
 use crate::day::Day;
 use crate::relaxing::Undecided;
 use crate::wrong::Wrong;
+use dm_base::Secs;
 use dm_base::limits::{BUDGET, PENALTY};
 use dm_network::Network;
 use dm_rows::{Message, Refusal, Rows, Snapshot, admit};
@@ -13,11 +14,19 @@ use dm_samples::rows_on_time;
 use dm_search::plan;
 use dm_times::least;
 use dm_tree::Plan;
+use dm_window::{RebaseFault, Rebased, rebase, window_plan};
 use std::alloc::Global;
 use std::marker::Model;
 
 /// What the plans' entry is.
 const ENTRY: u32 = 7;
+
+/// A stretch of scheduled time, with both of its ends.
+#[derive(Clone, Copy)]
+pub struct Window {
+    pub from: Secs,
+    pub to: Secs,
+}
 
 /// The rows of a network, which have no cycle.
 #[derive(Drop)]
@@ -65,19 +74,92 @@ impl<'n> Standing<'n> {
         Ok(())
     }
 
-    /// A plan of the rows.
-    pub fn plan(&self, alloc: Global, budget: u64) -> Result<Plan, Wrong> {
+    /// The plan of a window, carried over to the rows after one message more.
+    pub fn carried(
+        &self,
+        alloc: Global,
+        window: Window,
+        message: &Message,
+    ) -> Result<Result<Rebased, RebaseFault>, Wrong> {
+        let older = Snapshot {
+            entry: ENTRY,
+            rows: self.rows.copy()?,
+        };
+        let newer = Snapshot {
+            entry: ENTRY + 1,
+            rows: heard(alloc, self.net, &self.rows, message)?,
+        };
+        let penalty = self.penalty.min(PENALTY);
+        carried_over(alloc, self.net, penalty, window, &older, &newer)
+    }
+
+    /// A plan of the rows, or of a window of theirs.
+    pub fn plan(&self, alloc: Global, window: Option<Window>, budget: u64) -> Result<Plan, Wrong> {
         let rows = self.rows.copy()?;
         let snapshot = Snapshot { entry: ENTRY, rows };
         let penalty = self.penalty.min(PENALTY);
         let nodes = budget.max(1).min(BUDGET);
-        let plan = planned(alloc, self.net, &snapshot, penalty, nodes)?;
+        let plan = match window {
+            Some(window) => planned_in(alloc, self.net, &snapshot, penalty, window, nodes)?,
+            None => planned(alloc, self.net, &snapshot, penalty, nodes)?,
+        };
         if plan.entry == ENTRY {
             Ok(plan)
         } else {
             Err(Wrong::Entry)
         }
     }
+}
+
+/// The rows after a message that nothing refuses.
+fn heard(alloc: Global, net: &Network, rows: &Rows, message: &Message) -> Result<Rows, Wrong>
+    requires { IsSized net.now rows.now }
+    ensures { IfOk result (IsSized net.now) }
+{
+    let Ok(change) = admit(alloc, net, rows, message) else {
+        return Err(Wrong::NoDay);
+    };
+    let mut next = rows.copy()?;
+    next.apply(&change);
+    Ok(next)
+}
+
+/// The plan of a window of older rows, carried over to newer ones.
+fn carried_over(
+    alloc: Global,
+    net: &Network,
+    penalty: u64,
+    window: Window,
+    older: &Snapshot,
+    newer: &Snapshot,
+) -> Result<Result<Rebased, RebaseFault>, Wrong>
+    requires older { IsSized net.now older.now.rows }
+    requires newer { IsSized net.now newer.now.rows }
+    requires penalty { penalty ≤ PENALTY }
+{
+    net.sound();
+    let _times = least(alloc, net, &older.rows)?;
+    let Window { from, to } = window;
+    let plan = window_plan(alloc, net, penalty, older, from, to, 100)?;
+    Ok(rebase(alloc, net, penalty, newer, &plan))
+}
+
+/// A plan of a window that is searched for from nothing.
+fn planned_in(
+    alloc: Global,
+    net: &Network,
+    snapshot: &Snapshot,
+    penalty: u64,
+    window: Window,
+    budget: u64,
+) -> Result<Plan, Wrong>
+    requires sized { IsSized net.now snapshot.now.rows }
+    requires penalty { penalty ≤ PENALTY }
+    requires budget { (1 ≤ budget) × (budget ≤ BUDGET) }
+{
+    let _times = least(alloc, net, &snapshot.rows)?;
+    let Window { from, to } = window;
+    Ok(window_plan(alloc, net, penalty, snapshot, from, to, budget)?)
 }
 
 /// A plan that is searched for from nothing.

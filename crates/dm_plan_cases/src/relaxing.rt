@@ -77,10 +77,15 @@ impl Day {
             ActKind::Drive | ActKind::Wait | ActKind::Turnaround => true,
             ActKind::Change => match kept_by(path, line.id) {
                 Some(kept) => kept,
-                None => undecided == Undecided::AsItIs && line.kept,
+                None => self.stands(Choice::Change(line.id), undecided) && line.kept,
             },
             ActKind::Headway => self.headway_binds(line, path, undecided),
         }
+    }
+
+    /// Whether a choice that a path leaves undecided is as the rows have it: all are, or it is not left free.
+    fn stands(&self, choice: Choice, undecided: Undecided) -> bool {
+        undecided == Undecided::AsItIs || !self.leaves_free(choice)
     }
 
     /// A headway without one back always binds. Of a pair, out of a passed event it binds; else where its tail goes first.
@@ -95,7 +100,10 @@ impl Day {
         }
         match first_by(path, tail, head) {
             Some(first) => first == tail,
-            None => undecided == Undecided::AsItIs && pair.first == tail,
+            None => {
+                let choice = Choice::Pair(pair.small, pair.large);
+                pair.first == tail && self.stands(choice, undecided)
+            }
         }
     }
 
@@ -147,7 +155,7 @@ impl Day {
         }
         match kept_by(path, line.id) {
             Some(kept) => !kept,
-            None => undecided == Undecided::AsItIs && !line.kept,
+            None => self.stands(Choice::Change(line.id), undecided) && !line.kept,
         }
     }
 

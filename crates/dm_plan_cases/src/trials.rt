@@ -3,7 +3,7 @@
 use crate::day::Day;
 use crate::every::known;
 use crate::judging::{Known, judge};
-use crate::planning::Standing;
+use crate::planning::{Standing, Window};
 use crate::wrong::Wrong;
 use dm_base::Secs;
 use dm_network::Network;
@@ -14,6 +14,9 @@ use std::alloc::Global;
 
 /// The largest budget.
 const NODES: u64 = 64;
+
+/// Before when no train of a day leaves.
+const FIRST: Secs = 21_600;
 
 /// A day with drawn messages.
 #[derive(Clone, Copy)]
@@ -45,6 +48,10 @@ pub struct Seen {
 
     /// Rows of which all choices were tried.
     pub compared: u32,
+
+    /// Plans of windows, and choices in them.
+    pub windows: u32,
+    pub within: u32,
 }
 
 impl Seen {
@@ -56,6 +63,8 @@ impl Seen {
             pairs: 0,
             dropped: 0,
             compared: 0,
+            windows: 0,
+            within: 0,
         }
     }
 
@@ -76,6 +85,13 @@ impl Seen {
             if *node == Node::Cycle {
                 self.cycles = self.cycles.saturating_add(1);
             }
+        }
+    }
+
+    fn count_window(&mut self, plan: &Plan) {
+        self.windows = self.windows.saturating_add(1);
+        if !plan.choices.as_slice().is_empty() {
+            self.within = self.within.saturating_add(1);
         }
     }
 
@@ -104,6 +120,40 @@ pub fn judge_drawn(
     for part in 0..drawn.parts {
         hear_part(alloc, &mut standing, &mut draws, part, drawn.messages)?;
         judge_plans(alloc, &standing, NODES, seen)?;
+        judge_windows(alloc, &standing, drawn.passed, seen)?;
+    }
+    Ok(())
+}
+
+/// Judges the plans of windows: behind what has passed, in the middle, of the whole day and of nothing.
+fn judge_windows(
+    alloc: Global,
+    standing: &Standing<'_>,
+    passed: Secs,
+    seen: &mut Seen,
+) -> Result<(), Wrong> {
+    for (from, to) in [(0, 1800), (900, 3600), (1800, 86_400), (0, 100_000), (1, 0)] {
+        let from = passed.max(FIRST).saturating_add(from);
+        let to = passed.max(FIRST).saturating_add(to);
+        judge_window(alloc, standing, Window { from, to }, seen)?;
+    }
+    Ok(())
+}
+
+/// Judges the plans of a window with some budgets.
+fn judge_window(
+    alloc: Global,
+    standing: &Standing<'_>,
+    window: Window,
+    seen: &mut Seen,
+) -> Result<(), Wrong> {
+    let mut day = standing.day(alloc)?;
+    day.narrow(alloc, window.from, window.to)?;
+    let known = known(alloc, &day)?;
+    for budget in [1, 3, 8, 31, NODES] {
+        let plan = standing.plan(alloc, Some(window), budget)?;
+        judge(alloc, &day, known, budget, &plan)?;
+        seen.count_window(&plan);
     }
     Ok(())
 }
@@ -162,7 +212,7 @@ fn judge_plan(
     budget: u64,
     seen: &mut Seen,
 ) -> Result<(), Wrong> {
-    let plan = standing.plan(alloc, budget)?;
+    let plan = standing.plan(alloc, None, budget)?;
     judge(alloc, day, known, budget, &plan)?;
     seen.count(&plan);
     Ok(())
