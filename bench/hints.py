@@ -79,7 +79,7 @@ USAGE = [
     Case('no word', [], 2, PAGE),
     Case('help', ['--help'], 2, PAGE),
     Case('short help', ['-h'], 2, PAGE),
-    Case('unknown command', ['runs', 'net', 'f'], 2, ['word 1: "runs" is no command; commands are run, check, gen, follow and journey', LIST]),
+    Case('unknown command', ['runs', 'net', 'f'], 2, ['word 1: "runs" is no command; commands are run, check, gen, follow, rules and journey', LIST]),
     Case('no value', ['run', 'net', '--penalty', 'f'], 2, ['word 3: "--penalty" wants a value, as --penalty=3600', LIST]),
     Case('empty value', [*RUN, '--batch='], 2, ['word 4: --batch wants a value, as --batch=16', LIST]),
     Case('number too small', [*RUN, '--batch=0'], 2, ['word 4: --batch takes 1 to 1000000', LIST]),
@@ -105,7 +105,7 @@ USAGE = [
 TEXTS = [
     Case('another penalty', ['check', 'net', 'text'], 1,
          ['text line 2: the line has not the form that must stand there',
-          'line 2: the text\'s penalty is not the one of this check, which is 3600: give --penalty=10'], text(['--penalty=10'])),
+          'line 2: the text\'s penalty is not the one of these words, which is 3600: give --penalty=10'], text(['--penalty=10'])),
     Case('line ends of Windows', ['check', 'net', 'text'], 1,
          ['text line 1: the line has not the form that must stand there',
           'line 1: the text has the line ends of Windows, CR before LF: a run writes LF alone'],

@@ -56,10 +56,12 @@ const ACTIVITY_DELAYS: u32 = 64;
 
 const CHANGES: u32 = 128;
 
+const WORKERS: u32 = 256;
+
 const FILES: u32 = PENALTY + EVENT_COLUMNS + ACTIVITY_COLUMNS + EVENT_DELAYS + ACTIVITY_DELAYS;
 
 /// All commands.
-pub const COMMANDS: [CommandTable; 5] = [
+pub const COMMANDS: [CommandTable; 6] = [
     CommandTable {
         name: "run",
         form: "run DIR FEED..",
@@ -89,6 +91,13 @@ pub const COMMANDS: [CommandTable; 5] = [
         options: FILES,
     },
     CommandTable {
+        name: "rules",
+        form: "rules DIR TEXT RULE BUDGET",
+        least: 4,
+        most: 4,
+        options: FILES + WORKERS,
+    },
+    CommandTable {
         name: "journey",
         form: "journey DIR TEXT FROM TO AFTER",
         least: 5,
@@ -98,7 +107,7 @@ pub const COMMANDS: [CommandTable; 5] = [
 ];
 
 /// All options.
-pub const OPTIONS: [OptionTable; 8] = [
+pub const OPTIONS: [OptionTable; 9] = [
     OptionTable {
         bit: PENALTY,
         name: "--penalty=",
@@ -170,6 +179,15 @@ pub const OPTIONS: [OptionTable; 8] = [
         most: 8,
         has_number: true,
         meaning: "the most changes of a journey (4)",
+    },
+    OptionTable {
+        bit: WORKERS,
+        name: "--workers=",
+        example: "--workers=1",
+        least: 1,
+        most: 16,
+        has_number: true,
+        meaning: "1 to 16; as yet one searches (1)",
     },
 ];
 

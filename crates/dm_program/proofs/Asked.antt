@@ -2,11 +2,16 @@
 use Rattle.std.proofs.Common.{◌≡◌, ℕ, ◌≤◌, List, [], ◌∷◌, Option, Some, None, Ok, sym, subst, arith}
 use Rattle.dm_base.specs.declared.limits.TheConstants.{PENALTY}
 use Rattle.dm_input.specs.Input.{Told, Opening, OpeningAnswer, IsAnswer}
-use Rattle.dm_words.specs.Queries.{AsksOwn}
+use Rattle.dm_base.specs.declared.limits.TheConstants.{DELAY}
+use Rattle.dm_waitrule.specs.Rules.{KeepsWithin}
+use Rattle.dm_words.specs.declared.queries.RuleWord.{RuleWord}
+use Rattle.dm_words.specs.declared.queries.RuleWord.TheVariants.{Never, Always, AtMost}
+use Rattle.dm_program.specs.Ruled.{rule_named}
+use Rattle.dm_words.specs.Queries.{AsksOwn, IsRule}
 use Rattle.dm_words.specs.Values.{IsNumberOr}
 use Rattle.dm_words.specs.Words.{RunAsked, CheckAsked, GenAsked, QueryAsked, FilesAsked, Command, RunOf, CheckOf, GenOf, QueryOf, Asks}
 use Rattle.dm_words.specs.declared.queries.Query.{Query}
-use Rattle.dm_words.specs.declared.queries.Query.TheVariants.{Follow, Journey}
+use Rattle.dm_words.specs.declared.queries.Query.TheVariants.{Follow, Rules, Journey}
 use Rattle.dm_words.specs.declared.queries.TheConstants.{CHANGES, STANDARD_CHANGES}
 use Rattle.dm_words.specs.declared.command.TheConstants.{BATCH, STANDARD_BATCH}
 use Rattle.dm_words.specs.declared.files.TheConstants.{STANDARD_PENALTY}
@@ -55,8 +60,15 @@ day_within (word ∷ words) asked asks =
       penalty = no_more penalty.value 0 PENALTY STANDARD_PENALTY asked.penalty (omega arith) penalty.is;
     }
 
+rule_within : (word : List ℕ) (rule : RuleWord) → IsRule word rule → KeepsWithin DELAY (rule_named rule)
+rule_within word Never is = tt
+rule_within word Always is = tt
+rule_within word (AtMost seconds) is = is.to
+
 limits_within : (query : Query) (names words : List (List ℕ)) → AsksOwn query names words → IsWithinLimits query
 limits_within Follow names words asks = tt
+limits_within (Rules rules) names words asks =
+    record { limit = rule_within asks.rule rules.rule asks.is_rule; budget = (asks.is_budget.from, asks.is_budget.to) }
 limits_within (Journey journey) names words asks = no_more asks.changes.value 0 CHANGES STANDARD_CHANGES journey.changes (omega arith) asks.changes.is
 
 pub query_within : (words : List (List ℕ)) (asked : QueryAsked) → Asks words (QueryOf asked) → IsQueryWithin asked

@@ -26,16 +26,21 @@ use Rattle.dm_input.specs.Input.{Told, IsHeld}
 use Rattle.dm_input.specs.Stops.{IsKept, IsLong}
 use Rattle.dm_words.specs.Words.{QueryAsked}
 use Rattle.dm_words.specs.declared.queries.Query.{Query}
-use Rattle.dm_words.specs.declared.queries.Query.TheVariants.{Follow, Journey}
+use Rattle.dm_words.specs.declared.queries.Query.TheVariants.{Follow, Rules, Journey}
 use Rattle.dm_words.specs.declared.queries.JourneyWords.{JourneyWords}
+use Rattle.dm_words.specs.declared.queries.RulesWords.{RulesWords}
+use Rattle.dm_waitrule.specs.Compared.{Compares}
+use Rattle.dm_waitrule.specs.declared.comparing.Comparison.{Comparison}
 use Rattle.dm_program.specs.declared.status.Status.{Status}
 use Rattle.dm_program.specs.declared.status.Status.TheVariants.{Ok as Well, Bad}
 use Rattle.dm_program.specs.Answers.{IsBadFor, WantsAll}
 use Rattle.dm_program.specs.Ends.{EndsAs}
 use Rattle.dm_program.specs.Followed.{IsStateOf, state_text}
+use Rattle.dm_ruling.specs.Texts.{comparison_text}
+use Rattle.dm_program.specs.Ruled.{IsComparisonOf, rule_named}
 use Rattle.dm_program.specs.Travelled.{AreJourneysOf, journeys_text, stop_numbered}
 use Rattle.dm_program.specs.Verdicts.{verdict_line}
-use Rattle.dm_program.specs.Inside.Asking.{AreWalksIn, EndsAsked, EndsOnJournal, EndsTravelled, IsWalkIn, kind_of_rule, state_of}
+use Rattle.dm_program.specs.Inside.Asking.{AreWalksIn, EndsAsked, EndsCompared, EndsOnJournal, EndsTravelled, IsWalkIn, kind_of_rule, state_of}
 
 -- ---- followers
 
@@ -77,6 +82,22 @@ module _ (net : Net) (rows : RowsValue) (penalty : ℕ) (bytes : List ℕ) (f : 
         least = subst (λ (x : RowsValue). IsLeast f.table.network x f.table.times) table.replayed table.least;
         journeys = journeys;
         answer = subst (λ (x : RowsValue). AreJourneys f.table.network x f.table.times (stop_numbered asked.from) (stop_numbered asked.to) asked.after asked.changes journeys) table.replayed answer;
+        is_text = refl;
+      }) whole
+
+  -- a comparison over its rows is one over those of the bytes
+  pub comparison_told : (asked : RulesWords) (compared : Comparison) → IsWhole net rows penalty bytes →
+      Compares f.table.network f.table.rows f.table.penalty asked.budget (rule_named asked.rule) compared →
+      IsComparisonOf asked net rows penalty bytes (comparison_text (rule_named asked.rule) compared)
+  comparison_told asked compared whole answer =
+      let table : IsTable f.table = is.follows.table in
+      on_day (λ n r p. IsWhole n r p bytes → IsComparisonOf asked n r p bytes (comparison_text (rule_named asked.rule) compared))
+      (λ all. record {
+        whole = all;
+        history = f.table.history;
+        followed = is.follows.history;
+        compared = compared;
+        answer = subst (λ (x : RowsValue). Compares f.table.network x f.table.penalty asked.budget (rule_named asked.rule) compared) table.replayed answer;
         is_text = refl;
       }) whole
 
@@ -134,6 +155,12 @@ module _ {K : Type 0} (taken : K → Option (List ℕ)) (faults : K → ℕ) (ne
   answers_journeys f asked is whole (inl p) =
       inl (record { status = Well; text = journeys_text f.table.network p.journeys; answers = journeys_told net rows penalty bytes f is asked p.journeys whole p.answer; ends = p.ends })
   answers_journeys f asked is whole (inr short) = inr short
+
+  pub answers_rules : (f : FollowerValue) (asked : RulesWords) → IsFollowerOf net rows penalty bytes f → IsWhole net rows penalty bytes → EndsCompared taken faults asked f.table before now result →
+      EndsOnJournal taken faults (Rules asked) net rows penalty bytes before now result
+  answers_rules f asked is whole (inl p) =
+      inl (record { status = Well; text = comparison_text (rule_named asked.rule) p.compared; answers = comparison_told net rows penalty bytes f is asked p.compared whole p.answer; ends = p.ends })
+  answers_rules f asked is whole (inr short) = inr short
 
 -- ---- texts
 

@@ -13,11 +13,12 @@ use Rattle.dm_follow.specs.declared.faults.FollowKind.TheVariants as rule
 use Rattle.dm_follow.specs.Journals.{TellsJournal, IsFrontFault, unended}
 use Rattle.dm_input.specs.Input.{Told, IsHeld, Opening, OpeningAnswer}
 use Rattle.dm_words.specs.declared.queries.Query.{Query}
-use Rattle.dm_words.specs.declared.queries.Query.TheVariants.{Follow, Journey}
+use Rattle.dm_words.specs.declared.queries.Query.TheVariants.{Follow, Rules, Journey}
 use Rattle.dm_words.specs.Words.{QueryAsked, QueryOf, Asks}
 use Rattle.dm_program.specs.declared.status.Status.{Status}
 use Rattle.dm_program.specs.declared.status.Status.TheVariants.{Ok as Well, Bad, Refused}
 use Rattle.dm_program.specs.Followed.{IsStateOf}
+use Rattle.dm_program.specs.Ruled.{IsComparisonOf}
 use Rattle.dm_program.specs.Travelled.{AreJourneysOf}
 use Rattle.dm_program.specs.Verdicts.{verdict_line}
 
@@ -26,6 +27,7 @@ use Rattle.dm_program.specs.Verdicts.{verdict_line}
 -- the question is of the last entry that the header tells: it wants all lines of the journal whole
 abbrev pub WantsAll : Query → Type 0
 WantsAll Follow = ⊥
+WantsAll (Rules asked) = Unit {0}
 WantsAll (Journey asked) = Unit {0}
 
 -- This line of the journal is the first that breaks its rule; or, where the question wants all lines, the first that is not whole,
@@ -48,11 +50,13 @@ pub record TellsBad (query : Query) (net : Net) (start : RowsValue) (penalty : �
 -- the text answers the question
 abbrev pub Answers : Query → Net → RowsValue → ℕ → List ℕ → List ℕ → Type 0
 Answers Follow = IsStateOf
+Answers (Rules asked) = IsComparisonOf asked
 Answers (Journey asked) = AreJourneysOf asked
 
--- the text refuses the question, of a journal that is whole; of the state and of journeys nothing is refused
+-- the text refuses the question, of a journal that is whole; of the state, of rules and of journeys nothing is refused
 abbrev pub Declines : Query → Net → RowsValue → ℕ → List ℕ → List ℕ → Type 0
 Declines Follow net start penalty bytes text = ⊥
+Declines (Rules asked) net start penalty bytes text = ⊥
 Declines (Journey asked) net start penalty bytes text = ⊥
 
 -- the text that is due to a question, at a status

@@ -5,6 +5,7 @@ pub mod Generated
 pub mod Verdicts
 pub mod Checked
 pub mod Followed
+pub mod Ruled
 pub mod Travelled
 pub mod Answers
 pub mod Boards

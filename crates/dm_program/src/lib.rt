@@ -68,6 +68,7 @@ mod journey;
 mod planner;
 mod print;
 mod queries;
+mod ruling;
 mod run;
 mod status;
 mod top;

@@ -12,6 +12,7 @@ ghost use Rattle.dm_program.specs.Inside.Stages.{IsAtStart, IsWithinLimits};
 use crate::ends::{end_broken, end_long_text, end_stopped, end_torn, end_unread_text};
 use crate::follow::end_state;
 use crate::journey::end_journeys;
+use crate::ruling::end_rules;
 use crate::status::Status;
 use dm_input::{Opened, read_opening};
 use dm_journal::{Journal, read_journal};
@@ -86,10 +87,12 @@ fn answer_journal<K: Sink>(
         Journal::Torn(line, follower) => match query {
             Query::Follow => end_state(follower, out),
             Query::Journey(_) => end_torn(*line, out),
+            Query::Rules(_) => end_torn(*line, out),
         },
         Journal::Whole(follower) => match query {
             Query::Follow => end_state(follower, out),
             Query::Journey(asked) => end_journeys(alloc, follower.table(), asked, out),
+            Query::Rules(asked) => end_rules(alloc, follower.table(), asked, out),
         },
     }
 }

@@ -17,7 +17,8 @@ rule_word (AtMost seconds) = decimal seconds
 -- the rule, what the rows cost with its choices, and how many these are
 unfoldable pub rule_text : WaitRule → Comparison → List ℕ
 rule_text rule compared =
-    joined (codes "rule " ∷ rule_word rule ∷ codes " cost " ∷ decimal compared.cost ∷ codes " choices " ∷ decimal (length compared.choices) ∷ line_end ∷ [])
+    joined (codes "rule " ∷ rule_word rule ∷ codes " cost " ∷ decimal compared.cost ∷ codes " choices "
+    ∷ decimal (length compared.choices) ∷ line_end ∷ [])
 
 -- the plan, and by how much the rule's cost is above its bound
 unfoldable pub gap_text : Comparison → List ℕ

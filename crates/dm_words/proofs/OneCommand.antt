@@ -1,18 +1,22 @@
 -- Words ask for one thing at most.
-use Rattle.std.proofs.Common.{codes, eqb, eq-eqb, get_or, true, false, ◌≡◌, ℕ, List, [], ◌∷◌, Option, Some, None, Result, Ok, refl, sym, ap, subst, ◌∙◌}
+use Rattle.std.proofs.Common.{◌<◌, arith, codes, eqb, eq-eqb, get_or, true, false, ◌≡◌, ℕ, List, [], ◌∷◌, Option, Some, None, Result, Ok, refl, sym, ap, subst, ◌∙◌}
+use Rattle.std.specs.Char.{IsAsciiDigit}
 use Rattle.dm_lintim.specs.Columns.{FileColumns, ReadsFileColumns}
 use Rattle.dm_lintim.specs.declared.columns.ColumnFault.{ColumnFault}
 use Rattle.dm_lintim.proofs.WordLemmas.{columns_one}
-use Rattle.dm_words.specs.Options.{GivesOption, penalty_option, batch_option, boards_option, event_columns_option, activity_columns_option, event_delays_option, activity_delays_option, changes_option}
+use Rattle.dm_words.specs.Options.{GivesOption, penalty_option, batch_option, boards_option, event_columns_option, activity_columns_option, event_delays_option, activity_delays_option, changes_option, workers_option}
 use Rattle.dm_words.specs.Stops.{AreBoards}
 use Rattle.dm_words.specs.Values.{IsNumber, IsNumberOr}
 use Rattle.dm_words.specs.Words.{Command, FilesAsked, RunAsked, CheckAsked, GenAsked, QueryAsked, RunOf, CheckOf, GenOf, QueryOf, Asks, AsksFiles, AsksRun, AsksCheck, AsksGen, AsksQuery, IsPenalty, IsBatch, HasBoards, event_words, activity_words}
-use Rattle.dm_words.specs.Queries.{AsksJourney, AsksOwn, HasChanges, kind_of, word_of}
+use Rattle.dm_words.specs.Queries.{AsksJourney, AsksOwn, AsksRules, HasChanges, HasWorkers, IsRule, kind_of, word_of}
 use Rattle.dm_words.specs.declared.options.QueryKind.{QueryKind}
 use Rattle.dm_words.specs.declared.options.QueryKind.TheVariants as kind
 use Rattle.dm_words.specs.declared.queries.JourneyWords.{JourneyWords}
+use Rattle.dm_words.specs.declared.queries.RulesWords.{RulesWords}
+use Rattle.dm_words.specs.declared.queries.RuleWord.{RuleWord}
+use Rattle.dm_words.specs.declared.queries.RuleWord.TheVariants.{Never, Always, AtMost}
 use Rattle.dm_words.specs.declared.queries.Query.{Query}
-use Rattle.dm_words.specs.declared.queries.Query.TheVariants.{Follow, Journey}
+use Rattle.dm_words.specs.declared.queries.Query.TheVariants.{Follow, Rules, Journey}
 use Rattle.dm_words.proofs.Stopping.{spell_one}
 
 given_one : (option : List ℕ) (words : List (List ℕ)) (a b : Option (List ℕ)) → GivesOption option words a → GivesOption option words b → a ≡ b
@@ -118,6 +122,20 @@ gen_one words x y p q =
     (number_one q.trains _ _ x.trains y.trains (subst (λ (t : List ℕ). IsNumber t _ _ x.trains) trains p.are_trains) q.are_trains)
     (penalty_one words x.penalty y.penalty p.penalty q.penalty)
 
+-- words that begin otherwise are not one word
+pub differ : (a b word : List ℕ) → word ≡ a → word ≡ b → eqb (get_or a 0 0) (get_or b 0 0) ≡ false → ⊥
+differ a b word p q other =
+    let same : get_or a 0 0 ≡ get_or b 0 0 = ap (λ (w : List ℕ). get_or w 0 0) (sym p ∙ q) in
+    let both : false ≡ true = sym other ∙ eq-eqb (get_or a 0 0) (get_or b 0 0) same in
+    cc
+
+-- nor are words that differ in a later letter
+differ_later : (k : ℕ) (a b word : List ℕ) → word ≡ a → word ≡ b → eqb (get_or a k 0) (get_or b k 0) ≡ false → ⊥
+differ_later k a b word p q other =
+    let same : get_or a k 0 ≡ get_or b k 0 = ap (λ (w : List ℕ). get_or w k 0) (sym p ∙ q) in
+    let both : false ≡ true = sym other ∙ eq-eqb (get_or a k 0) (get_or b k 0) same in
+    cc
+
 -- ---- questions to a journal
 
 changes_one : (words : List (List ℕ)) (a b : ℕ) → HasChanges words a → HasChanges words b → a ≡ b
@@ -149,12 +167,54 @@ journey_one names words x y p q =
     (number_one q.after _ _ x.after y.after (subst (λ (t : List ℕ). IsNumber t _ _ x.after) after p.is_after) q.is_after)
     (changes_one words x.changes y.changes p.changes q.changes)
 
+workers_one : (words : List (List ℕ)) (a b : ℕ) → HasWorkers words a → HasWorkers words b → a ≡ b
+workers_one words a b p q =
+    let same = given_one workers_option words p.value q.value p.given q.given in
+    number_or_one q.value _ _ _ a b (subst (λ (v : Option (List ℕ)). IsNumberOr v _ _ _ a) same p.is) q.is
+
+-- no number is spelled by a letter
+no_number : (word : List ℕ) (least most n letter : ℕ) (letters : List ℕ) → word ≡ letter ∷ letters → 57 < letter → IsNumber word least most n → ⊥
+no_number word least most n letter letters is above number =
+    let spelled : IsNumber (letter ∷ letters) least most n = subst (λ (w : List ℕ). IsNumber w least most n) is number in
+    let digit : IsAsciiDigit letter = spelled.digits.digits 0 letter (omega arith) in
+    omega (arith, digit)
+
+rule_one : (word : List ℕ) (x y : RuleWord) → IsRule word x → IsRule word y → x ≡ y
+rule_one word Never Never p q = refl
+rule_one word Always Always p q = refl
+rule_one word (AtMost k) (AtMost l) p q = ap AtMost (number_one word _ _ k l p q)
+rule_one word Never Always p q = absurd (differ (codes "never") (codes "always") word p q refl)
+rule_one word Always Never p q = absurd (differ (codes "always") (codes "never") word p q refl)
+rule_one word Never (AtMost l) p q = absurd (no_number word _ _ l 110 (codes "ever") p (omega arith) q)
+rule_one word (AtMost k) Never p q = absurd (no_number word _ _ k 110 (codes "ever") q (omega arith) p)
+rule_one word Always (AtMost l) p q = absurd (no_number word _ _ l 97 (codes "lways") p (omega arith) q)
+rule_one word (AtMost k) Always p q = absurd (no_number word _ _ k 97 (codes "lways") q (omega arith) p)
+
+rules_are : (x y : RulesWords) → x.rule ≡ y.rule → x.budget ≡ y.budget → x.workers ≡ y.workers → x ≡ y
+rules_are x y rule budget workers =
+    ap (λ v. record x { rule = v }) rule
+    ∙ (ap (λ v. record x { rule = y.rule; budget = v }) budget ∙ ap (λ v. record y { workers = v }) workers)
+
+rules_one : (names words : List (List ℕ)) (x y : RulesWords) → AsksRules x names words → AsksRules y names words → x ≡ y
+rules_one names words x y p q =
+    let same = sym p.are_names ∙ q.are_names in
+    let rule = first_name p.rule q.rule (p.budget ∷ []) (q.budget ∷ []) same in
+    let budget = second_name p.rule p.budget q.rule q.budget same in
+    rules_are x y (rule_one q.rule x.rule y.rule (subst (λ (t : List ℕ). IsRule t x.rule) rule p.is_rule) q.is_rule)
+    (number_one q.budget _ _ x.budget y.budget (subst (λ (t : List ℕ). IsNumber t _ _ x.budget) budget p.is_budget) q.is_budget)
+    (workers_one words x.workers y.workers p.workers q.workers)
+
 -- each kind of question is asked in one way
 own_one : (names words : List (List ℕ)) (x y : Query) → kind_of x ≡ kind_of y → AsksOwn x names words → AsksOwn y names words → x ≡ y
 own_one names words Follow Follow same p q = refl
+own_one names words (Rules x) (Rules y) same p q = ap Rules (rules_one names words x y p q)
 own_one names words (Journey x) (Journey y) same p q = ap Journey (journey_one names words x y p q)
 own_one names words Follow (Journey y) same p q = absurd cc
 own_one names words (Journey x) Follow same p q = absurd cc
+own_one names words Follow (Rules y) same p q = absurd cc
+own_one names words (Rules x) Follow same p q = absurd cc
+own_one names words (Rules x) (Journey y) same p q = absurd cc
+own_one names words (Journey x) (Rules y) same p q = absurd cc
 
 query_is : (x y : QueryAsked) → x.files ≡ y.files → x.text ≡ y.text → x.query ≡ y.query → x ≡ y
 query_is x y files text query =
@@ -170,30 +230,31 @@ query_one words x y kind p q =
     (first_name x.text y.text p.own q.own behind)
     (own_one q.own words x.query y.query kind (subst (λ (l : List (List ℕ)). AsksOwn x.query l words) own p.says) q.says)
 
--- words that begin otherwise are not one word
-pub differ : (a b word : List ℕ) → word ≡ a → word ≡ b → eqb (get_or a 0 0) (get_or b 0 0) ≡ false → ⊥
-differ a b word p q other =
-    let same : get_or a 0 0 ≡ get_or b 0 0 = ap (λ (w : List ℕ). get_or w 0 0) (sym p ∙ q) in
-    let both : false ≡ true = sym other ∙ eq-eqb (get_or a 0 0) (get_or b 0 0) same in
-    cc
-
 -- a question is asked by a word of its own
 word_one : (x y : QueryKind) → word_of x ≡ word_of y → x ≡ y
 word_one kind.Follow kind.Follow is = refl
 word_one kind.Journey kind.Journey is = refl
+word_one kind.Rules kind.Rules is = refl
+word_one kind.Follow kind.Rules is = absurd (differ (codes "follow") (codes "rules") (codes "follow") refl is refl)
+word_one kind.Rules kind.Follow is = absurd (differ (codes "rules") (codes "follow") (codes "rules") refl is refl)
+word_one kind.Rules kind.Journey is = absurd (differ (codes "rules") (codes "journey") (codes "rules") refl is refl)
+word_one kind.Journey kind.Rules is = absurd (differ (codes "journey") (codes "rules") (codes "journey") refl is refl)
 word_one kind.Follow kind.Journey is = absurd (differ (codes "follow") (codes "journey") (codes "follow") refl is refl)
 word_one kind.Journey kind.Follow is = absurd (differ (codes "journey") (codes "follow") (codes "journey") refl is refl)
 
 pub no_word_run : (k : QueryKind) (word : List ℕ) → word ≡ word_of k → word ≡ codes "run" → ⊥
 no_word_run kind.Follow word p q = differ (codes "follow") (codes "run") word p q refl
+no_word_run kind.Rules word p q = differ_later 2 (codes "rules") (codes "run") word p q refl
 no_word_run kind.Journey word p q = differ (codes "journey") (codes "run") word p q refl
 
 pub no_word_check : (k : QueryKind) (word : List ℕ) → word ≡ word_of k → word ≡ codes "check" → ⊥
 no_word_check kind.Follow word p q = differ (codes "follow") (codes "check") word p q refl
+no_word_check kind.Rules word p q = differ (codes "rules") (codes "check") word p q refl
 no_word_check kind.Journey word p q = differ (codes "journey") (codes "check") word p q refl
 
 pub no_word_gen : (k : QueryKind) (word : List ℕ) → word ≡ word_of k → word ≡ codes "gen" → ⊥
 no_word_gen kind.Follow word p q = differ (codes "follow") (codes "gen") word p q refl
+no_word_gen kind.Rules word p q = differ (codes "rules") (codes "gen") word p q refl
 no_word_gen kind.Journey word p q = differ (codes "journey") (codes "gen") word p q refl
 
 pub one_command : (words : List (List ℕ)) (x y : Command) → Asks words x → Asks words y → x ≡ y

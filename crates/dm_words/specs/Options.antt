@@ -7,7 +7,7 @@ use Rattle.std.specs.List.{filter_map, list_any}
 use Rattle.std.specs.Str.{bytes_eq}
 use Rattle.dm_words.specs.declared.options.Kind.{Kind}
 use Rattle.dm_words.specs.declared.options.Kind.TheVariants.{Run, Check, Gen, Query}
-use Rattle.dm_words.specs.declared.options.QueryKind.TheVariants.{Follow, Journey}
+use Rattle.dm_words.specs.declared.options.QueryKind.TheVariants.{Follow, Rules, Journey}
 
 -- how the word of each option begins
 abbrev pub penalty_option : List ℕ
@@ -34,6 +34,9 @@ boards_option = codes "--boards="
 abbrev pub changes_option : List ℕ
 changes_option = codes "--changes="
 
+abbrev pub workers_option : List ℕ
+workers_option = codes "--workers="
+
 -- the options of the files of a folder
 abbrev pub file_options : List (List ℕ)
 file_options =
@@ -45,6 +48,7 @@ options_of Run = batch_option ∷ boards_option ∷ file_options
 options_of Check = file_options
 options_of Gen = penalty_option ∷ []
 options_of (Query Follow) = file_options
+options_of (Query Rules) = workers_option ∷ file_options
 options_of (Query Journey) = changes_option ∷ file_options
 
 -- what stands behind the text, where the word begins with it

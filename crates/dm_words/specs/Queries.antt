@@ -1,23 +1,50 @@
--- What words may ask of the journal of a text: `follow DIR TEXT` or `journey DIR TEXT FROM TO AFTER`.
+-- What words may ask of the journal of a text: `follow DIR TEXT`, `rules DIR TEXT RULE BUDGET` or
+-- `journey DIR TEXT FROM TO AFTER`.
 use Rattle.std.specs.Prelude.{ℕ, ◌≡◌, List, [], ◌∷◌, Option, codes}
-use Rattle.dm_base.specs.declared.limits.TheConstants.{PASSED_TIME}
-use Rattle.dm_words.specs.Options.{GivesOption, changes_option}
+use Rattle.dm_base.specs.declared.limits.TheConstants.{BUDGET, PASSED_TIME}
+use Rattle.dm_words.specs.Options.{GivesOption, changes_option, workers_option}
 use Rattle.dm_words.specs.Values.{IsNumber, IsNumberOr}
 use Rattle.dm_words.specs.declared.options.QueryKind.{QueryKind}
 use Rattle.dm_words.specs.declared.options.QueryKind.TheVariants as kind
 use Rattle.dm_words.specs.declared.queries.JourneyWords.{JourneyWords}
 use Rattle.dm_words.specs.declared.queries.Query.{Query}
-use Rattle.dm_words.specs.declared.queries.Query.TheVariants.{Follow, Journey}
-use Rattle.dm_words.specs.declared.queries.TheConstants.{CHANGES, LARGEST_STOP, STANDARD_CHANGES}
+use Rattle.dm_words.specs.declared.queries.RulesWords.{RulesWords}
+use Rattle.dm_words.specs.declared.queries.RuleWord.{RuleWord}
+use Rattle.dm_words.specs.declared.queries.RuleWord.TheVariants.{Never, Always, AtMost}
+use Rattle.dm_words.specs.declared.queries.Query.TheVariants.{Follow, Rules, Journey}
+use Rattle.dm_words.specs.declared.queries.TheConstants.{CHANGES, LARGEST_STOP, LONGEST_WAIT, STANDARD_CHANGES, STANDARD_WORKERS, WORKERS}
 
 abbrev pub kind_of : Query → QueryKind
 kind_of Follow = kind.Follow
+kind_of (Rules rules) = kind.Rules
 kind_of (Journey journey) = kind.Journey
 
 -- the command word
 abbrev pub word_of : QueryKind → List ℕ
 word_of kind.Follow = codes "follow"
+word_of kind.Rules = codes "rules"
 word_of kind.Journey = codes "journey"
+
+-- the word of a waiting rule
+abbrev pub IsRule : List ℕ → RuleWord → Type 0
+IsRule word Never = word ≡ codes "never"
+IsRule word Always = word ≡ codes "always"
+IsRule word (AtMost seconds) = IsNumber word 0 LONGEST_WAIT seconds
+
+-- how many workers search
+pub record HasWorkers (words : List (List ℕ)) (workers : ℕ) : Type 0 where
+  pub value : Option (List ℕ)
+  pub given : GivesOption workers_option words value
+  pub is : IsNumberOr value 1 WORKERS STANDARD_WORKERS workers
+
+-- the names are a rule and a budget, and the words give the workers
+pub record AsksRules (rules : RulesWords) (names words : List (List ℕ)) : Type 0 where
+  pub rule : List ℕ
+  pub budget : List ℕ
+  pub are_names : names ≡ rule ∷ budget ∷ []
+  pub is_rule : IsRule rule rules.rule
+  pub is_budget : IsNumber budget 1 BUDGET rules.budget
+  pub workers : HasWorkers words rules.workers
 
 -- the most changes of a journey
 pub record HasChanges (words : List (List ℕ)) (changes : ℕ) : Type 0 where
@@ -39,4 +66,5 @@ pub record AsksJourney (journey : JourneyWords) (names words : List (List ℕ)) 
 -- what the names behind the folder and the text, and the options among the words, ask of the journal
 abbrev pub AsksOwn : Query → List (List ℕ) → List (List ℕ) → Type 0
 AsksOwn Follow names words = names ≡ []
+AsksOwn (Rules rules) names words = AsksRules rules names words
 AsksOwn (Journey journey) names words = AsksJourney journey names words

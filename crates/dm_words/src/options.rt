@@ -22,10 +22,13 @@ pub const BOARDS_OPTION: &str = "--boards=";
 
 pub const CHANGES_OPTION: &str = "--changes=";
 
+pub const WORKERS_OPTION: &str = "--workers=";
+
 /// A question to the journal of a text.
 #[derive(Clone, Copy, PartialEq, Eq, Debug)]
 pub enum QueryKind {
     Follow,
+    Rules,
     Journey,
 }
 
@@ -77,6 +80,9 @@ fn is_option(kind: Kind, word: &str) -> bool
         }
         Kind::Check | Kind::Query(QueryKind::Follow) => is_file_option(word),
         Kind::Gen => behind(PENALTY_OPTION, word).is_some(),
+        Kind::Query(QueryKind::Rules) => {
+            behind(WORKERS_OPTION, word).is_some() || is_file_option(word)
+        }
         Kind::Query(QueryKind::Journey) => {
             behind(CHANGES_OPTION, word).is_some() || is_file_option(word)
         }

@@ -2,12 +2,15 @@
 ghost use Rattle.std.specs.Prelude.{ℕ, ◌≡◌, List, map, filter, string_bytes, MatchOption};
 ghost use Rattle.dm_words.specs.Asked.{query_of};
 ghost use Rattle.dm_words.specs.Options.{is_name};
-ghost use Rattle.dm_words.specs.Queries.{AsksJourney, AsksOwn, HasChanges, kind_of, word_of};
+ghost use Rattle.dm_words.specs.Queries.{AsksJourney, AsksOwn, AsksRules, HasChanges, HasWorkers, IsRule, kind_of, word_of};
 ghost use Rattle.dm_words.specs.Words.{AsksQuery, QueryAsked};
 
 use crate::files::{FileWords, number_of, number_or, read_files};
-use crate::options::{CHANGES_OPTION, Kind, QueryKind, are_known, given, next_name, three_names};
-use dm_base::limits::PASSED_TIME;
+use crate::options::{
+    CHANGES_OPTION, Kind, QueryKind, WORKERS_OPTION, are_known, given, next_name, three_names,
+    two_names,
+};
+use dm_base::limits::{BUDGET, PASSED_TIME};
 
 /// The most changes of a journey, and how many where the words do not say it.
 pub const CHANGES: u64 = 8;
@@ -16,6 +19,36 @@ pub const STANDARD_CHANGES: u64 = 4;
 
 /// The largest number of a stop.
 pub const LARGEST_STOP: u64 = 4_294_967_295;
+
+/// The longest wait of a rule, in seconds.
+pub const LONGEST_WAIT: u64 = 1_000_000;
+
+/// The most workers, and how many where the words do not say it.
+pub const WORKERS: u64 = 16;
+
+pub const STANDARD_WORKERS: u64 = 1;
+
+/// How long the heads of changes wait.
+#[derive(Clone, Copy, PartialEq, Eq, Debug)]
+pub enum RuleWord {
+    Never,
+    Always,
+
+    /// So many seconds, at most `LONGEST_WAIT`.
+    AtMost(u64),
+}
+
+/// A waiting rule, set beside a plan.
+#[derive(Clone, Copy, PartialEq, Eq, Debug)]
+pub struct RulesWords {
+    pub rule: RuleWord,
+
+    /// The most nodes of the plan's tree, from 1 to `BUDGET`.
+    pub budget: u64,
+
+    /// How many workers search, from 1 to 16.
+    pub workers: u32,
+}
 
 /// A journey from one stop to another.
 #[derive(Clone, Copy, PartialEq, Eq, Debug)]
@@ -35,6 +68,9 @@ pub struct JourneyWords {
 pub enum Query {
     /// The timetable after the entries that the text carries.
     Follow,
+
+    /// What a waiting rule chooses after the last entry, beside a plan.
+    Rules(RulesWords),
 
     /// How a passenger travels in the timetable after the last entry.
     Journey(JourneyWords),
@@ -57,10 +93,63 @@ pub fn kind_of_word(command: &str) -> Option<QueryKind>
     if command == "follow" {
         return Some(QueryKind::Follow);
     }
+    if command == "rules" {
+        return Some(QueryKind::Rules);
+    }
     if command == "journey" {
         return Some(QueryKind::Journey);
     }
     None
+}
+
+/// The waiting rule of a word.
+fn rule_of(word: &str) -> Option<RuleWord>
+    ensures { MatchOption result ((rule : _) → IsRule word.now rule → ⊥) (λ rule. IsRule word.now rule) }
+{
+    if word == "never" {
+        return Some(RuleWord::Never);
+    }
+    if word == "always" {
+        return Some(RuleWord::Always);
+    }
+    match number_of(word, 0, LONGEST_WAIT) {
+        Some(seconds) => Some(RuleWord::AtMost(seconds)),
+        None => None,
+    }
+}
+
+/// How many workers search.
+fn workers_of(words: &[String]) -> Option<u64>
+    ensures { MatchOption result ((n : ℕ) → HasWorkers (map string_bytes words.now) n → ⊥) (λ n. HasWorkers (map string_bytes words.now) n) }
+{
+    let Some(workers) = given(WORKERS_OPTION, words) else {
+        return None;
+    };
+    number_or(workers, 1, WORKERS, STANDARD_WORKERS)
+}
+
+/// The rule and the plan that the names behind a text, and the options among the words, ask for.
+fn read_rules(names: &[String], words: &[String]) -> Option<RulesWords>
+    ensures { MatchOption result ((rules : _) → AsksRules rules (filter is_name (map string_bytes names.now)) (map string_bytes words.now) → ⊥)
+        (λ rules. AsksRules rules (filter is_name (map string_bytes names.now)) (map string_bytes words.now)) }
+{
+    let Some((rule, budget)) = two_names(names) else {
+        return None;
+    };
+    let Some(rule) = rule_of(rule) else {
+        return None;
+    };
+    let Some(budget) = number_of(budget, 1, BUDGET) else {
+        return None;
+    };
+    let Some(workers) = workers_of(words) else {
+        return None;
+    };
+    Some(RulesWords {
+        rule,
+        budget,
+        workers: workers as u32,
+    })
 }
 
 /// The most changes of a journey.
@@ -110,6 +199,10 @@ fn read_own(kind: QueryKind, names: &[String], words: &[String]) -> Option<Query
         QueryKind::Follow => match next_name(names) {
             Some(_) => None,
             None => Some(Query::Follow),
+        },
+        QueryKind::Rules => match read_rules(names, words) {
+            Some(rules) => Some(Query::Rules(rules)),
+            None => None,
         },
         QueryKind::Journey => match read_journey(names, words) {
             Some(journey) => Some(Query::Journey(journey)),

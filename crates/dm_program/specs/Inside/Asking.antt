@@ -18,11 +18,16 @@ use Rattle.dm_input.specs.Stops.{IsLong}
 use Rattle.dm_words.specs.Words.{QueryAsked}
 use Rattle.dm_words.specs.declared.queries.Query.{Query}
 use Rattle.dm_words.specs.declared.queries.JourneyWords.{JourneyWords}
+use Rattle.dm_words.specs.declared.queries.RulesWords.{RulesWords}
+use Rattle.dm_waitrule.specs.Compared.{Compares}
+use Rattle.dm_waitrule.specs.declared.comparing.Comparison.{Comparison}
 use Rattle.dm_program.specs.declared.status.Status.{Status}
 use Rattle.dm_program.specs.declared.status.Status.TheVariants.{Ok as Well, Refused, ReadFault, NoMemory}
 use Rattle.dm_program.specs.Answers.{IsAnswerAt}
 use Rattle.dm_program.specs.Ends.{EndsAs}
 use Rattle.dm_program.specs.Followed.{state_text}
+use Rattle.dm_ruling.specs.Texts.{comparison_text}
+use Rattle.dm_program.specs.Ruled.{rule_named}
 use Rattle.dm_program.specs.Travelled.{journeys_text, stop_numbered}
 use Rattle.dm_program.specs.Verdicts.{long_text_line, unread_text_line}
 use Rattle.dm_program.specs.Inside.Checking.{EndsAtFiles}
@@ -58,6 +63,16 @@ pub record PrintsJourneys {K : Type 0} (taken : K → Option (List ℕ)) (faults
 
 abbrev pub EndsTravelled : {K : Type 0} → (K → Option (List ℕ)) → (K → ℕ) → JourneyWords → TableValue → K → K → Status → Type 0
 EndsTravelled taken faults asked table before now result = PrintsJourneys taken faults asked table before now result ⊎ ((now ≡ before) × (result ≡ NoMemory))
+
+-- a comparison that answers the question was printed, or there was not enough memory
+pub record PrintsComparison {K : Type 0} (taken : K → Option (List ℕ)) (faults : K → ℕ) (asked : RulesWords) (table : TableValue) (before now : K) (result : Status) : Type 0 where
+  pub is_table : IsTable table
+  pub compared : Comparison
+  pub answer : Compares table.network table.rows table.penalty asked.budget (rule_named asked.rule) compared
+  pub ends : EndsAs taken faults before now (comparison_text (rule_named asked.rule) compared) Well result
+
+abbrev pub EndsCompared : {K : Type 0} → (K → Option (List ℕ)) → (K → ℕ) → RulesWords → TableValue → K → K → Status → Type 0
+EndsCompared taken faults asked table before now result = PrintsComparison taken faults asked table before now result ⊎ ((now ≡ before) × (result ≡ NoMemory))
 
 -- a text that is due to the question was printed, at its status
 pub record PrintsAnswer {K : Type 0} (taken : K → Option (List ℕ)) (faults : K → ℕ) (asked : Query) (net : Net) (rows : RowsValue) (penalty : ℕ) (bytes : List ℕ) (before now : K) (result : Status) : Type 0 where

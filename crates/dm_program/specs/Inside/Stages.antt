@@ -1,12 +1,14 @@
 -- Stages of a run.
 use Rattle.std.specs.Prelude.{ℕ, ◌≡◌, ◌^◌, ◌<◌, ◌≤◌, List, length, slice_get, Option, Some, None}
-use Rattle.dm_base.specs.declared.limits.TheConstants.{FEEDS, PENALTY}
+use Rattle.dm_base.specs.declared.limits.TheConstants.{BUDGET, DELAY, FEEDS, PENALTY}
 use Rattle.dm_base.specs.declared.rows.DelayRow.{DelayRow}
 use Rattle.dm_input.specs.Input.{Told, IsHeld}
 use Rattle.dm_input.specs.Lines.{refused_line, read_fault_line}
 use Rattle.dm_words.specs.Words.{RunAsked, QueryAsked, FilesAsked, Command, RunOf, CheckOf, GenOf, QueryOf}
 use Rattle.dm_words.specs.declared.queries.Query.{Query}
-use Rattle.dm_words.specs.declared.queries.Query.TheVariants.{Follow, Journey}
+use Rattle.dm_words.specs.declared.queries.RulesWords.{RulesWords}
+use Rattle.dm_waitrule.specs.Rules.{KeepsWithin}
+use Rattle.dm_words.specs.declared.queries.Query.TheVariants.{Follow, Rules, Journey}
 use Rattle.dm_input.specs.declared.flaws.InputStop.{InputStop}
 use Rattle.dm_input.specs.declared.flaws.InputStop.TheVariants.{Refused, ReadFault, NoMemory}
 use Rattle.dm_network.specs.Net.{Net}
@@ -19,6 +21,7 @@ use Rattle.dm_table.specs.Value.{TableValue}
 use Rattle.dm_program.specs.declared.status.Status.{Status}
 use Rattle.dm_program.specs.declared.status.Status.TheVariants.{Refused as IsRefused, ReadFault as IsReadFault, NoMemory as WantsMore}
 use Rattle.dm_program.specs.Ends.{EndsAs}
+use Rattle.dm_program.specs.Ruled.{rule_named}
 use Rattle.dm_program.specs.Inside.Generating.{IsDayWithin}
 
 -- the rows are those at the start, of some delays
@@ -37,9 +40,15 @@ pub record AreWithin (asked : RunAsked) : Type 0 where
   pub some_lines : 0 < asked.batch
   pub few_lines : asked.batch < 2 ^ 32
 
+-- the numbers of a rule and of the plan beside it
+pub record AreRulesWithin (asked : RulesWords) : Type 0 where
+  pub limit : KeepsWithin DELAY (rule_named asked.rule)
+  pub budget : (1 ≤ asked.budget) × (asked.budget ≤ BUDGET)
+
 -- the numbers of a question to a journal
 abbrev pub IsWithinLimits : Query → Type 0
 IsWithinLimits Follow = Unit {0}
+IsWithinLimits (Rules asked) = AreRulesWithin asked
 IsWithinLimits (Journey asked) = asked.changes ≤ 8
 
 pub record IsQueryWithin (asked : QueryAsked) : Type 0 where

@@ -3,8 +3,8 @@ use Rattle.dm_table.specs.Value.{TableValue}
 use Rattle.dm_journal.specs.declared.giving.Journal.{Journal as AJournal}
 use Rattle.dm_journal.specs.Journals.{IsJournal}
 use Rattle.dm_words.specs.declared.queries.Query.{Query}
-use Rattle.dm_program.specs.Inside.Asking.{EndsOnJournal, EndsTravelled}
-use Rattle.dm_program.proofs.Questions.{answers_journeys, answers_state, answers_torn}
+use Rattle.dm_program.specs.Inside.Asking.{EndsCompared, EndsOnJournal, EndsTravelled}
+use Rattle.dm_program.proofs.Questions.{answers_journeys, answers_rules, answers_state, answers_torn}
 use Rattle.dm_program.proofs.queries.answer_journal.Goals as goal
 
 pub returns-in-Follow-clause-ends : goal.returns-in-Follow-clause-ends
@@ -31,3 +31,16 @@ returns-in-Journey-query-clause-ends g c = λ net rows penalty bytes is.
     let ends = subst (λ (t : TableValue). EndsTravelled g.K.Sink.taken g.K.Sink.faults c.in-Journey-query.asked t c.args.out.now c.end_journeys.new.out c.end_journeys.result) c.table.ensures c.end_journeys.ensures.ends in
     subst (λ (q : Query). EndsOnJournal g.K.Sink.taken g.K.Sink.faults q net rows penalty bytes c.args.out.now c.end_journeys.new.out c.end_journeys.result) (sym c.in-Journey-query.is)
     (answers_journeys g.K.Sink.taken g.K.Sink.faults net rows penalty bytes c.args.out.now c.end_journeys.new.out c.end_journeys.result c.in-Whole.follower c.in-Journey-query.asked there.0 there.1 ends)
+
+pub returns-in-Rules-clause-ends : goal.returns-in-Rules-clause-ends
+returns-in-Rules-clause-ends g c = λ net rows penalty bytes is.
+    let there = subst (λ (j : AJournal). IsJournal net rows penalty bytes j) c.in-Torn.is is in
+    subst (λ (q : Query). EndsOnJournal g.K.Sink.taken g.K.Sink.faults q net rows penalty bytes c.args.out.now c.end_torn-in-Rules.new.out c.end_torn-in-Rules.result) (sym c.in-Rules.is)
+    (answers_torn g.K.Sink.taken g.K.Sink.faults net rows penalty bytes c.args.out.now c.end_torn-in-Rules.new.out c.end_torn-in-Rules.result _ c.in-Torn.line tt there.1 c.end_torn-in-Rules.ensures.ends)
+
+pub returns-in-Rules-query-clause-ends : goal.returns-in-Rules-query-clause-ends
+returns-in-Rules-query-clause-ends g c = λ net rows penalty bytes is.
+    let there = subst (λ (j : AJournal). IsJournal net rows penalty bytes j) c.in-Whole.is is in
+    let ends = subst (λ (t : TableValue). EndsCompared g.K.Sink.taken g.K.Sink.faults c.in-Rules-query.asked t c.args.out.now c.end_rules.new.out c.end_rules.result) c.table-in-Rules-query.ensures c.end_rules.ensures.ends in
+    subst (λ (q : Query). EndsOnJournal g.K.Sink.taken g.K.Sink.faults q net rows penalty bytes c.args.out.now c.end_rules.new.out c.end_rules.result) (sym c.in-Rules-query.is)
+    (answers_rules g.K.Sink.taken g.K.Sink.faults net rows penalty bytes c.args.out.now c.end_rules.new.out c.end_rules.result c.in-Whole.follower c.in-Rules-query.asked there.0 there.1 ends)
