@@ -1,0 +1,3 @@
+-- Plans of windows at an entry, what becomes of them at the last, and their texts.
+pub mod Outlooks
+pub mod Texts

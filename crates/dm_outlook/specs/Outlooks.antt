@@ -1,0 +1,44 @@
+-- At which entry a plan of a window is made, and what becomes of it at the last.
+use Rattle.std.specs.Prelude.{ℕ, ◌≡◌, List, length, Option, Some, None}
+use Rattle.dm_network.specs.Net.{Net}
+use Rattle.dm_rows.specs.declared.messages.Decision.{Decision}
+use Rattle.dm_rows.specs.declared.messages.Entry.{Entry}
+use Rattle.dm_rows.specs.declared.rows.Snapshot.{Snapshot}
+use Rattle.dm_rows.specs.History.{rows_at}
+use Rattle.dm_rows.specs.Rows.{RowsValue}
+use Rattle.dm_window.specs.Rebasing.{IsCarriedCycle, IsFirstNotFree, IsRebased}
+use Rattle.dm_window.specs.Windows.{IsTrueWindowPlan}
+use Rattle.dm_outlook.specs.declared.outlook.Carried.{Carried}
+use Rattle.dm_outlook.specs.declared.outlook.Carried.TheVariants.{Rebased, NotFree, Cycle}
+use Rattle.dm_outlook.specs.declared.outlook.Outlook.{Outlook}
+
+-- the entry that is named, or the last one
+abbrev pub entry_at : Option ℕ → ℕ → ℕ
+entry_at None last = last
+entry_at (Some n) last = n
+
+-- the rows after all entries
+abbrev pub newest : Net → RowsValue → List Entry → Snapshot
+newest net start history = record { entry = length history; rows = rows_at net start history (length history) }
+
+-- What becomes of choices in newer rows: those that differ from them, with what they cost; or the first that is not free there; or a
+-- cycle of the rows with those that differ.
+abbrev pub IsCarried : Net → Snapshot → ℕ → List Decision → Carried → Type 0
+IsCarried net newer penalty choices (Rebased rebased) = IsRebased net newer penalty choices rebased
+IsCarried net newer penalty choices (NotFree decision) = IsFirstNotFree net newer.rows choices decision
+IsCarried net newer penalty choices (Cycle ids) = IsCarriedCycle net newer.rows choices ids
+
+-- the same where an entry is named, and nothing where none is
+abbrev pub IsCarriedFrom : Net → Snapshot → ℕ → List Decision → Option ℕ → Option Carried → Type 0
+IsCarriedFrom net newer penalty choices None None = Unit {0}
+IsCarriedFrom net newer penalty choices None (Some carried) = ⊥
+IsCarriedFrom net newer penalty choices (Some n) None = ⊥
+IsCarriedFrom net newer penalty choices (Some n) (Some carried) = IsCarried net newer penalty choices carried
+
+-- The plan is a true one of the window for the rows at the entry that is named, or at the last; where one is named, it is told what
+-- becomes of the plan's choices at the last.
+pub record IsOutlook (net : Net) (start : RowsValue) (penalty : ℕ) (history : List Entry) (from to budget : ℕ) (at : Option ℕ)
+    (outlook : Outlook) : Type 0 where
+  pub entry : outlook.entry ≡ entry_at at (length history)
+  pub plan : IsTrueWindowPlan net (rows_at net start history (entry_at at (length history))) penalty from to budget outlook.plan
+  pub carried : IsCarriedFrom net (newest net start history) penalty outlook.plan.choices at outlook.carried

@@ -1,0 +1,177 @@
+//! A plan at an entry, and what becomes of it.
+ghost use Rattle.std.specs.Prelude.{◌≡◌, ◌≤◌, length, IfOk, IfSome};
+ghost use Rattle.dm_base.specs.declared.limits.TheConstants.{BUDGET, PENALTY};
+ghost use Rattle.dm_rows.specs.Active.{HasNoCycle};
+ghost use Rattle.dm_rows.specs.History.{rows_at};
+ghost use Rattle.dm_rows.specs.Rows.{IsSized};
+ghost use Rattle.dm_window.specs.Rebasing.{DecideOnce};
+ghost use Rattle.dm_outlook.specs.Outlooks.{IsCarried, IsOutlook};
+
+use dm_base::{ActId, Items, Secs};
+use dm_history::replay;
+use dm_network::Network;
+use dm_rows::{Decision, Entry, Rows, Snapshot};
+use dm_table::Table;
+use dm_times::least;
+use dm_tree::Plan;
+use dm_window::{RebaseFault, Rebased, rebase, window_plan};
+use std::alloc::{AllocError, Global};
+
+/// What becomes of a plan's choices in newer rows.
+#[derive(Debug, Drop)]
+pub enum Carried {
+    /// Those that differ from these rows, and what the rows cost with them.
+    Rebased(Rebased),
+
+    /// The first choice that is not free there.
+    NotFree(Decision),
+
+    /// The ids of activities that form a cycle with those that differ, each head the next tail.
+    Cycle(Items<ActId>),
+}
+
+/// A plan of a window at an entry.
+#[derive(Debug, Drop)]
+pub struct Outlook {
+    /// How many entries the history has for whose rows the plan is.
+    pub entry: u32,
+    pub plan: Plan,
+
+    /// What becomes of the plan at the last entry, where an entry was named.
+    pub carried: Option<Carried>,
+}
+
+/// A plan for the window from one scheduled time to another, in seconds, both of them in it, of the rows after so many entries of a
+/// table, at most all, or after all where no number is given; and, where one is, what becomes of the plan after all. The plan's tree
+/// has at most `budget` nodes; the budget is 1 to 16,384.
+pub fn outlook_of(
+    alloc: Global,
+    table: &Table<'_>,
+    from: Secs,
+    to: Secs,
+    budget: u64,
+    at: Option<u32>,
+) -> Result<Outlook, AllocError>
+    requires budget { (1 ≤ budget) × (budget ≤ BUDGET) }
+    requires at { IfSome at (λ n. n ≤ length table.now.history) }
+    ensures { IfOk result (IsOutlook table.now.network table.now.start table.now.penalty table.now.history from to budget at) }
+{
+    match at {
+        None => outlook_now(alloc, table, from, to, budget),
+        Some(at) => outlook_then(alloc, table, from, to, budget, at),
+    }
+}
+
+/// A plan after all entries.
+fn outlook_now(
+    alloc: Global,
+    table: &Table<'_>,
+    from: Secs,
+    to: Secs,
+    budget: u64,
+) -> Result<Outlook, AllocError>
+    requires budget { (1 ≤ budget) × (budget ≤ BUDGET) }
+    ensures { IfOk result (IsOutlook table.now.network table.now.start table.now.penalty table.now.history from to budget None) }
+{
+    table.sound();
+    let now = table.copy()?;
+    let plan = window_plan(
+        alloc,
+        table.network(),
+        table.penalty(),
+        &now,
+        from,
+        to,
+        budget,
+    )?;
+    Ok(Outlook {
+        entry: now.entry,
+        plan,
+        carried: None,
+    })
+}
+
+/// A plan after so many entries, and what becomes of it after all.
+fn outlook_then(
+    alloc: Global,
+    table: &Table<'_>,
+    from: Secs,
+    to: Secs,
+    budget: u64,
+    at: u32,
+) -> Result<Outlook, AllocError>
+    requires budget { (1 ≤ budget) × (budget ≤ BUDGET) }
+    requires at { at ≤ length table.now.history }
+    ensures { IfOk result (IsOutlook table.now.network table.now.start table.now.penalty table.now.history from to budget (Some at)) }
+{
+    table.sound();
+    let net = table.network();
+    net.sound();
+    let then = rows_then(alloc, table, at)?;
+    let plan = window_plan(alloc, net, table.penalty(), &then, from, to, budget)?;
+    let now = table.copy()?;
+    let carried = carried_to(alloc, net, table.penalty(), &now, &plan)?;
+    Ok(Outlook {
+        entry: at,
+        plan,
+        carried: Some(carried),
+    })
+}
+
+/// The rows after so many entries, with their number.
+fn rows_then(alloc: Global, table: &Table<'_>, at: u32) -> Result<Snapshot, AllocError>
+    requires { at ≤ length table.now.history }
+    ensures rows { IfOk result (λ then. then.rows ≡ rows_at table.now.network table.now.start table.now.history at) }
+    ensures sized { IfOk result (λ then. IsSized table.now.network then.rows) }
+    ensures no_cycle { IfOk result (λ then. HasNoCycle table.now.network then.rows) }
+{
+    let rows = replayed(alloc, table, at)?;
+    // Rows after a legal history have no cycle, so that only memory may be missing.
+    let Ok(_times) = least(alloc, table.network(), &rows) else {
+        return Err(AllocError);
+    };
+    Ok(Snapshot { entry: at, rows })
+}
+
+/// The rows after so many entries.
+fn replayed(alloc: Global, table: &Table<'_>, at: u32) -> Result<Rows, AllocError>
+    requires { at ≤ length table.now.history }
+    ensures rows { IfOk result (λ rows. rows ≡ rows_at table.now.network table.now.start table.now.history at) }
+    ensures sized { IfOk result (IsSized table.now.network) }
+{
+    rows_behind(alloc, table, &table.history().as_slice()[..at as usize])
+}
+
+/// The rows at the start, behind these entries of a table.
+fn rows_behind(alloc: Global, table: &Table<'_>, entries: &[Entry]) -> Result<Rows, AllocError>
+    ensures rows { IfOk result (λ rows. rows ≡ rows_at table.now.network table.now.start entries.now (length entries.now)) }
+    ensures sized { IfOk result (IsSized table.now.network) }
+{
+    table.sound();
+    // The front of a legal history is one, so that only memory may be missing.
+    let Ok(rows) = replay(alloc, table.network(), table.start(), entries) else {
+        return Err(AllocError);
+    };
+    Ok(rows)
+}
+
+/// What becomes of a plan in newer rows.
+fn carried_to(
+    alloc: Global,
+    net: &Network,
+    penalty: u64,
+    newer: &Snapshot,
+    plan: &Plan,
+) -> Result<Carried, AllocError>
+    requires sized { IsSized net.now newer.now.rows }
+    requires penalty { penalty ≤ PENALTY }
+    requires once { DecideOnce plan.now.choices }
+    ensures { IfOk result (IsCarried net.now newer.now penalty plan.now.choices) }
+{
+    match rebase(alloc, net, penalty, newer, plan) {
+        Ok(rebased) => Ok(Carried::Rebased(rebased)),
+        Err(RebaseFault::NotFree(decision)) => Ok(Carried::NotFree(decision)),
+        Err(RebaseFault::Cycle(ids)) => Ok(Carried::Cycle(ids)),
+        Err(RebaseFault::OutOfMemory) => Err(AllocError),
+    }
+}
