@@ -2,11 +2,12 @@
 //!
 //! It goes over every list of three messages where two trains meet, and over generated days of 9 to 12 trains with drawn
 //! messages: events that have passed or are recalled, dropped changes, pairs that are turned, delays and a clock. For each it
-//! has plans made of up to 64 nodes, on the days also of windows, and judges each plan over plain lists: the times of a path
-//! come by rounds over all activities, and where there are few choices the costs of all of them are compared. Plans of windows,
-//! and what becomes of them over newer rows, are compared with what was worked out by hand. For each case it prints `NAME ok`,
-//! or what is wrong with a plan. It stands on dm_samples for networks and messages, and on dm_search and dm_window for the
-//! plans; its reading stands on no crate that computes times or judges plans. It promises nothing.
+//! has plans made of up to 64 nodes, on the days also of windows and from parts of other plans, and judges each plan over plain
+//! lists: the times of a path come by rounds over all activities, and where there are few choices the costs of all of them are
+//! compared. Plans of windows, what becomes of them over newer rows, and plans that go on from a leaf of another are compared
+//! with what was worked out by hand. For each case it prints `NAME ok`, or what is wrong with a plan. It stands on dm_samples
+//! for networks and messages, and on dm_search and dm_window for the plans; its reading stands on no crate that computes times
+//! or judges plans. It promises nothing.
 #![tactic(auto)]
 
 mod changed;
@@ -14,6 +15,8 @@ mod day;
 mod every;
 mod judging;
 mod lists;
+mod parted;
+mod parts;
 mod planning;
 mod relaxing;
 mod trials;
@@ -23,6 +26,7 @@ mod wrong;
 use changed::judge_changed;
 use dm_samples::{Sample, generated_day, turning_day};
 use lists::judge_lists;
+use parted::judge_connection;
 use std::alloc::Global;
 use std::io;
 use trials::{Drawn, Seen, judge_drawn};
@@ -42,6 +46,7 @@ const DAYS: [(&str, u32, bool, u64, u64); 6] = [
 fn main(rt: HostRuntime) -> io::Result<()> {
     let alloc = rt.alloc();
     report(&rt, "changed-plans", judge_changed(alloc))?;
+    report(&rt, "plans-from-parts", judge_connection(alloc))?;
     report(&rt, "windows-worked-out", judge_windows(alloc))?;
     report(
         &rt,
@@ -81,7 +86,12 @@ fn judge_day(alloc: Global, turns: bool, drawn: Drawn, seen: &mut Seen) -> Resul
 /// Whether all days together had what they are there for.
 fn tries_enough(seen: Seen) -> Result<(), Wrong> {
     let windows = seen.windows >= 100 && seen.within >= 30;
-    if seen.is_enough(100) && seen.pairs >= 100 && seen.compared >= 3 && windows {
+    if seen.is_enough(100)
+        && seen.pairs >= 100
+        && seen.compared >= 3
+        && windows
+        && seen.parts >= 6
+    {
         Ok(())
     } else {
         Err(Wrong::TooFew)

@@ -4,6 +4,7 @@ ghost use Rattle.dm_base.specs.declared.limits.TheConstants.{PENALTY, BUDGET};
 ghost use Rattle.dm_rows.specs.Rows.{IsSized};
 
 use crate::day::Day;
+use crate::parts::{Part, plan_from};
 use crate::relaxing::Undecided;
 use crate::wrong::Wrong;
 use dm_base::Secs;
@@ -108,6 +109,19 @@ impl<'n> Standing<'n> {
         } else {
             Err(Wrong::Entry)
         }
+    }
+
+    /// A plan of the rows that goes on from a part of another.
+    pub fn plan_from(&self, alloc: Global, part: Part, budget: u64) -> Result<Plan, Wrong> {
+        let rows = self.rows.copy()?;
+        let snapshot = Snapshot { entry: ENTRY, rows };
+        let part = Part {
+            nodes: part.nodes.max(1).min(BUDGET),
+            leaf: part.leaf,
+        };
+        let penalty = self.penalty.min(PENALTY);
+        let nodes = budget.max(1).min(BUDGET);
+        plan_from(alloc, self.net, penalty, &snapshot, part, nodes)
     }
 }
 

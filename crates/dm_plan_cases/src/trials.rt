@@ -1,8 +1,9 @@
-//! Days with drawn messages, and plans of each budget for them.
+//! Days with drawn messages, plans of each budget for them, and plans that go on from parts.
 
 use crate::day::Day;
 use crate::every::known;
 use crate::judging::{Known, judge};
+use crate::parted::judge_parts;
 use crate::planning::{Standing, Window};
 use crate::wrong::Wrong;
 use dm_base::Secs;
@@ -49,6 +50,9 @@ pub struct Seen {
     /// Rows of which all choices were tried.
     pub compared: u32,
 
+    /// Parts of plans from which a search went on.
+    pub parts: u32,
+
     /// Plans of windows, and choices in them.
     pub windows: u32,
     pub within: u32,
@@ -63,6 +67,7 @@ impl Seen {
             pairs: 0,
             dropped: 0,
             compared: 0,
+            parts: 0,
             windows: 0,
             within: 0,
         }
@@ -155,6 +160,8 @@ fn judge_window(
         judge(alloc, &day, known, budget, &plan)?;
         seen.count_window(&plan);
     }
+    let parts = judge_parts(alloc, &standing)?;
+    seen.parts = seen.parts.saturating_add(parts);
     Ok(())
 }
 
