@@ -41,7 +41,8 @@ impl Model for BoundWord {
 
     ghost view = { λ w. record { id = w.table.shared.table_id; seats = w.table.shared.key.seats } };
 
-    ghost invariant = { λ w. (w.table.shared.table_id.words ≡ 1) × (w.table.shared.table_id.slots ≡ 0) × (w.table.shared.key.start ≤ nothing_looked) };
+    ghost invariant = { λ w. (w.table.shared.table_id.words ≡ 1) × (w.table.shared.table_id.slots ≡ 0)
+        × (w.table.shared.key.start ≤ nothing_looked) };
 }
 
 impl BoundWord {

@@ -58,10 +58,12 @@ const CHANGES: u32 = 128;
 
 const WORKERS: u32 = 256;
 
+const AT: u32 = 512;
+
 const FILES: u32 = PENALTY + EVENT_COLUMNS + ACTIVITY_COLUMNS + EVENT_DELAYS + ACTIVITY_DELAYS;
 
 /// All commands.
-pub const COMMANDS: [CommandTable; 6] = [
+pub const COMMANDS: [CommandTable; 7] = [
     CommandTable {
         name: "run",
         form: "run DIR FEED..",
@@ -91,6 +93,13 @@ pub const COMMANDS: [CommandTable; 6] = [
         options: FILES,
     },
     CommandTable {
+        name: "window",
+        form: "window DIR TEXT FROM TO BUDGET",
+        least: 5,
+        most: 5,
+        options: FILES + AT,
+    },
+    CommandTable {
         name: "rules",
         form: "rules DIR TEXT RULE BUDGET",
         least: 4,
@@ -107,7 +116,7 @@ pub const COMMANDS: [CommandTable; 6] = [
 ];
 
 /// All options.
-pub const OPTIONS: [OptionTable; 9] = [
+pub const OPTIONS: [OptionTable; 10] = [
     OptionTable {
         bit: PENALTY,
         name: "--penalty=",
@@ -188,6 +197,15 @@ pub const OPTIONS: [OptionTable; 9] = [
         most: 16,
         has_number: true,
         meaning: "1 to 16; as yet one searches (1)",
+    },
+    OptionTable {
+        bit: AT,
+        name: "--at=",
+        example: "--at=0",
+        least: 0,
+        most: 1_000_000,
+        has_number: true,
+        meaning: "after how many entries a window is planned (all)",
     },
 ];
 

@@ -15,7 +15,7 @@ pub fn tell_usage<R: Eprint>(rt: &R, words: &[String]) -> io::Result<()> {
     let Some(table) = command_of(command.as_str()) else {
         let name = command.as_str();
         return eprintln!(rt;
-            "dispatcher: word 1: \"{name}\" is no command; commands are run, check, gen, follow, rules and journey"
+            "dispatcher: word 1: \"{name}\" is no command; commands are run, check, gen, follow, window, rules and journey"
         );
     };
     for (place, word) in rest.iter().enumerate() {
@@ -131,7 +131,8 @@ fn tell_names<R: Eprint>(rt: &R, table: CommandTable, words: &[String]) -> io::R
     tell_lists(rt, table, words)
 }
 
-/// Says what is wrong with the column words, or else with the numbers of a rule or a journey or the boards of a run.
+/// Says what is wrong with the column words, or else with the numbers of a window, a rule or a journey or the boards
+/// of a run.
 fn tell_lists<R: Eprint>(rt: &R, table: CommandTable, words: &[String]) -> io::Result<()> {
     let events = value_or("--event-columns=", words, EVENT_WORDS);
     let activities = value_or("--activity-columns=", words, ACTIVITY_WORDS);
@@ -140,6 +141,11 @@ fn tell_lists<R: Eprint>(rt: &R, table: CommandTable, words: &[String]) -> io::R
     }
     if let Err(fault) = Columns::read(EVENT_WORDS, activities) {
         return tell_columns(rt, "--activity-columns", ACTIVITY_WORDS, activities, fault);
+    }
+    if table.name == "window" {
+        return eprintln!(rt;
+            "dispatcher: window takes two times, FROM and TO, of 0 to 1000000000 seconds, TO no earlier than FROM, and a BUDGET of 1 to 16384 nodes"
+        );
     }
     if table.name == "rules" {
         return eprintln!(rt;

@@ -79,4 +79,4 @@ read_fault_line asked file = codes "read fault " ++ (name_of asked file ++ line_
 
 abbrev pub usage_line : List ℕ
 usage_line =
-    codes "usage: run DIR FEED.. | check DIR TEXT | gen NUMBER TRAINS | follow DIR TEXT | rules DIR TEXT RULE BUDGET | journey DIR TEXT FROM TO AFTER" ++ line_end
+    codes "usage: run DIR FEED.. | check DIR TEXT | gen NUMBER TRAINS | follow DIR TEXT | window DIR TEXT FROM TO BUDGET | rules DIR TEXT RULE BUDGET | journey DIR TEXT FROM TO AFTER" ++ line_end

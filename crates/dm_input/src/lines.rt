@@ -283,6 +283,6 @@ pub fn put_usage<K: Sink>(sink: &mut K) -> Result<(), WriteFault>
 {
     put_all(
         sink,
-        b"usage: run DIR FEED.. | check DIR TEXT | gen NUMBER TRAINS | follow DIR TEXT | rules DIR TEXT RULE BUDGET | journey DIR TEXT FROM TO AFTER\n",
+        b"usage: run DIR FEED.. | check DIR TEXT | gen NUMBER TRAINS | follow DIR TEXT | window DIR TEXT FROM TO BUDGET | rules DIR TEXT RULE BUDGET | journey DIR TEXT FROM TO AFTER\n",
     )
 }

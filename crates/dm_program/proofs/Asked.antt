@@ -11,7 +11,7 @@ use Rattle.dm_words.specs.Queries.{AsksOwn, IsRule}
 use Rattle.dm_words.specs.Values.{IsNumberOr}
 use Rattle.dm_words.specs.Words.{RunAsked, CheckAsked, GenAsked, QueryAsked, FilesAsked, Command, RunOf, CheckOf, GenOf, QueryOf, Asks}
 use Rattle.dm_words.specs.declared.queries.Query.{Query}
-use Rattle.dm_words.specs.declared.queries.Query.TheVariants.{Follow, Rules, Journey}
+use Rattle.dm_words.specs.declared.queries.Query.TheVariants.{Follow, Window, Rules, Journey}
 use Rattle.dm_words.specs.declared.queries.TheConstants.{CHANGES, STANDARD_CHANGES}
 use Rattle.dm_words.specs.declared.command.TheConstants.{BATCH, STANDARD_BATCH}
 use Rattle.dm_words.specs.declared.files.TheConstants.{STANDARD_PENALTY}
@@ -67,6 +67,7 @@ rule_within word (AtMost seconds) is = is.to
 
 limits_within : (query : Query) (names words : List (List ℕ)) → AsksOwn query names words → IsWithinLimits query
 limits_within Follow names words asks = tt
+limits_within (Window window) names words asks = (asks.is_budget.from, asks.is_budget.to)
 limits_within (Rules rules) names words asks =
     record { limit = rule_within asks.rule rules.rule asks.is_rule; budget = (asks.is_budget.from, asks.is_budget.to) }
 limits_within (Journey journey) names words asks = no_more asks.changes.value 0 CHANGES STANDARD_CHANGES journey.changes (omega arith) asks.changes.is

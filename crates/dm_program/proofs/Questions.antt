@@ -1,5 +1,6 @@
 -- What a follower tells of the bytes that it has taken, and how the text of a name is asked.
-use Rattle.std.proofs.Common.{◌≡◌, ℕ, ◌<◌, ◌⊎◌, inl, inr, Bool, List, [], ◌∷◌, length, Option, refl, ap, subst, ◌∙◌}
+use Rattle.std.proofs.Common.{◌≡◌, ℕ, ◌<◌, ◌⊎◌, inl, inr, Bool, List, [], ◌∷◌, length, Option, refl, ap, subst, ◌∙◌, Some, ◌≤◌}
+use Rattle.std.specs.Prelude.{IfSome}
 use Rattle.std.proofs.lemmas.List.Elements.{All-nil, All-cons, All-weaker}
 use Rattle.dm_base.specs.declared.limits.TheConstants.{TEXT}
 use Rattle.dm_graph.specs.Arcs.{Chain}
@@ -26,13 +27,16 @@ use Rattle.dm_input.specs.Input.{Told, IsHeld}
 use Rattle.dm_input.specs.Stops.{IsKept, IsLong}
 use Rattle.dm_words.specs.Words.{QueryAsked}
 use Rattle.dm_words.specs.declared.queries.Query.{Query}
-use Rattle.dm_words.specs.declared.queries.Query.TheVariants.{Follow, Rules, Journey}
+use Rattle.dm_words.specs.declared.queries.Query.TheVariants.{Follow, Window, Rules, Journey}
 use Rattle.dm_words.specs.declared.queries.JourneyWords.{JourneyWords}
+use Rattle.dm_words.specs.declared.queries.WindowWords.{WindowWords}
+use Rattle.dm_outlook.specs.Outlooks.{IsOutlook}
+use Rattle.dm_outlook.specs.declared.outlook.Outlook.{Outlook}
 use Rattle.dm_words.specs.declared.queries.RulesWords.{RulesWords}
 use Rattle.dm_waitrule.specs.Compared.{Compares}
 use Rattle.dm_waitrule.specs.declared.comparing.Comparison.{Comparison}
 use Rattle.dm_program.specs.declared.status.Status.{Status}
-use Rattle.dm_program.specs.declared.status.Status.TheVariants.{Ok as Well, Bad}
+use Rattle.dm_program.specs.declared.status.Status.TheVariants.{Ok as Well, Bad, Refused}
 use Rattle.dm_program.specs.Answers.{IsBadFor, WantsAll}
 use Rattle.dm_program.specs.Ends.{EndsAs}
 use Rattle.dm_program.specs.Followed.{IsStateOf, state_text}
@@ -40,7 +44,9 @@ use Rattle.dm_ruling.specs.Texts.{comparison_text}
 use Rattle.dm_program.specs.Ruled.{IsComparisonOf, rule_named}
 use Rattle.dm_program.specs.Travelled.{AreJourneysOf, journeys_text, stop_numbered}
 use Rattle.dm_program.specs.Verdicts.{verdict_line}
-use Rattle.dm_program.specs.Inside.Asking.{AreWalksIn, EndsAsked, EndsCompared, EndsOnJournal, EndsTravelled, IsWalkIn, kind_of_rule, state_of}
+use Rattle.dm_program.specs.Windowed.{IsUnknownEntry, IsWindowOf, unknown_entry_line}
+use Rattle.dm_outlook.specs.Texts.{outlook_text}
+use Rattle.dm_program.specs.Inside.Asking.{AreWalksIn, EndsAsked, EndsOnJournal, EndsOutlook, EndsTravelled, IsWalkIn, kind_of_rule, state_of, EndsCompared}
 
 -- ---- followers
 
@@ -84,6 +90,28 @@ module _ (net : Net) (rows : RowsValue) (penalty : ℕ) (bytes : List ℕ) (f : 
         answer = subst (λ (x : RowsValue). AreJourneys f.table.network x f.table.times (stop_numbered asked.from) (stop_numbered asked.to) asked.after asked.changes journeys) table.replayed answer;
         is_text = refl;
       }) whole
+
+  -- a plan of a window at one of its entries is one at an entry of the bytes, and so is a number that is above them
+  pub window_told : (asked : WindowWords) (outlook : Outlook) → IsWhole net rows penalty bytes → IfSome asked.at (λ n. n ≤ length f.table.history) →
+      IsOutlook f.table.network f.table.start f.table.penalty f.table.history asked.from asked.to asked.budget asked.at outlook →
+      IsWindowOf asked net rows penalty bytes (outlook_text asked.from asked.to (length f.table.history) outlook)
+  window_told asked outlook whole among answer =
+      on_day (λ n r p. IsWhole n r p bytes → IsWindowOf asked n r p bytes (outlook_text asked.from asked.to (length f.table.history) outlook))
+      (λ all. record {
+        whole = all;
+        history = f.table.history;
+        followed = is.follows.history;
+        among = among;
+        outlook = outlook;
+        answer = answer;
+        is_text = refl;
+      }) whole
+
+  pub unknown_told : (asked : WindowWords) (n : ℕ) → IsWhole net rows penalty bytes → asked.at ≡ Some n → length f.table.history < n →
+      IsUnknownEntry asked net rows penalty bytes (unknown_entry_line n)
+  unknown_told asked n whole named above =
+      on_day (λ net r p. IsWhole net r p bytes → IsUnknownEntry asked net r p bytes (unknown_entry_line n))
+      (λ all. record { whole = all; history = f.table.history; followed = is.follows.history; n = n; named = named; above = above; is_text = refl }) whole
 
   -- a comparison over its rows is one over those of the bytes
   pub comparison_told : (asked : RulesWords) (compared : Comparison) → IsWhole net rows penalty bytes →
@@ -155,6 +183,14 @@ module _ {K : Type 0} (taken : K → Option (List ℕ)) (faults : K → ℕ) (ne
   answers_journeys f asked is whole (inl p) =
       inl (record { status = Well; text = journeys_text f.table.network p.journeys; answers = journeys_told net rows penalty bytes f is asked p.journeys whole p.answer; ends = p.ends })
   answers_journeys f asked is whole (inr short) = inr short
+
+  pub answers_window : (f : FollowerValue) (asked : WindowWords) → IsFollowerOf net rows penalty bytes f → IsWhole net rows penalty bytes → EndsOutlook taken faults asked f.table before now result →
+      EndsOnJournal taken faults (Window asked) net rows penalty bytes before now result
+  answers_window f asked is whole (inl p) =
+      inl (record { status = Well; text = outlook_text asked.from asked.to (length f.table.history) p.outlook; answers = window_told net rows penalty bytes f is asked p.outlook whole p.among p.answer; ends = p.ends })
+  answers_window f asked is whole (inr (inl u)) =
+      inl (record { status = Refused; text = unknown_entry_line u.n; answers = unknown_told net rows penalty bytes f is asked u.n whole u.named u.above; ends = u.ends })
+  answers_window f asked is whole (inr (inr short)) = inr short
 
   pub answers_rules : (f : FollowerValue) (asked : RulesWords) → IsFollowerOf net rows penalty bytes f → IsWhole net rows penalty bytes → EndsCompared taken faults asked f.table before now result →
       EndsOnJournal taken faults (Rules asked) net rows penalty bytes before now result

@@ -13,7 +13,7 @@ use Rattle.dm_follow.specs.declared.faults.FollowKind.TheVariants as rule
 use Rattle.dm_follow.specs.Journals.{TellsJournal, IsFrontFault, unended}
 use Rattle.dm_input.specs.Input.{Told, IsHeld, Opening, OpeningAnswer}
 use Rattle.dm_words.specs.declared.queries.Query.{Query}
-use Rattle.dm_words.specs.declared.queries.Query.TheVariants.{Follow, Rules, Journey}
+use Rattle.dm_words.specs.declared.queries.Query.TheVariants.{Follow, Window, Rules, Journey}
 use Rattle.dm_words.specs.Words.{QueryAsked, QueryOf, Asks}
 use Rattle.dm_program.specs.declared.status.Status.{Status}
 use Rattle.dm_program.specs.declared.status.Status.TheVariants.{Ok as Well, Bad, Refused}
@@ -21,12 +21,14 @@ use Rattle.dm_program.specs.Followed.{IsStateOf}
 use Rattle.dm_program.specs.Ruled.{IsComparisonOf}
 use Rattle.dm_program.specs.Travelled.{AreJourneysOf}
 use Rattle.dm_program.specs.Verdicts.{verdict_line}
+use Rattle.dm_program.specs.Windowed.{IsUnknownEntry, IsWindowOf}
 
 -- ---- journals that are not followed to their end
 
 -- the question is of the last entry that the header tells: it wants all lines of the journal whole
 abbrev pub WantsAll : Query → Type 0
 WantsAll Follow = ⊥
+WantsAll (Window asked) = Unit {0}
 WantsAll (Rules asked) = Unit {0}
 WantsAll (Journey asked) = Unit {0}
 
@@ -50,12 +52,14 @@ pub record TellsBad (query : Query) (net : Net) (start : RowsValue) (penalty : �
 -- the text answers the question
 abbrev pub Answers : Query → Net → RowsValue → ℕ → List ℕ → List ℕ → Type 0
 Answers Follow = IsStateOf
+Answers (Window asked) = IsWindowOf asked
 Answers (Rules asked) = IsComparisonOf asked
 Answers (Journey asked) = AreJourneysOf asked
 
--- the text refuses the question, of a journal that is whole; of the state, of rules and of journeys nothing is refused
+-- the text refuses the question, of a journal that is whole: a window at an entry that there is not; of others nothing is refused
 abbrev pub Declines : Query → Net → RowsValue → ℕ → List ℕ → List ℕ → Type 0
 Declines Follow net start penalty bytes text = ⊥
+Declines (Window asked) net start penalty bytes text = IsUnknownEntry asked net start penalty bytes text
 Declines (Rules asked) net start penalty bytes text = ⊥
 Declines (Journey asked) net start penalty bytes text = ⊥
 

@@ -7,6 +7,7 @@ pub mod Checked
 pub mod Followed
 pub mod Ruled
 pub mod Travelled
+pub mod Windowed
 pub mod Answers
 pub mod Boards
 pub mod Headline

@@ -51,7 +51,8 @@ fn judge_text<H: Shelf, K: Sink>(
 ) -> Status
     requires sized { IsSized net.now rows.now }
     requires penalty { penalty ≤ PENALTY }
-    ensures ends { EndsJudged K.taken K.faults (H.files shelf.old) (H.is_sound shelf.old) name.now net.now rows.now penalty out.old out.new result }
+    ensures ends { EndsJudged K.taken K.faults (H.files shelf.old) (H.is_sound shelf.old) name.now net.now rows.now penalty out.old out.new
+        result }
     ensures kept { IsKept H.files H.is_sound shelf.old shelf.new }
     ensures later { K.faults out.old ≤ K.faults out.new }
 {

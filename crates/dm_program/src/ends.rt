@@ -98,7 +98,8 @@ pub fn end_unread_text<K: Sink>(name: &str, out: &mut K) -> Status
 
 /// Says that a line of a journal breaks its rule.
 pub fn end_broken<K: Sink>(broken: BrokenLine, out: &mut K) -> Status
-    ensures ends { EndsAs K.taken K.faults out.old out.new (verdict_line (BadVerdict broken.line (kind_of_rule broken.rule))) Status.Bad result }
+    ensures ends { EndsAs K.taken K.faults out.old out.new (verdict_line (BadVerdict broken.line (kind_of_rule broken.rule))) Status.Bad
+        result }
     ensures later { K.faults out.old ≤ K.faults out.new }
 {
     let line = broken.line;

@@ -32,7 +32,8 @@ pub fn open_feeds<H: Shelf>(
     names: &[&str],
 ) -> Result<Vec<Option<H::Src>>, AllocError>
     ensures kept { IsKept H.files H.is_sound shelf.old shelf.new }
-    ensures opened { IfOk result (λ feeds. AreOpened H.Src.left H.Src.is_sound (H.files shelf.old) (H.is_sound shelf.old) (map (λ name. name.now) names.now) feeds.items) }
+    ensures opened { IfOk result (λ feeds. AreOpened H.Src.left H.Src.is_sound (H.files shelf.old) (H.is_sound shelf.old)
+        (map (λ name. name.now) names.now) feeds.items) }
 {
     let mut feeds = Vec::with_capacity(alloc, names.len())?;
     for name in names {

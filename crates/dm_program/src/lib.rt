@@ -73,6 +73,7 @@ mod run;
 mod status;
 mod top;
 mod verdicts;
+mod window;
 
 pub use status::Status;
 pub use top::dispatch;

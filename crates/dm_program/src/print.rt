@@ -16,7 +16,8 @@ use dm_report::{Run, print_run};
 /// Prints a run that is answered.
 pub fn end_run<K: Sink>(answered: &AnsweredDay<'_>, out: &mut K) -> Status
     requires { IsSpelledRun (run_in answered.now.table answered.now.logs.items answered.now.publisher.notes) }
-    ensures ends { EndsAs K.taken K.faults out.old out.new (run_text 2 (run_in answered.now.table answered.now.logs.items answered.now.publisher.notes)) (status_of answered.now.logs.items) result }
+    ensures ends { EndsAs K.taken K.faults out.old out.new (run_text 2
+        (run_in answered.now.table answered.now.logs.items answered.now.publisher.notes)) (status_of answered.now.logs.items) result }
     ensures fits { FitsRun (run_in answered.now.table answered.now.logs.items answered.now.publisher.notes) }
 {
     let table = &answered.table;

@@ -14,6 +14,7 @@ use crate::follow::end_state;
 use crate::journey::end_journeys;
 use crate::ruling::end_rules;
 use crate::status::Status;
+use crate::window::end_window;
 use dm_input::{Opened, read_opening};
 use dm_journal::{Journal, read_journal};
 use dm_network::Network;
@@ -57,7 +58,8 @@ fn ask_text<H: Shelf, K: Sink>(
     requires start { IsAtStart net.now rows }
     requires penalty { (query_of words.now).files.penalty ≤ PENALTY }
     requires limits { IsWithinLimits (query_of words.now).query }
-    ensures ends { EndsAsked K.taken K.faults (H.files shelf.old) (H.is_sound shelf.old) (query_of words.now) net.now rows out.old out.new result }
+    ensures ends { EndsAsked K.taken K.faults (H.files shelf.old) (H.is_sound shelf.old) (query_of words.now) net.now rows out.old out.new
+        result }
     ensures kept { IsKept H.files H.is_sound shelf.old shelf.new }
     ensures later { K.faults out.old ≤ K.faults out.new }
 {
@@ -88,11 +90,13 @@ fn answer_journal<K: Sink>(
             Query::Follow => end_state(follower, out),
             Query::Journey(_) => end_torn(*line, out),
             Query::Rules(_) => end_torn(*line, out),
+            Query::Window(_) => end_torn(*line, out),
         },
         Journal::Whole(follower) => match query {
             Query::Follow => end_state(follower, out),
             Query::Journey(asked) => end_journeys(alloc, follower.table(), asked, out),
             Query::Rules(asked) => end_rules(alloc, follower.table(), asked, out),
+            Query::Window(asked) => end_window(alloc, follower.table(), asked, out),
         },
     }
 }

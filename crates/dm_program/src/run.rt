@@ -40,7 +40,10 @@ pub fn run_feeds<R: Threads + Wait + Sync, H: Shelf, K: Sink, G: Hold + Sync>(
 ) -> Status
     requires within { AreWithin (run_of run.now) }
     requires few_boards { vec_len boards.old ≤ BOARDS }
-    ensures ends { (words : List (List ℕ)) → Asks words (RunOf (run_of run.now)) → Ends K.taken K.faults (H.files shelf.old) (H.is_sound shelf.old) (EndBoards place times (λ b. (Board-box b).faults b.value) (λ b. (Board-box b).is_sound b.value) boards.old.items boards.new.items) words out.old out.new result }
+    ensures ends { (words : List (List ℕ)) → Asks words (RunOf (run_of run.now))
+        → Ends K.taken K.faults (H.files shelf.old) (H.is_sound shelf.old)
+        (EndBoards place times (λ b. (Board-box b).faults b.value) (λ b. (Board-box b).is_sound b.value) boards.old.items boards.new.items)
+        words out.old out.new result }
     ensures kept { IsKept H.files H.is_sound shelf.old shelf.new }
     ensures later { K.faults out.old ≤ K.faults out.new }
     ensures stops { map place boards.new.items ≡ map place boards.old.items }
@@ -94,7 +97,8 @@ pub fn answer_run<'n, R: Threads + Wait + Sync, S: Source + Send + Drop, H: Hold
     requires some { 0 < batch }
     requires few_boards { vec_len boards.old ≤ BOARDS }
     ensures answers { IfOk result (λ day. AnswersDay S.left S.is_sound net.now rows penalty feeds.items batch day.table day.logs.items) }
-    ensures shown { IfOk result (λ day. AreShown place times (λ b. (Board-box b).faults b.value) (λ b. (Board-box b).is_sound b.value) net.now day.table.times (length day.table.history) day.publisher.notes boards.old.items boards.new.items) }
+    ensures shown { IfOk result (λ day. AreShown place times (λ b. (Board-box b).faults b.value) (λ b. (Board-box b).is_sound b.value)
+        net.now day.table.times (length day.table.history) day.publisher.notes boards.old.items boards.new.items) }
     ensures stops { map place boards.new.items ≡ map place boards.old.items }
 {
     net.sound();

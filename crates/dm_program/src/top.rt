@@ -45,19 +45,42 @@ pub fn dispatch<R: Threads + Wait + Sync, H: Shelf, K: Sink, G: Gate>(
     // The text is that of a run whose journal, logs, notes, times and cost are true, and whose feeds all ended well, or the
     // summary of a generated day, or the verdict that a text is good, or the answer to what is asked of a journal. Each board that
     // no note names shows the final times of its stop. At every end without a run, but for want of memory, the boards are as before.
-    ensures headline { result ≡ Status.Ok → Writes (K.taken out.old) (K.taken out.new) (IsDue (H.files shelf.old) (H.is_sound shelf.old) (EndBoards place times (λ b. (Board-box b).faults b.value) (λ b. (Board-box b).is_sound b.value) boards.old.items boards.new.items) (map string_bytes words.now) Status.Ok) }
+    ensures headline { result ≡ Status.Ok → Writes (K.taken out.old) (K.taken out.new)
+        (IsDue (H.files shelf.old) (H.is_sound shelf.old)
+        (EndBoards place times (λ b. (Board-box b).faults b.value) (λ b. (Board-box b).is_sound b.value) boards.old.items boards.new.items)
+        (map string_bytes words.now) Status.Ok) }
 
     // Each other status has its cause. That a text is bad comes with the first record that breaks its rule, or the first line of a
     // journal. Where a feed alone is the cause, the text is that of a run too.
-    ensures bad { result ≡ Status.Bad → Writes (K.taken out.old) (K.taken out.new) (IsDue (H.files shelf.old) (H.is_sound shelf.old) (EndBoards place times (λ b. (Board-box b).faults b.value) (λ b. (Board-box b).is_sound b.value) boards.old.items boards.new.items) (map string_bytes words.now) Status.Bad) }
-    ensures usage { result ≡ Status.Usage → Writes (K.taken out.old) (K.taken out.new) (IsDue (H.files shelf.old) (H.is_sound shelf.old) (EndBoards place times (λ b. (Board-box b).faults b.value) (λ b. (Board-box b).is_sound b.value) boards.old.items boards.new.items) (map string_bytes words.now) Status.Usage) }
-    ensures refused { result ≡ Status.Refused → Writes (K.taken out.old) (K.taken out.new) (IsDue (H.files shelf.old) (H.is_sound shelf.old) (EndBoards place times (λ b. (Board-box b).faults b.value) (λ b. (Board-box b).is_sound b.value) boards.old.items boards.new.items) (map string_bytes words.now) Status.Refused) }
-    ensures read_fault { result ≡ Status.ReadFault → Writes (K.taken out.old) (K.taken out.new) (IsDue (H.files shelf.old) (H.is_sound shelf.old) (EndBoards place times (λ b. (Board-box b).faults b.value) (λ b. (Board-box b).is_sound b.value) boards.old.items boards.new.items) (map string_bytes words.now) Status.ReadFault) }
-    ensures write_fault { result ≡ Status.WriteFault → FailsToWrite K.taken K.faults out.old out.new (IsDue (H.files shelf.old) (H.is_sound shelf.old) (EndBoards place times (λ b. (Board-box b).faults b.value) (λ b. (Board-box b).is_sound b.value) boards.old.items boards.new.items) (map string_bytes words.now)) }
+    ensures bad { result ≡ Status.Bad → Writes (K.taken out.old) (K.taken out.new)
+        (IsDue (H.files shelf.old) (H.is_sound shelf.old)
+        (EndBoards place times (λ b. (Board-box b).faults b.value) (λ b. (Board-box b).is_sound b.value) boards.old.items boards.new.items)
+        (map string_bytes words.now) Status.Bad) }
+    ensures usage { result ≡ Status.Usage
+        → Writes (K.taken out.old) (K.taken out.new)
+        (IsDue (H.files shelf.old) (H.is_sound shelf.old)
+        (EndBoards place times (λ b. (Board-box b).faults b.value) (λ b. (Board-box b).is_sound b.value) boards.old.items boards.new.items)
+        (map string_bytes words.now) Status.Usage) }
+    ensures refused { result ≡ Status.Refused
+        → Writes (K.taken out.old) (K.taken out.new)
+        (IsDue (H.files shelf.old) (H.is_sound shelf.old)
+        (EndBoards place times (λ b. (Board-box b).faults b.value) (λ b. (Board-box b).is_sound b.value) boards.old.items boards.new.items)
+        (map string_bytes words.now) Status.Refused) }
+    ensures read_fault { result ≡ Status.ReadFault
+        → Writes (K.taken out.old) (K.taken out.new)
+        (IsDue (H.files shelf.old) (H.is_sound shelf.old)
+        (EndBoards place times (λ b. (Board-box b).faults b.value) (λ b. (Board-box b).is_sound b.value) boards.old.items boards.new.items)
+        (map string_bytes words.now) Status.ReadFault) }
+    ensures write_fault { result ≡ Status.WriteFault
+        → FailsToWrite K.taken K.faults out.old out.new
+        (IsDue (H.files shelf.old) (H.is_sound shelf.old)
+        (EndBoards place times (λ b. (Board-box b).faults b.value) (λ b. (Board-box b).is_sound b.value) boards.old.items boards.new.items)
+        (map string_bytes words.now)) }
     ensures no_memory { result ≡ Status.NoMemory → WantsMemory (K.taken out.old) (K.taken out.new) (map string_bytes words.now) }
 
     // Nothing of a generated day is refused: words that ask for one end well, but for a write fault and want of memory.
-    ensures generated { (asked : GenAsked) → Asks (map string_bytes words.now) (GenOf asked) → (result ≡ Status.Ok) ⊎ ((result ≡ Status.WriteFault) ⊎ (result ≡ Status.NoMemory)) }
+    ensures generated { (asked : GenAsked) → Asks (map string_bytes words.now) (GenOf asked) → (result ≡ Status.Ok)
+        ⊎ ((result ≡ Status.WriteFault) ⊎ (result ≡ Status.NoMemory)) }
 
     // Words that ask for nothing come to the usage line, but for a write fault.
     ensures outside { AsksNothing (map string_bytes words.now) → (result ≡ Status.Usage) ⊎ (result ≡ Status.WriteFault) }
@@ -65,44 +88,55 @@ pub fn dispatch<R: Threads + Wait + Sync, H: Shelf, K: Sink, G: Gate>(
     // The first refusal comes exactly where it is, but for the faults that go before.
     ensures first_refusal { (files : FilesAsked) (flaw : AFlaw) → AsksOver (map string_bytes words.now) files → IsSome (H.files shelf.old)
         → OpeningAnswer (H.files shelf.old) files (Err flaw) → EndsAt files flaw (K.taken out.old) (K.taken out.new) result }
-    ensures long_text { (files : FilesAsked) (text : List ℕ) (opening : Opening) → AsksAbout (map string_bytes words.now) files text → IsSome (H.files shelf.old)
+    ensures long_text { (files : FilesAsked) (text : List ℕ) (opening : Opening) → AsksAbout (map string_bytes words.now) files text
+        → IsSome (H.files shelf.old)
         → OpeningAnswer (H.files shelf.old) files (Ok opening) → IsLong (H.files shelf.old) text TEXT
         → EndsTold Status.Refused (long_text_line text) (K.taken out.old) (K.taken out.new) result }
 
     // The verdict on a text comes exactly where it is, but for the same.
-    ensures judged { (asked : CheckAsked) (opening : Opening) (bytes : List ℕ) (verdict : Verdict) → Asks (map string_bytes words.now) (CheckOf asked) → IsSome (H.files shelf.old)
+    ensures judged { (asked : CheckAsked) (opening : Opening) (bytes : List ℕ) (verdict : Verdict)
+        → Asks (map string_bytes words.now) (CheckOf asked) → IsSome (H.files shelf.old)
         → OpeningAnswer (H.files shelf.old) asked.files (Ok opening) → IsHeld (H.files shelf.old) asked.text bytes → length bytes ≤ TEXT
-        → IsVerdict opening.net opening.rows asked.files.penalty bytes verdict → EndsTold (verdict_status verdict) (verdict_line verdict) (K.taken out.old) (K.taken out.new) result }
+        → IsVerdict opening.net opening.rows asked.files.penalty bytes verdict
+        → EndsTold (verdict_status verdict) (verdict_line verdict) (K.taken out.old) (K.taken out.new) result }
 
     // What is asked of the journal of a text is answered from its bytes, but for the same: a line that breaks its rule is told, or a
     // torn line where all are wanted, or the question is answered.
-    ensures answered { (asked : QueryAsked) (opening : Opening) (bytes : List ℕ) → Asks (map string_bytes words.now) (QueryOf asked) → IsSome (H.files shelf.old)
+    ensures answered { (asked : QueryAsked) (opening : Opening) (bytes : List ℕ) → Asks (map string_bytes words.now) (QueryOf asked)
+        → IsSome (H.files shelf.old)
         → OpeningAnswer (H.files shelf.old) asked.files (Ok opening) → IsHeld (H.files shelf.old) asked.text bytes → length bytes ≤ TEXT
-        → EndsAnswered (IsAnswerAt asked.query opening.net opening.rows asked.files.penalty bytes) (K.taken out.old) (K.taken out.new) result }
+        → EndsAnswered (IsAnswerAt asked.query opening.net opening.rows asked.files.penalty bytes) (K.taken out.old) (K.taken out.new)
+        result }
 
     // Good words, files and feeds, a sound shelf and a sink without a fault give a run, or want of memory.
     ensures complete { (asked : RunAsked) (opening : Opening) → Asks (map string_bytes words.now) (RunOf asked) → IsSome (H.files shelf.old)
-        → OpeningAnswer (H.files shelf.old) asked.files (Ok opening) → AreShort (H.files shelf.old) asked → AreSound (H.is_sound shelf.old) asked
+        → OpeningAnswer (H.files shelf.old) asked.files (Ok opening) → AreShort (H.files shelf.old) asked
+        → AreSound (H.is_sound shelf.old) asked
         → (HasRisen (K.faults out.old) (K.faults out.new) → ⊥) → (result ≡ Status.Ok) ⊎ (result ≡ Status.NoMemory) }
 
     // A text that is not too long has a verdict, or wants memory, where the files are good, the shelf is sound and the sink does
     // not fail.
-    ensures complete_check { (asked : CheckAsked) (opening : Opening) (bytes : List ℕ) → Asks (map string_bytes words.now) (CheckOf asked) → IsSome (H.files shelf.old)
+    ensures complete_check { (asked : CheckAsked) (opening : Opening) (bytes : List ℕ) → Asks (map string_bytes words.now) (CheckOf asked)
+        → IsSome (H.files shelf.old)
         → OpeningAnswer (H.files shelf.old) asked.files (Ok opening) → IsHeld (H.files shelf.old) asked.text bytes → length bytes ≤ TEXT
         → IsSoundFor (H.is_sound shelf.old) asked.files asked.text → (HasRisen (K.faults out.old) (K.faults out.new) → ⊥)
         → (result ≡ Status.Ok) ⊎ ((result ≡ Status.Bad) ⊎ (result ≡ Status.NoMemory)) }
 
     // Where the same hold, the text of a true run is good, or wants memory.
-    ensures run_texts_are_good { (asked : CheckAsked) (opening : Opening) (bytes : List ℕ) → Asks (map string_bytes words.now) (CheckOf asked) → IsSome (H.files shelf.old)
+    ensures run_texts_are_good { (asked : CheckAsked) (opening : Opening) (bytes : List ℕ)
+        → Asks (map string_bytes words.now) (CheckOf asked) → IsSome (H.files shelf.old)
         → OpeningAnswer (H.files shelf.old) asked.files (Ok opening) → IsHeld (H.files shelf.old) asked.text bytes → length bytes ≤ TEXT
-        → IsRunText opening.net opening.rows asked.files.penalty bytes → IsSoundFor (H.is_sound shelf.old) asked.files asked.text → (HasRisen (K.faults out.old) (K.faults out.new) → ⊥)
+        → IsRunText opening.net opening.rows asked.files.penalty bytes → IsSoundFor (H.is_sound shelf.old) asked.files asked.text
+        → (HasRisen (K.faults out.old) (K.faults out.new) → ⊥)
         → (result ≡ Status.Ok) ⊎ (result ≡ Status.NoMemory) }
 
     // What is asked of the journal of a text that is not too long is answered, or wants memory, where the same hold.
-    ensures complete_query { (asked : QueryAsked) (opening : Opening) (bytes : List ℕ) → Asks (map string_bytes words.now) (QueryOf asked) → IsSome (H.files shelf.old)
+    ensures complete_query { (asked : QueryAsked) (opening : Opening) (bytes : List ℕ) → Asks (map string_bytes words.now) (QueryOf asked)
+        → IsSome (H.files shelf.old)
         → OpeningAnswer (H.files shelf.old) asked.files (Ok opening) → IsHeld (H.files shelf.old) asked.text bytes → length bytes ≤ TEXT
         → IsSoundFor (H.is_sound shelf.old) asked.files asked.text → (HasRisen (K.faults out.old) (K.faults out.new) → ⊥)
-        → Writes (K.taken out.old) (K.taken out.new) (IsAnswerAt asked.query opening.net opening.rows asked.files.penalty bytes result) ⊎ (result ≡ Status.NoMemory) }
+        → Writes (K.taken out.old) (K.taken out.new) (IsAnswerAt asked.query opening.net opening.rows asked.files.penalty bytes result)
+        ⊎ (result ≡ Status.NoMemory) }
 
     // Whatever the status, words that ask for no run leave the boards as they were, the shelf tells what it told, the sink's
     // count has not fallen and the list has its boards in their order.
@@ -125,7 +159,9 @@ fn run<R: Threads + Wait + Sync, H: Shelf, K: Sink, G: Hold + Sync>(
     out: &mut K,
 ) -> Status
     requires few_boards { vec_len boards.old ≤ BOARDS }
-    ensures ends { Ends K.taken K.faults (H.files shelf.old) (H.is_sound shelf.old) (EndBoards place times (λ b. (Board-box b).faults b.value) (λ b. (Board-box b).is_sound b.value) boards.old.items boards.new.items) (map string_bytes words.now) out.old out.new result }
+    ensures ends { Ends K.taken K.faults (H.files shelf.old) (H.is_sound shelf.old)
+        (EndBoards place times (λ b. (Board-box b).faults b.value) (λ b. (Board-box b).is_sound b.value) boards.old.items boards.new.items)
+        (map string_bytes words.now) out.old out.new result }
     ensures kept { IsKept H.files H.is_sound shelf.old shelf.new }
     ensures later { K.faults out.old ≤ K.faults out.new }
     ensures stops { map place boards.new.items ≡ map place boards.old.items }
@@ -149,7 +185,10 @@ fn do_command<R: Threads + Wait + Sync, H: Shelf, K: Sink, G: Hold + Sync>(
 ) -> Status
     requires within { IsWithin (command_of command.now) }
     requires few_boards { vec_len boards.old ≤ BOARDS }
-    ensures ends { (words : List (List ℕ)) → Asks words (command_of command.now) → Ends K.taken K.faults (H.files shelf.old) (H.is_sound shelf.old) (EndBoards place times (λ b. (Board-box b).faults b.value) (λ b. (Board-box b).is_sound b.value) boards.old.items boards.new.items) words out.old out.new result }
+    ensures ends { (words : List (List ℕ)) → Asks words (command_of command.now)
+        → Ends K.taken K.faults (H.files shelf.old) (H.is_sound shelf.old)
+        (EndBoards place times (λ b. (Board-box b).faults b.value) (λ b. (Board-box b).is_sound b.value) boards.old.items boards.new.items)
+        words out.old out.new result }
     ensures kept { IsKept H.files H.is_sound shelf.old shelf.new }
     ensures later { K.faults out.old ≤ K.faults out.new }
     ensures stops { map place boards.new.items ≡ map place boards.old.items }

@@ -4,19 +4,20 @@ use Rattle.std.specs.Char.{IsAsciiDigit}
 use Rattle.dm_lintim.specs.Columns.{FileColumns, ReadsFileColumns}
 use Rattle.dm_lintim.specs.declared.columns.ColumnFault.{ColumnFault}
 use Rattle.dm_lintim.proofs.WordLemmas.{columns_one}
-use Rattle.dm_words.specs.Options.{GivesOption, penalty_option, batch_option, boards_option, event_columns_option, activity_columns_option, event_delays_option, activity_delays_option, changes_option, workers_option}
+use Rattle.dm_words.specs.Options.{GivesOption, penalty_option, batch_option, boards_option, event_columns_option, activity_columns_option, event_delays_option, activity_delays_option, at_option, changes_option, workers_option}
 use Rattle.dm_words.specs.Stops.{AreBoards}
 use Rattle.dm_words.specs.Values.{IsNumber, IsNumberOr}
 use Rattle.dm_words.specs.Words.{Command, FilesAsked, RunAsked, CheckAsked, GenAsked, QueryAsked, RunOf, CheckOf, GenOf, QueryOf, Asks, AsksFiles, AsksRun, AsksCheck, AsksGen, AsksQuery, IsPenalty, IsBatch, HasBoards, event_words, activity_words}
-use Rattle.dm_words.specs.Queries.{AsksJourney, AsksOwn, AsksRules, HasChanges, HasWorkers, IsRule, kind_of, word_of}
+use Rattle.dm_words.specs.Queries.{AsksJourney, AsksOwn, AsksRules, AsksWindow, HasChanges, HasEntry, HasWorkers, IsEntryOrNone, IsRule, kind_of, word_of}
 use Rattle.dm_words.specs.declared.options.QueryKind.{QueryKind}
 use Rattle.dm_words.specs.declared.options.QueryKind.TheVariants as kind
 use Rattle.dm_words.specs.declared.queries.JourneyWords.{JourneyWords}
+use Rattle.dm_words.specs.declared.queries.WindowWords.{WindowWords}
+use Rattle.dm_words.specs.declared.queries.Query.{Query}
+use Rattle.dm_words.specs.declared.queries.Query.TheVariants.{Follow, Window, Rules, Journey}
 use Rattle.dm_words.specs.declared.queries.RulesWords.{RulesWords}
 use Rattle.dm_words.specs.declared.queries.RuleWord.{RuleWord}
 use Rattle.dm_words.specs.declared.queries.RuleWord.TheVariants.{Never, Always, AtMost}
-use Rattle.dm_words.specs.declared.queries.Query.{Query}
-use Rattle.dm_words.specs.declared.queries.Query.TheVariants.{Follow, Rules, Journey}
 use Rattle.dm_words.proofs.Stopping.{spell_one}
 
 given_one : (option : List ℕ) (words : List (List ℕ)) (a b : Option (List ℕ)) → GivesOption option words a → GivesOption option words b → a ≡ b
@@ -167,6 +168,38 @@ journey_one names words x y p q =
     (number_one q.after _ _ x.after y.after (subst (λ (t : List ℕ). IsNumber t _ _ x.after) after p.is_after) q.is_after)
     (changes_one words x.changes y.changes p.changes q.changes)
 
+entry_or_one : (value : Option (List ℕ)) (a b : Option ℕ) → IsEntryOrNone value a → IsEntryOrNone value b → a ≡ b
+entry_or_one None None None p q = refl
+entry_or_one None None (Some b) p q = absurd q
+entry_or_one None (Some a) b p q = absurd p
+entry_or_one (Some text) None b p q = absurd p
+entry_or_one (Some text) (Some a) None p q = absurd q
+entry_or_one (Some text) (Some a) (Some b) p q = ap Some (number_one text _ _ a b p q)
+
+entry_one : (words : List (List ℕ)) (a b : Option ℕ) → HasEntry words a → HasEntry words b → a ≡ b
+entry_one words a b p q =
+    let same = given_one at_option words p.value q.value p.given q.given in
+    entry_or_one q.value a b (subst (λ (v : Option (List ℕ)). IsEntryOrNone v a) same p.is) q.is
+
+window_is : (x y : WindowWords) → x.from ≡ y.from → x.to ≡ y.to → x.budget ≡ y.budget → x.at ≡ y.at → x ≡ y
+window_is x y from to budget at =
+    ap (λ v. record x { from = v }) from
+    ∙ (ap (λ v. record x { from = y.from; to = v }) to
+    ∙ (ap (λ v. record x { from = y.from; to = y.to; budget = v }) budget
+    ∙ ap (λ v. record y { at = v }) at))
+
+window_one : (names words : List (List ℕ)) (x y : WindowWords) → AsksWindow x names words → AsksWindow y names words → x ≡ y
+window_one names words x y p q =
+    let same = sym p.are_names ∙ q.are_names in
+    let from = first_name p.from q.from (p.to ∷ p.budget ∷ []) (q.to ∷ q.budget ∷ []) same in
+    let to = middle_name p.from p.to p.budget q.from q.to q.budget same in
+    let budget = third_name p.from p.to p.budget q.from q.to q.budget same in
+    let to_is : IsNumber q.to x.from _ x.to = subst (λ (t : List ℕ). IsNumber t x.from _ x.to) to p.is_to in
+    window_is x y (number_one q.from _ _ x.from y.from (subst (λ (t : List ℕ). IsNumber t _ _ x.from) from p.is_from) q.is_from)
+    (to_is.is ∙ sym q.is_to.is)
+    (number_one q.budget _ _ x.budget y.budget (subst (λ (t : List ℕ). IsNumber t _ _ x.budget) budget p.is_budget) q.is_budget)
+    (entry_one words x.at y.at p.at q.at)
+
 workers_one : (words : List (List ℕ)) (a b : ℕ) → HasWorkers words a → HasWorkers words b → a ≡ b
 workers_one words a b p q =
     let same = given_one workers_option words p.value q.value p.given q.given in
@@ -209,12 +242,19 @@ own_one : (names words : List (List ℕ)) (x y : Query) → kind_of x ≡ kind_o
 own_one names words Follow Follow same p q = refl
 own_one names words (Rules x) (Rules y) same p q = ap Rules (rules_one names words x y p q)
 own_one names words (Journey x) (Journey y) same p q = ap Journey (journey_one names words x y p q)
+own_one names words (Window x) (Window y) same p q = ap Window (window_one names words x y p q)
+own_one names words Follow (Window y) same p q = absurd cc
+own_one names words (Window x) Follow same p q = absurd cc
+own_one names words (Window x) (Journey y) same p q = absurd cc
+own_one names words (Journey x) (Window y) same p q = absurd cc
 own_one names words Follow (Journey y) same p q = absurd cc
 own_one names words (Journey x) Follow same p q = absurd cc
 own_one names words Follow (Rules y) same p q = absurd cc
 own_one names words (Rules x) Follow same p q = absurd cc
 own_one names words (Rules x) (Journey y) same p q = absurd cc
 own_one names words (Journey x) (Rules y) same p q = absurd cc
+own_one names words (Window x) (Rules y) same p q = absurd cc
+own_one names words (Rules x) (Window y) same p q = absurd cc
 
 query_is : (x y : QueryAsked) → x.files ≡ y.files → x.text ≡ y.text → x.query ≡ y.query → x ≡ y
 query_is x y files text query =
@@ -234,26 +274,36 @@ query_one words x y kind p q =
 word_one : (x y : QueryKind) → word_of x ≡ word_of y → x ≡ y
 word_one kind.Follow kind.Follow is = refl
 word_one kind.Journey kind.Journey is = refl
+word_one kind.Window kind.Window is = refl
+word_one kind.Follow kind.Window is = absurd (differ (codes "follow") (codes "window") (codes "follow") refl is refl)
+word_one kind.Window kind.Follow is = absurd (differ (codes "window") (codes "follow") (codes "window") refl is refl)
+word_one kind.Window kind.Journey is = absurd (differ (codes "window") (codes "journey") (codes "window") refl is refl)
+word_one kind.Journey kind.Window is = absurd (differ (codes "journey") (codes "window") (codes "journey") refl is refl)
 word_one kind.Rules kind.Rules is = refl
 word_one kind.Follow kind.Rules is = absurd (differ (codes "follow") (codes "rules") (codes "follow") refl is refl)
 word_one kind.Rules kind.Follow is = absurd (differ (codes "rules") (codes "follow") (codes "rules") refl is refl)
 word_one kind.Rules kind.Journey is = absurd (differ (codes "rules") (codes "journey") (codes "rules") refl is refl)
 word_one kind.Journey kind.Rules is = absurd (differ (codes "journey") (codes "rules") (codes "journey") refl is refl)
+word_one kind.Window kind.Rules is = absurd (differ (codes "window") (codes "rules") (codes "window") refl is refl)
+word_one kind.Rules kind.Window is = absurd (differ (codes "rules") (codes "window") (codes "rules") refl is refl)
 word_one kind.Follow kind.Journey is = absurd (differ (codes "follow") (codes "journey") (codes "follow") refl is refl)
 word_one kind.Journey kind.Follow is = absurd (differ (codes "journey") (codes "follow") (codes "journey") refl is refl)
 
 pub no_word_run : (k : QueryKind) (word : List ℕ) → word ≡ word_of k → word ≡ codes "run" → ⊥
 no_word_run kind.Follow word p q = differ (codes "follow") (codes "run") word p q refl
+no_word_run kind.Window word p q = differ (codes "window") (codes "run") word p q refl
 no_word_run kind.Rules word p q = differ_later 2 (codes "rules") (codes "run") word p q refl
 no_word_run kind.Journey word p q = differ (codes "journey") (codes "run") word p q refl
 
 pub no_word_check : (k : QueryKind) (word : List ℕ) → word ≡ word_of k → word ≡ codes "check" → ⊥
 no_word_check kind.Follow word p q = differ (codes "follow") (codes "check") word p q refl
+no_word_check kind.Window word p q = differ (codes "window") (codes "check") word p q refl
 no_word_check kind.Rules word p q = differ (codes "rules") (codes "check") word p q refl
 no_word_check kind.Journey word p q = differ (codes "journey") (codes "check") word p q refl
 
 pub no_word_gen : (k : QueryKind) (word : List ℕ) → word ≡ word_of k → word ≡ codes "gen" → ⊥
 no_word_gen kind.Follow word p q = differ (codes "follow") (codes "gen") word p q refl
+no_word_gen kind.Window word p q = differ (codes "window") (codes "gen") word p q refl
 no_word_gen kind.Rules word p q = differ (codes "rules") (codes "gen") word p q refl
 no_word_gen kind.Journey word p q = differ (codes "journey") (codes "gen") word p q refl
 

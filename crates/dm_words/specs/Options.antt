@@ -7,7 +7,7 @@ use Rattle.std.specs.List.{filter_map, list_any}
 use Rattle.std.specs.Str.{bytes_eq}
 use Rattle.dm_words.specs.declared.options.Kind.{Kind}
 use Rattle.dm_words.specs.declared.options.Kind.TheVariants.{Run, Check, Gen, Query}
-use Rattle.dm_words.specs.declared.options.QueryKind.TheVariants.{Follow, Rules, Journey}
+use Rattle.dm_words.specs.declared.options.QueryKind.TheVariants.{Follow, Window, Rules, Journey}
 
 -- how the word of each option begins
 abbrev pub penalty_option : List ℕ
@@ -31,6 +31,9 @@ activity_delays_option = codes "--activity-delays="
 abbrev pub boards_option : List ℕ
 boards_option = codes "--boards="
 
+abbrev pub at_option : List ℕ
+at_option = codes "--at="
+
 abbrev pub changes_option : List ℕ
 changes_option = codes "--changes="
 
@@ -48,6 +51,7 @@ options_of Run = batch_option ∷ boards_option ∷ file_options
 options_of Check = file_options
 options_of Gen = penalty_option ∷ []
 options_of (Query Follow) = file_options
+options_of (Query Window) = at_option ∷ file_options
 options_of (Query Rules) = workers_option ∷ file_options
 options_of (Query Journey) = changes_option ∷ file_options
 

@@ -1,29 +1,56 @@
--- What words may ask of the journal of a text: `follow DIR TEXT`, `rules DIR TEXT RULE BUDGET` or
--- `journey DIR TEXT FROM TO AFTER`.
-use Rattle.std.specs.Prelude.{ℕ, ◌≡◌, List, [], ◌∷◌, Option, codes}
-use Rattle.dm_base.specs.declared.limits.TheConstants.{BUDGET, PASSED_TIME}
-use Rattle.dm_words.specs.Options.{GivesOption, changes_option, workers_option}
+-- What words may ask of the journal of a text: `follow DIR TEXT`, `window DIR TEXT FROM TO BUDGET`,
+-- `rules DIR TEXT RULE BUDGET` or `journey DIR TEXT FROM TO AFTER`.
+use Rattle.std.specs.Prelude.{ℕ, ◌≡◌, List, [], ◌∷◌, Option, Some, None, codes}
+use Rattle.dm_base.specs.declared.limits.TheConstants.{BUDGET, PASSED_TIME, TIME}
+use Rattle.dm_words.specs.Options.{GivesOption, at_option, changes_option, workers_option}
 use Rattle.dm_words.specs.Values.{IsNumber, IsNumberOr}
 use Rattle.dm_words.specs.declared.options.QueryKind.{QueryKind}
 use Rattle.dm_words.specs.declared.options.QueryKind.TheVariants as kind
 use Rattle.dm_words.specs.declared.queries.JourneyWords.{JourneyWords}
+use Rattle.dm_words.specs.declared.queries.WindowWords.{WindowWords}
 use Rattle.dm_words.specs.declared.queries.Query.{Query}
 use Rattle.dm_words.specs.declared.queries.RulesWords.{RulesWords}
 use Rattle.dm_words.specs.declared.queries.RuleWord.{RuleWord}
 use Rattle.dm_words.specs.declared.queries.RuleWord.TheVariants.{Never, Always, AtMost}
-use Rattle.dm_words.specs.declared.queries.Query.TheVariants.{Follow, Rules, Journey}
-use Rattle.dm_words.specs.declared.queries.TheConstants.{CHANGES, LARGEST_STOP, LONGEST_WAIT, STANDARD_CHANGES, STANDARD_WORKERS, WORKERS}
+use Rattle.dm_words.specs.declared.queries.Query.TheVariants.{Follow, Window, Rules, Journey}
+use Rattle.dm_words.specs.declared.queries.TheConstants.{CHANGES, LARGEST_ENTRY, LARGEST_STOP, LONGEST_WAIT, STANDARD_CHANGES, STANDARD_WORKERS, WORKERS}
 
 abbrev pub kind_of : Query → QueryKind
 kind_of Follow = kind.Follow
+kind_of (Window window) = kind.Window
 kind_of (Rules rules) = kind.Rules
 kind_of (Journey journey) = kind.Journey
 
 -- the command word
 abbrev pub word_of : QueryKind → List ℕ
 word_of kind.Follow = codes "follow"
+word_of kind.Window = codes "window"
 word_of kind.Rules = codes "rules"
 word_of kind.Journey = codes "journey"
+
+-- the entry that a value names, or none where no value is given
+abbrev pub IsEntryOrNone : Option (List ℕ) → Option ℕ → Type 0
+IsEntryOrNone None None = Unit {0}
+IsEntryOrNone None (Some at) = ⊥
+IsEntryOrNone (Some text) None = ⊥
+IsEntryOrNone (Some text) (Some at) = IsNumber text 0 LARGEST_ENTRY at
+
+-- the entry that the words name, if they name one
+pub record HasEntry (words : List (List ℕ)) (at : Option ℕ) : Type 0 where
+  pub value : Option (List ℕ)
+  pub given : GivesOption at_option words value
+  pub is : IsEntryOrNone value at
+
+-- the names are two times, the second no earlier than the first, and a budget, and the words may name an entry
+pub record AsksWindow (window : WindowWords) (names words : List (List ℕ)) : Type 0 where
+  pub from : List ℕ
+  pub to : List ℕ
+  pub budget : List ℕ
+  pub are_names : names ≡ from ∷ to ∷ budget ∷ []
+  pub is_from : IsNumber from 0 TIME window.from
+  pub is_to : IsNumber to window.from TIME window.to
+  pub is_budget : IsNumber budget 1 BUDGET window.budget
+  pub at : HasEntry words window.at
 
 -- the word of a waiting rule
 abbrev pub IsRule : List ℕ → RuleWord → Type 0
@@ -66,5 +93,6 @@ pub record AsksJourney (journey : JourneyWords) (names words : List (List ℕ)) 
 -- what the names behind the folder and the text, and the options among the words, ask of the journal
 abbrev pub AsksOwn : Query → List (List ℕ) → List (List ℕ) → Type 0
 AsksOwn Follow names words = names ≡ []
+AsksOwn (Window window) names words = AsksWindow window names words
 AsksOwn (Rules rules) names words = AsksRules rules names words
 AsksOwn (Journey journey) names words = AsksJourney journey names words

@@ -23,5 +23,5 @@ pub use boards::board_words;
 pub use command::{CheckWords, CommandWords, GenWords, RunWords, read_words};
 pub use files::FileWords;
 pub use options::Names;
-pub use queries::{JourneyWords, Query, QueryWords, RuleWord, RulesWords};
+pub use queries::{JourneyWords, Query, QueryWords, RuleWord, RulesWords, WindowWords};
 pub use stops::Stops;

@@ -20,6 +20,8 @@ pub const ACTIVITY_DELAYS: &str = "--activity-delays=";
 
 pub const BOARDS_OPTION: &str = "--boards=";
 
+pub const AT_OPTION: &str = "--at=";
+
 pub const CHANGES_OPTION: &str = "--changes=";
 
 pub const WORKERS_OPTION: &str = "--workers=";
@@ -28,6 +30,7 @@ pub const WORKERS_OPTION: &str = "--workers=";
 #[derive(Clone, Copy, PartialEq, Eq, Debug)]
 pub enum QueryKind {
     Follow,
+    Window,
     Rules,
     Journey,
 }
@@ -80,6 +83,9 @@ fn is_option(kind: Kind, word: &str) -> bool
         }
         Kind::Check | Kind::Query(QueryKind::Follow) => is_file_option(word),
         Kind::Gen => behind(PENALTY_OPTION, word).is_some(),
+        Kind::Query(QueryKind::Window) => {
+            behind(AT_OPTION, word).is_some() || is_file_option(word)
+        }
         Kind::Query(QueryKind::Rules) => {
             behind(WORKERS_OPTION, word).is_some() || is_file_option(word)
         }

@@ -1,21 +1,24 @@
 //! What the words of a command line ask of the journal of a text.
-ghost use Rattle.std.specs.Prelude.{ℕ, ◌≡◌, List, map, filter, string_bytes, MatchOption};
+ghost use Rattle.std.specs.Prelude.{ℕ, ◌≡◌, List, map, filter, string_bytes, Option, MatchOption};
 ghost use Rattle.dm_words.specs.Asked.{query_of};
 ghost use Rattle.dm_words.specs.Options.{is_name};
-ghost use Rattle.dm_words.specs.Queries.{AsksJourney, AsksOwn, AsksRules, HasChanges, HasWorkers, IsRule, kind_of, word_of};
+ghost use Rattle.dm_words.specs.Queries.{AsksJourney, AsksOwn, AsksRules, AsksWindow, HasChanges, HasEntry, HasWorkers, IsRule, kind_of, word_of};
 ghost use Rattle.dm_words.specs.Words.{AsksQuery, QueryAsked};
 
 use crate::files::{FileWords, number_of, number_or, read_files};
 use crate::options::{
-    CHANGES_OPTION, Kind, QueryKind, WORKERS_OPTION, are_known, given, next_name, three_names,
-    two_names,
+    AT_OPTION, CHANGES_OPTION, Kind, QueryKind, WORKERS_OPTION, are_known, given, next_name,
+    three_names, two_names,
 };
-use dm_base::limits::{BUDGET, PASSED_TIME};
+use dm_base::limits::{BUDGET, PASSED_TIME, TIME};
 
 /// The most changes of a journey, and how many where the words do not say it.
 pub const CHANGES: u64 = 8;
 
 pub const STANDARD_CHANGES: u64 = 4;
+
+/// The largest number of an entry.
+pub const LARGEST_ENTRY: u64 = 1_000_000;
 
 /// The largest number of a stop.
 pub const LARGEST_STOP: u64 = 4_294_967_295;
@@ -63,11 +66,30 @@ pub struct JourneyWords {
     pub changes: u32,
 }
 
+/// A plan of a stretch of scheduled time, in seconds, with both of its ends.
+#[derive(Clone, Copy, PartialEq, Eq, Debug)]
+pub struct WindowWords {
+    /// At most `TIME`, and no later than `to`.
+    pub from: u64,
+
+    /// At most `TIME`.
+    pub to: u64,
+
+    /// How many nodes the plan may have, from 1 to 16,384.
+    pub budget: u64,
+
+    /// The entry for whose rows the plan is made, at most 1,000,000, or the last one.
+    pub at: Option<u32>,
+}
+
 /// What is asked of a journal.
 #[derive(Clone, Copy, PartialEq, Eq, Debug)]
 pub enum Query {
     /// The timetable after the entries that the text carries.
     Follow,
+
+    /// A plan of a stretch of time.
+    Window(WindowWords),
 
     /// What a waiting rule chooses after the last entry, beside a plan.
     Rules(RulesWords),
@@ -92,6 +114,9 @@ pub fn kind_of_word(command: &str) -> Option<QueryKind>
 {
     if command == "follow" {
         return Some(QueryKind::Follow);
+    }
+    if command == "window" {
+        return Some(QueryKind::Window);
     }
     if command == "rules" {
         return Some(QueryKind::Rules);
@@ -120,7 +145,8 @@ fn rule_of(word: &str) -> Option<RuleWord>
 
 /// How many workers search.
 fn workers_of(words: &[String]) -> Option<u64>
-    ensures { MatchOption result ((n : ℕ) → HasWorkers (map string_bytes words.now) n → ⊥) (λ n. HasWorkers (map string_bytes words.now) n) }
+    ensures { MatchOption result ((n : ℕ) → HasWorkers (map string_bytes words.now) n → ⊥)
+        (λ n. HasWorkers (map string_bytes words.now) n) }
 {
     let Some(workers) = given(WORKERS_OPTION, words) else {
         return None;
@@ -130,7 +156,8 @@ fn workers_of(words: &[String]) -> Option<u64>
 
 /// The rule and the plan that the names behind a text, and the options among the words, ask for.
 fn read_rules(names: &[String], words: &[String]) -> Option<RulesWords>
-    ensures { MatchOption result ((rules : _) → AsksRules rules (filter is_name (map string_bytes names.now)) (map string_bytes words.now) → ⊥)
+    ensures { MatchOption result ((rules : _) → AsksRules rules (filter is_name (map string_bytes names.now)) (map string_bytes words.now)
+        → ⊥)
         (λ rules. AsksRules rules (filter is_name (map string_bytes names.now)) (map string_bytes words.now)) }
 {
     let Some((rule, budget)) = two_names(names) else {
@@ -154,7 +181,8 @@ fn read_rules(names: &[String], words: &[String]) -> Option<RulesWords>
 
 /// The most changes of a journey.
 fn changes_of(words: &[String]) -> Option<u64>
-    ensures { MatchOption result ((n : ℕ) → HasChanges (map string_bytes words.now) n → ⊥) (λ n. HasChanges (map string_bytes words.now) n) }
+    ensures { MatchOption result ((n : ℕ) → HasChanges (map string_bytes words.now) n → ⊥)
+        (λ n. HasChanges (map string_bytes words.now) n) }
 {
     let Some(changes) = given(CHANGES_OPTION, words) else {
         return None;
@@ -164,7 +192,8 @@ fn changes_of(words: &[String]) -> Option<u64>
 
 /// The journey that the names behind a text, and the options among the words, ask for.
 fn read_journey(names: &[String], words: &[String]) -> Option<JourneyWords>
-    ensures { MatchOption result ((journey : _) → AsksJourney journey (filter is_name (map string_bytes names.now)) (map string_bytes words.now) → ⊥)
+    ensures { MatchOption result ((journey : _)
+        → AsksJourney journey (filter is_name (map string_bytes names.now)) (map string_bytes words.now) → ⊥)
         (λ journey. AsksJourney journey (filter is_name (map string_bytes names.now)) (map string_bytes words.now)) }
 {
     let Some((from, to, after)) = three_names(names) else {
@@ -190,15 +219,66 @@ fn read_journey(names: &[String], words: &[String]) -> Option<JourneyWords>
     })
 }
 
+/// The entry that the words name, if they name one.
+fn at_of(words: &[String]) -> Option<Option<u32>>
+    ensures { MatchOption result ((at : Option ℕ) → HasEntry (map string_bytes words.now) at → ⊥)
+        (λ at. HasEntry (map string_bytes words.now) at) }
+{
+    let Some(at) = given(AT_OPTION, words) else {
+        return None;
+    };
+    match at {
+        Some(text) => match number_of(text, 0, LARGEST_ENTRY) {
+            Some(at) => Some(Some(at as u32)),
+            None => None,
+        },
+        None => Some(None),
+    }
+}
+
+/// The window that the names behind a text, and the options among the words, ask for.
+fn read_window(names: &[String], words: &[String]) -> Option<WindowWords>
+    ensures { MatchOption result ((window : _)
+        → AsksWindow window (filter is_name (map string_bytes names.now)) (map string_bytes words.now) → ⊥)
+        (λ window. AsksWindow window (filter is_name (map string_bytes names.now)) (map string_bytes words.now)) }
+{
+    let Some((from, to, budget)) = three_names(names) else {
+        return None;
+    };
+    let Some(from) = number_of(from, 0, TIME) else {
+        return None;
+    };
+    let Some(to) = number_of(to, from, TIME) else {
+        return None;
+    };
+    let Some(budget) = number_of(budget, 1, BUDGET) else {
+        return None;
+    };
+    let Some(at) = at_of(words) else {
+        return None;
+    };
+    Some(WindowWords {
+        from,
+        to,
+        budget,
+        at,
+    })
+}
+
 /// What the names behind a text, and the options among the words, ask of its journal.
 fn read_own(kind: QueryKind, names: &[String], words: &[String]) -> Option<Query>
-    ensures { MatchOption result ((query : _) → kind_of query ≡ kind → AsksOwn query (filter is_name (map string_bytes names.now)) (map string_bytes words.now) → ⊥)
+    ensures { MatchOption result ((query : _) → kind_of query ≡ kind
+        → AsksOwn query (filter is_name (map string_bytes names.now)) (map string_bytes words.now) → ⊥)
         (λ query. (kind_of query ≡ kind) × AsksOwn query (filter is_name (map string_bytes names.now)) (map string_bytes words.now)) }
 {
     match kind {
         QueryKind::Follow => match next_name(names) {
             Some(_) => None,
             None => Some(Query::Follow),
+        },
+        QueryKind::Window => match read_window(names, words) {
+            Some(window) => Some(Query::Window(window)),
+            None => None,
         },
         QueryKind::Rules => match read_rules(names, words) {
             Some(rules) => Some(Query::Rules(rules)),

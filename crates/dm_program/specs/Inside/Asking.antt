@@ -1,5 +1,5 @@
 -- Stages of what is asked of a journal.
-use Rattle.std.specs.Prelude.{ℕ, ◌≡◌, ◌<◌, ◌≤◌, ◌⊎◌, List, [], ◌∷◌, length, Option, Ok}
+use Rattle.std.specs.Prelude.{ℕ, ◌≡◌, ◌<◌, ◌≤◌, ◌⊎◌, List, [], ◌∷◌, length, Option, Some, Ok, IfSome}
 use Rattle.std.specs.List.{All}
 use Rattle.dm_base.specs.declared.limits.TheConstants.{TEXT}
 use Rattle.dm_network.specs.Net.{Net}
@@ -18,6 +18,9 @@ use Rattle.dm_input.specs.Stops.{IsLong}
 use Rattle.dm_words.specs.Words.{QueryAsked}
 use Rattle.dm_words.specs.declared.queries.Query.{Query}
 use Rattle.dm_words.specs.declared.queries.JourneyWords.{JourneyWords}
+use Rattle.dm_words.specs.declared.queries.WindowWords.{WindowWords}
+use Rattle.dm_outlook.specs.Outlooks.{IsOutlook}
+use Rattle.dm_outlook.specs.declared.outlook.Outlook.{Outlook}
 use Rattle.dm_words.specs.declared.queries.RulesWords.{RulesWords}
 use Rattle.dm_waitrule.specs.Compared.{Compares}
 use Rattle.dm_waitrule.specs.declared.comparing.Comparison.{Comparison}
@@ -30,6 +33,8 @@ use Rattle.dm_ruling.specs.Texts.{comparison_text}
 use Rattle.dm_program.specs.Ruled.{rule_named}
 use Rattle.dm_program.specs.Travelled.{journeys_text, stop_numbered}
 use Rattle.dm_program.specs.Verdicts.{long_text_line, unread_text_line}
+use Rattle.dm_program.specs.Windowed.{unknown_entry_line}
+use Rattle.dm_outlook.specs.Texts.{outlook_text}
 use Rattle.dm_program.specs.Inside.Checking.{EndsAtFiles}
 
 -- ---- texts
@@ -63,6 +68,25 @@ pub record PrintsJourneys {K : Type 0} (taken : K → Option (List ℕ)) (faults
 
 abbrev pub EndsTravelled : {K : Type 0} → (K → Option (List ℕ)) → (K → ℕ) → JourneyWords → TableValue → K → K → Status → Type 0
 EndsTravelled taken faults asked table before now result = PrintsJourneys taken faults asked table before now result ⊎ ((now ≡ before) × (result ≡ NoMemory))
+
+-- a plan that answers the question was printed, or that there are fewer entries than are named, or there was not enough memory
+pub record PrintsOutlook {K : Type 0} (taken : K → Option (List ℕ)) (faults : K → ℕ) (asked : WindowWords) (table : TableValue) (before now : K) (result : Status) : Type 0 where
+  pub is_table : IsTable table
+  pub among : IfSome asked.at (λ n. n ≤ length table.history)
+  pub outlook : Outlook
+  pub answer : IsOutlook table.network table.start table.penalty table.history asked.from asked.to asked.budget asked.at outlook
+  pub ends : EndsAs taken faults before now (outlook_text asked.from asked.to (length table.history) outlook) Well result
+
+pub record PrintsUnknown {K : Type 0} (taken : K → Option (List ℕ)) (faults : K → ℕ) (asked : WindowWords) (table : TableValue) (before now : K) (result : Status) : Type 0 where
+  pub n : ℕ
+  pub named : asked.at ≡ Some n
+  pub above : length table.history < n
+  pub ends : EndsAs taken faults before now (unknown_entry_line n) Refused result
+
+abbrev pub EndsOutlook : {K : Type 0} → (K → Option (List ℕ)) → (K → ℕ) → WindowWords → TableValue → K → K → Status → Type 0
+EndsOutlook taken faults asked table before now result =
+    PrintsOutlook taken faults asked table before now result
+    ⊎ (PrintsUnknown taken faults asked table before now result ⊎ ((now ≡ before) × (result ≡ NoMemory)))
 
 -- a comparison that answers the question was printed, or there was not enough memory
 pub record PrintsComparison {K : Type 0} (taken : K → Option (List ℕ)) (faults : K → ℕ) (asked : RulesWords) (table : TableValue) (before now : K) (result : Status) : Type 0 where

@@ -6,9 +6,10 @@ use Rattle.dm_input.specs.Input.{Told, IsHeld}
 use Rattle.dm_input.specs.Lines.{refused_line, read_fault_line}
 use Rattle.dm_words.specs.Words.{RunAsked, QueryAsked, FilesAsked, Command, RunOf, CheckOf, GenOf, QueryOf}
 use Rattle.dm_words.specs.declared.queries.Query.{Query}
+use Rattle.dm_words.specs.declared.queries.Query.TheVariants.{Follow, Window, Rules, Journey}
+use Rattle.dm_words.specs.declared.queries.WindowWords.{WindowWords}
 use Rattle.dm_words.specs.declared.queries.RulesWords.{RulesWords}
 use Rattle.dm_waitrule.specs.Rules.{KeepsWithin}
-use Rattle.dm_words.specs.declared.queries.Query.TheVariants.{Follow, Rules, Journey}
 use Rattle.dm_input.specs.declared.flaws.InputStop.{InputStop}
 use Rattle.dm_input.specs.declared.flaws.InputStop.TheVariants.{Refused, ReadFault, NoMemory}
 use Rattle.dm_network.specs.Net.{Net}
@@ -40,6 +41,10 @@ pub record AreWithin (asked : RunAsked) : Type 0 where
   pub some_lines : 0 < asked.batch
   pub few_lines : asked.batch < 2 ^ 32
 
+-- the budget of a window
+abbrev pub IsWindowWithin : WindowWords → Type 0
+IsWindowWithin asked = (1 ≤ asked.budget) × (asked.budget ≤ BUDGET)
+
 -- the numbers of a rule and of the plan beside it
 pub record AreRulesWithin (asked : RulesWords) : Type 0 where
   pub limit : KeepsWithin DELAY (rule_named asked.rule)
@@ -48,6 +53,7 @@ pub record AreRulesWithin (asked : RulesWords) : Type 0 where
 -- the numbers of a question to a journal
 abbrev pub IsWithinLimits : Query → Type 0
 IsWithinLimits Follow = Unit {0}
+IsWithinLimits (Window asked) = IsWindowWithin asked
 IsWithinLimits (Rules asked) = AreRulesWithin asked
 IsWithinLimits (Journey asked) = asked.changes ≤ 8
 

@@ -3,8 +3,8 @@ use Rattle.dm_table.specs.Value.{TableValue}
 use Rattle.dm_journal.specs.declared.giving.Journal.{Journal as AJournal}
 use Rattle.dm_journal.specs.Journals.{IsJournal}
 use Rattle.dm_words.specs.declared.queries.Query.{Query}
-use Rattle.dm_program.specs.Inside.Asking.{EndsCompared, EndsOnJournal, EndsTravelled}
-use Rattle.dm_program.proofs.Questions.{answers_journeys, answers_rules, answers_state, answers_torn}
+use Rattle.dm_program.specs.Inside.Asking.{EndsCompared, EndsOnJournal, EndsOutlook, EndsTravelled}
+use Rattle.dm_program.proofs.Questions.{answers_journeys, answers_rules, answers_state, answers_torn, answers_window}
 use Rattle.dm_program.proofs.queries.answer_journal.Goals as goal
 
 pub returns-in-Follow-clause-ends : goal.returns-in-Follow-clause-ends
@@ -44,3 +44,16 @@ returns-in-Rules-query-clause-ends g c = λ net rows penalty bytes is.
     let ends = subst (λ (t : TableValue). EndsCompared g.K.Sink.taken g.K.Sink.faults c.in-Rules-query.asked t c.args.out.now c.end_rules.new.out c.end_rules.result) c.table-in-Rules-query.ensures c.end_rules.ensures.ends in
     subst (λ (q : Query). EndsOnJournal g.K.Sink.taken g.K.Sink.faults q net rows penalty bytes c.args.out.now c.end_rules.new.out c.end_rules.result) (sym c.in-Rules-query.is)
     (answers_rules g.K.Sink.taken g.K.Sink.faults net rows penalty bytes c.args.out.now c.end_rules.new.out c.end_rules.result c.in-Whole.follower c.in-Rules-query.asked there.0 there.1 ends)
+
+pub returns-in-Window-clause-ends : goal.returns-in-Window-clause-ends
+returns-in-Window-clause-ends g c = λ net rows penalty bytes is.
+    let there = subst (λ (j : AJournal). IsJournal net rows penalty bytes j) c.in-Torn.is is in
+    subst (λ (q : Query). EndsOnJournal g.K.Sink.taken g.K.Sink.faults q net rows penalty bytes c.args.out.now c.end_torn-in-Window.new.out c.end_torn-in-Window.result) (sym c.in-Window.is)
+    (answers_torn g.K.Sink.taken g.K.Sink.faults net rows penalty bytes c.args.out.now c.end_torn-in-Window.new.out c.end_torn-in-Window.result _ c.in-Torn.line tt there.1 c.end_torn-in-Window.ensures.ends)
+
+pub returns-in-Window-query-clause-ends : goal.returns-in-Window-query-clause-ends
+returns-in-Window-query-clause-ends g c = λ net rows penalty bytes is.
+    let there = subst (λ (j : AJournal). IsJournal net rows penalty bytes j) c.in-Whole.is is in
+    let ends = subst (λ (t : TableValue). EndsOutlook g.K.Sink.taken g.K.Sink.faults c.in-Window-query.asked t c.args.out.now c.end_window.new.out c.end_window.result) c.table-in-Window-query.ensures c.end_window.ensures.ends in
+    subst (λ (q : Query). EndsOnJournal g.K.Sink.taken g.K.Sink.faults q net rows penalty bytes c.args.out.now c.end_window.new.out c.end_window.result) (sym c.in-Window-query.is)
+    (answers_window g.K.Sink.taken g.K.Sink.faults net rows penalty bytes c.args.out.now c.end_window.new.out c.end_window.result c.in-Whole.follower c.in-Window-query.asked there.0 there.1 ends)

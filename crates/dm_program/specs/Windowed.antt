@@ -1,0 +1,37 @@
+-- What is printed of a plan of a window, and of what becomes of it at the last entry.
+use Rattle.std.specs.Prelude.{ℕ, ◌≡◌, ◌<◌, ◌≤◌, List, [], ◌∷◌, length, Some, IfSome, codes}
+use Rattle.std.specs.Fmt.{decimal}
+use Rattle.dm_outside.specs.Printing.{joined}
+use Rattle.dm_network.specs.Net.{Net}
+use Rattle.dm_rows.specs.declared.messages.Entry.{Entry}
+use Rattle.dm_rows.specs.Rows.{RowsValue}
+use Rattle.dm_follow.specs.Followed.{IsFollowed, IsWhole}
+use Rattle.dm_input.specs.Lines.{line_end}
+use Rattle.dm_outlook.specs.declared.outlook.Outlook.{Outlook}
+use Rattle.dm_outlook.specs.Outlooks.{IsOutlook}
+use Rattle.dm_outlook.specs.Texts.{outlook_text}
+use Rattle.dm_words.specs.declared.queries.WindowWords.{WindowWords}
+
+-- The text is a plan of the window, after as many entries of the journal as are named, or after all, which stands whole in these
+-- bytes; and, where some are named, what becomes of the plan after all.
+pub record IsWindowOf (asked : WindowWords) (net : Net) (start : RowsValue) (penalty : ℕ) (bytes text : List ℕ) : Type 0 where
+  pub whole : IsWhole net start penalty bytes
+  pub history : List Entry
+  pub followed : IsFollowed net start penalty bytes history
+  pub among : IfSome asked.at (λ n. n ≤ length history)
+  pub outlook : Outlook
+  pub answer : IsOutlook net start penalty history asked.from asked.to asked.budget asked.at outlook
+  pub is_text : text ≡ outlook_text asked.from asked.to (length history) outlook
+
+unfoldable pub unknown_entry_line : ℕ → List ℕ
+unknown_entry_line n = joined (codes "refused entry " ∷ decimal n ∷ line_end ∷ [])
+
+-- the text says that the journal, which stands whole, has fewer entries than are named
+pub record IsUnknownEntry (asked : WindowWords) (net : Net) (start : RowsValue) (penalty : ℕ) (bytes text : List ℕ) : Type 0 where
+  pub whole : IsWhole net start penalty bytes
+  pub history : List Entry
+  pub followed : IsFollowed net start penalty bytes history
+  pub n : ℕ
+  pub named : asked.at ≡ Some n
+  pub above : length history < n
+  pub is_text : text ≡ unknown_entry_line n

@@ -1,0 +1,4 @@
+use Rattle.dm_words.proofs.queries.read_window.Goals as goal
+
+pub returns-in_default-at_of : goal.returns-in_default-at_of
+returns-in_default-at_of c = λ window asks. c.in_default-at_of.ensures _ asks.at
