@@ -1,7 +1,7 @@
 //! What holds of all texts. A law has no code: it is proved as the contract of an empty function.
 ghost use Rattle.dm_follow.specs.Laws.{FollowedIsOne, FrontsAreFollowed};
 
-/// Bytes carry one followed history alone, have one front fault at most, and their journal has one tail.
+/// Bytes carry one followed history alone, and have one front fault at most.
 pub fn followed_is_one()
     ensures { FollowedIsOne }
 {}

@@ -17,7 +17,7 @@
 //! the journal: all, the line that is torn and how many of its bytes there are, or the line that breaks its rule.
 //!
 //! Laws: the history of given bytes is one, and so is the broken line; a front of a true run's text has no broken line, and
-//! its history is a front of the run's. No command calls it yet.
+//! its history is a front of the run's.
 #![tactic(auto)]
 
 mod entries;

@@ -9,7 +9,7 @@
 //! `journeys`: how a passenger travels from one stop to another after a time in the rows' least timetable, on drives, waits
 //! and changes that are caught, with at most so many changes. Each journey is such a walk, with its arrival and its
 //! changes; along the list the changes rise and the arrivals fall; every such walk is met by one with no more changes and
-//! no later arrival; and the list is empty exactly where there is no walk. No command calls it yet.
+//! no later arrival; and the list is empty exactly where there is no walk.
 #![tactic(auto)]
 
 mod arriving;
