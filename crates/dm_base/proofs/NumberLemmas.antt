@@ -1,6 +1,6 @@
 -- What decimal texts write, a digit at a time, and where a reader's answer comes from.
-use Rattle.std.proofs.Common.{◌≡◌, ℕ, suc, ◌+◌, ◌-◌, ◌*◌, ◌^◌, ◌<◌, ◌≤◌, ◌↔◌, false, List, [], ◌∷◌, ◌++◌, length, take, drop, get_or, Option, Some, None, Result, Ok, Err, All, SomeIff, refl, ap, sym, ◌∙◌, subst, arith, length-append, inl, inr}
-use Rattle.std.proofs.Math.Nat.{pow-suc}
+use Rattle.std.proofs.Common.{◌≡◌, ℕ, suc, ◌+◌, ◌-◌, ◌*◌, ◌^◌, ◌<◌, ◌≤◌, ◌↔◌, false, List, [], ◌∷◌, ◌++◌, length, take, drop, get_or, Option, Some, None, Result, Ok, Err, All, SomeIff, refl, ap, sym, ◌∙◌, subst, arith, length-append, add-one, inl, inr}
+use Rattle.std.proofs.Math.Nat.{pow-le-pow_right, pow-suc}
 use Rattle.std.proofs.Math.Seq.{drop-cons}
 use Rattle.std.proofs.lemmas.List.{get_or_default, take_more, drop_all, drop-drop, length-take-le, get_or-take}
 use Rattle.std.proofs.lemmas.List.Elements.{All-nil, AllWithin-more}
@@ -142,3 +142,13 @@ milli_reads text i thousandths sum within some h ending e fits =
     let value : milli_value text ≡ 1000 * whole_value (take i text) + thousandths = milli_value_is text i within h ending ∙ sym (ap (λ n. 1000 * whole_value (take i text) + n) e) in
     reads_form (IsMilliText text) (milli_value text) sum (milli_form text i within some h ending)
     (let Fits : ℕ → Type 0 = λ n. SomeIff sum (n < 2 ^ 64) n in subst Fits (sym value) fits)
+
+-- a number of so many digits
+pub one_digit_more : (n d i : ℕ) → n < 10 ^ i → d < 10 → n * 10 + d < 10 ^ (i + 1)
+one_digit_more n d i small digit =
+    let power = pow-suc 10 i in
+    rw (add-one) (omega (arith, power))
+
+-- so many digits are few
+pub fewer_digits : (i n : ℕ) → i ≤ n → 10 ^ i ≤ 10 ^ n
+fewer_digits i n h = pow-le-pow_right {n = 10} (omega arith) {i = i} {j = n} h

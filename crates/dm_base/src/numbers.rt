@@ -44,6 +44,38 @@ pub fn read_milli(text: &[u8]) -> Result<u64, NumFault>
     joined(front.value, thousandths).ok_or(NumFault::TooLarge)
 }
 
+/// How many bytes [`few_digits`] takes at most: a number of 19 digits is below 2^64.
+pub const FEW: usize = 19;
+
+/// The digits at the front of a text, and the number that they write.
+#[derive(Clone, Copy, PartialEq, Eq, Debug)]
+pub struct FewDigits {
+    pub value: u64,
+    pub count: usize,
+}
+
+/// Reads the decimal digits at the front of a text of at most 19 bytes; no digit is the number 0. It takes no memory.
+pub fn few_digits(text: &[u8]) -> FewDigits
+    requires { length text.now ≤ FEW }
+    ensures within { result.count ≤ length text.now }
+    ensures digits { AllWithin IsAsciiDigit text.now 0 result.count }
+    ensures ends { result.count < length text.now → ¬ IsAsciiDigit (slice_index text.now result.count) }
+    ensures value { result.value ≡ whole_value (take result.count text.now) }
+    ensures small { result.value < 10 ^ result.count }
+{
+    let mut value = 0;
+    for (count, byte) in text.iter().enumerate() {
+        if !byte.is_ascii_digit() {
+            return FewDigits { value, count };
+        }
+        value = value * 10 + u64::from(*byte - b'0');
+    }
+    FewDigits {
+        value,
+        count: text.len(),
+    }
+}
+
 // The digits at the front of a text, and the number that they write where it is below 2^64.
 #[derive(Clone, Copy)]
 struct Front {
@@ -52,6 +84,24 @@ struct Front {
 }
 
 fn digits_at_front(text: &[u8]) -> Front
+    ensures within { result.len ≤ length text.now }
+    ensures digits { AllWithin IsAsciiDigit text.now 0 result.len }
+    ensures ends { result.len < length text.now → ¬ IsAsciiDigit (slice_index text.now result.len) }
+    ensures value { let read = whole_value (take result.len text.now) in SomeIff result.value (read < 2 ^ 64) read }
+{
+    let few = few_digits(&text[..text.len().min(FEW)]);
+    if few.count < text.len() && few.count == FEW {
+        return many_digits_at_front(text);
+    }
+    Front {
+        len: few.count,
+        value: Some(few.value),
+    }
+}
+
+// The same, whatever the number of digits.
+#[inline(never)]
+fn many_digits_at_front(text: &[u8]) -> Front
     ensures within { result.len ≤ length text.now }
     ensures digits { AllWithin IsAsciiDigit text.now 0 result.len }
     ensures ends { result.len < length text.now → ¬ IsAsciiDigit (slice_index text.now result.len) }

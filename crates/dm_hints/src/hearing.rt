@@ -1,6 +1,7 @@
 //! What is heard in the text that a command prints.
 use crate::text::{cut, is_same, number, word_at};
 use dm_base::limits::FEEDS;
+use memchr::memchr_iter;
 
 /// How many bytes of a line are kept.
 pub const KEPT: usize = 240;
@@ -27,6 +28,12 @@ impl Line {
         if let Some(place) = self.bytes.get_mut(self.len) {
             *place = byte;
             self.len = self.len.saturating_add(1);
+        }
+    }
+
+    fn hold(&mut self, text: &[u8]) {
+        for byte in text {
+            self.push(*byte);
         }
     }
 
@@ -72,6 +79,9 @@ pub const REASONS: [&str; 13] = [
 
 /// The word that may be a reason in an answer: `N refused REASON ..`, `N old`, or the reason alone.
 fn reason_in(answer: &[u8]) -> &[u8] {
+    if answer.is_empty() {
+        return answer;
+    }
     let word = word_at(answer, 1);
     if is_same(word, "refused") {
         word_at(answer, 2)
@@ -130,36 +140,39 @@ impl Heard {
 
     /// Hears bytes.
     pub fn hear_all(&mut self, bytes: &[u8]) {
-        for byte in bytes {
-            self.hear(*byte);
+        let mut from = 0;
+        for end in memchr_iter(b'\n', bytes) {
+            self.end_line(bytes.get(from..end).unwrap_or_default());
+            from = end.saturating_add(1);
         }
+        self.line.hold(bytes.get(from..).unwrap_or_default());
     }
 
-    /// Hears a byte.
-    fn hear(&mut self, byte: u8) {
-        if byte == b'\n' {
-            self.end_line();
-            self.line.len = 0;
-        } else {
-            self.line.push(byte);
-        }
-    }
-
-    fn end_line(&mut self) {
-        let line = self.line;
-        if !self.has_first {
-            self.has_first = true;
-            self.first = line;
-            self.is_run = is_same(word_at(line.kept(), 0), "dm-run");
+    /// Hears what is left of a line.
+    fn end_line(&mut self, rest: &[u8]) {
+        if self.line.len == 0 {
+            self.hear_line(rest.get(..KEPT).unwrap_or(rest));
             return;
         }
-        if self.is_run {
-            self.hear_line(line.kept());
+        self.line.hold(rest);
+        let line = self.line;
+        self.line.len = 0;
+        self.hear_line(line.kept());
+    }
+
+    /// Hears a line.
+    fn hear_line(&mut self, line: &[u8]) {
+        if !self.has_first {
+            self.has_first = true;
+            self.first.hold(line);
+            self.is_run = is_same(word_at(line, 0), "dm-run");
+        } else if self.is_run {
+            self.hear_later(line);
         }
     }
 
     /// Hears a line of a run's text behind the first.
-    fn hear_line(&mut self, line: &[u8]) {
+    fn hear_later(&mut self, line: &[u8]) {
         let (front, rest) = cut(line, b' ');
         if is_same(front, "feed") {
             self.feed = feed_number(word_at(rest, 0));
@@ -193,7 +206,14 @@ impl Heard {
     fn hear_answer(&mut self, rest: &[u8]) {
         let (_, arrow) = cut(rest, b'>');
         let answer = arrow.get(1..).unwrap_or_default();
-        let reason = reason_in(answer);
+        match reason_in(answer) {
+            [] | [b'0'..=b'9', ..] => {}
+            reason => self.hear_reason(reason),
+        }
+    }
+
+    /// Counts a refusal, if the word is a reason.
+    fn hear_reason(&mut self, reason: &[u8]) {
         for (place, known) in REASONS.iter().enumerate() {
             if is_same(reason, known) {
                 if let Some(count) = self.refused.get_mut(place) {

@@ -1,5 +1,6 @@
 //! Lines, words and numbers in bytes.
 use dm_base::read_whole;
+use memchr::memchr;
 use std::str::from_utf8;
 
 /// How many bytes of a text are shown.
@@ -7,12 +8,10 @@ const SHOWN_BYTES: usize = 80;
 
 /// What stands before the first such byte and what stands behind it, or all of it and nothing.
 pub fn cut(text: &[u8], at: u8) -> (&[u8], &[u8]) {
-    for (place, byte) in text.iter().enumerate() {
-        if *byte == at {
-            return split_behind(text, place);
-        }
+    match memchr(at, text) {
+        Some(place) => split_behind(text, place),
+        None => (text, &[]),
     }
-    (text, &[])
 }
 
 /// What stands before a place and what stands behind it.

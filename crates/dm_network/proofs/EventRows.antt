@@ -1,5 +1,5 @@
 -- The rows of the activities into and out of an event.
-use Rattle.std.proofs.Common.{◌≡◌, ℕ, ◌<◌, List, length, get_or, sym, subst, arith, eqb-true, eq-eqb, slice_index, ◌∙◌, ◌+◌, ◌≤◌}
+use Rattle.std.proofs.Common.{◌≡◌, ℕ, ◌<◌, List, length, get_or, sym, subst, arith, eqb-true, eq-eqb, slice_index}
 use Rattle.std.specs.Prelude.{◌==◌}
 use Rattle.std.proofs.lemmas.List.{get_or_default}
 use Rattle.dm_graph.proofs.Windows.{kept_at, StandsAt, stands_in}

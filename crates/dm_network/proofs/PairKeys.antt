@@ -1,5 +1,5 @@
 -- Look-ups of pairs by their two events.
-use Rattle.std.proofs.Common.{◌≡◌, ℕ, ◌<◌, ◌≤◌, ◌⊎◌, Bool, true, false, eqb, ltb, ◌&&◌, List, length, get_or, sym, ◌∙◌, subst, inl, inr, arith, Some, None, position}
+use Rattle.std.proofs.Common.{◌≡◌, ℕ, ◌<◌, ◌≤◌, ◌⊎◌, Bool, true, false, eqb, ltb, ◌&&◌, List, length, get_or, refl, sym, ◌∙◌, subst, inl, inr, arith, Some, None, position}
 use Rattle.std.specs.List.{position_or_len}
 use Rattle.std.specs.List.Sorted.{IsPartitionPoint, IsPartitionedBy}
 use Rattle.std.proofs.lemmas.Bool.{cases_order, cases_eq, ltb-true, eqb-true, eq-eqb, lt-ltb, le-ltb, or_cases, or_left, or_right, and_parts, and_from, false_from_ne_true}
@@ -125,3 +125,22 @@ module _ (pairs : List Pair) (ok : ArePairsInOrder pairs) where
         (λ h. let b = exact.only (get_or pairs j d) (pair_rises j d lt) h in differs j lt b.0 b.1))
         (λ lt. absurd (omega arith)) in
         rw (at, le-ltb (length pairs) (length pairs) (omega arith))
+
+-- where a pair joins two events, no other pair of a list in order does
+joins_only : (p : Pair) (i j : ℕ) → p.small < p.large → joins p i j ≡ true → PassesOnly (λ q. joins q i j) p.small p.large
+joins_only p i j up here = record {
+  passes = λ q s l. elim (joins-true p i j here) [
+    | inl b ↦ joins-from q i j (inl (s ∙ b.0, l ∙ b.1))
+    | inr b ↦ joins-from q i j (inr (s ∙ b.0, l ∙ b.1))
+  ];
+  only = λ q rises joined. elim (joins-true p i j here) [
+    | inl b ↦ elim (joins-true q i j joined) [ inl d ↦ (d.0 ∙ sym b.0, d.1 ∙ sym b.1) | inr d ↦ absurd (omega (arith, up, rises, b.0, b.1, d.0, d.1)) ]
+    | inr b ↦ elim (joins-true q i j joined) [ inl d ↦ absurd (omega (arith, up, rises, b.0, b.1, d.0, d.1)) | inr d ↦ (d.0 ∙ sym b.0, d.1 ∙ sym b.1) ]
+  ];
+}
+
+pub joined_there : (pairs : List Pair) → ArePairsInOrder pairs → (place i j : ℕ) → place < length pairs → joins (get_or pairs place no_pair) i j ≡ true
+    → position (λ p. joins p i j) pairs ≡ Some place
+joined_there pairs ok place i j within here =
+    pair_is_found pairs ok (λ p. joins p i j) (get_or pairs place no_pair).small (get_or pairs place no_pair).large
+    (joins_only (get_or pairs place no_pair) i j (pair_rises pairs ok place no_pair within) here) place no_pair within refl refl

@@ -1,5 +1,5 @@
 //! Look-ups in lists that ascend. They take logarithmic time and no memory.
-ghost use Rattle.std.specs.Prelude.{ℕ, ◌≡◌, ◌==◌, ◌≤◌, length, map, position, filter};
+ghost use Rattle.std.specs.Prelude.{ℕ, ◌≡◌, ◌==◌, ◌≤◌, Some, IsTrue, length, map, position, filter};
 ghost use Rattle.std.specs.List.Sorted.{IsStrictlyIncreasing, IsNonDecreasing};
 ghost use Rattle.dm_network.specs.Pairs.{joins};
 ghost use Rattle.dm_network.specs.Inside.Flat.{ArePairsInOrder, stands_before, StandsWithin};
@@ -7,8 +7,22 @@ ghost use Rattle.dm_network.specs.Inside.Flat.{ArePairsInOrder, stands_before, S
 use crate::parts::{Activity, Event, Pair};
 use dm_base::{ActId, EventId, StopId};
 
-/// The place of the event with this id.
+/// The place of the event with this id. Where ids follow one another from the first on, it is told at once.
 pub fn event_place(events: &[Event], id: EventId) -> Option<usize>
+    requires { IsStrictlyIncreasing (map (λ e. e.id.0) events.now) }
+    ensures { result ≡ position (λ e. e.id.0 == id.0) events.now }
+{
+    if let Some(first) = events.first() {
+        let guess = id.0.saturating_sub(first.id.0) as usize;
+        if guess < events.len() && events[guess].id.0 == id.0 {
+            return Some(guess);
+        }
+    }
+    event_by_halves(events, id)
+}
+
+/// The place of the event with this id, by halving.
+fn event_by_halves(events: &[Event], id: EventId) -> Option<usize>
     requires { IsStrictlyIncreasing (map (λ e. e.id.0) events.now) }
     ensures { result ≡ position (λ e. e.id.0 == id.0) events.now }
 {
@@ -20,8 +34,22 @@ pub fn event_place(events: &[Event], id: EventId) -> Option<usize>
     }
 }
 
-/// The place of the activity with this id.
+/// The place of the activity with this id. Where ids follow one another from the first on, it is told at once.
 pub fn activity_place(activities: &[Activity], id: ActId) -> Option<usize>
+    requires { IsStrictlyIncreasing (map (λ a. a.id.0) activities.now) }
+    ensures { result ≡ position (λ a. a.id.0 == id.0) activities.now }
+{
+    if let Some(first) = activities.first() {
+        let guess = id.0.saturating_sub(first.id.0) as usize;
+        if guess < activities.len() && activities[guess].id.0 == id.0 {
+            return Some(guess);
+        }
+    }
+    activity_by_halves(activities, id)
+}
+
+/// The place of the activity with this id, by halving.
+fn activity_by_halves(activities: &[Activity], id: ActId) -> Option<usize>
     requires { IsStrictlyIncreasing (map (λ a. a.id.0) activities.now) }
     ensures { result ≡ position (λ a. a.id.0 == id.0) activities.now }
 {
@@ -43,6 +71,35 @@ pub fn pair_place(pairs: &[Pair], i: usize, j: usize) -> Option<usize>
     } else {
         pair_from_smaller(pairs, j, i)
     }
+}
+
+/// The same, where the pair probably stands at a place or at the next one.
+pub fn pair_near(pairs: &[Pair], i: usize, j: usize, near: usize) -> Option<usize>
+    requires { ArePairsInOrder pairs.now }
+    ensures { result ≡ position (λ p. joins p i j) pairs.now }
+{
+    if joins_at(pairs, near, i, j) {
+        return Some(near);
+    }
+    let next = near.saturating_add(1);
+    if joins_at(pairs, next, i, j) {
+        return Some(next);
+    }
+    pair_place(pairs, i, j)
+}
+
+/// Whether the pair at a place is that of two events.
+fn joins_at(pairs: &[Pair], place: usize, i: usize, j: usize) -> bool
+    requires { ArePairsInOrder pairs.now }
+    ensures { IsTrue result → position (λ p. joins p i j) pairs.now ≡ Some place }
+{
+    place < pairs.len() && joins(&pairs[place], i, j)
+}
+
+fn joins(p: &Pair, i: usize, j: usize) -> bool
+    ensures { result ≡ joins p.now i j }
+{
+    (p.small == i && p.large == j) || (p.small == j && p.large == i)
 }
 
 /// The place of the pair of two events, of which the smaller one is given first.

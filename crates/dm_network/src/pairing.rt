@@ -4,7 +4,7 @@ ghost use Rattle.dm_network.specs.Net.{is_headway};
 ghost use Rattle.dm_network.specs.Inside.Flat.{ArePairsInOrder};
 ghost use Rattle.dm_network.specs.Inside.Stages.{upward_pair, downward_pair, PairsDoNotFall, AreCommon, AreTwoWay, with_pair, AscendStrictly, DiffersFromLast};
 
-use crate::find::{comes_before, pair_place};
+use crate::find::{comes_before, pair_near};
 use crate::parts::{Activity, Pair};
 use dm_base::ActKind;
 use std::alloc::{AllocError, Global};
@@ -87,7 +87,8 @@ fn common(alloc: Global, upward: &[Pair], downward: &[Pair]) -> Result<Vec<Pair>
 {
     let mut pairs = Vec::new(alloc);
     for p in upward {
-        if is_new(&pairs, p) && stands_in(downward, p) {
+        // Where all headways go both ways, the next common pair stands at the same place downward.
+        if is_new(&pairs, p) && stands_near(downward, p, pairs.len()) {
             pairs.push(*p)?;
         }
     }
@@ -104,6 +105,17 @@ fn is_new(pairs: &[Pair], p: &Pair) -> bool
     }
 }
 
+/// Whether a pair stands in a list that ascends, probably at this place.
+fn stands_near(pairs: &[Pair], p: &Pair, near: usize) -> bool
+    requires { PairsDoNotFall pairs.now }
+    ensures { IsTrue result ↔ Contains pairs.now p.now }
+{
+    if near < pairs.len() && pairs[near] == *p {
+        return true;
+    }
+    stands_in(pairs, p)
+}
+
 /// Whether a pair stands in a list that ascends.
 fn stands_in(pairs: &[Pair], p: &Pair) -> bool
     requires { PairsDoNotFall pairs.now }
@@ -118,19 +130,21 @@ pub fn paired(mut activities: Vec<Activity>, pairs: &[Pair]) -> Vec<Activity>
     requires { ArePairsInOrder pairs.now }
     ensures { result.items ≡ map (with_pair pairs.now) activities.items }
 {
+    let mut near = 0;
     for activity in activities.iter_mut() {
-        activity.pair = own_pair(activity, pairs);
+        activity.pair = own_pair(activity, pairs, near);
+        near = activity.pair.unwrap_or(near);
     }
     activities
 }
 
-/// The pair of an activity's events, if it is a headway.
-fn own_pair(activity: &Activity, pairs: &[Pair]) -> Option<usize>
+/// The pair of an activity's events, if it is a headway; the pair probably stands at a place or at the next one.
+fn own_pair(activity: &Activity, pairs: &[Pair], near: usize) -> Option<usize>
     requires { ArePairsInOrder pairs.now }
     ensures { result ≡ (with_pair pairs.now activity.now).pair }
 {
     if is_headway(activity.kind) {
-        pair_place(pairs, activity.tail, activity.head)
+        pair_near(pairs, activity.tail, activity.head, near)
     } else {
         None
     }

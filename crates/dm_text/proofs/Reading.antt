@@ -9,7 +9,7 @@ use Rattle.std.proofs.Math.Seq.{take-append_seam, drop-append_seam}
 use Rattle.std.proofs.lemmas.Bool.{cases_lt, eqb-true, eq-eqb, lt-leb, le-leb, leb-true, ne_eqb}
 use Rattle.std.proofs.lemmas.Bool.Decides.{nat_tests}
 use Rattle.std.proofs.lemmas.Fmt.{decimal_digit, decimal_step_wide}
-use Rattle.std.proofs.lemmas.List.{take-append-drop, get_or_append_left, get_or-take, take_rest}
+use Rattle.std.proofs.lemmas.List.{take-append-drop, get_or_append_left, get_or-take, take_all, take_rest}
 use Rattle.std.proofs.lemmas.List.Sums.{prefix_len_passes}
 use Rattle.std.proofs.lemmas.List.Folds.{prefix_len-append, length-prefix_len}
 use Rattle.dm_base.specs.Numbers.{whole_value, IsDigits}
@@ -209,3 +209,12 @@ read_number largest end value line at plain is low =
     let same : whole_value (take (prefix_len is_ascii_digit line) line) ≡ value = rw (← at) (omega (arith, is.1)) in
     let read : plain_value largest (take (prefix_len is_ascii_digit line) line) ≡ Some (whole_value (take (prefix_len is_ascii_digit line) line)) = value_is largest (take (prefix_len is_ascii_digit line) line) f (omega (arith, same)) in
     rw (read, same, take_rest line end, at) refl
+
+-- where every byte is a digit, the digits in front are all
+pub all_read : (digits : List ℕ) (count : ℕ) → All IsAsciiDigit digits → count ≤ length digits → (count < length digits → ¬ IsAsciiDigit (get_or digits count 0))
+    → take count digits ≡ digits
+all_read digits count all within ends =
+    elim (cases_lt count (length digits)) [
+      | inl low ↦ absurd (ends low (all count 0 low))
+      | inr high ↦ take_all count digits high
+    ]

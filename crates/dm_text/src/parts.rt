@@ -6,6 +6,8 @@ ghost use Rattle.std.specs.Char.{is_ascii_digit, IsAsciiDigit};
 ghost use Rattle.dm_base.specs.Numbers.{whole_value};
 ghost use Rattle.dm_text.specs.Inside.Parts.{behind, number_in_front, is_plain, plain_value};
 
+use dm_base::{FEW, few_digits};
+
 /// What stands behind the text, where the line begins with it.
 pub fn behind<'t>(line: &'t [u8], text: &str) -> Option<&'t [u8]>
     ensures { option_map (λ rest. rest.now) result ≡ behind text.now line.now }
@@ -53,6 +55,18 @@ fn is_plain(digits: &[u8]) -> bool
 
 // The number that the digits write, where it is below 2^128.
 fn value_of(digits: &[u8]) -> Option<u128>
+    requires { All IsAsciiDigit digits.now }
+    ensures { let value = whole_value digits.now in SomeIff result (value < 2 ^ 128) value }
+{
+    if digits.len() > FEW {
+        return value_of_many(digits);
+    }
+    Some(u128::from(few_digits(digits).value))
+}
+
+// The same, whatever the number of digits.
+#[inline(never)]
+fn value_of_many(digits: &[u8]) -> Option<u128>
     requires { All IsAsciiDigit digits.now }
     ensures { let value = whole_value digits.now in SomeIff result (value < 2 ^ 128) value }
 {

@@ -1,7 +1,7 @@
 use Rattle.std.proofs.Common.{◌<◌, length, get_or, arith}
 use Rattle.std.specs.Char.{IsAsciiDigit}
 use Rattle.dm_base.proofs.NumberLemmas.{digit_more, whole_value_more}
-use Rattle.dm_base.proofs.numbers.digits_at_front.Goals as goal
+use Rattle.dm_base.proofs.numbers.many_digits_at_front.Goals as goal
 
 pub loop-i-preserved : goal.loop-i-preserved
 loop-i-preserved c =

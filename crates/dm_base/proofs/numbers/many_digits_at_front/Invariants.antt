@@ -2,7 +2,7 @@ use Rattle.std.proofs.Common.{◌^◌, ◌<◌, take, SomeIff}
 use Rattle.std.specs.Char.{IsAsciiDigit}
 use Rattle.std.specs.List.{AllWithin}
 use Rattle.dm_base.specs.Numbers.{whole_value}
-use Rattle.dm_base.proofs.numbers.digits_at_front.Given as goal
+use Rattle.dm_base.proofs.numbers.many_digits_at_front.Given as goal
 
 abbrev pub invariant-loop-i : goal.invariant-loop-i
 invariant-loop-i l = record {
