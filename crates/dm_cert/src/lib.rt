@@ -9,7 +9,7 @@
 //!
 //! What true answers, true logs, true runs and their texts are. `print_plan`, and `put_plan` behind other text: exactly the
 //! plan's spelling in version 2, or, where a write failed, a proper front of it, or of what the page held and it behind; no
-//! memory.
+//! memory. `put_choices`, `put_number` and `put_numbers` likewise: the lines of choices, and words with one or two numbers.
 //!
 //! `read_plan` reads the plan whose text bytes begin with, in versions 1 and 2, and tells how long that text is: `reads`
 //! (the plan, or the first line that is cut or misshapen, or that the lines show no whole tree), `ok` (a plan that is
@@ -39,5 +39,5 @@ pub use faults::{CertFault, CertKind};
 pub use notes::Note;
 pub use plan_lines::{Heading, heading_in};
 pub use plan_reading::{read_choices, read_plan, read_tree};
-pub use plan_text::{print_plan, put_plan};
+pub use plan_text::{print_plan, put_choices, put_number, put_numbers, put_plan};
 pub use replies::{FeedLog, LogItem, Reply};

@@ -85,8 +85,9 @@ fn put_inner<K: Sink>(sink: &mut K, page: &mut Page, choice: Choice) -> Result<(
     }
 }
 
-// Prints words, a number and a line end.
-fn put_number<K: Sink>(
+/// Prints words, a number and a line end, behind all that was printed through the page before. A write fault comes only where a
+/// write failed.
+pub fn put_number<K: Sink>(
     sink: &mut K,
     page: &mut Page,
     words: &str,
@@ -98,8 +99,9 @@ fn put_number<K: Sink>(
     page.put(sink, &pieces)
 }
 
-// Prints words, two numbers and a line end.
-fn put_numbers<K: Sink>(
+/// Prints words, two numbers with a space between, and a line end, behind all that was printed through the page before. A write
+/// fault comes only where a write failed.
+pub fn put_numbers<K: Sink>(
     sink: &mut K,
     page: &mut Page,
     words: &str,
@@ -119,8 +121,9 @@ fn put_numbers<K: Sink>(
     page.put(sink, &pieces)
 }
 
-// Prints the choices of a plan.
-fn put_choices<K: Sink>(
+/// Prints choices as a plan lists them, a line each, behind all that was printed through the page before. A write fault comes only
+/// where a write failed.
+pub fn put_choices<K: Sink>(
     sink: &mut K,
     page: &mut Page,
     choices: &[Decision],

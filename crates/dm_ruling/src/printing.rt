@@ -1,13 +1,12 @@
 //! A comparison in print.
 ghost use Rattle.std.specs.Prelude.{◌≤◌, ◌∷◌, [], codes, length};
 ghost use Rattle.std.specs.Fmt.{decimal};
-ghost use Rattle.std.specs.List.{flat_map};
 ghost use Rattle.dm_outside.specs.Printing.{Prints, Puts, joined};
-ghost use Rattle.dm_cert.specs.PlanTexts.{choice_text, line_end};
+ghost use Rattle.dm_cert.specs.PlanTexts.{line_end};
 ghost use Rattle.dm_ruling.specs.Texts.{comparison_text, gap_text, rule_text};
 
+use dm_cert::put_choices;
 use dm_outside::{Page, Piece, Sink, WriteFault};
-use dm_rows::Decision;
 use dm_tree::Mark;
 use dm_waitrule::{Comparison, WaitRule};
 
@@ -105,75 +104,6 @@ fn put_limit<K: Sink>(
             Piece::Text("\n"),
         ],
     )
-}
-
-// Prints choices, a line each.
-fn put_choices<K: Sink>(
-    sink: &mut K,
-    page: &mut Page,
-    choices: &[Decision],
-) -> Result<(), WriteFault>
-    ensures { Prints K.taken K.faults sink.old sink.new page.old page.new result (flat_map choice_text choices.now) }
-{
-    for choice in choices {
-        let Ok(()) = put_choice(sink, page, *choice) else {
-            return Err(WriteFault);
-        };
-    }
-    Ok(())
-}
-
-#[tactic(auto, unfolding(dm_cert::specs::PlanTexts::choice_text))]
-fn put_choice<K: Sink>(sink: &mut K, page: &mut Page, decision: Decision) -> Result<(), WriteFault>
-    ensures { Prints K.taken K.faults sink.old sink.new page.old page.new result (choice_text decision) }
-{
-    match decision {
-        Decision::Keep(act) => put_number(sink, page, "choice keep ", act.0 as u128),
-        Decision::Drop(act) => put_number(sink, page, "choice drop ", act.0 as u128),
-        Decision::First(first, second) => {
-            put_numbers(
-                sink,
-                page,
-                "choice first ",
-                first.0 as u128,
-                second.0 as u128,
-            )
-        }
-    }
-}
-
-// Prints words, a number and a line end.
-fn put_number<K: Sink>(
-    sink: &mut K,
-    page: &mut Page,
-    words: &str,
-    number: u128,
-) -> Result<(), WriteFault>
-    ensures { Prints K.taken K.faults sink.old sink.new page.old page.new result (joined (words.now ∷ decimal number ∷ codes "\n" ∷ [])) }
-{
-    let pieces = [Piece::Text(words), Piece::Number(number), Piece::Text("\n")];
-    page.put(sink, &pieces)
-}
-
-// Prints words, two numbers and a line end.
-fn put_numbers<K: Sink>(
-    sink: &mut K,
-    page: &mut Page,
-    words: &str,
-    first: u128,
-    second: u128,
-) -> Result<(), WriteFault>
-    ensures { Prints K.taken K.faults sink.old sink.new page.old page.new result
-        (joined (words.now ∷ decimal first ∷ codes " " ∷ decimal second ∷ codes "\n" ∷ [])) }
-{
-    let pieces = [
-        Piece::Text(words),
-        Piece::Number(first),
-        Piece::Text(" "),
-        Piece::Number(second),
-        Piece::Text("\n"),
-    ];
-    page.put(sink, &pieces)
 }
 
 // Prints the plan, and by how much the rule's cost is above its bound.

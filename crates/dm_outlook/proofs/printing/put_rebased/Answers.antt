@@ -11,4 +11,4 @@ returns-in_default g c = prints_fault (flat_map choice_text c.args.rebased.now.c
 pub returns : goal.returns
 unfolding rebased_text
 returns g c =
-    prints_last c.put_choices.new.sink c.put_choices.new.page (flat_map choice_text c.args.rebased.now.choices) c.put_choices.result (rw c.as_slice-choices.ensures at c.in-Ok.ensures) (rw c.as_slice-choices.ensures at c.put_choices.ensures)
+    prints_last c.put_choices.new.sink c.put_choices.new.page (flat_map choice_text c.args.rebased.now.choices) c.put_choices.result (rw c.as_slice-choices.ensures at c.in-Ok.ensures) (rw c.as_slice-choices.ensures at c.put_choices.ensures.text)
