@@ -1,3 +1,4 @@
 pub mod Between
+pub mod Covered
 pub mod Listing
 pub mod Marking

@@ -1,13 +1,13 @@
 //! Marks at places.
 ghost use Rattle.std.specs.Prelude.{ℕ, ◌≡◌, ◌+◌, ◌*◌, ◌/◌, ◌<◌, ◌≤◌, true, false, List, Bool, length, replicate, slice_set, slice_index_or, IfOk, IfSome, IfNone};
 ghost use Rattle.dm_marks.specs.Marked.{is_marked, HasMark, IsFirstFrom, NoneFrom};
-ghost use Rattle.dm_marks.specs.Inside.Blocks.{NoneBetween};
+ghost use Rattle.dm_marks.specs.Inside.Blocks.{AreCovered, AreFewer, NoneBetween};
 
 use std::alloc::{AllocError, Global};
 use std::marker::Model;
 
-/// How many places stand in a block.
-const BLOCK: usize = 256;
+/// How many places stand in a block, and how many blocks in a group.
+const BLOCK: usize = 32;
 
 /// Which places are marked. The first mark from a place on is found without a look at each place between.
 #[derive(Debug, Drop)]
@@ -16,6 +16,9 @@ pub struct Marks {
 
     /// Of each block of places whether it may have a mark.
     blocks: Vec<bool>,
+
+    /// Of each group of blocks whether one of them may have a mark.
+    groups: Vec<bool>,
 
     /// No place before the start is marked, and none from the end on.
     start: usize,
@@ -30,7 +33,8 @@ impl Model for Marks {
 
     ghost view = { λ m. m.flags.items };
 
-    ghost invariant = { λ m. AreCovered m.flags.items m.blocks.items × AreBetween m.flags.items m.start m.end };
+    ghost invariant = { λ m. AreCovered m.flags.items m.blocks.items × (AreCovered m.blocks.items m.groups.items ×
+        AreBetween m.flags.items m.start m.end) };
 }
 
 impl Marks {
@@ -40,9 +44,11 @@ impl Marks {
     {
         let flags = vec![in alloc; false; places]?;
         let blocks = vec![in alloc; false; places / BLOCK + 1]?;
+        let groups = vec![in alloc; false; blocks.len() / BLOCK + 1]?;
         Ok(Marks {
             flags,
             blocks,
+            groups,
             start: places,
             end: 0,
         })
@@ -54,9 +60,11 @@ impl Marks {
     {
         let flags = vec![in alloc; true; places]?;
         let blocks = vec![in alloc; true; places / BLOCK + 1]?;
+        let groups = vec![in alloc; true; blocks.len() / BLOCK + 1]?;
         Ok(Marks {
             flags,
             blocks,
+            groups,
             start: 0,
             end: places,
         })
@@ -83,7 +91,9 @@ impl Marks {
         requires { place < length self.old }
         ensures { self.new ≡ slice_set self.old place true }
     {
-        self.blocks[place / BLOCK] = true;
+        let block = place / BLOCK;
+        self.groups[block / BLOCK] = true;
+        self.blocks[block] = true;
         self.flags[place] = true;
         self.start = self.start.min(place);
         self.end = self.end.max(place + 1);
@@ -158,13 +168,40 @@ impl Marks {
         let until = end.min(self.flags.len());
         let mut start = from;
         while start < until {
-            let found = self.first_in_block(start);
+            let next = self.next_covered(start)?;
+            if next >= until {
+                return None;
+            }
+            let found = self.first_in_block(next);
             if found.is_some() {
                 return found;
             }
-            start = start / BLOCK * BLOCK + BLOCK;
+            start = next / BLOCK * BLOCK + BLOCK;
         }
         None
+    }
+
+    /// Where the next mark may be, from this place on: there, or in a block behind. None is marked before.
+    #[tactic(auto, using(crate::proofs::Covered::none_before_block, crate::proofs::Covered::none_in_blocks))]
+    fn next_covered(&mut self, start: usize) -> Option<usize>
+        ensures same { self.new ≡ self.old }
+        ensures onward { IfSome result (λ place. start ≤ place) }
+        ensures before { IfSome result (NoneBetween self.old start) }
+        ensures none { IfNone result (NoneFrom self.old start) }
+    {
+        let block = first_covered(&self.blocks, &mut self.groups, start / BLOCK)?;
+        Some(start.max(block * BLOCK))
+    }
+
+    /// The first marked place from this one on, of its block.
+    #[tactic(auto, using(crate::proofs::Covered::fewer_covered))]
+    fn first_in_block(&mut self, start: usize) -> Option<usize>
+        requires { start < length self.old }
+        ensures same { self.new ≡ self.old }
+        ensures first { IfSome result (IsFirstFrom self.old start) }
+        ensures none { IfNone result (NoneBetween self.old start (start / BLOCK * BLOCK + BLOCK)) }
+    {
+        first_in_block(&self.flags, &mut self.blocks, start)
     }
 
     /// Takes up where the marks begin and end, by the first place that is marked from one on.
@@ -184,25 +221,46 @@ impl Marks {
             None => self.end = self.end.min(from),
         }
     }
+}
 
-    /// The first marked place from this one on, of its block. A block with no mark is not looked through again.
-    fn first_in_block(&mut self, start: usize) -> Option<usize>
-        requires { start < length self.old }
-        ensures same { self.new ≡ self.old }
-        ensures first { IfSome result (IsFirstFrom self.old start) }
-        ensures none { IfNone result (NoneBetween self.old start (start / BLOCK * BLOCK + BLOCK)) }
-    {
-        let block = start / BLOCK;
-        if !self.blocks[block] {
-            return None;
+/// The first marked place from one on. Blocks that have no mark are looked at once.
+#[tactic(auto, using(crate::proofs::Covered::none_past))]
+fn first_covered(flags: &[bool], cover: &mut [bool], from: usize) -> Option<usize>
+    requires { AreCovered flags.now cover.old }
+    ensures covered { AreCovered flags.now cover.new }
+    ensures first { IfSome result (IsFirstFrom flags.now from) }
+    ensures none { IfNone result (NoneFrom flags.now from) }
+{
+    let mut start = from;
+    while start < flags.len() {
+        let found = first_in_block(flags, cover, start);
+        if found.is_some() {
+            return found;
         }
-        let end = self.flags.len().min(block * BLOCK + BLOCK);
-        let found = first_between(&self.flags, start, end);
-        if found.is_none() && start == block * BLOCK {
-            self.blocks[block] = false;
-        }
-        found
+        start = start / BLOCK * BLOCK + BLOCK;
     }
+    None
+}
+
+/// The first marked place from this one on, of its block. A block with no mark is not looked through again.
+fn first_in_block(flags: &[bool], cover: &mut [bool], start: usize) -> Option<usize>
+    requires covered { AreCovered flags.now cover.old }
+    requires within { start < length flags.now }
+    ensures covered { AreCovered flags.now cover.new }
+    ensures fewer { AreFewer cover.new cover.old }
+    ensures first { IfSome result (IsFirstFrom flags.now start) }
+    ensures none { IfNone result (NoneBetween flags.now start (start / BLOCK * BLOCK + BLOCK)) }
+{
+    let block = start / BLOCK;
+    if !cover[block] {
+        return None;
+    }
+    let end = flags.len().min(block * BLOCK + BLOCK);
+    let found = first_between(flags, start, end);
+    if found.is_none() && start == block * BLOCK {
+        cover[block] = false;
+    }
+    found
 }
 
 /// The first marked place from a start up to an end.

@@ -1,5 +1,5 @@
 -- Blocks of marks, and how far they are looked through.
-use Rattle.std.specs.Prelude.{ℕ, ◌≡◌, ◌*◌, ◌/◌, ◌<◌, ◌≤◌, Bool, true, false, List, length, slice_index_or}
+use Rattle.std.specs.Prelude.{ℕ, ◌≡◌, ◌+◌, ◌*◌, ◌/◌, ◌<◌, ◌≤◌, Bool, true, false, List, length, slice_index_or}
 use Rattle.dm_marks.specs.declared.marks.TheConstants.{BLOCK}
 use Rattle.dm_marks.specs.Marked.{is_marked, NoneFrom}
 
@@ -7,9 +7,15 @@ use Rattle.dm_marks.specs.Marked.{is_marked, NoneFrom}
 abbrev pub NoneBetween : List Bool → ℕ → ℕ → Type 0
 NoneBetween marks from end = (k : ℕ) → from ≤ k → k < end → is_marked marks k ≡ false
 
+-- no place is marked that was not before
+pub record AreFewer (now before : List Bool) : Type 0 where
+  pub as_many : length now ≡ length before
+  pub each : (place : ℕ) → is_marked now place ≡ true → is_marked before place ≡ true
+
 -- every mark stands in a block that may have some
 pub record AreCovered (marks blocks : List Bool) : Type 0 where
   pub as_many : length marks ≤ BLOCK * length blocks
+  pub no_more : BLOCK * length blocks ≤ length marks + BLOCK
   pub covers : (place : ℕ) → is_marked marks place ≡ true → slice_index_or blocks (place / BLOCK) false ≡ true
 
 -- no place before the start is marked, and none from the end on
