@@ -2,6 +2,7 @@
 ghost use Rattle.std.specs.Prelude.{◌<◌};
 
 use super::print_table;
+use dm_base::limits::FILE;
 use dm_outside::{
     Failed, FileSource, FolderShelf, MemFile, MemShelf, MemSink, MemSource, Shelf, Sink, Source,
     StdSink, TakeFault, WriteFault, put_all, take_all,
@@ -35,6 +36,24 @@ fn take_all_stops_one_byte_above_the_limit(rt: HostRuntime) -> Result<(), Fail> 
     );
     let rest = take_all(rt.alloc(), &mut source, 3).map_err(|_| "taken")?;
     assert_eq!(rt; rest.as_slice(), b"ef".as_slice());
+    Ok(())
+}
+
+// So many bytes `#`.
+fn hashes(alloc: Global, size: usize) -> Result<Vec<u8>, AllocError> {
+    vec![in alloc; b'#'; size]
+}
+
+#[test]
+fn take_all_of_a_longest_file_and_a_byte_leaves_nothing(rt: HostRuntime) -> Result<(), Fail> {
+    let bytes = hashes(rt.alloc(), FILE + 1)?;
+    let mut source = MemSource::new(bytes.as_slice(), FILE, &[]);
+    assert_eq!(rt;
+        take_all(rt.alloc(), &mut source, FILE).err(),
+        Some(TakeFault::TooLong)
+    );
+    let rest = take_all(rt.alloc(), &mut source, 3).map_err(|_| "taken")?;
+    assert!(rt; rest.is_empty());
     Ok(())
 }
 
