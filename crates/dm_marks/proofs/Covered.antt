@@ -20,7 +20,7 @@ pub none_before_block : (marks blocks : List Bool) (start block : ℕ) → AreCo
     NoneBetween marks start (max start (block * BLOCK))
 none_before_block marks blocks start block are first k at lt =
     false_from_ne_true (is_marked marks k)
-        (λ marked. true≢false (sym (are.covers k marked) ∙ first.none_between (k / 32) (omega arith) (omega arith)))
+    (λ marked. true≢false (sym (are.covers k marked) ∙ first.none_between (k / 32) (omega arith) (omega arith)))
 
 -- where no block may have marks from one on there are none
 pub none_in_blocks : (marks blocks : List Bool) (start : ℕ) → AreCovered marks blocks → NoneFrom blocks (start / BLOCK) → NoneFrom marks start
