@@ -1,0 +1,5 @@
+use Rattle.dm_deques.proofs.Keeps.{pops}
+use Rattle.dm_deques.proofs.deque.Owner.take.Goals as goal
+
+pub pop_as-requires-clause-lifo : goal.pop_as-requires-clause-lifo
+pop_as-requires-clause-lifo g c = λ _. pops g.G.Grown.fits _ _
