@@ -16,7 +16,8 @@ use Rattle.dm_rows.specs.Sides.{is_ordered}
 use Rattle.dm_relax.proofs.Differing.{differences_complete}
 use Rattle.dm_paths.proofs.Naming.{from_place, ids_rise}
 use Rattle.dm_search.specs.Steps.{HasRelaxedCycle, IsPruned, IsSolved}
-use Rattle.dm_search.specs.Inside.Walking.{IsBranchThere, IsOver}
+use Rattle.dm_search.specs.Inside.Walking.{IsBranchThere}
+use Rattle.dm_search.specs.Moving.{IsOver}
 use Rattle.dm_search.specs.Inside.Searching.{AreBest, IsSettled, IsBetter, IsSplit}
 use Rattle.dm_guide.specs.Posed.{task_beside, IsPosed}
 use Rattle.dm_search.proofs.Beside.{beside_is_task, differences_beside}

@@ -10,7 +10,8 @@ use Rattle.dm_evaluate.specs.Evaluator.{EvaluatorValue, IsEvaluatorOf}
 use Rattle.dm_tree.specs.Pending.{IsFront}
 use Rattle.dm_tree.specs.Plans.{Task}
 use Rattle.dm_search.specs.Steps.{HasRelaxedCycle}
-use Rattle.dm_search.specs.Inside.Walking.{AreFronts, IsOver}
+use Rattle.dm_search.specs.Inside.Walking.{AreFronts}
+use Rattle.dm_search.specs.Moving.{IsOver}
 use Rattle.dm_search.proofs.Walks.{front_of, longer_cycle}
 
 -- a front of a front

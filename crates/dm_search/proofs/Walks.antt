@@ -28,8 +28,9 @@ use Rattle.dm_rows.proofs.Sides.{same_itself}
 use Rattle.dm_paths.proofs.Setting.{has_each, differs_in_none, differs_with}
 use Rattle.dm_relax.proofs.Bounding.{relaxed_is_active, held_in_relaxed}
 use Rattle.dm_search.specs.declared.steps.Outcome.{Outcome}
-use Rattle.dm_search.specs.Steps.{HasRelaxedCycle, IsPruned, IsOutcome}
-use Rattle.dm_search.specs.Inside.Walking.{IsBranchThere, IsFoundThere, IsOver}
+use Rattle.dm_search.specs.Steps.{HasRelaxedCycle, IsPruned, IsOutcome, IsBranch}
+use Rattle.dm_search.specs.Inside.Walking.{IsBranchThere, IsFoundThere}
+use Rattle.dm_search.specs.Moving.{IsOver}
 use Rattle.dm_search.proofs.Optimal.{decided_longer}
 
 got_before : (xs ys : List Decision) (k : ℕ) (x : Decision) → slice_get xs k ≡ Some x → slice_get (xs ++ ys) k ≡ Some x
@@ -164,6 +165,22 @@ module _ (net : Net) (network : IsNetwork net) (e : EvaluatorValue) (is : IsEval
       subst (λ p. IsBranchThere net rows p penalty best c choice) at
       (subst (λ r. IsBranchThere net r e.path penalty best c choice) same (shown_branch choice less violated))
 
+  shown_first : (choice : Choice) → c < best → first_violated net e.rows e.path (times_of e) ≡ Some choice → IsBranch net e.rows e.path penalty best c choice
+  shown_first choice less first =
+      record {
+        no_cycle = no_relaxed_cycle net e.rows e.path e.priced is.evaluates;
+        times = times_of e;
+        least = relaxed_least net e.rows e.path e.priced is.evaluates network.formed.ends_are_known is.at_rest;
+        cost = cost;
+        less = less;
+        first = first;
+      }
+
+  pub first_there : (choice : Choice) → c < best → first_violated net e.rows e.path (times_of e) ≡ Some choice → IsBranch net rows path penalty best c choice
+  first_there choice less first =
+      subst (λ p. IsBranch net rows p penalty best c choice) at
+      (subst (λ r. IsBranch net r e.path penalty best c choice) same (shown_first choice less first))
+
 -- the first violated choice is violated
 pub first_is_violated : (net : Net) (rows : RowsValue) (path : List Decision) (x : List ℕ) (choice : Choice) →
     Some choice ≡ first_violated net rows path x → IsViolated net rows path x choice
@@ -193,6 +210,10 @@ step_is_there net rows path penalty best (Outcome.Branch c choice) h =
 -- an evaluator's path is one of its rows
 pub path_list : (task : Task) (e : EvaluatorValue) → IsOver task e → IsChoiceList task.net task.rows e.path
 path_list task e over = subst (λ r. IsChoiceList task.net r e.path) over.same over.is.is_path
+
+pub outcome_along : (net : Net) (rows : RowsValue) (path at : List Decision) (penalty best : ℕ) (o : Outcome) → at ≡ path →
+    IsOutcome net rows at penalty best o → IsOutcome net rows path penalty best o
+outcome_along net rows path at penalty best o e h = subst (λ p. IsOutcome net rows p penalty best o) e h
 
 pub found_along : (net : Net) (rows : RowsValue) (path at : List Decision) (penalty best : ℕ) (o : Outcome) → at ≡ path →
     IsOutcome net rows at penalty best o → IsFoundThere net rows path penalty best o

@@ -11,7 +11,7 @@ ghost use Rattle.dm_rows.specs.Decide.{IsChoiceList, with_decisions};
 ghost use Rattle.dm_tree.specs.Plans.{whole_task, IsTruePlan};
 ghost use Rattle.dm_search.specs.Finish.{IsStart};
 ghost use Rattle.dm_search.specs.Inside.Searching.{AreBest, AreUsedUp, Stands};
-ghost use Rattle.dm_search.specs.Inside.Walking.{IsOver};
+ghost use Rattle.dm_search.specs.Moving.{IsOver};
 ghost use Rattle.dm_search.specs.Inside.Ending.{closed, carried, least_with, bound_of, is_open, mark_of, IsPlanOf};
 
 use crate::Outcome;
@@ -75,7 +75,13 @@ pub fn finish(
 }
 
 /// The task of a whole network: no choice stands before the search.
-fn whole<'t>(alloc: Global, net: &'t Network, rows: &'t Rows, penalty: u64, budget: u64) -> Task<'t>
+pub fn whole<'t>(
+    alloc: Global,
+    net: &'t Network,
+    rows: &'t Rows,
+    penalty: u64,
+    budget: u64,
+) -> Task<'t>
     requires sized { IsSized net.now rows.now }
     requires penalty { penalty ≤ PENALTY }
     requires budget { budget ≤ BUDGET }
@@ -110,8 +116,8 @@ pub fn plan_task(task: &Task<'_>, entry: u32) -> Result<Plan, AllocError>
     finish_task(task, entry, unsearched, choices)
 }
 
-/// A true plan for a task, with an entry, from a tree and choices.
-fn finish_task(
+/// A true plan for a task, with an entry, from a tree and choices: what [`finish`] does for any task.
+pub fn finish_task(
     task: &Task<'_>,
     entry: u32,
     partial: Partial,
@@ -234,7 +240,7 @@ fn last_traversal(
 }
 
 /// The evaluator of a task's rows, which have no cycle.
-fn evaluator_of(task: &Task<'_>) -> Result<Evaluator, AllocError>
+pub(crate) fn evaluator_of(task: &Task<'_>) -> Result<Evaluator, AllocError>
     requires posed { IsPosedTask task.now }
     ensures evaluator { IfOk result (IsEvaluatorOf task.now.net.now) }
     ensures rows { IfOk result (λ evaluator. evaluator.rows ≡ task.now.rows.now) }

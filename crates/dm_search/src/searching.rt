@@ -9,7 +9,7 @@ ghost use Rattle.dm_rows.specs.Sides.{first_decision};
 ghost use Rattle.dm_guide.specs.Tasks.{IsPosedTask, task_of};
 ghost use Rattle.dm_tree.specs.Pending.{pending};
 ghost use Rattle.dm_search.specs.Finish.{IsKnown};
-ghost use Rattle.dm_search.specs.Inside.Walking.{IsOver};
+ghost use Rattle.dm_search.specs.Moving.{IsOver};
 ghost use Rattle.dm_search.specs.Inside.Searching.{AreBest, AreUsedUp, IsSearched, Stands, IsCeiling, IsFound, IsAdvanced};
 
 use crate::Outcome;

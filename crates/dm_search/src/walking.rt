@@ -8,7 +8,8 @@ ghost use Rattle.dm_relax.specs.Relaxed.{first_violated};
 ghost use Rattle.dm_tree.specs.Pending.{IsFront};
 ghost use Rattle.dm_tree.specs.Relaxed.{IsViolated};
 ghost use Rattle.dm_search.specs.Steps.{HasRelaxedCycle, IsOutcome};
-ghost use Rattle.dm_search.specs.Inside.Walking.{AreFronts, IsFoundThere, IsOver};
+ghost use Rattle.dm_search.specs.Inside.Walking.{AreFronts, IsFoundThere};
+ghost use Rattle.dm_search.specs.Moving.{IsOver};
 
 use crate::Outcome;
 use crate::steps::outcome_at;
@@ -113,7 +114,7 @@ fn is_violated_with<L: Ledger>(
 }
 
 /// The first choice that the evaluator's times violate.
-fn violated_in(net: &Network, evaluator: &mut Evaluator) -> Option<Choice>
+pub(crate) fn violated_in(net: &Network, evaluator: &mut Evaluator) -> Option<Choice>
     requires { IsEvaluatorOf net.now evaluator.old }
     ensures evaluator { IsEvaluatorOf net.now evaluator.new }
     ensures rows { evaluator.new.rows ≡ evaluator.old.rows }

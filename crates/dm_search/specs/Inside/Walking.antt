@@ -1,12 +1,9 @@
--- An evaluator of rows, paths of which the one is brought to the other, and what is found there.
+-- Paths of which the one is brought to the other, and what is found there.
 use Rattle.std.specs.Prelude.{ℕ, ◌≡◌, ◌<◌, ◌≤◌, List, length, take}
 use Rattle.dm_network.specs.Net.{Net}
 use Rattle.dm_rows.specs.declared.messages.Choice.{Choice}
 use Rattle.dm_rows.specs.declared.messages.Decision.{Decision}
 use Rattle.dm_rows.specs.Rows.{RowsValue}
-use Rattle.dm_evaluate.specs.Evaluator.{EvaluatorValue, IsEvaluatorOf}
-use Rattle.dm_tree.specs.Pending.{IsFront}
-use Rattle.dm_tree.specs.Plans.{Task}
 use Rattle.dm_tree.specs.Relaxed.{IsRelaxedLeast, relaxed_cost_of, HasNoRelaxedCycle, IsViolated}
 use Rattle.dm_search.specs.Steps.{HasRelaxedCycle, IsPruned, IsSolved}
 use Rattle.dm_search.specs.declared.steps.Outcome.{Outcome}
@@ -17,12 +14,6 @@ pub record AreFronts (one other : List Decision) (many : ℕ) : Type 0 where
   pub of_one : many ≤ length one
   pub of_other : many ≤ length other
   pub same : take many one ≡ take many other
-
--- the evaluator is one of the task's rows, and its path begins with the base
-pub record IsOver (task : Task) (evaluator : EvaluatorValue) : Type 0 where
-  pub is : IsEvaluatorOf task.net evaluator
-  pub same : evaluator.rows ≡ task.rows
-  pub begins : IsFront task.base evaluator.path
 
 -- what the relaxed problem holds has no cycle, its least times cost less than the best, and they violate this choice
 pub record IsBranchThere (net : Net) (rows : RowsValue) (path : List Decision) (penalty best c : ℕ) (choice : Choice) : Type 0 where

@@ -1,5 +1,5 @@
 use Rattle.dm_guide.specs.Tasks.{task_of}
-use Rattle.dm_search.specs.Inside.Walking.{IsOver}
+use Rattle.dm_search.specs.Moving.{IsOver}
 use Rattle.dm_search.proofs.finishing.better.Given as goal
 
 abbrev pub invariant-loop-decision : goal.invariant-loop-decision

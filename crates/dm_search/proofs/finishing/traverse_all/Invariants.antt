@@ -1,6 +1,6 @@
 use Rattle.dm_guide.specs.Tasks.{task_of}
 use Rattle.dm_search.specs.Inside.Searching.{Stands}
-use Rattle.dm_search.specs.Inside.Walking.{IsOver}
+use Rattle.dm_search.specs.Moving.{IsOver}
 use Rattle.dm_search.proofs.finishing.traverse_all.Given as goal
 
 abbrev pub invariant-loop : goal.invariant-loop

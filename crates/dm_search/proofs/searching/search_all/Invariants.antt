@@ -1,7 +1,7 @@
 use Rattle.std.proofs.Common.{◌-◌, ◌≤◌, length, reverse}
 use Rattle.dm_guide.specs.Tasks.{task_of}
 use Rattle.dm_search.specs.Inside.Searching.{AreBest, IsSearched}
-use Rattle.dm_search.specs.Inside.Walking.{IsOver}
+use Rattle.dm_search.specs.Moving.{IsOver}
 use Rattle.dm_search.proofs.searching.search_all.Given as goal
 
 abbrev pub invariant-loop-node : goal.invariant-loop-node

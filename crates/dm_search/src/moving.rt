@@ -1,0 +1,68 @@
+//! What one step finds, by an evaluator that goes to the path from where it stands.
+ghost use Rattle.std.specs.Prelude.{◌≡◌, ◌++◌, [], IfOk, OnOk};
+ghost use Rattle.dm_evaluate.specs.Evaluator.{IsEvaluatorOf};
+ghost use Rattle.dm_guide.specs.Tasks.{task_of, IsPosedTask};
+ghost use Rattle.dm_rows.specs.Decide.{IsChoiceList};
+ghost use Rattle.dm_search.specs.Moving.{IsOver};
+ghost use Rattle.dm_search.specs.Steps.{IsOutcome};
+
+use crate::Outcome;
+use crate::finishing::evaluator_of;
+use crate::walking::{make_all, outcome_here, violated_in, walk};
+use dm_base::Cost;
+use dm_evaluate::Evaluator;
+use dm_guide::Task;
+use dm_rows::Decision;
+use std::alloc::AllocError;
+
+/// An evaluator of a task's rows, which have no cycle, where it has decided the task's base.
+pub fn evaluator_at_base(task: &Task<'_>) -> Result<Evaluator, AllocError>
+    requires posed { IsPosedTask task.now }
+    ensures { IfOk result (IsOver (task_of task.now)) }
+{
+    let mut evaluator = evaluator_of(task)?;
+    decide_base(task, &mut evaluator)?;
+    Ok(evaluator)
+}
+
+fn decide_base(task: &Task<'_>, evaluator: &mut Evaluator) -> Result<(), AllocError>
+    requires posed { IsPosedTask task.now }
+    requires evaluator { IsEvaluatorOf task.now.net.now evaluator.old }
+    requires rows { evaluator.old.rows ≡ task.now.rows.now }
+    requires path { evaluator.old.path ≡ [] }
+    ensures { OnOk result (IsOver (task_of task.now) evaluator.new) }
+{
+    // The rows have the base and no cycle, so that only memory may be missing.
+    let Ok(()) = make_all(task.net, evaluator, task.base) else {
+        return Err(AllocError);
+    };
+    Ok(())
+}
+
+/// What [`step`](crate::step) says of a path behind the base of a task, in the time that the task's evaluator takes to go there.
+pub fn step_to(
+    task: &Task<'_>,
+    evaluator: &mut Evaluator,
+    path: &[Decision],
+    best: Cost,
+) -> Result<Outcome, AllocError>
+    requires posed { IsPosedTask task.now }
+    requires evaluator { IsOver (task_of task.now) evaluator.old }
+    requires list { IsChoiceList task.now.net.now task.now.rows.now (task.now.base.now ++ path.now) }
+    ensures outcome { IfOk result (IsOutcome task.now.net.now task.now.rows.now (task.now.base.now ++ path.now) task.now.penalty best) }
+    ensures evaluator { IsOver (task_of task.now) evaluator.new }
+{
+    let net = task.net;
+    net.sound();
+    let Ok(()) = walk(task, evaluator, path) else {
+        return Ok(Outcome::Cycle);
+    };
+    let cost = evaluator.cost(net, task.penalty);
+    if best <= cost {
+        return Ok(Outcome::Pruned(cost));
+    }
+    match violated_in(net, evaluator) {
+        Some(choice) => Ok(Outcome::Branch(cost, choice)),
+        None => outcome_here(task, evaluator, best),
+    }
+}
