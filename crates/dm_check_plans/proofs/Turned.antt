@@ -1,5 +1,5 @@
 -- The relaxed problem of a path with one decision more, or one less, by its flags.
-use Rattle.std.proofs.Common.{◌≡◌, ℕ, ◌<◌, Bool, true, false, cond, List, [], ◌∷◌, ◌++◌, length, map, refl, sym, ap, subst, ◌∙◌, Vec, Global, arith}
+use Rattle.std.proofs.Common.{IsTrue, slice_index, ◌≡◌, ℕ, ◌<◌, Bool, true, false, cond, List, [], ◌∷◌, ◌++◌, length, map, refl, sym, ap, subst, ◌∙◌, Vec, Global, arith}
 use Rattle.std.specs.Prelude.{Contains, ◌&&◌, not, replicate}
 use Rattle.std.specs.Vec.{with_items}
 use Rattle.std.proofs.lemmas.List.{map-append, length-replicate, get_or-replicate, with_items_is}
@@ -18,6 +18,8 @@ use Rattle.dm_paths.specs.Decisions.{is_held_by, is_charged_by}
 use Rattle.dm_paths.specs.Decisions.{AddsDecision, IsOpen, IsFlipOf}
 use Rattle.dm_check_plans.specs.Inside.Timetables.{HeldTimetableValue, IsTimetableOf, AreOfRows, KeepsSpans}
 use Rattle.dm_check_plans.proofs.Begun.{still_of_rows}
+use Rattle.dm_marks.specs.Places.{PlaceSetValue}
+use Rattle.dm_check_times.specs.Noting.{AreAlikeBut}
 use Rattle.dm_check_times.specs.Changes.{AreChangesTo}
 use Rattle.dm_check_times.specs.KeptCosts.{KeptCostValue, IsKeptCostOf, IsPricedFor}
 use Rattle.dm_check_plans.specs.Inside.RelaxedProblems.{RelaxedProblemValue, IsRelaxedProblemOf}
@@ -57,10 +59,14 @@ last_is_open net rows path d list = record { free = decides_free net rows path d
 
 module _ (net : Net) (network : IsNetwork net) (rows : RowsValue) (sized : IsSized net rows) (old : RelaxedProblemValue) (was : IsRelaxedProblemOf net rows old)
     (d : Decision) (flip : Flip) (named : IsFlipOf net rows d flip) (timetable : HeldTimetableValue) (is_timetable : IsTimetableOf net timetable) (keeps : KeepsSpans old.timetable timetable)
-    (charged : List Bool) (cost : KeptCostValue) (is_cost : IsKeptCostOf net cost) (priced : IsPricedFor net rows (is_flagged charged) cost) where
+    (charged : List Bool) (cost : KeptCostValue) (is_cost : IsKeptCostOf net cost) (priced : IsPricedFor net rows (is_flagged charged) cost) (cost_times : cost.times ≡ old.kept_cost.times)
+    (times : timetable.times ≡ old.timetable.times) where
+  noted_still : IsTrue old.is_noted → AreAlikeBut old.moved.flags cost.times timetable.times
+  noted_still so e unmarked = ap (λ (x : List ℕ). slice_index x e) cost_times ∙ (was.noted so e unmarked ∙ ap (λ (x : List ℕ). slice_index x e) (sym times))
+
   pub decided : IsOpen net rows old.path (choice_of d) →
       AreSetWhere (is_held_by net flip) true (length net.activities) old.timetable.held timetable.held → AreSetWhere (is_charged_by flip) true (length net.activities) old.charged charged →
-      IsRelaxedProblemOf net rows (record { path = old.path ++ d ∷ []; changes = with_change flip false old.changes; pairs = with_pair flip false old.pairs; charged = charged; timetable = timetable; kept_cost = cost; places = old.places })
+      IsRelaxedProblemOf net rows (record { path = old.path ++ d ∷ []; changes = with_change flip false old.changes; pairs = with_pair flip false old.pairs; charged = charged; timetable = timetable; kept_cost = cost; moved = old.moved; is_noted = old.is_noted; places = old.places })
   decided opened holds charges =
       let other : List Decision = old.path ++ d ∷ [] in
       let list : IsChoiceList net rows other = open_list net rows old.path d was.is_path opened in
@@ -77,12 +83,14 @@ module _ (net : Net) (network : IsNetwork net) (rows : RowsValue) (sized : IsSiz
         of_rows = still_of_rows net rows old.timetable timetable was.of_rows keeps;
         cost = is_cost;
         priced = priced;
+        as_many_moved = was.as_many_moved;
+        noted = noted_still;
         places = was.places;
       }
 
   pub taken_back : (path : List Decision) → old.path ≡ path ++ d ∷ [] →
       AreSetWhere (is_held_by net flip) false (length net.activities) old.timetable.held timetable.held → AreSetWhere (is_charged_by flip) false (length net.activities) old.charged charged →
-      IsRelaxedProblemOf net rows (record { path = path; changes = with_change flip true old.changes; pairs = with_pair flip true old.pairs; charged = charged; timetable = timetable; kept_cost = cost; places = old.places })
+      IsRelaxedProblemOf net rows (record { path = path; changes = with_change flip true old.changes; pairs = with_pair flip true old.pairs; charged = charged; timetable = timetable; kept_cost = cost; moved = old.moved; is_noted = old.is_noted; places = old.places })
   taken_back path is holds charges =
       let other : List Decision = path ++ d ∷ [] in
       let list : IsChoiceList net rows other = subst (IsChoiceList net rows) is was.is_path in
@@ -104,14 +112,17 @@ module _ (net : Net) (network : IsNetwork net) (rows : RowsValue) (sized : IsSiz
         of_rows = still_of_rows net rows old.timetable timetable was.of_rows keeps;
         cost = is_cost;
         priced = priced;
+        as_many_moved = was.as_many_moved;
+        noted = noted_still;
         places = was.places;
       }
 
 -- the same with a timetable that holds as much, and another kept cost
-pub settled_again : (net : Net) (rows : RowsValue) (old : RelaxedProblemValue) → IsRelaxedProblemOf net rows old → (timetable : HeldTimetableValue) (cost : KeptCostValue) →
+pub settled_again : (net : Net) (rows : RowsValue) (old : RelaxedProblemValue) → IsRelaxedProblemOf net rows old → (timetable : HeldTimetableValue) (cost : KeptCostValue) (moved : PlaceSetValue) (is_noted : Bool) →
     IsTimetableOf net timetable → timetable.held ≡ old.timetable.held → KeepsSpans old.timetable timetable → IsKeptCostOf net cost → IsPricedFor net rows (is_flagged old.charged) cost →
-    IsRelaxedProblemOf net rows (record { path = old.path; changes = old.changes; pairs = old.pairs; charged = old.charged; timetable = timetable; kept_cost = cost; places = old.places })
-settled_again net rows old was timetable cost is held keeps kept priced = record {
+    length moved.flags ≡ length net.events → (IsTrue is_noted → AreAlikeBut moved.flags cost.times timetable.times) →
+    IsRelaxedProblemOf net rows (record { path = old.path; changes = old.changes; pairs = old.pairs; charged = old.charged; timetable = timetable; kept_cost = cost; moved = moved; is_noted = is_noted; places = old.places })
+settled_again net rows old was timetable cost moved is_noted is held keeps kept priced as_many noted = record {
   is_path = was.is_path;
   changes = was.changes;
   pairs = was.pairs;
@@ -121,6 +132,27 @@ settled_again net rows old was timetable cost is held keeps kept priced = record
   of_rows = still_of_rows net rows old.timetable timetable was.of_rows keeps;
   cost = kept;
   priced = priced;
+  as_many_moved = as_many;
+  noted = noted;
+  places = was.places;
+}
+
+-- the same with its times taken into the cost
+pub taken : (net : Net) (rows : RowsValue) (old : RelaxedProblemValue) → IsRelaxedProblemOf net rows old → (cost : KeptCostValue) (moved : PlaceSetValue) → IsKeptCostOf net cost →
+    IsPricedFor net rows (is_flagged old.charged) cost → length moved.flags ≡ length net.events → cost.times ≡ old.timetable.times →
+    IsRelaxedProblemOf net rows (record { path = old.path; changes = old.changes; pairs = old.pairs; charged = old.charged; timetable = old.timetable; kept_cost = cost; moved = moved; is_noted = true; places = old.places })
+taken net rows old was cost moved kept priced as_many same = record {
+  is_path = was.is_path;
+  changes = was.changes;
+  pairs = was.pairs;
+  held = was.held;
+  charged = was.charged;
+  timetable = was.timetable;
+  of_rows = was.of_rows;
+  cost = kept;
+  priced = priced;
+  as_many_moved = as_many;
+  noted = λ so e unmarked. ap (λ (x : List ℕ). slice_index x e) same;
   places = was.places;
 }
 
@@ -140,13 +172,14 @@ no_change_charged net rows path a other =
     ap (λ (b : Bool). (b && not (kept_at (with_decisions net rows path) a) && not (has_passed (with_decisions net rows path) (activity_at net a).head)) && not (is_undecided_change net rows path a)) other
 
 -- where nothing is decided
-pub begins : (net : Net) (rows : RowsValue) (changes pairs charged : List Bool) (timetable : HeldTimetableValue) (cost : KeptCostValue) (places : List ℕ) (path : List Decision) → path ≡ [] →
+pub begins : (net : Net) (rows : RowsValue) (changes pairs charged : List Bool) (timetable : HeldTimetableValue) (cost : KeptCostValue) (moved : PlaceSetValue) (places : List ℕ) (path : List Decision) → path ≡ [] →
     AreFlags (is_undecided_change net rows []) (length net.activities) changes → AreFlags (is_undecided_pair net rows []) (length net.pairs) pairs →
     charged ≡ replicate (length net.activities) false → IsTimetableOf net timetable → AreOfRows net rows timetable → AreFlags (is_relaxed_active net rows []) (length net.activities) timetable.held → IsKeptCostOf net cost →
     IsPricedFor net rows (is_flagged charged) cost → AreChangesTo net (length net.activities) places →
-    IsRelaxedProblemOf net rows (record { path = path; changes = changes; pairs = pairs; charged = charged; timetable = timetable; kept_cost = cost; places = places })
-begins net rows changes pairs charged timetable cost places path is are_changes are_pairs none is_timetable of_rows held kept priced are_places =
-    subst (λ (p : List Decision). IsRelaxedProblemOf net rows (record { path = p; changes = changes; pairs = pairs; charged = charged; timetable = timetable; kept_cost = cost; places = places })) (sym is) (record {
+    length moved.flags ≡ length net.events →
+    IsRelaxedProblemOf net rows (record { path = path; changes = changes; pairs = pairs; charged = charged; timetable = timetable; kept_cost = cost; moved = moved; is_noted = false; places = places })
+begins net rows changes pairs charged timetable cost moved places path is are_changes are_pairs none is_timetable of_rows held kept priced are_places as_many =
+    subst (λ (p : List Decision). IsRelaxedProblemOf net rows (record { path = p; changes = changes; pairs = pairs; charged = charged; timetable = timetable; kept_cost = cost; moved = moved; is_noted = false; places = places })) (sym is) (record {
       is_path = choice_list_from net rows [] tt (λ d c. let past = c.1 in absurd (omega (arith, past)));
       changes = are_changes;
       pairs = are_pairs;
@@ -159,6 +192,8 @@ begins net rows changes pairs charged timetable cost places path is are_changes 
       of_rows = of_rows;
       cost = kept;
       priced = priced;
+      as_many_moved = as_many;
+      noted = λ no. absurd cc;
       places = are_places;
     })
 
@@ -171,11 +206,11 @@ over_vec some value n v now after is turned =
     (subst (λ (f : List Bool). AreSetWhere some value n f after) is turned)
 
 -- the same with other names for the path and the flags of what is undecided
-pub moved : (net : Net) (rows : RowsValue) (old_path : List Decision) (old_changes old_pairs charged : List Bool) (timetable : HeldTimetableValue) (cost : KeptCostValue) (places : List ℕ) (path now : List Decision)
+pub moved : (net : Net) (rows : RowsValue) (old_path : List Decision) (old_changes old_pairs charged : List Bool) (timetable : HeldTimetableValue) (cost : KeptCostValue) (moved_set : PlaceSetValue) (is_noted : Bool) (places : List ℕ) (path now : List Decision)
     (changes pairs : List Bool) → now ≡ path → changes ≡ old_changes → pairs ≡ old_pairs →
-    IsRelaxedProblemOf net rows (record { path = path; changes = old_changes; pairs = old_pairs; charged = charged; timetable = timetable; kept_cost = cost; places = places }) →
-    IsRelaxedProblemOf net rows (record { path = now; changes = changes; pairs = pairs; charged = charged; timetable = timetable; kept_cost = cost; places = places })
-moved net rows old_path old_changes old_pairs charged timetable cost places path now changes pairs path_is changes_are pairs_are is =
-    subst (λ (p : List Decision). IsRelaxedProblemOf net rows (record { path = p; changes = changes; pairs = pairs; charged = charged; timetable = timetable; kept_cost = cost; places = places })) (sym path_is)
-    (subst (λ (f : List Bool). IsRelaxedProblemOf net rows (record { path = path; changes = f; pairs = pairs; charged = charged; timetable = timetable; kept_cost = cost; places = places })) (sym changes_are)
-    (subst (λ (f : List Bool). IsRelaxedProblemOf net rows (record { path = path; changes = old_changes; pairs = f; charged = charged; timetable = timetable; kept_cost = cost; places = places })) (sym pairs_are) is))
+    IsRelaxedProblemOf net rows (record { path = path; changes = old_changes; pairs = old_pairs; charged = charged; timetable = timetable; kept_cost = cost; moved = moved_set; is_noted = is_noted; places = places }) →
+    IsRelaxedProblemOf net rows (record { path = now; changes = changes; pairs = pairs; charged = charged; timetable = timetable; kept_cost = cost; moved = moved_set; is_noted = is_noted; places = places })
+moved net rows old_path old_changes old_pairs charged timetable cost moved_set is_noted places path now changes pairs path_is changes_are pairs_are is =
+    subst (λ (p : List Decision). IsRelaxedProblemOf net rows (record { path = p; changes = changes; pairs = pairs; charged = charged; timetable = timetable; kept_cost = cost; moved = moved_set; is_noted = is_noted; places = places })) (sym path_is)
+    (subst (λ (f : List Bool). IsRelaxedProblemOf net rows (record { path = path; changes = f; pairs = pairs; charged = charged; timetable = timetable; kept_cost = cost; moved = moved_set; is_noted = is_noted; places = places })) (sym changes_are)
+    (subst (λ (f : List Bool). IsRelaxedProblemOf net rows (record { path = path; changes = old_changes; pairs = f; charged = charged; timetable = timetable; kept_cost = cost; moved = moved_set; is_noted = is_noted; places = places })) (sym pairs_are) is))

@@ -1,5 +1,5 @@
 //! The choices of a plan: which choices they are, and what they make of the rows.
-ghost use Rattle.std.specs.Prelude.{ℕ, ◌≡◌, ◌≤◌, ◌+◌, Some, All, Contains, map, IfOk, MatchBool};
+ghost use Rattle.std.specs.Prelude.{ℕ, ◌≡◌, ◌≤◌, ◌+◌, Some, All, Contains, map, length, IfOk, MatchBool};
 ghost use Rattle.dm_base.specs.declared.limits.TheConstants.{PENALTY};
 ghost use Rattle.dm_rows.specs.Rows.{IsSized};
 ghost use Rattle.dm_rows.specs.Reach.{ReachesFlip};
@@ -13,6 +13,7 @@ ghost use Rattle.dm_paths.specs.Decisions.{differs_from};
 use dm_base::Cost;
 use dm_check_rows::is_cost_of;
 use dm_check_times::{HeldCycle, KeptTimetable};
+use dm_marks::PlaceSet;
 use dm_network::Network;
 use dm_paths::flip_of;
 use dm_rows::{Change, Choice, Decision, Flip, Rows};
@@ -87,14 +88,17 @@ pub fn cost_with(
     net: &Network,
     penalty: u64,
     timetable: &mut KeptTimetable,
+    moved: &mut PlaceSet,
     rows: &Rows,
     decisions: &[Decision],
     cost: Cost,
 ) -> Result<bool, AllocError>
     requires sized { IsSized net.now rows.now }
     requires room { IsRoomOf net.now timetable.old }
+    requires as_many_moved { length moved.old.flags ≡ length net.now.events }
     requires free { AreFree net.now rows.now decisions.now }
     requires penalty { penalty ≤ PENALTY }
+    ensures as_many_moved { length moved.new.flags ≡ length moved.old.flags }
     ensures tells { IfOk result (λ b. (budget : ℕ) → Tells (CostsWith (whole_task net.now rows.now penalty budget) decisions.now cost) b) }
     ensures room { IsRoomOf net.now timetable.new }
 {
@@ -102,7 +106,7 @@ pub fn cost_with(
         Ok(set) => set,
         Err(full) => return Err(full),
     };
-    match timetable.fill(net, &set) {
+    match timetable.fill(net, &set, moved) {
         Ok(()) => Ok(is_cost_of(net, &set, timetable.times(), penalty, cost)),
         Err(HeldCycle) => Ok(false),
     }

@@ -7,13 +7,14 @@ ghost use Rattle.dm_rows.specs.Rows.{IsSized};
 ghost use Rattle.dm_rows.specs.Timetable.{IsLeastHolding};
 ghost use Rattle.dm_check_times.specs.Binding.{AreFlags, AreBelowLimit};
 ghost use Rattle.dm_marks.specs.Marked.{is_marked};
+ghost use Rattle.dm_check_times.specs.Noting.{NotesMoves};
 ghost use Rattle.dm_check_plans.specs.Inside.Timetables.{IsTimetableOf, IsRoomOf, IsLeastNow, AreOfRows, KeepsSpans};
 
 use crate::beginning::mark_changed;
 use crate::known::Known;
 use dm_base::Secs;
 use dm_check_times::{HeldCycle, fill_floors, fill_spans, follow, hold};
-use dm_marks::Marks;
+use dm_marks::{Marks, PlaceSet};
 use dm_network::Network;
 use dm_rows::Rows;
 use std::alloc::{AllocError, Global};
@@ -99,6 +100,7 @@ impl HeldTimetable {
         requires is_activity { a < length net.now.activities }
         ensures timetable { IsTimetableOf net.now self.new }
         ensures held { self.new.held ≡ slice_set self.old.held a value }
+        ensures times { self.new.times ≡ self.old.times }
         ensures keeps { KeepsSpans self.old self.new }
     {
         hold(
@@ -114,11 +116,20 @@ impl HeldTimetable {
     }
 
     /// Computes the least times for what is held. `Err` comes exactly where it has a cycle. It takes no memory, and costs what has
-    /// changed since the last ones, or since the first ones after a cycle.
-    pub fn settle(&mut self, net: &Network, rows: &Rows) -> Result<(), HeldCycle>
+    /// changed since the last ones, or since the first ones after a cycle. Where it answers `Ok`, the events whose times it wrote are
+    /// noted as moved.
+    pub fn settle(
+        &mut self,
+        net: &Network,
+        rows: &Rows,
+        moved: &mut PlaceSet,
+    ) -> Result<(), HeldCycle>
         requires sized { IsSized net.now rows.now }
         requires timetable { IsTimetableOf net.now self.old }
         requires rows { AreOfRows net.now rows.now self.old }
+        requires as_many_moved { length moved.old.flags ≡ length net.now.events }
+        ensures as_many_moved { length moved.new.flags ≡ length net.now.events }
+        ensures notes { OnOk result (NotesMoves self.old.times self.new.times moved.old.flags moved.new.flags) }
         ensures timetable { IsTimetableOf net.now self.new }
         ensures held { self.new.held ≡ self.old.held }
         ensures keeps { KeepsSpans self.old self.new }
@@ -130,7 +141,7 @@ impl HeldTimetable {
     {
         net.sound();
         rows.is_within_limits();
-        match self.follow(net) {
+        match self.follow(net, moved) {
             Ok(()) => {
                 self.keep_first(net);
                 Ok(())
@@ -143,8 +154,10 @@ impl HeldTimetable {
     }
 
     /// Makes the times follow what is held. Nothing is known of them after `Err`, which comes exactly where it has a cycle.
-    fn follow(&mut self, net: &Network) -> Result<(), HeldCycle>
-        requires { IsTimetableOf net.now self.old }
+    fn follow(&mut self, net: &Network, moved: &mut PlaceSet) -> Result<(), HeldCycle>
+        requires timetable { IsTimetableOf net.now self.old }
+        requires as_many_moved { length moved.old.flags ≡ length net.now.events }
+        ensures notes { NotesMoves self.old.times self.new.times moved.old.flags moved.new.flags }
         ensures room { IsRoomOf net.now self.new }
         ensures held { self.new.held ≡ self.old.held }
         ensures keeps { KeepsSpans self.old self.new }
@@ -160,6 +173,7 @@ impl HeldTimetable {
             &mut self.times,
             &mut self.stale,
             &mut self.due,
+            moved,
         )
     }
 

@@ -1,5 +1,5 @@
 //! Whole plans.
-ghost use Rattle.std.specs.Prelude.{ℕ, ◌≤◌, IfOk};
+ghost use Rattle.std.specs.Prelude.{ℕ, ◌≡◌, ◌≤◌, length, IfOk};
 ghost use Rattle.dm_base.specs.declared.limits.TheConstants.{PENALTY};
 ghost use Rattle.dm_rows.specs.Rows.{IsSized};
 ghost use Rattle.dm_tree.specs.Plans.{whole_task, IsTruePlan};
@@ -13,6 +13,7 @@ use crate::leaves::{is_any_at, is_any_below, is_any_open};
 use crate::nodes::{Costs, are_all_true};
 use dm_base::Cost;
 use dm_check_times::{HeldCycle, KeptTimetable, cost_of};
+use dm_marks::PlaceSet;
 use dm_network::Network;
 use dm_rows::{Decision, Rows, free_choices};
 use dm_tree::{Mark, Node, Plan};
@@ -42,11 +43,16 @@ pub fn is_true_plan(
         Ok(timetable) => timetable,
         Err(full) => return Err(full),
     };
+    let mut moved = match PlaceSet::new(alloc, net.events()) {
+        Ok(moved) => moved,
+        Err(full) => return Err(full),
+    };
     match are_true_choices(
         alloc,
         net,
         penalty,
         &mut timetable,
+        &mut moved,
         rows,
         choices,
         plan.cost,
@@ -55,7 +61,7 @@ pub fn is_true_plan(
         Ok(false) => return Ok(false),
         Err(full) => return Err(full),
     }
-    let own = own_cost(net, penalty, &mut timetable, rows);
+    let own = own_cost(net, penalty, &mut timetable, &mut moved, rows);
     let costs = Costs {
         own,
         plan: plan.cost,
@@ -99,6 +105,7 @@ fn are_true_choices(
     net: &Network,
     penalty: u64,
     timetable: &mut KeptTimetable,
+    moved: &mut PlaceSet,
     rows: &Rows,
     choices: &[Decision],
     cost: Cost,
@@ -106,9 +113,11 @@ fn are_true_choices(
     requires sized { IsSized net.now rows.now }
     requires penalty { penalty ≤ PENALTY }
     requires room { IsRoomOf net.now timetable.old }
+    requires as_many_moved { length moved.old.flags ≡ length net.now.events }
     ensures tells { IfOk result (λ b. (budget : ℕ)
         → Tells (AreTrueChoices (whole_task net.now rows.now penalty budget) choices.now cost) b) }
     ensures room { IsRoomOf net.now timetable.new }
+    ensures as_many_moved { length moved.new.flags ≡ length moved.old.flags }
 {
     let free = match free_choices(alloc, net, rows) {
         Ok(free) => free,
@@ -120,21 +129,28 @@ fn are_true_choices(
     if !are_all_different(net, rows, choices) {
         return Ok(false);
     }
-    match cost_with(net, penalty, timetable, rows, choices, cost) {
+    match cost_with(net, penalty, timetable, moved, rows, choices, cost) {
         Ok(costs) => Ok(costs),
         Err(full) => Err(full),
     }
 }
 
 /// What the rows themselves cost, or None where they have a cycle.
-fn own_cost(net: &Network, penalty: u64, timetable: &mut KeptTimetable, rows: &Rows) -> Option<Cost>
+fn own_cost(
+    net: &Network,
+    penalty: u64,
+    timetable: &mut KeptTimetable,
+    moved: &mut PlaceSet,
+    rows: &Rows,
+) -> Option<Cost>
     requires sized { IsSized net.now rows.now }
     requires penalty { penalty ≤ PENALTY }
     requires room { IsRoomOf net.now timetable.old }
+    requires as_many_moved { length moved.old.flags ≡ length net.now.events }
     ensures { IsOwnCost net.now rows.now penalty result }
 {
     net.sound();
-    match timetable.fill(net, rows) {
+    match timetable.fill(net, rows, moved) {
         Ok(()) => Some(cost_of(net, rows, timetable.times(), penalty)),
         Err(HeldCycle) => None,
     }

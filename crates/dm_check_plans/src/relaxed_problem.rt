@@ -5,6 +5,7 @@ ghost use Rattle.dm_rows.specs.Rows.{IsSized};
 ghost use Rattle.dm_rows.specs.Decide.{choice_of};
 ghost use Rattle.dm_tree.specs.Relaxed.{relaxed_cost_of, IsViolated};
 ghost use Rattle.dm_check_rows.specs.Claims.{Tells};
+ghost use Rattle.dm_check_times.specs.Binding.{AreBelowLimit};
 ghost use Rattle.dm_check_times.specs.KeptCosts.{IsKeptCostOf, IsPricedFor};
 ghost use Rattle.dm_paths.specs.Flags.{is_flagged};
 ghost use Rattle.dm_paths.specs.Decisions.{IsOpen};
@@ -16,6 +17,7 @@ use crate::turning::{turn, weigh};
 use crate::violations::{is_any_violated, is_violated};
 use dm_base::Cost;
 use dm_check_times::{Charges, HeldCycle, KeptCost, changes_of};
+use dm_marks::PlaceSet;
 use dm_network::Network;
 use dm_paths::{Undecided, all_undecided, binding_flags, flip_of};
 use dm_rows::{Choice, Decision, Rows};
@@ -31,6 +33,12 @@ pub struct RelaxedProblem {
     charged: Vec<bool>,
     timetable: HeldTimetable,
     kept_cost: KeptCost,
+
+    /// The events whose times may not be those of the cost.
+    moved: PlaceSet,
+
+    /// Whether no other has another time. It is not so behind a cycle.
+    is_noted: bool,
 
     /// The places of the network's changes.
     places: Vec<usize>,
@@ -48,6 +56,8 @@ impl Model for RelaxedProblem {
       charged = r.charged.items;
       timetable = r.timetable;
       kept_cost = r.kept_cost;
+      moved = r.moved;
+      is_noted = r.is_noted;
       places = r.places.items;
     } };
 
@@ -70,6 +80,8 @@ impl RelaxedProblem {
             charged,
             timetable: HeldTimetable::new(alloc, net, rows, held)?,
             kept_cost,
+            moved: PlaceSet::new(alloc, net.events())?,
+            is_noted: false,
             places: changes_of(alloc, net)?,
         })
     }
@@ -83,15 +95,38 @@ impl RelaxedProblem {
         ensures solved { OnOk result (IsSolved net.now rows.now self.new) }
         ensures cyclic { OnErr result (HasRelaxedCycle net.now rows.now self.old.path) }
     {
-        match self.timetable.settle(net, rows) {
+        match self.timetable.settle(net, rows, &mut self.moved) {
             Ok(()) => {
-                let charges = Charges::Flagged(&self.charged);
-                self.kept_cost
-                    .follow(net, rows, &charges, self.timetable.times());
+                self.take_cost(net, rows);
                 Ok(())
             }
-            Err(HeldCycle) => Err(HeldCycle),
+            Err(HeldCycle) => {
+                self.is_noted = false;
+                Err(HeldCycle)
+            }
         }
+    }
+
+    /// Takes the times, which are the least ones, into the cost.
+    fn take_cost(&mut self, net: &Network, rows: &Rows)
+        requires sized { IsSized net.now rows.now }
+        requires problem { IsRelaxedProblemOf net.now rows.now self.old }
+        requires early { AreBelowLimit (times_of self.old) }
+        ensures problem { IsRelaxedProblemOf net.now rows.now self.new }
+        ensures path { self.new.path ≡ self.old.path }
+        ensures times { times_of self.new ≡ times_of self.old }
+        ensures kept { self.new.kept_cost.times ≡ times_of self.old }
+    {
+        let charges = Charges::Flagged(&self.charged);
+        self.kept_cost.bring(
+            net,
+            rows,
+            &charges,
+            self.timetable.times(),
+            self.is_noted,
+            &mut self.moved,
+        );
+        self.is_noted = true;
     }
 
     /// Decides a choice that is free and that the path leaves undecided. The times are then those of before.

@@ -28,6 +28,7 @@ pub fn turn(
     requires charged { length charged.old ≡ length net.now.activities }
     ensures timetable { IsTimetableOf net.now timetable.new }
     ensures keeps { KeepsSpans timetable.old timetable.new }
+    ensures times { timetable.new.times ≡ timetable.old.times }
     ensures held { AreSetWhere (is_held_by net.now flip) value (length net.now.activities) timetable.old.held timetable.new.held }
     ensures charged { AreSetWhere (is_charged_by flip) value (length net.now.activities) charged.old charged.new }
 {
@@ -72,6 +73,7 @@ fn turn_direction(
     requires timetable { IsTimetableOf net.now timetable.old }
     ensures timetable { IsTimetableOf net.now timetable.new }
     ensures keeps { KeepsSpans timetable.old timetable.new }
+    ensures times { timetable.new.times ≡ timetable.old.times }
     ensures held { AreSetWhere (is_directed net.now pair tail) value (length net.now.activities) timetable.old.held timetable.new.held }
 {
     let row = row_out_of(net, tail);
@@ -86,6 +88,7 @@ fn turn_one(net: &Network, pair: usize, a: usize, value: bool, timetable: &mut H
     requires timetable { IsTimetableOf net.now timetable.old }
     ensures timetable { IsTimetableOf net.now timetable.new }
     ensures keeps { KeepsSpans timetable.old timetable.new }
+    ensures times { timetable.new.times ≡ timetable.old.times }
     ensures held { MatchBool (is_of_pair pair (activity_at net.now a).pair) (timetable.new.held ≡ slice_set timetable.old.held a value)
         (timetable.new.held ≡ timetable.old.held) }
 {

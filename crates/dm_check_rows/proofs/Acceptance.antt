@@ -1,5 +1,5 @@
 -- Whether a message is accepted.
-use Rattle.std.proofs.Common.{◌≡◌, ℕ, Bool, true, false, List, Some, refl, sym, ap, subst, ◌∙◌, inl, inr, Result, Ok, Err}
+use Rattle.std.proofs.Common.{IsTrue, length, slice_index, ◌≡◌, ℕ, Bool, true, false, List, Some, refl, sym, ap, subst, ◌∙◌, inl, inr, Result, Ok, Err}
 use Rattle.std.specs.Prelude.{IfOk, OnOk}
 use Rattle.dm_network.specs.Net.{Net}
 use Rattle.dm_network.specs.Held.{ids_of}
@@ -11,10 +11,12 @@ use Rattle.dm_rows.specs.Rows.{RowsValue, IsSized}
 use Rattle.dm_rows.specs.Active.{HasNoCycle}
 use Rattle.dm_rows.specs.Resolve.{after, after_change, after_named, change_named}
 use Rattle.dm_rows.specs.Refuse.{RefusesAdmission, PassesAtOnce, IsNow}
-use Rattle.dm_check_rows.specs.Claims.{IsAccepted, IsKnownFree, IsKept, IsPriced, AreCheckedRowsOf, TellsAcceptance}
+use Rattle.dm_check_rows.specs.Claims.{IsAccepted, IsKnownFree, IsKept, IsPriced, IsNoted, AreCheckedRowsOf, TellsAcceptance}
 use Rattle.dm_schedule.specs.Schedule.{IsScheduleOf}
 use Rattle.dm_schedule.specs.declared.schedule.Scheduled.{Scheduled}
 use Rattle.dm_check_times.specs.KeptCosts.{KeptCostValue, IsKeptCostOf}
+use Rattle.dm_marks.specs.Places.{PlaceSetValue}
+use Rattle.dm_check_times.specs.Noting.{NotesMoves}
 use Rattle.dm_check_times.specs.Timetables.{KeptTimetableValue, IsRoomOf, IsSettledFor}
 use Rattle.dm_rows.specs.Harmless.{IsHarmless}
 use Rattle.dm_check_rows.proofs.AtOnce.{refuses_at_once}
@@ -42,13 +44,13 @@ pub stays_known : (net : Net) (rows : RowsValue) (m : Message) (known : Bool) �
 stays_known net rows m known harmless free is_known = never_make_cycles net rows m harmless (free is_known)
 
 -- the rows after a message, with what is known of them
-pub entered : (net : Net) (m : Message) (change : Change) (was now : RowsValue) (known stays kept still priced priced_still : Bool) (t new : KeptTimetableValue) (cost cost_new : KeptCostValue) (settled : Bool) (schedule : List Scheduled) →
-    AreCheckedRowsOf net (record { rows = was; is_free = known; is_kept = kept; is_priced = priced; is_settled = settled; schedule = schedule; timetable = t; kept_cost = cost }) → change_named net m ≡ Some change → now ≡ after_change was change →
+pub entered : (net : Net) (m : Message) (change : Change) (was now : RowsValue) (known stays kept still priced priced_still : Bool) (t new : KeptTimetableValue) (cost cost_new : KeptCostValue) (moved : PlaceSetValue) (settled : Bool) (schedule : List Scheduled) →
+    AreCheckedRowsOf net (record { rows = was; is_free = known; is_kept = kept; is_priced = priced; is_settled = settled; schedule = schedule; timetable = t; kept_cost = cost; moved = moved }) → change_named net m ≡ Some change → now ≡ after_change was change →
     ((rows : RowsValue) → IsKnownFree net rows known → IsKnownFree net (after net rows m) stays) → (IsSized net was → IsSized net now) → IsRoomOf net new →
-    ((before : RowsValue) → now ≡ after_change before change → IsKept net before t kept → IsKept net now new still) → IsKeptCostOf net cost_new →
-    ((before : RowsValue) → now ≡ after_change before change → IsPriced net before cost priced → IsPriced net now cost_new priced_still) →
-    AreCheckedRowsOf net (record { rows = now; is_free = stays; is_kept = still; is_priced = priced_still; is_settled = false; schedule = schedule; timetable = new; kept_cost = cost_new })
-entered net m change was now known stays kept still priced priced_still t new cost cost_new settled schedule stands named is free sized room keeps is_cost prices = record {
+    ((before : RowsValue) → now ≡ after_change before change → IsKept net before t kept → IsKept net now new still) → new.times ≡ t.times → IsKeptCostOf net cost_new → cost_new.times ≡ cost.times →
+    ((before : RowsValue) → now ≡ after_change before change → IsPriced net before cost priced → IsPriced net now cost_new priced_still) → (IsTrue priced_still → IsTrue priced) →
+    AreCheckedRowsOf net (record { rows = now; is_free = stays; is_kept = still; is_priced = priced_still; is_settled = false; schedule = schedule; timetable = new; kept_cost = cost_new; moved = moved })
+entered net m change was now known stays kept still priced priced_still t new cost cost_new moved settled schedule stands named is free sized room keeps times is_cost cost_times prices noted = record {
   sized = sized stands.sized;
   free = subst (λ (rows : RowsValue). IsKnownFree net rows stays) (sym (after_is net was now m change named is)) (free was stands.free);
   schedule = stands.schedule;
@@ -56,13 +58,15 @@ entered net m change was now known stays kept still priced priced_still t new co
   kept = keeps was is stands.kept;
   cost = is_cost;
   priced = prices was is stands.priced;
+  noted = λ yes e unmarked. ap (λ (x : List ℕ). slice_index x e) cost_times ∙ (stands.noted (noted yes) e unmarked ∙ ap (λ (x : List ℕ). slice_index x e) (sym times));
+  as_many_moved = stands.as_many_moved;
   settled = λ is. absurd cc;
 }
 
 -- rows whose least timetable is computed
-pub settles : (net : Net) (rows : RowsValue) (t : KeptTimetableValue) (cost : KeptCostValue) (priced : Bool) (schedule : List Scheduled) → IsSized net rows → IsScheduleOf net schedule → IsKeptCostOf net cost → IsPriced net rows cost priced → IsSettledFor net rows t →
-    AreCheckedRowsOf net (record { rows = rows; is_free = true; is_kept = true; is_priced = priced; is_settled = false; schedule = schedule; timetable = t; kept_cost = cost })
-settles net rows t cost priced schedule sized scheduled is_cost is_priced settled = record {
+pub settles : (net : Net) (rows : RowsValue) (t : KeptTimetableValue) (cost : KeptCostValue) (moved : PlaceSetValue) (priced : Bool) (schedule : List Scheduled) → IsSized net rows → IsScheduleOf net schedule → IsKeptCostOf net cost → IsPriced net rows cost priced → IsNoted t cost moved priced → length moved.flags ≡ length net.events → IsSettledFor net rows t →
+    AreCheckedRowsOf net (record { rows = rows; is_free = true; is_kept = true; is_priced = priced; is_settled = false; schedule = schedule; timetable = t; kept_cost = cost; moved = moved })
+settles net rows t cost moved priced schedule sized scheduled is_cost is_priced noted as_many settled = record {
   sized = sized;
   free = λ _. settled.no_cycle;
   schedule = scheduled;
@@ -70,5 +74,25 @@ settles net rows t cost priced schedule sized scheduled is_cost is_priced settle
   kept = λ _. record { timetable = settled.timetable; agrees = settled.agrees };
   cost = is_cost;
   priced = is_priced;
+  noted = noted;
+  as_many_moved = as_many;
   settled = λ is. absurd cc;
+}
+
+-- rows of which a cycle is found: the weights of the cost stay, where what has moved is noted
+pub unsettled : (net : Net) (rows : RowsValue) (free kept priced settled still : Bool) (schedule : List Scheduled) (t new : KeptTimetableValue) (cost : KeptCostValue) (moved now : PlaceSetValue) →
+    AreCheckedRowsOf net (record { rows = rows; is_free = free; is_kept = kept; is_priced = priced; is_settled = settled; schedule = schedule; timetable = t; kept_cost = cost; moved = moved }) →
+    IsRoomOf net new → length now.flags ≡ length net.events → (IsTrue kept → NotesMoves t.times new.times moved.flags now.flags) → (IsTrue still → IsTrue priced) → (IsTrue still → IsTrue kept) →
+    AreCheckedRowsOf net (record { rows = rows; is_free = false; is_kept = false; is_priced = still; is_settled = false; schedule = schedule; timetable = new; kept_cost = cost; moved = now })
+unsettled net rows free kept priced settled still schedule t new cost moved now stands room as_many notes was_priced was_kept = record {
+  sized = stands.sized;
+  free = λ no. absurd cc;
+  schedule = stands.schedule;
+  room = room;
+  kept = λ no. absurd cc;
+  cost = stands.cost;
+  priced = λ yes. stands.priced (was_priced yes);
+  noted = λ yes. (notes (was_kept yes)).noted cost.times (stands.noted (was_priced yes));
+  as_many_moved = as_many;
+  settled = λ no. absurd cc;
 }

@@ -14,6 +14,8 @@ use Rattle.dm_schedule.specs.Schedule.{IsScheduleOf}
 use Rattle.dm_schedule.specs.declared.schedule.Scheduled.{Scheduled}
 use Rattle.dm_check_times.specs.Binding.{AreBelowLimit}
 use Rattle.dm_check_times.specs.KeptCosts.{KeptCostValue, IsKeptCostOf, IsPricedFor}
+use Rattle.dm_check_times.specs.Noting.{AreAlikeBut}
+use Rattle.dm_marks.specs.Places.{PlaceSetValue}
 use Rattle.dm_check_times.specs.Timetables.{KeptTimetableValue, IsRoomOf, IsTimetableOf, AgreesWith}
 
 -- nothing refuses the message at so many entries
@@ -47,7 +49,8 @@ pub record IsTimeOf (net : Net) (rows : RowsValue) (i time : ℕ) : Type 0 where
 -- ---- rows as messages come
 
 -- rows, whether they are known to have no cycle, whether the timetable is kept with them, whether the weights of the cost are, whether
--- the timetable is settled, the events by their scheduled times, the timetable, and what its times cost
+-- the timetable is settled, the events by their scheduled times, the timetable, what its times cost, and the events that have moved
+-- since these were taken
 pub record CheckedRowsValue : Type 0 where
   pub rows : RowsValue
   pub is_free : Bool
@@ -57,6 +60,7 @@ pub record CheckedRowsValue : Type 0 where
   pub schedule : List Scheduled
   pub timetable : KeptTimetableValue
   pub kept_cost : KeptCostValue
+  pub moved : PlaceSetValue
 
 -- the times that were computed last
 abbrev pub times_of : CheckedRowsValue → List ℕ
@@ -78,6 +82,10 @@ IsKept net rows t kept = IsTrue kept → KeepsTo net rows t
 abbrev pub IsPriced : Net → RowsValue → KeptCostValue → Bool → Type 0
 IsPriced net rows cost priced = IsTrue priced → IsPricedFor net rows (is_dropped_change net rows) cost
 
+-- the times of the cost are those of the timetable, but at the events that have moved
+abbrev pub IsNoted : KeptTimetableValue → KeptCostValue → PlaceSetValue → Bool → Type 0
+IsNoted t cost moved priced = IsTrue priced → AreAlikeBut moved.flags cost.times t.times
+
 -- the times are the rows' least ones, and what these cost is kept
 pub record IsCosted (net : Net) (rows : RowsValue) (t : KeptTimetableValue) (kept : KeptCostValue) : Type 0 where
   pub least : IsLeast net rows t.times
@@ -98,6 +106,8 @@ pub record AreCheckedRowsOf (net : Net) (d : CheckedRowsValue) : Type 0 where
   pub kept : IsKept net d.rows d.timetable d.is_kept
   pub cost : IsKeptCostOf net d.kept_cost
   pub priced : IsPriced net d.rows d.kept_cost d.is_priced
+  pub noted : IsNoted d.timetable d.kept_cost d.moved d.is_priced
+  pub as_many_moved : length d.moved.flags ≡ length net.events
   pub settled : IsSettledIf net d.rows d.timetable d.kept_cost d.is_settled
 
 -- ---- refusals

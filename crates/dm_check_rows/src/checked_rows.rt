@@ -7,17 +7,19 @@ ghost use Rattle.dm_rows.specs.Active.{HasNoCycle};
 ghost use Rattle.dm_rows.specs.Resolve.{after, after_change};
 ghost use Rattle.dm_rows.specs.Refuse.{PassesAtOnce, RefusesAdmission, IsNow};
 ghost use Rattle.dm_rows.specs.Timetable.{IsLeast, time_at};
-ghost use Rattle.dm_rows.specs.Cost.{Costs, cost_of, is_dropped_change};
+ghost use Rattle.dm_rows.specs.Cost.{Costs, cost_of};
 ghost use Rattle.dm_rows.specs.declared.messages.Refusal.TheVariants.{OutOfMemory};
 ghost use Rattle.dm_schedule.specs.Schedule.{IsScheduleOf};
 ghost use Rattle.dm_check_times.specs.Binding.{AreBelowLimit};
-ghost use Rattle.dm_check_times.specs.KeptCosts.{IsKeptCostOf, IsPricedFor};
+ghost use Rattle.dm_check_times.specs.Noting.{NotesMoves};
+ghost use Rattle.dm_check_times.specs.KeptCosts.{IsKeptCostOf};
 ghost use Rattle.dm_check_times.specs.Timetables.{IsRoomOf, IsTimetableOf, IsSettledFor, ChangesNet};
 ghost use Rattle.dm_check_rows.specs.Claims.{AreCheckedRowsOf, IsTimeOf, IsKnownFree, IsKept, IsPriced, Tells, TellsAcceptance, times_of};
 ghost use Rattle.dm_rows.specs.Harmless.{IsHarmless};
 
-use dm_base::{Cost, Secs};
+use dm_base::Cost;
 use dm_check_times::{Charges, HeldCycle, KeptCost, KeptTimetable, cost_of, keep_cost, keep_up};
+use dm_marks::PlaceSet;
 use dm_network::Network;
 use dm_rows::{Change, Message, Refusal, Rows, admit};
 use dm_schedule::{Scheduled, schedule_of};
@@ -46,6 +48,9 @@ pub struct CheckedRows {
     schedule: Vec<Scheduled>,
     timetable: KeptTimetable,
     kept_cost: KeptCost,
+
+    /// The events whose times may not be those of the cost.
+    moved: PlaceSet,
 }
 
 impl Model for CheckedRows {
@@ -62,6 +67,7 @@ impl Model for CheckedRows {
       schedule = d.schedule.items;
       timetable = d.timetable;
       kept_cost = d.kept_cost;
+      moved = d.moved;
     } };
 
     ghost invariant = { λ d. Unit {0} };
@@ -83,6 +89,7 @@ impl CheckedRows {
             schedule: schedule_of(alloc, net)?,
             timetable: KeptTimetable::new(alloc, net)?,
             kept_cost: KeptCost::new(alloc, net)?,
+            moved: PlaceSet::new(alloc, net.events())?,
         })
     }
 
@@ -227,7 +234,14 @@ impl CheckedRows {
         ensures cyclic { OnErr result (HasNoCycle net.now self.new.rows → ⊥) }
     {
         self.is_settled = false;
-        match least(self.is_kept, &mut self.timetable, net, &self.rows) {
+        self.is_priced = self.is_priced && self.is_kept;
+        match least(
+            self.is_kept,
+            &mut self.timetable,
+            net,
+            &self.rows,
+            &mut self.moved,
+        ) {
             Ok(()) => {
                 self.is_free = true;
                 self.is_kept = true;
@@ -251,12 +265,13 @@ impl CheckedRows {
         ensures rows { self.new.rows ≡ self.old.rows }
         ensures times { times_of self.new ≡ times_of self.old }
     {
-        take_cost(
-            self.is_priced,
-            &mut self.kept_cost,
+        self.kept_cost.bring(
             net,
             &self.rows,
+            &Charges::Dropped,
             self.timetable.times(),
+            self.is_priced,
+            &mut self.moved,
         );
         self.is_priced = true;
         self.is_settled = true;
@@ -312,6 +327,7 @@ fn keep_if(
     requires room { IsRoomOf net.now timetable.old }
     requires timetable { IsTrue is_kept → IsTimetableOf net.now timetable.old }
     ensures room { IsRoomOf net.now timetable.new }
+    ensures times { timetable.new.times ≡ timetable.old.times }
     ensures kept { (before : RowsValue) → rows.now ≡ after_change before change.now → IsKept net.now before timetable.old is_kept
         → IsKept net.now rows.now timetable.new result }
 {
@@ -333,6 +349,8 @@ fn price_if(
     requires within { ChangesNet net.now change.now }
     requires kept { IsKeptCostOf net.now cost.old }
     ensures kept { IsKeptCostOf net.now cost.new }
+    ensures times { cost.new.times ≡ cost.old.times }
+    ensures only { IsTrue result → IsTrue is_priced }
     ensures priced { (before : RowsValue) → rows.now ≡ after_change before change.now
         → IsPriced net.now before cost.old is_priced → IsPriced net.now rows.now cost.new result }
 {
@@ -342,42 +360,28 @@ fn price_if(
     keep_cost(cost, net, rows, change)
 }
 
-/// Takes other times of rows into a cost, with what has changed where its weights are kept with the rows, and else anew.
-fn take_cost(is_priced: bool, cost: &mut KeptCost, net: &Network, rows: &Rows, times: &[Secs])
-    requires sized { IsSized net.now rows.now }
-    requires as_many { length times.now ≡ length net.now.events }
-    requires early { AreBelowLimit times.now }
-    requires kept { IsKeptCostOf net.now cost.old }
-    requires priced { IsPriced net.now rows.now cost.old is_priced }
-    ensures kept { IsKeptCostOf net.now cost.new }
-    ensures times { cost.new.times ≡ times.now }
-    ensures priced { IsPricedFor net.now rows.now (is_dropped_change net.now rows.now) cost.new }
-{
-    if is_priced {
-        cost.follow(net, rows, &Charges::Dropped, times);
-    } else {
-        cost.take(net, rows, &Charges::Dropped, times);
-    }
-}
-
 /// The least timetable of rows, from that of before where it is kept with them.
 fn least(
     is_kept: bool,
     timetable: &mut KeptTimetable,
     net: &Network,
     rows: &Rows,
+    moved: &mut PlaceSet,
 ) -> Result<(), HeldCycle>
     requires sized { IsSized net.now rows.now }
     requires room { IsRoomOf net.now timetable.old }
     requires kept { IsKept net.now rows.now timetable.old is_kept }
+    requires as_many_moved { length moved.old.flags ≡ length net.now.events }
+    ensures as_many_moved { length moved.new.flags ≡ length net.now.events }
+    ensures notes { IsTrue is_kept → NotesMoves timetable.old.times timetable.new.times moved.old.flags moved.new.flags }
     ensures room { IsRoomOf net.now timetable.new }
     ensures settled { OnOk result (IsSettledFor net.now rows.now timetable.new) }
     ensures cyclic { OnErr result (HasNoCycle net.now rows.now → ⊥) }
 {
     if is_kept {
-        timetable.settle(net, rows)
+        timetable.settle(net, rows, moved)
     } else {
-        timetable.fill(net, rows)
+        timetable.fill(net, rows, moved)
     }
 }
 

@@ -15,6 +15,7 @@ use crate::cycles::shows_cycle;
 use crate::reasons::is_said_by;
 use dm_base::limits::ENTRIES;
 use dm_check_times::{HeldCycle, KeptTimetable};
+use dm_marks::PlaceSet;
 use dm_network::Network;
 use dm_records::Reason;
 use dm_rows::{Change, Message, Rows, admit};
@@ -142,7 +143,10 @@ fn has_no_cycle(alloc: Global, net: &Network, rows: &Rows) -> Result<bool, Alloc
     let Ok(mut timetable) = KeptTimetable::new(alloc, net) else {
         return Err(AllocError);
     };
-    match timetable.fill(net, rows) {
+    let Ok(mut moved) = PlaceSet::new(alloc, net.events()) else {
+        return Err(AllocError);
+    };
+    match timetable.fill(net, rows, &mut moved) {
         Ok(()) => Ok(true),
         Err(HeldCycle) => Ok(false),
     }

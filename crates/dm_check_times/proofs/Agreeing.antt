@@ -32,6 +32,7 @@ renews_none net rows t = record {
   spans_size = refl;
   floors_size = refl;
   clock_kept = refl;
+  times_kept = refl;
   events_there = λ e nowhere. absurd nowhere;
   events_kept = λ e is. is;
   activities_there = λ a nowhere. absurd nowhere;
@@ -46,6 +47,7 @@ renews_less net rows e1 events a1 activities old new of_events of_activities had
   spans_size = had.spans_size;
   floors_size = had.floors_size;
   clock_kept = had.clock_kept;
+  times_kept = had.times_kept;
   events_there = λ e is. elim (of_events e is) [
     | inl among ↦ had.events_there e among
     | inr agrees ↦ agrees
@@ -62,6 +64,7 @@ renews_then net rows e1 e2 events a1 a2 activities old mid new of_events of_acti
   spans_size = two.spans_size ∙ one.spans_size;
   floors_size = two.floors_size ∙ one.floors_size;
   clock_kept = two.clock_kept ∙ one.clock_kept;
+  times_kept = two.times_kept ∙ one.times_kept;
   events_there = λ e is. elim (of_events e is) [
     | inl first ↦ two.events_kept e (one.events_there e first)
     | inr second ↦ two.events_there e second
@@ -80,6 +83,7 @@ event_renews net rows event old new inside renews = record {
   spans_size = ap (λ (xs : List ℕ). length xs) renews.spans;
   floors_size = ap (λ (xs : List ℕ). length xs) renews.floors ∙ length-set old.floors event (floor_of net rows event);
   clock_kept = renews.clock;
+  times_kept = renews.times;
   events_there = λ e here. there e here;
   events_kept = λ e was. elim (cases_eq e event) [
     | inl here ↦ there e here
@@ -98,6 +102,7 @@ activity_renews net rows a old new inside inside_spans renews = record {
   spans_size = ap (λ (xs : List ℕ). length xs) renews.spans ∙ length-set old.spans a (span_of net rows a);
   floors_size = ap (λ (xs : List ℕ). length xs) renews.floors;
   clock_kept = renews.clock;
+  times_kept = renews.times;
   events_there = λ e nowhere. absurd nowhere;
   events_kept = λ e was. ap (λ (xs : List ℕ). slice_index xs e) renews.floors ∙ was;
   activities_there = λ b here. there b here;
@@ -220,6 +225,7 @@ row_into_whole net rows i n row old new is all had = record {
   spans_size = had.spans_size;
   floors_size = had.floors_size;
   clock_kept = had.clock_kept;
+  times_kept = had.times_kept;
   events_there = had.events_there;
   events_kept = had.events_kept;
   activities_there = λ a enters. had.activities_there a
@@ -233,6 +239,7 @@ row_out_whole net rows i n row old new is all had = record {
   spans_size = had.spans_size;
   floors_size = had.floors_size;
   clock_kept = had.clock_kept;
+  times_kept = had.times_kept;
   events_there = had.events_there;
   events_kept = had.events_kept;
   activities_there = λ a leaves. had.activities_there a

@@ -5,7 +5,6 @@ use Rattle.std.specs.List.{range_with_len}
 use Rattle.std.proofs.lemmas.Bool.{cases_eq, cases_lt}
 use Rattle.std.proofs.lemmas.List.{get_or_past, get_or-replicate, length-replicate}
 use Rattle.std.proofs.lemmas.List.Edits.{get_or-between}
-use Rattle.std.proofs.lemmas.Grind.{same_number_lists}
 use Rattle.std.proofs.lemmas.List.Sums.{sum_by-cons}
 use native.Mathlib.Nat.{mul-le-mul}
 use Rattle.std.proofs.Math.Nat.{mul-add}
@@ -15,7 +14,6 @@ use Rattle.dm_rows.specs.Rows.{RowsValue, kept_at}
 use Rattle.dm_rows.specs.Active.{has_passed}
 use Rattle.dm_rows.specs.Cost.{event_cost, charged_weight, dropped_weight, missed_weight, comes_too_early, cost_of, cost_charging, is_arrival}
 use Rattle.dm_check_times.specs.Binding.{AreBelowLimit}
-use Rattle.dm_check_times.specs.Inside.Taking.{HasTaken}
 use Rattle.dm_check_times.specs.KeptCosts.{KeptCostValue, IsKeptCostOf, IsPricedFor, priced_weight, penalized_weight}
 use Rattle.dm_rows.proofs.Totals.{sum_alike, sum_within}
 
@@ -236,30 +234,3 @@ enough net kept i was is_kept below is =
     let part = one_of_all (event_cost net kept.times) i 0 (length net.events) (omega arith) (omega arith) in
     let had = is_kept.lateness in
     omega (arith, part, had, is)
-
--- ---- times that are taken
-
-pub taken_next : (times old new : List ℕ) (n : ℕ) → n < length old → HasTaken times old n → new ≡ slice_set old n (slice_index times n) → HasTaken times new (n + 1)
-taken_next times old new n below had is k less =
-    elim (cases_eq k n) [
-      | inl here ↦ subst (λ (j : ℕ). slice_index new j ≡ slice_index times j) (sym here) (ap (λ (xs : List ℕ). slice_index xs n) is ∙ get_or-set_same old n (slice_index times n) 0 below)
-      | inr ne ↦ ap (λ (xs : List ℕ). slice_index xs k) is ∙ (get_or-set_other old n k (slice_index times n) 0 ne ∙ had k (omega arith))
-    ]
-
-pub taken_block : (times kept : List ℕ) (from to : ℕ) → HasTaken times kept from → ((k : ℕ) → from ≤ k → k < to → slice_index kept k ≡ slice_index times k) → HasTaken times kept to
-taken_block times kept from to had same k less =
-    elim (cases_lt k from) [
-      | inl before ↦ had k before
-      | inr past ↦ same k (omega arith) less
-    ]
-
--- blocks that are equal, place by place
-pub block_same : (kept times : List ℕ) (from to : ℕ) → slice_range kept from to ≡ slice_range times from to → to ≤ length kept → to ≤ length times → (k : ℕ) → from ≤ k → k < to → slice_index kept k ≡ slice_index times k
-block_same kept times from to same in_kept in_times k ge lt =
-    let at : from + (k - from) ≡ k = omega arith in
-    let left = get_or-between kept from to (k - from) 0 (omega arith) in
-    let right = get_or-between times from to (k - from) 0 (omega arith) in
-    subst (λ (j : ℕ). slice_index kept j ≡ slice_index times j) at (sym left ∙ (ap (λ (l : List ℕ). slice_index l (k - from)) same ∙ right))
-
-pub taken_all : (times kept : List ℕ) (n : ℕ) → length kept ≡ length times → length times ≤ n → HasTaken times kept n → kept ≡ times
-taken_all times kept n size all had = same_number_lists kept times size (λ k below. had k (omega arith))

@@ -1,3 +1,5 @@
+pub mod Noted
+pub mod Followed
 pub mod Rising
 pub mod Rounding
 pub mod OfRows
@@ -9,4 +11,3 @@ pub mod Agreeing
 pub mod Kept
 pub mod Weighing
 pub mod Changing
-pub mod Bits

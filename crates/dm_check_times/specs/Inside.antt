@@ -3,6 +3,4 @@ pub mod Rising
 pub mod Spreading
 pub mod Renewing
 pub mod Agreeing
-pub mod Taking
-pub mod Differing
 pub mod Pricing

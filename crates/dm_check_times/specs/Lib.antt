@@ -2,6 +2,8 @@
 pub mod Binding
 -- Times that were least before what binds has changed.
 pub mod Following
+-- Times that change, and which are noted as moved.
+pub mod Noting
 -- The least timetable of rows, as these change.
 pub mod Timetables
 -- The changes of a network, by place.

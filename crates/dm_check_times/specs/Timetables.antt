@@ -64,19 +64,21 @@ pub record IsSettledFor (net : Net) (rows : RowsValue) (t : KeptTimetableValue) 
   pub early : AreBelowLimit t.times
   pub no_cycle : HasNoCycle net rows
 
--- the floor of one event is that of the rows now, and nothing else that binds has changed
+-- the floor of one event is that of the rows now, and nothing else that binds has changed, and no time
 pub record RenewsEvent (net : Net) (rows : RowsValue) (event : ℕ) (old new : KeptTimetableValue) : Type 0 where
   pub floors : new.floors ≡ slice_set old.floors event (floor_of net rows event)
   pub held : new.held ≡ old.held
   pub spans : new.spans ≡ old.spans
   pub clock : new.clock ≡ old.clock
+  pub times : new.times ≡ old.times
 
--- one activity binds as under the rows now, and nothing else that binds has changed
+-- one activity binds as under the rows now, and nothing else that binds has changed, and no time
 pub record RenewsActivity (net : Net) (rows : RowsValue) (a : ℕ) (old new : KeptTimetableValue) : Type 0 where
   pub held : new.held ≡ slice_set old.held a (is_active net rows a)
   pub spans : new.spans ≡ slice_set old.spans a (span_of net rows a)
   pub floors : new.floors ≡ old.floors
   pub clock : new.clock ≡ old.clock
+  pub times : new.times ≡ old.times
 
 -- the clock is that of the rows now, and nothing else has changed
 pub record TakesClock (rows : RowsValue) (old new : KeptTimetableValue) : Type 0 where
@@ -84,6 +86,7 @@ pub record TakesClock (rows : RowsValue) (old new : KeptTimetableValue) : Type 0
   pub held : new.held ≡ old.held
   pub spans : new.spans ≡ old.spans
   pub floors : new.floors ≡ old.floors
+  pub times : new.times ≡ old.times
 
 -- what the flip, the change is of is one of the network's
 abbrev pub FlipsNet : Net → Flip → Type 0

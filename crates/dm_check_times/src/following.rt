@@ -6,20 +6,21 @@ ghost use Rattle.dm_graph.specs.Graph.{IsLeast};
 ghost use Rattle.dm_check_times.specs.Binding.{graph_with, is_due, AreBindings, MayBegin};
 ghost use Rattle.dm_marks.specs.Marked.{is_marked};
 ghost use Rattle.dm_check_times.specs.Following.{Follows};
+ghost use Rattle.dm_check_times.specs.Noting.{NotesMoves};
 ghost use Rattle.dm_check_times.specs.Inside.Rising.{AreWithin};
 ghost use Rattle.dm_check_times.specs.Inside.Spreading.{HasSpread, SpreadsFrom, SpreadsTo, SpreadsAlong, IsClosed, HasReset, HasMarkedTails, MarksTail};
 
 use crate::rounds::{HeldCycle, raise};
 use crate::row::{row_into, row_out_of};
 use dm_base::Secs;
-use dm_marks::Marks;
+use dm_marks::{Marks, PlaceSet};
 use dm_network::Network;
 
 /// Makes times that were least before what binds has changed the least ones again. Events are stale whose time may have become
 /// wrong by a change of their own floor or of an activity into them ([`Follows`]); they are also due. The times of these and of
 /// the events that were held to them begin anew from the floors. `Err` comes exactly where what is held has a cycle; nothing
-/// is known of times and marks then. Where it answers `Ok`, no event is stale or due. It takes no memory, and looks at what is
-/// stale or due alone.
+/// is known of times and marks then. Where it answers `Ok`, no event is stale or due. Events whose times it writes are noted as
+/// moved. It takes no memory, and looks at what is stale or due alone.
 pub fn follow(
     net: &Network,
     held: &[bool],
@@ -28,12 +29,14 @@ pub fn follow(
     times: &mut [Secs],
     stale: &mut Marks,
     due: &mut Marks,
+    moved: &mut PlaceSet,
 ) -> Result<(), HeldCycle>
     requires bindings { AreBindings net.now held.now spans.now }
     requires as_many_floors { length floors.now ≡ length net.now.events }
     requires as_many_times { length times.old ≡ length net.now.events }
     requires as_many_stale { length stale.old ≡ length net.now.events }
     requires as_many_due { length due.old ≡ length net.now.events }
+    requires as_many_moved { length moved.old.flags ≡ length net.now.events }
     requires early { AreWithin times.old (2 ^ 38) }
     requires early_floors { AreWithin floors.now (2 ^ 38) }
     requires follows { Follows net.now held.now spans.now floors.now times.old stale.old }
@@ -45,10 +48,11 @@ pub fn follow(
     ensures as_many { length times.new ≡ length net.now.events }
     ensures as_many_stale { length stale.new ≡ length net.now.events }
     ensures as_many_due { length due.new ≡ length net.now.events }
+    ensures notes { NotesMoves times.old times.new moved.old.flags moved.new.flags }
 {
     spread(net, held, spans, times, stale, due);
-    reset(net, held, floors, times, stale, due);
-    raise(net, held, spans, times, due)
+    reset(net, held, floors, times, stale, due, moved);
+    raise(net, held, spans, times, due, moved)
 }
 
 /// Makes the head of each held activity stale that its stale tail holds to its time. Events are due of which that is not known.
@@ -188,22 +192,26 @@ fn reset(
     times: &mut [Secs],
     stale: &mut Marks,
     due: &mut Marks,
+    moved: &mut PlaceSet,
 )
     requires flags { length held.now ≡ length net.now.activities }
     requires as_many_floors { length floors.now ≡ length net.now.events }
     requires as_many_times { length times.old ≡ length net.now.events }
     requires as_many_stale { length stale.old ≡ length net.now.events }
     requires as_many_due { length due.old ≡ length net.now.events }
+    requires as_many_moved { length moved.old.flags ≡ length net.now.events }
     ensures reset { HasReset net.now held.now floors.now (length net.now.events) stale.old times.old times.new due.new }
     ensures none_stale { (e : ℕ) → is_marked stale.new e ≡ false }
     ensures as_many_stale { length stale.new ≡ length net.now.events }
     ensures as_many_due { length due.new ≡ length net.now.events }
+    ensures notes { NotesMoves times.old times.new moved.old.flags moved.new.flags }
 {
     net.sound();
     let mut start = 0;
     while let Some(event) = stale.first_from(start) {
         stale.clear(event);
         times[event] = floors[event];
+        moved.insert(event);
         due.mark(event);
         mark_tails(net, held, event, due);
         start = event + 1;

@@ -30,6 +30,7 @@ pub fn keep_up(
     ensures timetable { IsTimetableOf net.now timetable.new }
     ensures agrees { result ≡ true → (before : RowsValue) → rows.now ≡ after_change before change.now
         → AgreesWith net.now before timetable.old → AgreesWith net.now rows.now timetable.new }
+    ensures times { timetable.new.times ≡ timetable.old.times }
 {
     net.sound();
     match change {

@@ -1,26 +1,24 @@
 //! What a timetable costs, kept while its times change.
-ghost use Rattle.std.specs.Prelude.{ℕ, ◌≡◌, ◌*◌, ◌^◌, ◌<◌, ◌≤◌, true, Bool, length, slice_index, slice_set, IfOk};
+ghost use Rattle.std.specs.Prelude.{ℕ, ◌≡◌, ◌*◌, ◌^◌, ◌<◌, ◌≤◌, Bool, IsTrue, length, slice_index, slice_set, IfOk};
 ghost use Rattle.dm_base.specs.declared.limits.TheConstants.{PENALTY, WEIGHT};
+ghost use Rattle.dm_marks.specs.Moved.{ListsMoved};
 ghost use Rattle.dm_rows.specs.Rows.{RowsValue, IsSized};
 ghost use Rattle.dm_rows.specs.Cost.{cost_charging};
 ghost use Rattle.dm_check_times.specs.Binding.{AreBelowLimit};
 ghost use Rattle.dm_check_times.specs.KeptCosts.{IsKeptCostOf, IsPricedFor, RenewsWeight, charges_of, AreChargesTo};
+ghost use Rattle.dm_check_times.specs.Noting.{AreAlikeBut};
 ghost use Rattle.dm_check_times.specs.Inside.Agreeing.{InRow};
 ghost use Rattle.dm_check_times.specs.Inside.Pricing.{Reprices};
-ghost use Rattle.dm_check_times.specs.Inside.Taking.{HasTaken};
 
 use crate::charges::{Charges, priced_weight};
-use crate::comparing::are_equal;
 use crate::costing::{event_cost, lateness_cost};
 use crate::row::{row_into, row_out_of};
 use dm_base::{Cost, Milli, Secs};
+use dm_marks::PlaceSet;
 use dm_network::Network;
 use dm_rows::Rows;
 use std::alloc::{AllocError, Global};
 use std::marker::Model;
-
-/// How many times are compared at once.
-const BLOCK: usize = 64;
 
 /// Times of a network's events, with what their lateness costs, and for each activity the weight of which the penalty is taken, with
 /// their sum. So the cost of these times is a sum of two numbers.
@@ -57,6 +55,39 @@ impl KeptCost {
             weights: vec![in alloc; 0; net.activities()]?,
             penalized: 0,
         })
+    }
+
+    /// Takes other times of rows, in seconds, and empties the set of events that have moved: with these alone, where the weights are
+    /// those of the rows and every other time is as before, and else anew. It takes no memory.
+    pub fn bring(
+        &mut self,
+        net: &Network,
+        rows: &Rows,
+        charges: &Charges<'_>,
+        times: &[Secs],
+        is_noted: bool,
+        moved: &mut PlaceSet,
+    )
+        requires kept { IsKeptCostOf net.now self.old }
+        requires sized { IsSized net.now rows.now }
+        requires charges { AreChargesTo net.now charges.now }
+        requires as_many { length times.now ≡ length net.now.events }
+        requires early { AreBelowLimit times.now }
+        requires as_many_moved { length moved.old.flags ≡ length net.now.events }
+        requires priced { IsTrue is_noted → IsPricedFor net.now rows.now (charges_of net.now rows.now charges.now) self.old }
+        requires noted { IsTrue is_noted → AreAlikeBut moved.old.flags self.old.times times.now }
+        ensures kept { IsKeptCostOf net.now self.new }
+        ensures times { self.new.times ≡ times.now }
+        ensures priced { IsPricedFor net.now rows.now (charges_of net.now rows.now charges.now) self.new }
+        ensures as_many_moved { length moved.new.flags ≡ length net.now.events }
+    {
+        if is_noted {
+            moved.sound();
+            self.follow(net, rows, charges, times, moved.places());
+        } else {
+            self.take(net, rows, charges, times);
+        }
+        moved.clear();
     }
 
     /// Takes whole other times of rows, in seconds, and every weight anew. It takes no memory.
@@ -100,91 +131,28 @@ impl KeptCost {
         }
     }
 
-    /// Takes other times, in seconds. It takes no memory, compares them with those of before many at once, and looks at the single
-    /// times where some differ, and at the activities into and out of the events that have moved.
-    pub fn follow(&mut self, net: &Network, rows: &Rows, charges: &Charges<'_>, times: &[Secs])
+    /// Takes other times, in seconds, that differ from those of before at the listed events alone. It takes no memory, and looks
+    /// at these and at the activities into them and out of them.
+    pub fn follow(
+        &mut self,
+        net: &Network,
+        rows: &Rows,
+        charges: &Charges<'_>,
+        times: &[Secs],
+        moved: &[usize],
+    )
         requires kept { IsKeptCostOf net.now self.old }
         requires sized { IsSized net.now rows.now }
         requires charges { AreChargesTo net.now charges.now }
         requires priced { IsPricedFor net.now rows.now (charges_of net.now rows.now charges.now) self.old }
-        requires as_many { length times.now ≡ length net.now.events }
         requires early { AreBelowLimit times.now }
+        requires moved { ListsMoved self.old.times times.now moved.now }
         ensures kept { IsKeptCostOf net.now self.new }
         ensures times { self.new.times ≡ times.now }
         ensures priced { IsPricedFor net.now rows.now (charges_of net.now rows.now charges.now) self.new }
     {
-        for block in 0..times.len() / BLOCK {
-            let from = block * BLOCK;
-            self.follow_block(net, rows, charges, times, from, from + BLOCK);
-        }
-        let from = times.len() / BLOCK * BLOCK;
-        self.follow_block(net, rows, charges, times, from, times.len());
-    }
-
-    /// Takes those of a block, where those before it are taken. Equal blocks are left out.
-    fn follow_block(
-        &mut self,
-        net: &Network,
-        rows: &Rows,
-        charges: &Charges<'_>,
-        times: &[Secs],
-        from: usize,
-        to: usize,
-    )
-        requires kept { IsKeptCostOf net.now self.old }
-        requires sized { IsSized net.now rows.now }
-        requires charges { AreChargesTo net.now charges.now }
-        requires priced { IsPricedFor net.now rows.now (charges_of net.now rows.now charges.now) self.old }
-        requires as_many { length times.now ≡ length net.now.events }
-        requires early { AreBelowLimit times.now }
-        requires block { from ≤ to }
-        requires within { to ≤ length times.now }
-        requires taken { HasTaken times.now self.old.times from }
-        ensures kept { IsKeptCostOf net.now self.new }
-        ensures taken { HasTaken times.now self.new.times to }
-        ensures priced { IsPricedFor net.now rows.now (charges_of net.now rows.now charges.now) self.new }
-    {
-        if self.has(times, from, to) {
-            return;
-        }
-        self.follow_each(net, rows, charges, times, from, to);
-    }
-
-    /// Whether these are the times of a block already.
-    fn has(&self, times: &[Secs], from: usize, to: usize) -> bool
-        requires block { from ≤ to }
-        requires within { to ≤ length times.now }
-        requires as_many { length times.now ≡ length self.now.times }
-        ensures { result ≡ true → (k : ℕ) → from ≤ k → k < to → slice_index self.now.times k ≡ slice_index times.now k }
-    {
-        are_same_between(&self.times, times, from, to)
-    }
-
-    /// Takes those of a block, each looked at.
-    fn follow_each(
-        &mut self,
-        net: &Network,
-        rows: &Rows,
-        charges: &Charges<'_>,
-        times: &[Secs],
-        from: usize,
-        to: usize,
-    )
-        requires kept { IsKeptCostOf net.now self.old }
-        requires sized { IsSized net.now rows.now }
-        requires charges { AreChargesTo net.now charges.now }
-        requires priced { IsPricedFor net.now rows.now (charges_of net.now rows.now charges.now) self.old }
-        requires as_many { length times.now ≡ length net.now.events }
-        requires early { AreBelowLimit times.now }
-        requires block { from ≤ to }
-        requires within { to ≤ length times.now }
-        requires taken { HasTaken times.now self.old.times from }
-        ensures kept { IsKeptCostOf net.now self.new }
-        ensures taken { HasTaken times.now self.new.times to }
-        ensures priced { IsPricedFor net.now rows.now (charges_of net.now rows.now charges.now) self.new }
-    {
-        for i in from..to {
-            self.follow_at(net, rows, charges, i, times[i]);
+        for i in moved {
+            self.follow_at(net, rows, charges, *i, times[*i]);
         }
     }
 
@@ -314,14 +282,4 @@ impl KeptCost {
         net.sound();
         self.lateness + penalty as u128 * self.penalized
     }
-}
-
-/// Whether two lists of times are the same from a place up to another.
-fn are_same_between(kept: &[Secs], times: &[Secs], from: usize, to: usize) -> bool
-    requires block { from ≤ to }
-    requires within { to ≤ length times.now }
-    requires kept { to ≤ length kept.now }
-    ensures { result ≡ true → (k : ℕ) → from ≤ k → k < to → slice_index kept.now k ≡ slice_index times.now k }
-{
-    are_equal(&kept[from..to], &times[from..to])
 }

@@ -8,12 +8,13 @@ ghost use Rattle.dm_check_times.specs.Timetables.{IsRoomOf, IsTimetableOf, IsSet
 ghost use Rattle.dm_check_times.specs.Inside.Renewing.{IsKeptAt, IsMetAt};
 ghost use Rattle.dm_check_times.specs.Inside.Spreading.{Spreads};
 ghost use Rattle.dm_marks.specs.Marked.{is_marked};
+ghost use Rattle.dm_check_times.specs.Noting.{NotesMoves};
 
 use crate::following::{follow, make_stale};
 use crate::rounds::{HeldCycle, raise};
 use crate::rows::{fill_floors, fill_spans, flag_active, floor_of, span_of};
 use dm_base::Secs;
-use dm_marks::Marks;
+use dm_marks::{Marks, PlaceSet};
 use dm_network::Network;
 use dm_rows::{Rows, is_active};
 use std::alloc::{AllocError, Global};
@@ -116,9 +117,16 @@ impl KeptTimetable {
 
     /// Computes the least timetable of rows from their floors. `Err` comes exactly where they have a cycle; nothing is known of
     /// it then. It takes no memory.
-    pub fn fill(&mut self, net: &Network, rows: &Rows) -> Result<(), HeldCycle>
+    pub fn fill(
+        &mut self,
+        net: &Network,
+        rows: &Rows,
+        moved: &mut PlaceSet,
+    ) -> Result<(), HeldCycle>
         requires sized { IsSized net.now rows.now }
         requires room { IsRoomOf net.now self.old }
+        requires as_many_moved { length moved.old.flags ≡ length net.now.events }
+        ensures as_many_moved { length moved.new.flags ≡ length moved.old.flags }
         ensures room { IsRoomOf net.now self.new }
         ensures settled { OnOk result (IsSettledFor net.now rows.now self.new) }
         ensures cyclic { OnErr result (HasNoCycle net.now rows.now → ⊥) }
@@ -132,14 +140,29 @@ impl KeptTimetable {
         self.times.copy_from_slice(&self.floors);
         self.stale.clear_all();
         self.due.mark_all();
-        raise(net, &self.held, &self.spans, &mut self.times, &mut self.due)
+        raise(
+            net,
+            &self.held,
+            &self.spans,
+            &mut self.times,
+            &mut self.due,
+            moved,
+        )
     }
 
     /// Computes the least timetable of the rows that it was kept with. `Err` comes exactly where they have a cycle; nothing is
-    /// known of it then. It takes no memory, and costs what has changed since the last one.
-    pub fn settle(&mut self, net: &Network, rows: &Rows) -> Result<(), HeldCycle>
+    /// known of it then. Events whose times it writes are noted as moved. It takes no memory, and costs what has changed since the
+    /// last one.
+    pub fn settle(
+        &mut self,
+        net: &Network,
+        rows: &Rows,
+        moved: &mut PlaceSet,
+    ) -> Result<(), HeldCycle>
         requires timetable { IsTimetableOf net.now self.old }
         requires agrees { AgreesWith net.now rows.now self.old }
+        requires as_many_moved { length moved.old.flags ≡ length net.now.events }
+        ensures notes { NotesMoves self.old.times self.new.times moved.old.flags moved.new.flags }
         ensures room { IsRoomOf net.now self.new }
         ensures settled { OnOk result (IsSettledFor net.now rows.now self.new) }
         ensures cyclic { OnErr result (HasNoCycle net.now rows.now → ⊥) }
@@ -154,6 +177,7 @@ impl KeptTimetable {
             &mut self.times,
             &mut self.stale,
             &mut self.due,
+            moved,
         )
     }
 

@@ -8,26 +8,26 @@
 //! floors, and rounds from there. A [`KeptTimetable`] is filled from rows, or kept with them ([`keep_up`]), where a clock looks
 //! at the events that are scheduled before it. What a timetable costs is added up place by place ([`cost_of`]), or kept while
 //! its times and the rows change ([`KeptCost`], [`keep_cost`]), as a sum of two numbers: what a change of rows is about is
-//! weighed anew, and the times are compared with those of before by blocks, where each event that has moved, and each activity
-//! at it, is looked at. Memory is taken once, for a timetable, for marks and for a kept cost. Every time is below 2^38 seconds,
-//! and every cost below 2^100 thousandths of passenger seconds.
+//! weighed anew, and so are the activities at each event that has moved. Memory is taken once, for a timetable, for marks and for
+//! a kept cost. Every time is below 2^38 seconds, and every cost below 2^100 thousandths of passenger seconds.
 //!
 //! # What is promised
 //!
 //! `raise`: the least times of held activities, by rounds of relaxation that go along no order of events, from any times
 //! that are not too late, or that the held activities have a cycle, exactly. `KeptTimetable::fill`: so the least timetable
 //! of rows, from scratch. It is kept with rows as these change (`keep_up`): what has changed is marked, and `settle` begins
-//! the marked events, and those that were held to their times, anew from their floors.
+//! the marked events, and those that were held to their times, anew from their floors. Each event whose time `raise`, `follow`
+//! or `settle` changes is noted in a set of places: a list of times that was right but at the events noted before is right but
+//! at those noted then.
 //!
 //! `cost_of`: exactly what a timetable costs. A `KeptCost` tells the same of the times that it follows, where the rows' dropped
 //! changes are charged for or other activities ([`Charges`]), for the rows from which its weights are taken; `keep_cost` keeps
 //! them with rows as these change. That a timetable and a cost so take what has changed alone is no clause, nor that memory is
-//! taken once, for a timetable, for marks and for a kept cost, nor that times are compared many at once.
+//! taken once, for a timetable, for marks and for a kept cost.
 #![tactic(auto)]
 
 mod changes;
 mod charges;
-mod comparing;
 mod costing;
 mod following;
 mod holding;

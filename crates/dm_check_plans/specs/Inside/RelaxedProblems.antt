@@ -1,5 +1,5 @@
 -- The relaxed problem of a path, kept by flags.
-use Rattle.std.specs.Prelude.{ℕ, ◌≡◌, Bool, List, length}
+use Rattle.std.specs.Prelude.{ℕ, ◌≡◌, Bool, IsTrue, List, length}
 use Rattle.dm_network.specs.Net.{Net}
 use Rattle.dm_rows.specs.declared.messages.Decision.{Decision}
 use Rattle.dm_rows.specs.Decide.{IsChoiceList}
@@ -7,13 +7,16 @@ use Rattle.dm_rows.specs.Relax.{is_undecided_change, is_undecided_pair, is_relax
 use Rattle.dm_rows.specs.Rows.{RowsValue}
 use Rattle.dm_tree.specs.Relaxed.{IsRelaxedLeast, IsRelaxedCycle, HasNoRelaxedCycle}
 use Rattle.dm_check_times.specs.Binding.{AreBelowLimit}
+use Rattle.dm_marks.specs.Places.{PlaceSetValue}
+use Rattle.dm_check_times.specs.Noting.{AreAlikeBut}
 use Rattle.dm_check_times.specs.Changes.{AreChangesTo}
 use Rattle.dm_check_times.specs.KeptCosts.{KeptCostValue, IsKeptCostOf, IsPricedFor}
 use Rattle.dm_paths.specs.Flags.{AreFlags, is_flagged}
 use Rattle.dm_check_plans.specs.Inside.Timetables.{HeldTimetableValue, IsTimetableOf, AreOfRows}
 
 -- a path, which changes and which pairs it leaves undecided, what its relaxed problem charges for, its timetable with what it
--- holds, what the times cost that it had last, and the places of the network's changes
+-- holds, what the times cost that it had last, which events may have moved since then, whether these are all, and the places of the
+-- network's changes
 pub record RelaxedProblemValue : Type 0 where
   pub path : List Decision
   pub changes : List Bool
@@ -21,6 +24,8 @@ pub record RelaxedProblemValue : Type 0 where
   pub charged : List Bool
   pub timetable : HeldTimetableValue
   pub kept_cost : KeptCostValue
+  pub moved : PlaceSetValue
+  pub is_noted : Bool
   pub places : List ℕ
 
 abbrev pub times_of : RelaxedProblemValue → List ℕ
@@ -37,6 +42,8 @@ pub record IsRelaxedProblemOf (net : Net) (rows : RowsValue) (problem : RelaxedP
   pub of_rows : AreOfRows net rows problem.timetable
   pub cost : IsKeptCostOf net problem.kept_cost
   pub priced : IsPricedFor net rows (is_flagged problem.charged) problem.kept_cost
+  pub as_many_moved : length problem.moved.flags ≡ length net.events
+  pub noted : IsTrue problem.is_noted → AreAlikeBut problem.moved.flags problem.kept_cost.times problem.timetable.times
   pub places : AreChangesTo net (length net.activities) problem.places
 
 -- the times are the least of the relaxed problem, which has no cycle, and what they cost is kept

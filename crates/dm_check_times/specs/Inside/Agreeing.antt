@@ -24,6 +24,7 @@ pub record Renews (net : Net) (rows : RowsValue) (events activities : ℕ → Ty
   pub spans_size : length new.spans ≡ length old.spans
   pub floors_size : length new.floors ≡ length old.floors
   pub clock_kept : new.clock ≡ old.clock
+  pub times_kept : new.times ≡ old.times
   pub events_there : (e : ℕ) → events e → FloorAgrees net rows new e
   pub events_kept : (e : ℕ) → FloorAgrees net rows old e → FloorAgrees net rows new e
   pub activities_there : (a : ℕ) → activities a → ActivityAgrees net rows new a

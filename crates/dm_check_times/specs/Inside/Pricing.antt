@@ -1,5 +1,5 @@
 -- Weights that are made right one place after the other.
-use Rattle.std.specs.Prelude.{ℕ, ◌≡◌, Bool}
+use Rattle.std.specs.Prelude.{ℕ, ◌≡◌, ◌<◌, ◌≤◌, ◌⊎◌, Bool, List, length, slice_index}
 use Rattle.dm_network.specs.Net.{Net}
 use Rattle.dm_rows.specs.Rows.{RowsValue}
 use Rattle.dm_rows.specs.declared.messages.Flip.{Flip}
@@ -17,3 +17,15 @@ abbrev pub IsFlipped : Flip → ℕ → Type 0
 IsFlipped (Keep a) b = b ≡ a
 IsFlipped (Drop a) b = b ≡ a
 IsFlipped (First p small) b = ⊥
+
+-- the place is listed from the n-th one on
+pub record IsLeft (listed : List ℕ) (n place : ℕ) : Type 0 where
+  pub at : ℕ
+  pub not_before : n ≤ at
+  pub within : at < length listed
+  pub is : slice_index listed at ≡ place
+
+-- each time is that of the other list, but at the places that are listed from the n-th one on
+pub record HasFollowed (times listed : List ℕ) (n : ℕ) (kept : List ℕ) : Type 0 where
+  pub as_many : length kept ≡ length times
+  pub each : (place : ℕ) → place < length times → IsLeft listed n place ⊎ (slice_index kept place ≡ slice_index times place)

@@ -8,6 +8,7 @@ loop-a-init c = record {
   turned = none_turned c.args.net.now c.args.pair c.row_out_of-row.result.now c.args.value c.args.timetable.now.held;
   timetable = c.requires.timetable;
   keeps = record { spans = refl; floors = refl };
+  times = refl;
 }
 
 pub turn_one-requires-clause-is_activity : goal.turn_one-requires-clause-is_activity
@@ -25,6 +26,7 @@ loop-a-preserved c =
           (omega (arith, below, flags)) c.turn_one.ensures.held;
       timetable = c.turn_one.ensures.timetable;
       keeps = record { spans = keeps.spans ∙ had.keeps.spans; floors = keeps.floors ∙ had.keeps.floors };
+      times = c.turn_one.ensures.times ∙ had.times;
     }
 
 pub returns-clause-held : goal.returns-clause-held

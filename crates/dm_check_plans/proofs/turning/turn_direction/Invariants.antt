@@ -1,3 +1,4 @@
+use Rattle.std.proofs.Common.{◌≡◌}
 use Rattle.dm_check_plans.specs.Inside.Moves.{HasTurned}
 use Rattle.dm_check_plans.specs.Inside.Timetables.{IsTimetableOf, KeepsSpans}
 use Rattle.dm_check_plans.proofs.turning.turn_direction.Given as goal
@@ -7,4 +8,5 @@ invariant-loop-a l = record {
   turned : HasTurned l.net l.pair l.row l.a-index l.value l.initial.timetable.held l.timetable.held;
   timetable : IsTimetableOf l.net l.timetable;
   keeps : KeepsSpans l.initial.timetable l.timetable;
+  times : l.timetable.times ≡ l.initial.timetable.times;
 }

@@ -1,4 +1,5 @@
 use Rattle.std.proofs.Common.{◌≡◌, ◌-◌, length}
+use Rattle.dm_check_times.specs.Noting.{NotesMoves}
 use Rattle.dm_check_times.specs.Inside.Spreading.{IsResetting}
 use Rattle.dm_check_times.proofs.following.reset.Given as goal
 
@@ -6,6 +7,7 @@ abbrev pub invariant-loop-event : goal.invariant-loop-event
 invariant-loop-event l = record {
   resetting : IsResetting l.net l.held l.floors l.start l.initial.stale l.stale l.initial.times l.times l.due;
   as_many_due : length l.due ≡ length l.initial.due;
+  notes : NotesMoves l.initial.times l.times l.initial.moved.flags l.moved.flags;
 }
 
 abbrev pub decreases-loop-event : goal.decreases-loop-event

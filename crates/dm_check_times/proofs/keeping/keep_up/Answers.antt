@@ -1,4 +1,4 @@
-use Rattle.std.proofs.Common.{◌≡◌, arith, subst}
+use Rattle.std.proofs.Common.{◌≡◌, ◌∙◌, arith, subst}
 use Rattle.dm_rows.specs.Resolve.{after_change}
 use Rattle.dm_rows.specs.declared.messages.Change.{Change}
 use Rattle.dm_check_times.specs.Timetables.{ChangesNet}
@@ -34,3 +34,21 @@ returns-in-Clock-clause-agrees c = λ _ before is agrees.
     let moves = c.renew_clock.ensures.moves in
     agrees_timed c.args.net.now before c.args.rows.now c.args.timetable.now moves.mid agrees c.renew_clock.new.timetable c.in-Clock.time
     (subst (λ (ch : Change). c.args.rows.now ≡ after_change before ch) c.in-Clock.is is) moves.renews moves.takes
+
+pub returns-in-EventDelay-clause-times : goal.returns-in-EventDelay-clause-times
+returns-in-EventDelay-clause-times c = c.renew_event.ensures.renews.times
+
+pub returns-in-ActDelay-clause-times : goal.returns-in-ActDelay-clause-times
+returns-in-ActDelay-clause-times c = c.renew_activity.ensures.renews.times
+
+pub returns-in-Passed-clause-times : goal.returns-in-Passed-clause-times
+returns-in-Passed-clause-times c = c.renew_around.ensures.renews.times_kept
+
+pub returns-in-Recalled-clause-times : goal.returns-in-Recalled-clause-times
+returns-in-Recalled-clause-times c = c.renew_around-in-Recalled.ensures.renews.times_kept
+
+pub returns-in-Flipped-clause-times : goal.returns-in-Flipped-clause-times
+returns-in-Flipped-clause-times c = c.renew_flipped.ensures.renews.times_kept
+
+pub returns-in-Clock-clause-times : goal.returns-in-Clock-clause-times
+returns-in-Clock-clause-times c = c.renew_clock.ensures.moves.takes.times ∙ c.renew_clock.ensures.moves.renews.times_kept

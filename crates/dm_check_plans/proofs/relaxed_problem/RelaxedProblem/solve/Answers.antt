@@ -1,18 +1,19 @@
-use Rattle.std.proofs.Common.{List, Bool, sym, ap, subst, ◌∙◌}
+use Rattle.std.proofs.Common.{List, ℕ, sym, ap, subst, ◌∙◌}
 use Rattle.dm_rows.specs.Relax.{is_relaxed_active}
 use Rattle.dm_rows.specs.declared.messages.Decision.{Decision}
-use Rattle.dm_check_plans.specs.Inside.RelaxedProblems.{RelaxedProblemValue, IsRelaxedProblemOf, HasRelaxedCycle}
+use Rattle.dm_check_times.specs.Binding.{AreBelowLimit}
+use Rattle.dm_tree.specs.Relaxed.{IsRelaxedLeast, HasNoRelaxedCycle}
+use Rattle.dm_check_plans.specs.Inside.RelaxedProblems.{RelaxedProblemValue, IsRelaxedProblemOf, HasRelaxedCycle, times_of}
 use Rattle.dm_check_plans.proofs.Relaxed.{relaxed_least, enters_no_passed, has_cycle}
-use Rattle.dm_check_times.specs.KeptCosts.{IsPricedFor}
-use Rattle.dm_paths.specs.Flags.{is_flagged}
 use Rattle.dm_check_plans.proofs.Turned.{settled_again}
 use Rattle.dm_check_plans.proofs.relaxed_problem.RelaxedProblem.solve.Goals as goal
 
-pub returns-in-Ok-clause-problem : goal.returns-in-Ok-clause-problem
-returns-in-Ok-clause-problem c =
-    settled_again c.args.net.now c.args.rows.now _ (subst (IsRelaxedProblemOf c.args.net.now c.args.rows.now) (sym c.self.view_is) c.requires.problem)
-    c.settle.new.self c.follow.new.self c.settle.ensures.timetable c.settle.ensures.held c.settle.ensures.keeps c.follow.ensures.kept
-    (subst (λ (f : List Bool). IsPricedFor c.args.net.now c.args.rows.now (is_flagged f) c.follow.new.self) c.deref.ensures.value c.follow.ensures.priced)
+pub take_cost-requires-clause-problem : goal.take_cost-requires-clause-problem
+take_cost-requires-clause-problem c =
+    let was = subst (IsRelaxedProblemOf c.args.net.now c.args.rows.now) (sym c.self.view_is) c.requires.problem in
+    settled_again c.args.net.now c.args.rows.now _ was
+    c.settle.new.self c.self.inside.kept_cost c.settle.new.moved c.self.inside.is_noted c.settle.ensures.timetable c.settle.ensures.held c.settle.ensures.keeps was.cost was.priced
+    c.settle.ensures.as_many_moved (λ yes. c.in-Ok.ensures.notes.noted c.self.inside.kept_cost.times (was.noted yes))
 
 pub returns-in-Ok-clause-solved : goal.returns-in-Ok-clause-solved
 returns-in-Ok-clause-solved c =
@@ -21,17 +22,19 @@ returns-in-Ok-clause-solved c =
     let was = subst (IsRelaxedProblemOf net rows) (sym c.self.view_is) c.requires.problem in
     let path = c.self.inside.path.items in
     record {
-      least = relaxed_least net rows path c.settle.new.self.times (c.in-Ok.ensures.least (is_relaxed_active net rows path) was.held.each (enters_no_passed net rows path));
-      no_cycle = c.in-Ok.ensures.none (is_relaxed_active net rows path) was.held.each;
-      below = c.in-Ok.ensures.early;
-      kept = c.follow.ensures.times ∙ c.times.ensures;
+      least = subst (λ (p : List Decision). IsRelaxedLeast net rows p (times_of c.take_cost.new.self)) (sym c.take_cost.ensures.path) (subst (λ (x : List ℕ). IsRelaxedLeast net rows path x) (sym c.take_cost.ensures.times)
+          (relaxed_least net rows path c.settle.new.self.times (c.in-Ok.ensures.least (is_relaxed_active net rows path) was.held.each (enters_no_passed net rows path))));
+      no_cycle = subst (λ (p : List Decision). HasNoRelaxedCycle net rows p) (sym c.take_cost.ensures.path) (c.in-Ok.ensures.none (is_relaxed_active net rows path) was.held.each);
+      below = subst (λ (x : List ℕ). AreBelowLimit x) (sym c.take_cost.ensures.times) c.in-Ok.ensures.early;
+      kept = c.take_cost.ensures.kept ∙ sym c.take_cost.ensures.times;
     }
 
 pub returns-in-Err-clause-problem : goal.returns-in-Err-clause-problem
 returns-in-Err-clause-problem c =
     let was = subst (IsRelaxedProblemOf c.args.net.now c.args.rows.now) (sym c.self.view_is) c.requires.problem in
     settled_again c.args.net.now c.args.rows.now _ was
-    c.settle.new.self c.self.inside.kept_cost c.settle.ensures.timetable c.settle.ensures.held c.settle.ensures.keeps was.cost was.priced
+    c.settle.new.self c.self.inside.kept_cost c.settle.new.moved _ c.settle.ensures.timetable c.settle.ensures.held c.settle.ensures.keeps was.cost was.priced
+    c.settle.ensures.as_many_moved (λ no. absurd cc)
 
 pub returns-in-Err-clause-cyclic : goal.returns-in-Err-clause-cyclic
 returns-in-Err-clause-cyclic c =
@@ -41,8 +44,3 @@ returns-in-Err-clause-cyclic c =
     let path = c.self.inside.path.items in
     subst (λ (p : List Decision). HasRelaxedCycle net rows p) (ap (λ (r : RelaxedProblemValue). r.path) c.self.view_is)
     (has_cycle net rows path (c.in-Err.ensures.cyclic (is_relaxed_active net rows path) was.held.each))
-
-pub follow-requires-clause-priced : goal.follow-requires-clause-priced
-follow-requires-clause-priced c =
-    let was = subst (IsRelaxedProblemOf c.args.net.now c.args.rows.now) (sym c.self.view_is) c.requires.problem in
-    subst (λ (f : List Bool). IsPricedFor c.args.net.now c.args.rows.now (is_flagged f) c.self.inside.kept_cost) (sym c.deref.ensures.value) was.priced
