@@ -1,0 +1,79 @@
+-- A worker that begins.
+use Rattle.std.proofs.Common.{◌≡◌, ◌⊎◌, ℕ, ◌+◌, ◌≤◌, Bool, List, [], ◌∷◌, refl, ap, sym, ◌∙◌, subst, arith, inl, inr}
+use Rattle.std.specs.Prelude.{map, All, sum_by}
+use Rattle.std.proofs.lemmas.List.Elements.{All-nil}
+use Rattle.std.proofs.lemmas.List.Sums.{sum_by-cons}
+use Rattle.atomic_table.specs.Seated.{TableId}
+use Rattle.atomic_blocks.specs.Lent.{RowsId}
+use Rattle.dm_network.specs.Net.{Net}
+use Rattle.dm_rows.specs.declared.messages.Choice.{Choice}
+use Rattle.dm_rows.specs.declared.messages.Decision.{Decision}
+use Rattle.dm_rows.specs.Active.{HasNoCycle}
+use Rattle.dm_rows.specs.Cost.{Costs}
+use Rattle.dm_rows.specs.Rows.{RowsValue}
+use Rattle.dm_tree.specs.declared.forms.Leaf.{Leaf}
+use Rattle.dm_tree.specs.Plans.{Task, AreSomeOf, DiffersFrom}
+use Rattle.dm_guide.specs.Posed.{task_beside, choices_beside}
+use Rattle.dm_bound.specs.Words.{HandValue, nothing_looked}
+use Rattle.dm_deques.specs.Deques.{TallyValue}
+use Rattle.dm_deques.specs.Rule.{WasEmpty}
+use Rattle.dm_deques.specs.Sharing.{new_tally, deque_of}
+use Rattle.dm_ways.specs.Ways.{paths_on, leaves_on}
+use Rattle.dm_workers.specs.declared.working.Worker.{Worker}
+use Rattle.dm_workers.specs.Inside.Workers.{IsWorking, IsSameWorker, IsNewWorker, IsDone}
+use Rattle.dm_workers.specs.Inside.Working.{Path, taken_on, IsHandedIn, AreKept, AreListed, IsAtWork, nothing}
+
+some_of_none : (xs : List Choice) → AreSomeOf xs []
+some_of_none [] = refl
+some_of_none (x ∷ xs) = tt
+
+taken_none : (s : List Bool) (ds : List RowsId) → taken_on s (map new_tally ds) ≡ 0
+taken_none s [] = refl
+taken_none s (d ∷ ds) = let one : TallyValue Path = new_tally d in omega (arith, taken_none s ds, sum_by-cons (λ (t : TallyValue Path). paths_on s t.account.taken) one (map new_tally ds))
+
+pub tally_deques : (ds : List RowsId) → map deque_of (map (new_tally {T = Path}) ds) ≡ ds
+tally_deques [] = refl
+tally_deques (d ∷ ds) = ap (λ es. d ∷ es) (tally_deques ds)
+
+module _ (net : Net) (rows : RowsValue) (penalty : ℕ) (base : List Decision) (budget own : ℕ) (no_cycle : HasNoCycle net rows) (of_rows : Costs net rows penalty own) where
+  abbrev task : Task
+  task = task_beside net rows penalty base budget
+
+  -- the rows' own choices
+  pub own_kept : AreKept task own [] own
+  own_kept = record {
+    in_order = some_of_none (choices_beside net rows base);
+    differ = All-nil (DiffersFrom task);
+    costs = record { no_cycle = no_cycle; cost = of_rows };
+    no_dearer = omega arith;
+  }
+
+  pub begun : (word : TableId) (owner : TallyValue Path) (tallies : List (TallyValue Path)) (ds : List RowsId) (hand : HandValue) (leaves : List Leaf) (choices : List Decision) (cost : ℕ)
+      → tallies ≡ map new_tally ds → leaves ≡ [] → hand.word ≡ word → hand.room ≡ 1 → hand.lowered ≡ [] → choices ≡ [] → cost ≡ own
+      → IsAtWork task own word hand.start (λ s. paths_on s owner.account.put) nothing owner tallies hand leaves choices cost
+  begun word owner tallies ds hand leaves choices cost t l w r low ch c = record {
+    fair = λ s. omega (arith, ap (leaves_on s) l);
+    ends = subst (All (IsHandedIn task cost hand.looked)) (sym l) (All-nil (IsHandedIn task cost hand.looked));
+    kept = subst (λ (ds : List Decision). AreKept task own ds cost) (sym ch) (subst (AreKept task own []) (sym c) own_kept);
+    listed = subst (AreListed cost) (sym low) (All-nil (λ k. (cost ≤ k) ⊎ (k ≡ nothing_looked)));
+    word_is = w;
+    start_is = refl;
+    room = r;
+  }
+
+  -- a worker that began so and has done its work
+  pub done_from : {F : Type 0} (word : TableId) (start : ℕ) (fits : Path → Type 0) (ds : List RowsId) (self mid after : Worker F) → IsSameWorker mid after → IsNewWorker own word start self
+      → mid ≡ record self { tallies = mid.tallies } → mid.tallies.items ≡ map new_tally ds → WasEmpty fits after.owner.account
+      → ((given : List Bool → ℕ) (from : ℕ) → IsWorking task own word from given nothing mid → IsWorking task own word from given nothing after)
+      → IsDone task own word start fits ds self after
+  done_from {F} word start fits ds self mid after same new is tallies empty works =
+      let put : List Bool → ℕ = λ s. paths_on s self.owner.account.put in
+      let at = begun word self.owner mid.tallies.items ds self.hand self.leaves.items self.best.choices self.best.cost tallies new.leaves new.word_is new.room new.lowered new.choices new.cost in
+      record {
+        works = works put start
+            (subst (IsWorking task own word start put nothing) (sym is)
+            (subst (λ (from : ℕ). IsAtWork task own word from put nothing self.owner mid.tallies.items self.hand self.leaves.items self.best.choices self.best.cost) new.start_is at));
+        empty = empty;
+        deque = same.deque ∙ ap (λ (w : Worker F). w.owner.deque) is;
+        deques = same.deques ∙ (ap (map deque_of) tallies ∙ tally_deques ds);
+      }

@@ -1,0 +1,145 @@
+-- What each step of a worker does to what it has done.
+use Rattle.std.proofs.Common.{◌≡◌, ◌⊎◌, ℕ, ◌+◌, ◌≤◌, ◌<◌, Bool, List, [], ◌∷◌, ◌++◌, min, All, refl, ap, sym, ◌∙◌, subst, arith, inl, inr, ⊎_elim}
+use Rattle.std.specs.Prelude.{sum_by}
+use Rattle.std.proofs.lemmas.List.Elements.{All-nil, All-push, All-weaker}
+use Rattle.std.proofs.lemmas.List.Sums.{sum_by_push}
+use Rattle.atomic_table.specs.Seated.{TableId}
+use Rattle.dm_rows.specs.declared.messages.Choice.{Choice}
+use Rattle.dm_rows.specs.declared.messages.Decision.{Decision}
+use Rattle.dm_rows.specs.Sides.{first_decision, second_decision, IsOrdered}
+use Rattle.dm_tree.specs.declared.forms.Node.{Node}
+use Rattle.dm_tree.specs.declared.forms.Node.TheVariants.{Inner, Cycle, Bound, Open, Hole}
+use Rattle.dm_tree.specs.declared.forms.Leaf.{Leaf}
+use Rattle.dm_tree.specs.Plans.{Task}
+use Rattle.dm_bound.specs.Words.{HandValue, nothing_looked}
+use Rattle.dm_deques.specs.Deques.{TallyValue}
+use Rattle.dm_deques.specs.Inside.Steps.{having_put}
+use Rattle.dm_ways.specs.Ways.{GoesDown, on_way, paths_on, leaves_on}
+use Rattle.dm_ways.proofs.Ways.{below_weight}
+use Rattle.dm_workers.specs.Nodes.{IsChosen}
+use Rattle.dm_workers.specs.Expanding.{having_looked}
+use Rattle.dm_workers.specs.Inside.Working.{Path, taken_on, IsShown, IsEnd, IsHandedIn, AreKept, AreListed, IsAtWork, nothing}
+
+module _ (task : Task) where
+  -- less is kept, or was looked at
+  end_lower : (best best' looked looked' : ℕ) (path : Path) (n : Node) → best' ≤ best → looked' ≤ looked → IsEnd task best looked path n → IsEnd task best' looked' path n
+  end_lower best best' looked looked' path (Inner c) b l e = e
+  end_lower best best' looked looked' path Cycle b l e = e
+  end_lower best best' looked looked' path (Bound c) b l e =
+      (e.0, ⊎_elim (λ (h : best ≤ c). inl (omega (arith, b, h))) (λ (h : (looked ≤ c) × (looked < nothing_looked)). inr (omega (arith, l, h.0), omega (arith, l, h.1))) e.1)
+  end_lower best best' looked looked' path (Open c) b l e = e
+  end_lower best best' looked looked' path Hole b l e = e
+
+  pub ends_lower : (best best' looked looked' : ℕ) (leaves : List Leaf) → best' ≤ best → looked' ≤ looked → All (IsHandedIn task best looked) leaves
+      → All (IsHandedIn task best' looked') leaves
+  ends_lower best best' looked looked' leaves b l all = All-weaker (IsHandedIn task best looked) (IsHandedIn task best' looked')
+      (λ m h. record { way = h.way; end = end_lower best best' looked looked' m.path m.node b l h.end }) leaves all
+
+  pub listed_lower : (best best' : ℕ) (lowered : List ℕ) → best' ≤ best → AreListed best lowered → AreListed best' lowered
+  listed_lower best best' lowered b all = All-weaker (λ c. (best ≤ c) ⊎ (c ≡ nothing_looked)) (λ c. (best' ≤ c) ⊎ (c ≡ nothing_looked))
+      (λ c h. ⊎_elim (λ (k : best ≤ c). inl (omega (arith, b, k))) inr h) lowered all
+
+module _ (task : Task) (own : ℕ) (word : TableId) (start : ℕ) (given : List Bool → ℕ) where
+  abbrev Works : (List Bool → ℕ) → TallyValue Path → List (TallyValue Path) → HandValue → List Leaf → List Decision → ℕ → Type 0
+  Works = IsAtWork task own word start given
+
+  module _ (owner : TallyValue Path) (tallies : List (TallyValue Path)) (hand : HandValue) (leaves : List Leaf) (choices : List Decision) (cost : ℕ) where
+    -- a look at the word
+    pub looked_on : (in_hand : List Bool → ℕ) (seen : ℕ) → Works in_hand owner tallies hand leaves choices cost
+        → Works in_hand owner tallies (having_looked hand seen) leaves choices cost
+    looked_on in_hand seen w = record {
+      fair = w.fair;
+      ends = ends_lower task cost cost hand.looked (min hand.looked seen) leaves (omega arith) (omega arith) w.ends;
+      kept = w.kept;
+      listed = w.listed;
+      word_is = w.word_is;
+      start_is = w.start_is;
+      room = w.room;
+    }
+
+    -- the path that is in hand is handed in as a leaf
+    pub handed : (path : Path) (n : Node) (now : List Leaf) → Works (λ s. on_way s path) owner tallies hand leaves choices cost → GoesDown (IsChosen task) [] path
+        → IsEnd task cost hand.looked path n → now ≡ leaves ++ record { path = path; node = n } ∷ [] → Works nothing owner tallies hand now choices cost
+    handed path n now w way end is = record {
+      fair = λ s. omega (arith, w.fair s, ap (leaves_on s) is, sum_by_push (λ (l : Leaf). on_way s l.path) leaves (record { path = path; node = n }));
+      ends = subst (All (IsHandedIn task cost hand.looked)) (sym is)
+          (All-push (IsHandedIn task cost hand.looked) leaves (record { path = path; node = n }) w.ends (record { way = way; end = end }));
+      kept = w.kept;
+      listed = w.listed;
+      word_is = w.word_is;
+      start_is = w.start_is;
+      room = w.room;
+    }
+
+    -- or given up
+    pub dropped : (in_hand : List Bool → ℕ) → Works in_hand owner tallies hand leaves choices cost → Works nothing owner tallies hand leaves choices cost
+    dropped in_hand w = record {
+      fair = λ s. omega (arith, w.fair s);
+      ends = w.ends;
+      kept = w.kept;
+      listed = w.listed;
+      word_is = w.word_is;
+      start_is = w.start_is;
+      room = w.room;
+    }
+
+    -- the two paths below it are put
+    pub branched : (path : Path) (c : Choice) (owner' : TallyValue Path) → Works (λ s. on_way s path) owner tallies hand leaves choices cost → IsOrdered c
+        → owner' ≡ record owner { account = having_put (having_put owner.account ((path ++ second_decision c ∷ []) ∷ [])) ((path ++ first_decision c ∷ []) ∷ []) }
+        → Works nothing owner' tallies hand leaves choices cost
+    branched path c owner' w ordered is = subst (λ (o : TallyValue Path). Works nothing o tallies hand leaves choices cost) (sym is) (record {
+      fair = λ s. omega (
+        arith,
+        w.fair s,
+        below_weight c ordered s path,
+        sum_by_push (on_way s) owner.account.put (path ++ second_decision c ∷ []),
+        sum_by_push (on_way s) (owner.account.put ++ (path ++ second_decision c ∷ []) ∷ []) (path ++ first_decision c ∷ []),
+      );
+      ends = w.ends;
+      kept = w.kept;
+      listed = w.listed;
+      word_is = w.word_is;
+      start_is = w.start_is;
+      room = w.room;
+    })
+
+    -- choices that cost no more are kept
+    pub bettered : (in_hand : List Bool → ℕ) (choices' : List Decision) (cost' : ℕ) → Works in_hand owner tallies hand leaves choices cost → AreKept task own choices' cost'
+        → cost' ≤ cost → Works in_hand owner tallies hand leaves choices' cost'
+    bettered in_hand choices' cost' w kept less = record {
+      fair = w.fair;
+      ends = ends_lower task cost cost' hand.looked hand.looked leaves less (omega arith) w.ends;
+      kept = kept;
+      listed = listed_lower task cost cost' hand.lowered less w.listed;
+      word_is = w.word_is;
+      start_is = w.start_is;
+      room = w.room;
+    }
+
+    -- the word is lowered by a cost that the kept choices do not exceed, or that prunes nothing
+    pub told : (in_hand : List Bool → ℕ) (c : ℕ) → Works in_hand owner tallies hand leaves choices cost → (cost ≤ c) ⊎ (c ≡ nothing_looked)
+        → Works in_hand owner tallies (record hand { lowered = hand.lowered ++ c ∷ [] }) leaves choices cost
+    told in_hand c w low = record {
+      fair = w.fair;
+      ends = w.ends;
+      kept = w.kept;
+      listed = All-push (λ k. (cost ≤ k) ⊎ (k ≡ nothing_looked)) hand.lowered c w.listed low;
+      word_is = w.word_is;
+      start_is = w.start_is;
+      room = w.room;
+    }
+
+    -- a path is taken from some deque
+    pub taken : (path : Path) (owner' : TallyValue Path) (tallies' : List (TallyValue Path)) → Works nothing owner tallies hand leaves choices cost
+        → owner'.account.put ≡ owner.account.put
+        → ((s : List Bool) → paths_on s owner'.account.taken + taken_on s tallies' ≡ paths_on s owner.account.taken + taken_on s tallies + on_way s path)
+        → Works (λ s. on_way s path) owner' tallies' hand leaves choices cost
+    taken path owner' tallies' w put weighs = record {
+      fair = λ s. omega (arith, w.fair s, weighs s, ap (paths_on s) put);
+      ends = w.ends;
+      kept = w.kept;
+      listed = w.listed;
+      word_is = w.word_is;
+      start_is = w.start_is;
+      room = w.room;
+    }

@@ -1,0 +1,150 @@
+-- What is gathered from one worker more.
+use Rattle.std.proofs.Common.{◌≡◌, ◌⊎◌, ℕ, ◌+◌, ◌≤◌, ◌<◌, Bool, List, [], ◌∷◌, ◌++◌, min, All, refl, ap, sym, ◌∙◌, subst, arith, inl, inr, ⊎_elim}
+use Rattle.std.specs.Prelude.{sum_by, map}
+use Rattle.std.proofs.lemmas.Bool.{cases_lt}
+use Rattle.std.proofs.lemmas.List.Elements.{All-append, All-head, All-tail}
+use Rattle.std.proofs.lemmas.List.Sums.{sum_by-append, sum_by-cons, sum_by_push}
+use Rattle.atomic_table.specs.Seated.{TableId}
+use Rattle.dm_rows.specs.declared.messages.Decision.{Decision}
+use Rattle.dm_tree.specs.declared.forms.Leaf.{Leaf}
+use Rattle.dm_tree.specs.Plans.{Task}
+use Rattle.dm_bound.specs.Words.{HandValue, lowest, nothing_looked}
+use Rattle.dm_deques.specs.Deques.{TallyValue}
+use Rattle.dm_deques.specs.Inside.Steps.{settled}
+use Rattle.dm_deques.specs.Sharing.{deque_of, settling, settling_each}
+use Rattle.dm_ways.specs.Ways.{paths_on, leaves_on, on_way, StandApart}
+use Rattle.dm_workers.specs.Inside.Working.{Path, taken_on, IsHandedIn, IsEnd, AreKept, AreListed, IsAtWork, nothing}
+use Rattle.dm_workers.specs.declared.working.Best.{Best}
+use Rattle.dm_workers.specs.Inside.Gathering.{owners_put, owners_taken, all_taken, AreGathered}
+use Rattle.dm_workers.proofs.Efforts.{ends_lower, listed_lower}
+
+-- two hands made one
+abbrev pub both : HandValue → HandValue → HandValue
+both h k = record h { lowered = h.lowered ++ k.lowered; looked = min h.looked k.looked; room = h.room + k.room }
+
+module _ (task : Task) (own : ℕ) (word : TableId) (start rooms : ℕ) (given taken : List Bool → ℕ) (owners : List (TallyValue Path)) (hand : HandValue) (leaves : List Leaf)
+    (choices : List Decision) (cost : ℕ) (more : List Bool → ℕ) (owner : TallyValue Path) (tallies : List (TallyValue Path)) (hand' : HandValue) (leaves' : List Leaf)
+    (choices' : List Decision) (cost' : ℕ) where
+  -- the cheaper choices stay, and everything else is put together
+  pub gathers : AreGathered task own word start rooms given taken owners hand leaves choices cost
+      → IsAtWork task own word start more nothing owner tallies hand' leaves' choices' cost'
+      → (kept : List Decision) (least : ℕ) → (((kept ≡ choices') × (least ≡ cost') × (cost' < cost)) ⊎ ((kept ≡ choices) × (least ≡ cost) × (cost ≤ cost')))
+      → AreGathered task own word start (rooms + 1) (λ s. given s + more s) (λ s. taken s + taken_on s tallies) (owners ++ owner ∷ []) (both hand hand') (leaves ++ leaves') kept least
+  gathers g w kept least which =
+      let low : (least ≤ cost) × (least ≤ cost') = ⊎_elim
+      (λ (h : (kept ≡ choices') × (least ≡ cost') × (cost' < cost)). (omega (arith, h.1, h.2), omega (arith, h.1)))
+      (λ (h : (kept ≡ choices) × (least ≡ cost) × (cost ≤ cost')). (omega (arith, h.1), omega (arith, h.1, h.2))) which in
+      record {
+        fair = λ s. omega (
+          arith,
+          g.fair s,
+          w.fair s,
+          sum_by_push (λ (o : TallyValue Path). paths_on s o.account.put) owners owner,
+          sum_by_push (λ (o : TallyValue Path). paths_on s o.account.taken) owners owner,
+          sum_by-append (λ (l : Leaf). on_way s l.path) leaves leaves',
+        );
+        ends = All-append (IsHandedIn task least (min hand.looked hand'.looked)) leaves leaves'
+            (ends_lower task cost least hand.looked (min hand.looked hand'.looked) leaves low.0 (omega arith) g.ends)
+            (ends_lower task cost' least hand'.looked (min hand.looked hand'.looked) leaves' low.1 (omega arith) w.ends);
+        kept = ⊎_elim
+            (λ (h : (kept ≡ choices') × (least ≡ cost') × (cost' < cost)). subst (λ (k : List Decision). AreKept task own k least) (sym h.0) (subst (λ (c : ℕ). AreKept task own choices' c) (sym h.1) w.kept))
+            (λ (h : (kept ≡ choices) × (least ≡ cost) × (cost ≤ cost')). subst (λ (k : List Decision). AreKept task own k least) (sym h.0) (subst (λ (c : ℕ). AreKept task own choices c) (sym h.1) g.kept))
+            which;
+        listed = All-append (λ c. (least ≤ c) ⊎ (c ≡ nothing_looked)) hand.lowered hand'.lowered
+            (listed_lower task cost least hand.lowered low.0 g.listed) (listed_lower task cost' least hand'.lowered low.1 w.listed);
+        word_is = g.word_is;
+        start_is = g.start_is;
+        room = omega (arith, g.room, w.room);
+      }
+
+-- what owners have put and taken where each takes a tally in
+pub settles : (s : List Bool) (owners tallies : List (TallyValue Path)) → map deque_of tallies ≡ map deque_of owners
+    → (owners_put s (settling_each owners tallies) ≡ owners_put s owners) × (owners_taken s (settling_each owners tallies) ≡ owners_taken s owners + taken_on s tallies)
+settles s [] [] e = (refl, refl)
+settles s [] (t ∷ ts) e = absurd (cc)
+settles s (o ∷ os) [] e = absurd (cc)
+settles s (o ∷ os) (t ∷ ts) e =
+    let rest = settles s os ts (cc) in
+    let put = λ (x : TallyValue Path). paths_on s x.account.put in
+    let took = λ (x : TallyValue Path). paths_on s x.account.taken in (
+      omega (arith, rest.0, sum_by-cons put (settling o t) (settling_each os ts), sum_by-cons put o os),
+      omega (
+        arith,
+        rest.1,
+        sum_by-cons took (settling o t) (settling_each os ts),
+        sum_by-cons took o os,
+        sum_by-cons took t ts,
+        sum_by-append (on_way s) o.account.taken t.account.taken,
+      ),
+    )
+
+pub settles_deques : (owners tallies : List (TallyValue Path)) → map deque_of (settling_each owners tallies) ≡ map deque_of owners
+settles_deques [] ts = refl
+settles_deques (o ∷ os) [] = refl
+settles_deques (o ∷ os) (t ∷ ts) = ap (λ ds. o.deque ∷ ds) (settles_deques os ts)
+
+-- in the end the leaves stand apart
+pub apart_at_end : (task : Task) (own : ℕ) (word : TableId) (start rooms : ℕ) (given taken : List Bool → ℕ) (owners owners' : List (TallyValue Path)) (hand : HandValue)
+    (leaves : List Leaf) (choices : List Decision) (cost : ℕ) → AreGathered task own word start rooms given taken owners hand leaves choices cost
+    → ((s : List Bool) → given s ≤ 1) → ((s : List Bool) → owners_put s owners' ≡ owners_put s owners)
+    → ((s : List Bool) → owners_taken s owners' ≡ owners_taken s owners + taken s) → ((s : List Bool) → owners_taken s owners' ≤ owners_put s owners') → StandApart leaves
+apart_at_end task own word start rooms given taken owners owners' hand leaves choices cost g one put took within s =
+    omega (arith, g.fair s, one s, put s, took s, within s)
+
+least_step : (best k low end : ℕ) → end ≡ min k low → end < nothing_looked → (low < nothing_looked → best ≤ low) → (best ≤ k) ⊎ (k ≡ nothing_looked) → best ≤ end
+least_step best k low end is small rest first = by_case (cases_lt low k) where
+  by_case : (low < k) ⊎ (k ≤ low) → best ≤ end
+  by_case (inl lt) = let below : best ≤ low = rest (omega (arith, is, small, lt)) in omega (arith, below, is, lt)
+  by_case (inr le) = ⊎_elim (λ (b : best ≤ k). omega (arith, b, is, le)) (λ (e : k ≡ nothing_looked). absurd (omega (arith, e, is, le, small))) first
+
+listed_least : (best own from : ℕ) → best ≤ own → from ≡ min own nothing_looked → (costs : List ℕ) → AreListed best costs → lowest from costs < nothing_looked → best ≤ lowest from costs
+listed_least best own from low is [] all small = omega (arith, low, is, small)
+listed_least best own from low is (k ∷ ks) all small =
+    least_step best k (lowest from ks) (lowest from (k ∷ ks)) refl small
+    (λ t. listed_least best own from low is ks (All-tail (λ c. (best ≤ c) ⊎ (c ≡ nothing_looked)) k ks all) t)
+    (All-head (λ c. (best ≤ c) ⊎ (c ≡ nothing_looked)) k ks all)
+
+-- and each bound is no less than what the kept choices cost
+pub shown_at_end : (best own : ℕ) (hand : HandValue) (c end : ℕ) → hand.start ≡ min own nothing_looked → best ≤ own → AreListed best hand.lowered
+    → end ≡ lowest hand.start hand.lowered → end ≤ hand.looked → (best ≤ c) ⊎ ((hand.looked ≤ c) × (hand.looked < nothing_looked)) → best ≤ c
+shown_at_end best own hand c end start low listed is looked (inl h) = h
+shown_at_end best own hand c end start low listed is looked (inr h) =
+    let least = listed_least best own hand.start low start hand.lowered listed (omega (arith, is, looked, h.1)) in
+    omega (arith, least, is, looked, h.0)
+
+-- the same, where what is then gathered is told by equations
+module _ (task : Task) (own : ℕ) (word : TableId) (start rooms : ℕ) (given taken : List Bool → ℕ) (owners : List (TallyValue Path)) (hand : HandValue) (leaves : List Leaf)
+    (choices : List Decision) (cost : ℕ) (more : List Bool → ℕ) (owner : TallyValue Path) (tallies : List (TallyValue Path)) (hand' : HandValue) (leaves' : List Leaf)
+    (choices' : List Decision) (cost' : ℕ) where
+  pub gathers_as : AreGathered task own word start rooms given taken owners hand leaves choices cost
+      → IsAtWork task own word start more nothing owner tallies hand' leaves' choices' cost'
+      → (kept : List Decision) (least : ℕ) → (((kept ≡ choices') × (least ≡ cost') × (cost' < cost)) ⊎ ((kept ≡ choices) × (least ≡ cost) × (cost ≤ cost')))
+      → (owners_now : List (TallyValue Path)) (hand_now : HandValue) (leaves_now : List Leaf) (taken_now : List Bool → ℕ) → owners_now ≡ owners ++ owner ∷ [] → hand_now ≡ both hand hand'
+      → leaves_now ≡ leaves ++ leaves' → ((s : List Bool) → taken_now s ≡ taken s + taken_on s tallies)
+      → AreGathered task own word start (rooms + 1) (λ s. given s + more s) taken_now owners_now hand_now leaves_now kept least
+  gathers_as g w kept least which owners_now hand_now leaves_now taken_now p q r t =
+      let done = gathers task own word start rooms given taken owners hand leaves choices cost more owner tallies hand' leaves' choices' cost' g w kept least which in
+      let P : List (TallyValue Path) → HandValue → List Leaf → Type 0 =
+      λ o h l. AreGathered task own word start (rooms + 1) (λ s. given s + more s) (λ s. taken s + taken_on s tallies) o h l kept least in
+      let here : P owners_now hand_now leaves_now =
+      subst (λ o. P o hand_now leaves_now) (sym p) (subst (λ h. P (owners ++ owner ∷ []) h leaves_now) (sym q) (subst (λ l. P (owners ++ owner ∷ []) (both hand hand') l) (sym r) done)) in
+      record {
+        fair = λ s. omega (arith, here.fair s, t s);
+        ends = here.ends;
+        kept = here.kept;
+        listed = here.listed;
+        word_is = here.word_is;
+        start_is = here.start_is;
+        room = here.room;
+      }
+
+-- the cheaper of two lists of choices, by its parts
+pub cheaper_of : (kept one other : Best) → (((kept ≡ other) × (other.cost < one.cost)) ⊎ ((kept ≡ one) × (one.cost ≤ other.cost)))
+    → (((kept.choices ≡ other.choices) × (kept.cost ≡ other.cost) × (other.cost < one.cost)) ⊎ ((kept.choices ≡ one.choices) × (kept.cost ≡ one.cost) × (one.cost ≤ other.cost)))
+cheaper_of kept one other which = ⊎_elim
+    (λ (h : (kept ≡ other) × (other.cost < one.cost)). inl (ap (λ (b : Best). b.choices) h.0, ap (λ (b : Best). b.cost) h.0, h.1))
+    (λ (h : (kept ≡ one) × (one.cost ≤ other.cost)). inr (ap (λ (b : Best). b.choices) h.0, ap (λ (b : Best). b.cost) h.0, h.1)) which
+
+-- one list of tallies more
+pub taken_more : (s : List Bool) (tallies now : List (List (TallyValue Path))) (ts : List (TallyValue Path)) → now ≡ tallies ++ ts ∷ [] → all_taken s now ≡ all_taken s tallies + taken_on s ts
+taken_more s tallies now ts is = ap (all_taken s) is ∙ sum_by_push (taken_on s) tallies ts

@@ -1,0 +1,74 @@
+-- What workers that are done hand in, before it is put together.
+use Rattle.std.proofs.Common.{◌≡◌, ◌⊎◌, ℕ, zero, suc, ◌+◌, ◌≤◌, Bool, List, [], ◌∷◌, length, Some, Result, Ok, Err, refl, ap, sym, ◌∙◌, subst, arith, All, slice_get, get_or}
+use Rattle.std.specs.Prelude.{map, IfOk}
+use Rattle.std.proofs.lemmas.List.Elements.{All-nil, All-cons, All-weaker}
+use Rattle.std.proofs.lemmas.Result.{IfOk-weaker}
+use Rattle.std.proofs.lemmas.Option.{slice_get_within, get_or_from_slice_get}
+use denote.Param.Members.{Shared}
+use Rattle.std.specs.Fn.{FnReturns}
+use Rattle.std.specs.Fork.{GivesJobs}
+use Rattle.atomic_table.specs.Seated.{TableId}
+use Rattle.atomic_blocks.specs.Lent.{RowsId}
+use Rattle.dm_rows.specs.declared.messages.Decision.{Decision}
+use Rattle.dm_bound.specs.Words.{HandValue, nothing_looked}
+use Rattle.dm_deques.specs.Deques.{TallyValue}
+use Rattle.dm_deques.specs.Sharing.{deque_of}
+use Rattle.dm_tree.specs.Plans.{Task}
+use Rattle.dm_ways.specs.Ways.{leaves_on}
+use Rattle.dm_workers.specs.declared.gathering.Gathered.{Gathered}
+use Rattle.dm_workers.specs.declared.working.Worker.{Worker}
+use Rattle.dm_workers.specs.Inside.Gathering.{owners_put}
+use Rattle.dm_workers.specs.Inside.Together.{IsGatheredFrom, HandsIn, AreHandedIn}
+use Rattle.dm_workers.specs.Inside.Workers.{IsDone}
+use Rattle.dm_workers.specs.Inside.Working.{Path, IsHandedIn, AreKept, AreListed}
+use Rattle.dm_workers.proofs.Ends.{pairs}
+
+module _ {F : Type 0} (task : Task) (own : ℕ) (word : TableId) (start : ℕ) (theirs : List RowsId) where
+  -- all hands are of the word
+  pub handed_words : {E : Type 0} (jobs : List (Worker F)) (worked : List (Result (Worker F) E)) → AreHandedIn task own word start theirs jobs worked
+      → All (λ r. IfOk r (λ w. w.hand.word ≡ word)) worked
+  handed_words {E} [] [] h = All-nil (λ (r : Result (Worker F) E). IfOk r (λ w. w.hand.word ≡ word))
+  handed_words [] (r ∷ rs) h = absurd h
+  handed_words (w ∷ ws) [] h = absurd h
+  handed_words {E} (w ∷ ws) (r ∷ rs) h =
+      All-cons (λ (r : Result (Worker F) E). IfOk r (λ w. w.hand.word ≡ word)) r rs
+      (IfOk-weaker r (HandsIn task own word start theirs w) (λ v. v.hand.word ≡ word) (λ v d. d.works.word_is) h.0) (handed_words ws rs h.1)
+
+  -- nothing is gathered yet
+  pub none_gathered : (g : Gathered F) (hand : HandValue)
+      → (g.owners.items ≡ []) × (g.tallies.items ≡ []) × (g.hand ≡ hand) × (g.leaves.items ≡ []) × (g.best.choices ≡ []) × (g.best.cost ≡ own)
+      → hand.word ≡ word → hand.start ≡ start → hand.lowered ≡ [] → AreKept task own [] own → IsGatheredFrom task own word start hand.room theirs [] g
+  none_gathered g hand e w s low kept = record {
+    gathered = record {
+      fair = λ s. omega (arith, ap (owners_put s) e.0, ap (leaves_on s) e.3);
+      ends = subst (All (IsHandedIn task g.best.cost g.hand.looked)) (sym e.3) (All-nil (IsHandedIn task g.best.cost g.hand.looked));
+      kept = subst (λ (ds : List Decision). AreKept task own ds g.best.cost) (sym e.4) (subst (AreKept task own []) (sym e.5) kept);
+      listed = subst (AreListed g.best.cost) (sym (ap (λ (k : HandValue). k.lowered) e.2 ∙ low)) (All-nil (λ k. (g.best.cost ≤ k) ⊎ (k ≡ nothing_looked)));
+      word_is = ap (λ (k : HandValue). k.word) e.2 ∙ w;
+      start_is = ap (λ (k : HandValue). k.start) e.2 ∙ s;
+      room = omega (arith, ap (λ (k : HandValue). k.room) e.2);
+    };
+    deques = ap (map deque_of) e.0;
+    of_all = subst (All (λ ts. map deque_of ts ≡ theirs)) (sym e.1) (All-nil (λ (ts : List (TallyValue Path)). map deque_of ts ≡ theirs));
+  }
+
+  -- what each call of a closure gives, at each place
+  pub given_at : {C E : Type 0} {g : Shared C (Worker F × Unit {0}) (Result (Worker F) E)} {f : C} (jobs : List (Worker F)) (rs : List (Result (Worker F) E)) → length rs ≡ length jobs
+      → ((x : Worker F) (r : Result (Worker F) E) → FnReturns g f (x, tt) r → IfOk r (HandsIn task own word start theirs x)) → GivesJobs g f jobs rs
+      → AreHandedIn task own word start theirs jobs rs
+  given_at {C} {E} jobs rs many each gives = pairs task own word start 0 theirs jobs rs many there where
+    there : (k : ℕ) (w : Worker F) (r : Result (Worker F) E) → slice_get jobs k ≡ Some w → slice_get rs k ≡ Some r → IfOk r (HandsIn task own word start theirs w)
+    there k w v at in_rs =
+        let h = (gives k v (slice_get_within jobs k w at)).1 in
+        let is : h.job ≡ w = sym (h.job_is w) ∙ get_or_from_slice_get jobs k w w at in
+        let so : get_or rs k v ≡ v = get_or_from_slice_get rs k v v in_rs in
+        subst (λ x. IfOk v (HandsIn task own word start theirs x)) is (subst (λ r. IfOk r (HandsIn task own word start theirs h.job)) so (each h.job (get_or rs k v) h.call))
+
+  pub all_given : {C E T : Type 0} {g : Shared C (Worker F × Unit {0}) (Result (Worker F) E)} {f : C} (fits : Path → Type 0) (jobs : List (Worker F)) (items : T → List (Result (Worker F) E)) (answer : Result T E)
+      → ((x : Worker F) (r : Result (Worker F) E) → FnReturns g f (x, tt) r → IfOk r (IsDone task own word start fits theirs x))
+      → IfOk answer (λ t. length (items t) ≡ length jobs) → IfOk answer (λ t. GivesJobs g f jobs (items t)) → IfOk answer (λ t. AreHandedIn task own word start theirs jobs (items t))
+  all_given fits jobs items (Ok t) each many gives =
+      given_at jobs (items t) many
+      (λ x r call. IfOk-weaker r (IsDone task own word start fits theirs x) (HandsIn task own word start theirs x) (λ w d. record { works = d.works; deque = d.deque; deques = d.deques }) (each x r call))
+      gives
+  all_given fits jobs items (Err e) each many gives = tt

@@ -1,0 +1,12 @@
+pub mod Efforts
+pub mod Gathered
+pub mod Outcomes
+pub mod Starts
+pub mod Steps
+pub mod Begun
+pub mod Joined
+pub mod Stealing
+pub mod Ends
+pub mod Handing
+pub mod Enlisted
+pub mod Whole

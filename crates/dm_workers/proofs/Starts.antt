@@ -1,0 +1,102 @@
+-- From what the workers hand in to what a search goes on from.
+use Rattle.std.proofs.Common.{◌≡◌, ◌⊎◌, ℕ, ◌<◌, ◌≤◌, List, [], ◌∷◌, ◌++◌, length, All, refl, ap, sym, ◌∙◌, subst, arith, inl, inr, ⊎_elim}
+use Rattle.std.specs.Prelude.{Contains}
+use Rattle.std.proofs.lemmas.List.Elements.{All-contains, All-weaker}
+use Rattle.dm_network.specs.Net.{Net}
+use Rattle.dm_network.specs.Start.{IsNetwork}
+use Rattle.dm_rows.specs.declared.messages.Choice.{Choice}
+use Rattle.dm_rows.specs.declared.messages.Decision.{Decision}
+use Rattle.dm_rows.specs.Active.{HasNoCycle, is_active}
+use Rattle.dm_rows.specs.Cost.{Costs, cost_of}
+use Rattle.dm_rows.specs.Decide.{with_decisions}
+use Rattle.dm_rows.specs.Rows.{RowsValue}
+use Rattle.dm_rows.specs.Sides.{IsOrdered}
+use Rattle.dm_tree.specs.declared.forms.Leaf.{Leaf}
+use Rattle.dm_tree.specs.declared.forms.Node.{Node}
+use Rattle.dm_tree.specs.declared.forms.Node.TheVariants.{Inner, Cycle, Bound, Open, Hole}
+use Rattle.dm_tree.specs.Plans.{Task, CostsWith}
+use Rattle.dm_guide.specs.Posed.{task_beside, IsPosed}
+use Rattle.dm_tree.specs.Trees.{Shape, IsLeaf, StandsAt, Assembles, HaveNoTree}
+use Rattle.dm_tree.proofs.Shown.{one_least}
+use Rattle.dm_search.specs.Finish.{IsKnown, IsStart}
+use Rattle.dm_ways.specs.Ways.{GoesDown, StandApart}
+use Rattle.dm_ways.proofs.Growing.{IsTreeOf, tree_of}
+use Rattle.dm_workers.specs.Nodes.{IsChosen}
+use Rattle.dm_workers.specs.Inside.Working.{IsShown, IsEnd, IsHandedIn, AreKept}
+use Rattle.dm_workers.proofs.Outcomes.{one_chosen, chosen_is_ordered}
+
+-- rows have one cost
+one_cost : (net : Net) (rows : RowsValue) (penalty a b : ℕ) → Costs net rows penalty a → Costs net rows penalty b → a ≡ b
+one_cost net rows penalty a b p q =
+    p.cost ∙ (ap (λ x. cost_of net rows x penalty) (one_least net rows (is_active net rows) p.times q.times p.least q.least) ∙ sym q.cost)
+
+module _ (net : Net) (network : IsNetwork net) (rows : RowsValue) (penalty : ℕ) (base : List Decision) (budget : ℕ) (posed : IsPosed net rows penalty base budget) where
+  abbrev task : Task
+  task = task_beside net rows penalty base budget
+
+  an_end : (best looked : ℕ) (path : List Decision) (n : Node) → IsEnd task best looked path n → IsLeaf n
+  an_end best looked path (Inner c) e = e
+  an_end best looked path Cycle e = tt
+  an_end best looked path (Bound c) e = tt
+  an_end best looked path (Open c) e = absurd e
+  an_end best looked path Hole e = absurd e
+
+  -- leaves that stand apart are those of a tree
+  tree : (best looked : ℕ) (leaves : List Leaf) → StandApart leaves → All (IsHandedIn task best looked) leaves
+      → IsTreeOf (IsChosen task) (one_chosen task) (chosen_is_ordered net network rows penalty base budget posed) leaves
+  tree best looked leaves apart ends = tree_of (IsChosen task) (one_chosen task) (chosen_is_ordered net network rows penalty base budget posed) leaves apart
+      (All-weaker (IsHandedIn task best looked) (λ l. GoesDown (IsChosen task) [] l.path × IsLeaf l.node) (λ l h. (h.way, an_end best looked l.path l.node h.end)) leaves ends)
+
+  pub have_a_tree : (best looked : ℕ) (leaves : List Leaf) → StandApart leaves → All (IsHandedIn task best looked) leaves → HaveNoTree leaves → ⊥
+  have_a_tree best looked leaves apart ends none =
+      let t = tree best looked leaves apart ends in none t.shape t.proper t.has
+
+  -- what is known of a leaf that was handed in
+  known_end : (best looked : ℕ) (path : List Decision) (n : Node) → ((c : ℕ) → IsShown best looked c → best ≤ c) → IsEnd task best looked path n → IsKnown task best path n
+  known_end best looked path (Inner c) shown e = absurd e
+  known_end best looked path Cycle shown e = e
+  known_end best looked path (Bound c) shown e = record { cost = e.0; no_less = shown c e.1 }
+  known_end best looked path (Open c) shown e = absurd e
+  known_end best looked path Hole shown e = absurd e
+
+  known_at : (best looked : ℕ) (leaves : List Leaf) (nodes : List Node) → StandApart leaves → (ends : All (IsHandedIn task best looked) leaves) → ((c : ℕ) → IsShown best looked c → best ≤ c)
+      → (a : Assembles leaves nodes) → (path : List Decision) (n : Node) → StandsAt a.shape path n → IsKnown task best path n
+  known_at best looked leaves nodes apart ends shown a path n s = by_node n s (λ leaf. a.least.holes path n s leaf) where
+    of_leaf : (m : Node) → (m ≡ Hole) ⊎ Contains leaves (record { path = path; node = m }) → IsKnown task best path m
+    of_leaf m (inl e) = subst (IsKnown task best path) (sym e) tt
+    of_leaf m (inr h) =
+        let handed = All-contains (IsHandedIn task best looked) leaves (record { path = path; node = m }) ends h in
+        known_end best looked path m shown handed.end
+
+    by_node : (m : Node) → StandsAt a.shape path m → (IsLeaf m → (m ≡ Hole) ⊎ Contains leaves (record { path = path; node = m })) → IsKnown task best path m
+    by_node (Inner c) s given =
+        let t = tree best looked leaves apart ends in
+        (t.inner path c (a.least.least t.shape t.proper t.has path c s)).inner
+    by_node Cycle s given = of_leaf Cycle (given tt)
+    by_node (Bound c) s given = of_leaf (Bound c) (given tt)
+    by_node (Open c) s given = of_leaf (Open c) (given tt)
+    by_node Hole s given = of_leaf Hole (given tt)
+
+  module _ (no_cycle : HasNoCycle net rows) (own : ℕ) (of_rows : Costs net rows penalty own) (choices : List Decision) (best : ℕ) (kept : AreKept task own choices best) where
+    no_dearer : (c other : ℕ) → CostsWith task choices c → Costs net rows penalty other → c ≤ other
+    no_dearer c other p q =
+        let same = one_cost net (with_decisions net rows choices) penalty c best p.cost kept.costs.cost in
+        let rows_same = one_cost net rows penalty other own q of_rows in
+        omega (arith, same, rows_same, kept.no_dearer)
+
+    pub start_of : (looked : ℕ) (leaves : List Leaf) (nodes : List Node) → StandApart leaves → All (IsHandedIn task best looked) leaves → ((c : ℕ) → IsShown best looked c → best ≤ c)
+        → Assembles leaves nodes → length nodes ≤ budget → IsStart task nodes choices
+    start_of looked leaves nodes apart ends shown a few = record {
+      no_cycle = no_cycle;
+      choices = kept.in_order;
+      differ = kept.differ;
+      no_cycle_with = kept.costs.no_cycle;
+      no_dearer = no_dearer;
+      few = few;
+      shape = a.shape;
+      in_preorder = a.in_preorder;
+      proper = a.proper;
+      known = λ c costs path n s. subst (λ (k : ℕ). IsKnown task k path n)
+          (one_cost net (with_decisions net rows choices) penalty best c kept.costs.cost costs.cost)
+          (known_at best looked leaves nodes apart ends shown a path n s);
+    }

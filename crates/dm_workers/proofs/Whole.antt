@@ -1,0 +1,96 @@
+-- All that workers have handed in, from what they were given.
+use Rattle.std.proofs.Common.{◌≡◌, ℕ, ◌+◌, ◌-◌, ◌≤◌, Bool, List, [], ◌∷◌, length, map, All, Result, refl, ap, sym, subst, ◌∙◌, arith, append-nil}
+use Rattle.std.specs.Prelude.{IfOk}
+use Rattle.std.proofs.lemmas.List.{length-map}
+use Rattle.atomic_table.specs.Seated.{TableId}
+use Rattle.atomic_blocks.specs.Lent.{RowsId}
+use Rattle.dm_network.specs.Net.{Net}
+use Rattle.dm_rows.specs.declared.messages.Decision.{Decision}
+use Rattle.dm_rows.specs.Active.{HasNoCycle}
+use Rattle.dm_rows.specs.Cost.{Costs}
+use Rattle.dm_rows.specs.Decide.{IsChoiceList}
+use Rattle.dm_rows.specs.Rows.{RowsValue}
+use Rattle.dm_bound.specs.Words.{HandValue, lowest}
+use Rattle.dm_deques.specs.Deques.{TallyValue}
+use Rattle.dm_deques.specs.Sharing.{deque_of}
+use Rattle.dm_tree.specs.Plans.{Task}
+use Rattle.dm_guide.specs.Posed.{task_beside, IsPosed}
+use Rattle.dm_workers.specs.declared.gathering.Gathered.{Gathered}
+use Rattle.dm_workers.specs.declared.working.Worker.{Worker}
+use Rattle.dm_workers.specs.Nodes.{IsNode}
+use Rattle.dm_workers.specs.Inside.Found.{IsFound}
+use Rattle.dm_workers.specs.Inside.Gathering.{all_taken, owners_put, owners_taken}
+use Rattle.dm_workers.specs.Inside.Together.{deque_of_worker, IsGatheredFrom, HandsIn, AreHandedIn, AreDone, IsFirstHand}
+use Rattle.dm_workers.specs.Inside.Workers.{owner_of}
+use Rattle.dm_workers.specs.Inside.Working.{Path}
+use Rattle.dm_workers.proofs.Begun.{own_kept}
+use Rattle.dm_workers.proofs.Ends.{deques_agree, found_of}
+use Rattle.dm_workers.proofs.Handing.{handed_words, none_gathered}
+use Rattle.dm_workers.proofs.Joined.{given_is}
+
+-- the root is a node
+pub root_node : (net : Net) (rows : RowsValue) (penalty : ℕ) (base : List Decision) (budget : ℕ) → IsPosed net rows penalty base budget → IsNode (task_beside net rows penalty base budget) []
+root_node net rows penalty base budget posed = record { list = subst (IsChoiceList net rows) (sym (append-nil base)) posed.decides; way = tt }
+
+handed_many : {F E : Type 0} (task : Task) (own : ℕ) (word : TableId) (start : ℕ) (theirs : List RowsId) (jobs : List (Worker F)) (worked : List (Result (Worker F) E))
+    → AreHandedIn task own word start theirs jobs worked → length worked ≡ length jobs
+handed_many task own word start theirs [] [] h = refl
+handed_many task own word start theirs [] (r ∷ rs) h = absurd h
+handed_many task own word start theirs (w ∷ ws) [] h = absurd h
+handed_many task own word start theirs (w ∷ ws) (r ∷ rs) h = omega (arith, handed_many task own word start theirs ws rs h.1)
+
+-- the deques of workers, by their owners
+pub worker_deques : {F : Type 0} (workers : List (Worker F)) → map deque_of_worker workers ≡ map deque_of (map owner_of workers)
+worker_deques [] = refl
+worker_deques (w ∷ ws) = ap (λ (ds : List RowsId). w.owner.deque ∷ ds) (worker_deques ws)
+
+-- new workers who were given no more than one path on each way have done their work
+pub are_done : {F E : Type 0} (task : Task) (own : ℕ) (word : TableId) (start : ℕ) (crew : List (Worker F)) (worked : List (Result (Worker F) E)) (owners : List (TallyValue Path)) (theirs : List RowsId)
+    → map owner_of crew ≡ owners → map deque_of owners ≡ theirs → ((s : List Bool) → owners_put s owners ≤ 1) → AreHandedIn task own word start theirs crew worked
+    → AreDone task own word start worked
+are_done {F} {E} task own word start crew worked owners theirs of_crew deques one handed = record {
+  jobs = crew;
+  handed = subst (λ (ds : List RowsId). AreHandedIn {E = E} task own word start ds crew worked) (sym (worker_deques crew ∙ (ap (map deque_of) of_crew ∙ deques))) handed;
+  one = λ s. omega (arith, given_is s crew, ap (owners_put s) of_crew, one s);
+}
+
+-- each hand that was split off comes back
+pub rooms_are : {F E : Type 0} (task : Task) (own : ℕ) (word : TableId) (start : ℕ) (theirs : List RowsId) (crew : List (Worker F)) (worked : List (Result (Worker F) E)) (owners : List (TallyValue Path)) (workers seats first room : ℕ)
+    → map owner_of crew ≡ owners → length owners ≡ workers → AreHandedIn task own word start theirs crew worked → seats ≡ workers + 1 → first ≡ workers + 1 → room ≡ first - length owners
+    → room + length worked ≡ seats
+rooms_are task own word start theirs crew worked owners workers seats first room of_crew many handed all has split =
+    omega (arith, ap length of_crew, length-map crew owner_of, many, handed_many task own word start theirs crew worked handed, all, has, split)
+
+pub all_words : {F E : Type 0} (task : Task) (own : ℕ) (word : TableId) (start : ℕ) (worked : List (Result (Worker F) E)) → AreDone task own word start worked
+    → All (λ r. IfOk r (λ w. w.hand.word ≡ word)) worked
+all_words task own word start worked done = handed_words task own word start (map deque_of_worker done.jobs) done.jobs worked done.handed
+
+module _ {F E : Type 0} (net : Net) (rows : RowsValue) (penalty : ℕ) (base : List Decision) (budget own : ℕ) (no_cycle : HasNoCycle net rows) (of_rows : Costs net rows penalty own)
+    (word : TableId) (hand : HandValue) (first : IsFirstHand own word hand) (worked : List (Result (Worker F) E)) (done : AreDone (task_beside net rows penalty base budget) own word hand.start worked)
+    (none all : Gathered F)
+    (nothing : (none.owners.items ≡ []) × (none.tallies.items ≡ []) × (none.hand ≡ hand) × (none.leaves.items ≡ []) × (none.best.choices ≡ []) × (none.best.cost ≡ own))
+    (made : (task : Task) (own start rooms : ℕ) (theirs : List RowsId) (jobs : List (Worker F)) → AreHandedIn task own word start theirs jobs worked → IsGatheredFrom task own word start rooms theirs [] none
+    → IsGatheredFrom task own word start rooms theirs jobs all) where
+  abbrev task : Task
+  task = task_beside net rows penalty base budget
+
+  abbrev theirs : List RowsId
+  theirs = map deque_of_worker done.jobs
+
+  gathered : IsGatheredFrom task own word hand.start hand.room theirs done.jobs all
+  gathered = made task own hand.start hand.room theirs done.jobs done.handed
+      (none_gathered task own word hand.start theirs none hand nothing first.word_is refl first.lowered (own_kept net rows penalty base budget own no_cycle of_rows))
+
+  pub all_agree : All (λ ts. map deque_of ts ≡ map deque_of all.owners.items) all.tallies.items
+  all_agree = deques_agree task own word hand.start hand.room theirs done.jobs all gathered refl
+
+  pub word_there : all.hand.word ≡ word
+  word_there = gathered.gathered.word_is
+
+  pub all_rooms : (seats : ℕ) → hand.room + length worked ≡ seats → all.hand.room ≡ seats
+  all_rooms seats is = omega (arith, is, gathered.gathered.room, handed_many task own word hand.start theirs done.jobs worked done.handed)
+
+  pub all_found : (owners : List (TallyValue Path)) → ((s : List Bool) → owners_put s owners ≡ owners_put s all.owners.items)
+      → ((s : List Bool) → owners_taken s owners ≡ owners_taken s all.owners.items + all_taken s all.tallies.items) → ((s : List Bool) → owners_taken s owners ≤ owners_put s owners)
+      → (end : ℕ) → end ≡ lowest all.hand.start all.hand.lowered → end ≤ all.hand.looked → IsFound task own all.leaves.items all.best.choices all.best.cost
+  all_found owners put took within end is looked = found_of task own word hand.start hand.room theirs done.jobs all gathered first.start_is done.one owners put took within end is looked

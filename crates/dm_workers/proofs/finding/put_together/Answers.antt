@@ -1,0 +1,24 @@
+use Rattle.dm_workers.proofs.Whole.{all_words, all_agree, word_there, all_rooms, all_found}
+use Rattle.dm_workers.proofs.finding.put_together.Goals as goal
+
+pub gather-requires-clause-words : goal.gather-requires-clause-words
+gather-requires-clause-words g c = all_words _ _ _ _ _ c.requires.worked
+
+pub settle_all-requires : goal.settle_all-requires
+settle_all-requires g c =
+    record {
+      deques = all_agree _ _ _ _ _ _ c.requires.no_cycle c.requires.own _ _ c.requires.hand _ c.requires.worked _ _ c.nothing_gathered-first.ensures c.in_ok-all.ensures;
+    }
+
+pub close-least-requires-clause-word : goal.close-least-requires-clause-word
+close-least-requires-clause-word g c =
+    word_there _ _ _ _ _ _ c.requires.no_cycle c.requires.own _ _ c.requires.hand _ c.requires.worked _ _ c.nothing_gathered-first.ensures c.in_ok-all.ensures
+
+pub close-least-requires-clause-alone : goal.close-least-requires-clause-alone
+close-least-requires-clause-alone g c =
+    all_rooms _ _ _ _ _ _ c.requires.no_cycle c.requires.own _ _ c.requires.hand _ c.requires.worked _ _ c.nothing_gathered-first.ensures c.in_ok-all.ensures _ c.requires.rooms
+
+pub returns : goal.returns
+returns g c =
+    all_found _ _ _ _ _ _ c.requires.no_cycle c.requires.own _ _ c.requires.hand _ c.requires.worked _ _ c.nothing_gathered-first.ensures c.in_ok-all.ensures c.in_ok-settled.settled.items
+    c.in_ok-settled.ensures.put c.in_ok-settled.ensures.taken c.count_all.ensures _ c.close-least.ensures.least c.close-least.ensures.looked

@@ -1,0 +1,24 @@
+use Rattle.std.proofs.Common.{◌≡◌, Result, sym, ◌∙◌}
+use Rattle.std.specs.Prelude.{IfOk}
+use Rattle.std.proofs.lemmas.List.{nil_from_length}
+use Rattle.dm_workers.specs.declared.working.Worker.{Worker}
+use Rattle.dm_workers.proofs.Enlisted.{others_of_all}
+use Rattle.dm_workers.proofs.Joined.{goes_on, all_gathered}
+use Rattle.dm_workers.proofs.gathering.gather.Goals as goal
+
+pub loop-worker-preserved : goal.loop-worker-preserved
+loop-worker-preserved g c =
+    let is = c.in-Some.ensures.steps.0 in
+    let inv = c.loop-worker.invariant in
+    record {
+      words = others_of_all (λ (r : Result (Worker _) _). IfOk r (λ w. w.hand.word ≡ c.args.word.now.id)) c.in-Some.worker _ _ is inv.words;
+      word = c.in_ok-gathered.ensures.word;
+      going = λ task own start rooms theirs jobs handed first.
+          goes_on task own _ start rooms theirs jobs _ _ _ _ _ _ (inv.going task own start rooms theirs jobs handed first) is c.in_ok-done.was
+          (λ given more n gathered works. c.in_ok-gathered.ensures.gathered task own start n given more gathered works) c.in_ok-gathered.ensures.owners c.in_ok-gathered.ensures.tallies;
+    }
+
+pub returns : goal.returns
+returns g c = λ task own start rooms theirs jobs handed first.
+    all_gathered task own _ start rooms theirs jobs _ _ (c.loop-worker.invariant.going task own start rooms theirs jobs handed first)
+    (nil_from_length _ (sym c.loop-worker.worker-iterator.rest.ok.0 ∙ c.in-None.ensures.steps.0))

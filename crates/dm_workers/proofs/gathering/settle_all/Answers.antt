@@ -1,0 +1,19 @@
+use Rattle.std.proofs.Common.{◌≡◌, List, map, sym, ap, ◌∙◌}
+use Rattle.dm_deques.specs.Deques.{TallyValue}
+use Rattle.dm_deques.specs.Sharing.{deque_of, settling_each}
+use Rattle.dm_workers.specs.Inside.Working.{Path}
+use Rattle.dm_workers.proofs.Enlisted.{one_settled, settled_deques, first_of_all, others_of_all}
+use Rattle.dm_workers.proofs.gathering.settle_all.Goals as goal
+
+pub loop-each-preserved : goal.loop-each-preserved
+loop-each-preserved g c =
+    let is = c.in-Some.ensures.steps.0 in
+    let inv = c.loop-each.invariant in
+    let new = c.in_ok-settled.ensures ∙ ap (settling_each c.loop-each.settled.items) c.into_vec-tallies.ensures in
+    let here = first_of_all (λ (l : List (TallyValue Path)). map deque_of l ≡ map deque_of c.args.owners.items) c.in-Some.each _ _ is inv.all in
+    record {
+      all = others_of_all (λ (l : List (TallyValue Path)). map deque_of l ≡ map deque_of c.args.owners.items) c.in-Some.each _ _ is inv.all;
+      deques = settled_deques c.loop-each.settled.items _ c.in-Some.each _ new inv.deques;
+      put = λ s. (one_settled s c.loop-each.settled.items _ c.in-Some.each _ _ is (here ∙ sym inv.deques) new).0 ∙ inv.put s;
+      taken = λ s. (one_settled s c.loop-each.settled.items _ c.in-Some.each _ _ is (here ∙ sym inv.deques) new).1 ∙ inv.taken s;
+    }

@@ -1,0 +1,13 @@
+use Rattle.std.proofs.Common.{◌≡◌, ◌+◌, List, Bool, map, All}
+use Rattle.dm_deques.specs.Sharing.{deque_of}
+use Rattle.dm_workers.specs.Inside.Gathering.{owners_put, owners_taken, all_taken}
+use Rattle.dm_workers.proofs.gathering.settle_all.Given as goal
+
+abbrev pub invariant-loop-each : goal.invariant-loop-each
+invariant-loop-each g l =
+    record {
+      all : All (λ ts. map deque_of ts ≡ map deque_of l.fn.owners.items) l.each-iterator.rest.items;
+      deques : map deque_of l.settled.items ≡ map deque_of l.fn.owners.items;
+      put : (s : List Bool) → owners_put s l.settled.items ≡ owners_put s l.fn.owners.items;
+      taken : (s : List Bool) → owners_taken s l.settled.items + all_taken s l.each-iterator.rest.items ≡ owners_taken s l.fn.owners.items + all_taken s l.fn.tallies.items;
+    }

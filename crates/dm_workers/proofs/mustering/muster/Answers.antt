@@ -1,0 +1,30 @@
+use Rattle.std.proofs.Common.{◌≡◌, length, rules, refl, ap, ◌∙◌, length-append}
+use Rattle.dm_bound.specs.Words.{HandValue}
+use Rattle.dm_workers.specs.Inside.Gathering.{HasTakenNothing}
+use Rattle.dm_workers.specs.Inside.Workers.{IsNewWorker, owner_of}
+use Rattle.dm_workers.proofs.Enlisted.{one_more_of, one_split, all_more, first_of_all, others_of_all}
+use Rattle.dm_workers.proofs.mustering.muster.Goals as goal
+
+pub loop-owner-preserved : goal.loop-owner-preserved
+loop-owner-preserved g c =
+    let is = c.in_ok-push.ensures.items in
+    let inv = c.loop-owner.invariant in
+    let rest = c.in-Some.ensures.steps.0 in
+    let part = c.split-part.ensures.new in
+    record {
+      owners = one_more_of owner_of c.loop-owner.workers.items _ _ c.in-Some.owner _ _ _ inv.owners rest is refl;
+      left = others_of_all HasTakenNothing c.in-Some.owner _ _ rest inv.left;
+      hand = one_split c.args.hand.now c.loop-owner.hand _ (length c.loop-owner.workers.items) _ inv.hand c.split-part.ensures.left (ap length is ∙ length-append _ _);
+      new =
+          all_more (IsNewWorker c.args.own c.args.word.now.id c.args.hand.now.start) _ _ _ is inv.new
+          (record {
+            taken = first_of_all HasTakenNothing c.in-Some.owner _ _ rest inv.left;
+            leaves = search rules;
+            word_is = ap (λ (h : HandValue). h.word) part ∙ (ap (λ (h : HandValue). h.word) inv.hand ∙ c.requires.word);
+            start_is = ap (λ (h : HandValue). h.start) part ∙ ap (λ (h : HandValue). h.start) inv.hand;
+            room = ap (λ (h : HandValue). h.room) part;
+            lowered = ap (λ (h : HandValue). h.lowered) part;
+            choices = search rules;
+            cost = refl;
+          });
+    }

@@ -1,0 +1,15 @@
+use Rattle.std.proofs.Common.{ℕ, Bool, List}
+use Rattle.dm_guide.specs.Tasks.{task_of}
+use Rattle.dm_search.specs.Moving.{IsOver}
+use Rattle.dm_workers.specs.Inside.Working.{nothing}
+use Rattle.dm_workers.specs.Inside.Workers.{IsWorking, IsSameWorker}
+use Rattle.dm_workers.proofs.working.Worker.work_on.Given as goal
+
+abbrev pub invariant-loop : goal.invariant-loop
+invariant-loop g l =
+    record {
+      same : IsSameWorker l.fn.self l.worker;
+      at : IsOver (task_of l.fn.team.task.now) l.evaluator;
+      works : (given : List Bool → ℕ) (start : ℕ) → IsWorking (task_of l.fn.team.task.now) l.fn.team.own l.fn.team.word.now.id start given nothing l.fn.self
+          → IsWorking (task_of l.fn.team.task.now) l.fn.team.own l.fn.team.word.now.id start given nothing l.worker;
+    }

@@ -1,0 +1,5 @@
+pub mod Working
+pub mod Workers
+pub mod Gathering
+pub mod Together
+pub mod Found

@@ -1,0 +1,57 @@
+-- Workers that have done their work, and what is put together of them.
+use Rattle.std.specs.Prelude.{ℕ, ◌≡◌, ◌+◌, ◌≤◌, Bool, List, [], ◌∷◌, length, map, min, sum_by, All, Result, IfOk}
+use Rattle.atomic_table.specs.Seated.{TableId}
+use Rattle.atomic_blocks.specs.Lent.{RowsId}
+use Rattle.dm_tree.specs.Plans.{Task}
+use Rattle.dm_bound.specs.Words.{HandValue, nothing_looked}
+use Rattle.dm_deques.specs.Sharing.{deque_of}
+use Rattle.dm_ways.specs.Ways.{paths_on}
+use Rattle.dm_workers.specs.declared.working.Worker.{Worker}
+use Rattle.dm_workers.specs.declared.gathering.Gathered.{Gathered}
+use Rattle.dm_workers.specs.Inside.Working.{nothing}
+use Rattle.dm_workers.specs.Inside.Workers.{IsWorking}
+use Rattle.dm_workers.specs.Inside.Gathering.{AreGathered, all_taken}
+
+module _ {F : Type 0} where
+  -- how many paths on the way some workers were given
+  abbrev pub given_to : List Bool → List (Worker F) → ℕ
+  given_to sides workers = sum_by (λ w. paths_on sides w.owner.account.put) workers
+
+  abbrev pub deque_of_worker : Worker F → RowsId
+  deque_of_worker w = w.owner.deque
+
+  -- what all have gathered, where the tallies' paths count too
+  abbrev pub IsGathered : Task → ℕ → TableId → ℕ → ℕ → (List Bool → ℕ) → Gathered F → Type 0
+  IsGathered task own word start rooms given g =
+      AreGathered task own word start rooms given (λ s. all_taken s g.tallies.items) g.owners.items g.hand g.leaves.items g.best.choices g.best.cost
+
+  -- what was gathered from these workers, after a start with so many rooms
+  pub record IsGatheredFrom (task : Task) (own : ℕ) (word : TableId) (start rooms : ℕ) (theirs : List RowsId) (workers : List (Worker F)) (g : Gathered F) : Type 0 where
+    pub gathered : IsGathered task own word start (rooms + length workers) (λ s. given_to s workers) g
+    pub deques : map deque_of g.owners.items ≡ map deque_of_worker workers
+    pub of_all : All (λ ts. map deque_of ts ≡ theirs) g.tallies.items
+
+  -- a worker has done its work
+  pub record HandsIn (task : Task) (own : ℕ) (word : TableId) (start : ℕ) (theirs : List RowsId) (before after : Worker F) : Type 0 where
+    pub works : IsWorking task own word start (λ s. paths_on s before.owner.account.put) nothing after
+    pub deque : after.owner.deque ≡ before.owner.deque
+    pub deques : map deque_of after.tallies.items ≡ theirs
+
+  -- each worker has done its work, or memory was wanting
+  abbrev pub AreHandedIn : {E : Type 0} → Task → ℕ → TableId → ℕ → List RowsId → List (Worker F) → List (Result (Worker F) E) → Type 0
+  AreHandedIn task own word start theirs [] [] = Unit {0}
+  AreHandedIn task own word start theirs [] (r ∷ rs) = ⊥
+  AreHandedIn task own word start theirs (w ∷ ws) [] = ⊥
+  AreHandedIn task own word start theirs (w ∷ ws) (r ∷ rs) = IfOk r (HandsIn task own word start theirs w) × AreHandedIn task own word start theirs ws rs
+
+  -- Workers of some deques have done their work, who were given no more than one path on each way.
+  pub record AreDone {E : Type 0} (task : Task) (own : ℕ) (word : TableId) (start : ℕ) (worked : List (Result (Worker F) E)) : Type 0 where
+    pub jobs : List (Worker F)
+    pub handed : AreHandedIn task own word start (map deque_of_worker jobs) jobs worked
+    pub one : (sides : List Bool) → given_to sides jobs ≤ 1
+
+-- a hand of the word that has lowered it by nothing and looked at nothing, where the word starts at what the rows cost by themselves
+pub record IsFirstHand (own : ℕ) (word : TableId) (hand : HandValue) : Type 0 where
+  pub word_is : hand.word ≡ word
+  pub start_is : hand.start ≡ min own nothing_looked
+  pub lowered : hand.lowered ≡ []

@@ -1,0 +1,95 @@
+-- Workers, and what each of their steps changes.
+use Rattle.std.specs.Prelude.{ℕ, ◌≡◌, ◌+◌, ◌<◌, ◌≤◌, ◌⊎◌, Bool, List, [], ◌∷◌, ◌++◌, map}
+use Rattle.atomic_table.specs.Seated.{TableId}
+use Rattle.atomic_blocks.specs.Lent.{RowsId}
+use Rattle.dm_bound.specs.Words.{nothing_looked}
+use Rattle.dm_rows.specs.declared.messages.Choice.{Choice}
+use Rattle.dm_rows.specs.declared.messages.Decision.{Decision}
+use Rattle.dm_rows.specs.Cost.{Costs}
+use Rattle.dm_rows.specs.Sides.{first_decision, second_decision}
+use Rattle.dm_tree.specs.declared.forms.Node.{Node}
+use Rattle.dm_tree.specs.Plans.{Task}
+use Rattle.dm_deques.specs.Deques.{TallyValue}
+use Rattle.dm_deques.specs.Sharing.{deque_of}
+use Rattle.dm_deques.specs.Rule.{WasEmpty}
+use Rattle.dm_deques.specs.Inside.Steps.{having_put}
+use Rattle.dm_ways.specs.Ways.{on_way, paths_on}
+use Rattle.dm_workers.specs.declared.working.Worker.{Worker}
+use Rattle.dm_workers.specs.Inside.Working.{Path, taken_on, IsAtWork, nothing}
+
+-- what the rows cost by themselves
+abbrev pub IsOwnCost : Task → ℕ → Type 0
+IsOwnCost task own = Costs task.net task.rows task.penalty own
+
+-- a tally has taken the path
+pub record HasStolen (old new : List (TallyValue Path)) (path : Path) : Type 0 where
+  pub deques : map deque_of new ≡ map deque_of old
+  pub weighs : (sides : List Bool) → taken_on sides new ≡ taken_on sides old + on_way sides path
+
+module _ {F : Type 0} where
+  abbrev pub IsWorking : Task → ℕ → TableId → ℕ → (List Bool → ℕ) → (List Bool → ℕ) → Worker F → Type 0
+  IsWorking task own word start given in_hand w =
+      IsAtWork task own word start given in_hand w.owner w.tallies.items w.hand w.leaves.items w.best.choices w.best.cost
+
+  -- the worker has its number and its deque, and tallies of the same deques
+  pub record IsSameWorker (old new : Worker F) : Type 0 where
+    pub who : new.who ≡ old.who
+    pub deque : new.owner.deque ≡ old.owner.deque
+    pub deques : map deque_of new.tallies.items ≡ map deque_of old.tallies.items
+    pub word : new.hand.word ≡ old.hand.word
+
+  -- it has taken a path, from its deque or another
+  pub record HasTaken (old new : Worker F) (path : Path) : Type 0 where
+    pub same : new ≡ record old { owner = new.owner; tallies = new.tallies }
+    pub put : new.owner.account.put ≡ old.owner.account.put
+    pub deque : new.owner.deque ≡ old.owner.deque
+    pub deques : map deque_of new.tallies.items ≡ map deque_of old.tallies.items
+    pub weighs : (sides : List Bool) →
+        paths_on sides new.owner.account.taken + taken_on sides new.tallies.items
+        ≡ paths_on sides old.owner.account.taken + taken_on sides old.tallies.items + on_way sides path
+
+  -- it has found no path
+  pub record HasFoundNone (old new : Worker F) : Type 0 where
+    pub same : new ≡ record old { owner = new.owner; tallies = new.tallies }
+    pub owner : new.owner ≡ old.owner
+    pub tallies : new.tallies.items ≡ old.tallies.items
+
+  -- it has one leaf more
+  pub record IsHandedTo (old new : Worker F) (path : Path) (node : Node) : Type 0 where
+    pub same : new ≡ record old { leaves = new.leaves }
+    pub leaves : new.leaves.items ≡ old.leaves.items ++ record { path = path; node = node } ∷ []
+
+  -- it has the cheaper of two lists of choices
+  pub record IsBetterOf (old new : Worker F) (cost : ℕ) (choices : List Decision) : Type 0 where
+    pub same : new ≡ record old { best = new.best }
+    pub cheaper : (new.best ≡ old.best) × (old.best.cost ≤ cost)
+        ⊎ ((new.best.choices ≡ choices) × (new.best.cost ≡ cost) × (cost < old.best.cost))
+
+  -- it has put the two paths below the choice
+  pub record HasBranched (old new : Worker F) (path : Path) (choice : Choice) : Type 0 where
+    pub same : new ≡ record old { owner = new.owner; branched = new.branched }
+    pub owner : new.owner ≡ record old.owner {
+      account = having_put (having_put old.owner.account ((path ++ second_decision choice ∷ []) ∷ []))
+          ((path ++ first_decision choice ∷ []) ∷ []);
+    }
+
+  -- it has done its work, and has found its deque empty at the end
+  pub record IsDone (task : Task) (own : ℕ) (word : TableId) (start : ℕ) (fits : Path → Type 0) (theirs : List RowsId) (before after : Worker F) : Type 0 where
+    pub works : IsWorking task own word start (λ s. paths_on s before.owner.account.put) nothing after
+    pub empty : WasEmpty fits after.owner.account
+    pub deque : after.owner.deque ≡ before.owner.deque
+    pub deques : map deque_of after.tallies.items ≡ theirs
+
+  -- it has taken and handed in nothing, has a hand of the word that has lowered and looked at nothing, and the rows' own choices
+  pub record IsNewWorker (own : ℕ) (word : TableId) (start : ℕ) (w : Worker F) : Type 0 where
+    pub taken : w.owner.account.taken ≡ []
+    pub leaves : w.leaves.items ≡ []
+    pub word_is : w.hand.word ≡ word
+    pub start_is : w.hand.start ≡ start
+    pub room : w.hand.room ≡ 1
+    pub lowered : w.hand.lowered ≡ []
+    pub choices : w.best.choices ≡ []
+    pub cost : w.best.cost ≡ own
+
+  abbrev pub owner_of : Worker F → TallyValue Path
+  owner_of w = w.owner

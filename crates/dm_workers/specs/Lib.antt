@@ -1,0 +1,4 @@
+-- What a reader must believe: Nodes, Expanding. What a worker has done and what is gathered: Inside.
+pub mod Nodes
+pub mod Expanding
+pub mod Inside

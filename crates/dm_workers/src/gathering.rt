@@ -1,0 +1,148 @@
+//! What the workers hand in, put together.
+ghost use Rattle.std.specs.Prelude.{ℕ, ◌≡◌, ◌+◌, ◌<◌, ◌≤◌, ◌⊎◌, Bool, List, [], ◌∷◌, ◌++◌, map, All, IfOk};
+ghost use Rattle.atomic_table.specs.Seated.{TableId};
+ghost use Rattle.atomic_blocks.specs.Lent.{RowsId};
+ghost use Rattle.dm_tree.specs.Plans.{Task as TaskValue};
+ghost use Rattle.dm_deques.specs.Sharing.{deque_of};
+ghost use Rattle.dm_workers.specs.Inside.Working.{nothing};
+ghost use Rattle.dm_workers.specs.Inside.Workers.{IsWorking};
+ghost use Rattle.dm_workers.specs.Inside.Gathering.{owners_put, owners_taken, all_taken};
+ghost use Rattle.dm_workers.specs.Inside.Together.{IsGathered, IsGatheredFrom, AreHandedIn};
+
+use crate::working::{Best, Path, Worker};
+use dm_base::{Cost, Items};
+use dm_deques::{Grown, Owner, Tally, settle_each};
+use dm_search::{BoundWord, Hand};
+use dm_tree::Leaf;
+use std::alloc::{AllocError, Global};
+
+/// What all workers have: their deques, what each has taken from all of them, their hands made one, their leaves, and the cheapest
+/// of their choices.
+#[derive(Drop)]
+pub(crate) struct Gathered<F: Grown<Path>> {
+    pub(crate) owners: Vec<Owner<Path, F>>,
+    pub(crate) tallies: Vec<Items<Tally<Path>>>,
+    pub(crate) hand: Hand,
+    pub(crate) leaves: Vec<Leaf>,
+    pub(crate) best: Best,
+}
+
+impl<F: Grown<Path>> Gathered<F> {
+    /// Takes in what a worker has done.
+    fn take_in(self, word: &BoundWord, worker: Worker<F>) -> Result<Gathered<F>, AllocError>
+        requires word { (self.hand.word ≡ word.now.id) × (worker.hand.word ≡ word.now.id) }
+        ensures word { IfOk result (λ g. g.hand.word ≡ word.now.id) }
+        ensures owners { IfOk result (λ g. g.owners.items ≡ self.owners.items ++ worker.owner ∷ []) }
+        ensures tallies { IfOk result (λ g. g.tallies.items ≡ self.tallies.items ++ worker.tallies.items ∷ []) }
+        ensures gathered { IfOk result (λ g. (task : TaskValue) (own start rooms : ℕ) (given more : List Bool → ℕ)
+            → IsGathered task own word.now.id start rooms given self
+            → IsWorking task own word.now.id start more nothing worker
+            → IsGathered task own word.now.id start (rooms + 1) (λ s. given s + more s) g) }
+    {
+        let Gathered {
+            mut owners,
+            mut tallies,
+            mut hand,
+            mut leaves,
+            best,
+        } = self;
+        let Worker {
+            who: _,
+            branched: _,
+            owner,
+            tallies: taken,
+            hand: other,
+            leaves: mut more,
+            best: found,
+        } = worker;
+        word.join(&mut hand, other);
+        owners.push(owner)?;
+        tallies.push(Items::from_vec(taken))?;
+        leaves.append(&mut more)?;
+        let best = cheaper(best, found);
+        Ok(Gathered {
+            owners,
+            tallies,
+            hand,
+            leaves,
+            best,
+        })
+    }
+}
+
+/// What is gathered before any worker's, with a hand and the rows' own choices.
+pub(crate) fn nothing_gathered<F: Grown<Path>>(alloc: Global, own: Cost, hand: Hand) -> Gathered<F>
+    ensures { (result.owners.items ≡ []) × (result.tallies.items ≡ []) × (result.hand ≡ hand) × (result.leaves.items ≡ [])
+        × (result.best.choices ≡ []) × (result.best.cost ≡ own) }
+{
+    Gathered {
+        owners: Vec::new(alloc),
+        tallies: Vec::new(alloc),
+        hand,
+        leaves: Vec::new(alloc),
+        best: Best {
+            choices: Items::from_vec(Vec::new(alloc)),
+            cost: own,
+        },
+    }
+}
+
+/// Puts together what all workers have done, where none of them wanted memory.
+pub(crate) fn gather<F: Grown<Path>>(
+    word: &BoundWord,
+    first: Gathered<F>,
+    worked: Vec<Result<Worker<F>, AllocError>>,
+) -> Result<Gathered<F>, AllocError>
+    requires word { first.hand.word ≡ word.now.id }
+    requires words { All (λ r. IfOk r (λ w. w.hand.word ≡ word.now.id)) worked.items }
+    ensures { IfOk result (λ g. (task : TaskValue) (own start rooms : ℕ) (theirs : List RowsId) (jobs : List (Worker F))
+        → AreHandedIn task own word.now.id start theirs jobs worked.items
+        → IsGatheredFrom task own word.now.id start rooms theirs [] first
+        → IsGatheredFrom task own word.now.id start rooms theirs jobs g) }
+{
+    let mut gathered = first;
+    for worker in worked {
+        let done = worker?;
+        gathered = gathered.take_in(word, done)?;
+    }
+    Ok(gathered)
+}
+
+/// The cheaper of two lists of choices.
+fn cheaper(one: Best, other: Best) -> Best
+    ensures { ((result ≡ other) × (other.cost < one.cost)) ⊎ ((result ≡ one) × (one.cost ≤ other.cost)) }
+{
+    if other.cost < one.cost {
+        return other;
+    }
+    one
+}
+
+/// Has each owner take in what was taken from its deque.
+pub(crate) fn settle_all<F: Grown<Path>>(
+    alloc: Global,
+    owners: Vec<Owner<Path, F>>,
+    tallies: Vec<Items<Tally<Path>>>,
+) -> Result<Vec<Owner<Path, F>>, AllocError>
+    requires deques { All (λ ts. map deque_of ts ≡ map deque_of owners.items) tallies.items }
+    ensures put { IfOk result (λ r. (s : List Bool) → owners_put s r.items ≡ owners_put s owners.items) }
+    ensures taken { IfOk result (λ r. (s : List Bool)
+        → owners_taken s r.items ≡ owners_taken s owners.items + all_taken s tallies.items) }
+{
+    let mut settled = owners;
+    for each in tallies {
+        let tallies = each.into_vec();
+        settled = settle_each(alloc, settled, tallies)?;
+    }
+    Ok(settled)
+}
+
+/// What the owners have taken was put.
+pub(crate) fn count_all<F: Grown<Path>>(owners: Vec<Owner<Path, F>>)
+    ensures { (s : List Bool) → owners_taken s owners.items ≤ owners_put s owners.items }
+{
+    for owner in owners {
+        let mut owner = owner;
+        let _left = owner.count();
+    }
+}

@@ -1,0 +1,86 @@
+//! The workers of a search, before it begins.
+ghost use Rattle.std.specs.Prelude.{ℕ, ◌≡◌, ◌-◌, ◌<◌, ◌≤◌, Bool, List, [], ◌∷◌, map, All, length, IfOk, OnOk};
+ghost use Rattle.dm_deques.specs.Sharing.{deque_of};
+ghost use Rattle.dm_workers.specs.Inside.Gathering.{owners_put, HasTakenNothing};
+ghost use Rattle.dm_workers.specs.Inside.Workers.{IsNewWorker, owner_of};
+
+use crate::working::{Best, Path, Worker};
+use dm_base::{Cost, Items};
+use dm_deques::{Grown, Owner, Thief};
+use dm_search::{BoundWord, Hand};
+use std::alloc::{AllocError, Global};
+
+/// The deques of so many workers, with the root on the first, and a thief of each.
+pub(crate) fn enlist<F: Grown<Path>>(
+    alloc: Global,
+    workers: u32,
+) -> Result<(Vec<Owner<Path, F>>, Vec<Thief<Path, F>>), AllocError>
+    requires root { F.fits [] }
+    requires some { 1 ≤ workers }
+    ensures many { IfOk result (λ r. length r.0.items ≡ workers) }
+    ensures thieves { IfOk result (λ r. map deque_of r.0.items ≡ r.1.items) }
+    ensures root { IfOk result (λ r. (s : List Bool) → owners_put s r.0.items ≤ 1) }
+    ensures new { IfOk result (λ r. All HasTakenNothing r.0.items) }
+{
+    let first = begin(alloc)?;
+    let mut owners = Vec::with_capacity(alloc, workers as usize)?;
+    let mut thieves = Vec::with_capacity(alloc, workers as usize)?;
+    thieves.push(first.thief()?)?;
+    owners.push(first)?;
+    for _other in 1..workers {
+        let owner = Owner::new(alloc)?;
+        thieves.push(owner.thief()?)?;
+        owners.push(owner)?;
+    }
+    Ok((owners, thieves))
+}
+
+/// A deque that holds the root.
+fn begin<F: Grown<Path>>(alloc: Global) -> Result<Owner<Path, F>, AllocError>
+    requires root { F.fits [] }
+    ensures new { IfOk result HasTakenNothing }
+    ensures root { IfOk result (λ o. (s : List Bool) → owners_put s (o ∷ []) ≤ 1) }
+{
+    let mut owner = Owner::new(alloc)?;
+    let Ok(()) = owner.put(Items::from_vec(Vec::new(alloc))) else {
+        return Err(AllocError);
+    };
+    Ok(owner)
+}
+
+/// A worker for each deque, with a hand that is split from the first one, and the rows' own choices.
+pub(crate) fn muster<F: Grown<Path>>(
+    alloc: Global,
+    word: &BoundWord,
+    hand: &mut Hand,
+    own: Cost,
+    owners: Vec<Owner<Path, F>>,
+) -> Result<Vec<Worker<F>>, AllocError>
+    requires word { hand.old.word ≡ word.now.id }
+    requires room { length owners.items < hand.old.room }
+    requires new { All HasTakenNothing owners.items }
+    ensures hand { OnOk result (hand.new ≡ record hand.old { room = hand.old.room - length owners.items }) }
+    ensures owners { IfOk result (λ ws. map owner_of ws.items ≡ owners.items) }
+    ensures new { IfOk result (λ ws. All (IsNewWorker own word.now.id hand.old.start) ws.items) }
+{
+    let mut workers = Vec::with_capacity(alloc, owners.len())?;
+    let mut who: u32 = 0;
+    for owner in owners {
+        who = who.saturating_add(1);
+        let best = Best {
+            choices: Items::from_vec(Vec::new(alloc)),
+            cost: own,
+        };
+        let part = word.split(hand);
+        workers.push(Worker {
+            who,
+            branched: 0,
+            owner,
+            tallies: Vec::new(alloc),
+            hand: part,
+            leaves: Vec::new(alloc),
+            best,
+        })?;
+    }
+    Ok(workers)
+}

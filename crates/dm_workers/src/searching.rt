@@ -1,0 +1,141 @@
+//! A search by several workers that ends with a true plan.
+ghost use Rattle.std.specs.Prelude.{◌≡◌, ◌≤◌, [], ◌∷◌, IfOk};
+ghost use Rattle.dm_base.specs.declared.limits.TheConstants.{BUDGET, PENALTY, WORKERS};
+ghost use Rattle.dm_search.specs.Finish.{IsStart};
+ghost use Rattle.dm_tree.specs.Plans.{IsTruePlan, whole_task};
+ghost use Rattle.dm_tree.specs.Trees.{Assembles};
+ghost use Rattle.dm_tree.specs.declared.forms.Node.TheVariants.{Hole};
+ghost use Rattle.dm_guide.specs.Tasks.{task_of, IsPosedTask};
+ghost use Rattle.dm_rows.specs.Active.{HasNoCycle};
+ghost use Rattle.dm_rows.specs.Rows.{IsSized};
+ghost use Rattle.dm_workers.specs.Inside.Workers.{IsOwnCost};
+ghost use Rattle.dm_workers.specs.Inside.Found.{IsFound};
+
+use crate::finding::{Found, find_nodes};
+use crate::working::Best;
+use dm_base::Cost;
+use dm_desk::Hold;
+use dm_network::Network;
+use dm_rows::Snapshot;
+use dm_search::{Task, finish_task, whole};
+use dm_times::{cost, least};
+use dm_tree::{AssembleFault, Leaf, Node, Partial, Plan, assemble};
+use std::alloc::{AllocError, Global};
+use std::sync::Wait;
+use std::thread::Threads;
+
+/// A true plan for the rows of a snapshot, which have no cycle, with the snapshot's entry and a tree of at most `budget` nodes, of
+/// which there are 1 to 16,384, searched by 1 to 16 workers in threads of their own. The penalty is in seconds for each passenger, at
+/// most 1,000,000.
+pub fn search<R: Threads + Wait + Sync, H: Hold + Sync>(
+    alloc: Global,
+    rt: &R,
+    net: &Network,
+    penalty: u64,
+    snapshot: &Snapshot,
+    budget: u64,
+    workers: u32,
+    gate: &H,
+) -> Result<Plan, AllocError>
+    requires sized { IsSized net.now snapshot.now.rows }
+    requires no_cycle { HasNoCycle net.now snapshot.now.rows }
+    requires penalty { penalty ≤ PENALTY }
+    requires budget { (1 ≤ budget) × (budget ≤ BUDGET) }
+    requires workers { (1 ≤ workers) × (workers ≤ WORKERS) }
+    ensures plan { IfOk result (IsTruePlan (whole_task net.now snapshot.now.rows penalty budget)) }
+    ensures entry { IfOk result (λ plan. plan.entry ≡ snapshot.now.entry) }
+{
+    let rows = &snapshot.rows;
+    let task = whole(alloc, net, rows, penalty, budget);
+    search_task(rt, &task, snapshot.entry, workers, gate)
+}
+
+/// The same for a task, with an entry. A search that the workers end is the plan's tree; else it is searched anew from the best choices
+/// that they have found.
+pub fn search_task<R: Threads + Wait + Sync, H: Hold + Sync>(
+    rt: &R,
+    task: &Task<'_>,
+    entry: u32,
+    workers: u32,
+    gate: &H,
+) -> Result<Plan, AllocError>
+    requires posed { IsPosedTask task.now }
+    requires no_cycle { HasNoCycle task.now.net.now task.now.rows.now }
+    requires some { 1 ≤ task.now.budget }
+    requires workers { (1 ≤ workers) × (workers ≤ WORKERS) }
+    ensures plan { IfOk result (IsTruePlan (task_of task.now)) }
+    ensures entry { IfOk result (λ plan. plan.entry ≡ entry) }
+{
+    let own = own_cost(task)?;
+    let found = find_nodes(rt, task, own, workers, gate)?;
+    let (partial, best) = begun(task, own, found)?;
+    finish_task(task, entry, partial, best.choices.into_vec())
+}
+
+/// What the rows cost by themselves.
+fn own_cost(task: &Task<'_>) -> Result<Cost, AllocError>
+    requires posed { IsPosedTask task.now }
+    ensures { IfOk result (IsOwnCost (task_of task.now)) }
+{
+    match least(task.alloc, task.net, task.rows) {
+        Ok(times) => Ok(cost(task.net, task.rows, &times, task.penalty)),
+        Err(_no_times) => Err(AllocError),
+    }
+}
+
+/// The tree that a search goes on from, and the choices: the workers' tree where it is whole and keeps to the budget, and else one hole.
+fn begun(task: &Task<'_>, own: Cost, found: Found) -> Result<(Partial, Best), AllocError>
+    requires posed { IsPosedTask task.now }
+    requires no_cycle { HasNoCycle task.now.net.now task.now.rows.now }
+    requires some { 1 ≤ task.now.budget }
+    requires own { IsOwnCost (task_of task.now) own }
+    requires found { IsFound (task_of task.now) own found.leaves.items found.best.choices found.best.cost }
+    ensures start { IfOk result (λ r. IsStart (task_of task.now) r.0 r.1.choices) }
+{
+    task.net.sound();
+    let Found { leaves, best } = found;
+    let tree = tree_of(task, own, &best, leaves)?;
+    if is_whole(&tree) && tree.as_slice().len() as u64 <= task.budget {
+        return Ok((tree, best));
+    }
+    let hole = one_hole(task.alloc)?;
+    Ok((hole, best))
+}
+
+/// The tree of the leaves that the workers have handed in.
+fn tree_of(
+    task: &Task<'_>,
+    own: Cost,
+    best: &Best,
+    leaves: Vec<Leaf>,
+) -> Result<Partial, AllocError>
+    requires posed { IsPosedTask task.now }
+    requires found { IsFound (task_of task.now) own leaves.items best.now.choices best.now.cost }
+    ensures { IfOk result (Assembles leaves.items) }
+{
+    task.net.sound();
+    match assemble(task.alloc, leaves) {
+        Ok(tree) => Ok(tree),
+        Err(AssembleFault::NotATree) => unreachable!(),
+        Err(AssembleFault::OutOfMemory) => Err(AllocError),
+    }
+}
+
+/// The tree of no leaves.
+fn one_hole(alloc: Global) -> Result<Partial, AllocError>
+    ensures tree { IfOk result (Assembles []) }
+    ensures hole { IfOk result (λ t. t ≡ Hole ∷ []) }
+{
+    let Ok(hole) = assemble(alloc, Vec::new(alloc)) else {
+        return Err(AllocError);
+    };
+    Ok(hole)
+}
+
+/// Whether no hole is left.
+fn is_whole(tree: &Partial) -> bool {
+    !tree
+        .as_slice()
+        .iter()
+        .any(|node| matches!(node, Node::Hole))
+}

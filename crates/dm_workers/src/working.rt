@@ -1,0 +1,313 @@
+//! What one worker does.
+ghost use Rattle.std.specs.Prelude.{ℕ, ◌≡◌, ◌++◌, Bool, List, [], ◌∷◌, map, IfOk, IfSome, IfNone, OnOk};
+ghost use Rattle.dm_rows.specs.Active.{HasNoCycle};
+ghost use Rattle.dm_rows.specs.Sides.{first_decision, second_decision};
+ghost use Rattle.dm_guide.specs.Tasks.{task_of, IsPosedTask};
+ghost use Rattle.dm_search.specs.Moving.{IsOver};
+ghost use Rattle.dm_deques.specs.Rule.{WasEmpty};
+ghost use Rattle.dm_deques.specs.Sharing.{deque_of};
+ghost use Rattle.dm_ways.specs.Ways.{on_way};
+ghost use Rattle.dm_workers.specs.Nodes.{IsNode, PicksNodes};
+ghost use Rattle.dm_workers.specs.Inside.Workers.{IsWorking, IsOwnCost, HasTaken, HasStolen, HasFoundNone, IsHandedTo, IsBetterOf, HasBranched, IsSameWorker, IsNewWorker, IsDone};
+ghost use Rattle.dm_workers.specs.Inside.Working.{nothing};
+
+use crate::expanding::expand_to;
+use crate::pace::Pace;
+use dm_base::{Cost, Items};
+use dm_deques::{Grown, Owner, Tally, Thief, tallies_of};
+use dm_desk::Hold;
+use dm_evaluate::Evaluator;
+use dm_rows::{Choice, Decision};
+use dm_search::{BoundWord, Hand, Outcome, Task, evaluator_at_base};
+use dm_tree::{Leaf, Node};
+use std::alloc::AllocError;
+use std::sync::Wait;
+use std::thread;
+
+// The points of the gate that a worker passes.
+const STARTS: u32 = 3;
+
+const ENDS: u32 = 4;
+
+const EXPANDS: u32 = 5;
+
+/// A path from the root.
+pub(crate) type Path = Items<Decision>;
+
+/// Choices that differ from the rows, and what the rows cost with them.
+#[derive(Drop)]
+pub(crate) struct Best {
+    pub(crate) choices: Items<Decision>,
+    pub(crate) cost: Cost,
+}
+
+/// One worker of a search: its number from 1, how many branchings it has made, its deque, what it has taken from all deques, its hand
+/// of the word, the leaves that it hands in, and its best choices.
+#[derive(Drop)]
+pub(crate) struct Worker<F: Grown<Path>> {
+    pub(crate) who: u32,
+    pub(crate) branched: u64,
+    pub(crate) owner: Owner<Path, F>,
+    pub(crate) tallies: Vec<Tally<Path>>,
+    pub(crate) hand: Hand,
+    pub(crate) leaves: Vec<Leaf>,
+    pub(crate) best: Best,
+}
+
+/// What the workers share: what is searched, what the rows cost by themselves, the word, the deques, when they stop, and how many
+/// branchings each may make.
+#[derive(Drop)]
+pub(crate) struct Team<'s, 't, F: Grown<Path>> {
+    pub(crate) task: &'s Task<'t>,
+    pub(crate) own: Cost,
+    pub(crate) word: &'s BoundWord,
+
+    /// The value at which the word starts.
+    pub(crate) start: u64,
+    pub(crate) thieves: &'s Vec<Thief<Path, F>>,
+    pub(crate) pace: &'s Pace,
+    pub(crate) share: u64,
+}
+
+/// Takes the first path of a deque of some thief.
+fn steal_any<F: Grown<Path>>(
+    thieves: &[Thief<Path, F>],
+    tallies: &mut Vec<Tally<Path>>,
+) -> Option<Path>
+    requires deques { map deque_of tallies.old.items ≡ thieves.now }
+    ensures stolen { IfSome result (λ path. F.fits path × HasStolen tallies.old.items tallies.new.items path) }
+    ensures none { IfNone result (tallies.new.items ≡ tallies.old.items) }
+{
+    for place in 0..thieves.len() {
+        if let Some(path) = thieves[place].steal(&mut tallies[place]) {
+            return Some(path);
+        }
+    }
+    None
+}
+
+impl<F: Grown<Path>> Worker<F> {
+    /// The last path of its own deque, or the first of another's.
+    fn next(&mut self, thieves: &[Thief<Path, F>]) -> Option<Path>
+        requires deques { map deque_of self.old.tallies.items ≡ thieves.now }
+        ensures taken { IfSome result (λ path. F.fits path × HasTaken self.old self.new path) }
+        ensures none { IfNone result (HasFoundNone self.old self.new × WasEmpty F.fits self.old.owner.account) }
+    {
+        match self.owner.take() {
+            Some(path) => Some(path),
+            None => steal_any(thieves, &mut self.tallies),
+        }
+    }
+
+    /// Puts a leaf to the others.
+    fn hand_in(&mut self, pace: &Pace, path: Path, node: Node) -> Result<(), AllocError>
+        ensures handed { OnOk result (IsHandedTo self.old self.new path node) }
+        ensures hand { self.new.hand ≡ self.old.hand }
+    {
+        pace.done();
+        self.leaves.push(Leaf { path, node })?;
+        Ok(())
+    }
+
+    /// Keeps choices where they cost less than those that it has.
+    fn keep(&mut self, cost: Cost, choices: Items<Decision>)
+        ensures { IsBetterOf self.old self.new cost choices }
+    {
+        if cost < self.best.cost {
+            self.best = Best { choices, cost };
+        }
+    }
+
+    /// Puts the two paths below a choice on its deque.
+    fn branch(&mut self, task: &Task<'_>, path: Path, choice: Choice) -> Result<(), AllocError>
+        requires first { F.fits (path ++ first_decision choice ∷ []) }
+        requires second { F.fits (path ++ second_decision choice ∷ []) }
+        ensures put { OnOk result (HasBranched self.old self.new path choice) }
+        ensures hand { self.new.hand ≡ self.old.hand }
+    {
+        let mut first = Vec::from_slice(task.alloc, path.as_slice())?;
+        first.push(choice.first())?;
+        let mut second = path.into_vec();
+        second.push(choice.second())?;
+        self.branched = self.branched.saturating_add(1);
+        let Ok(()) = self.owner.put(Items::from_vec(second)) else {
+            return Err(AllocError);
+        };
+        let Ok(()) = self.owner.put(Items::from_vec(first)) else {
+            return Err(AllocError);
+        };
+        Ok(())
+    }
+
+    /// Expands a node: it becomes a leaf, or two nodes.
+    fn expand(
+        &mut self,
+        team: &Team<'_, '_, F>,
+        evaluator: &mut Evaluator,
+        path: Path,
+    ) -> Result<(), AllocError>
+        requires posed { IsPosedTask team.now.task.now }
+        requires picks { PicksNodes (task_of team.now.task.now) F.fits }
+        requires own { IsOwnCost (task_of team.now.task.now) team.now.own }
+        requires node { IsNode (task_of team.now.task.now) path }
+        requires evaluator { IsOver (task_of team.now.task.now) evaluator.old }
+        requires word { self.old.hand.word ≡ team.now.word.now.id }
+        ensures evaluator { IsOver (task_of team.now.task.now) evaluator.new }
+        ensures same { OnOk result (IsSameWorker self.old self.new) }
+        ensures works { OnOk result ((given : List Bool → ℕ) (start : ℕ)
+            → IsWorking (task_of team.now.task.now) team.now.own team.now.word.now.id start given (λ s. on_way s path) self.old
+            → IsWorking (task_of team.now.task.now) team.now.own team.now.word.now.id start given nothing self.new) }
+    {
+        let task = team.task;
+        task.net.sound();
+        let (seen, outcome) = expand_to(
+            task,
+            evaluator,
+            path.as_slice(),
+            team.word,
+            &mut self.hand,
+        )?;
+        match outcome {
+            Outcome::Cycle => self.hand_in(team.pace, path, Node::Cycle),
+            Outcome::Pruned(cost) => {
+                if seen < u64::MAX {
+                    self.hand_in(team.pace, path, Node::Bound(cost))
+                } else if team.own <= cost {
+                    self.hand_in(team.pace, path, Node::Bound(cost))
+                } else {
+                    // No cost is so great: the node is left to the search that follows.
+                    team.pace.done();
+                    Ok(())
+                }
+            }
+            Outcome::Solved(cost, choices) => {
+                self.keep(cost, choices);
+                self.hand_in(team.pace, path, Node::Bound(cost))
+            }
+            Outcome::Branch(cost, choice) => {
+                if team.own <= cost {
+                    self.hand_in(team.pace, path, Node::Bound(cost))
+                } else {
+                    team.pace.branch();
+                    self.branch(task, path, choice)
+                }
+            }
+        }
+    }
+
+    /// Works until no node is left, or until some worker wants memory. What is taken and not expanded is left to the search that
+    /// follows.
+    fn work_on<R: Wait, H: Hold>(
+        self,
+        rt: &R,
+        team: &Team<'_, '_, F>,
+        evaluator: &mut Evaluator,
+        gate: &H,
+    ) -> Result<Worker<F>, AllocError>
+        requires posed { IsPosedTask team.now.task.now }
+        requires picks { PicksNodes (task_of team.now.task.now) F.fits }
+        requires own { IsOwnCost (task_of team.now.task.now) team.now.own }
+        requires evaluator { IsOver (task_of team.now.task.now) evaluator.old }
+        requires deques { map deque_of self.tallies.items ≡ team.now.thieves.now.items }
+        requires word { self.hand.word ≡ team.now.word.now.id }
+        ensures same { IfOk result (IsSameWorker self) }
+        ensures empty { IfOk result (λ w. WasEmpty F.fits w.owner.account) }
+        ensures works { IfOk result (λ w. (given : List Bool → ℕ) (start : ℕ)
+            → IsWorking (task_of team.now.task.now) team.now.own team.now.word.now.id start given nothing self
+            → IsWorking (task_of team.now.task.now) team.now.own team.now.word.now.id start given nothing w) }
+    {
+        let mut worker = self;
+        for _ in rt.forever() {
+            match worker.next(team.thieves) {
+                Some(path) => worker.take_on(team, evaluator, path, gate)?,
+                None => {
+                    if team.pace.has_ended() {
+                        return Ok(worker);
+                    }
+                    thread::yield_now();
+                    continue;
+                }
+            }
+        }
+        unreachable!()
+    }
+
+    /// Expands a node, or gives it up where no further one is expanded.
+    fn take_on<H: Hold>(
+        &mut self,
+        team: &Team<'_, '_, F>,
+        evaluator: &mut Evaluator,
+        path: Path,
+        gate: &H,
+    ) -> Result<(), AllocError>
+        requires posed { IsPosedTask team.now.task.now }
+        requires picks { PicksNodes (task_of team.now.task.now) F.fits }
+        requires own { IsOwnCost (task_of team.now.task.now) team.now.own }
+        requires fits { F.fits path }
+        requires evaluator { IsOver (task_of team.now.task.now) evaluator.old }
+        requires word { self.old.hand.word ≡ team.now.word.now.id }
+        ensures evaluator { IsOver (task_of team.now.task.now) evaluator.new }
+        ensures same { OnOk result (IsSameWorker self.old self.new) }
+        ensures works { OnOk result ((given : List Bool → ℕ) (start : ℕ)
+            → IsWorking (task_of team.now.task.now) team.now.own team.now.word.now.id start given (λ s. on_way s path) self.old
+            → IsWorking (task_of team.now.task.now) team.now.own team.now.word.now.id start given nothing self.new) }
+    {
+        if self.branched >= team.share || !team.pace.goes_on() {
+            team.pace.done();
+            return Ok(());
+        }
+        gate.hold(self.who, EXPANDS);
+        self.expand(team, evaluator, path)
+    }
+}
+
+impl<F: Grown<Path>> Worker<F> {
+    /// Does the worker's part of a search. Where it wants memory the others stop too.
+    pub(crate) fn work<R: Wait, H: Hold>(
+        self,
+        rt: &R,
+        team: &Team<'_, '_, F>,
+        gate: &H,
+    ) -> Result<Worker<F>, AllocError>
+        requires posed { IsPosedTask team.now.task.now }
+        requires picks { PicksNodes (task_of team.now.task.now) F.fits }
+        requires no_cycle { HasNoCycle team.now.task.now.net.now team.now.task.now.rows.now }
+        requires own { IsOwnCost (task_of team.now.task.now) team.now.own }
+        requires new { IsNewWorker team.now.own team.now.word.now.id team.now.start self }
+        ensures { IfOk result (IsDone (task_of team.now.task.now) team.now.own team.now.word.now.id team.now.start F.fits
+            team.now.thieves.now.items self) }
+    {
+        let who = self.who;
+        gate.hold(who, STARTS);
+        let worked = self.work_from_root(rt, team, gate);
+        if worked.is_err() {
+            team.pace.stop();
+        }
+        gate.hold(who, ENDS);
+        worked
+    }
+
+    fn work_from_root<R: Wait, H: Hold>(
+        self,
+        rt: &R,
+        team: &Team<'_, '_, F>,
+        gate: &H,
+    ) -> Result<Worker<F>, AllocError>
+        requires posed { IsPosedTask team.now.task.now }
+        requires picks { PicksNodes (task_of team.now.task.now) F.fits }
+        requires no_cycle { HasNoCycle team.now.task.now.net.now team.now.task.now.rows.now }
+        requires own { IsOwnCost (task_of team.now.task.now) team.now.own }
+        requires new { IsNewWorker team.now.own team.now.word.now.id team.now.start self }
+        ensures { IfOk result (IsDone (task_of team.now.task.now) team.now.own team.now.word.now.id team.now.start F.fits
+            team.now.thieves.now.items self) }
+    {
+        let mut worker = self;
+        let tallies = tallies_of(team.task.alloc, team.thieves.as_slice())?;
+        worker.tallies = tallies;
+        let mut evaluator = evaluator_at_base(team.task)?;
+        match worker.work_on(rt, team, &mut evaluator, gate) {
+            Ok(done) => Ok(done),
+            Err(fault) => Err(fault),
+        }
+    }
+}
