@@ -43,6 +43,11 @@ batch_one words a b p q =
     let same = given_one batch_option words p.value q.value p.given q.given in
     number_or_one q.value _ _ _ a b (subst (λ (v : Option (List ℕ)). IsNumberOr v _ _ _ a) same p.is) q.is
 
+workers_one : (words : List (List ℕ)) (a b : ℕ) → HasWorkers words a → HasWorkers words b → a ≡ b
+workers_one words a b p q =
+    let same = given_one workers_option words p.value q.value p.given q.given in
+    number_or_one q.value _ _ _ a b (subst (λ (v : Option (List ℕ)). IsNumberOr v _ _ _ a) same p.is) q.is
+
 stops_one : (given : Option (List ℕ)) (a b : List ℕ) → AreBoards given a → AreBoards given b → a ≡ b
 stops_one None a b p q = p ∙ sym q
 stops_one (Some text) a b p q = spell_one _ a b p.spelled q.spelled
@@ -86,19 +91,20 @@ files_one words x y folder p q =
     (given_one event_delays_option words x.event_delays y.event_delays p.gives_event_delays q.gives_event_delays)
     (given_one activity_delays_option words x.activity_delays y.activity_delays p.gives_activity_delays q.gives_activity_delays)
 
-run_is : (x y : RunAsked) → x.files ≡ y.files → x.feeds ≡ y.feeds → x.batch ≡ y.batch → x.boards ≡ y.boards → x ≡ y
-run_is x y files feeds batch boards =
+run_is : (x y : RunAsked) → x.files ≡ y.files → x.feeds ≡ y.feeds → x.batch ≡ y.batch → x.workers ≡ y.workers → x.boards ≡ y.boards → x ≡ y
+run_is x y files feeds batch workers boards =
     ap (λ v. record x { files = v }) files
     ∙ (ap (λ v. record x { files = y.files; feeds = v }) feeds
     ∙ (ap (λ v. record x { files = y.files; feeds = y.feeds; batch = v }) batch
-    ∙ ap (λ v. record y { boards = v }) boards))
+    ∙ (ap (λ v. record y { boards = x.boards; workers = v }) workers
+    ∙ ap (λ v. record y { boards = v }) boards)))
 
 run_one : (words : List (List ℕ)) (x y : RunAsked) → AsksRun words x → AsksRun words y → x ≡ y
 run_one words x y p q =
     let names = sym p.names ∙ q.names in
     run_is x y (files_one words x.files y.files (first_name x.files.folder y.files.folder x.feeds y.feeds names) p.files q.files)
     (later_names x.files.folder y.files.folder x.feeds y.feeds names) (batch_one words x.batch y.batch p.batch q.batch)
-    (boards_one words x.boards y.boards p.boards q.boards)
+    (workers_one words x.workers y.workers p.workers q.workers) (boards_one words x.boards y.boards p.boards q.boards)
 
 check_is : (x y : CheckAsked) → x.files ≡ y.files → x.text ≡ y.text → x ≡ y
 check_is x y files text = ap (λ v. record x { files = v }) files ∙ ap (λ v. record y { text = v }) text
@@ -199,11 +205,6 @@ window_one names words x y p q =
     (to_is.is ∙ sym q.is_to.is)
     (number_one q.budget _ _ x.budget y.budget (subst (λ (t : List ℕ). IsNumber t _ _ x.budget) budget p.is_budget) q.is_budget)
     (entry_one words x.at y.at p.at q.at)
-
-workers_one : (words : List (List ℕ)) (a b : ℕ) → HasWorkers words a → HasWorkers words b → a ≡ b
-workers_one words a b p q =
-    let same = given_one workers_option words p.value q.value p.given q.given in
-    number_or_one q.value _ _ _ a b (subst (λ (v : Option (List ℕ)). IsNumberOr v _ _ _ a) same p.is) q.is
 
 -- no number is spelled by a letter
 no_number : (word : List ℕ) (least most n letter : ℕ) (letters : List ℕ) → word ≡ letter ∷ letters → 57 < letter → IsNumber word least most n → ⊥

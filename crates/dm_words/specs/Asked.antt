@@ -31,6 +31,7 @@ run_of words =
       files = files_of words.files;
       feeds = names_in words.feeds;
       batch = words.batch;
+      workers = words.workers;
       boards = words.boards;
     }
 

@@ -47,7 +47,7 @@ file_options =
 
 -- the options of a command
 abbrev pub options_of : Kind → List (List ℕ)
-options_of Run = batch_option ∷ boards_option ∷ file_options
+options_of Run = batch_option ∷ workers_option ∷ boards_option ∷ file_options
 options_of Check = file_options
 options_of Gen = penalty_option ∷ []
 options_of (Query Follow) = file_options

@@ -1,7 +1,7 @@
 -- What words may ask of the journal of a text: `follow DIR TEXT`, `window DIR TEXT FROM TO BUDGET`,
 -- `rules DIR TEXT RULE BUDGET` or `journey DIR TEXT FROM TO AFTER`.
 use Rattle.std.specs.Prelude.{ℕ, ◌≡◌, List, [], ◌∷◌, Option, Some, None, codes}
-use Rattle.dm_base.specs.declared.limits.TheConstants.{BUDGET, PASSED_TIME, TIME}
+use Rattle.dm_base.specs.declared.limits.TheConstants.{BUDGET, PASSED_TIME, TIME, WORKERS}
 use Rattle.dm_words.specs.Options.{GivesOption, at_option, changes_option, workers_option}
 use Rattle.dm_words.specs.Values.{IsNumber, IsNumberOr}
 use Rattle.dm_words.specs.declared.options.QueryKind.{QueryKind}
@@ -13,7 +13,7 @@ use Rattle.dm_words.specs.declared.queries.RulesWords.{RulesWords}
 use Rattle.dm_words.specs.declared.queries.RuleWord.{RuleWord}
 use Rattle.dm_words.specs.declared.queries.RuleWord.TheVariants.{Never, Always, AtMost}
 use Rattle.dm_words.specs.declared.queries.Query.TheVariants.{Follow, Window, Rules, Journey}
-use Rattle.dm_words.specs.declared.queries.TheConstants.{CHANGES, LARGEST_ENTRY, LARGEST_STOP, LONGEST_WAIT, STANDARD_CHANGES, STANDARD_WORKERS, WORKERS}
+use Rattle.dm_words.specs.declared.queries.TheConstants.{CHANGES, LARGEST_ENTRY, LARGEST_STOP, LONGEST_WAIT, STANDARD_CHANGES, STANDARD_WORKERS}
 
 abbrev pub kind_of : Query → QueryKind
 kind_of Follow = kind.Follow

@@ -7,7 +7,7 @@ use Rattle.dm_lintim.specs.Columns.{FileColumns, ReadsFileColumns}
 use Rattle.dm_words.specs.Options.{GivesOption, activity_columns_option, activity_delays_option, batch_option, boards_option, event_columns_option, event_delays_option, is_name, is_option, options_of, penalty_option}
 use Rattle.dm_words.specs.Stops.{AreBoards}
 use Rattle.dm_words.specs.Values.{IsNumber, IsNumberOr}
-use Rattle.dm_words.specs.Queries.{AsksOwn, kind_of, word_of}
+use Rattle.dm_words.specs.Queries.{AsksOwn, HasWorkers, kind_of, word_of}
 use Rattle.dm_words.specs.declared.files.TheConstants.{STANDARD_PENALTY}
 use Rattle.dm_words.specs.declared.command.TheConstants.{BATCH, STANDARD_BATCH, TRAINS, LARGEST_NUMBER}
 use Rattle.dm_words.specs.declared.options.Kind.{Kind}
@@ -22,11 +22,13 @@ pub record FilesAsked : Type 0 where
   pub event_delays : Option (List ℕ)
   pub activity_delays : Option (List ℕ)
 
--- a run over these files: its feeds, how many lines of each are answered in a round, and the stops of its boards
+-- a run over these files: its feeds, how many lines of each are answered in a round, how many workers search for a plan, and the
+-- stops of its boards
 pub record RunAsked : Type 0 where
   pub files : FilesAsked
   pub feeds : List (List ℕ)
   pub batch : ℕ
+  pub workers : ℕ
   pub boards : List ℕ
 
 -- the check of a text against these files
@@ -107,6 +109,7 @@ pub record AsksRun (words : List (List ℕ)) (asked : RunAsked) : Type 0 where
   pub few_feeds : length asked.feeds ≤ FEEDS
   pub files : AsksFiles words asked.files
   pub batch : IsBatch words asked.batch
+  pub workers : HasWorkers words asked.workers
   pub boards : HasBoards words asked.boards
 
 -- What the words behind `check` ask for: the names are a folder and a text.

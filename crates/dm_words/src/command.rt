@@ -7,7 +7,7 @@ use crate::files::{FileWords, number_of, number_or, penalty_of, read_files};
 use crate::options::{
     BATCH_OPTION, BOARDS_OPTION, Kind, Names, are_known, count_names, given, next_name, two_names,
 };
-use crate::queries::{QueryWords, kind_of_word, read_query};
+use crate::queries::{QueryWords, kind_of_word, read_query, workers_of};
 use crate::stops::{Stops, boards_of};
 use dm_base::limits::FEEDS;
 
@@ -32,6 +32,9 @@ pub struct RunWords<'a> {
 
     /// How many lines of each feed are answered in a round, from 1 to 1,000,000.
     pub batch: u64,
+
+    /// How many workers search for a plan, from 1 to 16.
+    pub workers: u32,
 
     /// The stops of the boards.
     pub boards: Stops,
@@ -109,6 +112,9 @@ fn read_run(words: &[String]) -> Option<RunWords<'_>>
     let Some(batch) = batch_of(words) else {
         return None;
     };
+    let Some(workers) = workers_of(words) else {
+        return None;
+    };
     let Some(boards) = stops_of(words) else {
         return None;
     };
@@ -116,6 +122,7 @@ fn read_run(words: &[String]) -> Option<RunWords<'_>>
         files,
         feeds: Names { words: rest },
         batch,
+        workers: workers as u32,
         boards,
     })
 }

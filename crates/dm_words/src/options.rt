@@ -78,6 +78,7 @@ fn is_option(kind: Kind, word: &str) -> bool
     match kind {
         Kind::Run => {
             behind(BATCH_OPTION, word).is_some()
+                || behind(WORKERS_OPTION, word).is_some()
                 || behind(BOARDS_OPTION, word).is_some()
                 || is_file_option(word)
         }

@@ -10,7 +10,7 @@ use crate::options::{
     AT_OPTION, CHANGES_OPTION, Kind, QueryKind, WORKERS_OPTION, are_known, given, next_name,
     three_names, two_names,
 };
-use dm_base::limits::{BUDGET, PASSED_TIME, TIME};
+use dm_base::limits::{BUDGET, PASSED_TIME, TIME, WORKERS};
 
 /// The most changes of a journey, and how many where the words do not say it.
 pub const CHANGES: u64 = 8;
@@ -26,9 +26,7 @@ pub const LARGEST_STOP: u64 = 4_294_967_295;
 /// The longest wait of a rule, in seconds.
 pub const LONGEST_WAIT: u64 = 1_000_000;
 
-/// The most workers, and how many where the words do not say it.
-pub const WORKERS: u64 = 16;
-
+/// How many workers search where the words do not say it.
 pub const STANDARD_WORKERS: u64 = 1;
 
 /// How long the heads of changes wait.
@@ -144,14 +142,14 @@ fn rule_of(word: &str) -> Option<RuleWord>
 }
 
 /// How many workers search.
-fn workers_of(words: &[String]) -> Option<u64>
+pub fn workers_of(words: &[String]) -> Option<u64>
     ensures { MatchOption result ((n : ℕ) → HasWorkers (map string_bytes words.now) n → ⊥)
         (λ n. HasWorkers (map string_bytes words.now) n) }
 {
     let Some(workers) = given(WORKERS_OPTION, words) else {
         return None;
     };
-    number_or(workers, 1, WORKERS, STANDARD_WORKERS)
+    number_or(workers, 1, WORKERS as u64, STANDARD_WORKERS)
 }
 
 /// The rule and the plan that the names behind a text, and the options among the words, ask for.

@@ -11,5 +11,8 @@ returns-in_default-read_files c = λ asked asks.
 pub returns-in_default-batch_of : goal.returns-in_default-batch_of
 returns-in_default-batch_of c = λ asked asks. c.in_default-batch_of.ensures _ asks.batch
 
+pub returns-in_default-workers_of : goal.returns-in_default-workers_of
+returns-in_default-workers_of c = λ asked asks. c.in_default-workers_of.ensures _ asks.workers
+
 pub returns-in_default-stops_of : goal.returns-in_default-stops_of
 returns-in_default-stops_of c = λ asked asks. c.in_default-stops_of.ensures _ asks.boards
