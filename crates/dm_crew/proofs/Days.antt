@@ -1,11 +1,17 @@
 -- How a round's passes come to the table of a closed server.
 use Rattle.std.proofs.Common.{◌≡◌, ◌≢◌, ℕ, zero, suc, ◌==◌, ◌+◌, ◌<◌, ◌≤◌, inl, inr, Bool, true, false, cond, List, [], ◌∷◌, ◌++◌, length, Option, Some, refl, sym, ap, subst, ◌∙◌, arith, zero-add}
+use Rattle.std.specs.Borrow.{Bor}
+use Rattle.std.specs.Prelude.{Result}
+use Rattle.std.specs.declared.alloc.AllocError.{AllocError}
 use Rattle.std.proofs.lemmas.Bool.{cases_eq, eq-eqb, ne_eqb, cases_lt}
 use Rattle.std.proofs.lemmas.List.FromFn.{map-range_with_len_more}
 use Rattle.std.proofs.lemmas.List.Sums.{sum_by-append, sum_by-cons}
 use Rattle.dm_network.specs.Net.{Net}
 use Rattle.dm_rows.specs.Rows.{RowsValue}
 use Rattle.dm_rows.specs.History.{IsLegal}
+use Rattle.dm_rows.specs.declared.rows.Snapshot.{Snapshot}
+use Rattle.dm_tree.specs.declared.plans.Plan.{Plan}
+use Rattle.dm_desk.specs.Planning.{PlansUnder}
 use Rattle.std.proofs.lemmas.Option.{slice_get_within}
 use Rattle.dm_crew.specs.Inside.Seats.{base_in}
 use Rattle.dm_rows.specs.declared.messages.Entry.{Entry}
@@ -20,6 +26,13 @@ use Rattle.dm_turn.specs.declared.view.Numbered.{Numbered}
 use Rattle.dm_turn.specs.Passes.{PassValue, AreAllAbove, times as times_of}
 use Rattle.dm_crew.specs.Passes.{setting_of, numbers_in, desk_of, IsSamePass}
 use Rattle.dm_crew.specs.AtOnce.{numbers_to, day_desk, AnswersDay}
+
+-- ---- what a planner plans for
+
+-- a planner for one base is one for another that is the same
+pub plans_at : (pre : Bor Snapshot → ℕ → Type 0) (post : Bor Snapshot → ℕ → Result Plan AllocError → Type 0) (base other : Base) → other ≡ base →
+    PlansUnder pre post (setting_of base) → PlansUnder pre post (setting_of other)
+plans_at pre post base other is plans = subst (λ (b : Base). PlansUnder pre post (setting_of b)) (sym is) plans
 
 -- ---- the numbers up to one
 

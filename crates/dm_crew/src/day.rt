@@ -15,14 +15,15 @@ use crate::desk::Seat;
 use crate::display::Display;
 use crate::rounds::answer_feeds;
 use dm_cert::FeedLog;
-use dm_desk::{Hold, Planner};
+use dm_desk::Hold;
 use dm_network::Network;
 use dm_outside::{Board, Source};
 use dm_publish::Publisher;
-use dm_rows::Rows;
+use dm_rows::{Rows, Snapshot};
 use dm_server::{Kept, Server};
 use dm_settle::NoTimes;
 use dm_table::Table;
+use dm_tree::Plan;
 use dm_turn::Pass;
 use std::alloc::{AllocError, Global};
 use std::marker::Brand;
@@ -45,7 +46,7 @@ pub fn answer_at_once<
     'n,
     R: Threads + Wait + Sync,
     S: Source + Send + Drop,
-    L: Planner + Sync,
+    L: Fn(&Snapshot, u64) -> Result<Plan, AllocError> + Sync,
     H: Hold + Sync,
 >(
     rt: &R,
@@ -62,7 +63,7 @@ pub fn answer_at_once<
     requires sized { IsSized net.now rows }
     requires no_cycle { HasNoCycle net.now rows }
     requires penalty { penalty ≤ PENALTY }
-    requires plans { PlansUnder (L.value planner.now) (day_desk net.now rows penalty).setting }
+    requires plans { PlansUnder (L.pre planner.now) (L.post planner.now) (day_desk net.now rows penalty).setting }
     requires few { length feeds.items ≤ FEEDS }
     requires some { 0 < batch }
     requires few_boards { vec_len boards.old ≤ BOARDS }
@@ -87,7 +88,7 @@ fn answer_over<
     P: Seat + Send + Sync,
     R: Threads + Wait + Sync,
     S: Source + Send + Drop,
-    L: Planner + Sync,
+    L: Fn(&Snapshot, u64) -> Result<Plan, AllocError> + Sync,
     H: Hold + Sync,
 >(
     rt: &R,
@@ -102,7 +103,7 @@ fn answer_over<
     boards: &mut Vec<Box<dyn Board>>,
 ) -> Result<AnsweredDay<'n>, AllocError>
     requires pass { main ≡ first_pass server.id P.base server.seats }
-    requires plans { PlansUnder (L.value planner.now) (setting_of P.base) }
+    requires plans { PlansUnder (L.pre planner.now) (L.post planner.now) (setting_of P.base) }
     requires few { length feeds.items ≤ FEEDS }
     requires rooms { length feeds.items < server.seats }
     requires some { 0 < batch }

@@ -16,10 +16,12 @@ use crate::desk::Seat;
 use crate::display::Display;
 use crate::work::{Work, work_all};
 use dm_cert::FeedLog;
-use dm_desk::{Hold, Planner};
+use dm_desk::Hold;
 use dm_outside::{Board, Source};
 use dm_rounds::{Job, begin, have_ended, logs_of};
+use dm_rows::Snapshot;
 use dm_server::{Kept, Server};
+use dm_tree::Plan;
 use dm_turn::Pass;
 use std::alloc::{AllocError, Global};
 use std::sync::Wait;
@@ -33,7 +35,7 @@ pub fn answer_feeds<
     P: Seat + Send + Sync,
     R: Threads + Wait + Sync,
     S: Source + Send + Drop,
-    L: Planner + Sync,
+    L: Fn(&Snapshot, u64) -> Result<Plan, AllocError> + Sync,
     H: Hold + Sync,
 >(
     rt: &R,
@@ -51,7 +53,7 @@ pub fn answer_feeds<
     requires idle { main.old.holds ≡ false }
     requires base { main.old.base ≡ Some P.base }
     requires legal { HasSeenLegal (desk_of P.base main.old) }
-    requires plans { PlansUnder (L.value planner.now) (setting_of P.base) }
+    requires plans { PlansUnder (L.pre planner.now) (L.post planner.now) (setting_of P.base) }
     requires few { length feeds.items ≤ FEEDS }
     requires rooms { length feeds.items < main.old.room }
     requires some { 0 < batch }
@@ -83,7 +85,7 @@ fn answer_round<
     P: Seat + Send + Sync,
     R: Threads + Wait + Sync,
     S: Source + Send + Drop,
-    L: Planner + Sync,
+    L: Fn(&Snapshot, u64) -> Result<Plan, AllocError> + Sync,
     H: Hold + Sync,
 >(
     rt: &R,
@@ -99,7 +101,7 @@ fn answer_round<
     requires idle { main.old.holds ≡ false }
     requires base { main.old.base ≡ Some P.base }
     requires legal { HasSeenLegal (desk_of P.base main.old) }
-    requires plans { PlansUnder (L.value planner.now) (setting_of P.base) }
+    requires plans { PlansUnder (L.pre planner.now) (L.post planner.now) (setting_of P.base) }
     requires can_read { CanReadAll (map (λ b. b.value) jobs.items) }
     requires are_true { AllAreTrue (desk_of P.base main.old) (map (λ b. b.value) jobs.items) }
     requires few { vec_len jobs ≤ FEEDS }

@@ -6,10 +6,12 @@ ghost use Rattle.dm_crew.specs.Passes.{setting_of, desk_of};
 ghost use Rattle.dm_crew.specs.Inside.Works.{IsReady, IsWorked, AreWorkedEach, is_read};
 
 use crate::desk::{Seat, ServerDesk};
-use dm_desk::{Hold, Planner};
+use dm_desk::Hold;
 use dm_outside::Source;
 use dm_rounds::{Job, Progress, answer_job};
+use dm_rows::Snapshot;
 use dm_server::{Kept, Server};
+use dm_tree::Plan;
 use dm_turn::Pass;
 use std::alloc::{AllocError, Global};
 use std::marker::{Brand, PhantomData};
@@ -31,7 +33,7 @@ pub struct Work<'n, S> {
 
 impl<'n, S: Source + Drop> Work<'n, S> {
     /// Answers the feed's next lines over its pass, and leaves the server to the others.
-    pub fn worked<P: Seat, R: Wait, L: Planner, H: Hold>(
+    pub fn worked<P: Seat, R: Wait, L: Fn(&Snapshot, u64) -> Result<Plan, AllocError>, H: Hold>(
         self,
         rt: &R,
         server: &Server<'n>,
@@ -40,7 +42,7 @@ impl<'n, S: Source + Drop> Work<'n, S> {
         batch: u32,
     ) -> Work<'n, S>
         requires ready { IsReady server.now.id P.base self.feed self.pass self.job.value }
-        requires plans { PlansUnder (L.value planner.now) (setting_of P.base) }
+        requires plans { PlansUnder (L.pre planner.now) (L.post planner.now) (setting_of P.base) }
         ensures feed { result.feed ≡ self.entry.feed }
         ensures worked { IsWorked S.left S.is_sound P.base batch self.entry.feed self.entry.pass self.entry.job.value result.pass
             result.job.value result.answer }
@@ -65,7 +67,14 @@ impl<'n, S: Source + Drop> Work<'n, S> {
 }
 
 // Answers the next lines of a feed over the pass that is picked.
-fn answer_seated<'n, P: Seat, R: Wait, S: Source + Drop, L: Planner, H: Hold>(
+fn answer_seated<
+    'n,
+    P: Seat,
+    R: Wait,
+    S: Source + Drop,
+    L: Fn(&Snapshot, u64) -> Result<Plan, AllocError>,
+    H: Hold,
+>(
     rt: &R,
     server: &Server<'n>,
     pass: Pass<Kept<'n>>,
@@ -77,7 +86,7 @@ fn answer_seated<'n, P: Seat, R: Wait, S: Source + Drop, L: Planner, H: Hold>(
 ) -> (Pass<Kept<'n>>, Result<(), AllocError>)
     requires pass { pass ≡ P.pass }
     requires ready { IsReady server.now.id P.base feed pass job.old }
-    requires plans { PlansUnder (L.value planner.now) (setting_of P.base) }
+    requires plans { PlansUnder (L.pre planner.now) (L.post planner.now) (setting_of P.base) }
     ensures { IsWorked S.left S.is_sound P.base batch feed pass.entry job.old result.0 job.new result.1 }
 {
     let mut desk: ServerDesk<'_, '_, 'n, R, P> = ServerDesk {
@@ -97,7 +106,7 @@ pub fn work_all<
     P: Seat + Send + Sync,
     R: Threads + Wait + Sync,
     S: Source + Send + Drop,
-    L: Planner + Sync,
+    L: Fn(&Snapshot, u64) -> Result<Plan, AllocError> + Sync,
     H: Hold + Sync,
 >(
     rt: &R,
@@ -109,7 +118,7 @@ pub fn work_all<
     batch: u32,
 ) -> Result<Vec<Work<'n, S>>, AllocError>
     requires ready { All (λ w. IsReady server.now.id P.base w.feed w.pass w.job.value) works.items }
-    requires plans { PlansUnder (L.value planner.now) (setting_of P.base) }
+    requires plans { PlansUnder (L.pre planner.now) (L.post planner.now) (setting_of P.base) }
     ensures len { IfOk result (λ after. vec_len after ≡ vec_len works.entry) }
     ensures each { IfOk result (λ after. AreWorkedEach S.left S.is_sound P.base batch works.entry.items after.items) }
 {
@@ -124,7 +133,14 @@ pub fn work_all<
 }
 
 /// Answers the next lines of feeds, one after another.
-fn work_in_turn<'n, P: Seat, R: Wait, S: Source + Drop, L: Planner, H: Hold>(
+fn work_in_turn<
+    'n,
+    P: Seat,
+    R: Wait,
+    S: Source + Drop,
+    L: Fn(&Snapshot, u64) -> Result<Plan, AllocError>,
+    H: Hold,
+>(
     rt: &R,
     alloc: Global,
     server: &Server<'n>,
@@ -134,7 +150,7 @@ fn work_in_turn<'n, P: Seat, R: Wait, S: Source + Drop, L: Planner, H: Hold>(
     batch: u32,
 ) -> Result<Vec<Work<'n, S>>, AllocError>
     requires ready { All (λ w. IsReady server.now.id P.base w.feed w.pass w.job.value) works.items }
-    requires plans { PlansUnder (L.value planner.now) (setting_of P.base) }
+    requires plans { PlansUnder (L.pre planner.now) (L.post planner.now) (setting_of P.base) }
     ensures len { IfOk result (λ after. vec_len after ≡ vec_len works.entry) }
     ensures each { IfOk result (λ after. AreWorkedEach S.left S.is_sound P.base batch works.entry.items after.items) }
 {

@@ -1,10 +1,13 @@
 -- What the plans among the items of a feed are, and what asking for one and adopting one comes to.
 use Rattle.std.proofs.Common.{◌≡◌, ℕ, ◌+◌, ◌≤◌, cond, List, [], ◌∷◌, ◌++◌, Option, None, IfSome, refl, sym, ap, subst, arith, fold}
-use Rattle.std.specs.Prelude.{count_by}
+use Rattle.std.specs.Borrow.{Bor}
+use Rattle.std.specs.Prelude.{count_by, Result}
+use Rattle.std.specs.declared.alloc.AllocError.{AllocError}
 use Rattle.std.proofs.lemmas.List.Sums.{sum_by-cons, sum_by_push}
 use Rattle.dm_base.specs.declared.limits.TheConstants.{PLANS}
 use Rattle.dm_feed.specs.declared.grammar.Line.{Line}
 use Rattle.dm_feed.specs.declared.grammar.Line.TheVariants as line
+use Rattle.dm_rows.specs.declared.rows.Snapshot.{Snapshot}
 use Rattle.dm_tree.specs.declared.plans.Plan.{Plan}
 use Rattle.dm_cert.specs.declared.replies.LogItem.{LogItem}
 use Rattle.dm_cert.specs.declared.replies.LogItem.TheVariants.{Malformed, Answered}
@@ -12,7 +15,7 @@ use Rattle.dm_cert.specs.declared.replies.Reply.TheVariants as reply
 use Rattle.dm_cert.specs.Answers.{is_plan, plan_after, IsTrueReply, IsTrueAnswer}
 use Rattle.dm_cert.specs.Logs.{AreTrueAnswers}
 use Rattle.dm_desk.specs.Desks.{DeskValue, GoesOn, IsTrueOf}
-use Rattle.dm_desk.specs.Planning.{PlannerValue, PlansUnder}
+use Rattle.dm_desk.specs.Planning.{PlansUnder}
 use Rattle.dm_desk.specs.Answered.{AreTrueOf}
 use Rattle.dm_desk.specs.Inside.Replies.{HasPlans}
 
@@ -69,5 +72,6 @@ module _ (desk : DeskValue) (feed : ℕ) where
 
 -- ---- asking for a plan
 
-pub still_plans : (planner : PlannerValue) (before now : DeskValue) → GoesOn before now → PlansUnder planner before.setting → PlansUnder planner now.setting
-still_plans planner before now on p = subst (PlansUnder planner) (sym on.setting) p
+pub still_plans : (pre : Bor Snapshot → ℕ → Type 0) (post : Bor Snapshot → ℕ → Result Plan AllocError → Type 0) (before now : DeskValue) →
+    GoesOn before now → PlansUnder pre post before.setting → PlansUnder pre post now.setting
+still_plans pre post before now on p = subst (PlansUnder pre post) (sym on.setting) p

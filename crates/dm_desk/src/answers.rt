@@ -9,15 +9,15 @@ ghost use Rattle.dm_desk.specs.Inside.Replies.{IsDueHeard, HasPlans, Replies, An
 
 use crate::asked::{adopt, plan};
 use crate::desk::Desk;
-use crate::planner::Planner;
 use dm_base::EventId;
 use dm_cert::{LogItem, Reply};
 use dm_feed::{Heard, Line};
-use dm_rows::{At, Entry, Message, Refusal};
+use dm_rows::{At, Entry, Message, Refusal, Snapshot};
+use dm_tree::Plan;
 use std::alloc::AllocError;
 
 /// Answers a due line of a feed, which was answered these items before.
-pub fn answer<D: Desk, P: Planner>(
+pub fn answer<D: Desk, P: Fn(&Snapshot, u64) -> Result<Plan, AllocError>>(
     desk: &mut D,
     planner: &P,
     feed: u32,
@@ -26,7 +26,7 @@ pub fn answer<D: Desk, P: Planner>(
     heard: Heard,
 ) -> Result<LogItem, AllocError>
     requires legal { HasSeenLegal (D.value desk.old) }
-    requires plans { PlansUnder (P.value planner.now) (D.value desk.old).setting }
+    requires plans { PlansUnder (P.pre planner.now) (P.post planner.now) (D.value desk.old).setting }
     requires are_true { AreTrueOf (D.value desk.old) feed items.now }
     requires due { IsDueHeard heard }
     ensures { IfOk result (AnswersLine (D.value desk.old) (D.value desk.new) feed line items.now heard) }
@@ -39,7 +39,7 @@ pub fn answer<D: Desk, P: Planner>(
 }
 
 // The reply to what a line says.
-fn reply_to<D: Desk, P: Planner>(
+fn reply_to<D: Desk, P: Fn(&Snapshot, u64) -> Result<Plan, AllocError>>(
     desk: &mut D,
     planner: &P,
     feed: u32,
@@ -48,7 +48,7 @@ fn reply_to<D: Desk, P: Planner>(
     said: &Line,
 ) -> Result<Reply, AllocError>
     requires legal { HasSeenLegal (D.value desk.old) }
-    requires plans { PlansUnder (P.value planner.now) (D.value desk.old).setting }
+    requires plans { PlansUnder (P.pre planner.now) (P.post planner.now) (D.value desk.old).setting }
     requires had { HasPlans (D.value desk.old) items.now }
     requires spelled { IsSpelledLine said.now }
     ensures { IfOk result (Replies (D.value desk.old) (D.value desk.new) feed line items.now said.now) }

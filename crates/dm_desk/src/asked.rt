@@ -8,23 +8,22 @@ ghost use Rattle.dm_desk.specs.Planning.{PlansUnder};
 ghost use Rattle.dm_desk.specs.Inside.Replies.{HasPlans, Replies, IsPresentPlan};
 
 use crate::desk::Desk;
-use crate::planner::Planner;
 use crate::plans::{count_plans, last_plan};
 use dm_base::limits::{BUDGET, ENTRIES, PLANS};
 use dm_cert::{LogItem, Reply};
-use dm_rows::{At, Refusal};
+use dm_rows::{At, Refusal, Snapshot};
 use dm_tree::{AdoptRefusal, Plan};
 use std::alloc::AllocError;
 
 /// A plan, unless the number of nodes is out of range or the feed has had all its plans.
-pub fn plan<D: Desk, P: Planner>(
+pub fn plan<D: Desk, P: Fn(&Snapshot, u64) -> Result<Plan, AllocError>>(
     desk: &mut D,
     planner: &P,
     items: &[LogItem],
     budget: u64,
 ) -> Result<Reply, AllocError>
     requires legal { HasSeenLegal (D.value desk.old) }
-    requires plans { PlansUnder (P.value planner.now) (D.value desk.old).setting }
+    requires plans { PlansUnder (P.pre planner.now) (P.post planner.now) (D.value desk.old).setting }
     requires had { HasPlans (D.value desk.old) items.now }
     ensures { IfOk result (λ reply. (feed line : ℕ)
         → Replies (D.value desk.old) (D.value desk.new) feed line items.now (said.Plan budget) reply) }
@@ -40,18 +39,18 @@ pub fn plan<D: Desk, P: Planner>(
 }
 
 // A plan of the rows after all that the desk then sees.
-fn present_plan<D: Desk, P: Planner>(
+fn present_plan<D: Desk, P: Fn(&Snapshot, u64) -> Result<Plan, AllocError>>(
     desk: &mut D,
     planner: &P,
     budget: u64,
 ) -> Result<Plan, AllocError>
-    requires plans { PlansUnder (P.value planner.now) (D.value desk.old).setting }
+    requires plans { PlansUnder (P.pre planner.now) (P.post planner.now) (D.value desk.old).setting }
     requires some { 1 ≤ budget }
     requires few { budget ≤ BUDGET }
     ensures { IfOk result (IsPresentPlan (D.value desk.old) (D.value desk.new) budget) }
 {
     let snapshot = desk.snapshot()?;
-    planner.plan(&snapshot, budget)
+    planner(&snapshot, budget)
 }
 
 /// Adopts the latest plan of a feed, where it has had one.

@@ -7,16 +7,17 @@ ghost use Rattle.dm_desk.specs.Planning.{PlansUnder};
 use crate::answers::answer;
 use crate::desk::Desk;
 use crate::hold::Hold;
-use crate::planner::Planner;
 use dm_cert::LogItem;
 use dm_feed::{FeedStop, LineReader, Next};
 use dm_outside::Source;
+use dm_rows::Snapshot;
+use dm_tree::Plan;
 use std::alloc::AllocError;
 
 /// Answers the next due lines of a feed, so many of them or all that are left, and keeps what was answered behind its log,
 /// which is true of what the desk has seen. Where no line is left it answers why. Want of memory leaves the desk and the log at
 /// any point.
-pub fn answer_batch<S: Source, D: Desk, P: Planner, H: Hold>(
+pub fn answer_batch<S: Source, D: Desk, P: Fn(&Snapshot, u64) -> Result<Plan, AllocError>, H: Hold>(
     reader: &mut LineReader<S>,
     desk: &mut D,
     planner: &P,
@@ -26,7 +27,7 @@ pub fn answer_batch<S: Source, D: Desk, P: Planner, H: Hold>(
     log: &mut Vec<LogItem>,
 ) -> Result<Option<FeedStop>, AllocError>
     requires legal { HasSeenLegal (D.value desk.old) }
-    requires plans { PlansUnder (P.value planner.now) (D.value desk.old).setting }
+    requires plans { PlansUnder (P.pre planner.now) (P.post planner.now) (D.value desk.old).setting }
     requires are_true { AreTrueOf (D.value desk.old) feed log.old.items }
     requires open_still { IsOpen reader.old }
     ensures answers { IfOk result (λ stop. AnswersBatch S.left S.is_sound reader.old reader.new (D.value desk.old) (D.value desk.new) feed
@@ -43,7 +44,7 @@ pub fn answer_batch<S: Source, D: Desk, P: Planner, H: Hold>(
 }
 
 // Answers the next due line.
-fn answer_next<S: Source, D: Desk, P: Planner, H: Hold>(
+fn answer_next<S: Source, D: Desk, P: Fn(&Snapshot, u64) -> Result<Plan, AllocError>, H: Hold>(
     reader: &mut LineReader<S>,
     desk: &mut D,
     planner: &P,
@@ -52,7 +53,7 @@ fn answer_next<S: Source, D: Desk, P: Planner, H: Hold>(
     log: &mut Vec<LogItem>,
 ) -> Result<Option<FeedStop>, AllocError>
     requires legal { HasSeenLegal (D.value desk.old) }
-    requires plans { PlansUnder (P.value planner.now) (D.value desk.old).setting }
+    requires plans { PlansUnder (P.pre planner.now) (P.post planner.now) (D.value desk.old).setting }
     requires are_true { AreTrueOf (D.value desk.old) feed log.old.items }
     requires open_still { IsOpen reader.old }
     ensures answers { IfOk result (λ stop. AnswersBatch S.left S.is_sound reader.old reader.new (D.value desk.old) (D.value desk.new) feed 1

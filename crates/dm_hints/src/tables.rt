@@ -69,7 +69,7 @@ pub const COMMANDS: [CommandTable; 7] = [
         form: "run DIR FEED..",
         least: 2,
         most: 65,
-        options: FILES + BATCH + BOARDS,
+        options: FILES + BATCH + WORKERS + BOARDS,
     },
     CommandTable {
         name: "check",
@@ -196,7 +196,7 @@ pub const OPTIONS: [OptionTable; 10] = [
         least: 1,
         most: 16,
         has_number: true,
-        meaning: "1 to 16; as yet one searches (1)",
+        meaning: "how many search for a plan, 1 to 16 (1)",
     },
     OptionTable {
         bit: AT,

@@ -1,18 +1,18 @@
 -- What the words of a run say of its numbers, and its start rows.
 use Rattle.std.proofs.Common.{◌≡◌, ℕ, ◌≤◌, List, [], ◌∷◌, Option, Some, None, Ok, sym, subst, arith}
-use Rattle.dm_base.specs.declared.limits.TheConstants.{PENALTY}
+use Rattle.dm_base.specs.declared.limits.TheConstants.{PENALTY, WORKERS}
 use Rattle.dm_input.specs.Input.{Told, Opening, OpeningAnswer, IsAnswer}
 use Rattle.dm_base.specs.declared.limits.TheConstants.{DELAY}
 use Rattle.dm_waitrule.specs.Rules.{KeepsWithin}
 use Rattle.dm_words.specs.declared.queries.RuleWord.{RuleWord}
 use Rattle.dm_words.specs.declared.queries.RuleWord.TheVariants.{Never, Always, AtMost}
 use Rattle.dm_program.specs.Ruled.{rule_named}
-use Rattle.dm_words.specs.Queries.{AsksOwn, IsRule}
+use Rattle.dm_words.specs.Queries.{AsksOwn, HasWorkers, IsRule}
 use Rattle.dm_words.specs.Values.{IsNumberOr}
 use Rattle.dm_words.specs.Words.{RunAsked, CheckAsked, GenAsked, QueryAsked, FilesAsked, Command, RunOf, CheckOf, GenOf, QueryOf, Asks}
 use Rattle.dm_words.specs.declared.queries.Query.{Query}
 use Rattle.dm_words.specs.declared.queries.Query.TheVariants.{Follow, Window, Rules, Journey}
-use Rattle.dm_words.specs.declared.queries.TheConstants.{CHANGES, STANDARD_CHANGES}
+use Rattle.dm_words.specs.declared.queries.TheConstants.{CHANGES, STANDARD_CHANGES, STANDARD_WORKERS}
 use Rattle.dm_words.specs.declared.command.TheConstants.{BATCH, STANDARD_BATCH}
 use Rattle.dm_words.specs.declared.files.TheConstants.{STANDARD_PENALTY}
 use Rattle.dm_network.specs.Net.{Net}
@@ -31,6 +31,10 @@ no_less : (given : Option (List ℕ)) (least most standard n : ℕ) → least �
 no_less None least most standard n low is = omega (arith, is)
 no_less (Some text) least most standard n low is = is.from
 
+workers_within : (words : List (List ℕ)) (workers : ℕ) → HasWorkers words workers → (1 ≤ workers) × (workers ≤ WORKERS)
+workers_within words workers has =
+    (no_less has.value 1 WORKERS STANDARD_WORKERS workers (omega arith) has.is, no_more has.value 1 WORKERS STANDARD_WORKERS workers (omega arith) has.is)
+
 pub asked_within : (words : List (List ℕ)) (asked : RunAsked) → Asks words (RunOf asked) → AreWithin asked
 asked_within [] asked asks = absurd asks
 asked_within (word ∷ words) asked asks =
@@ -42,6 +46,7 @@ asked_within (word ∷ words) asked asks =
       few_feeds = asks.1.few_feeds;
       some_lines = no_less batch.value 1 BATCH STANDARD_BATCH asked.batch (omega arith) batch.is;
       few_lines = let few = no_more batch.value 1 BATCH STANDARD_BATCH asked.batch (omega arith) batch.is in omega (arith, few);
+      workers = workers_within words asked.workers asks.1.workers;
     }
 
 pub check_within : (words : List (List ℕ)) (asked : CheckAsked) → Asks words (CheckOf asked) → asked.files.penalty ≤ PENALTY
@@ -69,7 +74,11 @@ limits_within : (query : Query) (names words : List (List ℕ)) → AsksOwn quer
 limits_within Follow names words asks = tt
 limits_within (Window window) names words asks = (asks.is_budget.from, asks.is_budget.to)
 limits_within (Rules rules) names words asks =
-    record { limit = rule_within asks.rule rules.rule asks.is_rule; budget = (asks.is_budget.from, asks.is_budget.to) }
+    record {
+      limit = rule_within asks.rule rules.rule asks.is_rule;
+      budget = (asks.is_budget.from, asks.is_budget.to);
+      workers = workers_within words rules.workers asks.workers;
+    }
 limits_within (Journey journey) names words asks = no_more asks.changes.value 0 CHANGES STANDARD_CHANGES journey.changes (omega arith) asks.changes.is
 
 pub query_within : (words : List (List ℕ)) (asked : QueryAsked) → Asks words (QueryOf asked) → IsQueryWithin asked

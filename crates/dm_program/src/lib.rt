@@ -1,6 +1,6 @@
 //! The top call: what the words of a command line ask for, from files and feeds to the text that is written.
 //!
-//! It stands on dm_words for words, on dm_input for files, on dm_crew for feeds that are answered at once in rounds, on dm_search
+//! It stands on dm_words for words, on dm_input for files, on dm_crew for feeds that are answered at once in rounds, on dm_workers
 //! for plans, on dm_report for the text, on dm_summary for generated days, on dm_check for texts that are checked, on dm_journal for
 //! the journals of texts, and on dm_journey for journeys. [`dispatch`] promises in `specs/Headline` what a run prints, in
 //! `specs/Generated` what a generated day does, in `specs/Checked` what is printed of a text that is checked, in `specs/Answers` what
@@ -65,7 +65,7 @@ mod feeds;
 mod follow;
 mod generate;
 mod journey;
-mod planner;
+mod means;
 mod print;
 mod queries;
 mod ruling;

@@ -12,9 +12,11 @@ ghost use Rattle.dm_program.specs.Inside.Stages.{IsAtStart, IsWithinLimits};
 use crate::ends::{end_broken, end_long_text, end_stopped, end_torn, end_unread_text};
 use crate::follow::end_state;
 use crate::journey::end_journeys;
+use crate::means::Means;
 use crate::ruling::end_rules;
 use crate::status::Status;
 use crate::window::end_window;
+use dm_desk::Hold;
 use dm_input::{Opened, read_opening};
 use dm_journal::{Journal, read_journal};
 use dm_network::Network;
@@ -22,13 +24,17 @@ use dm_outside::{Shelf, Sink, TakeFault};
 use dm_rows::Rows;
 use dm_words::{Query, QueryWords};
 use std::alloc::Global;
+use std::sync::Wait;
+use std::thread::Threads;
 
 /// Reads the files that the words name, and then the text, whose journal is followed over the network and from the rows that they
 /// make, and answers what is asked of it.
-pub fn answer_query<H: Shelf, K: Sink>(
+pub fn answer_query<R: Threads + Wait + Sync, H: Shelf, K: Sink, G: Hold + Sync>(
+    rt: &R,
     alloc: Global,
     words: &QueryWords<'_>,
     shelf: &mut H,
+    gate: &G,
     out: &mut K,
 ) -> Status
     requires penalty { (query_of words.now).files.penalty ≤ PENALTY }
@@ -42,12 +48,12 @@ pub fn answer_query<H: Shelf, K: Sink>(
         Err(stop) => return end_stopped(&words.files, &stop, out),
     };
     let Opened { net, rows } = opened;
-    ask_text(alloc, &net, rows, words, shelf, out)
+    ask_text(&Means { rt, alloc, gate }, &net, rows, words, shelf, out)
 }
 
 /// Reads a text and answers what the words ask of its journal, or says why that is not known.
-fn ask_text<H: Shelf, K: Sink>(
-    alloc: Global,
+fn ask_text<R: Threads + Wait + Sync, H: Shelf, K: Sink, G: Hold + Sync>(
+    means: &Means<'_, R, G>,
     net: &Network,
     rows: Rows,
     words: &QueryWords<'_>,
@@ -64,8 +70,9 @@ fn ask_text<H: Shelf, K: Sink>(
     ensures later { K.faults out.old ≤ K.faults out.new }
 {
     net.sound();
-    match read_journal(alloc, shelf, words.text, net, rows, words.files.penalty) {
-        Ok(journal) => answer_journal(alloc, &journal, words.query, out),
+    let penalty = words.files.penalty;
+    match read_journal(means.alloc, shelf, words.text, net, rows, penalty) {
+        Ok(journal) => answer_journal(means, &journal, words.query, out),
         Err(TakeFault::ReadFault) => end_unread_text(words.text, out),
         Err(TakeFault::TooLong) => end_long_text(words.text, out),
         Err(TakeFault::OutOfMemory) => Status::NoMemory,
@@ -73,8 +80,8 @@ fn ask_text<H: Shelf, K: Sink>(
 }
 
 /// Answers what is asked of a journal, or says which of its lines is bad.
-fn answer_journal<K: Sink>(
-    alloc: Global,
+fn answer_journal<R: Threads + Wait + Sync, K: Sink, G: Hold + Sync>(
+    means: &Means<'_, R, G>,
     journal: &Journal<'_>,
     query: Query,
     out: &mut K,
@@ -94,9 +101,9 @@ fn answer_journal<K: Sink>(
         },
         Journal::Whole(follower) => match query {
             Query::Follow => end_state(follower, out),
-            Query::Journey(asked) => end_journeys(alloc, follower.table(), asked, out),
-            Query::Rules(asked) => end_rules(alloc, follower.table(), asked, out),
-            Query::Window(asked) => end_window(alloc, follower.table(), asked, out),
+            Query::Journey(asked) => end_journeys(means.alloc, follower.table(), asked, out),
+            Query::Rules(asked) => end_rules(means, follower.table(), asked, out),
+            Query::Window(asked) => end_window(means.alloc, follower.table(), asked, out),
         },
     }
 }

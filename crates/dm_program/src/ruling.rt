@@ -7,17 +7,22 @@ ghost use Rattle.dm_program.specs.Ruled.{rule_named};
 ghost use Rattle.dm_program.specs.Inside.Asking.{EndsCompared};
 ghost use Rattle.dm_program.specs.Inside.Stages.{AreRulesWithin};
 
+use crate::means::Means;
 use crate::status::Status;
+use dm_desk::Hold;
 use dm_outside::{Sink, WriteFault};
 use dm_ruling::print_comparison;
 use dm_table::Table;
 use dm_waitrule::{Comparison, WaitRule, compare};
 use dm_words::{RuleWord, RulesWords};
-use std::alloc::{AllocError, Global};
+use dm_workers::search;
+use std::alloc::AllocError;
+use std::sync::Wait;
+use std::thread::Threads;
 
 /// Prints what a rule chooses after all entries, beside a plan.
-pub fn end_rules<K: Sink>(
-    alloc: Global,
+pub fn end_rules<R: Threads + Wait + Sync, K: Sink, G: Hold + Sync>(
+    means: &Means<'_, R, G>,
     table: &Table<'_>,
     asked: RulesWords,
     out: &mut K,
@@ -27,15 +32,15 @@ pub fn end_rules<K: Sink>(
     ensures later { K.faults out.old ≤ K.faults out.new }
 {
     table.sound();
-    match comparison_of(alloc, table, asked) {
+    match comparison_of(means, table, asked) {
         Ok(compared) => end_compared(rule_named(asked.rule), &compared, out),
         Err(AllocError) => Status::NoMemory,
     }
 }
 
 /// What a rule chooses after all entries, beside a plan.
-fn comparison_of(
-    alloc: Global,
+fn comparison_of<R: Threads + Wait + Sync, G: Hold + Sync>(
+    means: &Means<'_, R, G>,
     table: &Table<'_>,
     asked: RulesWords,
 ) -> Result<Comparison, AllocError>
@@ -43,15 +48,20 @@ fn comparison_of(
     ensures { IfOk result (Compares table.now.network table.now.rows table.now.penalty asked.budget (rule_named asked.rule)) }
 {
     table.sound();
+    let (net, penalty) = (table.network(), table.penalty());
     let snapshot = table.copy()?;
-    compare(
-        alloc,
-        table.network(),
-        table.penalty(),
+    let plan = search(
+        means.alloc,
+        means.rt,
+        net,
+        penalty,
         &snapshot,
-        rule_named(asked.rule),
         asked.budget,
-    )
+        asked.workers,
+        means.gate,
+    )?;
+    let rule = rule_named(asked.rule);
+    compare(means.alloc, net, penalty, &snapshot, rule, plan)
 }
 
 /// The rule of a word.

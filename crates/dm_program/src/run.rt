@@ -1,8 +1,11 @@
 //! A run, from its words to the text of its answered feeds.
 
 ghost use Rattle.std.specs.Prelude.{◌≡◌, ◌<◌, ◌≤◌, ℕ, List, length, map, vec_len, IfOk};
-ghost use Rattle.dm_base.specs.declared.limits.TheConstants.{BOARDS, FEEDS, PENALTY};
+ghost use Rattle.std.specs.Thread.{IsSync};
+ghost use Rattle.dm_base.specs.declared.limits.TheConstants.{BOARDS, BUDGET, FEEDS, PENALTY, WORKERS};
+ghost use Rattle.dm_rows.specs.Active.{HasNoCycle};
 ghost use Rattle.dm_rows.specs.Rows.{IsSized};
+ghost use Rattle.dm_tree.specs.Plans.{whole_task, IsTruePlan};
 ghost use Rattle.dm_crew.specs.AtOnce.{AnswersDay};
 ghost use Rattle.dm_crew.specs.Boards.{AreShown};
 ghost use Rattle.dm_input.specs.Stops.{IsKept};
@@ -14,7 +17,7 @@ ghost use Rattle.dm_program.specs.Inside.Stages.{AreWithin, IsAtStart};
 
 use crate::ends::end_stopped;
 use crate::feeds::{names_of, open_feeds};
-use crate::planner::OwnThread;
+use crate::means::Means;
 use crate::print::end_run;
 use crate::status::Status;
 use dm_crew::{AnsweredDay, answer_at_once};
@@ -22,8 +25,10 @@ use dm_desk::Hold;
 use dm_input::{Opened, read_opening};
 use dm_network::Network;
 use dm_outside::{Board, Shelf, Sink, Source};
-use dm_rows::Rows;
+use dm_rows::{Rows, Snapshot};
+use dm_tree::Plan;
 use dm_words::RunWords;
+use dm_workers::search;
 use std::alloc::{AllocError, Global};
 use std::sync::Wait;
 use std::thread::Threads;
@@ -60,14 +65,13 @@ pub fn run_feeds<R: Threads + Wait + Sync, H: Shelf, K: Sink, G: Hold + Sync>(
         return Status::NoMemory;
     };
     let answered = answer_run(
-        rt,
-        alloc,
+        &Means { rt, alloc, gate },
         &net,
         rows,
         run.files.penalty,
         feeds,
-        gate,
         run.batch as u32,
+        run.workers,
         boards,
     );
     match answered {
@@ -78,16 +82,15 @@ pub fn run_feeds<R: Threads + Wait + Sync, H: Shelf, K: Sink, G: Hold + Sync>(
 
 /// Answers feeds over a network in rounds, from the rows before any message. In a round each feed has a thread of its own where
 /// two or more are still read and one can be made; else the caller answers it. Boards are shown the times before the first round
-/// and after each.
+/// and after each. So many workers search for each plan, in threads of their own.
 pub fn answer_run<'n, R: Threads + Wait + Sync, S: Source + Send + Drop, H: Hold + Sync>(
-    rt: &R,
-    alloc: Global,
+    means: &Means<'_, R, H>,
     net: &'n Network,
     rows: Rows,
     penalty: u64,
     feeds: Vec<Option<S>>,
-    gate: &H,
     batch: u32,
+    workers: u32,
     boards: &mut Vec<Box<dyn Board>>,
 ) -> Result<AnsweredDay<'n>, AllocError>
     requires sized { IsSized net.now rows }
@@ -95,6 +98,7 @@ pub fn answer_run<'n, R: Threads + Wait + Sync, S: Source + Send + Drop, H: Hold
     requires penalty { penalty ≤ PENALTY }
     requires few { length feeds.items ≤ FEEDS }
     requires some { 0 < batch }
+    requires workers { (1 ≤ workers) × (workers ≤ WORKERS) }
     requires few_boards { vec_len boards.old ≤ BOARDS }
     ensures answers { IfOk result (λ day. AnswersDay S.left S.is_sound net.now rows penalty feeds.items batch day.table day.logs.items) }
     ensures shown { IfOk result (λ day. AreShown place times (λ b. (Board-box b).faults b.value) (λ b. (Board-box b).is_sound b.value)
@@ -102,12 +106,33 @@ pub fn answer_run<'n, R: Threads + Wait + Sync, S: Source + Send + Drop, H: Hold
     ensures stops { map place boards.new.items ≡ map place boards.old.items }
 {
     net.sound();
-    let planner = OwnThread {
-        alloc,
-        net,
-        penalty,
+    let planner = |snapshot: &Snapshot, budget: u64| -> Result<Plan, AllocError>
+        requires { IsSync R.row × IsSync H.row × (penalty ≤ PENALTY) × (1 ≤ workers) × (workers ≤ WORKERS) × (1 ≤ budget)
+            × (budget ≤ BUDGET) × IsSized net.now snapshot.now.rows × HasNoCycle net.now snapshot.now.rows }
+        ensures { IfOk result (λ plan. (plan.entry ≡ snapshot.now.entry)
+            × IsTruePlan (whole_task net.entry.now snapshot.now.rows penalty budget) plan) }
+    {
+        search(
+            means.alloc,
+            means.rt,
+            net,
+            penalty,
+            snapshot,
+            budget,
+            workers,
+            means.gate,
+        )
     };
     answer_at_once(
-        rt, alloc, net, rows, penalty, feeds, &planner, gate, batch, boards,
+        means.rt,
+        means.alloc,
+        net,
+        rows,
+        penalty,
+        feeds,
+        &planner,
+        means.gate,
+        batch,
+        boards,
     )
 }

@@ -198,6 +198,6 @@ fn do_command<R: Threads + Wait + Sync, H: Shelf, K: Sink, G: Hold + Sync>(
         CommandWords::Run(run) => run_feeds(rt, alloc, run, shelf, boards, gate, out),
         CommandWords::Check(check) => check_text(alloc, check, shelf, out),
         CommandWords::Gen(day) => generate(alloc, day, out),
-        CommandWords::Query(query) => answer_query(alloc, query, shelf, out),
+        CommandWords::Query(query) => answer_query(rt, alloc, query, shelf, gate, out),
     }
 }

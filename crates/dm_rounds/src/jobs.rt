@@ -6,9 +6,11 @@ ghost use Rattle.dm_desk.specs.Answered.{HasSeenLegal, AreTrueOf};
 ghost use Rattle.dm_desk.specs.Planning.{PlansUnder};
 
 use dm_cert::LogItem;
-use dm_desk::{Desk, Hold, Planner, answer_batch};
+use dm_desk::{Desk, Hold, answer_batch};
 use dm_feed::{FeedStop, LineReader};
 use dm_outside::Source;
+use dm_rows::Snapshot;
+use dm_tree::Plan;
 use std::alloc::AllocError;
 
 /// How far a feed was read.
@@ -29,7 +31,12 @@ pub struct Job<S> {
 }
 
 /// Answers the next lines of a feed that has not ended, so many of them or all that are left. `Err` is want of memory alone.
-pub fn answer_job<S: Source + Drop, D: Desk, P: Planner, H: Hold>(
+pub fn answer_job<
+    S: Source + Drop,
+    D: Desk,
+    P: Fn(&Snapshot, u64) -> Result<Plan, AllocError>,
+    H: Hold,
+>(
     job: &mut Job<S>,
     desk: &mut D,
     planner: &P,
@@ -38,7 +45,7 @@ pub fn answer_job<S: Source + Drop, D: Desk, P: Planner, H: Hold>(
     batch: u32,
 ) -> Result<(), AllocError>
     requires legal { HasSeenLegal (D.value desk.old) }
-    requires plans { PlansUnder (P.value planner.now) (D.value desk.old).setting }
+    requires plans { PlansUnder (P.pre planner.now) (P.post planner.now) (D.value desk.old).setting }
     requires are_true { AreTrueOf (D.value desk.old) feed job.old.log.items }
     requires can_read { CanRead job.old.progress }
     ensures { OnOk result (StepsFrom S.left S.is_sound job.old.progress job.old.log.items job.new (D.value desk.old) (D.value desk.new) feed

@@ -1,8 +1,9 @@
 //! A rule set beside a plan.
-ghost use Rattle.std.specs.Prelude.{◌≤◌, IfOk};
-ghost use Rattle.dm_base.specs.declared.limits.TheConstants.{BUDGET, DELAY, PENALTY};
+ghost use Rattle.std.specs.Prelude.{ℕ, ◌≤◌, IfOk};
+ghost use Rattle.dm_base.specs.declared.limits.TheConstants.{DELAY, PENALTY};
 ghost use Rattle.dm_rows.specs.Active.{HasNoCycle};
 ghost use Rattle.dm_rows.specs.Rows.{IsSized};
+ghost use Rattle.dm_tree.specs.Plans.{whole_task, IsTruePlan};
 ghost use Rattle.dm_waitrule.specs.Compared.{Compares};
 ghost use Rattle.dm_waitrule.specs.Rules.{KeepsWithin};
 
@@ -11,7 +12,6 @@ use crate::rule::WaitRule;
 use dm_base::{Cost, Items};
 use dm_network::Network;
 use dm_rows::{Decision, Snapshot};
-use dm_search::plan;
 use dm_tree::Plan;
 use std::alloc::{AllocError, Global};
 
@@ -26,29 +26,27 @@ pub struct Comparison {
     pub plan: Plan,
 }
 
-/// A rule's choices for the rows of a snapshot, which have no cycle, with what they cost, and a true plan for these rows with a tree
-/// of at most `budget` nodes, of which there are 1 to 16,384. The penalty is in seconds for each passenger, at most 1,000,000, and so
-/// is a number in the rule.
+/// A rule's choices for the rows of a snapshot, which have no cycle, with what they cost, beside a true plan for these rows. The
+/// penalty is in seconds for each passenger, at most 1,000,000, and so is a number in the rule.
 pub fn compare(
     alloc: Global,
     net: &Network,
     penalty: u64,
     snapshot: &Snapshot,
     rule: WaitRule,
-    budget: u64,
+    plan: Plan,
 ) -> Result<Comparison, AllocError>
     requires sized { IsSized net.now snapshot.now.rows }
     requires no_cycle { HasNoCycle net.now snapshot.now.rows }
     requires penalty { penalty ≤ PENALTY }
     requires limit { KeepsWithin DELAY rule }
-    requires budget { (1 ≤ budget) × (budget ≤ BUDGET) }
-    ensures { IfOk result (Compares net.now snapshot.now.rows penalty budget rule) }
+    ensures { (budget : ℕ) → IsTruePlan (whole_task net.now snapshot.now.rows penalty budget) plan
+        → IfOk result (Compares net.now snapshot.now.rows penalty budget rule) }
 {
     net.sound();
     let engine = ruled(alloc, net, &snapshot.rows, rule)?;
     let cost = engine.cost(net, penalty);
     let choices = differences_to(alloc, net, &snapshot.rows, engine.rows())?;
-    let plan = plan(alloc, net, penalty, snapshot, budget)?;
     Ok(Comparison {
         choices: Items::from_vec(choices),
         cost,

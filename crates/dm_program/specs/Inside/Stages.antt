@@ -1,6 +1,6 @@
 -- Stages of a run.
 use Rattle.std.specs.Prelude.{ℕ, ◌≡◌, ◌^◌, ◌<◌, ◌≤◌, List, length, slice_get, Option, Some, None}
-use Rattle.dm_base.specs.declared.limits.TheConstants.{BUDGET, DELAY, FEEDS, PENALTY}
+use Rattle.dm_base.specs.declared.limits.TheConstants.{BUDGET, DELAY, FEEDS, PENALTY, WORKERS}
 use Rattle.dm_base.specs.declared.rows.DelayRow.{DelayRow}
 use Rattle.dm_input.specs.Input.{Told, IsHeld}
 use Rattle.dm_input.specs.Lines.{refused_line, read_fault_line}
@@ -40,6 +40,7 @@ pub record AreWithin (asked : RunAsked) : Type 0 where
   pub few_feeds : length asked.feeds ≤ FEEDS
   pub some_lines : 0 < asked.batch
   pub few_lines : asked.batch < 2 ^ 32
+  pub workers : (1 ≤ asked.workers) × (asked.workers ≤ WORKERS)
 
 -- the budget of a window
 abbrev pub IsWindowWithin : WindowWords → Type 0
@@ -49,6 +50,7 @@ IsWindowWithin asked = (1 ≤ asked.budget) × (asked.budget ≤ BUDGET)
 pub record AreRulesWithin (asked : RulesWords) : Type 0 where
   pub limit : KeepsWithin DELAY (rule_named asked.rule)
   pub budget : (1 ≤ asked.budget) × (asked.budget ≤ BUDGET)
+  pub workers : (1 ≤ asked.workers) × (asked.workers ≤ WORKERS)
 
 -- the numbers of a question to a journal
 abbrev pub IsWithinLimits : Query → Type 0

@@ -2,13 +2,11 @@ use Rattle.std.proofs.Common.{◌≡◌, ℕ, ◌+◌, arith, sym, ap, subst, �
 use Rattle.std.specs.Prelude.{IfOk, vec_len}
 use Rattle.dm_server.specs.declared.kept.Base.{Base}
 use Rattle.dm_turn.specs.Passes.{PassValue}
-use Rattle.dm_desk.specs.Planning.{PlansUnder}
-use Rattle.dm_crew.specs.Passes.{setting_of}
 use Rattle.dm_crew.specs.AtOnce.{AnswersDay}
 use Rattle.dm_crew.specs.Inside.Displays.{IsFor}
 use Rattle.dm_crew.specs.Inside.Seats.{base_in}
 use Rattle.dm_crew.specs.Inside.Works.{first_pass}
-use Rattle.dm_crew.proofs.Days.{base_is}
+use Rattle.dm_crew.proofs.Days.{base_is, plans_at}
 use Rattle.dm_crew.proofs.day.answer_at_once.Goals as goal
 
 pub answer_over-requires-clause-pass : goal.answer_over-requires-clause-pass
@@ -34,7 +32,7 @@ answer_over-requires-clause-plans g c =
     let base : Base = record { network = c.args.net.now; start = c.args.rows; penalty = c.args.penalty } in
     let main = c.in_ok-server.main in
     let there : base_in main.base ≡ base = base_is main.base base (ap (λ (p : PassValue Base). p.base) c.in_ok-server.ensures.pass) in
-    subst (λ (b : Base). PlansUnder (g.L.Planner.value c.args.planner.now) (setting_of b)) (sym there) c.requires.plans
+    plans_at _ _ base (base_in main.base) there c.requires.plans
 
 pub answer_over-requires-clause-fits : goal.answer_over-requires-clause-fits
 answer_over-requires-clause-fits g c = λ lifetimes bounds.

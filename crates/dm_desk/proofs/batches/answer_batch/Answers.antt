@@ -34,4 +34,4 @@ loop-preserved g c =
     )
 
 pub answer_next-requires-clause-plans : goal.answer_next-requires-clause-plans
-answer_next-requires-clause-plans g c = still_plans (g.P.Planner.value c.args.planner.now) (g.D.Desk.value c.args.desk.now) (g.D.Desk.value c.loop.desk) c.loop.invariant.0.answers.goes_on c.requires.plans
+answer_next-requires-clause-plans g c = still_plans _ _ (g.D.Desk.value c.args.desk.now) (g.D.Desk.value c.loop.desk) c.loop.invariant.0.answers.goes_on c.requires.plans

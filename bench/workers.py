@@ -1,0 +1,101 @@
+#!/usr/bin/env python3
+"""Times plans that are searched by several workers: python3 bench/workers.py DISPATCHER [TRAINS ..]
+
+For each number of trains (200, 500 and 2,000 where none is given) the day of bench/day.py with number 7, its 500 delays, and
+`plan 16384` behind them are run with 1, 2 and 4 workers, and the delays alone with one. All run in turn, nine times, and the least
+time by the clock counts, less that of the delays alone. Of 2,000 trains two workers take at most 0.7 and four at most 0.5 of the time
+of one. A plan of several workers costs no more, and its bound is lower by at most 0.02 %. What is over its bound is marked, and the
+status is then 1. Run it on a machine that does nothing else and has four processors.
+"""
+import argparse
+import os
+import subprocess
+import sys
+import tempfile
+import time
+from typing import NamedTuple
+
+from day import write_day
+from plans import plan_of, write
+
+NUMBER = 7
+TRAINS = (200, 500, 2_000)
+WORKERS = (1, 2, 4)
+REPEATS = 9
+RATIOS = {2: 0.7, 4: 0.5}
+
+# The number of trains of which the ratios are bounded, and by how much a bound may be lower.
+BOUNDED = 2_000
+LOWER = 0.0002
+
+
+class Searched(NamedTuple):
+    """A plan's cost and bound, and the seconds that it took."""
+    cost: int
+    bound: int
+    seconds: float
+
+
+def timed(program, folder, feed, workers):
+    """The text of a run, and its seconds by the clock."""
+    words = [program, 'run', os.path.join(folder, 'net'), '--penalty=3600', f'--workers={workers}', feed]
+    begun = time.monotonic()
+    done = subprocess.run(words, stdout=subprocess.PIPE, check=True, text=True)
+    return done.stdout, time.monotonic() - begun
+
+
+def searched(program, trains):
+    """What each number of workers comes to on a day."""
+    with tempfile.TemporaryDirectory() as folder:
+        write_day(NUMBER, trains, folder)
+        delays = os.path.join(folder, 'delays')
+        with open(delays, encoding='ascii') as file:
+            planned = write(folder, 'planned', [*file, 'plan 16384\n'])
+        alone, least, texts = [], {workers: [] for workers in WORKERS}, {}
+        for _ in range(REPEATS):
+            alone.append(timed(program, folder, delays, 1)[1])
+            for workers in WORKERS:
+                texts[workers], seconds = timed(program, folder, planned, workers)
+                least[workers].append(seconds)
+    plans = {}
+    for workers, text in texts.items():
+        _, *rest = plan_of(text)
+        values = dict(zip(rest[0::2], rest[1::2]))
+        plans[workers] = Searched(int(values['cost']), int(values['bound']), min(least[workers]) - min(alone))
+    return plans
+
+
+def faults_of(trains, workers, plan, one):
+    """In what a plan is over its bounds beside that of one worker."""
+    if trains == BOUNDED and plan.seconds > RATIOS[workers] * one.seconds:
+        yield f'over {RATIOS[workers]}'
+    if plan.cost > one.cost:
+        yield 'dearer'
+    if plan.bound < one.bound * (1 - LOWER):
+        yield 'bound too low'
+
+
+def print_day(program, trains):
+    """Prints the lines of a day, and says whether none is over its bounds."""
+    plans = searched(program, trains)
+    one, good = plans[1], True
+    for workers, plan in plans.items():
+        faults = list(faults_of(trains, workers, plan, one)) if workers > 1 else []
+        good = good and not faults
+        print(f'{trains:6} {workers:7} {plan.cost / 1e6:9.2f} {plan.bound / 1e6:9.2f} {plan.seconds:7.3f} s {plan.seconds / one.seconds:5.2f}'
+              f'{"  " + ", ".join(faults) if faults else ""}', flush=True)
+    return good
+
+
+def main():
+    words = argparse.ArgumentParser(description=__doc__, formatter_class=argparse.RawDescriptionHelpFormatter)
+    words.add_argument('program', metavar='DISPATCHER', type=os.path.abspath)
+    words.add_argument('trains', metavar='TRAINS', nargs='*', type=int, default=TRAINS)
+    given = words.parse_args()
+    print('trains workers      cost     bound      time ratio')
+    good = [print_day(given.program, trains) for trains in given.trains]
+    sys.exit(not all(good))
+
+
+if __name__ == '__main__':
+    main()
