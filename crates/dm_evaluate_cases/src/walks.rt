@@ -1,15 +1,11 @@
 //! Walks of decisions that are made and taken back.
-ghost use Rattle.std.specs.Prelude.{IfOk};
 ghost use Rattle.dm_rows.specs.Rows.{IsSized};
 
 use crate::trial::{Decided, Trial};
 use dm_network::Network;
-use dm_rows::{Choice, Decision, Message, Rows, admit, free_choices};
-use dm_samples::{Draws, Failure, rows_on_time, turning_day};
+use dm_rows::{Choice, Decision, Rows, free_choices};
+use dm_samples::{Draws, Failure, drawn_rows, turning_day};
 use std::alloc::Global;
-
-/// How many messages the rows of a walk have heard.
-const MESSAGES: u32 = 40;
 
 /// How a move came out.
 #[derive(Clone, Copy, PartialEq, Eq)]
@@ -47,28 +43,6 @@ impl Seen {
         } else {
             Err(Failure::TooFew)
         }
-    }
-}
-
-/// The rows of a day after drawn messages of all kinds.
-fn drawn_rows(alloc: Global, net: &Network, draws: &mut Draws) -> Result<Rows, Failure>
-    ensures { IfOk result (IsSized net.now) }
-{
-    let mut rows = rows_on_time(alloc, net)?;
-    for turn in 0..MESSAGES {
-        let message = draws.message(alloc, turn)?;
-        hear(alloc, net, &mut rows, &message);
-    }
-    Ok(rows)
-}
-
-/// Makes the change of a message that nothing refuses.
-fn hear(alloc: Global, net: &Network, rows: &mut Rows, message: &Message)
-    requires { IsSized net.now rows.old }
-    ensures { IsSized net.now rows.new }
-{
-    if let Ok(change) = admit(alloc, net, rows, message) {
-        rows.apply(&change);
     }
 }
 

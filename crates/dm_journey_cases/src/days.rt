@@ -1,30 +1,20 @@
 //! Queries on generated days, beside all walks.
-ghost use Rattle.std.specs.Prelude.{◌≡◌, ◌<◌, length, IfOk};
+ghost use Rattle.std.specs.Prelude.{◌≡◌, ◌<◌, length};
 ghost use Rattle.dm_rows.specs.Rows.{IsSized};
 ghost use Rattle.dm_rows.specs.Timetable.{IsLeast};
 
+use crate::asking::{Asked, answer_to};
 use crate::plain::{End, all_walks, change_of, is_usable};
 use dm_base::{EventKind, Secs, StopId};
-use dm_journey::{Journey, journeys};
+use dm_journey::Journey;
 use dm_network::Network;
-use dm_rows::{Message, Rows, admit};
-use dm_samples::{Draws, Failure, generated_day, rows_on_time};
+use dm_rows::Rows;
+use dm_samples::{Draws, Failure, drawn_rows, generated_day};
 use dm_times::{Times, least};
 use std::alloc::Global;
 
-/// How many messages the rows of a day have heard, and how many queries are asked then.
-const MESSAGES: u32 = 40;
-
+/// How many queries are asked.
 const ASKED: u32 = 150;
-
-/// What is asked.
-#[derive(Clone, Copy)]
-struct Query {
-    from: StopId,
-    to: StopId,
-    after: Secs,
-    most: u32,
-}
 
 /// Asks so many queries on a generated day, and compares each answer with all walks. Of the answers more than ten are not empty,
 /// and more than two have a change.
@@ -42,28 +32,6 @@ fn on_network(alloc: Global, net: &Network, draws: &mut Draws) -> Result<(), Fai
     match least(alloc, net, &rows) {
         Ok(times) => in_timetable(alloc, net, &rows, &times, draws),
         Err(_) => Err(Failure::NoDay),
-    }
-}
-
-/// The rows of a day after drawn messages of all kinds.
-fn drawn_rows(alloc: Global, net: &Network, draws: &mut Draws) -> Result<Rows, Failure>
-    ensures { IfOk result (IsSized net.now) }
-{
-    let mut rows = rows_on_time(alloc, net)?;
-    for turn in 0..MESSAGES {
-        let message = draws.message(alloc, turn)?;
-        hear(alloc, net, &mut rows, &message);
-    }
-    Ok(rows)
-}
-
-/// Makes the change of a message that nothing refuses.
-fn hear(alloc: Global, net: &Network, rows: &mut Rows, message: &Message)
-    requires { IsSized net.now rows.old }
-    ensures { IsSized net.now rows.new }
-{
-    if let Ok(change) = admit(alloc, net, rows, message) {
-        rows.apply(&change);
     }
 }
 
@@ -97,13 +65,13 @@ fn in_timetable(
 }
 
 /// A query from the stop of a drawn event to that of one soon after it, from a time around the first event on.
-fn drawn(net: &Network, times: &Times, draws: &mut Draws) -> Query
+fn drawn(net: &Network, times: &Times, draws: &mut Draws) -> Asked
     requires { length times.now ≡ length net.now.events }
 {
     let first = draws.below(800) as usize % net.events().max(1);
     let behind = draws.below(40) as usize;
     let last = first.saturating_add(behind) % net.events().max(1);
-    Query {
+    Asked {
         from: stop_at(net, first),
         to: stop_at(net, last),
         after: time_around(net, times, draws, first),
@@ -132,35 +100,12 @@ fn time_around(net: &Network, times: &Times, draws: &mut Draws, place: usize) ->
     }
 }
 
-fn answer_to(
-    alloc: Global,
-    net: &Network,
-    rows: &Rows,
-    times: &Times,
-    query: Query,
-) -> Result<Vec<Journey>, Failure>
-    requires sized { IsSized net.now rows.now }
-    requires least { IsLeast net.now rows.now times.now }
-{
-    let answer = journeys(
-        alloc,
-        net,
-        rows,
-        times,
-        query.from,
-        query.to,
-        query.after,
-        query.most.min(8),
-    )?;
-    Ok(answer)
-}
-
 /// Whether an answer lists walks, and of all that arrive exactly those that are best.
 fn is_front(
     net: &Network,
     rows: &Rows,
     times: &Times,
-    query: Query,
+    query: Asked,
     answer: &[Journey],
     ends: &[End],
 ) -> bool
@@ -181,7 +126,7 @@ fn trade(answer: &[Journey]) -> bool {
 }
 
 /// Whether each walk that arrives with few enough changes is met by a journey.
-fn is_met_by(net: &Network, times: &Times, query: Query, answer: &[Journey], ends: &[End]) -> bool
+fn is_met_by(net: &Network, times: &Times, query: Asked, answer: &[Journey], ends: &[End]) -> bool
     requires { length times.now ≡ length net.now.events }
 {
     for end in ends {
@@ -193,7 +138,7 @@ fn is_met_by(net: &Network, times: &Times, query: Query, answer: &[Journey], end
 }
 
 /// Whether a walk that arrives at the stop is met by a journey.
-fn is_end_met(net: &Network, times: &Times, query: Query, answer: &[Journey], end: End) -> bool
+fn is_end_met(net: &Network, times: &Times, query: Asked, answer: &[Journey], end: End) -> bool
     requires { length times.now ≡ length net.now.events }
 {
     if end.event >= net.events() || !arrives(net, query.to, end.event) {
@@ -206,7 +151,7 @@ fn is_end_met(net: &Network, times: &Times, query: Query, answer: &[Journey], en
 }
 
 /// Whether each journey of an answer is a walk.
-fn are_walks(net: &Network, rows: &Rows, times: &Times, query: Query, answer: &[Journey]) -> bool
+fn are_walks(net: &Network, rows: &Rows, times: &Times, query: Asked, answer: &[Journey]) -> bool
     requires sized { IsSized net.now rows.now }
     requires as_many { length times.now ≡ length net.now.events }
 {
@@ -219,7 +164,7 @@ fn are_walks(net: &Network, rows: &Rows, times: &Times, query: Query, answer: &[
 }
 
 /// Whether a journey is a walk of a query, with its arrival and its changes.
-fn is_walk(net: &Network, rows: &Rows, times: &Times, query: Query, journey: &Journey) -> bool
+fn is_walk(net: &Network, rows: &Rows, times: &Times, query: Asked, journey: &Journey) -> bool
     requires sized { IsSized net.now rows.now }
     requires as_many { length times.now ≡ length net.now.events }
 {
@@ -239,7 +184,7 @@ fn is_walk(net: &Network, rows: &Rows, times: &Times, query: Query, journey: &Jo
 }
 
 /// Whether a walk that has reached an event goes on from this one, or begins there.
-fn goes_on(net: &Network, times: &Times, query: Query, reached: Option<usize>, tail: usize) -> bool
+fn goes_on(net: &Network, times: &Times, query: Asked, reached: Option<usize>, tail: usize) -> bool
     requires { length times.now ≡ length net.now.events }
 {
     match reached {
@@ -257,7 +202,7 @@ fn goes_on(net: &Network, times: &Times, query: Query, reached: Option<usize>, t
 fn ends_well(
     net: &Network,
     times: &Times,
-    query: Query,
+    query: Asked,
     reached: Option<usize>,
     arrival: Secs,
 ) -> bool

@@ -5,6 +5,7 @@
 //! or after how many queries the two differ. It stands on dm_samples for days and messages, and promises nothing.
 #![tactic(auto)]
 
+mod asking;
 mod days;
 mod plain;
 mod worked;

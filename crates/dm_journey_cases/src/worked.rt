@@ -1,15 +1,13 @@
 //! Worked queries on a connection at one station, and with a direct train beside it.
-ghost use Rattle.std.specs.Prelude.{◌≤◌, IfOk};
 ghost use Rattle.dm_rows.specs.Rows.{IsSized};
-ghost use Rattle.dm_rows.specs.Timetable.{IsLeast};
 
-use dm_base::{ActId, ActKind, ActRow, EventId, EventKind, EventRow, Secs, StopId};
-use dm_journey::{Journey, journeys};
+use crate::asking::{Asked, answer_on_day};
+use dm_base::{ActId, EventId, Secs, StopId};
+use dm_journey::Journey;
 use dm_network::Network;
-use dm_rows::{Message, Rows, admit};
-use dm_samples::{Failure, network_of, report, rows_on_time};
-use dm_times::{Times, least};
-use std::alloc::{AllocError, Global};
+use dm_rows::{Message, Rows};
+use dm_samples::{Failure, Sample, hear, report, rows_on_time};
+use std::alloc::Global;
 use std::io;
 
 /// What has happened on the day.
@@ -64,34 +62,6 @@ pub const QUERIES: [Query; 19] = [
     ("latest", Day::OnTime, (1, 4), 2_000_000_000, 8),
 ];
 
-// An event: its kind, time, weight and stop. The last two are those of the direct train.
-type EventCase = (EventKind, Secs, u64, u32);
-
-const EVENTS: [EventCase; 8] = [
-    (EventKind::Departure, 100, 10_000, 1),
-    (EventKind::Arrival, 200, 10_000, 2),
-    (EventKind::Departure, 220, 10_000, 2),
-    (EventKind::Arrival, 300, 10_000, 3),
-    (EventKind::Departure, 230, 5_000, 2),
-    (EventKind::Arrival, 330, 5_000, 4),
-    (EventKind::Departure, 90, 0, 1),
-    (EventKind::Arrival, 400, 0, 4),
-];
-
-// An activity: its kind, tail, head, lower bound and weight. The last one is the direct train.
-type ActivityCase = (ActKind, u32, u32, Secs, u64);
-
-const ACTIVITIES: [ActivityCase; 8] = [
-    (ActKind::Drive, 1, 2, 90, 10_000),
-    (ActKind::Wait, 2, 3, 10, 10_000),
-    (ActKind::Drive, 3, 4, 80, 10_000),
-    (ActKind::Drive, 5, 6, 95, 5_000),
-    (ActKind::Change, 2, 5, 20, 4_000),
-    (ActKind::Headway, 3, 5, 8, 0),
-    (ActKind::Headway, 5, 3, 8, 0),
-    (ActKind::Drive, 7, 8, 200, 0),
-];
-
 const CHANGE: ActId = ActId(5);
 
 /// Prints the name of a query and its answer.
@@ -113,79 +83,26 @@ fn answer_on<R: Print + AllocGlobal>(rt: &R, net: &Network, query: Query) -> io:
 
 /// The network of a day.
 fn network_on(alloc: Global, day: Day) -> Result<Network, Failure> {
-    let (events, activities) = if day == Day::Direct { (8, 8) } else { (6, 7) };
-    network_of(
-        alloc,
-        event_rows(alloc, events)?,
-        activity_rows(alloc, activities)?,
-    )
-}
-
-/// The first so many events.
-fn event_rows(alloc: Global, count: usize) -> Result<Vec<EventRow>, AllocError> {
-    let mut rows = Vec::new(alloc);
-    for ((kind, time, weight, stop), id) in EVENTS.iter().take(count).zip(1u32..) {
-        rows.push(EventRow {
-            id: EventId(id),
-            kind: *kind,
-            time: *time,
-            weight: *weight,
-            stop: StopId(*stop),
-        })?;
-    }
-    Ok(rows)
-}
-
-/// The first so many activities.
-fn activity_rows(alloc: Global, count: usize) -> Result<Vec<ActRow>, AllocError> {
-    let mut rows = Vec::new(alloc);
-    for ((kind, tail, head, lower, weight), id) in ACTIVITIES.iter().take(count).zip(1u32..) {
-        rows.push(ActRow {
-            id: ActId(id),
-            kind: *kind,
-            tail: EventId(*tail),
-            head: EventId(*head),
-            lower: *lower,
-            weight: *weight,
-        })?;
-    }
-    Ok(rows)
+    let sample = if day == Day::Direct {
+        Sample::Direct
+    } else {
+        Sample::Connection
+    };
+    sample.network(alloc)
 }
 
 /// The journeys of a query.
 fn found(alloc: Global, net: &Network, query: Query) -> Result<Vec<Journey>, Failure> {
-    let (_name, day, _stops, _after, _most) = query;
+    let (_name, day, (from, to), after, most) = query;
     let mut rows = rows_on_time(alloc, net)?;
     happen(alloc, net, &mut rows, day);
-    match least(alloc, net, &rows) {
-        Ok(times) => asked(alloc, net, &rows, &times, query),
-        Err(_) => Err(Failure::NoDay),
-    }
-}
-
-/// The journeys of a query in a timetable.
-fn asked(
-    alloc: Global,
-    net: &Network,
-    rows: &Rows,
-    times: &Times,
-    query: Query,
-) -> Result<Vec<Journey>, Failure>
-    requires sized { IsSized net.now rows.now }
-    requires least { IsLeast net.now rows.now times.now }
-{
-    let (_name, _day, (from, to), after, most) = query;
-    let found = journeys(
-        alloc,
-        net,
-        rows,
-        times,
-        StopId(from),
-        StopId(to),
+    let asked = Asked {
+        from: StopId(from),
+        to: StopId(to),
         after,
-        most.min(8),
-    )?;
-    Ok(found)
+        most,
+    };
+    answer_on_day(alloc, net, &rows, asked)
 }
 
 /// Makes what has happened on a day.
@@ -195,30 +112,20 @@ fn happen(alloc: Global, net: &Network, rows: &mut Rows, day: Day)
 {
     match day {
         Day::OnTime | Day::Direct => {}
-        Day::Waiting => hear(alloc, net, rows, Message::DelayEvent(EventId(1), 60)),
+        Day::Waiting => hear(alloc, net, rows, &Message::DelayEvent(EventId(1), 60)),
         Day::NotWaiting => {
-            hear(alloc, net, rows, Message::DelayEvent(EventId(1), 60));
-            hear(alloc, net, rows, Message::Drop(CHANGE));
-            hear(alloc, net, rows, Message::First(EventId(5), EventId(3)));
+            hear(alloc, net, rows, &Message::DelayEvent(EventId(1), 60));
+            hear(alloc, net, rows, &Message::Drop(CHANGE));
+            hear(alloc, net, rows, &Message::First(EventId(5), EventId(3)));
         }
-        Day::Dropped => hear(alloc, net, rows, Message::Drop(CHANGE)),
+        Day::Dropped => hear(alloc, net, rows, &Message::Drop(CHANGE)),
         Day::Met => {
-            hear(alloc, net, rows, Message::Drop(CHANGE));
-            hear(alloc, net, rows, Message::Pass(EventId(5), 230));
+            hear(alloc, net, rows, &Message::Drop(CHANGE));
+            hear(alloc, net, rows, &Message::Pass(EventId(5), 230));
         }
-        Day::Missed => hear(alloc, net, rows, Message::Pass(EventId(5), 215)),
-        Day::BackInTime => hear(alloc, net, rows, Message::Pass(EventId(2), 90)),
-        Day::InNoTime => hear(alloc, net, rows, Message::Pass(EventId(2), 100)),
-    }
-}
-
-/// Makes the change of a message that nothing refuses.
-fn hear(alloc: Global, net: &Network, rows: &mut Rows, message: Message)
-    requires { IsSized net.now rows.old }
-    ensures { IsSized net.now rows.new }
-{
-    if let Ok(change) = admit(alloc, net, rows, &message) {
-        rows.apply(&change);
+        Day::Missed => hear(alloc, net, rows, &Message::Pass(EventId(5), 215)),
+        Day::BackInTime => hear(alloc, net, rows, &Message::Pass(EventId(2), 90)),
+        Day::InNoTime => hear(alloc, net, rows, &Message::Pass(EventId(2), 100)),
     }
 }
 

@@ -1,20 +1,17 @@
 //! An engine that hears messages.
-ghost use Rattle.std.specs.Prelude.{◌≡◌, ◌<◌, length};
+ghost use Rattle.std.specs.Prelude.{◌≡◌, length};
 ghost use Rattle.dm_propagate.specs.Engine.{IsEngineOf};
-ghost use Rattle.dm_rows.specs.Reach.{Reaches};
 
-use dm_base::Steps;
 use dm_graph::search::Cyclic;
 use dm_marks::PlaceSet;
 use dm_network::Network;
 use dm_propagate::Engine;
-use dm_rows::{Change, Message, Refusal, admit};
-use dm_samples::{Failure, rows_on_time};
+use dm_rows::{Message, Refusal, admit};
+use dm_samples::{Failure, rows_on_time, update};
 use dm_settle::{NoTimes, Times};
 use dm_times::{cost, least};
 use std::alloc::Global;
-use std::marker::{Brand, Model};
-use std::sync::ledger::{Blank, Ledger};
+use std::marker::Model;
 
 /// Seconds for each passenger.
 const PENALTY: u64 = 10;
@@ -69,7 +66,7 @@ impl<'n> Trial<'n> {
             Err(Refusal::OutOfMemory) => return Err(Failure::OutOfMemory),
             Err(_) => return Ok(Heard::Refused),
         };
-        match update::<Brand>(&mut self.engine, self.net, &change, Blank::new(1)) {
+        match update(&mut self.engine, self.net, &change) {
             Ok(()) => Ok(Heard::Made),
             Err(Cyclic) => Ok(Heard::Cyclic),
         }
@@ -112,24 +109,6 @@ impl<'n> Trial<'n> {
             Err(NoTimes::OutOfMemory) => Err(Failure::OutOfMemory),
         }
     }
-}
-
-/// Makes a change, for a ledger that nothing reads.
-fn update<L: Ledger>(
-    engine: &mut Engine,
-    net: &Network,
-    change: &Change,
-    blank: Blank,
-) -> Result<(), Cyclic>
-    requires engine { IsEngineOf net.now engine.old }
-    requires reaches { Reaches engine.old.rows change.now }
-    requires name { blank.name ≡ L.name }
-    requires parts { blank.parts ≡ L.parts }
-    requires has_a_part { 0 < blank.parts }
-    ensures { IsEngineOf net.now engine.new }
-{
-    let mut steps = Steps::<L>::new(blank);
-    engine.update(net, change, &mut steps)
 }
 
 /// Copies the times of an engine.

@@ -22,16 +22,18 @@ const CONNECTION: [EventCase; 6] = [
 ];
 
 // The second train starts later.
-const TURNAROUND: [EventCase; 6] = [
-    (EventKind::Departure, 100, 10_000, 1),
-    (EventKind::Arrival, 200, 10_000, 2),
-    (EventKind::Departure, 220, 10_000, 2),
-    (EventKind::Arrival, 300, 10_000, 3),
+const LATER: [EventCase; 2] = [
     (EventKind::Departure, 340, 5_000, 2),
     (EventKind::Arrival, 440, 5_000, 4),
 ];
 
-const ACTIVITIES: [ActivityCase; 8] = [
+// A train from stop 1 to stop 4.
+const DIRECT: [EventCase; 2] = [
+    (EventKind::Departure, 90, 0, 1),
+    (EventKind::Arrival, 400, 0, 4),
+];
+
+const ACTIVITIES: [ActivityCase; 7] = [
     (ActKind::Drive, 1, 2, 90, 10_000),
     (ActKind::Wait, 2, 3, 10, 10_000),
     (ActKind::Drive, 3, 4, 80, 10_000),
@@ -39,8 +41,11 @@ const ACTIVITIES: [ActivityCase; 8] = [
     (ActKind::Change, 2, 5, 20, 4_000),
     (ActKind::Headway, 3, 5, 8, 0),
     (ActKind::Headway, 5, 3, 8, 0),
-    (ActKind::Turnaround, 4, 5, 30, 0),
 ];
+
+const TURNED: ActivityCase = (ActKind::Turnaround, 4, 5, 30, 0);
+
+const DIRECT_DRIVE: ActivityCase = (ActKind::Drive, 7, 8, 200, 0);
 
 /// A small network. Events and activities are numbered from 1.
 #[derive(Clone, Copy, PartialEq, Eq, Debug)]
@@ -53,33 +58,44 @@ pub enum Sample {
 
     /// The same two trains, of which the second is the first one turned around, after activity 8, and starts later.
     Turnaround,
+
+    /// The connection, and a train from stop 1 to stop 4 as well: events 7 and 8, activity 8.
+    Direct,
 }
 
 impl Sample {
     /// The network.
     pub fn network(self, alloc: Global) -> Result<Network, Failure> {
-        let events = match self {
-            Sample::TwoLegs => event_rows(alloc, &CONNECTION, 4)?,
-            Sample::Connection => event_rows(alloc, &CONNECTION, 6)?,
-            Sample::Turnaround => event_rows(alloc, &TURNAROUND, 6)?,
-        };
-        let activities = match self {
-            Sample::TwoLegs => activity_rows(alloc, 3)?,
-            Sample::Connection => activity_rows(alloc, 7)?,
-            Sample::Turnaround => activity_rows(alloc, 8)?,
+        let (events, activities) = match self {
+            Sample::TwoLegs => (
+                event_rows(alloc, &CONNECTION[..4], &[])?,
+                activity_rows(alloc, &ACTIVITIES[..3], &[])?,
+            ),
+            Sample::Connection => (
+                event_rows(alloc, &CONNECTION, &[])?,
+                activity_rows(alloc, &ACTIVITIES, &[])?,
+            ),
+            Sample::Turnaround => (
+                event_rows(alloc, &CONNECTION[..4], &LATER)?,
+                activity_rows(alloc, &ACTIVITIES, &[TURNED])?,
+            ),
+            Sample::Direct => (
+                event_rows(alloc, &CONNECTION, &DIRECT)?,
+                activity_rows(alloc, &ACTIVITIES, &[DIRECT_DRIVE])?,
+            ),
         };
         network_of(alloc, events, activities)
     }
 }
 
-/// The first so many of these events.
+/// The records of these events, and of more behind them.
 fn event_rows(
     alloc: Global,
     cases: &[EventCase],
-    count: usize,
+    more: &[EventCase],
 ) -> Result<Vec<EventRow>, AllocError> {
     let mut rows = Vec::new(alloc);
-    for ((kind, time, weight, stop), id) in cases.iter().take(count).zip(1u32..) {
+    for ((kind, time, weight, stop), id) in cases.iter().chain(more.iter()).zip(1u32..) {
         rows.push(EventRow {
             id: EventId(id),
             kind: *kind,
@@ -91,10 +107,14 @@ fn event_rows(
     Ok(rows)
 }
 
-/// The first so many activities.
-fn activity_rows(alloc: Global, count: usize) -> Result<Vec<ActRow>, AllocError> {
+/// The records of these activities, and of more behind them.
+fn activity_rows(
+    alloc: Global,
+    cases: &[ActivityCase],
+    more: &[ActivityCase],
+) -> Result<Vec<ActRow>, AllocError> {
     let mut rows = Vec::new(alloc);
-    for ((kind, tail, head, lower, weight), id) in ACTIVITIES.iter().take(count).zip(1u32..) {
+    for ((kind, tail, head, lower, weight), id) in cases.iter().chain(more.iter()).zip(1u32..) {
         rows.push(ActRow {
             id: ActId(id),
             kind: *kind,

@@ -1,20 +1,15 @@
 //! Changes of an engine.
-ghost use Rattle.std.specs.Prelude.{◌≡◌, ◌<◌};
-ghost use Rattle.dm_propagate.specs.Engine.{IsEngineOf};
-ghost use Rattle.dm_rows.specs.Reach.{Reaches};
 
 use crate::apart::{LATER, LATER_TIME};
 use crate::kinds::Kind;
-use dm_base::{Cost, Steps};
-use dm_graph::search::Cyclic;
+use dm_base::Cost;
 use dm_network::Network;
 use dm_propagate::Engine;
-use dm_rows::{Change, Message, admit};
-use dm_samples::{Failure, rows_on_time};
+use dm_rows::{Message, admit};
+use dm_samples::{Failure, rows_on_time, update};
 use dm_times::{cost, least};
 use std::alloc::Global;
-use std::marker::{Brand, Model};
-use std::sync::ledger::{Blank, Ledger};
+use std::marker::Model;
 
 /// Seconds for each passenger.
 const PENALTY: u64 = 3_600;
@@ -49,9 +44,7 @@ impl<'n> Day<'n> {
     /// Makes a change, and says whether it was made.
     fn change(&mut self, alloc: Global, message: &Message) -> bool {
         match admit(alloc, self.net, self.engine.rows(), message) {
-            Ok(change) => {
-                update::<Brand>(&mut self.engine, self.net, &change, Blank::new(1)).is_ok()
-            }
+            Ok(change) => { update(&mut self.engine, self.net, &change).is_ok() }
             Err(_) => false,
         }
     }
@@ -70,24 +63,6 @@ impl<'n> Day<'n> {
             Err(Failure::Differs(0))
         }
     }
-}
-
-/// Makes a change, for a ledger that nothing reads.
-fn update<L: Ledger>(
-    engine: &mut Engine,
-    net: &Network,
-    change: &Change,
-    blank: Blank,
-) -> Result<(), Cyclic>
-    requires engine { IsEngineOf net.now engine.old }
-    requires reaches { Reaches engine.old.rows change.now }
-    requires name { blank.name ≡ L.name }
-    requires parts { blank.parts ≡ L.parts }
-    requires has_a_part { 0 < blank.parts }
-    ensures { IsEngineOf net.now engine.new }
-{
-    let mut steps = Steps::<L>::new(blank);
-    engine.update(net, change, &mut steps)
 }
 
 /// What the day costs after so many changes of a kind, or of each kind in turn, there and back, and after the last train is late
