@@ -3,15 +3,16 @@ ghost use Rattle.std.specs.Prelude.{◌≡◌, false, IfSome};
 ghost use Rattle.std.specs.Option.{ForSome};
 ghost use Rattle.dm_rows.specs.Rows.{IsSized};
 ghost use Rattle.dm_server.specs.Answers.{IsTrueOf};
-ghost use Rattle.dm_server_cases.specs.Passes.{IsOpened, IsOver, IsSame};
+ghost use Rattle.dm_server_cases.specs.Passes.{IsOver, IsSame};
 
-use crate::calls::{LATE, PENALTY, copied, opened, post};
+use crate::calls::{LATE, PENALTY, copied, post};
+use crate::case::{Case, Opened};
 use crate::standing::{Decided, stands};
 use dm_base::ActId;
 use dm_base::limits::ENTRIES;
 use dm_network::Network;
 use dm_rows::Message;
-use dm_samples::{Failure, Sample};
+use dm_samples::Failure;
 use dm_search::plan;
 use dm_server::{Kept, Server};
 use dm_tree::{AdoptRefusal, Plan};
@@ -25,36 +26,26 @@ const NODES: u64 = 100;
 type Answers = [Result<u32, AdoptRefusal>; 2];
 
 /// Behind a delay a plan of the rows becomes entry 2. Once more it is old. Then its choices are in the rows.
-pub fn adopts_a_plan<R: Wait + AllocGlobal>(rt: &R) -> Result<(), Failure> {
-    let net = Sample::Connection.network(rt.alloc())?;
-    on_connection(rt, &net)
-}
+pub struct AdoptsPlan;
 
-fn on_connection<R: Wait + AllocGlobal>(rt: &R, net: &Network) -> Result<(), Failure> {
-    let (server, pass) = opened(rt.alloc(), net, 1)?;
-    plan_behind_a_delay(rt, net, server, pass)
-}
-
-fn plan_behind_a_delay<'n, R: Wait + AllocGlobal>(
-    rt: &R,
-    net: &'n Network,
-    server: Server<'n>,
-    mut pass: Pass<Kept<'n>>,
-) -> Result<(), Failure>
-    requires seats { server.seats ≡ 1 }
-    requires pass { IsOpened server.id net.now 1 pass }
-    requires over { IsOver net.now PENALTY pass }
-{
-    let entered = post(rt, &server, &mut pass, LATE) == Ok(1);
-    let before = stands_after(rt, net, &server, &mut pass, 1, Decided::Kept);
-    let answers = adopt_twice(rt, net, &server, &mut pass);
-    let after = stands_after(rt, net, &server, &mut pass, 2, Decided::Dropped);
-    let entries = server.close(pass).len();
-    let due = answers == Some([Ok(2), Err(AdoptRefusal::Old { now: 2 })]);
-    if entered && before && due && after && entries == 2 {
-        Ok(())
-    } else {
-        Err(Failure::Differs(1))
+impl Case for AdoptsPlan {
+    fn come_out<R: Wait + AllocGlobal>(rt: &R, opened: Opened<'_>) -> Result<(), Failure> {
+        let Opened {
+            net,
+            server,
+            mut pass,
+        } = opened;
+        let entered = post(rt, &server, &mut pass, LATE) == Ok(1);
+        let before = stands_after(rt, net, &server, &mut pass, 1, Decided::Kept);
+        let answers = adopt_twice(rt, net, &server, &mut pass);
+        let after = stands_after(rt, net, &server, &mut pass, 2, Decided::Dropped);
+        let entries = server.close(pass).len();
+        let due = answers == Some([Ok(2), Err(AdoptRefusal::Old { now: 2 })]);
+        if entered && before && due && after && entries == 2 {
+            Ok(())
+        } else {
+            Err(Failure::Differs(1))
+        }
     }
 }
 
@@ -80,34 +71,24 @@ fn stands_after<'n, R: Wait>(
 }
 
 /// Where there are 1,000,000 entries a plan of the rows then is refused for that.
-pub fn full_server_adopts_nothing<R: Wait + AllocGlobal>(rt: &R) -> Result<(), Failure> {
-    let net = Sample::Connection.network(rt.alloc())?;
-    on_full_connection(rt, &net)
-}
+pub struct FullServerAdoptsNothing;
 
-fn on_full_connection<R: Wait + AllocGlobal>(rt: &R, net: &Network) -> Result<(), Failure> {
-    let (server, pass) = opened(rt.alloc(), net, 1)?;
-    plan_behind_all(rt, net, server, pass)
-}
-
-fn plan_behind_all<'n, R: Wait + AllocGlobal>(
-    rt: &R,
-    net: &'n Network,
-    server: Server<'n>,
-    mut pass: Pass<Kept<'n>>,
-) -> Result<(), Failure>
-    requires seats { server.seats ≡ 1 }
-    requires pass { IsOpened server.id net.now 1 pass }
-    requires over { IsOver net.now PENALTY pass }
-{
-    fill(rt, net, &server, &mut pass);
-    let answers = adopt_twice(rt, net, &server, &mut pass);
-    let entries = server.close(pass).len();
-    let full = AdoptRefusal::Full { now: ENTRIES };
-    if answers == Some([Err(full), Err(full)]) && entries == ENTRIES {
-        Ok(())
-    } else {
-        Err(Failure::Differs(entries))
+impl Case for FullServerAdoptsNothing {
+    fn come_out<R: Wait + AllocGlobal>(rt: &R, opened: Opened<'_>) -> Result<(), Failure> {
+        let Opened {
+            net,
+            server,
+            mut pass,
+        } = opened;
+        fill(rt, net, &server, &mut pass);
+        let answers = adopt_twice(rt, net, &server, &mut pass);
+        let entries = server.close(pass).len();
+        let full = AdoptRefusal::Full { now: ENTRIES };
+        if answers == Some([Err(full), Err(full)]) && entries == ENTRIES {
+            Ok(())
+        } else {
+            Err(Failure::Differs(entries))
+        }
     }
 }
 

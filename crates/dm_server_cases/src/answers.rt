@@ -1,11 +1,12 @@
 //! Questions after a delay.
 ghost use Rattle.std.specs.Prelude.{◌≡◌, false};
 ghost use Rattle.std.specs.Option.{ForSome};
-ghost use Rattle.dm_server_cases.specs.Passes.{IsOpened, IsSame};
+ghost use Rattle.dm_server_cases.specs.Passes.{IsSame};
 
-use crate::calls::{LATE, opened, post, time};
+use crate::calls::{LATE, post, time};
+use crate::case::{Case, Opened};
 use dm_network::Network;
-use dm_samples::{Failure, Sample};
+use dm_samples::Failure;
 use dm_server::{Kept, Server};
 use dm_settle::Times;
 use dm_turn::Pass;
@@ -15,35 +16,26 @@ use std::sync::Wait;
 const TIMES: [u64; 6] = [160, 250, 260, 340, 270, 365];
 
 /// A delay of a minute becomes entry 1, and every question is answered after it.
-pub fn answers_after_a_delay<R: Wait + AllocGlobal>(rt: &R) -> Result<(), Failure> {
-    let net = Sample::Connection.network(rt.alloc())?;
-    on_connection(rt, &net)
-}
+pub struct AnswersAfterDelay;
 
-fn on_connection<R: Wait + AllocGlobal>(rt: &R, net: &Network) -> Result<(), Failure> {
-    let (server, pass) = opened(rt.alloc(), net, 1)?;
-    ask(rt, net, server, pass)
-}
-
-fn ask<'n, R: Wait + AllocGlobal>(
-    rt: &R,
-    net: &'n Network,
-    server: Server<'n>,
-    mut pass: Pass<Kept<'n>>,
-) -> Result<(), Failure>
-    requires seats { server.seats ≡ 1 }
-    requires pass { IsOpened server.id net.now 1 pass }
-{
-    let entered = post(rt, &server, &mut pass, LATE) == Ok(1);
-    let told = tells_times(rt, &server, &mut pass);
-    let counted = counts(rt, &server, &mut pass);
-    let copied = copies_times(rt, net, &server, &mut pass);
-    let taken = takes_snapshot(rt, &server, &mut pass);
-    let entries = server.close(pass).len();
-    if entered && told && counted && copied && taken && entries == 1 {
-        Ok(())
-    } else {
-        Err(Failure::Differs(1))
+impl Case for AnswersAfterDelay {
+    fn come_out<R: Wait + AllocGlobal>(rt: &R, opened: Opened<'_>) -> Result<(), Failure> {
+        let Opened {
+            net,
+            server,
+            mut pass,
+        } = opened;
+        let entered = post(rt, &server, &mut pass, LATE) == Ok(1);
+        let told = tells_times(rt, &server, &mut pass);
+        let counted = counts(rt, &server, &mut pass);
+        let copied = copies_times(rt, net, &server, &mut pass);
+        let taken = takes_snapshot(rt, &server, &mut pass);
+        let entries = server.close(pass).len();
+        if entered && told && counted && copied && taken && entries == 1 {
+            Ok(())
+        } else {
+            Err(Failure::Differs(1))
+        }
     }
 }
 

@@ -1,5 +1,5 @@
 //! Servers that are opened, and calls of them.
-ghost use Rattle.std.specs.Prelude.{◌≡◌, ◌≤◌, false, length, IfOk, IfSome};
+ghost use Rattle.std.specs.Prelude.{◌≡◌, false, length, IfOk, IfSome};
 ghost use Rattle.std.specs.Option.{ForSome};
 ghost use mathlib.Core.List.{IsPrefix};
 ghost use Rattle.dm_rows.specs.Rows.{IsSized};
@@ -19,22 +19,20 @@ use std::sync::Wait;
 /// Seconds for each passenger.
 pub const PENALTY: u64 = 10;
 
+/// How many passes a server has at most.
+pub const SEATS: u32 = 2;
+
 /// The first event is a minute late.
 pub const LATE: Message = Message::DelayEvent(EventId(1), 60);
 
-/// A server of so many seats, and its first pass.
-pub fn opened<'n>(
-    alloc: Global,
-    net: &'n Network,
-    seats: u32,
-) -> Result<(Server<'n>, Pass<Kept<'n>>), Failure>
-    requires { 1 ≤ seats }
-    ensures server { IfOk result (λ r. r.0.seats ≡ seats) }
-    ensures pass { IfOk result (λ r. IsOpened r.0.id net.now seats r.1) }
+/// A server, and its first pass.
+pub fn opened<'n>(alloc: Global, net: &'n Network) -> Result<(Server<'n>, Pass<Kept<'n>>), Failure>
+    ensures server { IfOk result (λ r. r.0.seats ≡ SEATS) }
+    ensures pass { IfOk result (λ r. IsOpened r.0.id net.now SEATS r.1) }
     ensures over { IfOk result (λ r. IsOver net.now PENALTY r.1) }
 {
     let rows = rows_on_time(alloc, net)?;
-    match Server::new(alloc, net, rows, PENALTY, seats) {
+    match Server::new(alloc, net, rows, PENALTY, SEATS) {
         Ok(opened) => Ok(opened),
         Err(_) => Err(Failure::NoDay),
     }

@@ -1,12 +1,12 @@
 //! A copy of the times that follows a delay.
 ghost use Rattle.std.specs.Prelude.{◌≡◌, ◌≤◌, false, length, vec_capacity};
 ghost use Rattle.std.specs.Option.{ForSome};
-ghost use Rattle.dm_server_cases.specs.Passes.{IsOpened, IsSame};
+ghost use Rattle.dm_server_cases.specs.Passes.{IsSame};
 
-use crate::calls::{LATE, opened, post};
+use crate::calls::{LATE, post};
+use crate::case::{Case, Opened};
 use dm_base::Secs;
-use dm_network::Network;
-use dm_samples::{Failure, Sample};
+use dm_samples::Failure;
 use dm_server::{Kept, Server};
 use dm_settle::Times;
 use dm_turn::Pass;
@@ -16,37 +16,24 @@ use std::sync::Wait;
 const TIMES: [Secs; 6] = [160, 250, 260, 340, 270, 365];
 
 /// A copy of the times follows a delay of a minute, which moves every event, and then nothing.
-pub fn follows_a_delay<R: Wait + AllocGlobal>(rt: &R) -> Result<(), Failure> {
-    let net = Sample::Connection.network(rt.alloc())?;
-    on_connection(rt, &net)
-}
+pub struct FollowsDelay;
 
-fn on_connection<R: Wait + AllocGlobal>(rt: &R, net: &Network) -> Result<(), Failure> {
-    let mut times = Times::room(rt.alloc(), net)?;
-    let mut listed = Vec::with_capacity(rt.alloc(), net.events())?;
-    let (server, pass) = opened(rt.alloc(), net, 1)?;
-    follow(rt, net, server, pass, &mut times, &mut listed)
-}
-
-fn follow<'n, R: Wait>(
-    rt: &R,
-    _net: &'n Network,
-    server: Server<'n>,
-    mut pass: Pass<Kept<'n>>,
-    times: &mut Times,
-    listed: &mut Vec<usize>,
-) -> Result<(), Failure>
-    requires seats { server.seats ≡ 1 }
-    requires pass { IsOpened server.id _net.now 1 pass }
-    requires size { length times.old ≡ length _net.now.events }
-    requires room { length _net.now.events ≤ vec_capacity listed.old }
-{
-    let due = moves_all(rt, &server, &mut pass, times, listed);
-    let entries = server.close(pass).len();
-    if due && entries == 1 {
-        Ok(())
-    } else {
-        Err(Failure::Differs(1))
+impl Case for FollowsDelay {
+    fn come_out<R: Wait + AllocGlobal>(rt: &R, opened: Opened<'_>) -> Result<(), Failure> {
+        let Opened {
+            net,
+            server,
+            mut pass,
+        } = opened;
+        let mut times = Times::room(rt.alloc(), net)?;
+        let mut listed = Vec::with_capacity(rt.alloc(), net.events())?;
+        let due = moves_all(rt, &server, &mut pass, &mut times, &mut listed);
+        let entries = server.close(pass).len();
+        if due && entries == 1 {
+            Ok(())
+        } else {
+            Err(Failure::Differs(1))
+        }
     }
 }
 

@@ -9,24 +9,31 @@
 mod adopting;
 mod answers;
 mod calls;
+mod case;
 mod following;
 mod joined;
 mod refusals;
 mod standing;
 
-use adopting::{adopts_a_plan, full_server_adopts_nothing};
-use answers::answers_after_a_delay;
+use adopting::{AdoptsPlan, FullServerAdoptsNothing};
+use answers::AnswersAfterDelay;
+use case::{Case, on_connection};
 use dm_samples::report;
-use following::follows_a_delay;
-use joined::reads_after_a_join;
-use refusals::refusals_enter_nothing;
+use following::FollowsDelay;
+use joined::ReadsAfterJoin;
+use refusals::RefusalsEnterNothing;
 use std::io;
+use std::sync::Wait;
 
 fn main(rt: HostRuntime) -> io::Result<()> {
-    report(&rt, "answers-after-a-delay", answers_after_a_delay(&rt))?;
-    report(&rt, "refusals-enter-nothing", refusals_enter_nothing(&rt))?;
-    report(&rt, "read-after-a-join", reads_after_a_join(&rt))?;
-    report(&rt, "follows-a-delay", follows_a_delay(&rt))?;
-    report(&rt, "adopts-a-plan", adopts_a_plan(&rt))?;
-    report(&rt, "full-server", full_server_adopts_nothing(&rt))
+    say::<AnswersAfterDelay, _>(&rt, "answers-after-a-delay")?;
+    say::<RefusalsEnterNothing, _>(&rt, "refusals-enter-nothing")?;
+    say::<ReadsAfterJoin, _>(&rt, "read-after-a-join")?;
+    say::<FollowsDelay, _>(&rt, "follows-a-delay")?;
+    say::<AdoptsPlan, _>(&rt, "adopts-a-plan")?;
+    say::<FullServerAdoptsNothing, _>(&rt, "full-server")
+}
+
+fn say<C: Case, R: Print + Wait + AllocGlobal>(rt: &R, name: &str) -> io::Result<()> {
+    report(rt, name, on_connection::<C, R>(rt))
 }

@@ -1,12 +1,12 @@
 //! Messages that are refused.
 ghost use Rattle.std.specs.Prelude.{◌≡◌, false};
-ghost use Rattle.dm_server_cases.specs.Passes.{IsOpened, IsSame};
+ghost use Rattle.dm_server_cases.specs.Passes.{IsSame};
 
-use crate::calls::{opened, post};
+use crate::calls::post;
+use crate::case::{Case, Opened};
 use dm_base::{ActId, EventId};
-use dm_network::Network;
 use dm_rows::{At, Message, Refusal};
-use dm_samples::{Failure, Sample};
+use dm_samples::Failure;
 use dm_server::{Kept, Server};
 use dm_turn::Pass;
 use std::sync::Wait;
@@ -15,31 +15,22 @@ use std::sync::Wait;
 const CASES: u32 = 6;
 
 /// Each is refused at once, and no entry is made.
-pub fn refusals_enter_nothing<R: Wait + AllocGlobal>(rt: &R) -> Result<(), Failure> {
-    let net = Sample::Connection.network(rt.alloc())?;
-    on_connection(rt, &net)
-}
+pub struct RefusalsEnterNothing;
 
-fn on_connection<R: Wait + AllocGlobal>(rt: &R, net: &Network) -> Result<(), Failure> {
-    let (server, pass) = opened(rt.alloc(), net, 1)?;
-    try_all(rt, net, server, pass)
-}
-
-fn try_all<'n, R: Wait>(
-    rt: &R,
-    _net: &'n Network,
-    server: Server<'n>,
-    mut pass: Pass<Kept<'n>>,
-) -> Result<(), Failure>
-    requires seats { server.seats ≡ 1 }
-    requires pass { IsOpened server.id _net.now 1 pass }
-{
-    let count = refused(rt, &server, &mut pass);
-    let entries = server.close(pass).len();
-    if count == CASES && entries == 0 {
-        Ok(())
-    } else {
-        Err(Failure::Differs(count))
+impl Case for RefusalsEnterNothing {
+    fn come_out<R: Wait + AllocGlobal>(rt: &R, opened: Opened<'_>) -> Result<(), Failure> {
+        let Opened {
+            server,
+            mut pass,
+            ..
+        } = opened;
+        let count = refused(rt, &server, &mut pass);
+        let entries = server.close(pass).len();
+        if count == CASES && entries == 0 {
+            Ok(())
+        } else {
+            Err(Failure::Differs(count))
+        }
     }
 }
 
