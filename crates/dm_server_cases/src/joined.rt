@@ -12,9 +12,9 @@ pub struct ReadsAfterJoin;
 impl Case for ReadsAfterJoin {
     fn come_out<R: Wait + AllocGlobal>(rt: &R, opened: Opened<'_>) -> Result<(), Failure> {
         let Opened {
+            net: _,
             server,
             mut pass,
-            ..
         } = opened;
         let second = server.split(&mut pass);
         let entered = post(rt, &server, &mut pass, LATE) == Ok(1);

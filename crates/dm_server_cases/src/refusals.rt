@@ -20,9 +20,9 @@ pub struct RefusalsEnterNothing;
 impl Case for RefusalsEnterNothing {
     fn come_out<R: Wait + AllocGlobal>(rt: &R, opened: Opened<'_>) -> Result<(), Failure> {
         let Opened {
+            net: _,
             server,
             mut pass,
-            ..
         } = opened;
         let count = refused(rt, &server, &mut pass);
         let entries = server.close(pass).len();
