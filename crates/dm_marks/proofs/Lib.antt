@@ -1,4 +1,3 @@
-pub mod Between
-pub mod Covered
+pub mod Words
 pub mod Listing
 pub mod Marking

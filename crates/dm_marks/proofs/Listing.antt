@@ -11,7 +11,7 @@ use Rattle.dm_marks.specs.Places.{IsPlaceSet}
 use Rattle.dm_marks.specs.Inside.Listing.{IsListed}
 
 -- nothing is in where every flag is off
-none_in : (n place : ℕ) → is_marked (replicate n false) place ≡ false
+pub none_in : (n place : ℕ) → is_marked (replicate n false) place ≡ false
 none_in n place =
     elim (cases_lt place n) [
       | inl below ↦ get_or-replicate n place false false below

@@ -1,3 +1,3 @@
--- Blocks of marks, and how many places are listed.
-pub mod Blocks
+-- Words of bits, and how many places are listed.
+pub mod Words
 pub mod Listing

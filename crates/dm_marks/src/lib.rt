@@ -1,9 +1,9 @@
 //! Marks at places, with the first mark from a place on; and sets of places, which are listed as they come.
 //!
-//! It stands on the standard library alone. [`Marks`] are seen as the list of their flags. Where marks begin and end is kept,
-//! and of each block of places, and each group of blocks, whether it may have one: so a walk over the marks costs what lies
-//! between them, and looks at blocks and groups that have none once. A [`PlaceSet`] tells which of so many places are in, and lists those: so whoever asks for them,
-//! or empties the set, pays for the places that are in and for no others.
+//! It stands on the standard library alone. [`Marks`] are seen as the list of their flags. Beside the flags each place has a bit
+//! in a word, and each word one in a group that tells whether it may have some: so a walk over the marks goes from bit to bit,
+//! and passes over 4,096 places at a time where there is none. A [`PlaceSet`] tells which of so many places are in, and lists
+//! those: so whoever asks for them, or empties the set, pays for the places that are in and for no others.
 //!
 //! # What is promised
 //!

@@ -1,40 +1,35 @@
 //! Marks at places.
-ghost use Rattle.std.specs.Prelude.{ℕ, ◌≡◌, ◌+◌, ◌*◌, ◌/◌, ◌<◌, ◌≤◌, true, false, List, Bool, length, replicate, slice_set, slice_index_or, IfOk, IfSome, IfNone};
+ghost use Rattle.std.specs.Prelude.{ℕ, ◌≡◌, ◌+◌, ◌*◌, ◌/◌, ◌<◌, ◌≤◌, true, false, List, Bool, length, replicate, slice_set, IfOk, IfSome, IfNone};
 ghost use Rattle.dm_marks.specs.Marked.{is_marked, HasMark, IsFirstFrom, NoneFrom};
-ghost use Rattle.dm_marks.specs.Inside.Blocks.{AreCovered, AreFewer, NoneBetween};
+ghost use Rattle.dm_marks.specs.Inside.Words.{Turns, AreCovered, AreFew, IsFirstBit, NoBitFrom, NoBitBetween};
 
 use std::alloc::{AllocError, Global};
 use std::marker::Model;
 
-/// How many places stand in a block, and how many blocks in a group.
-const BLOCK: usize = 32;
+/// How many places a word has a bit for, and how many words a group.
+const WORD: usize = 64;
 
 /// Which places are marked. The first mark from a place on is found without a look at each place between.
 #[derive(Debug, Drop)]
 pub struct Marks {
     flags: Vec<bool>,
 
-    /// Of each block of places whether it may have a mark.
-    blocks: Vec<bool>,
+    /// A bit of each place, which is set where the place is marked.
+    words: Vec<u64>,
 
-    /// Of each group of blocks whether one of them may have a mark.
-    groups: Vec<bool>,
-
-    /// No place before the start is marked, and none from the end on.
-    start: usize,
-    end: usize,
+    /// A bit of each word, which is set where the word has a mark, or had one when it was looked at last.
+    groups: Vec<u64>,
 }
 
 impl Model for Marks {
     ghost use Rattle.std.specs.Prelude.{List, Bool};
-    ghost use Rattle.dm_marks.specs.Inside.Blocks.{AreCovered, AreBetween};
+    ghost use Rattle.dm_marks.specs.Inside.Words.{AreBits, AreCovered};
 
     ghost Value = { List Bool };
 
     ghost view = { λ m. m.flags.items };
 
-    ghost invariant = { λ m. AreCovered m.flags.items m.blocks.items × (AreCovered m.blocks.items m.groups.items ×
-        AreBetween m.flags.items m.start m.end) };
+    ghost invariant = { λ m. AreBits m.flags.items m.words.items × AreCovered m.words.items m.groups.items };
 }
 
 impl Marks {
@@ -43,14 +38,12 @@ impl Marks {
         ensures { IfOk result (λ m. m ≡ replicate places false) }
     {
         let flags = vec![in alloc; false; places]?;
-        let blocks = vec![in alloc; false; places / BLOCK + 1]?;
-        let groups = vec![in alloc; false; blocks.len() / BLOCK + 1]?;
+        let words = vec![in alloc; 0; places / WORD + 1]?;
+        let groups = vec![in alloc; 0; words.len() / WORD + 1]?;
         Ok(Marks {
             flags,
-            blocks,
+            words,
             groups,
-            start: places,
-            end: 0,
         })
     }
 
@@ -58,16 +51,9 @@ impl Marks {
     pub fn all(alloc: Global, places: usize) -> Result<Marks, AllocError>
         ensures { IfOk result (λ m. m ≡ replicate places true) }
     {
-        let flags = vec![in alloc; true; places]?;
-        let blocks = vec![in alloc; true; places / BLOCK + 1]?;
-        let groups = vec![in alloc; true; blocks.len() / BLOCK + 1]?;
-        Ok(Marks {
-            flags,
-            blocks,
-            groups,
-            start: 0,
-            end: places,
-        })
+        let mut marks = Marks::new(alloc, places)?;
+        marks.mark_all();
+        Ok(marks)
     }
 
     /// How many places there are.
@@ -86,29 +72,22 @@ impl Marks {
     }
 
     /// Marks a place.
-    #[tactic(auto, using(crate::proofs::Between::marked_between))]
     pub fn mark(&mut self, place: usize)
         requires { place < length self.old }
         ensures { self.new ≡ slice_set self.old place true }
     {
-        let block = place / BLOCK;
-        self.groups[block / BLOCK] = true;
-        self.blocks[block] = true;
         self.flags[place] = true;
-        self.start = self.start.min(place);
-        self.end = self.end.max(place + 1);
+        set_bit(&mut self.words, place);
+        set_bit(&mut self.groups, place / WORD);
     }
 
     /// Takes the mark at a place away.
-    #[tactic(auto, using(crate::proofs::Between::cleared_between, crate::proofs::Between::cleared_first))]
     pub fn clear(&mut self, place: usize)
         requires { place < length self.old }
         ensures { self.new ≡ slice_set self.old place false }
     {
         self.flags[place] = false;
-        if place == self.start {
-            self.start = place + 1;
-        }
+        clear_bit(&mut self.words, place);
     }
 
     /// Marks every place.
@@ -121,7 +100,7 @@ impl Marks {
         }
     }
 
-    /// Takes all marks away. It looks at blocks that may have some alone.
+    /// Takes all marks away. It looks at words that may have some alone.
     pub fn clear_all(&mut self)
         ensures none { (place : ℕ) → is_marked self.new place ≡ false }
         ensures as_many { length self.new ≡ length self.old }
@@ -144,136 +123,86 @@ impl Marks {
         self.first_from(0).is_some()
     }
 
-    /// The first place that is marked, from this one on. It costs what lies between the marks.
-    #[tactic(auto, using(crate::proofs::Between::first_earlier, crate::proofs::Between::none_earlier))]
+    /// The first place that is marked, from this one on. Between far marks it costs a step for each 4,096 places.
+    #[tactic(auto, using(crate::proofs::Words::first_near))]
     pub fn first_from(&mut self, from: usize) -> Option<usize>
         ensures same { self.new ≡ self.old }
         ensures first { IfSome result (IsFirstFrom self.old from) }
         ensures none { IfNone result (NoneFrom self.old from) }
     {
-        let (start, end) = (from.max(self.start), self.end);
-        let found = self.find(start, end);
-        self.narrow(from, found);
-        found
-    }
-
-    /// The first place that is marked, from this one on, where none is from the end on.
-    #[tactic(auto, using(crate::proofs::Between::none_from_least))]
-    fn find(&mut self, from: usize, end: usize) -> Option<usize>
-        requires { NoneFrom self.old end }
-        ensures same { self.new ≡ self.old }
-        ensures first { IfSome result (IsFirstFrom self.old from) }
-        ensures none { IfNone result (NoneFrom self.old from) }
-    {
-        let until = end.min(self.flags.len());
-        let mut start = from;
-        while start < until {
-            let next = self.next_covered(start)?;
-            if next >= until {
-                return None;
-            }
-            let found = self.first_in_block(next);
-            if found.is_some() {
-                return found;
-            }
-            start = next / BLOCK * BLOCK + BLOCK;
+        if from >= self.flags.len() {
+            return None;
         }
-        None
-    }
-
-    /// Where the next mark may be, from this place on: there, or in a block behind. None is marked before.
-    #[tactic(auto, using(crate::proofs::Covered::none_before_block, crate::proofs::Covered::none_in_blocks))]
-    fn next_covered(&mut self, start: usize) -> Option<usize>
-        ensures same { self.new ≡ self.old }
-        ensures onward { IfSome result (λ place. start ≤ place) }
-        ensures before { IfSome result (NoneBetween self.old start) }
-        ensures none { IfNone result (NoneFrom self.old start) }
-    {
-        let block = first_covered(&self.blocks, &mut self.groups, start / BLOCK)?;
-        Some(start.max(block * BLOCK))
-    }
-
-    /// The first marked place from this one on, of its block.
-    #[tactic(auto, using(crate::proofs::Covered::fewer_covered))]
-    fn first_in_block(&mut self, start: usize) -> Option<usize>
-        requires { start < length self.old }
-        ensures same { self.new ≡ self.old }
-        ensures first { IfSome result (IsFirstFrom self.old start) }
-        ensures none { IfNone result (NoneBetween self.old start (start / BLOCK * BLOCK + BLOCK)) }
-    {
-        first_in_block(&self.flags, &mut self.blocks, start)
-    }
-
-    /// Takes up where the marks begin and end, by the first place that is marked from one on.
-    #[tactic(auto, using(crate::proofs::Between::first_between, crate::proofs::Between::none_left, crate::proofs::Between::end_earlier))]
-    fn narrow(&mut self, from: usize, found: Option<usize>)
-        requires first { IfSome found (IsFirstFrom self.old from) }
-        requires none { IfNone found (NoneFrom self.old from) }
-        ensures { self.new ≡ self.old }
-    {
-        match found {
-            Some(place) if from <= self.start => self.start = place,
-            Some(_) => {}
-            None if from <= self.start => {
-                self.start = self.flags.len();
-                self.end = 0;
-            }
-            None => self.end = self.end.min(from),
+        match first_in_word(&self.words, from) {
+            Some(place) => Some(place),
+            None => first_behind(&self.words, &mut self.groups, from / WORD + 1),
         }
     }
 }
 
-/// The first marked place from one on. Blocks that have no mark are looked at once.
-#[tactic(auto, using(crate::proofs::Covered::none_past))]
-fn first_covered(flags: &[bool], cover: &mut [bool], from: usize) -> Option<usize>
-    requires { AreCovered flags.now cover.old }
-    ensures covered { AreCovered flags.now cover.new }
-    ensures first { IfSome result (IsFirstFrom flags.now from) }
-    ensures none { IfNone result (NoneFrom flags.now from) }
+/// Sets a bit.
+fn set_bit(words: &mut [u64], place: usize)
+    requires { place / WORD < length words.old }
+    ensures { Turns words.old words.new place 1 }
+{
+    words[place / WORD] |= 1 << (place % WORD);
+}
+
+/// Takes a bit back.
+fn clear_bit(words: &mut [u64], place: usize)
+    requires { place / WORD < length words.old }
+    ensures { Turns words.old words.new place 0 }
+{
+    words[place / WORD] &= !(1 << (place % WORD));
+}
+
+/// The first bit that is set, from a word on. A word without bits is told as such, and not looked at again.
+#[tactic(auto, using(crate::proofs::Words::none_behind, crate::proofs::Words::none_until, crate::proofs::Words::covered_told))]
+fn first_behind(words: &[u64], groups: &mut [u64], word: usize) -> Option<usize>
+    requires covered { AreCovered words.now groups.old }
+    requires few { AreFew words.now }
+    ensures covered { AreCovered words.now groups.new }
+    ensures first { IfSome result (IsFirstBit words.now (word * WORD)) }
+    ensures none { IfNone result (NoBitFrom words.now (word * WORD)) }
+{
+    let mut from = word;
+    while let Some(next) = first_bit(groups, from) {
+        if let Some(place) = first_in_word(words, next * WORD) {
+            return Some(place);
+        }
+        clear_bit(groups, next);
+        from = next + 1;
+    }
+    None
+}
+
+/// The first bit that is set, from one on.
+fn first_bit(words: &[u64], from: usize) -> Option<usize>
+    requires few { AreFew words.now }
+    ensures first { IfSome result (IsFirstBit words.now from) }
+    ensures none { IfNone result (NoBitFrom words.now from) }
 {
     let mut start = from;
-    while start < flags.len() {
-        let found = first_in_block(flags, cover, start);
+    while start / WORD < words.len() {
+        let found = first_in_word(words, start);
         if found.is_some() {
             return found;
         }
-        start = start / BLOCK * BLOCK + BLOCK;
+        start = start / WORD * WORD + WORD;
     }
     None
 }
 
-/// The first marked place from this one on, of its block. A block with no mark is not looked through again.
-fn first_in_block(flags: &[bool], cover: &mut [bool], start: usize) -> Option<usize>
-    requires covered { AreCovered flags.now cover.old }
-    requires within { start < length flags.now }
-    ensures covered { AreCovered flags.now cover.new }
-    ensures fewer { AreFewer cover.new cover.old }
-    ensures first { IfSome result (IsFirstFrom flags.now start) }
-    ensures none { IfNone result (NoneBetween flags.now start (start / BLOCK * BLOCK + BLOCK)) }
+/// The first bit that is set, from one on, of its word.
+fn first_in_word(words: &[u64], from: usize) -> Option<usize>
+    requires few { AreFew words.now }
+    requires within { from / WORD < length words.now }
+    ensures first { IfSome result (IsFirstBit words.now from) }
+    ensures none { IfNone result (NoBitBetween words.now from (from / WORD * WORD + WORD)) }
 {
-    let block = start / BLOCK;
-    if !cover[block] {
+    let rest = words[from / WORD] >> (from % WORD);
+    if rest == 0 {
         return None;
     }
-    let end = flags.len().min(block * BLOCK + BLOCK);
-    let found = first_between(flags, start, end);
-    if found.is_none() && start == block * BLOCK {
-        cover[block] = false;
-    }
-    found
-}
-
-/// The first marked place from a start up to an end.
-fn first_between(flags: &[bool], start: usize, end: usize) -> Option<usize>
-    requires { end ≤ length flags.now }
-    ensures first { IfSome result (IsFirstFrom flags.now start) }
-    ensures before { IfSome result (λ place. place < end) }
-    ensures none { IfNone result (NoneBetween flags.now start end) }
-{
-    for place in start..end {
-        if flags[place] {
-            return Some(place);
-        }
-    }
-    None
+    Some(from + rest.trailing_zeros() as usize)
 }
