@@ -10,7 +10,8 @@ use Rattle.atomic_table.proofs.Lists.{set_else}
 use Rattle.std.proofs.lemmas.List.Elements.{All-nil, All-head, All-tail, All-push, All-cons}
 use Rattle.std.proofs.lemmas.List.Sums.{sum_by_push, sum_by-append}
 use Rattle.dm_deques.specs.Rule.{fresh, put_by, taken_by, Balanced, WasEmpty}
-use Rattle.dm_deques.specs.Inside.Steps.{having_put, having_taken, settled, HasPut, HasTaken, HasWhole}
+use Rattle.dm_deques.specs.Deques.{having_put, having_taken, settled}
+use Rattle.dm_deques.specs.Inside.Steps.{HasPut, HasTaken, HasWhole}
 use Rattle.dm_deques.specs.declared.account.Account.{Account}
 use Rattle.dm_deques.proofs.Counts.{set_there, each_set, sum_set, sum_at, sum_lone}
 

@@ -1,9 +1,8 @@
 -- The tallies of one thread with many deques.
 use Rattle.std.specs.Prelude.{List, [], ◌∷◌, false}
 use Rattle.atomic_blocks.specs.Lent.{RowsId}
-use Rattle.dm_deques.specs.Deques.{TallyValue}
+use Rattle.dm_deques.specs.Deques.{TallyValue, settled}
 use Rattle.dm_deques.specs.Rule.{fresh}
-use Rattle.dm_deques.specs.Inside.Steps.{settled}
 
 module _ {T : Type 0} where
   abbrev pub deque_of : TallyValue T → RowsId

@@ -1,7 +1,7 @@
 //! An owner's deque, the thieves of other threads, and their tallies.
 ghost use Rattle.std.specs.Prelude.{◌≡◌, true, false, List, [], ◌∷◌, ◌++◌, length, IfOk, IfSome, IfNone, OnOk, IfErr};
 ghost use Rattle.dm_deques.specs.Rule.{WasEmpty, IsWithin, fresh};
-ghost use Rattle.dm_deques.specs.Inside.Steps.{settled, having_put, having_taken};
+ghost use Rattle.dm_deques.specs.Deques.{settled, having_put, having_taken};
 
 use crate::account::Account;
 use crate::rule::{Fair, Glue, Grown, Put, Steal, Take, Whole};

@@ -76,7 +76,7 @@ pub struct Glue;
 
 impl<T> Join<Account<T>> for Glue {
     ghost use Rattle.std.specs.Prelude.{false};
-    ghost use Rattle.dm_deques.specs.Inside.Steps.{settled};
+    ghost use Rattle.dm_deques.specs.Deques.{settled};
     ghost use Rattle.dm_deques.specs.Rule.{fresh};
 
     ghost both = { settled };

@@ -51,8 +51,8 @@ fn comparison_of<R: Threads + Wait + Sync, G: Hold + Sync>(
     let (net, penalty) = (table.network(), table.penalty());
     let snapshot = table.copy()?;
     let plan = search(
-        means.alloc,
         means.rt,
+        means.alloc,
         net,
         penalty,
         &snapshot,

@@ -113,8 +113,8 @@ pub fn answer_run<'n, R: Threads + Wait + Sync, S: Source + Send + Drop, H: Hold
             × IsTruePlan (whole_task net.entry.now snapshot.now.rows penalty budget) plan) }
     {
         search(
-            means.alloc,
             means.rt,
+            means.alloc,
             net,
             penalty,
             snapshot,

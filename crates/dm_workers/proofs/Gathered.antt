@@ -9,8 +9,7 @@ use Rattle.dm_rows.specs.declared.messages.Decision.{Decision}
 use Rattle.dm_tree.specs.declared.forms.Leaf.{Leaf}
 use Rattle.dm_tree.specs.Plans.{Task}
 use Rattle.dm_bound.specs.Words.{HandValue, lowest, nothing_looked}
-use Rattle.dm_deques.specs.Deques.{TallyValue}
-use Rattle.dm_deques.specs.Inside.Steps.{settled}
+use Rattle.dm_deques.specs.Deques.{TallyValue, settled}
 use Rattle.dm_deques.specs.Sharing.{deque_of, settling, settling_each}
 use Rattle.dm_ways.specs.Ways.{paths_on, leaves_on, on_way, StandApart}
 use Rattle.dm_workers.specs.Inside.Working.{Path, taken_on, IsHandedIn, IsEnd, AreKept, AreListed, IsAtWork, nothing}

@@ -3,10 +3,9 @@ use Rattle.std.proofs.Common.{◌≡◌, ℕ, zero, suc, ◌+◌, ◌<◌, Bool,
 use Rattle.std.specs.Prelude.{map, sum_by}
 use Rattle.std.proofs.lemmas.List.Sums.{sum_by-cons, sum_by_push}
 use Rattle.atomic_blocks.specs.Lent.{RowsId}
-use Rattle.dm_deques.specs.Deques.{TallyValue}
+use Rattle.dm_deques.specs.Deques.{TallyValue, having_taken}
 use Rattle.dm_deques.specs.Rule.{WasEmpty}
 use Rattle.dm_deques.specs.Sharing.{deque_of}
-use Rattle.dm_deques.specs.Inside.Steps.{having_taken}
 use Rattle.dm_ways.specs.Ways.{on_way, paths_on}
 use Rattle.dm_workers.specs.declared.working.Worker.{Worker}
 use Rattle.dm_workers.specs.Inside.Working.{Path, taken_on}

@@ -28,8 +28,8 @@ use std::thread::Threads;
 /// which there are 1 to 16,384, searched by 1 to 16 workers in threads of their own. The penalty is in seconds for each passenger, at
 /// most 1,000,000.
 pub fn search<R: Threads + Wait + Sync, H: Hold + Sync>(
-    alloc: Global,
     rt: &R,
+    alloc: Global,
     net: &Network,
     penalty: u64,
     snapshot: &Snapshot,

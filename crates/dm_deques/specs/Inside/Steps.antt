@@ -1,24 +1,14 @@
 -- What each step on a deque tells.
-use Rattle.std.specs.Prelude.{◌≡◌, true, false, List, ◌++◌, All, None}
+use Rattle.std.specs.Prelude.{◌≡◌, true, false, List, All, None}
 use Rattle.atomic_blocks.specs.Lent.{RowsId}
 use Rattle.crossbeam_deque.specs.declared.handles.Worker.{Worker}
 use Rattle.crossbeam_deque.specs.declared.handles.Stealer.{Stealer}
 use Rattle.crossbeam_deque.specs.Handles.{Pass, view, worker_view, worker_flavor}
 use Rattle.dm_deques.specs.declared.account.Account.{Account}
-use Rattle.dm_deques.specs.Deques.{TallyValue}
+use Rattle.dm_deques.specs.Deques.{TallyValue, having_put, having_taken}
 use Rattle.dm_deques.specs.Rule.{IsWithin}
 
 module _ {T : Type 0} where
-  abbrev pub having_put : Account T → List T → Account T
-  having_put v xs = record v { put = v.put ++ xs }
-
-  abbrev pub having_taken : Account T → List T → Account T
-  having_taken v xs = record v { taken = v.taken ++ xs }
-
-  -- the account of an owner that took a tally in
-  abbrev pub settled : Account T → Account T → Account T
-  settled v w = record v { taken = v.taken ++ w.taken }
-
   abbrev pub HasPut : Account T → List T → Account T → Type 0
   HasPut v xs w = w ≡ having_put v xs
 

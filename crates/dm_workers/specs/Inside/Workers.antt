@@ -9,10 +9,9 @@ use Rattle.dm_rows.specs.Cost.{Costs}
 use Rattle.dm_rows.specs.Sides.{first_decision, second_decision}
 use Rattle.dm_tree.specs.declared.forms.Node.{Node}
 use Rattle.dm_tree.specs.Plans.{Task}
-use Rattle.dm_deques.specs.Deques.{TallyValue}
+use Rattle.dm_deques.specs.Deques.{TallyValue, having_put}
 use Rattle.dm_deques.specs.Sharing.{deque_of}
 use Rattle.dm_deques.specs.Rule.{WasEmpty}
-use Rattle.dm_deques.specs.Inside.Steps.{having_put}
 use Rattle.dm_ways.specs.Ways.{on_way, paths_on}
 use Rattle.dm_workers.specs.declared.working.Worker.{Worker}
 use Rattle.dm_workers.specs.Inside.Working.{Path, taken_on, IsAtWork, nothing}
