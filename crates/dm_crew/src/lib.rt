@@ -20,7 +20,7 @@
 //! `ServerDesk` is a pass of a server as a desk. The code hands the work of a round to threads, where two or more feeds are
 //! still read; no clause says that they run, or that a call which waits returns.
 //!
-//! Want of memory may come at any point.
+//! Want of memory may come up to the end of the last round.
 #![tactic(auto)]
 
 mod day;

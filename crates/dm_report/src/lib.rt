@@ -11,7 +11,8 @@
 //! `print_run`: exactly the run's spelling in version 2, or a proper front of it where a write failed. Its condition is
 //! that the run has a spelling. `Run::fits` reads all numbers of a run and so gives that each is one of its type
 //! (`FitsRun`). `write_timetable`: exactly the lines `id; time` of all events in ascending id. `write_summary`: exactly the
-//! seven lines of a generated day. None takes memory. `dispatch` does not call `write_timetable`, and no test does.
+//! seven lines of a generated day. None takes memory. `dispatch` calls `write_timetable` for
+//! the command `follow`.
 #![tactic(auto)]
 
 mod answers;

@@ -6,9 +6,9 @@
 //!
 //! # What is promised
 //!
-//! `read_words` reads the words of `run`, `check`, `gen`, `follow` and `journey` exactly as the tables have them, without
-//! memory: what is asked for exactly where the words are in them, and nothing exactly outside. `board_words` gives the stops of the boards of a
-//! run's words, else none, and may want memory. Words ask for one thing at most.
+//! `read_words` reads the words of `run`, `check`, `gen`, `follow`, `window`, `rules` and `journey` exactly as the tables have
+//! them, without memory: what is asked for exactly where the words are in them, and nothing exactly outside. `board_words` gives
+//! the stops of the boards of a run's words, else none, and may want memory. Words ask for one thing at most.
 #![tactic(auto)]
 
 mod boards;
