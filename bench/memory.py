@@ -1,10 +1,12 @@
 #!/usr/bin/env python3
 """Refuses memory to a program: python3 bench/memory.py DISPATCHER [CASE..]
 
-DISPATCHER is a built dispatcher. Each case does one task over the connection of examples/ again and again, and each time another
-call for memory is refused, the first, the second and so on, until a run calls for less. Where memory is refused a run is to end
-with status 6 and nothing written, or with the status and the text that it has with ample memory; a line tells each other end,
-and the status is then 1. For each case a row gives how many calls there are, and how many ends of each kind.
+DISPATCHER is a built dispatcher. Each case does one task again and again, over the connection of examples/ or, where several workers
+search, over a day of bench/day.py too; each time another call for memory is refused, the first, the second and so on, until a run
+calls for less. Where memory is refused a run is to end within a minute, with status 6 and nothing written, or with the status and
+the text that it has with ample memory; a line tells each other end, and the status is then 1. For each case a row gives how many
+calls there are, and how many ends of each kind. Which call of several workers comes when depends on their threads, and so does the
+tree of a plan: there each text will do that `check` tells good.
 
 Memory is refused by a library of a few lines that stands before malloc and realloc: it wants a C compiler, `cc`, and a system that
 takes LD_PRELOAD.
@@ -14,6 +16,9 @@ import shutil
 import subprocess
 import sys
 import tempfile
+from itertools import islice
+
+from day import Draws, delays, write_day
 
 SHIM = r'''
 #define _GNU_SOURCE
@@ -44,10 +49,20 @@ void *realloc(void *old, size_t size) {
 
 NO_MEMORY = 6
 
+# The trains of the day.
+TRAINS = 12
+
+PLAN = b'delay event 1 60\nplan 100\nadopt\n'
+DAY_PLAN = ''.join([*islice(delays(Draws(7), TRAINS), 500), 'plan 100\n']).encode()
+
 # The words of each case and the bytes of its feed. The text is that of the run `plan`.
 CASES = {
     'run': (['run', 'net', 'feed', '--penalty=10'], b'delay event 1 60\ntime 6\ncost\n'),
-    'plan': (['run', 'net', 'feed', '--penalty=10'], b'delay event 1 60\nplan 100\nadopt\n'),
+    'plan': (['run', 'net', 'feed', '--penalty=10'], PLAN),
+    'plan-2': (['run', 'net', 'feed', '--penalty=10', '--workers=2'], PLAN),
+    'plan-4': (['run', 'net', 'feed', '--penalty=10', '--workers=4'], PLAN),
+    'day-2': (['run', 'day', 'feed', '--penalty=10', '--workers=2'], DAY_PLAN),
+    'day-4': (['run', 'day', 'feed', '--penalty=10', '--workers=4'], DAY_PLAN),
     'check': (['check', 'net', 'text', '--penalty=10'], b''),
     'gen': (['gen', '7', '9', '--penalty=10'], b''),
     'follow': (['follow', 'net', 'text', '--penalty=10'], b''),
@@ -56,18 +71,34 @@ CASES = {
     'journey': (['journey', 'net', 'text', '1', '4', '150', '--penalty=10'], b''),
 }
 
-# Above this number of calls a case gives up.
-MOST = 20_000
+# Above this number of calls a case gives up, and above these seconds a run does not end.
+MOST = 100_000
+SECONDS = 60
 
 
 def done(program, words, folder, shim, number):
-    """The status and the text of a run whose call of this number is refused, and whether there was such a call."""
+    """The status and the text of a run whose call of this number is refused, and whether there was such a call. The status of a run
+    that does not end is None."""
     mark = os.path.join(folder, 'came')
     if os.path.exists(mark):
         os.remove(mark)
     env = {'LD_PRELOAD': shim, 'REFUSED': str(number), 'CAME': mark}
-    ran = subprocess.run([program, *words], cwd=folder, env=env, stdout=subprocess.PIPE, stderr=subprocess.DEVNULL, check=False)
+    try:
+        ran = subprocess.run([program, *words], cwd=folder, env=env, stdout=subprocess.PIPE, stderr=subprocess.DEVNULL, check=False,
+                             timeout=SECONDS)
+    except subprocess.TimeoutExpired:
+        return None, b'', True
     return ran.returncode, ran.stdout, os.path.exists(mark)
+
+
+def is_good(program, words, folder, text):
+    """Whether `check` tells the text of a search by several workers good."""
+    if not any(word.startswith('--workers') for word in words):
+        return False
+    with open(os.path.join(folder, 'searched'), 'wb') as file:
+        file.write(text)
+    told = subprocess.run([program, 'check', words[1], 'searched', '--penalty=10'], cwd=folder, stdout=subprocess.PIPE, check=False)
+    return told.returncode == 0
 
 
 def judge(program, name, folder, shim):
@@ -86,7 +117,7 @@ def judge(program, name, folder, shim):
             break
         if now == NO_MEMORY and not written:
             refused += 1
-        elif now == status and written == text:
+        elif now == status and (written == text or is_good(program, words, folder, written)):
             whole += 1
         else:
             others += 1
@@ -103,6 +134,8 @@ def main():
     example = os.path.join(os.path.dirname(os.path.dirname(os.path.abspath(__file__))), 'examples', 'connection')
     with tempfile.TemporaryDirectory() as folder:
         shutil.copytree(os.path.join(example, 'net'), os.path.join(folder, 'net'))
+        write_day(7, TRAINS, os.path.join(folder, 'made'))
+        os.rename(os.path.join(folder, 'made', 'net'), os.path.join(folder, 'day'))
         shim = os.path.join(folder, 'refusing.so')
         subprocess.run(['cc', '-shared', '-fPIC', '-O1', '-x', 'c', '-', '-o', shim, '-ldl'], input=SHIM.encode(), check=True)
         with open(os.path.join(folder, 'feed'), 'wb') as file:

@@ -1,0 +1,63 @@
+#!/usr/bin/env python3
+"""Searches a plan by 16 workers again and again: python3 bench/searches.py DISPATCHER [RUNS]
+
+Each of RUNS runs (50 where none are given) hears the 500 delays of the day of bench/day.py with number 7 and 100 trains, and has 16
+workers search a plan of 16,384 nodes. It ends with status 0 within a minute, and `DISPATCHER check` tells its text good. What differs is
+printed with the folder of its text, which is left there, and the status is then 1. The last line tells how many plans there were, and
+their costs and bounds.
+"""
+import os
+import sys
+import tempfile
+
+from crowd import answer
+from day import write_day
+from plans import plan_of, write
+
+RUNS = 50
+TRAINS = 100
+WORKERS = 16
+GOOD = b'good 500 1\n'
+
+
+def fault_of(program, folder, came):
+    """What is wrong with what a run came to, or None."""
+    if came is None:
+        return 'it does not end in time'
+    status, text = came
+    if status != 0:
+        return f'its status is {status}'
+    with open(os.path.join(folder, 'text'), 'wb') as file:
+        file.write(text)
+    told = answer(program, folder, ['check', 'net', 'text', '--penalty=3600'])
+    return None if told == (0, GOOD) else f'the check tells {told}'
+
+
+def searched(program, folder, number):
+    """The words of a run's plan. They are none where something differs, which is printed."""
+    came = answer(program, folder, ['run', 'net', '--penalty=3600', f'--workers={WORKERS}', 'feed'])
+    fault = fault_of(program, folder, came)
+    if fault is None:
+        return ' '.join(plan_of(came[1].decode()))
+    kept = tempfile.mkdtemp()
+    write(kept, 'text', [came[1].decode(errors='replace')] if came else [])
+    print(f'run {number}: {fault}: {kept}', flush=True)
+    return None
+
+
+def main():
+    if not 2 <= len(sys.argv) <= 3:
+        sys.exit(__doc__)
+    program = os.path.abspath(sys.argv[1])
+    runs = int(sys.argv[2]) if len(sys.argv) == 3 else RUNS
+    with tempfile.TemporaryDirectory() as folder:
+        write_day(7, TRAINS, folder)
+        with open(os.path.join(folder, 'delays')) as file:
+            write(folder, 'feed', [*file, 'plan 16384\n'])
+        plans = [searched(program, folder, number) for number in range(1, runs + 1)]
+    print(f'{plans.count(None)} of {runs} differ; the plans:', ', '.join(sorted({plan for plan in plans if plan})))
+    sys.exit(None in plans)
+
+
+if __name__ == '__main__':
+    main()
