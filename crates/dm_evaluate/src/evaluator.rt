@@ -265,6 +265,14 @@ impl Evaluator {
         )
     }
 
+    /// The timetable of the relaxed problem with its cost, held to what the path decides. No event is fixed.
+    pub fn into_priced(self) -> PricedTimetable
+        ensures { result ≡ self.priced }
+    {
+        let Evaluator { priced, .. } = self;
+        priced
+    }
+
     /// The activities of the cycle for which a decision was refused last, each head the next tail.
     pub fn last_cycle(&self) -> &[usize]
         ensures { result.now ≡ cycle_of self.now }

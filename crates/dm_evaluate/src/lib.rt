@@ -17,8 +17,9 @@
 //! violate; `next_violated` is exactly the one behind another in the list of them all.
 //!
 //! Both go from mark to mark: what the times do not keep is marked by every move, and a mark of what they keep goes when it
-//! is met. That few places are marked is no clause. All but `new` take no memory. Laws: a priced timetable that is held to
-//! the relaxed problem of a path (`Evaluates`) has at rest its least times and its cost, and the problem has no cycle.
+//! is met. That few places are marked is no clause. `into_priced` gives the timetable alone. All but `new` take no memory.
+//! Laws: a priced timetable that is held to the relaxed problem of a path (`Evaluates`) has at rest its least times and its
+//! cost, and the problem has no cycle.
 #![tactic(auto)]
 
 mod evaluator;

@@ -151,9 +151,14 @@ fn set_passed_at<L: Ledger>(
       sums = priced.new.sums;
     } }
 {
+    let is_passed = rows.passed(i).is_some();
+    if priced.is_passed(i) == is_passed {
+        return;
+    }
     let into = net.in_row(i, steps);
-    match rows.passed(i) {
-        Some(_) => priced.pass(net, i, into),
-        None => priced.recall(net, i, into),
+    if is_passed {
+        priced.pass(net, i, into);
+    } else {
+        priced.recall(net, i, into);
     }
 }
