@@ -1,13 +1,14 @@
 //! The free choices, by number.
 ghost use Rattle.std.specs.Prelude.{◌<◌, length};
+ghost use Rattle.dm_evaluate.specs.Evaluator.{IsEvaluatorOf};
 
-use crate::moving::Mover;
+use crate::moving::leaving;
 use dm_base::{ActKind, Secs};
+use dm_evaluate::Evaluator;
 use dm_network::Network;
 use dm_paths::{ChoicePlace, place_of_choice};
 use dm_rows::{Choice, Decision, choice_of_pair};
 use std::alloc::{AllocError, Global};
-use std::sync::ledger::Ledger;
 
 /// A side of a choice: a change is kept or dropped, and of a pair the small or the large event is first. First comes the side
 /// of a choice's first child.
@@ -31,6 +32,9 @@ impl Side {
 #[derive(Clone, Copy)]
 struct Sides {
     choice: Choice,
+
+    /// The side that the rows have.
+    own: Side,
     start: usize,
     middle: usize,
     end: usize,
@@ -69,49 +73,47 @@ impl Choices {
         }
     }
 
-    /// Takes up the choices that are open, where there were none.
-    pub fn fill<L: Ledger>(&mut self, mover: &mut Mover<'_, L>) -> Result<(), AllocError> {
-        let net = mover.net();
-        for _ in 0..net.activities() {
-            self.numbers.push(None)?;
-        }
-        self.add_changes(mover, net)?;
-        self.add_pairs(mover, net)
+    /// Takes up the choices that an evaluator leaves open, where there were none.
+    pub fn fill(&mut self, net: &Network, evaluator: &Evaluator) -> Result<(), AllocError>
+        requires { IsEvaluatorOf net.now evaluator.now }
+    {
+        self.sides.reserve(net.pairs())?;
+        self.numbers.resize(net.activities(), None)?;
+        self.pair_numbers.reserve(net.pairs())?;
+        self.add_changes(net, evaluator)?;
+        self.add_pairs(net, evaluator)
     }
 
-    fn add_changes<L: Ledger>(
-        &mut self,
-        mover: &Mover<'_, L>,
-        net: &Network,
-    ) -> Result<(), AllocError> {
+    fn add_changes(&mut self, net: &Network, evaluator: &Evaluator) -> Result<(), AllocError>
+        requires { IsEvaluatorOf net.now evaluator.now }
+    {
         for a in 0..net.activities() {
-            self.add_change(mover, net, a)?;
+            self.add_change(net, evaluator, a)?;
         }
         Ok(())
     }
 
-    fn add_pairs<L: Ledger>(
-        &mut self,
-        mover: &mut Mover<'_, L>,
-        net: &Network,
-    ) -> Result<(), AllocError> {
+    fn add_pairs(&mut self, net: &Network, evaluator: &Evaluator) -> Result<(), AllocError>
+        requires { IsEvaluatorOf net.now evaluator.now }
+    {
         for p in 0..net.pairs() {
-            self.add_pair(mover, net, p)?;
+            self.add_pair(net, evaluator, p)?;
         }
         Ok(())
     }
 
-    fn add_change<L: Ledger>(
+    fn add_change(
         &mut self,
-        mover: &Mover<'_, L>,
         net: &Network,
+        evaluator: &Evaluator,
         a: usize,
     ) -> Result<(), AllocError>
-        requires { a < length net.now.activities }
+        requires evaluator { IsEvaluatorOf net.now evaluator.now }
+        requires is_activity { a < length net.now.activities }
     {
         let activity = net.activity(a);
         let choice = Choice::Change(activity.id);
-        if !matches!(activity.kind, ActKind::Change) || !mover.is_open(choice) {
+        if !matches!(activity.kind, ActKind::Change) || !evaluator.is_open(net, choice) {
             return Ok(());
         }
         let start = self.acts.len();
@@ -119,24 +121,21 @@ impl Choices {
         let end = self.acts.len();
         self.sides.push(Sides {
             choice,
+            own: side_for(evaluator.rows().kept(a)),
             start,
             middle: end,
             end,
-            ends: mover.ends(activity.tail, activity.head),
+            ends: ends_of(net, activity.tail, activity.head),
         })?;
         Ok(())
     }
 
-    fn add_pair<L: Ledger>(
-        &mut self,
-        mover: &mut Mover<'_, L>,
-        net: &Network,
-        p: usize,
-    ) -> Result<(), AllocError>
-        requires { p < length net.now.pairs }
+    fn add_pair(&mut self, net: &Network, evaluator: &Evaluator, p: usize) -> Result<(), AllocError>
+        requires evaluator { IsEvaluatorOf net.now evaluator.now }
+        requires is_pair { p < length net.now.pairs }
     {
         let choice = choice_of_pair(net, p);
-        if !mover.is_open(choice) {
+        if !evaluator.is_open(net, choice) {
             self.pair_numbers.push(None)?;
             return Ok(());
         }
@@ -144,22 +143,24 @@ impl Choices {
         let pair = net.pair(p);
         let (small, large) = (pair.small, pair.large);
         let start = self.acts.len();
-        self.add_headways(net, p, mover.leaving(small))?;
+        self.add_headways(net, p, small)?;
         let middle = self.acts.len();
-        self.add_headways(net, p, mover.leaving(large))?;
+        self.add_headways(net, p, large)?;
         let end = self.acts.len();
         self.sides.push(Sides {
             choice,
+            own: side_for(evaluator.rows().small_first(p)),
             start,
             middle,
             end,
-            ends: mover.ends(small, large),
+            ends: ends_of(net, small, large),
         })?;
         Ok(())
     }
 
-    fn add_headways(&mut self, net: &Network, p: usize, row: &[usize]) -> Result<(), AllocError> {
-        for a in row {
+    /// The headways of a pair out of one of its events.
+    fn add_headways(&mut self, net: &Network, p: usize, tail: usize) -> Result<(), AllocError> {
+        for a in leaving(net, tail) {
             if *a < net.activities() && net.activity(*a).pair == Some(p) {
                 self.add_act(*a)?;
             }
@@ -213,6 +214,24 @@ impl Choices {
         }
     }
 
+    /// The side of a choice that the rows have.
+    pub fn own_side(&self, i: usize) -> Side {
+        match self.sides.get(i) {
+            Some(sides) => sides.own,
+            None => Side::First,
+        }
+    }
+
+    /// The change that is charged for on a side of a choice, if it is one that drops a change.
+    pub fn dropped(&self, i: usize, side: Side) -> Option<usize> {
+        match (self.choice(i), side) {
+            (Some(Choice::Change(_)), Side::Second) => {
+                self.binding(i, Side::First).first().copied()
+            }
+            _ => None,
+        }
+    }
+
     /// What binds on a side of a choice.
     pub fn binding(&self, i: usize, side: Side) -> &[usize] {
         let Some(sides) = self.sides.get(i) else {
@@ -227,6 +246,21 @@ impl Choices {
             None => &[],
         }
     }
+}
+
+/// Two events, and for when the first is scheduled.
+fn ends_of(net: &Network, tail: usize, head: usize) -> Ends {
+    let when = if tail < net.events() {
+        net.event(tail).time
+    } else {
+        0
+    };
+    Ends { tail, head, when }
+}
+
+/// The first side where it is so, and else the second.
+fn side_for(is_first: bool) -> Side {
+    if is_first { Side::First } else { Side::Second }
 }
 
 /// The decision for a side of a choice.

@@ -4,15 +4,10 @@ use crate::choices::Side;
 use crate::gaining::{By, Scores, Table, try_both};
 use crate::scouting::Scout;
 use std::alloc::{AllocError, Global};
-use std::sync::ledger::Ledger;
 
 /// Goes down one path until nothing is violated. Each time it decides the choice whose sides are furthest apart, on the side
 /// that costs less. It is false where each side makes a cycle somewhere.
-pub fn dive<L: Ledger>(
-    alloc: Global,
-    scout: &mut Scout<'_, L>,
-    root: &Table,
-) -> Result<bool, AllocError> {
+pub fn dive(alloc: Global, scout: &mut Scout<'_>, root: &Table) -> Result<bool, AllocError> {
     let choices = scout.choices().len();
     let mut table = root.copy(alloc)?;
     let mut scores = Scores::new(alloc, By::Regret, choices)?;
@@ -35,11 +30,7 @@ pub fn dive<L: Ledger>(
 }
 
 /// Decides a choice on the cheaper side, or on the other where that makes a cycle. It is false where both do.
-pub fn decide_cheaper<L: Ledger>(
-    scout: &mut Scout<'_, L>,
-    i: usize,
-    is_first: bool,
-) -> Result<bool, AllocError> {
+pub fn decide_cheaper(scout: &mut Scout<'_>, i: usize, is_first: bool) -> Result<bool, AllocError> {
     let side = if is_first { Side::First } else { Side::Second };
     if scout.decide(i, side)? {
         return Ok(true);

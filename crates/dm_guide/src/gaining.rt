@@ -4,7 +4,6 @@ use crate::choices::Side;
 use crate::scouting::Scout;
 use dm_base::Cost;
 use std::alloc::{AllocError, Global};
-use std::sync::ledger::Ledger;
 
 /// A gain that stands for no limit.
 const LIMIT: Cost = 1_152_921_504_606_846_976;
@@ -44,7 +43,7 @@ impl Gains {
 }
 
 /// Tries both sides of a choice.
-pub fn try_both<L: Ledger>(scout: &mut Scout<'_, L>, i: usize) -> Gains {
+pub fn try_both(scout: &mut Scout<'_>, i: usize) -> Gains {
     let cost = scout.cost();
     let first = scout.cost_with(i, Side::First);
     let second = scout.cost_with(i, Side::Second);
@@ -60,11 +59,9 @@ pub struct Table {
 impl Table {
     /// A table of so many choices, of which none was tried.
     pub fn new(alloc: Global, choices: usize) -> Result<Table, AllocError> {
-        let mut gains = Vec::new(alloc);
-        for _ in 0..choices {
-            gains.push(None)?;
-        }
-        Ok(Table { gains })
+        Ok(Table {
+            gains: vec![in alloc; None; choices]?,
+        })
     }
 
     pub fn copy(&self, alloc: Global) -> Result<Table, AllocError> {
@@ -108,17 +105,11 @@ impl Scores {
                 leaves = leaves.saturating_mul(2);
             }
         }
-        let tree = Vec::new(alloc);
-        let mut scores = Scores { by, leaves, tree };
-        scores.fill()?;
-        Ok(scores)
-    }
-
-    fn fill(&mut self) -> Result<(), AllocError> {
-        for _ in 0..self.leaves.saturating_mul(2) {
-            self.tree.push(0)?;
-        }
-        Ok(())
+        Ok(Scores {
+            by,
+            leaves,
+            tree: vec![in alloc; 0; leaves.saturating_mul(2)]?,
+        })
     }
 
     fn at(&self, place: usize) -> Cost {
@@ -143,11 +134,7 @@ impl Scores {
     }
 
     /// Looks again at the choices that have become violated, or are so no more.
-    pub fn follow<L: Ledger>(
-        &mut self,
-        scout: &mut Scout<'_, L>,
-        table: &Table,
-    ) -> Result<(), AllocError> {
+    pub fn follow(&mut self, scout: &mut Scout<'_>, table: &Table) -> Result<(), AllocError> {
         for i in &scout.take_changed()? {
             self.look_at(scout, table, *i);
         }
@@ -155,7 +142,7 @@ impl Scores {
     }
 
     /// Scores a choice anew.
-    pub fn look_at<L: Ledger>(&mut self, scout: &Scout<'_, L>, table: &Table, i: usize) {
+    pub fn look_at(&mut self, scout: &Scout<'_>, table: &Table, i: usize) {
         let score = if !scout.is_violated(i) {
             0
         } else {

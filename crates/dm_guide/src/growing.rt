@@ -8,7 +8,6 @@ use crate::tree::{Found, Guide, Hint};
 use dm_base::Cost;
 use dm_tree::Node;
 use std::alloc::{AllocError, Global};
-use std::sync::ledger::Ledger;
 
 /// How many nodes are expanded best first before the rounds, and how few are left for the last round.
 const FIRST: u64 = 16;
@@ -55,9 +54,9 @@ struct Tree {
 
 /// The tree of at most `budget` nodes that grows from the nodes of a tree in preorder, and the best choices that it meets. The scout
 /// stands at the root.
-pub fn grow<L: Ledger>(
+pub fn grow(
     alloc: Global,
-    scout: &mut Scout<'_, L>,
+    scout: &mut Scout<'_>,
     nodes: &[Node],
     table: Table,
     best: Found,
@@ -81,11 +80,7 @@ pub fn grow<L: Ledger>(
 
 impl Tree {
     /// Takes up the nodes of a tree.
-    fn take_up<L: Ledger>(
-        &mut self,
-        scout: &mut Scout<'_, L>,
-        nodes: &[Node],
-    ) -> Result<(), AllocError> {
+    fn take_up(&mut self, scout: &mut Scout<'_>, nodes: &[Node]) -> Result<(), AllocError> {
         let mut due = Vec::new(self.alloc);
         self.add_unseen(0, 0, 0, Side::First)?;
         due.push(0_usize)?;
@@ -155,7 +150,7 @@ impl Tree {
     }
 
     /// Goes to a node and looks at it.
-    fn see<L: Ledger>(&mut self, scout: &mut Scout<'_, L>, node: usize) -> Result<(), AllocError> {
+    fn see(&mut self, scout: &mut Scout<'_>, node: usize) -> Result<(), AllocError> {
         if self.go_to(scout, node)? {
             self.look(scout, node)?;
         }
@@ -163,7 +158,7 @@ impl Tree {
     }
 
     /// Looks at the node where the scout stands: where nothing is violated it may be the best, else it may be branched on.
-    fn look<L: Ledger>(&mut self, scout: &mut Scout<'_, L>, node: usize) -> Result<(), AllocError> {
+    fn look(&mut self, scout: &mut Scout<'_>, node: usize) -> Result<(), AllocError> {
         let cost = scout.cost();
         let choice = scout.violated()?.first().copied();
         if let Some(grown) = self.nodes.get_mut(node) {
@@ -172,18 +167,14 @@ impl Tree {
             grown.is_open = choice.is_some();
         }
         if choice.is_none() && cost < self.best.cost {
-            let path = Vec::from_slice(self.alloc, scout.path())?;
+            let path = scout.path()?;
             self.best = Found { path, cost };
         }
         Ok(())
     }
 
     /// Expands what costs least a few times, of several the youngest.
-    fn begin<L: Ledger>(
-        &mut self,
-        scout: &mut Scout<'_, L>,
-        budget: u64,
-    ) -> Result<(), AllocError> {
+    fn begin(&mut self, scout: &mut Scout<'_>, budget: u64) -> Result<(), AllocError> {
         for _ in 0..FIRST.min(self.left(budget)) {
             let mut next: Option<Leaf> = None;
             for leaf in &self.open_leaves()? {
@@ -201,11 +192,7 @@ impl Tree {
     }
 
     /// Expands the rest in rounds, each down to a limit of costs.
-    fn go_on<L: Ledger>(
-        &mut self,
-        scout: &mut Scout<'_, L>,
-        budget: u64,
-    ) -> Result<(), AllocError> {
+    fn go_on(&mut self, scout: &mut Scout<'_>, budget: u64) -> Result<(), AllocError> {
         for _ in 0..budget {
             let left = self.left(budget);
             let leaves = self.open_leaves()?;
@@ -232,9 +219,9 @@ impl Tree {
     }
 
     /// Expands the chosen leaves in preorder, and below them what costs less than the limit, so often at most.
-    fn round<L: Ledger>(
+    fn round(
         &mut self,
-        scout: &mut Scout<'_, L>,
+        scout: &mut Scout<'_>,
         chosen: Vec<usize>,
         limit: Cost,
         most: u64,
@@ -295,11 +282,7 @@ impl Tree {
     }
 
     /// Branches at an open leaf that costs less than the best, and gives its children.
-    fn expand<L: Ledger>(
-        &mut self,
-        scout: &mut Scout<'_, L>,
-        node: usize,
-    ) -> Result<Vec<usize>, AllocError> {
+    fn expand(&mut self, scout: &mut Scout<'_>, node: usize) -> Result<Vec<usize>, AllocError> {
         let mut children = Vec::new(self.alloc);
         if self.open_at(node).is_none() {
             return Ok(children);
@@ -314,7 +297,9 @@ impl Tree {
         let beside = below.saturating_add(1);
         // The second first, so that the scout then stands at the first.
         let second = self.child(scout, beside)?;
-        self.go_to(scout, node)?;
+        if self.here.last() == Some(&beside) {
+            self.go_up(scout)?;
+        }
         let first = self.child(scout, below)?;
         self.table.set(number, Gains::over(cost, first, second));
         self.scores.look_at(scout, &self.table, number);
@@ -325,9 +310,9 @@ impl Tree {
     }
 
     /// Goes to a leaf, and gives the violated choice that promises most there.
-    fn choice_at<L: Ledger>(
+    fn choice_at(
         &mut self,
-        scout: &mut Scout<'_, L>,
+        scout: &mut Scout<'_>,
         node: usize,
     ) -> Result<Option<usize>, AllocError> {
         if self.go_to(scout, node)? {
@@ -344,11 +329,7 @@ impl Tree {
     }
 
     /// Goes down to a child, and gives what it costs.
-    fn child<L: Ledger>(
-        &mut self,
-        scout: &mut Scout<'_, L>,
-        node: usize,
-    ) -> Result<Cost, AllocError> {
+    fn child(&mut self, scout: &mut Scout<'_>, node: usize) -> Result<Cost, AllocError> {
         if !self.go_down(scout, node)? {
             return Ok(Cost::MAX);
         }
@@ -357,10 +338,7 @@ impl Tree {
     }
 
     /// The violated choice that promises most where the scout stands, the first of those that promise the same.
-    fn choice_here<L: Ledger>(
-        &mut self,
-        scout: &mut Scout<'_, L>,
-    ) -> Result<Option<usize>, AllocError> {
+    fn choice_here(&mut self, scout: &mut Scout<'_>) -> Result<Option<usize>, AllocError> {
         self.scores.follow(scout, &self.table)?;
         for _ in 0..scout.choices().len().saturating_add(1) {
             let Some(i) = self.scores.top() else {
@@ -383,11 +361,7 @@ impl Tree {
     }
 
     /// The violated choice that promises most where no gain counts for more than a cap.
-    fn most_under<L: Ledger>(
-        &self,
-        scout: &mut Scout<'_, L>,
-        cap: Cost,
-    ) -> Result<Option<usize>, AllocError> {
+    fn most_under(&self, scout: &mut Scout<'_>, cap: Cost) -> Result<Option<usize>, AllocError> {
         let mut most = None;
         for i in scout.violated()? {
             let promise = match self.table.get(*i) {
@@ -406,11 +380,10 @@ impl Tree {
     }
 
     /// Brings the scout to a node, through what both places have in common. It is false where a decision makes a cycle.
-    fn go_to<L: Ledger>(
-        &mut self,
-        scout: &mut Scout<'_, L>,
-        node: usize,
-    ) -> Result<bool, AllocError> {
+    fn go_to(&mut self, scout: &mut Scout<'_>, node: usize) -> Result<bool, AllocError> {
+        if self.here.last() == Some(&node) {
+            return Ok(true);
+        }
         let way = self.way_to(node)?;
         let common = common_front(&self.here, &way);
         for _ in common..self.here.len() {
@@ -442,7 +415,7 @@ impl Tree {
         Ok(way)
     }
 
-    fn go_up<L: Ledger>(&mut self, scout: &mut Scout<'_, L>) -> Result<(), AllocError> {
+    fn go_up(&mut self, scout: &mut Scout<'_>) -> Result<(), AllocError> {
         let Some(node) = self.here.pop() else {
             return Ok(());
         };
@@ -453,11 +426,7 @@ impl Tree {
     }
 
     /// Goes down to a child. It is false where that makes a cycle: then the scout stays.
-    fn go_down<L: Ledger>(
-        &mut self,
-        scout: &mut Scout<'_, L>,
-        node: usize,
-    ) -> Result<bool, AllocError> {
+    fn go_down(&mut self, scout: &mut Scout<'_>, node: usize) -> Result<bool, AllocError> {
         let Some(grown) = self.nodes.get(node).copied() else {
             return Ok(false);
         };
@@ -469,7 +438,7 @@ impl Tree {
     }
 
     /// What the tree says.
-    fn told<L: Ledger>(&self, scout: &Scout<'_, L>) -> Result<Guide, AllocError> {
+    fn told(&self, scout: &Scout<'_>) -> Result<Guide, AllocError> {
         let mut hints = Vec::new(self.alloc);
         for grown in &self.nodes {
             let choice = match grown.choice {
@@ -506,9 +475,8 @@ fn cheapest(alloc: Global, leaves: &[Leaf], many: u64) -> Result<Chosen, AllocEr
     for leaf in leaves {
         costs.push(leaf.cost)?;
     }
-    costs.sort()?;
     let many = many.min(costs.len() as u64) as usize;
-    let limit = costs.get(many.saturating_sub(1)).copied().unwrap_or(0);
+    let limit = nth_least(&mut costs, many.saturating_sub(1));
     let mut ties = many;
     for leaf in leaves {
         if leaf.cost < limit {
@@ -516,6 +484,15 @@ fn cheapest(alloc: Global, leaves: &[Leaf], many: u64) -> Result<Chosen, AllocEr
         }
     }
     at_most(alloc, leaves, limit, ties)
+}
+
+/// The cost that as many others are not above, or 0 where there are not so many.
+fn nth_least(costs: &mut [Cost], many: usize) -> Cost {
+    if many >= costs.len() {
+        return 0;
+    }
+    let (_below, nth, _above) = costs.select_nth_unstable(many);
+    *nth
 }
 
 /// The leaves that cost less than a limit, and the first so many of those that cost just that.

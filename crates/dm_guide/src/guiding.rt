@@ -1,5 +1,4 @@
 //! Good choices first, and then a tree.
-ghost use Rattle.std.specs.Prelude.{◌≡◌, ◌<◌};
 ghost use Rattle.dm_guide.specs.Tasks.{IsPosedTask};
 
 use crate::choices::side_of;
@@ -7,17 +6,15 @@ use crate::diving::dive;
 use crate::gaining::{Table, try_both};
 use crate::growing::grow;
 use crate::kicking::Kicks;
-use crate::moving::Mover;
+use crate::rooting::at_root;
 use crate::scouting::Scout;
 use crate::tasks::Task;
 use crate::tree::{Found, Guide};
 use crate::windows::{WIDE, Windows, all_binding};
-use dm_base::{Cost, Steps};
+use dm_base::Cost;
 use dm_rows::Decision;
 use dm_tree::Node;
 use std::alloc::{AllocError, Global};
-use std::marker::Brand;
-use std::sync::ledger::{Blank, Ledger};
 
 /// How many decisions are made or tried for each node of the budget by windows, and by kicks.
 const TRIES: u64 = 16;
@@ -35,34 +32,12 @@ pub struct Start<'s> {
 pub fn guide(task: &Task<'_>, start: Start<'_>) -> Result<Guide, AllocError>
     requires { IsPosedTask task.now }
 {
-    guide_with::<Brand>(task, start, Blank::new(1))
-}
-
-fn guide_with<L: Ledger>(
-    task: &Task<'_>,
-    start: Start<'_>,
-    blank: Blank,
-) -> Result<Guide, AllocError>
-    requires posed { IsPosedTask task.now }
-    requires name { blank.name ≡ L.name }
-    requires parts { blank.parts ≡ L.parts }
-    requires has_a_part { 0 < blank.parts }
-{
-    let steps = Steps::<L>::new(blank);
-    let mover = Mover::<L>::new(task.alloc, task.net, task.rows, task.penalty, steps)?;
-    let mut scout = Scout::new(task.alloc, mover);
+    let (mover, choices) = at_root(task)?;
+    let mut scout = Scout::new(task.alloc, mover, task.base, choices);
     on_scout(task, &mut scout, start)
 }
 
-fn on_scout<L: Ledger>(
-    task: &Task<'_>,
-    scout: &mut Scout<'_, L>,
-    start: Start<'_>,
-) -> Result<Guide, AllocError> {
-    // The rows have the base and no cycle, so that only memory may be missing.
-    if !scout.enter(task.base) {
-        return Err(AllocError);
-    }
+fn on_scout(task: &Task<'_>, scout: &mut Scout<'_>, start: Start<'_>) -> Result<Guide, AllocError> {
     scout.look_at_all()?;
     let table = tried_at_root(task.alloc, scout)?;
     let found = found_by(task.alloc, scout, &table, start, task.budget)?;
@@ -70,7 +45,7 @@ fn on_scout<L: Ledger>(
 }
 
 /// The gains of the choices that are violated at the root.
-fn tried_at_root<L: Ledger>(alloc: Global, scout: &mut Scout<'_, L>) -> Result<Table, AllocError> {
+fn tried_at_root(alloc: Global, scout: &mut Scout<'_>) -> Result<Table, AllocError> {
     let mut table = Table::new(alloc, scout.choices().len())?;
     let violated = Vec::from_slice(alloc, scout.violated()?)?;
     for i in &violated {
@@ -81,9 +56,9 @@ fn tried_at_root<L: Ledger>(alloc: Global, scout: &mut Scout<'_, L>) -> Result<T
 }
 
 /// Good choices that cost less than those of the start, if the scout finds some. It stands at the root before and after.
-fn found_by<L: Ledger>(
+fn found_by(
     alloc: Global,
-    scout: &mut Scout<'_, L>,
+    scout: &mut Scout<'_>,
     table: &Table,
     start: Start<'_>,
     budget: u64,
@@ -109,7 +84,7 @@ fn found_by<L: Ledger>(
 }
 
 /// Makes the choices better, by windows and by kicks with so many decisions each.
-fn climb<L: Ledger>(alloc: Global, scout: &mut Scout<'_, L>, tries: u64) -> Result<(), AllocError> {
+fn climb(alloc: Global, scout: &mut Scout<'_>, tries: u64) -> Result<(), AllocError> {
     let choices = scout.choices().len();
     let limit = scout.tried().saturating_add(tries);
     let mut windows = Windows::new(alloc, choices, limit)?;
@@ -121,22 +96,18 @@ fn climb<L: Ledger>(alloc: Global, scout: &mut Scout<'_, L>, tries: u64) -> Resu
 }
 
 /// The choices where the scout stands, if they violate nothing and cost less than what was found before.
-fn found_at<L: Ledger>(
-    alloc: Global,
-    scout: &mut Scout<'_, L>,
-    before: Found,
-) -> Result<Found, AllocError> {
+fn found_at(alloc: Global, scout: &mut Scout<'_>, before: Found) -> Result<Found, AllocError> {
     if scout.first_violated()?.is_some() || scout.cost() >= before.cost {
         return Ok(before);
     }
     Ok(Found {
-        path: Vec::from_slice(alloc, scout.path())?,
+        path: scout.path()?,
         cost: scout.cost(),
     })
 }
 
 /// Decides each choice as these choices say, and the others as the rows have them.
-fn take_over<L: Ledger>(scout: &mut Scout<'_, L>, choices: &[Decision]) -> Result<(), AllocError> {
+fn take_over(scout: &mut Scout<'_>, choices: &[Decision]) -> Result<(), AllocError> {
     for decision in choices {
         let number = scout.choices().find(scout.net(), decision.choice());
         if let Some(i) = number {
@@ -144,14 +115,14 @@ fn take_over<L: Ledger>(scout: &mut Scout<'_, L>, choices: &[Decision]) -> Resul
         }
     }
     for i in (0..scout.choices().len()).rev() {
-        let side = scout.own_side(i);
+        let side = scout.choices().own_side(i);
         let _decided = scout.decide(i, side)?;
     }
     Ok(())
 }
 
 /// Takes all decisions back.
-fn go_back<L: Ledger>(scout: &mut Scout<'_, L>) -> Result<(), AllocError> {
+fn go_back(scout: &mut Scout<'_>) -> Result<(), AllocError> {
     for i in 0..scout.choices().len() {
         scout.undecide(i)?;
     }

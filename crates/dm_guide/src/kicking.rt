@@ -7,7 +7,6 @@ use crate::scouting::Scout;
 use crate::windows::{Windows, all_binding, binding};
 use dm_base::Cost;
 use std::alloc::{AllocError, Global};
-use std::sync::ledger::Ledger;
 
 /// How many rounds of kicks there are at most.
 const ROUNDS: usize = 4;
@@ -33,11 +32,7 @@ pub struct Kicks {
 
 impl Kicks {
     /// No kick yet. The search ends when so many decisions were made or tried.
-    pub fn new<L: Ledger>(
-        alloc: Global,
-        scout: &Scout<'_, L>,
-        limit: u64,
-    ) -> Result<Kicks, AllocError> {
+    pub fn new(alloc: Global, scout: &Scout<'_>, limit: u64) -> Result<Kicks, AllocError> {
         let choices = scout.choices().len();
         let mut kicks = Kicks {
             alloc,
@@ -51,7 +46,7 @@ impl Kicks {
     }
 
     /// Kicks each choice that binds, and later those near which something became better.
-    pub fn improve<L: Ledger>(&mut self, scout: &mut Scout<'_, L>) -> Result<(), AllocError> {
+    pub fn improve(&mut self, scout: &mut Scout<'_>) -> Result<(), AllocError> {
         let mut seeds = all_binding(self.alloc, scout)?;
         for _ in 0..ROUNDS {
             self.windows.touched.forget();
@@ -68,11 +63,7 @@ impl Kicks {
     }
 
     /// One kick of each of these choices that binds.
-    pub fn round<L: Ledger>(
-        &mut self,
-        scout: &mut Scout<'_, L>,
-        seeds: &[usize],
-    ) -> Result<(), AllocError> {
+    pub fn round(&mut self, scout: &mut Scout<'_>, seeds: &[usize]) -> Result<(), AllocError> {
         for i in seeds {
             if scout.tried() >= self.windows.limit {
                 return Ok(());
@@ -85,7 +76,7 @@ impl Kicks {
     }
 
     /// Turns a choice to its other side, decides what is near anew, and keeps what is better.
-    fn kick<L: Ledger>(&mut self, scout: &mut Scout<'_, L>, i: usize) -> Result<(), AllocError> {
+    fn kick(&mut self, scout: &mut Scout<'_>, i: usize) -> Result<(), AllocError> {
         let Some(side) = scout.side(i) else {
             return Ok(());
         };
@@ -108,7 +99,7 @@ impl Kicks {
     }
 
     /// Opens small windows around the first choices that bind where something has moved.
-    fn mend<L: Ledger>(&mut self, scout: &mut Scout<'_, L>, i: usize) -> Result<(), AllocError> {
+    fn mend(&mut self, scout: &mut Scout<'_>, i: usize) -> Result<(), AllocError> {
         let mut left = WINDOWS;
         let far = scout.far()?;
         for j in &far {
@@ -123,7 +114,7 @@ impl Kicks {
     }
 
     /// The decided choices that are nearest to one in the network, itself first.
-    fn gather<L: Ledger>(&mut self, scout: &mut Scout<'_, L>, i: usize) -> Result<(), AllocError> {
+    fn gather(&mut self, scout: &mut Scout<'_>, i: usize) -> Result<(), AllocError> {
         self.ball.forget();
         self.events.forget();
         let _new = self.ball.add(i)?;
@@ -139,16 +130,17 @@ impl Kicks {
                 return Ok(());
             }
             let (into, out_of) = scout.rows(event);
-            self.add_near(scout, into)?;
-            self.add_near(scout, out_of)?;
+            self.add_near(scout, event, into)?;
+            self.add_near(scout, event, out_of)?;
         }
         Ok(())
     }
 
-    /// Adds the decided choices and the events of a row.
-    fn add_near<L: Ledger>(
+    /// Adds the decided choices of an event's row, and the events beside it there.
+    fn add_near(
         &mut self,
-        scout: &Scout<'_, L>,
+        scout: &Scout<'_>,
+        event: usize,
         row: &[usize],
     ) -> Result<(), AllocError> {
         let net = scout.net();
@@ -159,8 +151,8 @@ impl Kicks {
                 }
             }
             if *a < net.activities() {
-                let _new = self.events.add(net.activity(*a).tail)?;
-                let _new = self.events.add(net.activity(*a).head)?;
+                let (tail, head) = (net.activity(*a).tail, net.activity(*a).head);
+                let _new = self.events.add(if tail == event { head } else { tail })?;
             }
         }
         Ok(())
@@ -169,7 +161,7 @@ impl Kicks {
 
 /// Decides the first violated choice on its cheaper side until nothing is violated. It is false where that costs more than a
 /// thousandth above a cost, or each side of a choice makes a cycle.
-fn repair<L: Ledger>(scout: &mut Scout<'_, L>, before: Cost) -> Result<bool, AllocError> {
+fn repair(scout: &mut Scout<'_>, before: Cost) -> Result<bool, AllocError> {
     let most = before.saturating_add(before / 1000);
     for _ in 0..scout.choices().len() {
         if scout.cost() > most {

@@ -1,61 +1,50 @@
-//! An evaluator with the network of which it is.
-ghost use Rattle.std.specs.Prelude.{◌≡◌, ◌≤◌};
+//! A timetable that holds what decisions hold.
+ghost use Rattle.std.specs.Prelude.{◌≡◌, ◌<◌, ◌≤◌, length};
 ghost use Rattle.dm_base.specs.declared.limits.TheConstants.{PENALTY};
-ghost use Rattle.dm_rows.specs.Rows.{IsSized};
+ghost use Rattle.dm_live.specs.Live.{NoneFixed};
+ghost use Rattle.dm_priced.specs.Priced.{IsPriced};
 
-use crate::choices::{Ends, Side};
 use dm_base::{Cost, Secs, Steps};
-use dm_evaluate::Evaluator;
 use dm_network::Network;
-use dm_rows::{Choice, Decision, Rows};
-use dm_times::{comes_too_early, span_of};
-use std::alloc::{AllocError, Global};
-use std::marker::Model;
-use std::sync::ledger::Ledger;
+use dm_priced::PricedTimetable;
+use std::marker::{Brand, Model};
+use std::sync::ledger::{Blank, Ledger};
 
-/// The relaxed problem of a path that grows and shrinks.
+/// The relaxed problem of a path that grows and shrinks. Times follow what is held or let go when they are settled, so that many
+/// decisions that are made and taken back one after the other move the times once.
 #[derive(Drop)]
-pub struct Mover<'a, L: Ledger> {
+pub struct Mover<'a> {
     net: &'a Network,
     penalty: u64,
-    evaluator: Evaluator,
-    steps: Steps<L>,
+    priced: PricedTimetable,
+    is_settled: bool,
 }
 
-impl<'a, L: Ledger> Model for Mover<'a, L> {
+impl<'a> Model for Mover<'a> {
     ghost use Rattle.std.specs.Prelude.{◌≤◌};
     ghost use Rattle.dm_base.specs.declared.limits.TheConstants.{PENALTY};
-    ghost use Rattle.dm_evaluate.specs.Evaluator.{EvaluatorValue, IsEvaluatorOf};
+    ghost use Rattle.dm_live.specs.Live.{NoneFixed};
+    ghost use Rattle.dm_priced.specs.Priced.{IsPriced};
 
-    ghost Value = { EvaluatorValue };
+    ghost Value = { Unit {0} };
 
-    ghost view = { λ m. m.evaluator };
+    ghost view = { λ m. tt };
 
-    ghost invariant = { λ m. (m.penalty ≤ PENALTY) × IsEvaluatorOf m.net.now m.evaluator };
+    ghost invariant = { λ m. (m.penalty ≤ PENALTY) × IsPriced m.net.now m.priced × NoneFixed m.priced.live.fixed };
 }
 
-impl<'a, L: Ledger> Mover<'a, L> {
-    /// The path without a decision over rows that have no cycle.
-    pub fn new(
-        alloc: Global,
-        net: &'a Network,
-        rows: &Rows,
-        penalty: u64,
-        steps: Steps<L>,
-    ) -> Result<Mover<'a, L>, AllocError>
-        requires sized { IsSized net.now rows.now }
+impl<'a> Mover<'a> {
+    /// A timetable in which no event is fixed.
+    pub fn new(net: &'a Network, penalty: u64, priced: PricedTimetable) -> Mover<'a>
         requires penalty { penalty ≤ PENALTY }
+        requires priced { IsPriced net.now priced }
+        requires open { NoneFixed priced.live.fixed }
     {
-        let rows = rows.copy()?;
-        // What binds at the root has no cycle where the rows have none, so that only memory may be missing.
-        match Evaluator::new(alloc, net, rows) {
-            Ok(evaluator) => Ok(Mover {
-                net,
-                penalty,
-                evaluator,
-                steps,
-            }),
-            Err(_no_times) => Err(AllocError),
+        Mover {
+            net,
+            penalty,
+            priced,
+            is_settled: false,
         }
     }
 
@@ -63,49 +52,60 @@ impl<'a, L: Ledger> Mover<'a, L> {
         self.net
     }
 
-    pub fn path(&self) -> &[Decision] {
-        self.evaluator.path()
+    /// Computes the times that were moved since this was done last.
+    pub fn settle(&mut self) {
+        if !self.is_settled {
+            settle::<Brand>(&mut self.priced, self.net, Blank::new(1));
+            self.is_settled = true;
+        }
     }
 
     /// What the path costs when relaxed.
-    pub fn cost(&self) -> Cost {
-        self.evaluator.cost(self.net, self.penalty)
+    pub fn cost(&mut self) -> Cost {
+        self.settle();
+        self.priced.cost(self.penalty)
     }
 
-    /// Whether a choice is free, and the path leaves it undecided.
-    pub fn is_open(&self, choice: Choice) -> bool {
-        self.evaluator.is_open(self.net, choice)
-    }
-
-    /// Makes a decision, if its choice is open and it makes no cycle.
-    pub fn decide(&mut self, decision: Decision) -> bool {
-        if !self.evaluator.is_open(self.net, decision.choice()) {
-            return false;
-        }
-        let decided = self.evaluator.decide(self.net, decision, &mut self.steps);
-        decided.is_ok()
-    }
-
-    /// Makes decisions one after the other. It is false where one of them is not made.
-    pub fn enter(&mut self, decisions: &[Decision]) -> bool {
-        for decision in decisions {
-            if !self.decide(*decision) {
+    /// Holds activities. It is false where that makes a cycle: then they are not held.
+    pub fn hold(&mut self, acts: &[usize]) -> bool {
+        for k in 0..acts.len() {
+            if !self.hold_one(acts[k]) {
+                self.release(&acts[..k]);
                 return false;
             }
         }
         true
     }
 
-    /// Takes back the decision of a choice, if it is decided.
-    pub fn undecide(&mut self, choice: Choice) {
-        if self.evaluator.has_decided(choice) {
-            self.evaluator.undecide(self.net, choice, &mut self.steps);
+    fn hold_one(&mut self, act: usize) -> bool {
+        self.is_settled = false;
+        act < self.net.activities() && self.priced.hold(self.net, act).is_ok()
+    }
+
+    /// Lets activities go.
+    pub fn release(&mut self, acts: &[usize]) {
+        for act in acts {
+            self.release_one(*act);
         }
     }
 
-    /// The least time of an event, in seconds, or 0 where there is no such event.
+    fn release_one(&mut self, act: usize) {
+        self.is_settled = false;
+        if act < self.net.activities() {
+            self.priced.release(self.net, act);
+        }
+    }
+
+    /// Charges for a change that is dropped, or no longer.
+    pub fn charge(&mut self, act: usize, charged: bool) {
+        if act < self.net.activities() {
+            self.priced.charge(self.net, act, charged);
+        }
+    }
+
+    /// The time that an event had when the times were settled last, in seconds, or 0 where there is no such event.
     pub fn time(&self, event: usize) -> Secs {
-        let times = self.evaluator.times();
+        let times = self.priced.live().times();
         if event < times.events() {
             times.time(event)
         } else {
@@ -113,63 +113,75 @@ impl<'a, L: Ledger> Mover<'a, L> {
         }
     }
 
-    /// Whether there is such an activity, and its head comes before its tail and its span allow.
+    /// Whether there is such an activity, and its head came before its tail and its span allow.
     pub fn is_early(&self, act: usize) -> bool {
-        let times = self.evaluator.times();
-        act < self.net.activities()
-            && times.events() == self.net.events()
-            && comes_too_early(self.net, self.evaluator.rows(), times, act)
+        if act >= self.net.activities() {
+            return false;
+        }
+        let activity = self.net.activity(act);
+        let span = self.priced.live().span(act);
+        self.time(activity.head) < self.time(activity.tail).saturating_add(span)
     }
 
-    /// Whether there is such an activity, and its head comes just when its tail and its span allow.
+    /// Whether there is such an activity, and its head came just when its tail and its span allow.
     pub fn is_tight(&self, act: usize) -> bool {
         if act >= self.net.activities() {
             return false;
         }
         let activity = self.net.activity(act);
-        let span = span_of(self.net, self.evaluator.rows(), act);
+        let span = self.priced.live().span(act);
         self.time(activity.head) == self.time(activity.tail).saturating_add(span)
     }
+}
 
-    /// Two events, and for when the first is scheduled.
-    pub fn ends(&self, tail: usize, head: usize) -> Ends {
-        let when = if tail < self.net.events() {
-            self.net.event(tail).time
-        } else {
-            0
-        };
-        Ends { tail, head, when }
+/// The activities out of an event, and none where there is no such event.
+pub fn leaving(net: &Network, event: usize) -> &[usize] {
+    if event < net.events() {
+        out_row::<Brand>(net, event, Blank::new(1))
+    } else {
+        &[]
     }
+}
 
-    /// The side of a choice that the rows have, by an activity that binds on its first side.
-    pub fn own_side(&self, act: usize) -> Side {
-        if act >= self.net.activities() {
-            return Side::First;
-        }
-        self.net.sound();
-        let rows = self.evaluator.rows();
-        let is_first = match self.net.activity(act).pair {
-            Some(pair) => rows.small_first(pair),
-            None => rows.kept(act),
-        };
-        if is_first { Side::First } else { Side::Second }
+/// The activities into an event, and none where there is no such event.
+pub fn entering(net: &Network, event: usize) -> &[usize] {
+    if event < net.events() {
+        in_row::<Brand>(net, event, Blank::new(1))
+    } else {
+        &[]
     }
+}
 
-    /// The activities out of an event, and none where there is no such event.
-    pub fn leaving(&mut self, event: usize) -> &'a [usize] {
-        if event < self.net.events() {
-            self.net.out_row(event, &mut self.steps)
-        } else {
-            &[]
-        }
-    }
+/// Settles a timetable. Nobody asks how many steps it takes.
+fn settle<L: Ledger>(priced: &mut PricedTimetable, net: &Network, blank: Blank)
+    requires name { blank.name ≡ L.name }
+    requires parts { blank.parts ≡ L.parts }
+    requires has_a_part { 0 < blank.parts }
+    requires priced { IsPriced net.now priced.old }
+    requires open { NoneFixed priced.old.live.fixed }
+    ensures priced { IsPriced net.now priced.new }
+    ensures open { NoneFixed priced.new.live.fixed }
+{
+    let mut steps = Steps::<L>::new(blank);
+    priced.settle(net, &mut steps);
+}
 
-    /// The activities into an event, and none where there is no such event.
-    pub fn entering(&mut self, event: usize) -> &'a [usize] {
-        if event < self.net.events() {
-            self.net.in_row(event, &mut self.steps)
-        } else {
-            &[]
-        }
-    }
+fn out_row<L: Ledger>(net: &Network, event: usize, blank: Blank) -> &[usize]
+    requires name { blank.name ≡ L.name }
+    requires parts { blank.parts ≡ L.parts }
+    requires has_a_part { 0 < blank.parts }
+    requires is_event { event < length net.now.events }
+{
+    let mut steps = Steps::<L>::new(blank);
+    net.out_row(event, &mut steps)
+}
+
+fn in_row<L: Ledger>(net: &Network, event: usize, blank: Blank) -> &[usize]
+    requires name { blank.name ≡ L.name }
+    requires parts { blank.parts ≡ L.parts }
+    requires has_a_part { 0 < blank.parts }
+    requires is_event { event < length net.now.events }
+{
+    let mut steps = Steps::<L>::new(blank);
+    net.in_row(event, &mut steps)
 }

@@ -19,12 +19,9 @@ impl Once {
         }
     }
 
-    /// So many places more, none of which is noted.
+    /// Makes room for so many places, none of which is noted.
     pub fn extend(&mut self, places: usize) -> Result<(), AllocError> {
-        for _ in 0..places {
-            self.stamps.push(0)?;
-        }
-        Ok(())
+        self.stamps.resize(places, 0)
     }
 
     /// Forgets all places.
@@ -68,7 +65,7 @@ impl Moves {
         }
     }
 
-    /// So many events more.
+    /// Makes room for so many events.
     pub fn extend(&mut self, events: usize) -> Result<(), AllocError> {
         self.once.extend(events)
     }
@@ -106,7 +103,7 @@ impl Numbers {
         }
     }
 
-    /// So many choices more.
+    /// Makes room for so many choices.
     pub fn extend(&mut self, choices: usize) -> Result<(), AllocError> {
         self.once.extend(choices)
     }

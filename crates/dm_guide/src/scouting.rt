@@ -1,23 +1,22 @@
 //! A path that is tried, and the choices that its times violate.
-ghost use Rattle.std.specs.Prelude.{◌≤◌};
-ghost use Rattle.dm_base.specs.declared.limits.TheConstants.{PENALTY};
-ghost use Rattle.dm_rows.specs.Rows.{IsSized};
 
 use crate::choices::{Choices, Side, decision_for};
-use crate::moving::Mover;
+use crate::moving::{Mover, entering, leaving};
 use crate::noting::{Moved, Moves, Numbers, Once};
 use dm_base::{Cost, Secs};
 use dm_network::Network;
 use dm_rows::{Choice, Decision};
 use std::alloc::{AllocError, Global};
-use std::sync::ledger::Ledger;
 
 /// A path, of which choices are known by number. After each move it looks again at the choices of the events that have moved
 /// and at no others.
 #[derive(Drop)]
-pub struct Scout<'a, L: Ledger> {
+pub struct Scout<'a> {
     alloc: Global,
-    mover: Mover<'a, L>,
+    mover: Mover<'a>,
+
+    /// The decisions with which every path begins.
+    base: &'a [Decision],
     choices: Choices,
 
     /// The side on which each choice is decided.
@@ -30,9 +29,10 @@ pub struct Scout<'a, L: Ledger> {
     violated: Vec<usize>,
     places: Vec<Option<usize>>,
 
-    /// Choices and events that are to be looked at again.
+    /// Choices and events that are to be looked at again, and the choices that were judged since the times were settled last.
     stale: Vec<usize>,
     pending: Vec<usize>,
+    judged: Once,
 
     /// What has moved since [`Scout::forget`], and since [`Scout::begin`].
     near: Moves,
@@ -45,6 +45,12 @@ pub struct Scout<'a, L: Ledger> {
     /// The choices that have become violated, or are so no more.
     changed: Numbers,
 
+    /// The choices at events that have moved.
+    touched: Numbers,
+
+    /// What the path costs, where it is known.
+    cost: Option<Cost>,
+
     /// How many decisions were made or tried.
     tried: u64,
 }
@@ -56,46 +62,53 @@ pub struct Turned {
     pub before: Option<Side>,
 }
 
-impl<'a, L: Ledger> Scout<'a, L> {
+impl<'a> Scout<'a> {
     /// A scout at the root, which has looked at nothing.
-    pub fn new(alloc: Global, mover: Mover<'a, L>) -> Scout<'a, L> {
+    pub fn new(
+        alloc: Global,
+        mover: Mover<'a>,
+        base: &'a [Decision],
+        choices: Choices,
+    ) -> Scout<'a> {
         Scout {
             alloc,
             mover,
-            choices: Choices::new(alloc),
+            base,
+            choices,
             sides: Vec::new(alloc),
             seen: Vec::new(alloc),
             violated: Vec::new(alloc),
             places: Vec::new(alloc),
             stale: Vec::new(alloc),
             pending: Vec::new(alloc),
+            judged: Once::new(alloc),
             near: Moves::new(alloc),
             far: Moves::new(alloc),
             once: Once::new(alloc),
             turned: Vec::new(alloc),
             changed: Numbers::new(alloc),
+            touched: Numbers::new(alloc),
+            cost: None,
             tried: 0,
         }
     }
 
-    /// Makes the decisions with which every path begins, before anything is looked at.
-    pub fn enter(&mut self, base: &[Decision]) -> bool {
-        self.mover.enter(base)
-    }
-
-    /// Takes up the choices, and looks at all of them and all events for the first time.
+    /// Looks at all choices and all events for the first time.
     pub fn look_at_all(&mut self) -> Result<(), AllocError> {
-        self.choices.fill(&mut self.mover)?;
+        self.mover.settle();
         self.near.extend(self.mover.net().events())?;
         self.far.extend(self.mover.net().events())?;
         self.once.extend(self.choices.len())?;
+        self.judged.extend(self.choices.len())?;
         self.changed.extend(self.choices.len())?;
+        self.touched.extend(self.choices.len())?;
         self.see_events()?;
         self.leave_undecided()?;
         self.judge_all()
     }
 
     fn see_events(&mut self) -> Result<(), AllocError> {
+        self.seen.reserve(self.mover.net().events())?;
         for event in 0..self.mover.net().events() {
             self.seen.push(self.mover.time(event))?;
         }
@@ -103,11 +116,8 @@ impl<'a, L: Ledger> Scout<'a, L> {
     }
 
     fn leave_undecided(&mut self) -> Result<(), AllocError> {
-        for _ in 0..self.choices.len() {
-            self.sides.push(None)?;
-            self.places.push(None)?;
-        }
-        Ok(())
+        self.sides.resize(self.choices.len(), None)?;
+        self.places.resize(self.choices.len(), None)
     }
 
     fn judge_all(&mut self) -> Result<(), AllocError> {
@@ -121,13 +131,25 @@ impl<'a, L: Ledger> Scout<'a, L> {
         &self.choices
     }
 
-    pub fn path(&self) -> &[Decision] {
-        self.mover.path()
+    /// The decisions with which every path begins, and then those that were made behind them, by number.
+    pub fn path(&self) -> Result<Vec<Decision>, AllocError> {
+        let mut path = Vec::from_slice(self.alloc, self.base)?;
+        for i in 0..self.choices.len() {
+            if let (Some(choice), Some(side)) = (self.choices.choice(i), self.side(i)) {
+                path.push(decision_for(choice, side))?;
+            }
+        }
+        Ok(path)
     }
 
     /// What the path costs when relaxed.
-    pub fn cost(&self) -> Cost {
-        self.mover.cost()
+    pub fn cost(&mut self) -> Cost {
+        if let Some(cost) = self.cost {
+            return cost;
+        }
+        let cost = self.mover.cost();
+        self.cost = Some(cost);
+        cost
     }
 
     /// The undecided choices that are violated, in no order.
@@ -195,13 +217,11 @@ impl<'a, L: Ledger> Scout<'a, L> {
 
     /// Decides an undecided choice, unless that makes a cycle.
     pub fn decide(&mut self, i: usize, side: Side) -> Result<bool, AllocError> {
-        let Some(choice) = self.choices.choice(i) else {
-            return Ok(false);
-        };
         self.tried = self.tried.saturating_add(1);
-        if !self.mover.decide(decision_for(choice, side)) {
+        if self.side(i).is_some() || !self.turn_on(i, side) {
             return Ok(false);
         }
+        self.cost = None;
         self.set_side(i, Some(side))?;
         self.await_heads(i, side)?;
         Ok(true)
@@ -209,26 +229,42 @@ impl<'a, L: Ledger> Scout<'a, L> {
 
     /// Takes back the decision of a choice.
     pub fn undecide(&mut self, i: usize) -> Result<(), AllocError> {
-        let (Some(choice), Some(side)) = (self.choices.choice(i), self.side(i)) else {
+        let Some(side) = self.side(i) else {
             return Ok(());
         };
-        self.mover.undecide(choice);
+        self.turn_off(i, side);
+        self.cost = None;
         self.set_side(i, None)?;
         self.await_heads(i, side)
     }
 
     /// What the path costs with one decision more, and more than anything where that makes a cycle.
     pub fn cost_with(&mut self, i: usize, side: Side) -> Cost {
-        let Some(choice) = self.choices.choice(i) else {
-            return Cost::MAX;
-        };
         self.tried = self.tried.saturating_add(1);
-        if !self.mover.decide(decision_for(choice, side)) {
+        if self.side(i).is_some() || !self.turn_on(i, side) {
             return Cost::MAX;
         }
         let cost = self.mover.cost();
-        self.mover.undecide(choice);
+        self.turn_off(i, side);
         cost
+    }
+
+    /// Holds and charges for what binds on a side of a choice, unless that makes a cycle.
+    fn turn_on(&mut self, i: usize, side: Side) -> bool {
+        if let Some(act) = self.choices.dropped(i, side) {
+            self.mover.charge(act, true);
+            return true;
+        }
+        self.mover.hold(self.choices.binding(i, side))
+    }
+
+    /// Lets go what binds on a side of a choice, and charges for nothing.
+    fn turn_off(&mut self, i: usize, side: Side) {
+        if let Some(act) = self.choices.dropped(i, side) {
+            self.mover.charge(act, false);
+        } else {
+            self.mover.release(self.choices.binding(i, side));
+        }
     }
 
     fn set_side(&mut self, i: usize, side: Option<Side>) -> Result<(), AllocError> {
@@ -257,11 +293,18 @@ impl<'a, L: Ledger> Scout<'a, L> {
 
     /// Looks at each choice that was decided or is so no more, and at each event that has moved.
     fn catch_up(&mut self) -> Result<(), AllocError> {
+        if self.stale.is_empty() {
+            return Ok(());
+        }
+        self.mover.settle();
+        self.judged.forget();
         for _ in 0..u64::MAX {
             let Some(i) = self.stale.pop() else {
                 break;
             };
-            self.judge(i)?;
+            if self.judged.is_new(i) {
+                self.judge(i)?;
+            }
         }
         for _ in 0..u64::MAX {
             let Some(event) = self.pending.pop() else {
@@ -303,22 +346,27 @@ impl<'a, L: Ledger> Scout<'a, L> {
 
     /// Judges the choices of the activities that enter an event.
     fn judge_entering(&mut self, event: usize) -> Result<(), AllocError> {
-        for a in self.mover.entering(event) {
+        for a in entering(self.mover.net(), event) {
             self.judge_of(*a)?;
         }
         Ok(())
     }
 
-    /// Judges the choices of the activities that leave an event, and has the events behind it looked at.
+    /// Judges the choices of the activities that leave an event, and has the events behind it looked at that have moved too.
     fn judge_leaving(&mut self, event: usize) -> Result<(), AllocError> {
         let net = self.mover.net();
-        for a in self.mover.leaving(event) {
+        for a in leaving(self.mover.net(), event) {
             self.judge_of(*a)?;
-            if *a < net.activities() {
+            if *a < net.activities() && self.has_moved(net.activity(*a).head) {
                 self.pending.push(net.activity(*a).head)?;
             }
         }
         Ok(())
+    }
+
+    /// Whether an event stands elsewhere than when it was looked at last.
+    fn has_moved(&self, event: usize) -> bool {
+        self.seen.get(event) != Some(&self.mover.time(event))
     }
 
     /// Forgets which events have moved near by.
@@ -352,18 +400,26 @@ impl<'a, L: Ledger> Scout<'a, L> {
     }
 
     fn touching(&mut self, moved: &[Moved]) -> Result<Vec<usize>, AllocError> {
-        let mut numbers = Vec::new(self.alloc);
+        self.touched.forget();
+        let net = self.mover.net();
         for moved in moved {
             if self.seen.get(moved.event) != Some(&moved.before) {
-                let row = self.mover.entering(moved.event);
-                self.add_numbers(row, &mut numbers)?;
-                let row = self.mover.leaving(moved.event);
-                self.add_numbers(row, &mut numbers)?;
+                self.touch(entering(net, moved.event))?;
+                self.touch(leaving(net, moved.event))?;
             }
         }
-        numbers.sort()?;
-        numbers.dedup();
+        let mut numbers = Vec::from_slice(self.alloc, self.touched.list())?;
+        numbers.sort_unstable();
         Ok(numbers)
+    }
+
+    fn touch(&mut self, row: &[usize]) -> Result<(), AllocError> {
+        for a in row {
+            if let Some(i) = self.choices.number(*a) {
+                let _new = self.touched.add(i)?;
+            }
+        }
+        Ok(())
     }
 
     /// The choices that do not stand as at [`Scout::begin`], with their sides there.
@@ -390,31 +446,26 @@ impl<'a, L: Ledger> Scout<'a, L> {
     }
 
     /// The activities into an event, and those out of it.
-    pub fn rows(&mut self, event: usize) -> (&'a [usize], &'a [usize]) {
-        (self.mover.entering(event), self.mover.leaving(event))
+    pub fn rows(&self, event: usize) -> (&'a [usize], &'a [usize]) {
+        (
+            entering(self.mover.net(), event),
+            leaving(self.mover.net(), event),
+        )
     }
 
     pub fn net(&self) -> &'a Network {
         self.mover.net()
     }
 
-    fn add_numbers(&self, row: &[usize], numbers: &mut Vec<usize>) -> Result<(), AllocError> {
-        for a in row {
-            if let Some(i) = self.choices.number(*a) {
-                numbers.push(i)?;
-            }
-        }
-        Ok(())
-    }
-
     /// Whether a choice holds the times or costs: a change is dropped, or what binds on its side is tight.
-    pub fn is_binding(&self, i: usize) -> bool {
+    pub fn is_binding(&mut self, i: usize) -> bool {
         let Some(side) = self.side(i) else {
             return false;
         };
-        if let (Some(Choice::Change(_)), Side::Second) = (self.choices.choice(i), side) {
+        if self.choices.dropped(i, side).is_some() {
             return true;
         }
+        self.mover.settle();
         for a in self.choices.binding(i, side) {
             if self.mover.is_tight(*a) {
                 return true;
@@ -423,19 +474,11 @@ impl<'a, L: Ledger> Scout<'a, L> {
         false
     }
 
-    /// The side that the rows have.
-    pub fn own_side(&self, i: usize) -> Side {
-        match self.choices.binding(i, Side::First).first() {
-            Some(act) => self.mover.own_side(*act),
-            None => Side::First,
-        }
-    }
-
     /// Judges the choice to which an activity belongs.
     fn judge_of(&mut self, act: usize) -> Result<(), AllocError> {
         match self.choices.number(act) {
-            Some(i) => self.judge(i),
-            None => Ok(()),
+            Some(i) if self.judged.is_new(i) => self.judge(i),
+            _ => Ok(()),
         }
     }
 

@@ -6,7 +6,6 @@ use crate::noting::Numbers;
 use crate::scouting::Scout;
 use dm_base::Cost;
 use std::alloc::{AllocError, Global};
-use std::sync::ledger::Ledger;
 
 /// How many choices a window has at most, and how often it branches.
 pub const WIDE: usize = 32;
@@ -70,9 +69,9 @@ impl Windows {
     }
 
     /// Opens windows around these choices, and then around what these touch, until nothing becomes better.
-    pub fn improve<L: Ledger>(
+    pub fn improve(
         &mut self,
-        scout: &mut Scout<'_, L>,
+        scout: &mut Scout<'_>,
         seeds: Vec<usize>,
         size: usize,
     ) -> Result<(), AllocError> {
@@ -89,9 +88,9 @@ impl Windows {
     }
 
     /// One window around each of these choices that binds.
-    pub fn round<L: Ledger>(
+    pub fn round(
         &mut self,
-        scout: &mut Scout<'_, L>,
+        scout: &mut Scout<'_>,
         seeds: &[usize],
         size: usize,
     ) -> Result<(), AllocError> {
@@ -110,7 +109,7 @@ impl Windows {
     }
 
     /// Has what was turned since the scout began, and what is near, looked at again.
-    pub fn touch<L: Ledger>(&mut self, scout: &mut Scout<'_, L>) -> Result<(), AllocError> {
+    pub fn touch(&mut self, scout: &mut Scout<'_>) -> Result<(), AllocError> {
         let near = scout.far()?;
         self.touched.add_all(&near)?;
         for turned in &scout.turned()? {
@@ -121,9 +120,9 @@ impl Windows {
 
     /// Leaves the members of a window undecided, the other decisions fixed, searches there, and decides them as is best. It is
     /// true where this is better than before.
-    pub fn open<L: Ledger>(
+    pub fn open(
         &mut self,
-        scout: &mut Scout<'_, L>,
+        scout: &mut Scout<'_>,
         i: usize,
         size: usize,
     ) -> Result<bool, AllocError> {
@@ -142,12 +141,7 @@ impl Windows {
     }
 
     /// The members of the window around a choice: breadth first, those that are decided at the events that a turn of one moves.
-    fn gather<L: Ledger>(
-        &mut self,
-        scout: &mut Scout<'_, L>,
-        i: usize,
-        size: usize,
-    ) -> Result<(), AllocError> {
+    fn gather(&mut self, scout: &mut Scout<'_>, i: usize, size: usize) -> Result<(), AllocError> {
         self.members.forget();
         let _new = self.members.add(i)?;
         for k in 0..size {
@@ -162,9 +156,9 @@ impl Windows {
     }
 
     /// Turns a member to its other side and back, and lets join what this moves.
-    fn join<L: Ledger>(
+    fn join(
         &mut self,
-        scout: &mut Scout<'_, L>,
+        scout: &mut Scout<'_>,
         member: usize,
         size: usize,
     ) -> Result<(), AllocError> {
@@ -188,9 +182,9 @@ impl Windows {
     }
 
     /// Notes how the members stand, and these branchings.
-    fn note_stands<L: Ledger>(
+    fn note_stands(
         &mut self,
-        scout: &Scout<'_, L>,
+        scout: &Scout<'_>,
         branchings: &[Branching],
     ) -> Result<(), AllocError> {
         self.stands.clear();
@@ -210,11 +204,7 @@ impl Windows {
     }
 
     /// Searches depth first, the cheaper side first, below the best cost, with so many branchings at most.
-    fn search<L: Ledger>(
-        &mut self,
-        scout: &mut Scout<'_, L>,
-        most: usize,
-    ) -> Result<(), AllocError> {
+    fn search(&mut self, scout: &mut Scout<'_>, most: usize) -> Result<(), AllocError> {
         let mut branchings = Vec::new(self.alloc);
         let mut left = most;
         let mut is_new = true;
@@ -232,9 +222,9 @@ impl Windows {
     }
 
     /// Branches where the scout stands, if that may be better, or takes what stands there where nothing is violated.
-    fn branch<L: Ledger>(
+    fn branch(
         &mut self,
-        scout: &mut Scout<'_, L>,
+        scout: &mut Scout<'_>,
         branchings: &mut Vec<Branching>,
         may: bool,
     ) -> Result<bool, AllocError> {
@@ -264,9 +254,9 @@ impl Windows {
     }
 
     /// Takes the side that is left of a branching, if there is one that may be better.
-    fn turn<L: Ledger>(
+    fn turn(
         &mut self,
-        scout: &mut Scout<'_, L>,
+        scout: &mut Scout<'_>,
         branchings: &mut Vec<Branching>,
         branching: Branching,
         may: bool,
@@ -287,11 +277,7 @@ impl Windows {
 
     /// The violated choice of which the cheaper side costs most, and then the other side: the first met of which the cheaper
     /// side is not better than the best.
-    fn pick<L: Ledger>(
-        &mut self,
-        scout: &mut Scout<'_, L>,
-        cost: Cost,
-    ) -> Result<Option<Pick>, AllocError> {
+    fn pick(&mut self, scout: &mut Scout<'_>, cost: Cost) -> Result<Option<Pick>, AllocError> {
         let violated = Vec::from_slice(self.alloc, scout.violated()?)?;
         let mut most: Option<Pick> = None;
         for i in &violated {
@@ -328,9 +314,9 @@ fn is_more(one: Pick, other: Pick) -> bool {
 }
 
 /// Those of these choices that bind, by the time for which they are scheduled.
-pub fn binding<L: Ledger>(
+pub fn binding(
     alloc: Global,
-    scout: &Scout<'_, L>,
+    scout: &mut Scout<'_>,
     numbers: &[usize],
 ) -> Result<Vec<usize>, AllocError> {
     let mut all = Vec::new(alloc);
@@ -348,10 +334,7 @@ pub fn binding<L: Ledger>(
 }
 
 /// All choices that bind, by the time for which they are scheduled.
-pub fn all_binding<L: Ledger>(
-    alloc: Global,
-    scout: &Scout<'_, L>,
-) -> Result<Vec<usize>, AllocError> {
+pub fn all_binding(alloc: Global, scout: &mut Scout<'_>) -> Result<Vec<usize>, AllocError> {
     let mut all = Vec::new(alloc);
     for i in 0..scout.choices().len() {
         all.push(i)?;
