@@ -1,15 +1,14 @@
 //! A plan of a window in print.
 ghost use Rattle.std.specs.Prelude.{◌∷◌, [], codes};
 ghost use Rattle.std.specs.Fmt.{decimal};
-ghost use Rattle.std.specs.List.{flat_map};
 ghost use Rattle.dm_outside.specs.Printing.{Prints, Puts, joined};
-ghost use Rattle.dm_cert.specs.RunTexts.{spaced_id};
 ghost use Rattle.dm_outlook.specs.Texts.{barred_line, barred_text, carried_text, cycle_front, cycle_line, outlook_text, rebased_line, rebased_text, refused_front, window_line};
 
 use crate::outlook::{Carried, Outlook};
 use dm_base::{ActId, Cost, Secs};
 use dm_cert::{put_choices, put_number, put_numbers, put_plan};
 use dm_outside::{Page, Piece, Sink, WriteFault};
+use dm_report::put_ids;
 use dm_rows::Decision;
 use dm_window::Rebased;
 
@@ -206,22 +205,4 @@ fn put_cycle_front<K: Sink>(sink: &mut K, page: &mut Page, last: u32) -> Result<
         Piece::Text(" refused cycle"),
     ];
     page.put(sink, &pieces)
-}
-
-// Prints ids, each behind a space.
-fn put_ids<K: Sink>(sink: &mut K, page: &mut Page, ids: &[ActId]) -> Result<(), WriteFault>
-    ensures { Prints K.taken K.faults sink.old sink.new page.old page.new result (flat_map spaced_id ids.now) }
-{
-    for id in ids {
-        let Ok(()) = put_id(sink, page, *id) else {
-            return Err(WriteFault);
-        };
-    }
-    Ok(())
-}
-
-fn put_id<K: Sink>(sink: &mut K, page: &mut Page, id: ActId) -> Result<(), WriteFault>
-    ensures { Prints K.taken K.faults sink.old sink.new page.old page.new result (spaced_id id) }
-{
-    page.put(sink, &[Piece::Text(" "), Piece::Number(id.0 as u128)])
 }

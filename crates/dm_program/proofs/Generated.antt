@@ -1,32 +1,16 @@
 -- How words that ask for a generated day end.
-use Rattle.std.proofs.Common.{◌≡◌, ℕ, ◌⊎◌, inl, inr, List, Option, Some, None, refl, sym, ap, ◌∙◌}
+use Rattle.std.proofs.Common.{◌≡◌, ℕ, ◌⊎◌, inl, inr, List, Option, None, refl}
 use Rattle.dm_input.specs.Input.{Told}
 use Rattle.dm_words.specs.Words.{GenAsked, GenOf, RunAsked, RunOf, CheckAsked, CheckOf, QueryAsked, QueryOf, FilesAsked, Asks}
-use Rattle.dm_words.proofs.OneCommand.{one_command}
 use Rattle.dm_report.specs.Summaries.{summary_text}
 use Rattle.dm_cert.specs.RunTexts.{Run}
 use Rattle.dm_program.specs.declared.status.Status.{Status}
 use Rattle.dm_program.specs.declared.status.Status.TheVariants.{Ok as Well, Bad, Usage, Refused, ReadFault, WriteFault, NoMemory}
-use Rattle.dm_program.specs.Commands.{AsksOver, files_of_command}
+use Rattle.dm_program.specs.Commands.{AsksOver}
 use Rattle.dm_program.specs.Ends.{Ends}
 use Rattle.dm_program.specs.Inside.Generating.{EndsGenerated}
 use Rattle.dm_program.proofs.Closing.{ends_due, ends_wanting}
-use Rattle.dm_program.proofs.Converse.{about_over}
-
-day_is : (x y : GenAsked) → GenOf x ≡ GenOf y → x ≡ y
-day_is x y e = cc
-
-no_run : (run : RunAsked) (day : GenAsked) → RunOf run ≡ GenOf day → ⊥
-no_run run day e = cc
-
-no_check : (check : CheckAsked) (day : GenAsked) → CheckOf check ≡ GenOf day → ⊥
-no_check check day e = cc
-
-no_query : (query : QueryAsked) (day : GenAsked) → QueryOf query ≡ GenOf day → ⊥
-no_query query day e = cc
-
-none_is_some : (files : FilesAsked) → Some files ≡ None → ⊥
-none_is_some files e = cc
+use Rattle.dm_program.proofs.Converse.{about_over, no_files}
 
 module _ {K : Type 0} (taken : K → Option (List ℕ)) (faults : K → ℕ) (told : Told) (is_sound : List ℕ → Type 0) (end_boards : Option Run → Type 0) (words : List (List ℕ)) (before now : K) (asked : GenAsked) (asks : Asks words (GenOf asked)) where
   pub ends_generated : end_boards None → (result : Status) → EndsGenerated taken faults asked before now result → Ends taken faults told is_sound end_boards words before now result
@@ -35,17 +19,17 @@ module _ {K : Type 0} (taken : K → Option (List ℕ)) (faults : K → ℕ) (to
       (inr (inl (record { asked = asked; is_asked = asks; summary = h.0; is_summary = h.1; is_text = refl; boards = as_before }))) h.2
   ends_generated as_before result (inr h) = ends_wanting taken faults told is_sound end_boards words before now (GenOf asked) asks result h.0 h.1
 
+  never_over : (files : FilesAsked) → AsksOver words files → ⊥
+  never_over files over = no_files words files asked over asks
+
   never_run : (run : RunAsked) → Asks words (RunOf run) → ⊥
-  never_run run also = no_run run asked (one_command words (RunOf run) (GenOf asked) also asks)
+  never_run run also = never_over run.files (record { asked = RunOf run; is_asked = also; reads = refl })
 
   never_check : (check : CheckAsked) → Asks words (CheckOf check) → ⊥
-  never_check check also = no_check check asked (one_command words (CheckOf check) (GenOf asked) also asks)
+  never_check check also = never_over check.files (record { asked = CheckOf check; is_asked = also; reads = refl })
 
   never_query : (query : QueryAsked) → Asks words (QueryOf query) → ⊥
-  never_query query also = no_query query asked (one_command words (QueryOf query) (GenOf asked) also asks)
-
-  never_over : (files : FilesAsked) → AsksOver words files → ⊥
-  never_over files over = none_is_some files (sym over.reads ∙ ap files_of_command (one_command words over.asked (GenOf asked) over.is_asked asks))
+  never_query query also = never_over query.files (record { asked = QueryOf query; is_asked = also; reads = refl })
 
   -- nothing of a generated day is refused, and none of it is read
   pub generated_ends : (result : Status) → Ends taken faults told is_sound end_boards words before now result → (result ≡ Well) ⊎ ((result ≡ WriteFault) ⊎ (result ≡ NoMemory))

@@ -121,28 +121,19 @@ module _ {K : Type 0} (taken : K → Option (List ℕ)) (faults : K → ℕ) (to
     never_unread sound line (inr (inl t)) = t.unsound (subst is_sound (same_text words files t.files text t.text about t.about) sound.of_text)
     never_unread sound line (inr (inr r)) = never_run r.asked r.is_asked
 
+    no_fault : (status : Status) → (status ≡ ReadFault → ⊥) → (status ≡ WriteFault → ⊥) → (status ≡ NoMemory → ⊥) →
+        (status ≡ ReadFault) ⊎ ((status ≡ WriteFault) ⊎ (status ≡ NoMemory)) → ⊥
+    no_fault status read write memory (inl e) = read e
+    no_fault status read write memory (inr (inl e)) = write e
+    no_fault status read write memory (inr (inr e)) = memory e
+
     -- where all names are told sound and the sink does not fail, want of memory alone keeps it back
     pub text_ends_well : IsSoundFor is_sound files text → (HasRisen (faults before) (faults now) → ⊥) → (result : Status) → Ends taken faults told is_sound end_boards words before now result →
         Writes (taken before) (taken now) (λ line. IsVerdictFor told end_boards words result line ⊎ IsAnswerFor told end_boards words result line) ⊎ (result ≡ NoMemory)
-    text_ends_well sound unrisen Well h = elim (text_ends Well h) [ inl w ↦ inl w | inr other ↦ absurd (no_fault other) ]
-      where
-        no_fault : (Well ≡ ReadFault) ⊎ ((Well ≡ WriteFault) ⊎ (Well ≡ NoMemory)) → ⊥
-        no_fault (inl e) = cc
-        no_fault (inr (inl e)) = cc
-        no_fault (inr (inr e)) = cc
-    text_ends_well sound unrisen Bad h = elim (text_ends Bad h) [ inl w ↦ inl w | inr other ↦ absurd (no_fault other) ]
-      where
-        no_fault : (Bad ≡ ReadFault) ⊎ ((Bad ≡ WriteFault) ⊎ (Bad ≡ NoMemory)) → ⊥
-        no_fault (inl e) = cc
-        no_fault (inr (inl e)) = cc
-        no_fault (inr (inr e)) = cc
+    text_ends_well sound unrisen Well h = elim (text_ends Well h) [ inl w ↦ inl w | inr other ↦ absurd (no_fault Well (λ e. cc) (λ e. cc) (λ e. cc) other) ]
+    text_ends_well sound unrisen Bad h = elim (text_ends Bad h) [ inl w ↦ inl w | inr other ↦ absurd (no_fault Bad (λ e. cc) (λ e. cc) (λ e. cc) other) ]
     text_ends_well sound unrisen Usage h = absurd (h.holds.outside about.asked about.is_asked)
-    text_ends_well sound unrisen Refused h = elim (text_ends Refused h) [ inl w ↦ inl w | inr other ↦ absurd (no_fault other) ]
-      where
-        no_fault : (Refused ≡ ReadFault) ⊎ ((Refused ≡ WriteFault) ⊎ (Refused ≡ NoMemory)) → ⊥
-        no_fault (inl e) = cc
-        no_fault (inr (inl e)) = cc
-        no_fault (inr (inr e)) = cc
+    text_ends_well sound unrisen Refused h = elim (text_ends Refused h) [ inl w ↦ inl w | inr other ↦ absurd (no_fault Refused (λ e. cc) (λ e. cc) (λ e. cc) other) ]
     text_ends_well sound unrisen ReadFault h = absurd (never_unread sound h.text h.holds)
     text_ends_well sound unrisen WriteFault h = absurd (unrisen h.front.risen)
     text_ends_well sound unrisen NoMemory h = inr refl

@@ -60,6 +60,7 @@
 #![tactic(auto)]
 
 mod checking;
+mod ending;
 mod ends;
 mod feeds;
 mod follow;
@@ -75,5 +76,6 @@ mod top;
 mod verdicts;
 mod window;
 
+pub use ending::{BoardList, Ending};
 pub use status::Status;
 pub use top::dispatch;

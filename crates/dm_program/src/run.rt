@@ -11,10 +11,10 @@ ghost use Rattle.dm_crew.specs.Boards.{AreShown};
 ghost use Rattle.dm_input.specs.Stops.{IsKept};
 ghost use Rattle.dm_words.specs.Asked.{run_of};
 ghost use Rattle.dm_words.specs.Words.{Asks, RunOf};
-ghost use Rattle.dm_program.specs.Boards.{EndBoards};
 ghost use Rattle.dm_program.specs.Ends.{Ends};
 ghost use Rattle.dm_program.specs.Inside.Stages.{AreWithin, IsAtStart};
 
+use crate::ending::{BoardList, Ending};
 use crate::ends::end_stopped;
 use crate::feeds::{names_of, open_feeds};
 use crate::means::Means;
@@ -46,8 +46,7 @@ pub fn run_feeds<R: Threads + Wait + Sync, H: Shelf, K: Sink, G: Hold + Sync>(
     requires within { AreWithin (run_of run.now) }
     requires few_boards { vec_len boards.old ≤ BOARDS }
     ensures ends { (words : List (List ℕ)) → Asks words (RunOf (run_of run.now))
-        → Ends K.taken K.faults (H.files shelf.old) (H.is_sound shelf.old)
-        (EndBoards place times (λ b. (Board-box b).faults b.value) (λ b. (Board-box b).is_sound b.value) boards.old.items boards.new.items)
+        → Ends K.taken K.faults (H.files shelf.old) (H.is_sound shelf.old) (⟦<BoardList as Ending>⟧.ends boards.old boards.new)
         words out.old out.new result }
     ensures kept { IsKept H.files H.is_sound shelf.old shelf.new }
     ensures later { K.faults out.old ≤ K.faults out.new }

@@ -11,13 +11,13 @@ ghost use Rattle.dm_cert.specs.Runs.{IsRunText};
 ghost use Rattle.dm_check.specs.declared.verdicts.Verdict.{Verdict};
 ghost use Rattle.dm_check.specs.FalseRecords.{IsVerdict};
 ghost use Rattle.dm_program.specs.Answers.{IsAnswerAt};
-ghost use Rattle.dm_program.specs.Boards.{EndBoards};
 ghost use Rattle.dm_program.specs.Commands.{AsksAbout, AsksOver};
 ghost use Rattle.dm_program.specs.Ends.{IsDue, Writes, FailsToWrite, WantsMemory, AsksNoRun, EndsAnswered, EndsAt, EndsTold, AreSound, AreShort, IsSoundFor, Ends};
 ghost use Rattle.dm_program.specs.Verdicts.{verdict_line, verdict_status, long_text_line};
 ghost use Rattle.dm_program.specs.Inside.Stages.{IsWithin};
 
 use crate::checking::check_text;
+use crate::ending::{BoardList, Ending};
 use crate::ends::end_usage;
 use crate::generate::generate;
 use crate::queries::answer_query;
@@ -46,35 +46,29 @@ pub fn dispatch<R: Threads + Wait + Sync, H: Shelf, K: Sink, G: Gate>(
     // summary of a generated day, or the verdict that a text is good, or the answer to what is asked of a journal. Each board that
     // no note names shows the final times of its stop. At every end without a run, but for want of memory, the boards are as before.
     ensures headline { result ≡ Status.Ok → Writes (K.taken out.old) (K.taken out.new)
-        (IsDue (H.files shelf.old) (H.is_sound shelf.old)
-        (EndBoards place times (λ b. (Board-box b).faults b.value) (λ b. (Board-box b).is_sound b.value) boards.old.items boards.new.items)
+        (IsDue (H.files shelf.old) (H.is_sound shelf.old) (⟦<BoardList as Ending>⟧.ends boards.old boards.new)
         (map string_bytes words.now) Status.Ok) }
 
     // Each other status has its cause. That a text is bad comes with the first record that breaks its rule, or the first line of a
     // journal. Where a feed alone is the cause, the text is that of a run too.
     ensures bad { result ≡ Status.Bad → Writes (K.taken out.old) (K.taken out.new)
-        (IsDue (H.files shelf.old) (H.is_sound shelf.old)
-        (EndBoards place times (λ b. (Board-box b).faults b.value) (λ b. (Board-box b).is_sound b.value) boards.old.items boards.new.items)
+        (IsDue (H.files shelf.old) (H.is_sound shelf.old) (⟦<BoardList as Ending>⟧.ends boards.old boards.new)
         (map string_bytes words.now) Status.Bad) }
     ensures usage { result ≡ Status.Usage
         → Writes (K.taken out.old) (K.taken out.new)
-        (IsDue (H.files shelf.old) (H.is_sound shelf.old)
-        (EndBoards place times (λ b. (Board-box b).faults b.value) (λ b. (Board-box b).is_sound b.value) boards.old.items boards.new.items)
+        (IsDue (H.files shelf.old) (H.is_sound shelf.old) (⟦<BoardList as Ending>⟧.ends boards.old boards.new)
         (map string_bytes words.now) Status.Usage) }
     ensures refused { result ≡ Status.Refused
         → Writes (K.taken out.old) (K.taken out.new)
-        (IsDue (H.files shelf.old) (H.is_sound shelf.old)
-        (EndBoards place times (λ b. (Board-box b).faults b.value) (λ b. (Board-box b).is_sound b.value) boards.old.items boards.new.items)
+        (IsDue (H.files shelf.old) (H.is_sound shelf.old) (⟦<BoardList as Ending>⟧.ends boards.old boards.new)
         (map string_bytes words.now) Status.Refused) }
     ensures read_fault { result ≡ Status.ReadFault
         → Writes (K.taken out.old) (K.taken out.new)
-        (IsDue (H.files shelf.old) (H.is_sound shelf.old)
-        (EndBoards place times (λ b. (Board-box b).faults b.value) (λ b. (Board-box b).is_sound b.value) boards.old.items boards.new.items)
+        (IsDue (H.files shelf.old) (H.is_sound shelf.old) (⟦<BoardList as Ending>⟧.ends boards.old boards.new)
         (map string_bytes words.now) Status.ReadFault) }
     ensures write_fault { result ≡ Status.WriteFault
         → FailsToWrite K.taken K.faults out.old out.new
-        (IsDue (H.files shelf.old) (H.is_sound shelf.old)
-        (EndBoards place times (λ b. (Board-box b).faults b.value) (λ b. (Board-box b).is_sound b.value) boards.old.items boards.new.items)
+        (IsDue (H.files shelf.old) (H.is_sound shelf.old) (⟦<BoardList as Ending>⟧.ends boards.old boards.new)
         (map string_bytes words.now)) }
     ensures no_memory { result ≡ Status.NoMemory → WantsMemory (K.taken out.old) (K.taken out.new) (map string_bytes words.now) }
 
@@ -159,8 +153,7 @@ fn run<R: Threads + Wait + Sync, H: Shelf, K: Sink, G: Hold + Sync>(
     out: &mut K,
 ) -> Status
     requires few_boards { vec_len boards.old ≤ BOARDS }
-    ensures ends { Ends K.taken K.faults (H.files shelf.old) (H.is_sound shelf.old)
-        (EndBoards place times (λ b. (Board-box b).faults b.value) (λ b. (Board-box b).is_sound b.value) boards.old.items boards.new.items)
+    ensures ends { Ends K.taken K.faults (H.files shelf.old) (H.is_sound shelf.old) (⟦<BoardList as Ending>⟧.ends boards.old boards.new)
         (map string_bytes words.now) out.old out.new result }
     ensures kept { IsKept H.files H.is_sound shelf.old shelf.new }
     ensures later { K.faults out.old ≤ K.faults out.new }
@@ -186,8 +179,7 @@ fn do_command<R: Threads + Wait + Sync, H: Shelf, K: Sink, G: Hold + Sync>(
     requires within { IsWithin (command_of command.now) }
     requires few_boards { vec_len boards.old ≤ BOARDS }
     ensures ends { (words : List (List ℕ)) → Asks words (command_of command.now)
-        → Ends K.taken K.faults (H.files shelf.old) (H.is_sound shelf.old)
-        (EndBoards place times (λ b. (Board-box b).faults b.value) (λ b. (Board-box b).is_sound b.value) boards.old.items boards.new.items)
+        → Ends K.taken K.faults (H.files shelf.old) (H.is_sound shelf.old) (⟦<BoardList as Ending>⟧.ends boards.old boards.new)
         words out.old out.new result }
     ensures kept { IsKept H.files H.is_sound shelf.old shelf.new }
     ensures later { K.faults out.old ≤ K.faults out.new }

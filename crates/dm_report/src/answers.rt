@@ -21,8 +21,9 @@ fn put_id<K: Sink>(sink: &mut K, page: &mut Page, id: ActId) -> Result<(), Write
     page.put(sink, &[Piece::Text(" "), Piece::Number(id.0 as u128)])
 }
 
-/// Prints the activities of a cycle, each with a space in front.
-fn put_ids<K: Sink>(sink: &mut K, page: &mut Page, ids: &[ActId]) -> Result<(), WriteFault>
+/// Prints ids of activities, each with a space in front, behind all that was printed through the page before. A write fault comes
+/// only where a write failed.
+pub fn put_ids<K: Sink>(sink: &mut K, page: &mut Page, ids: &[ActId]) -> Result<(), WriteFault>
     ensures { Prints K.taken K.faults sink.old sink.new page.old page.new result (flat_map spaced_id ids.now) }
 {
     for id in ids {

@@ -1,6 +1,6 @@
 //! Feeds that have ended.
 
-ghost use Rattle.std.specs.Prelude.{◌≡◌, ◌≤◌, [], ℕ, true, Some, slice_get, length, map, vec_capacity};
+ghost use Rattle.std.specs.Prelude.{◌≡◌, ◌≤◌, [], ℕ, true, false, Some, slice_get, length, map, vec_capacity};
 ghost use Rattle.dm_rounds.specs.Inside.Jobs.{HasEnded, stop_in, log_in};
 
 use crate::jobs::{Job, Progress};
@@ -10,7 +10,8 @@ use dm_feed::FeedStop;
 
 /// Whether all feeds have ended.
 pub fn have_ended<S>(jobs: &[Box<Job<S>>]) -> bool
-    ensures { result ≡ true → (k : ℕ) (job : _) → slice_get jobs.now k ≡ Some job → HasEnded job.value.progress }
+    ensures ended { result ≡ true → (k : ℕ) (job : _) → slice_get jobs.now k ≡ Some job → HasEnded job.value.progress }
+    ensures some_left { result ≡ false → ((k : ℕ) (job : _) → slice_get jobs.now k ≡ Some job → HasEnded job.value.progress) → ⊥ }
 {
     for job in jobs {
         if let Progress::Reading(_) = job.progress {

@@ -3,7 +3,7 @@ use Rattle.std.proofs.Common.{◌≡◌, ℕ, ◌<◌, ◌≤◌, Bool, true, fa
 use Rattle.std.proofs.lemmas.List.{map-append}
 use Rattle.std.specs.Prelude.{filter, Contains, All, IsTrue, not}
 use Rattle.std.specs.List.{range_with_len}
-use Rattle.std.proofs.lemmas.Bool.{cases_Bool, and_parts, and_from, not-true, not_from_true, not_from_false, both_ways, false_from_ne_true}
+use Rattle.std.proofs.lemmas.Bool.{and_parts, and_from, not-true, not_from_false}
 use Rattle.std.proofs.lemmas.List.Elements.{All-filter, All-weaker, Contains-append_left, Contains-append_right, Contains-append_cases, filter-append}
 use Rattle.dm_base.specs.declared.limits.TheConstants.{PENALTY, BUDGET}
 use Rattle.dm_network.specs.Net.{Net}
@@ -32,6 +32,13 @@ use Rattle.dm_search.proofs.Optimal.{some_among, some_apart}
 use Rattle.dm_window.specs.Windows.{is_change_within, is_pair_within, is_change_in, is_change_outside, is_pair_outside, choices_in, window_base, window_task, IsTrueWindowPlan}
 use Rattle.dm_window.specs.Inside.Standing.{standing_changes, standing_pairs}
 use Rattle.dm_window.proofs.Places.{gathered, kept_of_map, some_places, some_of_both}
+
+-- what is decided exactly where it is not within is left exactly where it is
+left_exactly : (decided within : Bool) → (decided ≡ true → within ≡ false) → (within ≡ false → decided ≡ true) → not decided ≡ within
+left_exactly true true apart outside = sym (apart refl)
+left_exactly true false apart outside = refl
+left_exactly false true apart outside = refl
+left_exactly false false apart outside = sym (outside refl)
 
 places_below : (test : ℕ → Bool) (n : ℕ) → All (λ i. i < n) (filter test (range_with_len 0 n))
 places_below test n = All-filter test (λ i. i < n) (range_with_len 0 n) (all_from (λ i. i < n) (range_with_len 0 n) (range_below n))
@@ -167,36 +174,24 @@ module _ (net : Net) (network : IsNetwork net) (rows : RowsValue) (from to : ℕ
   change_is_left : (a : ℕ) → a < length net.activities → is_free_change net rows a ≡ true →
       not (is_decided (window_base net rows from to) (change_choice net a)) ≡ is_change_within net from to a
   change_is_left a below free =
-      elim (cases_Bool (is_change_within net from to a)) [
-        | inl w ↦
-            not_from_false (is_decided (window_base net rows from to) (change_choice net a))
-            (false_from_ne_true (is_decided (window_base net rows from to) (change_choice net a))
-            (λ e. both_ways (is_change_within net from to a) (decided_change a below e) w)) ∙ sym w
-        | inr o ↦
-            let there : Contains base_changes (as_it_is a) =
-            listed as_it_is (is_change_outside net rows from to) 0 (length net.activities) a (omega arith) (omega arith)
-            (and_from (is_free_change net rows a) (not (is_change_within net from to a)) free (not_from_false (is_change_within net from to a) o)) in
-            not_from_true (is_decided (window_base net rows from to) (change_choice net a))
-            (is_decided_by (window_base net rows from to) (as_it_is a) (change_choice net a)
-            (Contains-append_left base_changes base_pairs (as_it_is a) there) (change_decides net network a (kept_at rows a))) ∙ sym o
-      ]
+      left_exactly (is_decided (window_base net rows from to) (change_choice net a)) (is_change_within net from to a) (decided_change a below)
+      (λ o.
+      let there : Contains base_changes (as_it_is a) =
+      listed as_it_is (is_change_outside net rows from to) 0 (length net.activities) a (omega arith) (omega arith)
+      (and_from (is_free_change net rows a) (not (is_change_within net from to a)) free (not_from_false (is_change_within net from to a) o)) in
+      is_decided_by (window_base net rows from to) (as_it_is a) (change_choice net a)
+      (Contains-append_left base_changes base_pairs (as_it_is a) there) (change_decides net network a (kept_at rows a)))
 
   pair_is_left : (p : ℕ) → p < length net.pairs → is_free_pair net rows p ≡ true →
       not (is_decided (window_base net rows from to) (pair_choice net p)) ≡ is_pair_within net from to p
   pair_is_left p below free =
-      elim (cases_Bool (is_pair_within net from to p)) [
-        | inl w ↦
-            not_from_false (is_decided (window_base net rows from to) (pair_choice net p))
-            (false_from_ne_true (is_decided (window_base net rows from to) (pair_choice net p))
-            (λ e. both_ways (is_pair_within net from to p) (decided_pair p below e) w)) ∙ sym w
-        | inr o ↦
-            let there : Contains base_pairs (pair_as_it_is p) =
-            listed pair_as_it_is (is_pair_outside net rows from to) 0 (length net.pairs) p (omega arith) (omega arith)
-            (and_from (is_free_pair net rows p) (not (is_pair_within net from to p)) free (not_from_false (is_pair_within net from to p) o)) in
-            not_from_true (is_decided (window_base net rows from to) (pair_choice net p))
-            (is_decided_by (window_base net rows from to) (pair_as_it_is p) (pair_choice net p)
-            (Contains-append_right base_changes base_pairs (pair_as_it_is p) there) (pair_decides net network p (small_first_at rows p) below)) ∙ sym o
-      ]
+      left_exactly (is_decided (window_base net rows from to) (pair_choice net p)) (is_pair_within net from to p) (decided_pair p below)
+      (λ o.
+      let there : Contains base_pairs (pair_as_it_is p) =
+      listed pair_as_it_is (is_pair_outside net rows from to) 0 (length net.pairs) p (omega arith) (omega arith)
+      (and_from (is_free_pair net rows p) (not (is_pair_within net from to p)) free (not_from_false (is_pair_within net from to p) o)) in
+      is_decided_by (window_base net rows from to) (pair_as_it_is p) (pair_choice net p)
+      (Contains-append_right base_changes base_pairs (pair_as_it_is p) there) (pair_decides net network p (small_first_at rows p) below))
 
   left_is_inside : choices_beside net rows (window_base net rows from to) ≡ choices_in net rows from to
   left_is_inside =

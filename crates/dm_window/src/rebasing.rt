@@ -45,17 +45,6 @@ pub enum RebaseFault {
     OutOfMemory,
 }
 
-impl From<AllocError> for RebaseFault {
-    ghost use Rattle.std.specs.Prelude.{◌≡◌};
-    ghost use Rattle.dm_window.specs.declared.rebasing.RebaseFault.TheVariants.{OutOfMemory};
-
-    ghost from_gives = { λ _ fault. fault ≡ OutOfMemory };
-
-    fn from(_error: AllocError) -> RebaseFault {
-        RebaseFault::OutOfMemory
-    }
-}
-
 /// A plan's choices over the rows of a newer snapshot, where all of them are free there and make no cycle. The plan decides no choice
 /// twice. The penalty is in seconds for each passenger, at most 1,000,000.
 pub fn rebase(

@@ -96,7 +96,7 @@ returns-clause-answers g c =
       | in-None w ↦ absurd (is_some_none c.next.result c.next.ensures.steps w.in-None.is)
       | in-Some+then-have_ended w ↦
           ends_rounds g.S.Source.left g.S.Source.is_sound c.args.batch c.requires.some c.args.feeds.items (desk_of g.P.Seat.base c.args.main.now) c.loop.invariant.1.rounds c.loop.invariant.1.low (desk_of g.P.Seat.base c.loop.main) (map (λ b. b.value) c.loop.jobs.items) (map log_in (map (λ b. b.value) c.loop.jobs.items))
-          c.loop.invariant.1.state (ended_all (λ b. b.value) w.deref.result.now c.loop.jobs.items w.deref.ensures.value (w.have_ended.ensures w.if-have_ended.true)) refl
+          c.loop.invariant.1.state (ended_all (λ b. b.value) w.deref.result.now c.loop.jobs.items w.deref.ensures.value (w.have_ended.ensures.ended w.if-have_ended.true)) refl
     ] in
     subst P (sym c.logs_of.ensures) ends
 
