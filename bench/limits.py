@@ -2,28 +2,29 @@
 """Runs at the limits: python3 bench/limits.py DISPATCHER [CASE..]
 
 DISPATCHER is a built dispatcher. Each case is run at half its size and at its whole size, with a stack of 8 MiB, and then its text
-is checked:
+is checked and its journal followed:
 
     along      a chain of 100,000 events whose ids rise along it, of which the first is delayed
     against    the same chain with ids that fall along it
     broad      100,000 events with 500,000 activities, five out of each
     feeds      64 feeds of 262,144 bytes of delays: nearly as many entries as a day may have, and a text of some 80 MB
     deep       a plan whose tree is 8,191 choices deep: each choice has one leaf below it and the next choice beside that
+    long       no run, but the longest text that is checked, 512 MiB: that of a feed of some 28 million malformed lines
 
-A row has the seconds and the most megabytes of the run and of the check at either size. Where a run or a check ends otherwise than
-it should, or needs more than 2.3 times the memory at twice the size, a line says so and the status is then 1.
+A row has the seconds of processor and the most megabytes of each command at either size. Where one ends otherwise than it should,
+or needs more than 2.3 times the memory at twice the size, a line says so and the status is then 1.
 """
 import os
 import resource
 import subprocess
 import sys
 import tempfile
-import time
 
 EVENTS = 100_000
 FEEDS = 64
 FEED = 262_144
 DEPTH = 8_191
+TEXT = 536_870_912
 STACK = 8 << 20
 GROWTH = 2.3
 
@@ -114,7 +115,32 @@ def deep(folder, part):
     return write_feeds(folder, [('f', 'delay event 1 600\nplan 16384\n')])
 
 
-CASES = {'along': along, 'against': against, 'broad': broad, 'feeds': feeds, 'deep': deep}
+def lines_within(size):
+    """How many malformed lines, numbered from 1, a log has in so many bytes."""
+    count, digits = 0, 1
+    while True:
+        many, each = 9 * 10 ** (digits - 1), digits + len(' malformed\n')
+        if many * each > size:
+            return count + size // each
+        count, size, digits = count + many, size - many * each, digits + 1
+
+
+def long(folder, part):
+    """Writes the text itself, so that there are no feeds."""
+    events = 4
+    write_net(folder, *chain(events, lambda place: place + 1))
+    times = ''.join(f'{place + 1}; {10 * place}\n' for place in range(events))
+    tail = f'end\nboards 0\ntimes 0\n{times}cost 0\ndone\n'
+    head = 'dm-run 2\npenalty 10\nfeeds 1\nentries 0\nfeed 1 '
+    count = lines_within(TEXT // part - len(head) - len(tail) - len(f'{TEXT}\n'))
+    with open(os.path.join(folder, 'text'), 'w') as file:
+        file.write(f'{head}{count}\n')
+        file.writelines(f'{line} malformed\n' for line in range(1, count + 1))
+        file.write(tail)
+    return []
+
+
+CASES = {'along': along, 'against': against, 'broad': broad, 'feeds': feeds, 'deep': deep, 'long': long}
 
 
 def limited():
@@ -122,36 +148,40 @@ def limited():
 
 
 def timed(program, words, folder, output):
-    """The status, the seconds and the most megabytes of a command, whose output goes into a file."""
+    """The status, the seconds of processor and the most megabytes of a command, whose output goes into a file."""
     with open(os.path.join(folder, output), 'wb') as file:
-        start = time.monotonic()
         child = subprocess.Popen([program, *words], cwd=folder, stdout=file, preexec_fn=limited)
         _, status, used = os.wait4(child.pid, 0)
         child.returncode = os.waitstatus_to_exitcode(status)
-    return child.returncode, time.monotonic() - start, used.ru_maxrss / 1024
+    return child.returncode, used.ru_utime + used.ru_stime, used.ru_maxrss / 1024
 
 
 def sized(program, make, part):
-    """What a case comes to at a size: the run's and the check's (status, seconds, megabytes), and the text's megabytes."""
+    """What a case comes to at a size: (command, status, seconds, megabytes) of each command, and the text's megabytes."""
     with tempfile.TemporaryDirectory() as folder:
         names = make(folder, part)
-        run = timed(program, ['run', 'net', '--penalty=10', '--batch=100000', *names], folder, 'text')
-        check = timed(program, ['check', 'net', '--penalty=10', 'text'], folder, 'verdict')
+        ends = []
+        if names:
+            ends.append(('run', *timed(program, ['run', 'net', '--penalty=10', '--batch=100000', *names], folder, 'text')))
+        for command in ('check', 'follow'):
+            ends.append((command, *timed(program, [command, 'net', '--penalty=10', 'text'], folder, 'answer')))
         size = os.path.getsize(os.path.join(folder, 'text')) / 1e6
-    return run, check, size
+    return ends, size
 
 
 def judge(program, name):
-    """Whether a case ends as it should; prints its row."""
-    half, whole = sized(program, CASES[name], 2), sized(program, CASES[name], 1)
+    """Whether a case ends as it should; prints its rows."""
+    (half, _), (whole, size) = sized(program, CASES[name], 2), sized(program, CASES[name], 1)
     good = True
-    for what, less, more in (('run', half[0], whole[0]), ('check', half[1], whole[1])):
-        print(f'{name:<8} {what:<6}{less[1]:8.2f} s {more[1]:8.2f} s{less[2]:10.0f} MB {more[2]:8.0f} MB   text {whole[2]:.1f} MB')
+    for (what, *less), (_, *more) in zip(half, whole):
+        seconds = f'{less[1]:8.2f} s {more[1]:8.2f} s'
+        memory = f'{less[2]:8.0f} MB {more[2]:8.0f} MB'
+        print(f'{name:<8} {what:<7}{seconds}  {memory}   text {size:.1f} MB', flush=True)
         if (less[0], more[0]) != (0, 0):
-            print(f'{name}: the {what} ends with status {less[0]} at half the size and {more[0]} at the whole')
+            print(f'{name}: {what} ends with status {less[0]} at half the size and {more[0]} at the whole')
             good = False
         if more[2] > GROWTH * less[2]:
-            print(f'{name}: the {what} needs {more[2] / less[2]:.1f} times the memory at twice the size')
+            print(f'{name}: {what} needs {more[2] / less[2]:.1f} times the memory at twice the size')
             good = False
     return good
 
