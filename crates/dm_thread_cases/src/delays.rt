@@ -1,6 +1,6 @@
 //! Two feeds of a thousand delays each.
 
-use crate::runs::{check, run};
+use crate::runs::{TWO_FEEDS, check, run_by};
 use dm_outside::OpenGate;
 use dm_program::Status;
 use std::alloc::{AllocError, Global};
@@ -32,7 +32,7 @@ pub fn both_feeds_are_heard<R: Threads + Wait + Sync + AllocGlobal>(
     first: &[u8],
     second: &[u8],
 ) -> Result<bool, AllocError> {
-    let (status, bytes) = run(rt, first, second, &OpenGate)?;
+    let (status, bytes) = run_by(rt, TWO_FEEDS, first, second, &OpenGate)?;
     let mut named = Vec::from_elem(rt.alloc(), false, ENTRIES)?;
     let Ok(text) = str::from_utf8(&bytes) else {
         return Ok(false);

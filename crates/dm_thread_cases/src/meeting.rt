@@ -1,6 +1,6 @@
-//! Two feeds that wait for each other.
+//! Two threads that wait for each other.
 
-use crate::runs::run;
+use crate::runs::run_by;
 use dm_outside::Gate;
 use dm_program::Status;
 use dm_samples::Failure;
@@ -9,37 +9,66 @@ use std::sync::atomic::{AtomicU64, Ordering};
 use std::thread;
 use std::thread::Threads;
 
-/// How often a feed looks whether the other has come.
+/// The point of the gate that a feed passes before it answers a line.
+pub const BEFORE_A_LINE: u32 = 1;
+
+/// The point that a feed passes when the reply is kept.
+pub const BEHIND_A_LINE: u32 = 2;
+
+/// The point that a worker passes when it starts.
+pub const WORKER_STARTS: u32 = 3;
+
+/// How often a thread looks whether another has come.
 const TURNS: u32 = 10_000_000;
 
-/// A gate at which each of two feeds, before its first line, waits until the other has come there.
+/// Two threads, which of them have come, and whether one has waited in vain.
 #[derive(Drop)]
-struct Meeting {
-    first: AtomicU64,
-    second: AtomicU64,
+pub struct Comings {
+    one: AtomicU64,
+    other: AtomicU64,
     missed: AtomicU64,
 }
 
-impl Gate for Meeting {
-    fn pass(&self, who: u32, point: u32) {
-        if point != 1 {
-            return;
+impl Comings {
+    /// Nobody has come.
+    pub fn none() -> Comings {
+        Comings {
+            one: AtomicU64::new(0),
+            other: AtomicU64::new(0),
+            missed: AtomicU64::new(0),
         }
-        let (own, other) = if who == 1 {
-            (&self.first, &self.second)
-        } else {
-            (&self.second, &self.first)
-        };
-        own.store(1, Ordering::SeqCst);
-        if !has_come(other) {
+    }
+
+    /// The one comes, or the other.
+    pub fn come(&self, is_one: bool) {
+        self.mark(is_one).store(1, Ordering::SeqCst);
+    }
+
+    /// Waits until the one has come, or the other.
+    pub fn wait_for(&self, is_one: bool) {
+        if !has_come(self.mark(is_one)) {
             self.missed.store(1, Ordering::SeqCst);
         }
     }
+
+    /// Whether a run has ended well, and nobody has waited in vain.
+    pub fn end(&self, status: Status) -> Result<(), Failure> {
+        if status == Status::Ok && self.missed.load(Ordering::SeqCst) == 0 {
+            Ok(())
+        } else {
+            Err(Failure::Differs(1))
+        }
+    }
+
+    fn mark(&self, is_one: bool) -> &AtomicU64 {
+        if is_one { &self.one } else { &self.other }
+    }
 }
 
-fn has_come(other: &AtomicU64) -> bool {
+/// Whether a thread comes before so many looks.
+fn has_come(mark: &AtomicU64) -> bool {
     for _turn in 0..TURNS {
-        if other.load(Ordering::SeqCst) == 1 {
+        if mark.load(Ordering::SeqCst) == 1 {
             return true;
         }
         thread::yield_now();
@@ -47,17 +76,34 @@ fn has_come(other: &AtomicU64) -> bool {
     false
 }
 
-/// Runs two feeds of one line each, which meet.
-pub fn feeds_meet<R: Threads + Wait + Sync + AllocGlobal>(rt: &R) -> Result<(), Failure> {
-    let gate = Meeting {
-        first: AtomicU64::new(0),
-        second: AtomicU64::new(0),
-        missed: AtomicU64::new(0),
-    };
-    let (status, _text) = run(rt, b"read\n", b"read\n", &gate)?;
-    if status == Status::Ok && gate.missed.load(Ordering::SeqCst) == 0 {
-        Ok(())
-    } else {
-        Err(Failure::Differs(1))
+/// A gate at one point of which the first two threads wait for each other.
+#[derive(Drop)]
+struct Meeting {
+    point: u32,
+    comings: Comings,
+}
+
+impl Gate for Meeting {
+    fn pass(&self, who: u32, point: u32) {
+        if point == self.point {
+            self.comings.come(who == 1);
+            self.comings.wait_for(who != 1);
+        }
     }
+}
+
+/// Does what words ask for over two feeds, in which two threads meet at a point of the gate.
+pub fn two_meet<R: Threads + Wait + Sync + AllocGlobal>(
+    rt: &R,
+    words: &[&str],
+    first: &[u8],
+    second: &[u8],
+    point: u32,
+) -> Result<(), Failure> {
+    let gate = Meeting {
+        point,
+        comings: Comings::none(),
+    };
+    let (status, _text) = run_by(rt, words, first, second, &gate)?;
+    gate.comings.end(status)
 }

@@ -17,7 +17,8 @@ const EVENTS: &[u8] =
 const ACTIVITIES: &[u8] =
     b"1; 1; \"drive\"; 1; 2; 90; 100; 10\n2; 2; \"wait\"; 2; 3; 10; 30; 10\n3; 3; \"drive\"; 3; 4; 80; 100; 10\n4; 4; \"drive\"; 5; 6; 95; 110; 5\n5; 5; \"change\"; 2; 5; 20; 79; 4\n6; 6; \"headway\"; 3; 5; 8; 60; 0\n7; 7; \"headway\"; 5; 3; 8; 60; 0\n";
 
-const RUN: &[&str] = &["run", "net", "--penalty=10", "f", "g"];
+/// The words of a run of two feeds.
+pub const TWO_FEEDS: &[&str] = &["run", "net", "--penalty=10", "f", "g"];
 
 const CHECK: &[&str] = &["check", "net", "--penalty=10", "t"];
 
@@ -32,15 +33,16 @@ fn texts(alloc: Global, words: &[&str]) -> Result<Vec<String>, AllocError> {
 /// How many bytes a read gives at most.
 const PIECE: usize = 4_096;
 
-/// Runs two feeds, and gives the status and the text.
-pub fn run<R: Threads + Wait + Sync + AllocGlobal, G: Gate>(
+/// Does what words ask for over two feeds, and gives the status and the text.
+pub fn run_by<R: Threads + Wait + Sync + AllocGlobal, G: Gate>(
     rt: &R,
+    words: &[&str],
     first: &[u8],
     second: &[u8],
     gate: &G,
 ) -> Result<(Status, Vec<u8>), AllocError> {
     let sink = MemSink::new(rt.alloc(), ROOM, ROOM, Vec::new(rt.alloc()))?;
-    run_into(rt, first, second, gate, sink)
+    over_files(rt, words, first, second, b"", gate, sink)
 }
 
 /// Runs two feeds, and gives the status and what the sink has taken.
@@ -51,7 +53,7 @@ pub fn run_into<'f, R: Threads + Wait + Sync + AllocGlobal, G: Gate>(
     gate: &G,
     sink: MemSink,
 ) -> Result<(Status, Vec<u8>), AllocError> {
-    over_files(rt, RUN, first, second, b"", gate, sink)
+    over_files(rt, TWO_FEEDS, first, second, b"", gate, sink)
 }
 
 /// Checks the text of a run, and gives the status and the verdict.
