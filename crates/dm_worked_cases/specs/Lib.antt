@@ -1,2 +1,0 @@
--- Which records a network is built of here.
-pub mod Records

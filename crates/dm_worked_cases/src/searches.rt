@@ -7,6 +7,7 @@ use crate::relaxed::{CHANGE, DROP, TURNED, connection, decides_one_of, late_rows
 use dm_base::{Cost, Items};
 use dm_network::Network;
 use dm_rows::{Decision, Snapshot, free_choices};
+use dm_samples::{Sample, rows_on_time};
 use dm_search::{Outcome, plan, step};
 use dm_times::least;
 use dm_tree::{Mark, Node, Plan};
@@ -112,5 +113,15 @@ fn worked_steps(rt: HostRuntime) -> Result<(), Fail> {
     let better = Items::from_vec(vec![in rt.alloc(); DROP, TURNED]?);
     let solved = step_behind(rt.alloc(), &net, &snapshot, DROP, 1_075_000)?;
     assert!(rt; solved == Outcome::Solved(940_000, better));
+    Ok(())
+}
+
+#[test]
+fn step_that_finds_a_cycle(rt: HostRuntime) -> Result<(), Fail> {
+    let net = Sample::Turnaround.network(rt.alloc())?;
+    let rows = rows_on_time(rt.alloc(), &net)?;
+    let snapshot = Snapshot { entry: 0, rows };
+    let outcome = step_behind(rt.alloc(), &net, &snapshot, TURNED, 1_000_000)?;
+    assert!(rt; outcome == Outcome::Cycle);
     Ok(())
 }
