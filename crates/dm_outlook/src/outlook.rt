@@ -41,9 +41,9 @@ pub struct Outlook {
     pub carried: Option<Carried>,
 }
 
-/// A plan for the window from one scheduled time to another, in seconds, both of them in it, of the rows after so many entries of a
-/// table, at most all, or after all where no number is given; and, where one is, what becomes of the plan after all. The plan's tree
-/// has at most `budget` nodes; the budget is 1 to 16,384.
+/// A plan for the window from one scheduled time to another, in seconds, both of them in it, of the rows after so many entries of
+/// a table, at most all, or after all where no number is given; and, where one is, what becomes of the plan after all. The plan's
+/// tree has at most `budget` nodes; the budget is 1 to 16,384.
 pub fn outlook_of(
     alloc: Global,
     table: &Table<'_>,

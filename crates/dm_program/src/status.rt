@@ -6,7 +6,8 @@ pub enum Status {
     /// All was read to the end and written, a text that was checked is good, and what was asked of a journal is answered.
     Ok = 0,
 
-    /// A text that was checked is not good, or the journal of a text has a line that breaks its rule, or one that is wanted and not whole.
+    /// A text that was checked is not good, or the journal of a text has a line that breaks its rule, or one that is wanted and
+    /// not whole.
     Bad = 1,
 
     /// The words are in no form.

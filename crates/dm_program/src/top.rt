@@ -43,14 +43,15 @@ pub fn dispatch<R: Threads + Wait + Sync, H: Shelf, K: Sink, G: Gate>(
     requires { vec_len boards.old ≤ BOARDS }
 
     // The text is that of a run whose journal, logs, notes, times and cost are true, and whose feeds all ended well, or the
-    // summary of a generated day, or the verdict that a text is good, or the answer to what is asked of a journal. Each board that
-    // no note names shows the final times of its stop. At every end without a run, but for want of memory, the boards are as before.
+    // summary of a generated day, or the verdict that a text is good, or the answer to what is asked of a journal. Each board
+    // that no note names shows the final times of its stop. At every end without a run, but for want of memory, the boards are as
+    // before.
     ensures headline { result ≡ Status.Ok → Writes (K.taken out.old) (K.taken out.new)
         (IsDue (H.files shelf.old) (H.is_sound shelf.old) (⟦<BoardList as Ending>⟧.ends boards.old boards.new)
         (map string_bytes words.now) Status.Ok) }
 
-    // Each other status has its cause. That a text is bad comes with the first record that breaks its rule, or the first line of a
-    // journal. Where a feed alone is the cause, the text is that of a run too.
+    // Each other status has its cause. That a text is bad comes with the first record that breaks its rule, or the first line of
+    // a journal. Where a feed alone is the cause, the text is that of a run too.
     ensures bad { result ≡ Status.Bad → Writes (K.taken out.old) (K.taken out.new)
         (IsDue (H.files shelf.old) (H.is_sound shelf.old) (⟦<BoardList as Ending>⟧.ends boards.old boards.new)
         (map string_bytes words.now) Status.Bad) }
@@ -94,8 +95,8 @@ pub fn dispatch<R: Threads + Wait + Sync, H: Shelf, K: Sink, G: Gate>(
         → IsVerdict opening.net opening.rows asked.files.penalty bytes verdict
         → EndsTold (verdict_status verdict) (verdict_line verdict) (K.taken out.old) (K.taken out.new) result }
 
-    // What is asked of the journal of a text is answered from its bytes, but for the same: a line that breaks its rule is told, or a
-    // torn line where all are wanted, or the question is answered.
+    // What is asked of the journal of a text is answered from its bytes, but for the same: a line that breaks its rule is told,
+    // or a torn line where all are wanted, or the question is answered.
     ensures answered { (asked : QueryAsked) (opening : Opening) (bytes : List ℕ) → Asks (map string_bytes words.now) (QueryOf asked)
         → IsSome (H.files shelf.old)
         → OpeningAnswer (H.files shelf.old) asked.files (Ok opening) → IsHeld (H.files shelf.old) asked.text bytes → length bytes ≤ TEXT

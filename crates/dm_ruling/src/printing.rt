@@ -10,8 +10,8 @@ use dm_outside::{Page, Piece, Sink, WriteFault};
 use dm_tree::Mark;
 use dm_waitrule::{Comparison, WaitRule};
 
-/// Prints a rule with what it chooses and costs, beside a plan whose bound that is not below. A write fault comes only where a write
-/// failed.
+/// Prints a rule with what it chooses and costs, beside a plan whose bound that is not below. A write fault comes only where a
+/// write failed.
 pub fn print_comparison<K: Sink>(
     rule: WaitRule,
     compared: &Comparison,

@@ -12,8 +12,8 @@
 //! and the rows with it kept have no cycle; the choices are what differs from the rows in the end, in ascending id. With them
 //! the rows have no cycle. Want of memory may come at any time.
 //!
-//! `compare` gives these choices with what the rows cost with them, beside a true plan of the rows for a budget; the cost is no less
-//! than the plan's bound (`Compares`).
+//! `compare` gives these choices with what the rows cost with them, beside a true plan of the rows for a budget; the cost is no
+//! less than the plan's bound (`Compares`).
 //!
 //! Law: `rule_choices_are_bounded` (a rule has one list of choices for rows; with them the rows have no cycle, and cost no less
 //! than the bound of any true plan of the rows, whatever its budget).

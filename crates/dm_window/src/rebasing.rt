@@ -45,8 +45,8 @@ pub enum RebaseFault {
     OutOfMemory,
 }
 
-/// A plan's choices over the rows of a newer snapshot, where all of them are free there and make no cycle. The plan decides no choice
-/// twice. The penalty is in seconds for each passenger, at most 1,000,000.
+/// A plan's choices over the rows of a newer snapshot, where all of them are free there and make no cycle. The plan decides no
+/// choice twice. The penalty is in seconds for each passenger, at most 1,000,000.
 pub fn rebase(
     alloc: Global,
     net: &Network,

@@ -13,9 +13,9 @@ use dm_search::{Task, plan_task};
 use dm_tree::Plan;
 use std::alloc::{AllocError, Global};
 
-/// A true plan for the window of a snapshot's rows, which have no cycle, from one scheduled time to another, in seconds, both of them
-/// in it. It has the snapshot's entry and a tree of at most `budget` nodes, of which there are 1 to 16,384. The penalty is in
-/// seconds for each passenger, at most 1,000,000. Err is want of memory alone.
+/// A true plan for the window of a snapshot's rows, which have no cycle, from one scheduled time to another, in seconds, both of
+/// them in it. It has the snapshot's entry and a tree of at most `budget` nodes, of which there are 1 to 16,384. The penalty is
+/// in seconds for each passenger, at most 1,000,000. Err is want of memory alone.
 pub fn window_plan(
     alloc: Global,
     net: &Network,
