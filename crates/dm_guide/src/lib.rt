@@ -1,9 +1,9 @@
 //! Where a search for plans looks first.
 //!
-//! It stands on dm_evaluate for the relaxed problem in which the base alone is decided, and from there on on dm_priced: what
-//! a decision binds is held and let go in its timetable, which is settled when times or cost are asked for. A [`Task`] is what
-//! choices are searched for; its `specs/` say which plan it asks for. [`guide`] looks for good choices and for a tree that
-//! tells much within the task's budget. Nothing is promised of what it finds: who is guided by it judges each node anew.
+//! It stands on dm_evaluate, for the relaxed problem in which the base alone is decided, and on dm_priced, in whose timetable it
+//! holds and lets go what a decision binds, settled when times or cost are asked for. A [`Task`] is what choices are searched
+//! for; its `specs/` say which plan it asks for. [`guide`] looks for good choices and for a tree that tells much within the
+//! task's budget. Nothing is promised of what it finds: who is guided by it judges each node anew.
 //!
 //! # What is promised
 //!
