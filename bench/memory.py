@@ -1,5 +1,5 @@
 #!/usr/bin/env python3
-"""Refuses memory to a program: python3 bench/memory.py DISPATCHER [CASE..]
+"""Refuses memory to a program: python3 bench/memory.py DISPATCHER [CASE..], or python3 bench/memory.py --calls PROGRAM
 
 DISPATCHER is a built dispatcher. Each case does one task again and again, over the connection of examples/ or, where several workers
 search, over a day of bench/day.py too; each time another call for memory is refused, the first, the second and so on, until a run
@@ -7,6 +7,9 @@ calls for less. Where memory is refused a run is to end within a minute, with st
 the text that it has with ample memory; a line tells each other end, and the status is then 1. For each case a row gives how many
 calls there are, and how many ends of each kind. Which call of several workers comes when depends on their threads, and so does the
 tree of a plan: there each text will do that `check` tells good.
+
+With --calls, PROGRAM is the built program of dm_memory_cases, which makes each call again where memory was refused: whichever call
+for memory is refused, it is to print the same.
 
 Memory is refused by a library of a few lines that stands before malloc and realloc: it wants a C compiler, `cc`, and a system that
 takes LD_PRELOAD.
@@ -126,7 +129,33 @@ def judge(program, name, folder, shim):
     return others == 0
 
 
+def judge_calls(program, folder, shim):
+    """Whether a program that makes its calls again prints the same, whichever call for memory is refused; prints its row."""
+    due = done(program, [], folder, shim, 0)[:2]
+    others = 0
+    for number in range(1, MOST):
+        status, text, came = done(program, [], folder, shim, number)
+        if not came:
+            break
+        if (status, text) != due:
+            others += 1
+            print(f'call {number} refused: status {status}')
+            print(''.join(line for line in text.decode().splitlines(True) if not line.endswith(' ok\n')), end='')
+    print(f'{number - 1:6} calls: {others} come out otherwise')
+    return others == 0
+
+
+def built(folder):
+    """The library that refuses memory."""
+    shim = os.path.join(folder, 'refusing.so')
+    subprocess.run(['cc', '-shared', '-fPIC', '-O1', '-x', 'c', '-', '-o', shim, '-ldl'], input=SHIM.encode(), check=True)
+    return shim
+
+
 def main():
+    if len(sys.argv) == 3 and sys.argv[1] == '--calls':
+        with tempfile.TemporaryDirectory() as folder:
+            sys.exit(0 if judge_calls(os.path.abspath(sys.argv[2]), folder, built(folder)) else 1)
     if len(sys.argv) < 2 or any(name not in CASES for name in sys.argv[2:]):
         sys.exit(__doc__)
     program = os.path.abspath(sys.argv[1])
@@ -136,8 +165,7 @@ def main():
         shutil.copytree(os.path.join(example, 'net'), os.path.join(folder, 'net'))
         write_day(7, TRAINS, os.path.join(folder, 'made'))
         os.rename(os.path.join(folder, 'made', 'net'), os.path.join(folder, 'day'))
-        shim = os.path.join(folder, 'refusing.so')
-        subprocess.run(['cc', '-shared', '-fPIC', '-O1', '-x', 'c', '-', '-o', shim, '-ldl'], input=SHIM.encode(), check=True)
+        shim = built(folder)
         with open(os.path.join(folder, 'feed'), 'wb') as file:
             file.write(CASES['plan'][1])
         with open(os.path.join(folder, 'text'), 'wb') as file:

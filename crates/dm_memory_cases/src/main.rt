@@ -1,0 +1,73 @@
+//! Calls that are made again where memory was refused.
+//!
+//! On a connection at one station whose first train is a minute late, calls are made that take memory: entries are kept, a table and
+//! a server are entered into, a journal is followed, and plans, journeys and what computes times are asked for. Where a call is
+//! refused memory, what it changes is to be as before, and the same call is made again and is to answer. For each case it prints
+//! `NAME ok`, or after how many steps it came out otherwise. With ample memory nothing is refused: `bench/memory.py` refuses each
+//! call for memory in turn, and what is printed is to stay the same. It stands on the crates that it calls and on dm_samples for
+//! networks, and promises nothing.
+#![tactic(auto)]
+
+mod case;
+mod entries;
+mod followers;
+mod made;
+mod plans;
+mod servers;
+mod tables;
+
+ghost use Rattle.dm_rows.specs.Rows.{IsSized};
+
+use case::{Case, late_day, network, twice};
+use dm_network::Network;
+use dm_rows::Snapshot;
+use dm_samples::{Sample, report};
+use entries::KeepsEntries;
+use followers::FollowsJournal;
+use made::{MakesBoards, MakesOrder};
+use plans::{ComparesRule, FindsJourneys, MakesPlan, MakesWindowPlan};
+use servers::serves;
+use std::io;
+use std::sync::Wait;
+use tables::{EntersMessages, RefusesCycle};
+
+fn main(rt: HostRuntime) -> io::Result<()> {
+    match network(rt.alloc(), Sample::Connection) {
+        Ok(net) => on_network(&rt, &net),
+        Err(failure) => report(&rt, "network", Err(failure)),
+    }
+}
+
+fn on_network<R: Print + Wait + AllocGlobal>(rt: &R, net: &Network) -> io::Result<()> {
+    match late_day(rt.alloc(), net) {
+        Ok(day) => on_day(rt, net, &day),
+        Err(failure) => report(rt, "day", Err(failure)),
+    }
+}
+
+fn on_day<R: Print + Wait + AllocGlobal>(rt: &R, net: &Network, day: &Snapshot) -> io::Result<()>
+    requires { IsSized net.now day.now.rows }
+{
+    say::<KeepsEntries, _>(rt, "entries", net, day)?;
+    say::<EntersMessages, _>(rt, "messages", net, day)?;
+    say::<RefusesCycle, _>(rt, "cycle", net, day)?;
+    say::<FollowsJournal, _>(rt, "journal", net, day)?;
+    say::<MakesOrder, _>(rt, "order", net, day)?;
+    say::<MakesBoards, _>(rt, "boards", net, day)?;
+    say::<MakesPlan, _>(rt, "plan", net, day)?;
+    say::<MakesWindowPlan, _>(rt, "window-plan", net, day)?;
+    say::<ComparesRule, _>(rt, "rule", net, day)?;
+    say::<FindsJourneys, _>(rt, "journeys", net, day)?;
+    report(rt, "server", serves(rt, net))
+}
+
+fn say<C: Case, R: Print + AllocGlobal>(
+    rt: &R,
+    name: &str,
+    net: &Network,
+    day: &Snapshot,
+) -> io::Result<()>
+    requires { IsSized net.now day.now.rows }
+{
+    report(rt, name, twice::<C>(rt.alloc(), net, day))
+}
