@@ -1,2 +1,4 @@
+pub mod Counts
 pub mod Decimals
+pub mod Lists
 pub mod NumberLemmas
