@@ -10,7 +10,7 @@ use Rattle.dm_bound.specs.Words.{lowest, nothing_looked}
 use Rattle.dm_bound.specs.Rule.{spent, IsLive, IsReached, Stands, Rule}
 use Rattle.dm_bound.specs.Inside.Steps.{Sat, Lowered, Looked, cut_off, left_over, joined, listing, seeing, opening_view}
 use Rattle.dm_bound.specs.declared.view.View.{View}
-use Rattle.dm_bound.proofs.Counts.{sum_two}
+use Rattle.dm_base.proofs.Counts.{sum_two}
 use Rattle.dm_bound.proofs.Lowest.{above_lowest, lowest_is}
 use Rattle.dm_bound.proofs.Standing.{live_of, stand_lower, stand_look, stand_split, stand_join}
 

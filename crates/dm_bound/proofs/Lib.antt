@@ -1,4 +1,3 @@
-pub mod Counts
 pub mod Lowest
 pub mod Standing
 pub mod Keeps

@@ -11,7 +11,7 @@ use Rattle.dm_bound.specs.Words.{nothing_looked}
 use Rattle.dm_bound.specs.Rule.{spent, IsLive, IsReached, Stands}
 use Rattle.dm_bound.specs.Inside.Steps.{cut_off, left_over, joined, listing, seeing}
 use Rattle.dm_bound.specs.declared.view.View.{View}
-use Rattle.dm_bound.proofs.Counts.{set_there, each_set, sum_set}
+use Rattle.dm_base.proofs.Counts.{set_there, each_set, sum_set}
 
 abbrev room_of : View → ℕ
 room_of v = v.room

@@ -13,7 +13,7 @@ use Rattle.dm_deques.specs.Rule.{fresh, put_by, taken_by, Balanced, WasEmpty}
 use Rattle.dm_deques.specs.Deques.{having_put, having_taken, settled}
 use Rattle.dm_deques.specs.Inside.Steps.{HasPut, HasTaken, HasWhole}
 use Rattle.dm_deques.specs.declared.account.Account.{Account}
-use Rattle.dm_deques.proofs.Counts.{set_there, each_set, sum_set, sum_at, sum_lone}
+use Rattle.dm_base.proofs.Counts.{set_there, each_set, sum_set, sum_at, sum_lone}
 
 all_left : {T : Type 0} (P : T → Type 0) (xs ys : List T) → All P (xs ++ ys) → All P xs
 all_left P [] ys all = All-nil P

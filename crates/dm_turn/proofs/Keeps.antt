@@ -17,7 +17,7 @@ use Rattle.dm_turn.specs.Inside.Steps.{Sat, Glanced, Drew, Looked, Added, Gave, 
 use Rattle.dm_turn.specs.declared.view.View.{View}
 use Rattle.dm_turn.specs.declared.view.Phase.{Phase}
 use Rattle.dm_turn.specs.declared.view.Phase.TheVariants.{Idle, Waiting, Served}
-use Rattle.dm_turn.proofs.Counts.{sum_set, sum_at, sum_two, sums_le, sums_apart, sum_lone}
+use Rattle.dm_base.proofs.Counts.{sum_set, sum_at, sum_two, sums_le, sums_apart, sum_lone}
 use Rattle.dm_turn.proofs.Views.{one_if, one_of, one_at_most, served_ticket, live_of}
 use Rattle.dm_turn.proofs.Standing.{in_range, stand_draw, stand_look, stand_add, stand_serve, stand_split, stand_join, stand_settle}
 use Rattle.dm_turn.proofs.Fronts.{prefix_self, prefix_shorter}

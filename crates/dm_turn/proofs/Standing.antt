@@ -17,7 +17,7 @@ use Rattle.dm_turn.specs.Rule.{is_served, is_queued, has_ticket, spent, with_tic
 use Rattle.dm_turn.specs.declared.view.View.{View}
 use Rattle.dm_turn.specs.declared.view.Phase.{Phase}
 use Rattle.dm_turn.specs.declared.view.Phase.TheVariants.{Idle, Waiting, Served}
-use Rattle.dm_turn.proofs.Counts.{set_there, each_set, sum_set, sum_at}
+use Rattle.dm_base.proofs.Counts.{set_there, each_set, sum_set, sum_at}
 use Rattle.dm_turn.proofs.Fronts.{prefix_self, prefix_trans, prefix_shorter, prefix_whole, get_last}
 use Rattle.dm_turn.proofs.Views.{one_if, one_of, none_of, live_of, one_served, fits_longer, entries_longer}
 

@@ -12,7 +12,7 @@ use Rattle.dm_turn.specs.declared.view.View.{View}
 use Rattle.dm_turn.specs.declared.view.Phase.{Phase}
 use Rattle.dm_turn.specs.declared.view.Phase.TheVariants.{Idle, Waiting, Served}
 use Rattle.dm_turn.proofs.Fronts.{prefix_trans, prefix_get}
-use Rattle.dm_turn.proofs.Counts.{sum_two}
+use Rattle.dm_base.proofs.Counts.{sum_two}
 
 abbrev pub one_if : Bool → ℕ
 one_if b = cond b 1 0
