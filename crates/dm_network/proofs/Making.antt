@@ -162,6 +162,27 @@ stands f rows xs same k d lt =
     (subst (λ r. Contains (map f xs) r) e (Contains-get_or (map f xs) k (f (get_or xs k d)) in')) in
     (c.0, slice_get-get_or rows c.0 (f (get_or xs k d)) c.1 ∙ ap Some c.2)
 
+-- where a number of each record is at most a limit, so is that of each activity with its pair
+paired_at_most : (events : List Event) (rows : List ActRow) (activities paired : List Activity) (pairs : List Pair) →
+    IsPermutation rows (map (row_with events) activities) → paired ≡ map (with_pair pairs) activities →
+    (number : Activity → ℕ) (of_row : ActRow → ℕ) → ((x : Activity) → number (with_pair pairs x) ≡ number x) →
+    ((x : Activity) → of_row (row_with events x) ≡ number x) → (limit : ℕ) → number no_activity ≤ limit →
+    ((place : ℕ) (row : ActRow) → slice_get rows place ≡ Some row → of_row row ≤ limit) → (a : ℕ) → number (get_or paired a no_activity) ≤ limit
+paired_at_most events rows activities paired pairs same is number of_row same_paired same_row limit none within a =
+    let size : length paired ≡ length activities = ap length is ∙ length-map activities (with_pair pairs) in
+    elim (cases_lt a (length activities)) [
+      | inl lt ↦
+          let x : Activity = get_or activities a no_activity in
+          let s = stands (row_with events) rows activities same a no_activity lt in
+          let e : get_or paired a no_activity ≡ with_pair pairs x =
+          ap (λ xs. get_or xs a no_activity) is ∙ get_or-map (with_pair pairs) activities a no_activity no_activity lt in
+          let there : number (get_or paired a no_activity) ≡ number x = ap number e ∙ same_paired x in
+          let row : of_row (row_with events x) ≡ number x = same_row x in
+          let low : of_row (row_with events x) ≤ limit = within s.0 (row_with events x) s.1 in
+          omega (arith, there, row, low)
+      | inr past ↦ subst (λ x. number x ≤ limit) (sym (get_or_past paired a no_activity (omega arith))) none
+    ]
+
 pub limits : (event_rows : List EventRow) (rows : List ActRow) (events : List Event) (activities paired : List Activity) (pairs : List Pair) →
     AreEventsOf event_rows events → AreActivitiesOf events rows activities → paired ≡ map (with_pair pairs) activities →
     AreWithinLimits event_rows rows → AreFew event_rows rows → IsWithinLimits (net_with events paired pairs)
@@ -171,6 +192,7 @@ limits event_rows rows events activities paired pairs event_is act_is is within 
     let paired_count : length paired ≡ length activities = ap length is ∙ length-map activities (with_pair pairs) in
     let fe = few.few_events in
     let fa = few.few_activities in
+    let at_most = paired_at_most events rows activities paired pairs act_is.same is in
     record {
       events = omega arith;
       activities = omega arith;
@@ -182,22 +204,8 @@ limits event_rows rows events activities paired pairs event_is act_is is within 
         | inl lt ↦ let s = stands event_row event_rows events event_is.same i no_event lt in within.event_weights s.0 (event_row (get_or events i no_event)) s.1
         | inr past ↦ subst (λ e. e.weight ≤ WEIGHT) (sym (get_or_past events i no_event past)) (omega arith)
       ];
-      bounds = λ a. elim (cases_lt a (length activities)) [
-        | inl lt ↦
-            let s = stands (row_with events) rows activities act_is.same a no_activity lt in
-            let e : get_or paired a no_activity ≡ with_pair pairs (get_or activities a no_activity) =
-            ap (λ xs. get_or xs a no_activity) is ∙ get_or-map (with_pair pairs) activities a no_activity no_activity lt in
-            subst (λ x. x.lower ≤ BOUND) (sym e) (within.bounds s.0 (row_with events (get_or activities a no_activity)) s.1)
-        | inr past ↦ subst (λ x. x.lower ≤ BOUND) (sym (get_or_past paired a no_activity (omega arith))) (omega arith)
-      ];
-      activity_weights = λ a. elim (cases_lt a (length activities)) [
-        | inl lt ↦
-            let s = stands (row_with events) rows activities act_is.same a no_activity lt in
-            let e : get_or paired a no_activity ≡ with_pair pairs (get_or activities a no_activity) =
-            ap (λ xs. get_or xs a no_activity) is ∙ get_or-map (with_pair pairs) activities a no_activity no_activity lt in
-            subst (λ x. x.weight ≤ WEIGHT) (sym e) (within.activity_weights s.0 (row_with events (get_or activities a no_activity)) s.1)
-        | inr past ↦ subst (λ x. x.weight ≤ WEIGHT) (sym (get_or_past paired a no_activity (omega arith))) (omega arith)
-      ];
+      bounds = at_most (λ x. x.lower) (λ row. row.lower) (λ x. refl) (λ x. refl) BOUND (omega arith) within.bounds;
+      activity_weights = at_most (λ x. x.weight) (λ row. row.weight) (λ x. refl) (λ x. refl) WEIGHT (omega arith) within.activity_weights;
     }
 
 no_event_through : (xs ys : List EventRow) → IsPermutation xs ys → (id : EventId) → IsNoEvent xs id → IsNoEvent ys id

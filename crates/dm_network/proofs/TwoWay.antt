@@ -12,7 +12,7 @@ use Rattle.dm_network.specs.declared.parts.Pair.{Pair}
 use Rattle.dm_network.specs.Net.{no_pair, no_activity, is_headway}
 use Rattle.dm_network.specs.Pairs.{ComesBefore}
 use Rattle.dm_network.specs.Inside.Flat.{ArePairsInOrder, stands_before}
-use Rattle.dm_network.specs.Inside.Stages.{HasHeadway, upward_pair, downward_pair, PairsDoNotFall, AreCommon, AreTwoWay, with_pair, AscendStrictly, DiffersFromLast}
+use Rattle.dm_network.specs.Inside.Stages.{HasHeadway, headway_pair, upward_pair, downward_pair, PairsDoNotFall, AreCommon, AreTwoWay, with_pair, AscendStrictly, DiffersFromLast}
 use Rattle.dm_network.proofs.PairKeys.{stands_before-true, stands_before-from}
 
 pub same_pair : (p q : Pair) → p.small ≡ q.small → p.large ≡ q.large → p ≡ q
@@ -284,31 +284,27 @@ pub record Leads (a : Activity) (p : Pair) (tail head : ℕ) : Type 0 where
   pub tail_is : a.tail ≡ tail
   pub head_is : a.head ≡ head
 
-upward_pair-leads : (a : Activity) (p : Pair) → upward_pair a ≡ Some p → Leads a p p.small p.large
-upward_pair-leads a p h = go (is_headway a.kind && ltb a.tail a.head) refl h
+-- and of the pair of its ends, where the first of two of them is the smaller one
+ends_are : (a : Activity) (small large : ℕ) (p : Pair) → headway_pair a small large ≡ Some p →
+    (is_headway a.kind ≡ true) × (p.small < p.large) × (small ≡ p.small) × (large ≡ p.large)
+ends_are a small large p h = go (is_headway a.kind && ltb small large) refl h
   where
-    go : (b : Bool) → (is_headway a.kind && ltb a.tail a.head) ≡ b → cond b (Some (record { small = a.tail; large = a.head })) None ≡ Some p → Leads a p p.small p.large
+    go : (b : Bool) → (is_headway a.kind && ltb small large) ≡ b → cond b (Some (record { small = small; large = large })) None ≡ Some p →
+        (is_headway a.kind ≡ true) × (p.small < p.large) × (small ≡ p.small) × (large ≡ p.large)
     go false e h = cc
     go true e h =
-        let both = and_parts (is_headway a.kind) (ltb a.tail a.head) e in
-        let lt = ltb-true a.tail a.head both.1 in
-        let is : record { small = a.tail; large = a.head } ≡ p = some_same (record { small = a.tail; large = a.head }) p h in
-        let s : a.tail ≡ p.small = ap (λ x. x.small) is in
-        let l : a.head ≡ p.large = ap (λ x. x.large) is in
-        record { headway = both.0; rises = omega arith; tail_is = s; head_is = l }
+        let both = and_parts (is_headway a.kind) (ltb small large) e in
+        let lt = ltb-true small large both.1 in
+        let is : record { small = small; large = large } ≡ p = some_same (record { small = small; large = large }) p h in
+        let s : small ≡ p.small = ap (λ x. x.small) is in
+        let l : large ≡ p.large = ap (λ x. x.large) is in
+        (both.0, omega arith, s, l)
+
+upward_pair-leads : (a : Activity) (p : Pair) → upward_pair a ≡ Some p → Leads a p p.small p.large
+upward_pair-leads a p h = let is = ends_are a a.tail a.head p h in record { headway = is.0; rises = is.1; tail_is = is.2; head_is = is.3 }
 
 downward_pair-leads : (a : Activity) (p : Pair) → downward_pair a ≡ Some p → Leads a p p.large p.small
-downward_pair-leads a p h = go (is_headway a.kind && ltb a.head a.tail) refl h
-  where
-    go : (b : Bool) → (is_headway a.kind && ltb a.head a.tail) ≡ b → cond b (Some (record { small = a.head; large = a.tail })) None ≡ Some p → Leads a p p.large p.small
-    go false e h = cc
-    go true e h =
-        let both = and_parts (is_headway a.kind) (ltb a.head a.tail) e in
-        let lt = ltb-true a.head a.tail both.1 in
-        let is : record { small = a.head; large = a.tail } ≡ p = some_same (record { small = a.head; large = a.tail }) p h in
-        let s : a.head ≡ p.small = ap (λ x. x.small) is in
-        let l : a.tail ≡ p.large = ap (λ x. x.large) is in
-        record { headway = both.0; rises = omega arith; tail_is = l; head_is = s }
+downward_pair-leads a p h = let is = ends_are a a.head a.tail p h in record { headway = is.0; rises = is.1; tail_is = is.3; head_is = is.2 }
 
 headway_among : (activities : List Activity) (k : ℕ) (p : Pair) (i j : ℕ) → k < length activities → Leads (get_or activities k no_activity) p i j → HasHeadway activities i j
 headway_among activities k p i j lt is = (k, record { is_activity = lt; headway = is.headway; tail = is.tail_is; head = is.head_is })

@@ -2,7 +2,7 @@
 ghost use Rattle.std.specs.Prelude.{◌≡◌, ◌↔◌, IsTrue, map, filter_map, IfOk, IsPermutation, Contains};
 ghost use Rattle.dm_network.specs.Net.{is_headway};
 ghost use Rattle.dm_network.specs.Inside.Flat.{ArePairsInOrder};
-ghost use Rattle.dm_network.specs.Inside.Stages.{upward_pair, downward_pair, PairsDoNotFall, AreCommon, AreTwoWay, with_pair, AscendStrictly, DiffersFromLast};
+ghost use Rattle.dm_network.specs.Inside.Stages.{headway_pair, upward_pair, downward_pair, PairsDoNotFall, AreCommon, AreTwoWay, with_pair, AscendStrictly, DiffersFromLast};
 
 use crate::find::{comes_before, pair_near};
 use crate::parts::{Activity, Pair};
@@ -37,24 +37,21 @@ fn downward(alloc: Global, activities: &[Activity]) -> Result<Vec<Pair>, AllocEr
 fn upward_of(a: &Activity) -> Option<Pair>
     ensures { result ≡ upward_pair a.now }
 {
-    if is_headway(a.kind) && a.tail < a.head {
-        Some(Pair {
-            small: a.tail,
-            large: a.head,
-        })
-    } else {
-        None
-    }
+    headway_pair(a, a.tail, a.head)
 }
 
 fn downward_of(a: &Activity) -> Option<Pair>
     ensures { result ≡ downward_pair a.now }
 {
-    if is_headway(a.kind) && a.head < a.tail {
-        Some(Pair {
-            small: a.head,
-            large: a.tail,
-        })
+    headway_pair(a, a.head, a.tail)
+}
+
+/// Two events of a headway, where the first is the smaller one.
+fn headway_pair(a: &Activity, small: usize, large: usize) -> Option<Pair>
+    ensures { result ≡ headway_pair a.now small large }
+{
+    if is_headway(a.kind) && small < large {
+        Some(Pair { small, large })
     } else {
         None
     }

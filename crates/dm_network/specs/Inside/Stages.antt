@@ -63,12 +63,16 @@ pub record IsHeadwayAmong (activities : List Activity) (i j a : ℕ) : Type 0 wh
 abbrev pub HasHeadway : List Activity → ℕ → ℕ → Type 0
 HasHeadway activities i j = (a : ℕ) × IsHeadwayAmong activities i j a
 
+-- two events of a headway, where the first is the smaller one
+abbrev pub headway_pair : Activity → ℕ → ℕ → Option Pair
+headway_pair a small large = if is_headway a.kind && nat_lt small large then Some (record { small = small; large = large }) else None
+
 -- the two events of a headway that leads from the smaller to the larger one, or from the larger to the smaller one
 abbrev pub upward_pair : Activity → Option Pair
-upward_pair a = if is_headway a.kind && nat_lt a.tail a.head then Some (record { small = a.tail; large = a.head }) else None
+upward_pair a = headway_pair a a.tail a.head
 
 abbrev pub downward_pair : Activity → Option Pair
-downward_pair a = if is_headway a.kind && nat_lt a.head a.tail then Some (record { small = a.head; large = a.tail }) else None
+downward_pair a = headway_pair a a.head a.tail
 
 -- no pair comes before the one before it
 abbrev pub PairsDoNotFall : List Pair → Type 0
