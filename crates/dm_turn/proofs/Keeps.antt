@@ -29,6 +29,30 @@ module _ {S B : Type 0} (history : S → List Entry) (base : S → B) (opened : 
   abbrev Holds : State (Option S) (View B) → Type 0
   Holds = Rule history base opened seats
 
+  -- a state with the log and the tickets of one that keeps the rule keeps it too
+  alike : (s t : State (Option S) (View B)) (r : Holds s) → t.words ≡ length r.log ∷ r.next % 2 ^ 64 ∷ r.serving % 2 ^ 64 ∷ []
+      → SlotIs history base opened seats t.homes r.log (served t.views) → Stands history base opened seats r.log r.serving r.next t.views → Holds t
+  alike s t r words slot views = record {
+    log = r.log;
+    serving = r.serving;
+    next = r.next;
+    words = words;
+    slot = slot;
+    views = views;
+    short = r.short;
+    opened_before = r.opened_before;
+    few = r.few;
+  }
+
+  -- so does one that a seat has only looked at
+  looked_at : (s : State (Option S) (View B)) (id : ℕ) (v : View B) (r : Holds s) (ws : List ℕ) → get_elem? s.views id ≡ some v
+      → ws ≡ length r.log ∷ r.next % 2 ^ 64 ∷ r.serving % 2 ^ 64 ∷ [] → Holds (record { words = ws; homes = s.homes; views = set s.views id v })
+  looked_at s id v r ws at words =
+      let same = sym (set_again s.views id v at) in
+      alike s (record { words = ws; homes = s.homes; views = set s.views id v }) r words
+      (subst (λ (vs : List (View B)). SlotIs history base opened seats s.homes r.log (served vs)) same r.slot)
+      (subst (Stands history base opened seats r.log r.serving r.next) same r.views)
+
   pub draws : (slots id : ℕ) (me : Sat S B) → me.0.phase ≡ Idle → 1 ≤ me.0.room
       → Allows Holds slots id me 1 (λ n. (n + 1) % 2 ^ 64) (Drew (step slots 1 1 0 none) me)
   draws slots id me idle room s r len at small =
@@ -112,17 +136,9 @@ module _ {S B : Type 0} (history : S → List Entry) (base : S → B) (opened : 
           w,
           takes 0 (Some home.state),
           ap (λ (hs : List (maybe.Option (Option S))). get_elem? hs 0) home.there,
-          record {
-            log = r.log;
-            serving = r.serving;
-            next = r.next;
-            words = same_words;
-            slot = inr (one, ap (λ (hs : List (maybe.Option (Option S))). set hs 0 none) home.there);
-            views = stand_look history base opened seats r.log r.serving r.next s.views id me.0 t r.views at room waits (sym own);
-            short = r.short;
-            opened_before = r.opened_before;
-            few = r.few;
-          },
+          alike s (stepped s 2 (slice_index s.words 2) id me.1 w (takes 0 (Some home.state))) r same_words
+              (inr (one, ap (λ (hs : List (maybe.Option (Option S))). set hs 0 none) home.there))
+              (stand_look history base opened seats r.log r.serving r.next s.views id me.0 t r.views at room waits (sym own)),
           record {
             own = λ _. record {
               state = home.state;
@@ -139,17 +155,7 @@ module _ {S B : Type 0} (history : S → List Entry) (base : S → B) (opened : 
       me.0,
       keeps,
       tt,
-      record {
-        log = r.log;
-        serving = r.serving;
-        next = r.next;
-        words = same_words;
-        slot = subst (λ (vs : List (View B)). SlotIs history base opened seats s.homes r.log (served vs)) (sym (set_again s.views id me.0 at)) r.slot;
-        views = subst (Stands history base opened seats r.log r.serving r.next) (sym (set_again s.views id me.0 at)) r.views;
-        short = r.short;
-        opened_before = r.opened_before;
-        few = r.few;
-      },
+      looked_at s id me.0 r (set s.words 2 (slice_index s.words 2)) at same_words,
       record { own = λ e. absurd (ne e); other = λ _. refl },
     )
 
@@ -158,17 +164,8 @@ module _ {S B : Type 0} (history : S → List Entry) (base : S → B) (opened : 
     me.0,
     keeps,
     tt,
-    record {
-      log = r.log;
-      serving = r.serving;
-      next = r.next;
-      words = same_words word is_word s.words (length r.log) (r.next % 2 ^ 64) (r.serving % 2 ^ 64) r.words;
-      slot = subst (λ (vs : List (View B)). SlotIs history base opened seats s.homes r.log (served vs)) (sym (set_again s.views id me.0 at)) r.slot;
-      views = subst (Stands history base opened seats r.log r.serving r.next) (sym (set_again s.views id me.0 at)) r.views;
-      short = r.short;
-      opened_before = r.opened_before;
-      few = r.few;
-    },
+    looked_at s id me.0 r (set s.words word (slice_index s.words word)) at
+        (same_words word is_word s.words (length r.log) (r.next % 2 ^ 64) (r.serving % 2 ^ 64) r.words),
     refl,
   ) where
     same_words : (word : ℕ) → word < 3 → (ws : List ℕ) (a b c : ℕ) → ws ≡ a ∷ b ∷ c ∷ [] → set ws word (slice_index ws word) ≡ a ∷ b ∷ c ∷ []
@@ -245,17 +242,9 @@ module _ {S B : Type 0} (history : S → List Entry) (base : S → B) (opened : 
       let vs : List (View B) = set s.views id (left_over v) ++ cut_off v ∷ [] in
       let f : View B → ℕ = λ z. one_if (is_served z.phase) in
       let same : served vs ≡ served s.views = omega (arith, sum_set f s.views id v (left_over v) at, sum_by_push f (set s.views id (left_over v)) (cut_off v)) in
-      record {
-        log = r.log;
-        serving = r.serving;
-        next = r.next;
-        words = r.words;
-        slot = subst (SlotIs history base opened seats s.homes r.log) (sym same) r.slot;
-        views = stand_split history base opened seats r.log r.serving r.next s.views id v r.views at room;
-        short = r.short;
-        opened_before = r.opened_before;
-        few = r.few;
-      }
+      alike s (record { words = s.words; homes = s.homes; views = vs }) r r.words
+      (subst (SlotIs history base opened seats s.homes r.log) (sym same) r.slot)
+      (stand_split history base opened seats r.log r.serving r.next s.views id v r.views at room)
 
   pub joins : (id : ℕ) (v : View B) (other : ℕ) (w : View B) → 1 ≤ v.room → 1 ≤ w.room → v.phase ≡ Idle → w.phase ≡ Idle
       → Joins Holds id v other w (joined v w) spent
@@ -266,17 +255,9 @@ module _ {S B : Type 0} (history : S → List Entry) (base : S → B) (opened : 
       let f : View B → ℕ = λ z. one_if (is_served z.phase) in
       let same : served vs ≡ served s.views =
       omega (arith, sum_set f s.views id v u at, sum_set f (set s.views id u) other w spent there', ap (λ (p : Phase). one_if (is_served p)) idle') in
-      record {
-        log = r.log;
-        serving = r.serving;
-        next = r.next;
-        words = r.words;
-        slot = subst (SlotIs history base opened seats s.homes r.log) (sym same) r.slot;
-        views = stand_join history base opened seats r.log r.serving r.next s.views id other v w r.views at ne there room room' idle idle';
-        short = r.short;
-        opened_before = r.opened_before;
-        few = r.few;
-      }
+      alike s (record { words = s.words; homes = s.homes; views = vs }) r r.words
+      (subst (SlotIs history base opened seats s.homes r.log) (sym same) r.slot)
+      (stand_join history base opened seats r.log r.serving r.next s.views id other v w r.views at ne there room room' idle idle')
 
   pub settles : (slots id : ℕ) (me : Sat S B) → 1 ≤ me.0.room → Allows Holds slots id me 0 (λ n. n) (Settled (step slots 0 0 0 none) me)
   settles slots id me room s r len at small =
@@ -286,17 +267,9 @@ module _ {S B : Type 0} (history : S → List Entry) (base : S → B) (opened : 
         w,
         keeps,
         tt,
-        record {
-          log = r.log;
-          serving = r.serving;
-          next = r.next;
-          words = ap (λ (ws : List ℕ). set ws 0 (slice_index ws 0)) r.words;
-          slot = subst (SlotIs history base opened seats s.homes r.log) (sym same) r.slot;
-          views = stand_settle history base opened seats r.log r.serving r.next s.views id me.0 r.views at room;
-          short = r.short;
-          opened_before = r.opened_before;
-          few = r.few;
-        },
+        alike s (stepped s 0 (slice_index s.words 0) id me.1 w keeps) r (ap (λ (ws : List ℕ). set ws 0 (slice_index ws 0)) r.words)
+            (subst (SlotIs history base opened seats s.homes r.log) (sym same) r.slot)
+            (stand_settle history base opened seats r.log r.serving r.next s.views id me.0 r.views at room),
         (refl, λ le. prefix_shorter me.0.told me.0.seen r.log fit.told fit.seen le),
       )
 
