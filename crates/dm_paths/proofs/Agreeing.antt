@@ -11,10 +11,12 @@ use Rattle.dm_network.specs.Net.{Net, event_at, activity_at, pair_at, no_pair, i
 use Rattle.dm_network.specs.Pairs.{joins, pair_place}
 use Rattle.dm_network.specs.Start.{IsNetwork, first_event}
 use Rattle.dm_network.proofs.PairKeys.{joins-true}
+use Rattle.dm_rows.specs.declared.messages.Choice.{Choice}
 use Rattle.dm_rows.specs.declared.messages.Decision.{Decision}
 use Rattle.dm_rows.specs.Rows.{RowsValue, kept_at, small_first_at, passed_at}
 use Rattle.dm_rows.specs.Active.{has_passed, is_active, binds}
 use Rattle.dm_rows.specs.Timetable.{floor_of, span_of, planned_time}
+use Rattle.dm_rows.specs.Sides.{first_decision, second_decision}
 use Rattle.dm_rows.specs.Decide.{choice_of, change_choice, pair_choice, is_free_change, is_free_pair}
 use Rattle.dm_rows.specs.Relax.{is_same_choice, is_decided, is_undecided_change, is_undecided_pair, is_of_undecided}
 use Rattle.dm_paths.specs.Decisions.{change_decision, pair_decision}
@@ -37,7 +39,7 @@ pub record PairJoins (net : Net) (a p : ℕ) : Type 0 where
   pub ends : (((pair_at net p).small ≡ (activity_at net a).tail) × ((pair_at net p).large ≡ (activity_at net a).head))
       ⊎ (((pair_at net p).small ≡ (activity_at net a).head) × ((pair_at net p).large ≡ (activity_at net a).tail))
 
-change_is_no_headway : (k : ActKind) → is_change k ≡ true → is_headway k ≡ false
+pub change_is_no_headway : (k : ActKind) → is_change k ≡ true → is_headway k ≡ false
 change_is_no_headway Drive h = cc
 change_is_no_headway Wait h = cc
 change_is_no_headway Turnaround h = cc
@@ -87,33 +89,23 @@ module _ (rows r : RowsValue) (over : DiffersInDecisions rows r) where
 module _ (net : Net) (network : IsNetwork net) (rows : RowsValue) (path : List Decision) (r s : RowsValue)
     (over_r : DiffersInDecisions rows r) (over_s : DiffersInDecisions rows s)
     (has_r : (d : Decision) → Contains path d → HasDecision net r d) (has_s : (d : Decision) → Contains path d → HasDecision net s d) where
-  change_is : (a : ℕ) → a < length net.activities → (d : Decision) → Contains path d → (kept : Bool) → d ≡ change_decision net a kept →
-      kept_at r a ≡ kept_at s a
-  change_is a below d among kept is =
-      has_kept net network r a kept below (subst (HasDecision net r) is (has_r d among))
-      ∙ sym (has_kept net network s a kept below (subst (HasDecision net s) is (has_s d among)))
+  -- where a decision of a choice tells a value, the value is one if the path decides the choice
+  agree_on : (c : Choice) (value : RowsValue → Bool) → ((t : RowsValue) → HasDecision net t (first_decision c) → value t ≡ true) →
+      ((t : RowsValue) → HasDecision net t (second_decision c) → value t ≡ false) → is_decided path c ≡ true → value r ≡ value s
+  agree_on c value first second decided =
+      let one = passes_one (λ d. is_same_choice (choice_of d) c) path decided in
+      elim (is_either one.0 c (same_choice (choice_of one.0) c one.2)) [
+        | inl e ↦ first r (subst (HasDecision net r) e (has_r one.0 one.1)) ∙ sym (first s (subst (HasDecision net s) e (has_s one.0 one.1)))
+        | inr e ↦ second r (subst (HasDecision net r) e (has_r one.0 one.1)) ∙ sym (second s (subst (HasDecision net s) e (has_s one.0 one.1)))
+      ]
 
   pub kept_agrees : (a : ℕ) → a < length net.activities → is_decided path (change_choice net a) ≡ true → kept_at r a ≡ kept_at s a
-  kept_agrees a below decided =
-      let one = passes_one (λ d. is_same_choice (choice_of d) (change_choice net a)) path decided in
-      elim (is_either one.0 (change_choice net a) (same_choice (choice_of one.0) (change_choice net a) one.2)) [
-        | inl e ↦ change_is a below one.0 one.1 true e
-        | inr e ↦ change_is a below one.0 one.1 false e
-      ]
-
-  pair_is : (p : ℕ) → p < length net.pairs → (d : Decision) → Contains path d → (small : Bool) → d ≡ pair_decision net p small →
-      small_first_at r p ≡ small_first_at s p
-  pair_is p below d among small is =
-      has_first net network r p small below (subst (HasDecision net r) is (has_r d among))
-      ∙ sym (has_first net network s p small below (subst (HasDecision net s) is (has_s d among)))
+  kept_agrees a below =
+      agree_on (change_choice net a) (λ t. kept_at t a) (λ t h. has_kept net network t a true below h) (λ t h. has_kept net network t a false below h)
 
   pub first_agrees : (p : ℕ) → p < length net.pairs → is_decided path (pair_choice net p) ≡ true → small_first_at r p ≡ small_first_at s p
-  first_agrees p below decided =
-      let one = passes_one (λ d. is_same_choice (choice_of d) (pair_choice net p)) path decided in
-      elim (is_either one.0 (pair_choice net p) (same_choice (choice_of one.0) (pair_choice net p) one.2)) [
-        | inl e ↦ pair_is p below one.0 one.1 true e
-        | inr e ↦ pair_is p below one.0 one.1 false e
-      ]
+  first_agrees p below =
+      agree_on (pair_choice net p) (λ t. small_first_at t p) (λ t h. has_first net network t p true below h) (λ t h. has_first net network t p false below h)
 
   binds_same : (kind : ActKind) (pair : Option ℕ) (tail a : ℕ) → (is_change kind ≡ true → kept_at r a ≡ kept_at s a) →
       ((p : ℕ) → pair ≡ Some p → (has_passed rows tail ≡ true) ⊎ (small_first_at r p ≡ small_first_at s p)) →

@@ -58,6 +58,13 @@ alike_at f g a b off off' same =
 
 module _ (net : Net) (network : IsNetwork net) (rows : RowsValue) (sized : IsSized net rows) (path other : List Decision)
     (list : IsChoiceList net rows path) (other_list : IsChoiceList net rows other) (d : Decision) (adds : AddsDecision path other d) where
+  -- what is not of the change binds as before
+  stays : (a : ℕ) (kept : Bool) → IsOfChange net rows d a kept → (b : ℕ) → b < length net.activities → (b ≡ a → ⊥) →
+      is_relaxed_active net rows other b ≡ is_relaxed_active net rows path b
+  stays a kept is b below ne =
+      relaxed_same net network rows sized path other list other_list d adds b below
+      (change_not_of net network rows sized path other list other_list d adds a kept is b below ne)
+
   -- what binds of a change that is kept or dropped, of a pair
   keeps_at : (a : ℕ) → IsOfChange net rows d a true → (b : ℕ) → b < length net.activities →
       DiffersAt (b == a) (is_relaxed_active net rows path b) (is_relaxed_active net rows other b)
@@ -65,8 +72,7 @@ module _ (net : Net) (network : IsNetwork net) (rows : RowsValue) (sized : IsSiz
       at_one (is_relaxed_active net rows path) (is_relaxed_active net rows other) a b
       (change_bound_before net network rows sized path other list other_list d adds a true is)
       (change_binds net network rows sized path other list other_list d adds a true is)
-      (λ ne. relaxed_same net network rows sized path other list other_list d adds b below
-      (change_not_of net network rows sized path other list other_list d adds a true is b below ne))
+      (stays a true is b below)
 
   drops_at : (a : ℕ) → IsOfChange net rows d a false → (b : ℕ) → b < length net.activities →
       is_relaxed_active net rows other b ≡ is_relaxed_active net rows path b
@@ -74,8 +80,7 @@ module _ (net : Net) (network : IsNetwork net) (rows : RowsValue) (sized : IsSiz
       alike_at (is_relaxed_active net rows path) (is_relaxed_active net rows other) a b
       (change_bound_before net network rows sized path other list other_list d adds a false is)
       (change_binds net network rows sized path other list other_list d adds a false is)
-      (λ ne. relaxed_same net network rows sized path other list other_list d adds b below
-      (change_not_of net network rows sized path other list other_list d adds a false is b below ne))
+      (stays a false is b below)
 
   orders_at : (p : ℕ) (small : Bool) → IsOfPair net rows d p small → (b : ℕ) → b < length net.activities →
       DiffersAt (is_directed net p (first_event net p small) b) (is_relaxed_active net rows path b) (is_relaxed_active net rows other b)

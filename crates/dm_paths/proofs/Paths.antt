@@ -17,7 +17,7 @@ use Rattle.dm_rows.specs.Relax.{is_same_choice, is_decided, is_undecided_change,
 use Rattle.dm_paths.proofs.Naming.{change_decides, pair_decides, one_change, one_pair}
 use Rattle.dm_rows.proofs.Sides.{same_choice, same_itself}
 use Rattle.dm_paths.proofs.Setting.{DiffersInDecisions, HasDecision, differs_in_none, differs_with, has_each, has_kept, has_first, in_front}
-use Rattle.dm_paths.proofs.Agreeing.{passes_one, PairJoins, pair_joins, change_has_no_pair, has_passed_same, active_same, kept_agrees, decided_change}
+use Rattle.dm_paths.proofs.Agreeing.{passes_one, PairJoins, pair_joins, change_is_no_headway, change_has_no_pair, has_passed_same, active_same, kept_agrees, decided_change}
 use Rattle.dm_paths.specs.Decisions.{AddsDecision, is_of, IsOfChange, IsOfPair}
 
 -- what one element of a list passes, some element passes
@@ -77,11 +77,7 @@ headway_kind Change h = cc
 headway_kind Headway h = refl
 
 headway_is_no_change : (k : ActKind) → is_headway k ≡ true → is_change k ≡ false
-headway_is_no_change Drive h = cc
-headway_is_no_change Wait h = cc
-headway_is_no_change Turnaround h = cc
-headway_is_no_change Change h = cc
-headway_is_no_change Headway h = refl
+headway_is_no_change k h = false_from_ne_true (is_change k) (λ is. let no = change_is_no_headway k is in absurd cc)
 
 module _ (net : Net) (network : IsNetwork net) (rows : RowsValue) (sized : IsSized net rows) (path other : List Decision)
     (list : IsChoiceList net rows path) (other_list : IsChoiceList net rows other) (d : Decision) (adds : AddsDecision path other d) where
@@ -155,6 +151,19 @@ module _ (net : Net) (network : IsNetwork net) (rows : RowsValue) (sized : IsSiz
         ]
       ]
 
+  -- a choice that the decision decides was undecided and is decided, and no other one is the same
+  undecided_till : (c : Choice) (free : Bool) → choice_of d ≡ c → free ≡ true → (free && not (is_decided path c)) ≡ true
+  undecided_till c free decides is =
+      and_from free (not (is_decided path c)) is (not_from_false (is_decided path c) (undecided_before path other d adds c decides))
+
+  decided_now : (c : Choice) (free : Bool) → choice_of d ≡ c → (free && not (is_decided other c)) ≡ false
+  decided_now c free decides =
+      and_right free (not (is_decided other c)) (not_from_true (is_decided other c) (decided_here path other d adds c decides))
+
+  not_same : (c one : Choice) → choice_of d ≡ c → (c ≡ one → ⊥) → is_same_choice (choice_of d) one ≡ false
+  not_same c one decides apart =
+      false_from_ne_true (is_same_choice (choice_of d) one) (λ h. apart (sym decides ∙ same_choice (choice_of d) one h))
+
   -- the decision of a change
   module _ (a : ℕ) (kept : Bool) (is : IsOfChange net rows d a kept) where
     pub decides_change : choice_of d ≡ change_choice net a
@@ -170,19 +179,14 @@ module _ (net : Net) (network : IsNetwork net) (rows : RowsValue) (sized : IsSiz
     kind_is = change_kind (activity_at net a).kind (and_parts (is_change (activity_at net a).kind) (not (has_passed rows (activity_at net a).head)) is.free).0
 
     pub change_undecided_before : is_undecided_change net rows path a ≡ true
-    change_undecided_before =
-        and_from (is_free_change net rows a) (not (is_decided path (change_choice net a))) is.free
-        (not_from_false (is_decided path (change_choice net a)) (undecided_before path other d adds (change_choice net a) decides_change))
+    change_undecided_before = undecided_till (change_choice net a) (is_free_change net rows a) decides_change is.free
 
     pub change_decided_after : is_undecided_change net rows other a ≡ false
-    change_decided_after =
-        and_right (is_free_change net rows a) (not (is_decided other (change_choice net a)))
-        (not_from_true (is_decided other (change_choice net a)) (decided_here path other d adds (change_choice net a) decides_change))
+    change_decided_after = decided_now (change_choice net a) (is_free_change net rows a) decides_change
 
     pub change_apart : (b : ℕ) → b < length net.activities → (b ≡ a → ⊥) → is_same_choice (choice_of d) (change_choice net b) ≡ false
     change_apart b below other_one =
-        false_from_ne_true (is_same_choice (choice_of d) (change_choice net b))
-        (λ h. other_one (sym (one_change net network a b is.is_activity below (sym decides_change ∙ same_choice (choice_of d) (change_choice net b) h))))
+        not_same (change_choice net a) (change_choice net b) decides_change (λ e. other_one (sym (one_change net network a b is.is_activity below e)))
 
     of_change : (b : ℕ) (o : Option ℕ) → b < length net.activities → (b ≡ a → ⊥) → is_of net (choice_of d) b o ≡ false
     of_change b None below other_one = change_apart b below other_one
@@ -240,19 +244,14 @@ module _ (net : Net) (network : IsNetwork net) (rows : RowsValue) (sized : IsSiz
     decides_pair = ap choice_of is.is ∙ pair_decides net network p small is.is_pair
 
     pub pair_undecided_before : is_undecided_pair net rows path p ≡ true
-    pair_undecided_before =
-        and_from (is_free_pair net rows p) (not (is_decided path (pair_choice net p))) is.free
-        (not_from_false (is_decided path (pair_choice net p)) (undecided_before path other d adds (pair_choice net p) decides_pair))
+    pair_undecided_before = undecided_till (pair_choice net p) (is_free_pair net rows p) decides_pair is.free
 
     pub pair_decided_after : is_undecided_pair net rows other p ≡ false
-    pair_decided_after =
-        and_right (is_free_pair net rows p) (not (is_decided other (pair_choice net p)))
-        (not_from_true (is_decided other (pair_choice net p)) (decided_here path other d adds (pair_choice net p) decides_pair))
+    pair_decided_after = decided_now (pair_choice net p) (is_free_pair net rows p) decides_pair
 
     pub pair_apart : (q : ℕ) → q < length net.pairs → (q ≡ p → ⊥) → is_same_choice (choice_of d) (pair_choice net q) ≡ false
     pair_apart q below other_one =
-        false_from_ne_true (is_same_choice (choice_of d) (pair_choice net q))
-        (λ h. other_one (sym (one_pair net network p q is.is_pair below (sym decides_pair ∙ same_choice (choice_of d) (pair_choice net q) h))))
+        not_same (pair_choice net p) (pair_choice net q) decides_pair (λ e. other_one (sym (one_pair net network p q is.is_pair below e)))
 
     pub pair_no_change : (b : ℕ) → is_same_choice (choice_of d) (change_choice net b) ≡ false
     pair_no_change b = ap (λ c. is_same_choice c (change_choice net b)) decides_pair
