@@ -1,7 +1,7 @@
 -- What a window's base leaves to be made is what is in the window.
-use Rattle.std.proofs.Common.{◌≡◌, ℕ, ◌<◌, ◌≤◌, Bool, true, false, List, ◌++◌, length, map, refl, sym, ap, subst, ◌∙◌, inl, inr, arith}
+use Rattle.std.proofs.Common.{◌≡◌, ℕ, ◌⊎◌, ◌<◌, ◌≤◌, Bool, true, false, List, ◌++◌, length, map, refl, sym, ap, subst, ◌∙◌, inl, inr, arith}
 use Rattle.std.proofs.lemmas.List.{map-append}
-use Rattle.std.specs.Prelude.{filter, Contains, All, IsTrue, not}
+use Rattle.std.specs.Prelude.{filter, Contains, All, IsTrue, not, ◌&&◌}
 use Rattle.std.specs.List.{range_with_len}
 use Rattle.std.proofs.lemmas.Bool.{and_parts, and_from, not-true, not_from_false}
 use Rattle.std.proofs.lemmas.List.Elements.{All-filter, All-weaker, Contains-append_left, Contains-append_right, Contains-append_cases, filter-append}
@@ -52,6 +52,24 @@ base_gathered net rows from to changes all e f =
     let second = gathered (is_pair_outside net rows from to) (λ p. pair_decision net p (small_first_at rows p)) (range_with_len 0 (length net.pairs)) in
     f ∙ (ap (λ ds. ds ++ standing_pairs net rows from to (length net.pairs)) (e ∙ first)
     ∙ ap (λ ds. map (λ a. change_decision net a (kept_at rows a)) (filter (is_change_outside net rows from to) (range_with_len 0 (length net.activities))) ++ ds) second)
+
+-- the choice is that of a place that is not within
+record IsOutside (choice : ℕ → Choice) (within : ℕ → Bool) (many : ℕ) (c : Choice) : Type 0 where
+  place : ℕ
+  below : place < many
+  is : choice place ≡ c
+  away : within place ≡ false
+
+from_outside : (as_it_is : ℕ → Decision) (choice : ℕ → Choice) (free within : ℕ → Bool) (many : ℕ) (d : Decision) (c : Choice) → ((i : ℕ) → i < many → choice_of (as_it_is i) ≡ choice i) →
+    Contains (map as_it_is (filter (λ i. free i && not (within i)) (range_with_len 0 many))) d → choice_of d ≡ c → IsOutside choice within many c
+from_outside as_it_is choice free within many d c decides there same =
+    let f = from_place as_it_is (λ i. free i && not (within i)) many d there in
+    record {
+      place = f.place;
+      below = f.below;
+      is = sym (decides f.place f.below) ∙ (ap choice_of f.is ∙ same);
+      away = not-true (within f.place) (and_parts (free f.place) (not (within f.place)) f.passes).1;
+    }
 
 module _ (net : Net) (network : IsNetwork net) (rows : RowsValue) (from to : ℕ) where
   abbrev as_it_is : ℕ → Decision
@@ -129,45 +147,36 @@ module _ (net : Net) (network : IsNetwork net) (rows : RowsValue) (from to : ℕ
         as_the_rows = all_from (λ d. IsTrue (is_set rows (flip_named net d))) (window_base net rows from to) has_it;
       }
 
-  -- what the base decides is outside the window
+  -- a choice that the base decides is that of a change or of a pair outside the window
+  decided_at : (c : Choice) → is_decided (window_base net rows from to) c ≡ true →
+      IsOutside (change_choice net) (is_change_within net from to) (length net.activities) c ⊎ IsOutside (pair_choice net) (is_pair_within net from to) (length net.pairs) c
+  decided_at c decided =
+      let e = passes_one (λ d. is_same_choice (choice_of d) c) (window_base net rows from to) decided in
+      let same : choice_of e.0 ≡ c = same_choice (choice_of e.0) c e.2 in
+      elim (Contains-append_cases base_changes base_pairs e.0 e.1) [
+        | inl l ↦
+            inl (from_outside as_it_is (change_choice net) (is_free_change net rows) (is_change_within net from to) (length net.activities) e.0 c
+            (λ a below. change_decides net network a (kept_at rows a)) l same)
+        | inr r ↦
+            inr (from_outside pair_as_it_is (pair_choice net) (is_free_pair net rows) (is_pair_within net from to) (length net.pairs) e.0 c
+            (λ p below. pair_decides net network p (small_first_at rows p) below) r same)
+      ]
+
+  -- so what it decides is outside
   decided_change : (a : ℕ) → a < length net.activities → is_decided (window_base net rows from to) (change_choice net a) ≡ true →
       is_change_within net from to a ≡ false
   decided_change a below decided =
-      let e = passes_one (λ d. is_same_choice (choice_of d) (change_choice net a)) (window_base net rows from to) decided in
-      let same : choice_of e.0 ≡ change_choice net a = same_choice (choice_of e.0) (change_choice net a) e.2 in
-      elim (Contains-append_cases base_changes base_pairs e.0 e.1) [
-        | inl l ↦
-            let f = from_place as_it_is (is_change_outside net rows from to) (length net.activities) e.0 l in
-            let at : change_choice net f.place ≡ change_choice net a =
-            sym (change_decides net network f.place (kept_at rows f.place)) ∙ (ap choice_of f.is ∙ same) in
-            let one : f.place ≡ a = one_change net network f.place a f.below below at in
-            let both = and_parts (is_free_change net rows f.place) (not (is_change_within net from to f.place)) f.passes in
-            ap (is_change_within net from to) (sym one) ∙ not-true (is_change_within net from to f.place) both.1
-        | inr r ↦
-            let f = from_place pair_as_it_is (is_pair_outside net rows from to) (length net.pairs) e.0 r in
-            let at : pair_choice net f.place ≡ change_choice net a =
-            sym (pair_decides net network f.place (small_first_at rows f.place) f.below) ∙ (ap choice_of f.is ∙ same) in
-            cc
+      elim (decided_at (change_choice net a) decided) [
+        | inl o ↦ ap (is_change_within net from to) (sym (one_change net network o.place a o.below below o.is)) ∙ o.away
+        | inr o ↦ let at = o.is in cc
       ]
 
   decided_pair : (p : ℕ) → p < length net.pairs → is_decided (window_base net rows from to) (pair_choice net p) ≡ true →
       is_pair_within net from to p ≡ false
   decided_pair p below decided =
-      let e = passes_one (λ d. is_same_choice (choice_of d) (pair_choice net p)) (window_base net rows from to) decided in
-      let same : choice_of e.0 ≡ pair_choice net p = same_choice (choice_of e.0) (pair_choice net p) e.2 in
-      elim (Contains-append_cases base_changes base_pairs e.0 e.1) [
-        | inl l ↦
-            let f = from_place as_it_is (is_change_outside net rows from to) (length net.activities) e.0 l in
-            let at : change_choice net f.place ≡ pair_choice net p =
-            sym (change_decides net network f.place (kept_at rows f.place)) ∙ (ap choice_of f.is ∙ same) in
-            cc
-        | inr r ↦
-            let f = from_place pair_as_it_is (is_pair_outside net rows from to) (length net.pairs) e.0 r in
-            let at : pair_choice net f.place ≡ pair_choice net p =
-            sym (pair_decides net network f.place (small_first_at rows f.place) f.below) ∙ (ap choice_of f.is ∙ same) in
-            let one : f.place ≡ p = one_pair net network f.place p f.below below at in
-            let both = and_parts (is_free_pair net rows f.place) (not (is_pair_within net from to f.place)) f.passes in
-            ap (is_pair_within net from to) (sym one) ∙ not-true (is_pair_within net from to f.place) both.1
+      elim (decided_at (pair_choice net p) decided) [
+        | inl o ↦ let at = o.is in cc
+        | inr o ↦ ap (is_pair_within net from to) (sym (one_pair net network o.place p o.below below o.is)) ∙ o.away
       ]
 
   -- and it decides every free choice that is outside
