@@ -3,6 +3,7 @@ use Rattle.std.proofs.Common.{◌≡◌, ℕ, ◌<◌, true, eqb, List, [], ◌�
 use Rattle.std.specs.List.{flat_map}
 use Rattle.std.specs.Option.{option_map}
 use Rattle.std.proofs.lemmas.Bool.{eqb-true}
+use Rattle.dm_base.specs.declared.ids.ActId.{ActId}
 use Rattle.dm_rows.specs.declared.messages.Decision.{Decision}
 use Rattle.dm_rows.specs.declared.messages.Decision.TheVariants as decision
 use Rattle.dm_feed.specs.declared.vocabulary.Word.{Word}
@@ -93,23 +94,21 @@ record ReadsFirst (d : Decision) (parts : List Part) (texts : List (List ℕ)) :
   is : next_decision texts ≡ Some (d, rest)
   stand : StandForAll parts rest
 
+reads_change : (w : Word) (make : ActId → Decision) (a : ActId) (parts : List Part) (text one : List ℕ) (rest : List (List ℕ)) → text ≡ spelling_of_word w → Writes a.0 largest_id one → StandForAll parts rest
+    → decision_behind (Some w) (one ∷ rest) ≡ option_map (λ p. (make (act p.0), p.1)) (next_id (one ∷ rest)) → ReadsFirst (make a) parts (text ∷ one ∷ rest)
+reads_change w make a parts text one rest is writes stand behind = record {
+  rest = rest;
+  is = ap (λ o. decision_behind o (one ∷ rest)) (named text w is) ∙ (behind ∙ ap (option_map (λ p. (make (act p.0), p.1))) (read_id a.0 one rest writes));
+  stand = stand;
+}
+
 reads_first : (d : Decision) (parts : List Part) (texts : List (List ℕ)) → StandForAll (parts_of_decision d ++ parts) texts → ReadsFirst d parts texts
 reads_first (decision.Keep a) parts [] h = absurd h
 reads_first (decision.Keep a) parts (text ∷ []) h = absurd h.1
-reads_first (decision.Keep a) parts (text ∷ one ∷ rest) h =
-    record {
-      rest = rest;
-      is = ap (λ o. decision_behind o (one ∷ rest)) (named text Keep h.0) ∙ ap (option_map (λ p. (decision.Keep (act p.0), p.1))) (read_id a.0 one rest h.1.0);
-      stand = h.1.1;
-    }
+reads_first (decision.Keep a) parts (text ∷ one ∷ rest) h = reads_change Keep decision.Keep a parts text one rest h.0 h.1.0 h.1.1 refl
 reads_first (decision.Drop a) parts [] h = absurd h
 reads_first (decision.Drop a) parts (text ∷ []) h = absurd h.1
-reads_first (decision.Drop a) parts (text ∷ one ∷ rest) h =
-    record {
-      rest = rest;
-      is = ap (λ o. decision_behind o (one ∷ rest)) (named text Drop h.0) ∙ ap (option_map (λ p. (decision.Drop (act p.0), p.1))) (read_id a.0 one rest h.1.0);
-      stand = h.1.1;
-    }
+reads_first (decision.Drop a) parts (text ∷ one ∷ rest) h = reads_change Drop decision.Drop a parts text one rest h.0 h.1.0 h.1.1 refl
 reads_first (decision.First e f) parts [] h = absurd h
 reads_first (decision.First e f) parts (text ∷ []) h = absurd h.1
 reads_first (decision.First e f) parts (text ∷ one ∷ []) h = absurd h.1.1

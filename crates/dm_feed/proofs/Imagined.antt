@@ -74,48 +74,47 @@ module _ {S : Type 0} (left : S → Option (List ℕ)) where
     stops : StopsNext all_left (imagined now rest) later stop
     at_end : now.stop ≡ Some End → rest ≡ []
 
+  -- a source that had left just what was given before the stop
+  ends_behind : (now later : ReaderValue S) (stop : FeedStop) (given : List ℕ) → now.taken ≤ 262144 → now.stop ≡ None → IfSome now.stop (λ first. Stop stop ≡ Stop first)
+      → Answers all_left no_faults none_sound (imagined now given) (imagined later []) (Stop stop) → Ends now stop
+  ends_behind now later stop given small is_open again answers = record {
+    rest = given;
+    later = imagined later [];
+    stops = record {
+      in_order = λ e. in_order all_left no_faults none_sound (imagined now given) (imagined later []) (Stop stop) given small refl answers;
+      again = again;
+    };
+    at_end = λ e. absurd cc;
+  }
+
   ends_first : (now later : ReaderValue S) (stop : FeedStop) → now.taken ≤ 262144 → now.stop ≡ None → SeesStop left now later stop → IfSome now.stop (λ first. Stop stop ≡ Stop first) → Ends now stop
-  ends_first now later End small is_open a again = record {
-    rest = a.given;
-    later = imagined later [];
-    stops = record {
-      in_order = λ e. in_order all_left no_faults none_sound (imagined now a.given) (imagined later []) (Stop End) a.given small refl
-          (record {
-            given = a.given;
-            takes = record { consumed = sym (append-nil a.given); counted = a.takes.counted };
-            quiet = a.quiet;
-            are_quiet = a.are_quiet;
-            last = a.last;
-            unended = a.unended;
-            is_quiet = a.is_quiet;
-            passed = a.passed;
-            at_end = refl;
-            within = a.within;
-          });
-      again = again;
-    };
-    at_end = λ e. absurd cc;
-  }
-  ends_first now later Long small is_open a again = record {
-    rest = a.given;
-    later = imagined later [];
-    stops = record {
-      in_order = λ e. in_order all_left no_faults none_sound (imagined now a.given) (imagined later []) (Stop Long) a.given small refl
-          (record {
-            given = a.given;
-            takes = record { consumed = sym (append-nil a.given); counted = a.takes.counted };
-            quiet = a.quiet;
-            are_quiet = a.are_quiet;
-            front = a.front;
-            unended = a.unended;
-            next = a.next;
-            passed = a.passed;
-            over = a.over;
-          });
-      again = again;
-    };
-    at_end = λ e. absurd cc;
-  }
+  ends_first now later End small is_open a again =
+      ends_behind now later End a.given small is_open again
+      (record {
+        given = a.given;
+        takes = record { consumed = sym (append-nil a.given); counted = a.takes.counted };
+        quiet = a.quiet;
+        are_quiet = a.are_quiet;
+        last = a.last;
+        unended = a.unended;
+        is_quiet = a.is_quiet;
+        passed = a.passed;
+        at_end = refl;
+        within = a.within;
+      })
+  ends_first now later Long small is_open a again =
+      ends_behind now later Long a.given small is_open again
+      (record {
+        given = a.given;
+        takes = record { consumed = sym (append-nil a.given); counted = a.takes.counted };
+        quiet = a.quiet;
+        are_quiet = a.are_quiet;
+        front = a.front;
+        unended = a.unended;
+        next = a.next;
+        passed = a.passed;
+        over = a.over;
+      })
   ends_first now later Fault small is_open a again = record {
     rest = [];
     later = imagined later [];

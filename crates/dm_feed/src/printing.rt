@@ -1,45 +1,12 @@
 //! Lines and messages in print. Nothing here takes memory.
-ghost use Rattle.std.specs.Prelude.{◌≡◌, ◌∷◌, ◌++◌, [], codes};
-ghost use Rattle.std.specs.Fmt.{decimal};
+ghost use Rattle.std.specs.Prelude.{◌≡◌, ◌++◌, codes};
 ghost use Rattle.std.specs.List.{flat_map};
-ghost use Rattle.dm_outside.specs.Printing.{Prints, Puts, joined};
+ghost use Rattle.dm_outside.specs.Printing.{Prints, Puts};
 ghost use Rattle.dm_feed.specs.Lines.{IsSpelledLine, spelling_of_decision, spelling_of_line, spelling_of_message};
 
 use crate::grammar::Line;
-use dm_outside::{Page, Piece, Sink, WriteFault};
+use dm_outside::{Page, Sink, WriteFault};
 use dm_rows::{Decision, Message};
-
-// Prints words and a number.
-fn put_number<K: Sink>(
-    sink: &mut K,
-    page: &mut Page,
-    words: &str,
-    number: u64,
-) -> Result<(), WriteFault>
-    ensures { Prints K.taken K.faults sink.old sink.new page.old page.new result (joined (words.now ∷ decimal number ∷ [])) }
-{
-    page.put(sink, &[Piece::Text(words), Piece::Number(number as u128)])
-}
-
-// Prints words and two numbers.
-fn put_numbers<K: Sink>(
-    sink: &mut K,
-    page: &mut Page,
-    words: &str,
-    first: u64,
-    second: u64,
-) -> Result<(), WriteFault>
-    ensures { Prints K.taken K.faults sink.old sink.new page.old page.new result
-        (joined (words.now ∷ decimal first ∷ codes " " ∷ decimal second ∷ [])) }
-{
-    let pieces = [
-        Piece::Text(words),
-        Piece::Number(first as u128),
-        Piece::Text(" "),
-        Piece::Number(second as u128),
-    ];
-    page.put(sink, &pieces)
-}
 
 // Prints a decision of an adopted list.
 fn put_decision<K: Sink>(
@@ -50,10 +17,10 @@ fn put_decision<K: Sink>(
     ensures { Prints K.taken K.faults sink.old sink.new page.old page.new result (spelling_of_decision decision) }
 {
     match decision {
-        Decision::Keep(act) => put_number(sink, page, " keep ", act.0 as u64),
-        Decision::Drop(act) => put_number(sink, page, " drop ", act.0 as u64),
+        Decision::Keep(act) => page.put_number(sink, " keep ", act.0 as u128),
+        Decision::Drop(act) => page.put_number(sink, " drop ", act.0 as u128),
         Decision::First(first, second) => {
-            put_numbers(sink, page, " first ", first.0 as u64, second.0 as u64)
+            page.put_pair(sink, " first ", (first.0 as u128, second.0 as u128))
         }
     }
 }
@@ -101,19 +68,23 @@ pub fn put_message<K: Sink>(
 {
     match message {
         Message::DelayEvent(event, delay) => {
-            put_numbers(sink, page, "delay event ", event.0 as u64, *delay)
+            page.put_pair(sink, "delay event ", (event.0 as u128, *delay as u128))
         }
         Message::DelayActivity(act, delay) => {
-            put_numbers(sink, page, "delay activity ", act.0 as u64, *delay)
+            page.put_pair(sink, "delay activity ", (act.0 as u128, *delay as u128))
         }
-        Message::Pass(event, time) => put_numbers(sink, page, "pass ", event.0 as u64, *time),
-        Message::Recall(event) => put_number(sink, page, "recall ", event.0 as u64),
-        Message::Keep(act) => put_number(sink, page, "keep ", act.0 as u64),
-        Message::Drop(act) => put_number(sink, page, "drop ", act.0 as u64),
+        Message::Pass(event, time) => page.put_pair(
+            sink,
+            "pass ",
+            (event.0 as u128, *time as u128),
+        ),
+        Message::Recall(event) => page.put_number(sink, "recall ", event.0 as u128),
+        Message::Keep(act) => page.put_number(sink, "keep ", act.0 as u128),
+        Message::Drop(act) => page.put_number(sink, "drop ", act.0 as u128),
         Message::First(first, second) => {
-            put_numbers(sink, page, "first ", first.0 as u64, second.0 as u64)
+            page.put_pair(sink, "first ", (first.0 as u128, second.0 as u128))
         }
-        Message::Now(time) => put_number(sink, page, "now ", *time),
+        Message::Now(time) => page.put_number(sink, "now ", *time as u128),
         Message::Adopt(decisions) => put_adopted(sink, page, decisions.as_slice()),
     }
 }
@@ -127,9 +98,9 @@ pub fn put_line<K: Sink>(sink: &mut K, page: &mut Page, line: &Line) -> Result<(
 {
     match line {
         Line::Say(message) => put_message(sink, page, message),
-        Line::Time(event) => put_number(sink, page, "time ", event.0 as u64),
+        Line::Time(event) => page.put_number(sink, "time ", event.0 as u128),
         Line::CostNow => page.put_bytes(sink, b"cost"),
-        Line::Plan(nodes) => put_number(sink, page, "plan ", *nodes),
+        Line::Plan(nodes) => page.put_number(sink, "plan ", *nodes as u128),
         Line::Adopt => page.put_bytes(sink, b"adopt"),
         Line::Read => page.put_bytes(sink, b"read"),
     }

@@ -107,13 +107,13 @@ module _ {K : Type 0} {taken : K → Option (List ℕ)} {faults : K → ℕ} whe
   prints_fault_at z f g = prints_then_fault f (prints_fault z g)
 
   -- In a loop over xs: the texts of the first i, and then that of x, which is the element behind them.
-  pub prints_next : {a b c : K} {p q r : List ℕ} {X : Type 0} (f : X → List ℕ) (xs : List X) (i : ℕ) (x d : X) → i < length xs → x ≡ get_or xs i d → Gathers taken faults a b p q (flat_map f (take i xs)) → Gathers taken faults b c q r (f x) → Gathers taken faults a c p r (flat_map f (take (i + 1) xs))
-  prints_next {a} {b} {c} {p} {q} {r} f xs i x d lt is before now =
+  pub prints_next : {a b c : K} {p q r : List ℕ} {X : Type 0} {i : ℕ} {x : X} (f : X → List ℕ) (xs : List X) (d : X) → i < length xs → x ≡ get_or xs i d → Gathers taken faults a b p q (flat_map f (take i xs)) → Gathers taken faults b c q r (f x) → Gathers taken faults a c p r (flat_map f (take (i + 1) xs))
+  prints_next {a} {b} {c} {p} {q} {r} {X} {i} {x} f xs d lt is before now =
       subst (Gathers taken faults a c p r) (sym (texts_more f xs i x d lt is)) (prints_then before now)
 
   -- In a loop over xs: the texts of the first i, and then a fault in that of x.
-  pub prints_fault_next : {a b c : K} {p q : List ℕ} {X : Type 0} (f : X → List ℕ) (xs : List X) (i : ℕ) (x d : X) → i < length xs → x ≡ get_or xs i d → Gathers taken faults a b p q (flat_map f (take i xs)) → Breaks taken faults b c q (f x) → Breaks taken faults a c p (flat_map f xs)
-  prints_fault_next {a} {b} {c} {p} {q} f xs i x d lt is before now =
+  pub prints_fault_next : {a b c : K} {p q : List ℕ} {X : Type 0} {i : ℕ} {x : X} (f : X → List ℕ) (xs : List X) (d : X) → i < length xs → x ≡ get_or xs i d → Gathers taken faults a b p q (flat_map f (take i xs)) → Breaks taken faults b c q (f x) → Breaks taken faults a c p (flat_map f xs)
+  prints_fault_next {a} {b} {c} {p} {q} {X} {i} {x} f xs d lt is before now =
       subst (Breaks taken faults a c p) (sym (texts_at f xs i x d lt is)) (prints_fault_at (flat_map f (drop (suc i) xs)) before now)
 
   -- what is held fits on the page

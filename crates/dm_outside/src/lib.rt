@@ -46,7 +46,7 @@ pub use faults::{Failed, TakeFault, WriteFault};
 pub use gates::{Gate, OpenGate};
 pub use page::{Page, Piece};
 pub use put::put_all;
-pub use real::{FileSource, FolderShelf, StdSink};
+pub use real::{FileSource, FolderShelf, Real, StdSink};
 pub use shelves::{MemFile, MemShelf, Shelf};
 pub use sinks::{MemSink, Sink};
 pub use sources::{MemSource, Source};

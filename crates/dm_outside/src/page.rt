@@ -1,6 +1,7 @@
 //! Pieces of text, and the page that gathers them.
-ghost use Rattle.std.specs.Prelude.{◌≡◌, ◌+◌, ◌≤◌, List, [], ◌++◌, length, take, OnOk};
-ghost use Rattle.dm_outside.specs.Printing.{Puts, Prints, pieces_text, piece_text};
+ghost use Rattle.std.specs.Prelude.{◌≡◌, ◌+◌, ◌≤◌, List, [], ◌∷◌, ◌++◌, codes, length, take, OnOk};
+ghost use Rattle.std.specs.Fmt.{decimal};
+ghost use Rattle.dm_outside.specs.Printing.{Puts, Prints, joined, pieces_text, piece_text};
 
 use crate::{Sink, WriteFault, put_all};
 use itoa::Buffer;
@@ -131,6 +132,39 @@ impl Page {
             };
         }
         Ok(())
+    }
+
+    /// Prints words and a number behind all that was printed before. A write fault comes only where a
+    /// write failed.
+    pub fn put_number<K: Sink>(
+        &mut self,
+        sink: &mut K,
+        words: &str,
+        number: u128,
+    ) -> Result<(), WriteFault>
+        ensures { Prints K.taken K.faults sink.old sink.new self.old self.new result (joined (words.now ∷ decimal number ∷ [])) }
+    {
+        self.put(sink, &[Piece::Text(words), Piece::Number(number)])
+    }
+
+    /// Prints words and two numbers with a space between, behind all that was printed before. A write
+    /// fault comes only where a write failed.
+    pub fn put_pair<K: Sink>(
+        &mut self,
+        sink: &mut K,
+        words: &str,
+        pair: (u128, u128),
+    ) -> Result<(), WriteFault>
+        ensures { Prints K.taken K.faults sink.old sink.new self.old self.new result
+            (joined (words.now ∷ decimal pair.0 ∷ codes " " ∷ decimal pair.1 ∷ [])) }
+    {
+        let pieces = [
+            Piece::Text(words),
+            Piece::Number(pair.0),
+            Piece::Text(" "),
+            Piece::Number(pair.1),
+        ];
+        self.put(sink, &pieces)
     }
 
     /// Hands the rest of the text to the sink: the end of a text. A write fault comes only where a

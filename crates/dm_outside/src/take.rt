@@ -7,17 +7,6 @@ ghost use Rattle.dm_outside.specs.Taking.{TakesAtMost, TakesCount, TakesPiece, A
 use crate::{Source, TakeFault};
 use std::alloc::{AllocError, Global};
 
-impl From<AllocError> for TakeFault {
-    ghost use Rattle.std.specs.Prelude.{◌≡◌};
-    ghost use Rattle.dm_outside.specs.declared.faults.TakeFault.TheVariants.{OutOfMemory};
-
-    ghost from_gives = { λ _ fault. fault ≡ OutOfMemory };
-
-    fn from(_: AllocError) -> TakeFault {
-        TakeFault::OutOfMemory
-    }
-}
-
 /// How many bytes one read is asked for at most.
 const PIECE: usize = 65536;
 
@@ -81,7 +70,9 @@ pub fn take_all<S: Source>(
     ensures later { S.faults source.old ≤ S.faults source.new }
     ensures stays_sound { S.is_sound source.old → S.is_sound source.new }
 {
-    let mut piece = make_piece(alloc, PIECE)?;
+    let Ok(mut piece) = make_piece(alloc, PIECE) else {
+        return Err(TakeFault::OutOfMemory);
+    };
     let mut bytes = Vec::new(alloc);
     while bytes.len() <= limit {
         let room = limit - bytes.len();

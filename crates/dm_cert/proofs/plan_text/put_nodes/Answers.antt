@@ -10,10 +10,9 @@ loop-node-init g c = (prints_none _ _, All-nil FitsNode)
 
 pub loop-node-preserved : goal.loop-node-preserved
 loop-node-preserved g c = (
-  prints_next node_text c.args.nodes.now c.loop-node.node-index _ _ c.loop-node-test.true refl c.loop-node.invariant.0 c.in-Ok.ensures.text,
+  prints_next _ _ _ c.loop-node-test.true refl c.loop-node.invariant.0 c.in-Ok.ensures.text,
   fits_next FitsNode c.args.nodes.now c.loop-node.node-index _ _ c.loop-node-test.true refl c.loop-node.invariant.1 c.in-Ok.ensures.fits,
 )
 
 pub returns-in_default-clause-text : goal.returns-in_default-clause-text
-returns-in_default-clause-text g c =
-    prints_fault_next node_text c.args.nodes.now c.loop-node.node-index _ _ c.loop-node-test.true refl c.loop-node.invariant.0 c.in_default.ensures.text
+returns-in_default-clause-text g c = prints_fault_next _ _ _ c.loop-node-test.true refl c.loop-node.invariant.0 c.in_default.ensures.text

@@ -1,14 +1,9 @@
 use Rattle.std.proofs.Common.{refl}
-use Rattle.dm_input.specs.Lines.{id_text}
 use Rattle.dm_outside.proofs.Printing.{prints_next, prints_fault_next}
 use Rattle.dm_input.proofs.lines.print_ids.Goals as goal
 
 pub loop-id-preserved : goal.loop-id-preserved
-loop-id-preserved g c =
-    prints_next id_text c.args.ids.now c.loop-id.id-index _ _ c.loop-id-test.true refl
-    c.loop-id.invariant c.in-Ok.ensures
+loop-id-preserved g c = prints_next _ _ _ c.loop-id-test.true refl c.loop-id.invariant c.in-Ok.ensures
 
 pub returns-in_default : goal.returns-in_default
-returns-in_default g c =
-    prints_fault_next id_text c.args.ids.now c.loop-id.id-index _ _ c.loop-id-test.true refl
-    c.loop-id.invariant c.in_default.ensures
+returns-in_default g c = prints_fault_next _ _ _ c.loop-id-test.true refl c.loop-id.invariant c.in_default.ensures

@@ -1,5 +1,4 @@
 use Rattle.std.proofs.Common.{refl}
-use Rattle.dm_program.specs.Travelled.{step_text}
 use Rattle.dm_outside.proofs.Printing.{prints_next, prints_fault_next}
 use Rattle.dm_program.proofs.journey.print_walk.Goals as goal
 
@@ -7,11 +6,7 @@ pub print_step-requires : goal.print_step-requires
 print_step-requires g c = c.requires c.loop-a.a-index _ c.loop-a-test.true
 
 pub loop-a-preserved : goal.loop-a-preserved
-loop-a-preserved g c =
-    prints_next (step_text c.args.net.now) c.args.walk.now c.loop-a.a-index _ _ c.loop-a-test.true refl
-    c.loop-a.invariant c.in-Ok.ensures
+loop-a-preserved g c = prints_next _ _ _ c.loop-a-test.true refl c.loop-a.invariant c.in-Ok.ensures
 
 pub returns-in_default : goal.returns-in_default
-returns-in_default g c =
-    prints_fault_next (step_text c.args.net.now) c.args.walk.now c.loop-a.a-index _ _ c.loop-a-test.true refl
-    c.loop-a.invariant c.in_default.ensures
+returns-in_default g c = prints_fault_next _ _ _ c.loop-a-test.true refl c.loop-a.invariant c.in_default.ensures
