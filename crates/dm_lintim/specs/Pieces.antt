@@ -1,5 +1,5 @@
 -- How a file is cut: into lines, a line into fields, and what of a field is its cell.
-use Rattle.std.specs.Prelude.{ℕ, ◌-◌, ◌==◌, ◌||◌, ◌&&◌, not, nat_le, Bool, true, false, List, [], ◌∷◌, length, take, drop, map, filter, if◌then◌else◌, slice_index}
+use Rattle.std.specs.Prelude.{ℕ, ◌-◌, ◌==◌, ◌||◌, ◌&&◌, not, nat_le, Bool, true, false, Option, Some, None, List, [], ◌∷◌, length, take, drop, map, filter, if◌then◌else◌, slice_index}
 use Rattle.std.specs.List.{prefix_len, suffix_len}
 
 -- a byte before the first of the pieces
@@ -21,6 +21,11 @@ is_semicolon c = c == 59
 
 abbrev pub is_comma : ℕ → Bool
 is_comma c = c == 44
+
+-- the pieces between commas of what is left of a text, none where nothing is left
+abbrev pub pieces_left : Option (List ℕ) → List (List ℕ)
+pieces_left None = []
+pieces_left (Some text) = pieces is_comma text
 
 abbrev pub is_filled : List ℕ → Bool
 is_filled [] = false

@@ -9,7 +9,8 @@
 //! # What is promised
 //!
 //! `read_events`, `read_activities`, `read_delays`: exactly the rows that the grammar of the files relates to the bytes, in
-//! file order, or the first fault with its record and column; `Columns::read` and `Columns::standard`. Laws: the grammar
+//! file order, or the first fault with its record and column; `Columns::read` and `Columns::standard`. `first_piece`: the
+//! first of the pieces that commas cut a text into. Laws: the grammar
 //! has at most one answer, and `csv` cuts a file as the plain rule does.
 #![tactic(auto)]
 
@@ -34,3 +35,4 @@ pub use delays::read_delays;
 pub use dm_base::{ActKind, ActRow, DelayRow, EventKind, EventRow};
 pub use events::read_events;
 pub use fault::{FileFault, FileKind};
+pub use words::first_piece;

@@ -1,7 +1,8 @@
 //! A text of column words, separated by commas, read as the columns that the words name.
 ghost use Rattle.std.specs.Prelude.{ℕ, ◌≡◌, ◌≤◌, ◌∷◌, length, Option, Some, IfSome, IfNone, OnOk, IfOk, IfErr, MatchBool, MatchOption, option_map, true};
 ghost use Rattle.dm_lintim.specs.Columns.{AreColumns, BreaksWord, FirstMissing, HasAll, IsNew, Names, ReadsColumns, StopsAtWord, has_column, words_of};
-ghost use Rattle.dm_lintim.specs.Inside.Words.{AddsColumn, words_left};
+ghost use Rattle.dm_lintim.specs.Inside.Words.{AddsColumn};
+ghost use Rattle.dm_lintim.specs.Pieces.{is_comma, pieces, pieces_left};
 ghost use Rattle.dm_lintim.specs.declared.columns.Column.{Column};
 
 use crate::columns::{Column, ColumnFault};
@@ -63,9 +64,9 @@ fn add_word(known: &[Column], layout: &mut Layout, word: &[u8]) -> Result<(), Co
     Ok(())
 }
 
-// The first word of a text, and what stands after its comma.
-fn first_word(text: &[u8]) -> (&[u8], Option<&[u8]>)
-    ensures { words_of text.now ≡ result.0.now ∷ words_left (option_map (λ s. s.now) result.1) }
+/// The first piece of a text that commas cut, and what stands behind its comma, if there is one.
+pub fn first_piece(text: &[u8]) -> (&[u8], Option<&[u8]>)
+    ensures { pieces is_comma text.now ≡ result.0.now ∷ pieces_left (option_map (λ s. s.now) result.1) }
 {
     for (place, byte) in text.iter().enumerate() {
         if *byte == b',' {
@@ -82,7 +83,7 @@ fn read_words(known: &[Column], text: &[u8]) -> Result<Layout, ColumnFault>
     let mut layout = Layout::new();
     let mut rest = Some(text);
     while let Some(left) = rest {
-        let (word, after) = first_word(left);
+        let (word, after) = first_piece(left);
         add_word(known, &mut layout, word)?;
         rest = after;
     }

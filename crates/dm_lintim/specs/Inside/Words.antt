@@ -1,8 +1,8 @@
 -- Column words while they are read.
-use Rattle.std.specs.Prelude.{◌≡◌, ◌<◌, ℕ, List, [], ◌∷◌, ◌++◌, length, Option, Some, None}
+use Rattle.std.specs.Prelude.{◌≡◌, ◌<◌, ℕ, List, [], ◌∷◌, ◌++◌, length, Option}
 use Rattle.dm_lintim.specs.declared.columns.Column.{Column}
 use Rattle.dm_lintim.specs.declared.layout.TheConstants.{MOST}
-use Rattle.dm_lintim.specs.Columns.{AreColumns, IsNew, Names, words_of}
+use Rattle.dm_lintim.specs.Columns.{AreColumns, IsNew, Names}
 
 -- a good word puts its column at the end
 abbrev pub AddsColumn : List Column → List (Option Column) → List ℕ → List (Option Column) → Type 0
@@ -13,8 +13,3 @@ pub record HasRead (known : List Column) (words left : List (List ℕ)) (columns
   pub before : List (List ℕ)
   pub words_are : words ≡ before ++ left
   pub good : AreColumns known before columns
-
--- the words of what is left of a text, none where all were read
-abbrev pub words_left : Option (List ℕ) → List (List ℕ)
-words_left None = []
-words_left (Some rest) = words_of rest

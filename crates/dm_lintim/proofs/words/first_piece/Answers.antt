@@ -3,7 +3,7 @@ use Rattle.std.proofs.lemmas.Bool.{eq-eqb}
 use Rattle.std.proofs.lemmas.List.{length-drop, take_all}
 use Rattle.dm_lintim.proofs.PieceLemmas.{no_comma, pieces_cut, pieces_whole}
 use Rattle.dm_lintim.specs.Pieces.{is_comma}
-use Rattle.dm_lintim.proofs.words.first_word.Goals as goal
+use Rattle.dm_lintim.proofs.words.first_piece.Goals as goal
 
 pub returns-then-byte-eq44 : goal.returns-then-byte-eq44
 returns-then-byte-eq44 c =

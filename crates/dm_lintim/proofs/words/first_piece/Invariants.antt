@@ -1,5 +1,5 @@
 use Rattle.std.proofs.Common.{ℕ, ◌≡◌, ◌<◌, get_or}
-use Rattle.dm_lintim.proofs.words.first_word.Given as goal
+use Rattle.dm_lintim.proofs.words.first_piece.Given as goal
 
 abbrev pub invariant-loop-place : goal.invariant-loop-place
 invariant-loop-place l = (k : ℕ) → k < l.place → get_or l.text k 0 ≡ 44 → ⊥
