@@ -28,69 +28,61 @@ use Rattle.dm_rows.proofs.Alike.{active_alike, EndsAtPair, pair_ends, flip_keeps
 
 pub renews_none : (net : Net) (rows : RowsValue) (t : KeptTimetableValue) → Renews net rows Nowhere Nowhere t t
 renews_none net rows t = record {
-  held_size = refl;
-  spans_size = refl;
-  floors_size = refl;
-  clock_kept = refl;
-  times_kept = refl;
+  keeps = record { held_size = refl; spans_size = refl; floors_size = refl; clock = refl; times = refl; events = λ e is. is; activities = λ a is. is };
   events_there = λ e nowhere. absurd nowhere;
-  events_kept = λ e is. is;
   activities_there = λ a nowhere. absurd nowhere;
-  activities_kept = λ a is. is;
 }
 
 -- where fewer places have to agree
 pub renews_less : (net : Net) (rows : RowsValue) (e1 events a1 activities : ℕ → Type 0) (old new : KeptTimetableValue) → ((e : ℕ) → events e → e1 e ⊎ FloorAgrees net rows new e) → ((a : ℕ) → activities a → a1 a) →
     Renews net rows e1 a1 old new → Renews net rows events activities old new
 renews_less net rows e1 events a1 activities old new of_events of_activities had = record {
-  held_size = had.held_size;
-  spans_size = had.spans_size;
-  floors_size = had.floors_size;
-  clock_kept = had.clock_kept;
-  times_kept = had.times_kept;
+  keeps = had.keeps;
   events_there = λ e is. elim (of_events e is) [
     | inl among ↦ had.events_there e among
     | inr agrees ↦ agrees
   ];
-  events_kept = had.events_kept;
   activities_there = λ a is. had.activities_there a (of_activities a is);
-  activities_kept = had.activities_kept;
 }
 
 pub renews_then : (net : Net) (rows : RowsValue) (e1 e2 events a1 a2 activities : ℕ → Type 0) (old mid new : KeptTimetableValue) → ((e : ℕ) → events e → e1 e ⊎ e2 e) → ((a : ℕ) → activities a → a1 a ⊎ a2 a) →
     Renews net rows e1 a1 old mid → Renews net rows e2 a2 mid new → Renews net rows events activities old new
 renews_then net rows e1 e2 events a1 a2 activities old mid new of_events of_activities one two = record {
-  held_size = two.held_size ∙ one.held_size;
-  spans_size = two.spans_size ∙ one.spans_size;
-  floors_size = two.floors_size ∙ one.floors_size;
-  clock_kept = two.clock_kept ∙ one.clock_kept;
-  times_kept = two.times_kept ∙ one.times_kept;
+  keeps = record {
+    held_size = two.keeps.held_size ∙ one.keeps.held_size;
+    spans_size = two.keeps.spans_size ∙ one.keeps.spans_size;
+    floors_size = two.keeps.floors_size ∙ one.keeps.floors_size;
+    clock = two.keeps.clock ∙ one.keeps.clock;
+    times = two.keeps.times ∙ one.keeps.times;
+    events = λ e is. two.keeps.events e (one.keeps.events e is);
+    activities = λ a is. two.keeps.activities a (one.keeps.activities a is);
+  };
   events_there = λ e is. elim (of_events e is) [
-    | inl first ↦ two.events_kept e (one.events_there e first)
+    | inl first ↦ two.keeps.events e (one.events_there e first)
     | inr second ↦ two.events_there e second
   ];
-  events_kept = λ e is. two.events_kept e (one.events_kept e is);
   activities_there = λ a is. elim (of_activities a is) [
-    | inl first ↦ two.activities_kept a (one.activities_there a first)
+    | inl first ↦ two.keeps.activities a (one.activities_there a first)
     | inr second ↦ two.activities_there a second
   ];
-  activities_kept = λ a is. two.activities_kept a (one.activities_kept a is);
 }
 
 pub event_renews : (net : Net) (rows : RowsValue) (event : ℕ) (old new : KeptTimetableValue) → event < length old.floors → RenewsEvent net rows event old new → Renews net rows (Here event) Nowhere old new
 event_renews net rows event old new inside renews = record {
-  held_size = ap (λ (xs : List Bool). length xs) renews.held;
-  spans_size = ap (λ (xs : List ℕ). length xs) renews.spans;
-  floors_size = ap (λ (xs : List ℕ). length xs) renews.floors ∙ length-set old.floors event (floor_of net rows event);
-  clock_kept = renews.clock;
-  times_kept = renews.times;
+  keeps = record {
+    held_size = ap (λ (xs : List Bool). length xs) renews.held;
+    spans_size = ap (λ (xs : List ℕ). length xs) renews.spans;
+    floors_size = ap (λ (xs : List ℕ). length xs) renews.floors ∙ length-set old.floors event (floor_of net rows event);
+    clock = renews.clock;
+    times = renews.times;
+    events = λ e was. elim (cases_eq e event) [
+      | inl here ↦ there e here
+      | inr ne ↦ ap (λ (xs : List ℕ). slice_index xs e) renews.floors ∙ (get_or-set_other old.floors event e (floor_of net rows event) 0 ne ∙ was)
+    ];
+    activities = λ a was. (ap (λ (xs : List Bool). is_held xs a) renews.held ∙ was.0, ap (λ (xs : List ℕ). slice_index xs a) renews.spans ∙ was.1);
+  };
   events_there = λ e here. there e here;
-  events_kept = λ e was. elim (cases_eq e event) [
-    | inl here ↦ there e here
-    | inr ne ↦ ap (λ (xs : List ℕ). slice_index xs e) renews.floors ∙ (get_or-set_other old.floors event e (floor_of net rows event) 0 ne ∙ was)
-  ];
   activities_there = λ a nowhere. absurd nowhere;
-  activities_kept = λ a was. (ap (λ (xs : List Bool). is_held xs a) renews.held ∙ was.0, ap (λ (xs : List ℕ). slice_index xs a) renews.spans ∙ was.1);
 }
   where
     there : (e : ℕ) → e ≡ event → FloorAgrees net rows new e
@@ -98,21 +90,23 @@ event_renews net rows event old new inside renews = record {
 
 pub activity_renews : (net : Net) (rows : RowsValue) (a : ℕ) (old new : KeptTimetableValue) → a < length old.held → a < length old.spans → RenewsActivity net rows a old new → Renews net rows Nowhere (Here a) old new
 activity_renews net rows a old new inside inside_spans renews = record {
-  held_size = ap (λ (xs : List Bool). length xs) renews.held ∙ length-set old.held a (is_active net rows a);
-  spans_size = ap (λ (xs : List ℕ). length xs) renews.spans ∙ length-set old.spans a (span_of net rows a);
-  floors_size = ap (λ (xs : List ℕ). length xs) renews.floors;
-  clock_kept = renews.clock;
-  times_kept = renews.times;
+  keeps = record {
+    held_size = ap (λ (xs : List Bool). length xs) renews.held ∙ length-set old.held a (is_active net rows a);
+    spans_size = ap (λ (xs : List ℕ). length xs) renews.spans ∙ length-set old.spans a (span_of net rows a);
+    floors_size = ap (λ (xs : List ℕ). length xs) renews.floors;
+    clock = renews.clock;
+    times = renews.times;
+    events = λ e was. ap (λ (xs : List ℕ). slice_index xs e) renews.floors ∙ was;
+    activities = λ b was. elim (cases_eq b a) [
+      | inl here ↦ there b here
+      | inr ne ↦ (
+        ap (λ (xs : List Bool). is_held xs b) renews.held ∙ (get_or-set_other old.held a b (is_active net rows a) false ne ∙ was.0),
+        ap (λ (xs : List ℕ). slice_index xs b) renews.spans ∙ (get_or-set_other old.spans a b (span_of net rows a) 0 ne ∙ was.1),
+      )
+    ];
+  };
   events_there = λ e nowhere. absurd nowhere;
-  events_kept = λ e was. ap (λ (xs : List ℕ). slice_index xs e) renews.floors ∙ was;
   activities_there = λ b here. there b here;
-  activities_kept = λ b was. elim (cases_eq b a) [
-    | inl here ↦ there b here
-    | inr ne ↦ (
-      ap (λ (xs : List Bool). is_held xs b) renews.held ∙ (get_or-set_other old.held a b (is_active net rows a) false ne ∙ was.0),
-      ap (λ (xs : List ℕ). slice_index xs b) renews.spans ∙ (get_or-set_other old.spans a b (span_of net rows a) 0 ne ∙ was.1),
-    )
-  ];
 }
   where
     there : (b : ℕ) → b ≡ a → ActivityAgrees net rows new b
@@ -194,7 +188,7 @@ among_more net rows due n event old mid new here had more = record {
   others = λ k. elim (more.others k) [
     | inl same ↦ elim (had.others k) [
       | inl was ↦ inl (same ∙ was)
-      | inr agrees ↦ inr (more.renews.events_kept k agrees)
+      | inr agrees ↦ inr (more.renews.keeps.events k agrees)
     ]
     | inr agrees ↦ inr agrees
   ];
@@ -219,33 +213,15 @@ moved_front net rows schedule due old new is on front rest had =
 
 -- ---- whole rows of activities
 
-pub row_into_whole : (net : Net) (rows : RowsValue) (i n : ℕ) (row : List ℕ) (old new : KeptTimetableValue) → row ≡ places_into net i → length row ≤ n → Renews net rows Nowhere (InRow row n) old new → Renews net rows Nowhere (IsInto net i) old new
-row_into_whole net rows i n row old new is all had = record {
-  held_size = had.held_size;
-  spans_size = had.spans_size;
-  floors_size = had.floors_size;
-  clock_kept = had.clock_kept;
-  times_kept = had.times_kept;
-  events_there = had.events_there;
-  events_kept = had.events_kept;
-  activities_there = λ a enters. had.activities_there a
-      (let s = stands_into net i a row is (record { is_activity = enters.0; head = enters.1 }) in let w = s.within in record { place = s.place; before = omega arith; is = s.is });
-  activities_kept = had.activities_kept;
-}
+pub row_into_whole : (net : Net) (rows : RowsValue) (i : ℕ) (row : List ℕ) (old new : KeptTimetableValue) → row ≡ places_into net i → Renews net rows Nowhere (InRow row (length row)) old new → Renews net rows Nowhere (IsInto net i) old new
+row_into_whole net rows i row old new is had =
+    renews_less net rows Nowhere Nowhere (InRow row (length row)) (IsInto net i) old new (λ e nowhere. absurd nowhere)
+    (λ a enters. let s = stands_into net i a row is (record { is_activity = enters.0; head = enters.1 }) in record { place = s.place; before = s.within; is = s.is }) had
 
-pub row_out_whole : (net : Net) (rows : RowsValue) (i n : ℕ) (row : List ℕ) (old new : KeptTimetableValue) → row ≡ places_out_of net i → length row ≤ n → Renews net rows Nowhere (InRow row n) old new → Renews net rows Nowhere (IsOutOf net i) old new
-row_out_whole net rows i n row old new is all had = record {
-  held_size = had.held_size;
-  spans_size = had.spans_size;
-  floors_size = had.floors_size;
-  clock_kept = had.clock_kept;
-  times_kept = had.times_kept;
-  events_there = had.events_there;
-  events_kept = had.events_kept;
-  activities_there = λ a leaves. had.activities_there a
-      (let s = stands_out net i a row is (record { is_activity = leaves.0; tail = leaves.1 }) in let w = s.within in record { place = s.place; before = omega arith; is = s.is });
-  activities_kept = had.activities_kept;
-}
+pub row_out_whole : (net : Net) (rows : RowsValue) (i : ℕ) (row : List ℕ) (old new : KeptTimetableValue) → row ≡ places_out_of net i → Renews net rows Nowhere (InRow row (length row)) old new → Renews net rows Nowhere (IsOutOf net i) old new
+row_out_whole net rows i row old new is had =
+    renews_less net rows Nowhere Nowhere (InRow row (length row)) (IsOutOf net i) old new (λ e nowhere. absurd nowhere)
+    (λ a leaves. let s = stands_out net i a row is (record { is_activity = leaves.0; tail = leaves.1 }) in record { place = s.place; before = s.within; is = s.is }) had
 
 pub around_whole : (net : Net) (rows : RowsValue) (i : ℕ) (old one two new : KeptTimetableValue) → Renews net rows (Here i) Nowhere old one → Renews net rows Nowhere (IsInto net i) one two → Renews net rows Nowhere (IsOutOf net i) two new →
     Renews net rows (Here i) (LeadsAt net i) old new
@@ -341,13 +317,13 @@ module _ (net : Net) (before rows : RowsValue) (events activities : ℕ → Type
     (binding : (a : ℕ) → a < length net.activities → ((is_active net rows a ≡ is_active net before a) × (span_of net rows a ≡ span_of net before a)) ⊎ activities a) where
   floor_now : (e : ℕ) → e < length net.events → FloorAgrees net rows new e
   floor_now e below = elim (floors e below) [
-    | inl same ↦ renews.events_kept e (agrees.floors.each e below ∙ sym same)
+    | inl same ↦ renews.keeps.events e (agrees.floors.each e below ∙ sym same)
     | inr there ↦ renews.events_there e there
   ]
 
   activity_now : (a : ℕ) → a < length net.activities → ActivityAgrees net rows new a
   activity_now a below = elim (binding a below) [
-    | inl same ↦ renews.activities_kept a (agrees.held a below ∙ sym same.0, agrees.spans.each a below ∙ sym same.1)
+    | inl same ↦ renews.keeps.activities a (agrees.held a below ∙ sym same.0, agrees.spans.each a below ∙ sym same.1)
     | inr there ↦ renews.activities_there a there
   ]
 
@@ -355,13 +331,13 @@ module _ (net : Net) (before rows : RowsValue) (events activities : ℕ → Type
   pub timed_agrees : AgreesWith net rows (record new { clock = rows.clock })
   timed_agrees = record {
     held = λ a below. (activity_now a below).0;
-    spans = record { as_many = renews.spans_size ∙ agrees.spans.as_many; each = λ a below. (activity_now a below).1 };
-    floors = record { as_many = renews.floors_size ∙ agrees.floors.as_many; each = floor_now };
+    spans = record { as_many = renews.keeps.spans_size ∙ agrees.spans.as_many; each = λ a below. (activity_now a below).1 };
+    floors = record { as_many = renews.keeps.floors_size ∙ agrees.floors.as_many; each = floor_now };
     clock = refl;
   }
 
   pub still_agrees : rows.clock ≡ before.clock → AgreesWith net rows new
-  still_agrees clock = agrees_same net rows (record new { clock = rows.clock }) new refl refl refl (renews.clock_kept ∙ (agrees.clock ∙ sym clock)) timed_agrees
+  still_agrees clock = agrees_same net rows (record new { clock = rows.clock }) new refl refl refl (renews.keeps.clock ∙ (agrees.clock ∙ sym clock)) timed_agrees
 
 module _ (net : Net) (before rows : RowsValue) (old new : KeptTimetableValue) (agrees : AgreesWith net before old) where
   pub agrees_delayed : (i d : ℕ) → rows ≡ after_change before (EventDelay i d) → Renews net rows (Here i) Nowhere old new → AgreesWith net rows new

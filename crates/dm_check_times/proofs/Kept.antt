@@ -16,6 +16,7 @@ use Rattle.dm_rows.specs.Cost.{event_cost, charged_weight, dropped_weight, misse
 use Rattle.dm_check_times.specs.Binding.{AreBelowLimit}
 use Rattle.dm_check_times.specs.KeptCosts.{KeptCostValue, IsKeptCostOf, IsPricedFor, priced_weight, penalized_weight}
 use Rattle.dm_rows.proofs.Totals.{sum_alike, sum_within}
+use Rattle.dm_check_times.proofs.Renewing.{at_most_set}
 
 -- ---- sums over places
 
@@ -88,8 +89,8 @@ kept_cost net rows charges kept is_kept priced penalty cost is =
     let same = sum_alike (slice_index kept.weights) (priced_weight net rows charges kept.times) 0 (length net.activities) (λ a from below. priced a (omega arith)) in
     let parts = sum_parts (priced_weight net rows charges kept.times) (charged_weight net charges) (missed_weight net rows kept.times) (range_with_len 0 (length net.activities)) (λ a. refl) in
     let each = mul-add penalty (sum_by (charged_weight net charges) (range_with_len 0 (length net.activities))) (sum_by (missed_weight net rows kept.times) (range_with_len 0 (length net.activities))) in
-    let product = ap (λ (n : ℕ). penalty * n) (is_kept.penalized ∙ (same ∙ parts)) in
-    let late = is_kept.lateness in
+    let product = ap (λ (n : ℕ). penalty * n) (is_kept.weighed.sum ∙ (same ∙ parts)) in
+    let late = is_kept.late.cost in
     omega (arith, is, late, product, each)
 
 -- ---- a time that changes
@@ -111,15 +112,8 @@ lateness_within net within x early =
 
 below_set : (x : List ℕ) (i time : ℕ) → AreBelowLimit x → time < 2 ^ 38 → AreBelowLimit (slice_set x i time)
 below_set x i time early less k =
-    elim (cases_eq k i) [
-      | inl here ↦ elim (cases_lt i (length x)) [
-        | inl below ↦
-            let e : slice_index (slice_set x i time) k ≡ time = subst (λ (j : ℕ). slice_index (slice_set x i time) j ≡ time) (sym here) (get_or-set_same x i time 0 below) in
-            omega arith
-        | inr past ↦ let e : slice_index (slice_set x i time) k ≡ 0 = get_or_past (slice_set x i time) k 0 (let l = length-set x i time in omega arith) in omega arith
-      ]
-      | inr ne ↦ let e = get_or-set_other x i k time 0 ne in let a = early k in omega arith
-    ]
+    let most = at_most_set x i time (2 ^ 38 - 1) (λ j. let e = early j in omega arith) (omega arith) k in
+    omega arith
 
 other_cost : (net : Net) (x : List ℕ) (i time k : ℕ) → (k ≡ i → ⊥) → event_cost net (slice_set x i time) k ≡ event_cost net x k
 other_cost net x i time k ne =
@@ -130,77 +124,44 @@ pub puts : (net : Net) → IsWithinLimits net → (kept : KeptCostValue) (i time
     IsKeptCostOf net (record { times = slice_set kept.times i time; lateness = lateness; weights = kept.weights; penalized = kept.penalized })
 puts net within kept i time was now lateness is_kept below early was_is now_is is =
     let moves = sum_moves (event_cost net kept.times) (event_cost net (slice_set kept.times i time)) i (other_cost net kept.times i time) 0 (length net.events) (omega arith) (omega arith) in
-    let had = is_kept.lateness in
+    let had = is_kept.late.cost in
     let all : lateness ≡ sum_by (event_cost net (slice_set kept.times i time)) (range_with_len 0 (length net.events)) = omega (arith, moves, had, was_is, now_is, is) in
-    let few = lateness_within net within (slice_set kept.times i time) (below_set kept.times i time is_kept.early early) in
+    let few = lateness_within net within (slice_set kept.times i time) (below_set kept.times i time is_kept.late.early early) in
     record {
-      as_many = length-set kept.times i time ∙ is_kept.as_many;
-      early = below_set kept.times i time is_kept.early early;
-      lateness = all;
-      limit = omega (arith, all, few);
-      as_many_weights = is_kept.as_many_weights;
-      small = is_kept.small;
-      penalized = is_kept.penalized;
-      penalized_limit = is_kept.penalized_limit;
+      late = record { as_many = length-set kept.times i time ∙ is_kept.late.as_many; early = below_set kept.times i time is_kept.late.early early; cost = all; limit = omega (arith, all, few) };
+      weighed = is_kept.weighed;
     }
 
 -- whole other times
 pub takes : (net : Net) (kept : KeptCostValue) (times : List ℕ) (lateness : ℕ) → IsKeptCostOf net kept → length times ≡ length net.events → AreBelowLimit times →
     lateness ≡ sum_by (event_cost net times) (range_with_len 0 (length net.events)) → lateness ≤ EVENTS * (WEIGHT * 2 ^ 38) →
     IsKeptCostOf net (record { times = times; lateness = lateness; weights = kept.weights; penalized = kept.penalized })
-takes net kept times lateness is_kept size early is limit = record {
-  as_many = size;
-  early = early;
-  lateness = is;
-  limit = limit;
-  as_many_weights = is_kept.as_many_weights;
-  small = is_kept.small;
-  penalized = is_kept.penalized;
-  penalized_limit = is_kept.penalized_limit;
-}
+takes net kept times lateness is_kept size early is limit = record { late = record { as_many = size; early = early; cost = is; limit = limit }; weighed = is_kept.weighed }
 
 -- ---- a weight that changes
-
-small_set : (xs : List ℕ) (a weight most : ℕ) → ((k : ℕ) → slice_index xs k ≤ most) → weight ≤ most → (k : ℕ) → slice_index (slice_set xs a weight) k ≤ most
-small_set xs a weight most small le k =
-    elim (cases_eq k a) [
-      | inl here ↦ elim (cases_lt a (length xs)) [
-        | inl below ↦
-            let e : slice_index (slice_set xs a weight) k ≡ weight = subst (λ (j : ℕ). slice_index (slice_set xs a weight) j ≡ weight) (sym here) (get_or-set_same xs a weight 0 below) in
-            omega arith
-        | inr past ↦ let e : slice_index (slice_set xs a weight) k ≡ 0 = get_or_past (slice_set xs a weight) k 0 (let l = length-set xs a weight in omega arith) in omega arith
-      ]
-      | inr ne ↦ let e = get_or-set_other xs a k weight 0 ne in let s = small k in omega arith
-    ]
 
 pub sets : (net : Net) → IsWithinLimits net → (kept : KeptCostValue) (a weight penalized : ℕ) → IsKeptCostOf net kept → a < length net.activities → weight ≤ 2 * WEIGHT →
     penalized ≡ kept.penalized + weight - slice_index kept.weights a →
     IsKeptCostOf net (record { times = kept.times; lateness = kept.lateness; weights = slice_set kept.weights a weight; penalized = penalized })
 sets net within kept a weight penalized is_kept below le is =
-    let size = is_kept.as_many_weights in
+    let size = is_kept.weighed.as_many in
     let moves = sum_moves (slice_index kept.weights) (slice_index (slice_set kept.weights a weight)) a (λ k ne. get_or-set_other kept.weights a k weight 0 ne) 0 (length net.activities) (omega arith) (omega arith) in
     let there : slice_index (slice_set kept.weights a weight) a ≡ weight = get_or-set_same kept.weights a weight 0 (omega arith) in
-    let had = is_kept.penalized in
+    let had = is_kept.weighed.sum in
     let all : penalized ≡ sum_by (slice_index (slice_set kept.weights a weight)) (range_with_len 0 (length net.activities)) = omega (arith, moves, there, had, is) in
-    let small = small_set kept.weights a weight (2 * WEIGHT) is_kept.small le in
+    let small = at_most_set kept.weights a weight (2 * WEIGHT) is_kept.weighed.small le in
     let few = sum_within (slice_index (slice_set kept.weights a weight)) (2 * WEIGHT) 0 (length net.activities) small in
     let activities = within.activities in
     record {
-      as_many = is_kept.as_many;
-      early = is_kept.early;
-      lateness = is_kept.lateness;
-      limit = is_kept.limit;
-      as_many_weights = length-set kept.weights a weight ∙ size;
-      small = small;
-      penalized = all;
-      penalized_limit = omega (arith, all, few, activities);
+      late = is_kept.late;
+      weighed = record { as_many = length-set kept.weights a weight ∙ size; small = small; sum = all; limit = omega (arith, all, few, activities) };
     }
 
 -- what is taken off is no more than there is
 pub enough_weight : (net : Net) (kept : KeptCostValue) (a was : ℕ) → IsKeptCostOf net kept → a < length net.activities → was ≡ slice_index kept.weights a → was ≤ kept.penalized
 enough_weight net kept a was is_kept below is =
     let part = one_of_all (slice_index kept.weights) a 0 (length net.activities) (omega arith) (omega arith) in
-    let had = is_kept.penalized in
+    let had = is_kept.weighed.sum in
     omega (arith, part, had, is)
 
 -- no weights yet
@@ -218,19 +179,23 @@ begins net times seen weights lateness zeros same is limit none =
     let small : (k : ℕ) → slice_index weights k ≤ 0 = λ k. subst (λ (xs : List ℕ). slice_index xs k ≤ 0) (sym none) (no_weight (length net.activities) k) in
     let all = sum_within (slice_index weights) 0 0 (length net.activities) small in
     record {
-      as_many = ap (λ (xs : List ℕ). length xs) zeros ∙ length-replicate (length net.events) 0;
-      early = λ k. let e = early k in omega arith;
-      lateness = is ∙ ap (λ (x : List ℕ). sum_by (event_cost net x) (range_with_len 0 (length net.events))) same;
-      limit = limit;
-      as_many_weights = ap (λ (xs : List ℕ). length xs) none ∙ length-replicate (length net.activities) 0;
-      small = λ k. let s = small k in omega arith;
-      penalized = omega (arith, all);
-      penalized_limit = omega arith;
+      late = record {
+        as_many = ap (λ (xs : List ℕ). length xs) zeros ∙ length-replicate (length net.events) 0;
+        early = λ k. let e = early k in omega arith;
+        cost = is ∙ ap (λ (x : List ℕ). sum_by (event_cost net x) (range_with_len 0 (length net.events))) same;
+        limit = limit;
+      };
+      weighed = record {
+        as_many = ap (λ (xs : List ℕ). length xs) none ∙ length-replicate (length net.activities) 0;
+        small = λ k. let s = small k in omega arith;
+        sum = omega (arith, all);
+        limit = omega arith;
+      };
     }
 
 -- what is taken off is no more than there is
 pub enough : (net : Net) (kept : KeptCostValue) (i was : ℕ) → IsKeptCostOf net kept → i < length net.events → was ≡ event_cost net kept.times i → was ≤ kept.lateness
 enough net kept i was is_kept below is =
     let part = one_of_all (event_cost net kept.times) i 0 (length net.events) (omega arith) (omega arith) in
-    let had = is_kept.lateness in
+    let had = is_kept.late.cost in
     omega (arith, part, had, is)

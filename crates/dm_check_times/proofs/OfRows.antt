@@ -41,6 +41,15 @@ floor_is_within net rows few within e =
 pub span_is_short : (net : Net) (rows : RowsValue) → IsWithinLimits net → RowsAreWithinLimits rows → (a : ℕ) → span_of net rows a ≤ BOUND + DELAY
 span_is_short net rows few within a = let bound = few.bounds a in let delay = within.of_activities a in omega arith
 
+-- times that are least over floors of the rows are so over what the rows give
+pub least_over_floors : (net : Net) (rows : RowsValue) (held : List Bool) (spans floors times : List ℕ) → AreFloorsOf net rows floors → IsLeast (graph_with net held spans (slice_index floors)) (slice_index times) →
+    IsLeast (graph_with net held spans (floor_of net rows)) (slice_index times)
+least_over_floors net rows held spans floors times are least =
+    same_is_least_alike (graph_with net held spans (slice_index floors)) (graph_with net held spans (floor_of net rows)) (slice_index times)
+    (record { same_events = refl; floors = λ e below. let f = are.each e below in omega arith; binds = λ a b. record { binds = b; same_tail = refl; same_head = refl }; spans = λ a b. omega arith })
+    (record { same_events = refl; floors = λ e below. let f = are.each e below in omega arith; binds = λ a b. record { binds = b; same_tail = refl; same_head = refl }; spans = λ a b. omega arith })
+    least
+
 -- numbers in a list are at most this, where those at its places are
 pub all_within : (xs : List ℕ) (n most : ℕ) → length xs ≡ n → ((i : ℕ) → i < n → slice_index xs i ≤ most) → (i : ℕ) → slice_index xs i ≤ most
 all_within xs n most as_many each i =

@@ -3,7 +3,6 @@ use Rattle.std.proofs.Common.{◌≡◌, ℕ, ◌^◌, List, Bool, false, length
 use Rattle.std.specs.Prelude.{OnOk, OnErr}
 use Rattle.dm_graph.specs.Arcs.{HasNoCycle as HasNoCycleOfArcs}
 use Rattle.dm_graph.specs.Graph.{IsLeast as IsLeastOfGraph}
-use Rattle.dm_graph.proofs.Timetables.{same_is_least_alike}
 use Rattle.dm_network.specs.Net.{Net, IsWithinLimits}
 use Rattle.dm_network.specs.Held.{arcs_of, is_held}
 use Rattle.dm_network.specs.Start.{IsNetwork}
@@ -16,7 +15,7 @@ use Rattle.dm_check_times.specs.Timetables.{KeptTimetableValue, IsRoomOf, IsTime
 use Rattle.dm_marks.specs.Marked.{is_marked}
 use Rattle.dm_check_times.proofs.Renewing.{least_follows}
 use Rattle.dm_check_times.proofs.Spreading.{true_false}
-use Rattle.dm_check_times.proofs.OfRows.{least_holding_rows, no_cycle_of_rows, cycle_of_rows, times_are_below}
+use Rattle.dm_check_times.proofs.OfRows.{least_over_floors, least_holding_rows, no_cycle_of_rows, cycle_of_rows, times_are_below}
 
 pub agrees_same : (net : Net) (rows : RowsValue) (old new : KeptTimetableValue) → new.held ≡ old.held → new.spans ≡ old.spans → new.floors ≡ old.floors → new.clock ≡ old.clock → AgreesWith net rows old → AgreesWith net rows new
 agrees_same net rows old new held spans floors clock agrees = record {
@@ -38,11 +37,7 @@ with_clock net t clock was = record {
 
 module _ (net : Net) (rows : RowsValue) (t : KeptTimetableValue) (agrees : AgreesWith net rows t) where
   with_floors : IsLeastNow net t → IsLeastOfGraph (graph_with net t.held t.spans (floor_of net rows)) (slice_index t.times)
-  with_floors now =
-      same_is_least_alike (graph_with net t.held t.spans (slice_index t.floors)) (graph_with net t.held t.spans (floor_of net rows)) (slice_index t.times)
-      (record { same_events = refl; floors = λ e below. let f = agrees.floors.each e below in omega arith; binds = λ a b. record { binds = b; same_tail = refl; same_head = refl }; spans = λ a b. omega arith })
-      (record { same_events = refl; floors = λ e below. let f = agrees.floors.each e below in omega arith; binds = λ a b. record { binds = b; same_tail = refl; same_head = refl }; spans = λ a b. omega arith })
-      now
+  with_floors now = least_over_floors net rows t.held t.spans t.floors t.times agrees.floors now
 
   module _ (network : IsNetwork net) where
     pub rows_least : length t.times ≡ length net.events → IsLeastNow net t → IsLeast net rows t.times

@@ -17,16 +17,19 @@ true_false p q = absurd (let e : true ≡ false = sym p ∙ q in cc)
 
 -- ---- one event
 
+pub risen_not : (times : List ℕ) (due : List Bool) → HaveRisen times times due due
+risen_not times due = record {
+  times = refl;
+  flags = refl;
+  no_fall = λ i. omega arith;
+  stays_due = λ i no. no;
+  marked = λ i no. refl;
+  cause = λ i is. inl is;
+}
+
 pub raise_not : (event time : ℕ) (times : List ℕ) (due : List Bool) → time ≤ slice_index times event → Raises event time times times due due
 raise_not event time times due reached = record {
-  rise = record {
-    times = refl;
-    flags = refl;
-    no_fall = λ i. omega arith;
-    stays_due = λ i no. no;
-    marked = λ i no. refl;
-    cause = λ i is. inl is;
-  };
+  rise = risen_not times due;
   reached = reached;
   only = λ i. inl refl;
 }
@@ -77,16 +80,6 @@ module _ (event time : ℕ) (times : List ℕ) (due : List Bool) (is_event : eve
   }
 
 -- ---- one behind the other
-
-pub risen_not : (times : List ℕ) (due : List Bool) → HaveRisen times times due due
-risen_not times due = record {
-  times = refl;
-  flags = refl;
-  no_fall = λ i. omega arith;
-  stays_due = λ i no. no;
-  marked = λ i no. refl;
-  cause = λ i is. inl is;
-}
 
 pub risen_twice : (old mid new : List ℕ) (before between after : List Bool) → HaveRisen old mid before between → HaveRisen mid new between after → HaveRisen old new before after
 risen_twice old mid new before between after one two = record {

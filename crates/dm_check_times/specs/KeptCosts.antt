@@ -36,16 +36,24 @@ pub record KeptCostValue : Type 0 where
   pub weights : List ℕ
   pub penalized : ℕ
 
+-- there is a time for each event, and this is what the lateness of all costs
+pub record IsLatenessOf (net : Net) (times : List ℕ) (lateness : ℕ) : Type 0 where
+  pub as_many : length times ≡ length net.events
+  pub early : AreBelowLimit times
+  pub cost : lateness ≡ sum_by (event_cost net times) (range_with_len 0 (length net.events))
+  pub limit : lateness ≤ EVENTS * (WEIGHT * 2 ^ 38)
+
+-- there is a weight for each activity, and this is their sum
+pub record AreWeightsOf (net : Net) (weights : List ℕ) (penalized : ℕ) : Type 0 where
+  pub as_many : length weights ≡ length net.activities
+  pub small : (a : ℕ) → slice_index weights a ≤ 2 * WEIGHT
+  pub sum : penalized ≡ sum_by (slice_index weights) (range_with_len 0 (length net.activities))
+  pub limit : penalized ≤ ACTIVITIES * (2 * WEIGHT)
+
 -- the lists are as long as the network's, and the sums are those of the times and of the weights
 pub record IsKeptCostOf (net : Net) (kept : KeptCostValue) : Type 0 where
-  pub as_many : length kept.times ≡ length net.events
-  pub early : AreBelowLimit kept.times
-  pub lateness : kept.lateness ≡ sum_by (event_cost net kept.times) (range_with_len 0 (length net.events))
-  pub limit : kept.lateness ≤ EVENTS * (WEIGHT * 2 ^ 38)
-  pub as_many_weights : length kept.weights ≡ length net.activities
-  pub small : (a : ℕ) → slice_index kept.weights a ≤ 2 * WEIGHT
-  pub penalized : kept.penalized ≡ sum_by (slice_index kept.weights) (range_with_len 0 (length net.activities))
-  pub penalized_limit : kept.penalized ≤ ACTIVITIES * (2 * WEIGHT)
+  pub late : IsLatenessOf net kept.times kept.lateness
+  pub weighed : AreWeightsOf net kept.weights kept.penalized
 
 -- the weight that is kept of an activity is that of the rows, for these charges, at the times that are kept
 abbrev pub IsPricedAt : Net → RowsValue → (ℕ → Bool) → KeptCostValue → ℕ → Type 0

@@ -1,11 +1,11 @@
 //! A timetable kept with rows as they change.
-ghost use Rattle.std.specs.Prelude.{◌≡◌, ◌<◌, All, Bool, true, length};
+ghost use Rattle.std.specs.Prelude.{ℕ, ◌≡◌, ◌<◌, All, Bool, true, length, slice_index};
 ghost use Rattle.dm_rows.specs.Rows.{RowsValue, IsSized};
 ghost use Rattle.dm_rows.specs.Resolve.{after_change};
 ghost use Rattle.dm_rows.specs.declared.messages.Flip.TheVariants.{First};
 ghost use Rattle.dm_schedule.specs.Schedule.{IsScheduleOf};
 ghost use Rattle.dm_check_times.specs.Timetables.{IsTimetableOf, AgreesWith, ChangesNet, FlipsNet};
-ghost use Rattle.dm_check_times.specs.Inside.Agreeing.{Renews, MovesAt, MovesAmong, MovesClock, Nowhere, Here, Below, IsMoved, IsInto, IsOutOf, LeadsAt, IsDecided};
+ghost use Rattle.dm_check_times.specs.Inside.Agreeing.{Renews, MovesAt, MovesAmong, MovesClock, Nowhere, Here, Below, IsMoved, InRow, LeadsAt, IsDecided};
 
 use crate::kept_timetable::KeptTimetable;
 use crate::row::{row_into, row_out_of};
@@ -71,8 +71,8 @@ fn renew_around(timetable: &mut KeptTimetable, net: &Network, rows: &Rows, event
     ensures renews { Renews net.now rows.now (Here event) (LeadsAt net.now event) timetable.old timetable.new }
 {
     timetable.renew_event(net, rows, event);
-    renew_into(timetable, net, rows, event);
-    renew_out_of(timetable, net, rows, event);
+    renew_row(timetable, net, rows, row_into(net, event));
+    renew_row(timetable, net, rows, row_out_of(net, event));
 }
 
 /// Renews what a decision is about.
@@ -101,33 +101,18 @@ fn renew_pair(timetable: &mut KeptTimetable, net: &Network, rows: &Rows, pair: u
     net.sound();
     let pair = net.pair(pair);
     let (small, large) = (pair.small, pair.large);
-    renew_out_of(timetable, net, rows, small);
-    renew_out_of(timetable, net, rows, large);
+    renew_row(timetable, net, rows, row_out_of(net, small));
+    renew_row(timetable, net, rows, row_out_of(net, large));
 }
 
-/// Renews the activities into an event.
-fn renew_into(timetable: &mut KeptTimetable, net: &Network, rows: &Rows, event: usize)
+/// Renews some activities.
+fn renew_row(timetable: &mut KeptTimetable, net: &Network, rows: &Rows, row: &[usize])
     requires sized { IsSized net.now rows.now }
     requires timetable { IsTimetableOf net.now timetable.old }
-    requires is_event { event < length net.now.events }
+    requires row { (k : ℕ) → k < length row.now → slice_index row.now k < length net.now.activities }
     ensures timetable { IsTimetableOf net.now timetable.new }
-    ensures renews { Renews net.now rows.now Nowhere (IsInto net.now event) timetable.old timetable.new }
+    ensures renews { Renews net.now rows.now Nowhere (InRow row.now (length row.now)) timetable.old timetable.new }
 {
-    let row = row_into(net, event);
-    for a in row {
-        timetable.renew_activity(net, rows, *a);
-    }
-}
-
-/// Renews the activities out of an event.
-fn renew_out_of(timetable: &mut KeptTimetable, net: &Network, rows: &Rows, event: usize)
-    requires sized { IsSized net.now rows.now }
-    requires timetable { IsTimetableOf net.now timetable.old }
-    requires is_event { event < length net.now.events }
-    ensures timetable { IsTimetableOf net.now timetable.new }
-    ensures renews { Renews net.now rows.now Nowhere (IsOutOf net.now event) timetable.old timetable.new }
-{
-    let row = row_out_of(net, event);
     for a in row {
         timetable.renew_activity(net, rows, *a);
     }

@@ -152,24 +152,7 @@ impl KeptCost {
         ensures priced { IsPricedFor net.now rows.now (charges_of net.now rows.now charges.now) self.new }
     {
         for i in moved {
-            self.follow_at(net, rows, charges, *i, times[*i]);
-        }
-    }
-
-    /// Takes another time of an event.
-    fn follow_at(&mut self, net: &Network, rows: &Rows, charges: &Charges<'_>, i: usize, time: Secs)
-        requires kept { IsKeptCostOf net.now self.old }
-        requires sized { IsSized net.now rows.now }
-        requires charges { AreChargesTo net.now charges.now }
-        requires priced { IsPricedFor net.now rows.now (charges_of net.now rows.now charges.now) self.old }
-        requires is_event { i < length net.now.events }
-        requires early { time < 2 ^ 38 }
-        ensures kept { IsKeptCostOf net.now self.new }
-        ensures times { self.new.times ≡ slice_set self.old.times i time }
-        ensures priced { IsPricedFor net.now rows.now (charges_of net.now rows.now charges.now) self.new }
-    {
-        if self.time(i) != time {
-            self.move_at(net, rows, charges, i, time);
+            self.move_at(net, rows, charges, *i, times[*i]);
         }
     }
 
@@ -181,7 +164,7 @@ impl KeptCost {
         self.times[i]
     }
 
-    /// Takes another time of an event, and the weights of the activities into it and out of it anew.
+    /// Takes another time of an event, and the weights of the activities into it and out of it anew, unless it is the same time.
     fn move_at(&mut self, net: &Network, rows: &Rows, charges: &Charges<'_>, i: usize, time: Secs)
         requires kept { IsKeptCostOf net.now self.old }
         requires sized { IsSized net.now rows.now }
@@ -193,6 +176,9 @@ impl KeptCost {
         ensures times { self.new.times ≡ slice_set self.old.times i time }
         ensures priced { IsPricedFor net.now rows.now (charges_of net.now rows.now charges.now) self.new }
     {
+        if self.time(i) == time {
+            return;
+        }
         self.put(net, i, time);
         self.renew_row(net, rows, charges, row_into(net, i));
         self.renew_row(net, rows, charges, row_out_of(net, i));

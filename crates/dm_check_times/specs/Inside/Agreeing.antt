@@ -18,17 +18,21 @@ FloorAgrees net rows t e = slice_index t.floors e ≡ floor_of net rows e
 abbrev pub ActivityAgrees : Net → RowsValue → KeptTimetableValue → ℕ → Type 0
 ActivityAgrees net rows t a = (is_held t.held a ≡ is_active net rows a) × (slice_index t.spans a ≡ span_of net rows a)
 
--- these events and activities agree with the rows now, and what did still does
-pub record Renews (net : Net) (rows : RowsValue) (events activities : ℕ → Type 0) (old new : KeptTimetableValue) : Type 0 where
+-- the lists are as long, the clock and the times are the same, and what agreed with the rows still does
+pub record KeepsAgreeing (net : Net) (rows : RowsValue) (old new : KeptTimetableValue) : Type 0 where
   pub held_size : length new.held ≡ length old.held
   pub spans_size : length new.spans ≡ length old.spans
   pub floors_size : length new.floors ≡ length old.floors
-  pub clock_kept : new.clock ≡ old.clock
-  pub times_kept : new.times ≡ old.times
+  pub clock : new.clock ≡ old.clock
+  pub times : new.times ≡ old.times
+  pub events : (e : ℕ) → FloorAgrees net rows old e → FloorAgrees net rows new e
+  pub activities : (a : ℕ) → ActivityAgrees net rows old a → ActivityAgrees net rows new a
+
+-- these events and activities agree with the rows now, and what did still does
+pub record Renews (net : Net) (rows : RowsValue) (events activities : ℕ → Type 0) (old new : KeptTimetableValue) : Type 0 where
+  pub keeps : KeepsAgreeing net rows old new
   pub events_there : (e : ℕ) → events e → FloorAgrees net rows new e
-  pub events_kept : (e : ℕ) → FloorAgrees net rows old e → FloorAgrees net rows new e
   pub activities_there : (a : ℕ) → activities a → ActivityAgrees net rows new a
-  pub activities_kept : (a : ℕ) → ActivityAgrees net rows old a → ActivityAgrees net rows new a
 
 -- the clock has gone back, or the event is scheduled before it and its floor is too
 abbrev pub IsMoved : Net → KeptTimetableValue → ℕ → ℕ → Type 0

@@ -42,13 +42,13 @@ pub returns-in-ActDelay-clause-times : goal.returns-in-ActDelay-clause-times
 returns-in-ActDelay-clause-times c = c.renew_activity.ensures.renews.times
 
 pub returns-in-Passed-clause-times : goal.returns-in-Passed-clause-times
-returns-in-Passed-clause-times c = c.renew_around.ensures.renews.times_kept
+returns-in-Passed-clause-times c = c.renew_around.ensures.renews.keeps.times
 
 pub returns-in-Recalled-clause-times : goal.returns-in-Recalled-clause-times
-returns-in-Recalled-clause-times c = c.renew_around-in-Recalled.ensures.renews.times_kept
+returns-in-Recalled-clause-times c = c.renew_around-in-Recalled.ensures.renews.keeps.times
 
 pub returns-in-Flipped-clause-times : goal.returns-in-Flipped-clause-times
-returns-in-Flipped-clause-times c = c.renew_flipped.ensures.renews.times_kept
+returns-in-Flipped-clause-times c = c.renew_flipped.ensures.renews.keeps.times
 
 pub returns-in-Clock-clause-times : goal.returns-in-Clock-clause-times
-returns-in-Clock-clause-times c = c.renew_clock.ensures.moves.takes.times ∙ c.renew_clock.ensures.moves.renews.times_kept
+returns-in-Clock-clause-times c = c.renew_clock.ensures.moves.takes.times ∙ c.renew_clock.ensures.moves.renews.keeps.times

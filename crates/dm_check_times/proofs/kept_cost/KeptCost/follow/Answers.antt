@@ -15,9 +15,9 @@ loop-i-preserved c =
     let size = had.followed.as_many in
     let within = All-get_or (λ place. place < length c.args.times.now) c.args.moved.now c.loop-i.i-index 0 (omega arith) c.requires.moved.within in
     record {
-      kept = c.follow_at.ensures.kept;
-      priced = c.follow_at.ensures.priced;
-      followed = followed_next c.args.times.now c.args.moved.now c.loop-i.i-index _ c.loop-i.self.times c.follow_at.new.self.times refl (omega arith) c.follow_at.ensures.times had.followed;
+      kept = c.move_at.ensures.kept;
+      priced = c.move_at.ensures.priced;
+      followed = followed_next c.args.times.now c.args.moved.now c.loop-i.i-index _ c.loop-i.self.times c.move_at.new.self.times refl (omega arith) c.move_at.ensures.times had.followed;
     }
 
 pub returns-clause-times : goal.returns-clause-times

@@ -1,18 +1,15 @@
-use Rattle.std.proofs.Common.{arith}
-use Rattle.dm_network.proofs.EventRows.{leads_out}
-use Rattle.dm_check_times.proofs.Agreeing.{row_none, row_more, activity_renews, row_out_whole}
-use Rattle.dm_check_times.proofs.keeping.renew_out_of.Goals as goal
+use Rattle.std.proofs.Common.{ℕ, ◌≡◌, length, arith, subst}
+use Rattle.dm_check_times.specs.Inside.Agreeing.{Renews, Nowhere, InRow}
+use Rattle.dm_check_times.proofs.Agreeing.{row_none, row_more, activity_renews}
+use Rattle.dm_check_times.proofs.keeping.renew_row.Goals as goal
 
 pub loop-a-init : goal.loop-a-init
 loop-a-init c = record { timetable = c.requires.timetable; renews = row_none c.args.net.now c.args.rows.now _ c.args.timetable.now }
 
-pub renew_activity-requires-clause-is_activity : goal.renew_activity-requires-clause-is_activity
-renew_activity-requires-clause-is_activity c = (leads_out c.args.net.now c.args.event c.loop-a.a-index _ c.row_out_of-row.ensures (omega arith)).is_activity
-
 pub loop-a-preserved : goal.loop-a-preserved
 loop-a-preserved c =
     let had = c.loop-a.invariant in
-    let is_activity = (leads_out c.args.net.now c.args.event c.loop-a.a-index _ c.row_out_of-row.ensures (omega arith)).is_activity in
+    let is_activity = c.requires.row c.loop-a.a-index (omega arith) in
     let flags = had.timetable.room.held in
     let sizes = had.timetable.room.spans in
     record {
@@ -22,4 +19,6 @@ loop-a-preserved c =
     }
 
 pub returns-clause-renews : goal.returns-clause-renews
-returns-clause-renews c = row_out_whole c.args.net.now c.args.rows.now c.args.event c.loop-a.a-index _ c.args.timetable.now c.loop-a.timetable c.row_out_of-row.ensures (omega arith) c.loop-a.invariant.renews
+returns-clause-renews c =
+    let over : c.loop-a.a-index ≡ length c.args.row.now = omega arith in
+    subst (λ (n : ℕ). Renews c.args.net.now c.args.rows.now Nowhere (InRow c.args.row.now n) c.args.timetable.now c.loop-a.timetable) over c.loop-a.invariant.renews
