@@ -12,3 +12,4 @@ pub mod Starting
 pub mod Making
 pub mod EventIds
 pub mod EventRows
+pub mod Holding
