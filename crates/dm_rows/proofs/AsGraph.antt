@@ -1,9 +1,10 @@
 -- The rows' own definitions agree with those of the graph that they make, whichever activities are held.
-use Rattle.std.proofs.Common.{◌≡◌, ℕ, ◌+◌, ◌<◌, ◌≤◌, List, length, map, Option, Some, None, IsTrue, true, false, arith, refl, Bool, if◌then◌else◌, ◌∙◌}
+use Rattle.std.proofs.Common.{◌≡◌, ℕ, ◌+◌, ◌<◌, ◌≤◌, List, length, map, Option, Some, None, IsTrue, true, false, arith, refl, sym, Bool, if◌then◌else◌, ◌∙◌}
 use Rattle.std.specs.Prelude.{unwrap_or, is_some, max}
 use Rattle.std.specs.List.{range_with_len}
 use Rattle.std.proofs.lemmas.List.FromFn.{get_or-map-range_with_len, length-map-range_with_len}
-use Rattle.dm_graph.specs.Graph.{Graph, Meets as MeetsGraph, IsLeast as IsLeastOfGraph}
+use Rattle.dm_graph.specs.Graph.{Meets as MeetsGraph, IsLeast as IsLeastOfGraph}
+use Rattle.dm_graph.proofs.Transfers.{meets_same_times}
 use Rattle.dm_network.specs.Net.{Net, EndsAreKnown, activity_at}
 use Rattle.dm_rows.specs.Rows.{RowsValue, passed_at}
 use Rattle.dm_rows.specs.Active.{is_active}
@@ -122,24 +123,12 @@ pub back_list-length : (net : Net) (rows : RowsValue) (y : ℕ → ℕ) → leng
 unfolding back_list
 back_list-length net rows y = length-map-range_with_len (λ j. unwrap_or (passed_at rows j) (y j)) 0 (length net.events)
 
--- two functions that agree at the events meet the graph alike
-same_times_meet : (g : Graph) (x y : ℕ → ℕ) → ((e : ℕ) → e < g.shape.events → x e ≡ y e) → MeetsGraph g y → MeetsGraph g x
-same_times_meet g x y same m =
-    record {
-      above = λ e below. let s = same e below in let f = m.above e below in omega arith;
-      along = λ a binds.
-          let t = same (g.shape.tail a) binds.from_event in
-          let h = same (g.shape.head a) binds.to_event in
-          let f = m.along a binds in
-          omega arith;
-    }
-
 pub back_list_meets : (net : Net) (rows : RowsValue) (held : ℕ → Bool) (y : ℕ → ℕ) → EndsAreKnown net → EntersNoPassed net rows held →
     MeetsGraph (graph_holding net rows held) y → MeetsHolding net rows held (back_list net rows y)
 back_list_meets net rows held y known enters m =
     from_graph net rows held (back_list net rows y) known (back_list-length net rows y)
     (λ i t below is. let e = back_list-at net rows y i below in let f = floor_passed (passed_at rows i) (y i) t is in e ∙ f)
-    (same_times_meet (graph_holding net rows held) (time_at (back_list net rows y)) _ (back_list-at net rows y) (back_meets net rows held y enters m))
+    (meets_same_times (graph_holding net rows held) _ (time_at (back_list net rows y)) (λ e below. sym (back_list-at net rows y e below)) (back_meets net rows held y enters m))
 
 -- least for the rows is least for the graph
 pub least_to_graph : (net : Net) (rows : RowsValue) (held : ℕ → Bool) (x : List ℕ) → EndsAreKnown net → EntersNoPassed net rows held →

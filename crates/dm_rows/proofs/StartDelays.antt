@@ -1,7 +1,8 @@
 -- Delays set by one record after another.
-use Rattle.std.proofs.Common.{◌≡◌, ℕ, ◌+◌, ◌<◌, ◌≤◌, List, [], ◌∷◌, ◌++◌, length, map, take, get_or, set, Option, Some, Bool, true, false, eqb, cond, arith, refl, sym, ap, ◌∙◌, subst, inl, inr}
+use Rattle.std.proofs.Common.{◌≡◌, ℕ, ◌+◌, ◌<◌, ◌≤◌, List, [], ◌∷◌, ◌++◌, length, map, take, get_or, set, Option, Some, Bool, true, false, eqb, cond, arith, refl, sym, ap, ◌∙◌, subst, inl, inr, position}
 use Rattle.std.specs.Prelude.{slice_get, IsSome}
 use Rattle.std.specs.List.{range_with_len}
+use Rattle.std.specs.List.Sorted.{IsStrictlyIncreasing}
 use Rattle.std.proofs.Math.Seq.{take-length}
 use Rattle.std.proofs.lemmas.Bool.{cases_lt, cases_eq, eqb-true, eq-eqb, ne_eqb}
 use Rattle.std.proofs.lemmas.Grind.{same_number_lists}
@@ -119,30 +120,27 @@ pub all_known : (count : ℕ) (number : ℕ → ℕ) (place : ℕ → Option ℕ
 all_known count number place records n delays all had k row stands =
     had.known k row (let lt : k < length records = slice_get_within records k row stands in omega arith) stands
 
--- an id that a look-up finds is that of one event, of one activity alone
+-- a number that a look-up finds is that of one item alone, where the numbers ascend
+number_alone : {X : Type 0} (number : X → ℕ) (items : List X) (none : X) → IsStrictlyIncreasing (map number items) → (id i : ℕ) →
+    position (λ x. eqb (number x) id) items ≡ Some i → IsPlaceOf (length items) (λ k. number (get_or items k none)) id i
+number_alone number items none ascend id i found =
+    let at = position-Some (λ x. eqb (number x) id) items i none found in
+    record {
+      below = at.0;
+      named = eqb-true (number (get_or items i none)) id at.1;
+      alone = λ j lt named. let there = key_is_found number items ascend id j none lt named in cc;
+    }
+
+-- an id is that of one event, of one activity alone
 pub event_alone : (net : Net) → IsNetwork net → (id i : ℕ) → event_numbered net id ≡ Some i →
     IsPlaceOf (length net.events) (event_number net) id i
 event_alone net network id i found =
-    let at = position-Some (λ (e : Event). eqb e.id.0 id) net.events i no_event found in
-    record {
-      below = at.0;
-      named = eqb-true (event_number net i) id at.1;
-      alone = λ j lt named.
-          let there = key_is_found (λ (e : Event). e.id.0) net.events network.formed.events_ascend id j no_event lt named in
-          cc;
-    }
+    number_alone (λ (e : Event). e.id.0) net.events no_event network.formed.events_ascend id i found
 
 pub activity_alone : (net : Net) → IsNetwork net → (id i : ℕ) → activity_numbered net id ≡ Some i →
     IsPlaceOf (length net.activities) (activity_number net) id i
 activity_alone net network id i found =
-    let at = position-Some (λ (a : Activity). eqb a.id.0 id) net.activities i no_activity found in
-    record {
-      below = at.0;
-      named = eqb-true (activity_number net i) id at.1;
-      alone = λ j lt named.
-          let there = key_is_found (λ (a : Activity). a.id.0) net.activities network.formed.activities_ascend id j no_activity lt named in
-          cc;
-    }
+    number_alone (λ (a : Activity). a.id.0) net.activities no_activity network.formed.activities_ascend id i found
 
 -- one more item of a list made place by place
 pub one_more_item : (f : ℕ → Bool) (items : List Bool) (p : ℕ) (item : Bool) → items ≡ map f (range_with_len 0 p) → item ≡ f p →

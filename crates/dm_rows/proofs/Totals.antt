@@ -1,7 +1,8 @@
 -- A sum over places, place by place.
-use Rattle.std.proofs.Common.{◌≡◌, ℕ, suc, ◌+◌, ◌-◌, ◌*◌, ◌<◌, ◌≤◌, ap, ◌∙◌, arith, zero, refl, sym}
+use Rattle.std.proofs.Common.{◌≡◌, ◌≢◌, ℕ, suc, ◌+◌, ◌-◌, ◌*◌, ◌<◌, ◌≤◌, ap, ◌∙◌, inl, inr, arith, zero, refl, sym}
 use Rattle.std.specs.Prelude.{sum_by}
 use Rattle.std.specs.List.{range_with_len}
+use Rattle.std.proofs.lemmas.Bool.{cases_eq}
 use Rattle.std.proofs.lemmas.List.Sums.{sum_by-cons}
 
 -- the total over the first i of n places, where each adds at most so much
@@ -46,3 +47,23 @@ sum_within f most a (suc n) each =
     let rest = sum_within f most (a + 1) n each in
     let all = sum_by-cons f a (range_with_len (a + 1) n) in
     omega (arith, here, rest, all)
+
+-- a function that changes at one place
+pub sum_moves : (f g : ℕ → ℕ) (i : ℕ) → ((k : ℕ) → k ≢ i → g k ≡ f k) → (a n : ℕ) → a ≤ i → i < a + n →
+    sum_by g (range_with_len a n) + f i ≡ sum_by f (range_with_len a n) + g i
+sum_moves f g i others a zero le lt = absurd (omega arith)
+sum_moves f g i others a (suc n) le lt =
+    let left : sum_by g (range_with_len a (suc n)) ≡ g a + sum_by g (range_with_len (a + 1) n) = sum_by-cons g a (range_with_len (a + 1) n) in
+    let right : sum_by f (range_with_len a (suc n)) ≡ f a + sum_by f (range_with_len (a + 1) n) = sum_by-cons f a (range_with_len (a + 1) n) in
+    elim (cases_eq a i) [
+      | inl is ↦
+          let rest : sum_by g (range_with_len (a + 1) n) ≡ sum_by f (range_with_len (a + 1) n) =
+          sum_alike g f (a + 1) n (λ k from below. others k (λ same. absurd (omega arith))) in
+          let one : g a ≡ g i = ap g is in
+          let other : f a ≡ f i = ap f is in
+          omega (arith, left, right, rest, one, other)
+      | inr ne ↦
+          let here : g a ≡ f a = others a ne in
+          let rest = sum_moves f g i others (a + 1) n (omega arith) (omega arith) in
+          omega (arith, left, right, rest, here)
+    ]
