@@ -1,5 +1,5 @@
 -- What activities that come and go do to an order.
-use Rattle.std.proofs.Common.{◌≡◌, ℕ, ◌<◌, Bool, true, false, IsTrue, List, length, refl, sym, ap, ◌∙◌, ◌⊎◌, inl, inr, eq-eqb, slice_index}
+use Rattle.std.proofs.Common.{◌≡◌, ℕ, ◌<◌, Bool, true, false, IsTrue, List, length, refl, sym, ap, ◌∙◌, ◌⊎◌, inl, inr, arith, eq-eqb, slice_index}
 use Rattle.std.specs.Prelude.{◌==◌, if◌then◌else◌, slice_index_or}
 use Rattle.std.specs.List.{All}
 use Rattle.std.proofs.lemmas.List.Folds.{list_any_at}
@@ -7,7 +7,8 @@ use Rattle.dm_graph.proofs.Chains.{no_cycle_where_rank_rises}
 use Rattle.dm_graph.proofs.Transfers.{cycle_carries}
 use Rattle.dm_network.specs.Net.{Net}
 use Rattle.dm_network.specs.Held.{arcs_of, is_held, IsCycleOf, HasNoCycleOf}
-use Rattle.dm_order.specs.Orders.{GoesForward, GoForward, is_among, held_with, held_without}
+use Rattle.dm_order.specs.Value.{OrderValue}
+use Rattle.dm_order.specs.Orders.{IsOrderOf, GoesForward, GoForward, is_among, held_with, held_without}
 use Rattle.dm_order.specs.Inside.Flagging.{flagged}
 use Rattle.dm_order.specs.Inside.Placing.{GoForwardBut}
 use Rattle.dm_order.proofs.FlagLemmas.{set_by_is, all_at}
@@ -70,3 +71,14 @@ module _ (held : List Bool) (arcs : List ℕ) (within : All (λ a. a < length he
   pub fewer_go_forward : (net : Net) (ranks : List ℕ) → GoForward net held ranks → GoForward net (flagged false held arcs) ranks
   fewer_go_forward net ranks forward a lt holds =
       forward a lt (none_among (is_among arcs a) (is_held held a) (sym (removed_is a) ∙ holds))
+
+-- ---- activities that are tried
+
+-- activities have flags
+pub arcs_have_flags : (net : Net) (order : OrderValue) (arcs : List ℕ) → IsOrderOf net order → All (λ a. a < length net.activities) arcs →
+    All (λ a. a < length order.held) arcs
+arcs_have_flags net order arcs is are = λ k d lt. let w = are k d lt in let n = is.flag_count in omega arith
+
+-- where none was tried, what is tried are the held activities and these
+pub tried_with : (arcs : List ℕ) (held none tried : List Bool) → tried ≡ flagged true none arcs → none ≡ held → tried ≡ flagged true held arcs
+tried_with arcs held none tried is none_tried = is ∙ ap (λ (fs : List Bool). flagged true fs arcs) none_tried

@@ -1,15 +1,12 @@
 -- Numbers that pass a test, moved behind the others.
-use Rattle.std.proofs.Common.{◌≡◌, ℕ, zero, suc, ◌+◌, ◌-◌, ◌<◌, ◌≤◌, Bool, true, false, refl, ap, ◌∙◌, inl, inr, arith, add-one}
+use Rattle.std.proofs.Common.{◌≡◌, ℕ, zero, suc, ◌+◌, ◌-◌, ◌<◌, ◌≤◌, Bool, true, false, not, refl, ap, ◌∙◌, inl, inr, arith, add-one}
 use Rattle.std.specs.Prelude.{if◌then◌else◌}
-use Rattle.std.proofs.lemmas.Bool.{cases_Bool, cases_lt}
+use Rattle.std.proofs.lemmas.Bool.{cases_Bool, cases_lt, not-true}
 use Rattle.dm_order.specs.Inside.Shifting.{passing, failing, moved}
 
 module _ (p : ℕ → Bool) where
   pub passing_next : (m : ℕ) → passing p (m + 1) ≡ passing p m + (if p m then 1 else 0)
   passing_next m = ap (passing p) (add-one m)
-
-  pub failing_next : (m : ℕ) → failing p (m + 1) ≡ failing p m + (if p m then 0 else 1)
-  failing_next m = ap (failing p) (add-one m)
 
   pub passing_more : (m : ℕ) → p m ≡ true → passing p (m + 1) ≡ passing p m + 1
   passing_more m is = ap (passing p) (add-one m) ∙ ap (λ (b : Bool). passing p m + (if b then 1 else 0)) is
@@ -19,23 +16,6 @@ module _ (p : ℕ → Bool) where
       let e : passing p (m + 1) ≡ passing p m + 0 = ap (passing p) (add-one m) ∙ ap (λ (b : Bool). passing p m + (if b then 1 else 0)) is in
       omega arith
 
-  pub failing_more : (m : ℕ) → p m ≡ false → failing p (m + 1) ≡ failing p m + 1
-  failing_more m is = ap (failing p) (add-one m) ∙ ap (λ (b : Bool). failing p m + (if b then 0 else 1)) is
-
-  pub failing_same : (m : ℕ) → p m ≡ true → failing p (m + 1) ≡ failing p m
-  failing_same m is =
-      let e : failing p (m + 1) ≡ failing p m + 0 = ap (failing p) (add-one m) ∙ ap (λ (b : Bool). failing p m + (if b then 0 else 1)) is in
-      omega arith
-
-  -- each number passes or does not
-  one_more : (b : Bool) (x y m : ℕ) → x + y ≡ m → (x + (if b then 1 else 0)) + (y + (if b then 0 else 1)) ≡ suc m
-  one_more true x y m h = omega arith
-  one_more false x y m h = omega arith
-
-  pub all_counted : (m : ℕ) → passing p m + failing p m ≡ m
-  all_counted zero = refl
-  all_counted (suc m) = one_more (p m) (passing p m) (failing p m) m (all_counted m)
-
   pub passing_rises : (i j : ℕ) → i ≤ j → passing p i ≤ passing p j
   passing_rises i zero le = let is : i ≡ 0 = omega arith in let e : passing p i ≡ passing p 0 = ap (passing p) is in omega arith
   passing_rises i (suc j) le =
@@ -44,19 +24,8 @@ module _ (p : ℕ → Bool) where
         | inr ge ↦ let is : i ≡ suc j = omega arith in let e : passing p i ≡ passing p (suc j) = ap (passing p) is in omega arith
       ]
 
-  pub failing_rises : (i j : ℕ) → i ≤ j → failing p i ≤ failing p j
-  failing_rises i zero le = let is : i ≡ 0 = omega arith in let e : failing p i ≡ failing p 0 = ap (failing p) is in omega arith
-  failing_rises i (suc j) le =
-      elim (cases_lt i (suc j)) [
-        | inl lt ↦ let b = failing_rises i j (omega arith) in omega arith
-        | inr ge ↦ let is : i ≡ suc j = omega arith in let e : failing p i ≡ failing p (suc j) = ap (failing p) is in omega arith
-      ]
-
   pub passing_before : (i j : ℕ) → i < j → p i ≡ true → passing p i < passing p j
   passing_before i j lt is = let a = passing_more i is in let b = passing_rises (i + 1) j (omega arith) in omega arith
-
-  pub failing_before : (i j : ℕ) → i < j → p i ≡ false → failing p i < failing p j
-  failing_before i j lt is = let a = failing_more i is in let b = failing_rises (i + 1) j (omega arith) in omega arith
 
   -- one that passes, with so many before it
   record IsNthPassing (m j : ℕ) : Type 0 where
@@ -64,12 +33,6 @@ module _ (p : ℕ → Bool) where
     pub below : i < m
     pub passes : p i ≡ true
     pub nth : passing p i ≡ j
-
-  record IsNthFailing (m j : ℕ) : Type 0 where
-    pub i : ℕ
-    pub below : i < m
-    pub fails : p i ≡ false
-    pub nth : failing p i ≡ j
 
   nth_passing : (m j : ℕ) → j < passing p m → IsNthPassing m j
   nth_passing zero j lt = absurd (omega arith)
@@ -89,23 +52,44 @@ module _ (p : ℕ → Bool) where
             ]
       ]
 
-  nth_failing : (m j : ℕ) → j < failing p m → IsNthFailing m j
-  nth_failing zero j lt = absurd (omega arith)
-  nth_failing (suc m) j lt =
-      elim (cases_lt j (failing p m)) [
-        | inl before ↦ let r = nth_failing m j before in let b = r.below in record { i = r.i; below = omega arith; fails = r.fails; nth = r.nth }
-        | inr past ↦
-            elim (cases_Bool (p m)) [
-              | inl is ↦
-                  let e = failing_same m is in
-                  let f : failing p (m + 1) ≡ failing p (suc m) = ap (failing p) (add-one m) in
-                  absurd (omega arith)
-              | inr is ↦
-                  let e = failing_more m is in
-                  let f : failing p (m + 1) ≡ failing p (suc m) = ap (failing p) (add-one m) in
-                  record { i = m; below = omega arith; fails = is; nth = omega arith }
-            ]
-      ]
+-- what fails a test passes the other one
+module _ (p : ℕ → Bool) where
+  abbrev other : ℕ → Bool
+  other i = not (p i)
+
+  one_by_other : (b : Bool) (x y : ℕ) → x ≡ y → x + (if b then 0 else 1) ≡ y + (if not b then 1 else 0)
+  one_by_other true x y same = omega arith
+  one_by_other false x y same = omega arith
+
+  failing_is : (m : ℕ) → failing p m ≡ passing other m
+  failing_is zero = refl
+  failing_is (suc m) = one_by_other (p m) (failing p m) (passing other m) (failing_is m)
+
+  pub failing_next : (m : ℕ) → failing p (m + 1) ≡ failing p m + (if p m then 0 else 1)
+  failing_next m = ap (failing p) (add-one m)
+
+  pub failing_rises : (i j : ℕ) → i ≤ j → failing p i ≤ failing p j
+  failing_rises i j le =
+      let at_i = failing_is i in
+      let at_j = failing_is j in
+      let rise = passing_rises other i j le in
+      omega arith
+
+  pub failing_before : (i j : ℕ) → i < j → p i ≡ false → failing p i < failing p j
+  failing_before i j lt is =
+      let at_i = failing_is i in
+      let at_j = failing_is j in
+      let rise = passing_before other i j lt (ap not is) in
+      omega arith
+
+  -- each number passes or does not
+  one_more : (b : Bool) (x y m : ℕ) → x + y ≡ m → (x + (if b then 1 else 0)) + (y + (if b then 0 else 1)) ≡ suc m
+  one_more true x y m h = omega arith
+  one_more false x y m h = omega arith
+
+  pub all_counted : (m : ℕ) → passing p m + failing p m ≡ m
+  all_counted zero = refl
+  all_counted (suc m) = one_more (p m) (passing p m) (failing p m) m (all_counted m)
 
   module _ (count : ℕ) where
     pub moved_passing : (i : ℕ) → p i ≡ true → moved p count i ≡ failing p count + passing p i
@@ -118,7 +102,7 @@ module _ (p : ℕ → Bool) where
     moved_below i lt =
         let all = all_counted count in
         elim (cases_Bool (p i)) [
-          | inl is ↦ let m = moved_passing i is in let b = passing_before i count lt is in omega arith
+          | inl is ↦ let m = moved_passing i is in let b = passing_before p i count lt is in omega arith
           | inr is ↦ let m = moved_failing i is in let b = failing_before i count lt is in omega arith
         ]
 
@@ -137,7 +121,7 @@ module _ (p : ℕ → Bool) where
           | inl is ↦
               let m = moved_passing i is in
               let n = moved_passing j (carries is) in
-              let b = passing_before i j lt is in
+              let b = passing_before p i j lt is in
               omega arith
           | inr is ↦
               elim (cases_Bool (p j)) [
@@ -171,11 +155,12 @@ module _ (p : ℕ → Bool) where
     comes_from k lt =
         elim (cases_lt k (failing p count)) [
           | inl early ↦
-              let r = nth_failing count k early in
-              record { i = r.i; below = r.below; is = moved_failing r.i r.fails ∙ r.nth }
+              let all = failing_is count in
+              let r = nth_passing other count k (omega arith) in
+              record { i = r.i; below = r.below; is = moved_failing r.i (not-true (p r.i) r.passes) ∙ failing_is r.i ∙ r.nth }
           | inr late ↦
               let all = all_counted count in
-              let r = nth_passing count (k - failing p count) (omega arith) in
+              let r = nth_passing p count (k - failing p count) (omega arith) in
               let m = moved_passing r.i r.passes in
               let n = r.nth in
               record { i = r.i; below = r.below; is = omega arith }

@@ -40,6 +40,23 @@ module _ (n : ℕ) (order ranks : List ℕ) (ranked : AreRanks n order ranks) (p
   order_inside : (k : ℕ) → k < count → (i : ℕ) → moved p count i ≡ k → i < count → slice_index order' (low + k) ≡ slice_index order (low + i)
   order_inside k lt i is below = ap (λ (j : ℕ). slice_index order' (low + j)) (sym is) ∙ pa.put i below
 
+  -- what stands at a place of the interval afterwards, and where it comes from
+  record ComesInside (k : ℕ) : Type 0 where
+    i : ℕ
+    below : i < count
+    stood : slice_index order' k ≡ slice_index order (low + i)
+    goes : low + moved p count i ≡ k
+
+  comes_inside : (k : ℕ) → IsInside low count k → ComesInside k
+  comes_inside k in' =
+      let from = comes_from p count in'.i in'.below in
+      record {
+        i = from.i;
+        below = from.below;
+        stood = ap (slice_index order') in'.is ∙ order_inside in'.i in'.below from.i from.is from.below;
+        goes = ap (λ (j : ℕ). low + j) from.is ∙ sym in'.is;
+      }
+
   pub shifted_ranks : AreRanks n order' ranks'
   shifted_ranks =
       record {
@@ -61,9 +78,8 @@ module _ (n : ℕ) (order ranks : List ℕ) (ranked : AreRanks n order ranks) (p
         is_event = λ k lt.
             elim (inside_or low count k) [
               | inl in' ↦
-                  let from = comes_from p count in'.i in'.below in
-                  let o : slice_index order' k ≡ slice_index order (low + from.i) =
-                  ap (slice_index order') in'.is ∙ order_inside in'.i in'.below from.i from.is from.below in
+                  let from = comes_inside k in' in
+                  let o = from.stood in
                   let b = from.below in
                   let e = ranked.is_event (low + from.i) (omega arith) in
                   omega arith
@@ -72,10 +88,8 @@ module _ (n : ℕ) (order ranks : List ℕ) (ranked : AreRanks n order ranks) (p
         is_ranked = λ k lt.
             elim (inside_or low count k) [
               | inl in' ↦
-                  let from = comes_from p count in'.i in'.below in
-                  let o : slice_index order' k ≡ slice_index order (low + from.i) =
-                  ap (slice_index order') in'.is ∙ order_inside in'.i in'.below from.i from.is from.below in
-                  ap (slice_index ranks') o ∙ ra.anew from.i from.below ∙ ap (λ (j : ℕ). low + j) from.is ∙ sym in'.is
+                  let from = comes_inside k in' in
+                  ap (slice_index ranks') from.stood ∙ ra.anew from.i from.below ∙ from.goes
               | inr out ↦
                   let r = ranked.is_ranked k lt in
                   let there : (slice_index ranks (slice_index order k) < low) ⊎ (low + count ≤ slice_index ranks (slice_index order k)) =

@@ -6,58 +6,49 @@ use Rattle.dm_order.specs.Orders.{IsOrderOf, GoForward, held_with}
 use Rattle.dm_order.specs.Inside.Flagging.{flagged, taken_back}
 use Rattle.dm_order.specs.Inside.Placing.{cycle_in}
 use Rattle.dm_order.proofs.FlagLemmas.{length-set_by, taken_back_is}
-use Rattle.dm_order.proofs.Changing.{added_is, added_are_held, others_go_forward, no_cycle_alike, cycle_alike}
+use Rattle.dm_order.proofs.Changing.{added_is, added_are_held, others_go_forward, no_cycle_alike, cycle_alike, arcs_have_flags, tried_with}
 use Rattle.dm_order.proofs.order.Order.add.Goals as goal
 
 pub move_for-requires-clause-flags : goal.move_for-requires-clause-flags
 move_for-requires-clause-flags c =
     let was = subst (IsOrderOf c.args.net.now) (sym c.self.view_is) c.requires.network in
-    let within : All (λ a. a < length c.self.inside.flags.held.items) c.args.arcs.now =
-    λ k d lt. let w = c.requires.are_activities k d lt in let n = was.flag_count in omega arith in
-    let tried_is : c.deref.result.now ≡ flagged true c.self.inside.flags.held.items c.args.arcs.now =
-    c.deref.ensures.value ∙ c.try_with.ensures.tried ∙ ap (λ (fs : List Bool). flagged true fs c.args.arcs.now) c.self.invariant.none_tried in
+    let tried_is = tried_with c.args.arcs.now _ _ _ (c.deref.ensures.value ∙ c.try_with.ensures.tried) c.self.invariant.none_tried in
     ap length tried_is ∙ length-set_by (λ _. true) c.self.inside.flags.held.items c.args.arcs.now ∙ was.flag_count
 
 pub move_for-requires-clause-are_held : goal.move_for-requires-clause-are_held
 move_for-requires-clause-are_held c =
     let was = subst (IsOrderOf c.args.net.now) (sym c.self.view_is) c.requires.network in
-    let within : All (λ a. a < length c.self.inside.flags.held.items) c.args.arcs.now =
-    λ k d lt. let w = c.requires.are_activities k d lt in let n = was.flag_count in omega arith in
-    let tried_is : c.deref.result.now ≡ flagged true c.self.inside.flags.held.items c.args.arcs.now =
-    c.deref.ensures.value ∙ c.try_with.ensures.tried ∙ ap (λ (fs : List Bool). flagged true fs c.args.arcs.now) c.self.invariant.none_tried in
+    let within = arcs_have_flags c.args.net.now _ c.args.arcs.now was c.requires.are_activities in
+    let tried_is = tried_with c.args.arcs.now _ _ _ (c.deref.ensures.value ∙ c.try_with.ensures.tried) c.self.invariant.none_tried in
     added_are_held c.self.inside.flags.held.items c.args.arcs.now within c.deref.result.now tried_is
 
 pub move_for-requires-clause-others : goal.move_for-requires-clause-others
 move_for-requires-clause-others c =
     let was = subst (IsOrderOf c.args.net.now) (sym c.self.view_is) c.requires.network in
-    let within : All (λ a. a < length c.self.inside.flags.held.items) c.args.arcs.now =
-    λ k d lt. let w = c.requires.are_activities k d lt in let n = was.flag_count in omega arith in
-    let tried_is : c.deref.result.now ≡ flagged true c.self.inside.flags.held.items c.args.arcs.now =
-    c.deref.ensures.value ∙ c.try_with.ensures.tried ∙ ap (λ (fs : List Bool). flagged true fs c.args.arcs.now) c.self.invariant.none_tried in
+    let within = arcs_have_flags c.args.net.now _ c.args.arcs.now was c.requires.are_activities in
+    let tried_is = tried_with c.args.arcs.now _ _ _ (c.deref.ensures.value ∙ c.try_with.ensures.tried) c.self.invariant.none_tried in
     others_go_forward c.self.inside.flags.held.items c.args.arcs.now within c.args.net.now c.deref.result.now c.self.inside.lists.places.ranks.items tried_is was.forward
 
 pub take_back-requires-clause-tried : goal.take_back-requires-clause-tried
 take_back-requires-clause-tried c =
     let was = subst (IsOrderOf c.args.net.now) (sym c.self.view_is) c.requires.network in
-    let within : All (λ a. a < length c.self.inside.flags.held.items) c.args.arcs.now =
-    λ k d lt. let w = c.requires.are_activities k d lt in let n = was.flag_count in omega arith in
+    let within = arcs_have_flags c.args.net.now _ c.args.arcs.now was c.requires.are_activities in
     λ k d lt.
     let w = within k d lt in
     let n : length c.try_with.new.self.tried.items ≡ length c.self.inside.flags.held.items =
-    ap length (c.try_with.ensures.tried ∙ ap (λ (fs : List Bool). flagged true fs c.args.arcs.now) c.self.invariant.none_tried)
+    ap length (tried_with c.args.arcs.now _ _ _ c.try_with.ensures.tried c.self.invariant.none_tried)
     ∙ length-set_by (λ _. true) c.self.inside.flags.held.items c.args.arcs.now in
     omega arith
 
 pub invariant_of-self-in-Err : goal.invariant_of-self-in-Err
 invariant_of-self-in-Err c =
     let was = subst (IsOrderOf c.args.net.now) (sym c.self.view_is) c.requires.network in
-    let within : All (λ a. a < length c.self.inside.flags.held.items) c.args.arcs.now =
-    λ k d lt. let w = c.requires.are_activities k d lt in let n = was.flag_count in omega arith in
+    let within = arcs_have_flags c.args.net.now _ c.args.arcs.now was c.requires.are_activities in
     let back : c.take_back.new.self.tried.items ≡ c.self.inside.flags.held.items =
     c.take_back.ensures.tried
     ∙ ap (λ (fs : List Bool). taken_back fs c.try_with.new.self.tried.items c.args.arcs.now) c.try_with.ensures.held
     ∙ ap (λ (fs : List Bool). taken_back c.self.inside.flags.held.items fs c.args.arcs.now)
-    (c.try_with.ensures.tried ∙ ap (λ (fs : List Bool). flagged true fs c.args.arcs.now) c.self.invariant.none_tried)
+    (tried_with c.args.arcs.now _ _ _ c.try_with.ensures.tried c.self.invariant.none_tried)
     ∙ taken_back_is c.self.inside.flags.held.items c.args.arcs.now within in
     record {
       none_tried = back ∙ sym c.try_with.ensures.held ∙ sym c.take_back.ensures.held;
@@ -67,10 +58,8 @@ invariant_of-self-in-Err c =
 pub returns-in-Ok-clause-order : goal.returns-in-Ok-clause-order
 returns-in-Ok-clause-order c =
     let was = subst (IsOrderOf c.args.net.now) (sym c.self.view_is) c.requires.network in
-    let within : All (λ a. a < length c.self.inside.flags.held.items) c.args.arcs.now =
-    λ k d lt. let w = c.requires.are_activities k d lt in let n = was.flag_count in omega arith in
-    let tried_is : c.deref.result.now ≡ flagged true c.self.inside.flags.held.items c.args.arcs.now =
-    c.deref.ensures.value ∙ c.try_with.ensures.tried ∙ ap (λ (fs : List Bool). flagged true fs c.args.arcs.now) c.self.invariant.none_tried in
+    let within = arcs_have_flags c.args.net.now _ c.args.arcs.now was c.requires.are_activities in
+    let tried_is = tried_with c.args.arcs.now _ _ _ (c.deref.ensures.value ∙ c.try_with.ensures.tried) c.self.invariant.none_tried in
     let kept_is : c.keep.new.self.held.items ≡ flagged true c.self.inside.flags.held.items c.args.arcs.now =
     c.keep.ensures.held ∙ ap (λ (fs : List Bool). flagged true fs c.args.arcs.now) c.try_with.ensures.held in
     record {
@@ -82,8 +71,7 @@ returns-in-Ok-clause-order c =
 pub returns-in-Ok-clause-held : goal.returns-in-Ok-clause-held
 returns-in-Ok-clause-held c = λ a.
     let was = subst (IsOrderOf c.args.net.now) (sym c.self.view_is) c.requires.network in
-    let within : All (λ a. a < length c.self.inside.flags.held.items) c.args.arcs.now =
-    λ k d lt. let w = c.requires.are_activities k d lt in let n = was.flag_count in omega arith in
+    let within = arcs_have_flags c.args.net.now _ c.args.arcs.now was c.requires.are_activities in
     let kept_is : c.keep.new.self.held.items ≡ flagged true c.self.inside.flags.held.items c.args.arcs.now =
     c.keep.ensures.held ∙ ap (λ (fs : List Bool). flagged true fs c.args.arcs.now) c.try_with.ensures.held in
     let held_is : c.self.inside.flags.held.items ≡ c.args.self.now.held = ap (λ (o : OrderValue). o.held) c.self.view_is in
@@ -92,11 +80,8 @@ returns-in-Ok-clause-held c = λ a.
 
 pub returns-in-Ok-clause-no_cycle : goal.returns-in-Ok-clause-no_cycle
 returns-in-Ok-clause-no_cycle c =
-    let was = subst (IsOrderOf c.args.net.now) (sym c.self.view_is) c.requires.network in
-    let within : All (λ a. a < length c.self.inside.flags.held.items) c.args.arcs.now =
-    λ k d lt. let w = c.requires.are_activities k d lt in let n = was.flag_count in omega arith in
-    let tried_is : c.deref.result.now ≡ flagged true c.self.inside.flags.held.items c.args.arcs.now =
-    c.deref.ensures.value ∙ c.try_with.ensures.tried ∙ ap (λ (fs : List Bool). flagged true fs c.args.arcs.now) c.self.invariant.none_tried in
+    let within = arcs_have_flags c.args.net.now _ c.args.arcs.now (subst (IsOrderOf c.args.net.now) (sym c.self.view_is) c.requires.network) c.requires.are_activities in
+    let tried_is = tried_with c.args.arcs.now _ _ _ (c.deref.ensures.value ∙ c.try_with.ensures.tried) c.self.invariant.none_tried in
     let held_is : c.self.inside.flags.held.items ≡ c.args.self.now.held = ap (λ (o : OrderValue). o.held) c.self.view_is in
     subst (λ (fs : List Bool). HasNoCycleOf c.args.net.now (held_with fs c.args.arcs.now)) held_is
     (no_cycle_alike c.args.net.now (flagged true c.self.inside.flags.held.items c.args.arcs.now) (held_with c.self.inside.flags.held.items c.args.arcs.now)
@@ -105,11 +90,8 @@ returns-in-Ok-clause-no_cycle c =
 
 pub returns-in-Err-clause-cycle : goal.returns-in-Err-clause-cycle
 returns-in-Err-clause-cycle c =
-    let was = subst (IsOrderOf c.args.net.now) (sym c.self.view_is) c.requires.network in
-    let within : All (λ a. a < length c.self.inside.flags.held.items) c.args.arcs.now =
-    λ k d lt. let w = c.requires.are_activities k d lt in let n = was.flag_count in omega arith in
-    let tried_is : c.deref.result.now ≡ flagged true c.self.inside.flags.held.items c.args.arcs.now =
-    c.deref.ensures.value ∙ c.try_with.ensures.tried ∙ ap (λ (fs : List Bool). flagged true fs c.args.arcs.now) c.self.invariant.none_tried in
+    let within = arcs_have_flags c.args.net.now _ c.args.arcs.now (subst (IsOrderOf c.args.net.now) (sym c.self.view_is) c.requires.network) c.requires.are_activities in
+    let tried_is = tried_with c.args.arcs.now _ _ _ (c.deref.ensures.value ∙ c.try_with.ensures.tried) c.self.invariant.none_tried in
     let held_is : c.self.inside.flags.held.items ≡ c.args.self.now.held = ap (λ (o : OrderValue). o.held) c.self.view_is in
     subst (λ (fs : List Bool). IsCycleOf c.args.net.now (held_with fs c.args.arcs.now) (cycle_in c.move_for.new.self)) held_is
     (cycle_alike c.args.net.now (flagged true c.self.inside.flags.held.items c.args.arcs.now) (held_with c.self.inside.flags.held.items c.args.arcs.now)
