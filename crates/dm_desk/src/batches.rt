@@ -35,39 +35,15 @@ pub fn answer_batch<S: Source, D: Desk, P: Fn(&Snapshot, u64) -> Result<Plan, Al
     ensures stays_sound { S.is_sound reader.old.source → S.is_sound reader.new.source }
 {
     for _ in 0..batch {
-        match answer_next(reader, desk, planner, gate, feed, log)? {
-            Some(stop) => return Ok(Some(stop)),
-            None => {}
+        match reader.next() {
+            Next::Stop(stop) => return Ok(Some(stop)),
+            Next::Due { line, heard } => {
+                gate.hold(feed, 1);
+                let item = answer(desk, planner, feed, line, log.as_slice(), heard)?;
+                log.push(item)?;
+                gate.hold(feed, 2);
+            }
         }
     }
     Ok(None)
-}
-
-// Answers the next due line.
-fn answer_next<S: Source, D: Desk, P: Fn(&Snapshot, u64) -> Result<Plan, AllocError>, H: Hold>(
-    reader: &mut LineReader<S>,
-    desk: &mut D,
-    planner: &P,
-    gate: &H,
-    feed: u32,
-    log: &mut Vec<LogItem>,
-) -> Result<Option<FeedStop>, AllocError>
-    requires legal { HasSeenLegal (D.value desk.old) }
-    requires plans { PlansUnder (P.pre planner.now) (P.post planner.now) (D.value desk.old).setting }
-    requires are_true { AreTrueOf (D.value desk.old) feed log.old.items }
-    requires open_still { IsOpen reader.old }
-    ensures answers { IfOk result (λ stop. AnswersBatch S.left S.is_sound reader.old reader.new (D.value desk.old) (D.value desk.new) feed 1
-        log.old.items log.new.items stop) }
-    ensures stays_sound { S.is_sound reader.old.source → S.is_sound reader.new.source }
-{
-    match reader.next() {
-        Next::Stop(stop) => Ok(Some(stop)),
-        Next::Due { line, heard } => {
-            gate.hold(feed, 1);
-            let item = answer(desk, planner, feed, line, log.as_slice(), heard)?;
-            log.push(item)?;
-            gate.hold(feed, 2);
-            Ok(None)
-        }
-    }
 }
