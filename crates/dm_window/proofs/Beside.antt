@@ -71,6 +71,15 @@ from_outside as_it_is choice free within many d c decides there same =
       away = not-true (within f.place) (and_parts (free f.place) (not (within f.place)) f.passes).1;
     }
 
+listed_outside : (as_it_is : ℕ → Decision) (free within : ℕ → Bool) (many i : ℕ) → i < many → free i ≡ true → within i ≡ false →
+    Contains (map as_it_is (filter (λ j. free j && not (within j)) (range_with_len 0 many))) (as_it_is i)
+listed_outside as_it_is free within many i below is_free away =
+    listed as_it_is (λ j. free j && not (within j)) 0 many i (omega arith) (omega arith) (and_from (free i) (not (within i)) is_free (not_from_false (within i) away))
+
+-- a choice whose decision is listed where it is not within is left exactly where it is
+left_where : (base : List Decision) (c : Choice) (within : Bool) (d : Decision) → (is_decided base c ≡ true → within ≡ false) → (within ≡ false → Contains base d) → choice_of d ≡ c → not (is_decided base c) ≡ within
+left_where base c within d apart listed_there decides = left_exactly (is_decided base c) within apart (λ away. is_decided_by base d c (listed_there away) decides)
+
 module _ (net : Net) (network : IsNetwork net) (rows : RowsValue) (from to : ℕ) where
   abbrev as_it_is : ℕ → Decision
   as_it_is a = change_decision net a (kept_at rows a)
@@ -183,24 +192,16 @@ module _ (net : Net) (network : IsNetwork net) (rows : RowsValue) (from to : ℕ
   change_is_left : (a : ℕ) → a < length net.activities → is_free_change net rows a ≡ true →
       not (is_decided (window_base net rows from to) (change_choice net a)) ≡ is_change_within net from to a
   change_is_left a below free =
-      left_exactly (is_decided (window_base net rows from to) (change_choice net a)) (is_change_within net from to a) (decided_change a below)
-      (λ o.
-      let there : Contains base_changes (as_it_is a) =
-      listed as_it_is (is_change_outside net rows from to) 0 (length net.activities) a (omega arith) (omega arith)
-      (and_from (is_free_change net rows a) (not (is_change_within net from to a)) free (not_from_false (is_change_within net from to a) o)) in
-      is_decided_by (window_base net rows from to) (as_it_is a) (change_choice net a)
-      (Contains-append_left base_changes base_pairs (as_it_is a) there) (change_decides net network a (kept_at rows a)))
+      left_where (window_base net rows from to) (change_choice net a) (is_change_within net from to a) (as_it_is a) (decided_change a below)
+      (λ o. Contains-append_left base_changes base_pairs (as_it_is a) (listed_outside as_it_is (is_free_change net rows) (is_change_within net from to) (length net.activities) a below free o))
+      (change_decides net network a (kept_at rows a))
 
   pair_is_left : (p : ℕ) → p < length net.pairs → is_free_pair net rows p ≡ true →
       not (is_decided (window_base net rows from to) (pair_choice net p)) ≡ is_pair_within net from to p
   pair_is_left p below free =
-      left_exactly (is_decided (window_base net rows from to) (pair_choice net p)) (is_pair_within net from to p) (decided_pair p below)
-      (λ o.
-      let there : Contains base_pairs (pair_as_it_is p) =
-      listed pair_as_it_is (is_pair_outside net rows from to) 0 (length net.pairs) p (omega arith) (omega arith)
-      (and_from (is_free_pair net rows p) (not (is_pair_within net from to p)) free (not_from_false (is_pair_within net from to p) o)) in
-      is_decided_by (window_base net rows from to) (pair_as_it_is p) (pair_choice net p)
-      (Contains-append_right base_changes base_pairs (pair_as_it_is p) there) (pair_decides net network p (small_first_at rows p) below))
+      left_where (window_base net rows from to) (pair_choice net p) (is_pair_within net from to p) (pair_as_it_is p) (decided_pair p below)
+      (λ o. Contains-append_right base_changes base_pairs (pair_as_it_is p) (listed_outside pair_as_it_is (is_free_pair net rows) (is_pair_within net from to) (length net.pairs) p below free o))
+      (pair_decides net network p (small_first_at rows p) below)
 
   left_is_inside : choices_beside net rows (window_base net rows from to) ≡ choices_in net rows from to
   left_is_inside =
