@@ -1,5 +1,5 @@
 -- Numbers, decisions and choices in front of a line: read where they stand, and nowhere else.
-use Rattle.std.proofs.Common.{◌≡◌, ℕ, ◌^◌, ◌<◌, ◌≤◌, List, [], ◌∷◌, ◌++◌, Option, Some, None, All, refl, sym, ap, subst, ◌∙◌, inl, inr, arith, append_assoc, append-nil, codes}
+use Rattle.std.proofs.Common.{◌≡◌, ℕ, ◌^◌, ◌<◌, ◌≤◌, List, [], ◌∷◌, ◌++◌, Some, None, All, refl, sym, ap, subst, ◌∙◌, inl, inr, arith, append_assoc, append-nil, codes}
 use Rattle.std.specs.Option.{option_map}
 use Rattle.std.specs.Prelude.{option_and_then}
 use Rattle.std.specs.Fmt.{decimal}
@@ -17,7 +17,7 @@ use Rattle.dm_feed.specs.Parts.{largest_id, Fits, id, word}
 use Rattle.dm_feed.specs.Lines.{spelling_of_decision}
 use Rattle.dm_cert.specs.PlanTexts.{line_end, choice_text, FitsDecision}
 use Rattle.dm_cert.specs.PlansRead.{IsChoiceLine}
-use Rattle.dm_cert.specs.Inside.PlanLines.{number_behind, keep_in, drop_in, first_in, decision_in, choice_in, event, act, or_else}
+use Rattle.dm_cert.specs.Inside.PlanLines.{number_behind, keep_in, drop_in, first_in, decision_in, choice_in, event, act, or_else, Reads}
 use Rattle.dm_cert.proofs.Options.{and_then_some, map_some, or_some, whole_some, Came}
 
 -- ---- numbers
@@ -145,11 +145,6 @@ decision_is line d rest e =
         })
 
 -- ---- choices
-
--- what is read is a value exactly where the line spells it
-pub record Reads {V : Type 0} (spells : V → List ℕ → Type 0) (line : List ℕ) (read : Option V) : Type 0 where
-  pub is : (v : V) → read ≡ Some v → spells v line
-  pub back : (v : V) → spells v line → read ≡ Some v
 
 pub choice_spelled : (d : Decision) → choice_text d ≡ (codes "choice" ++ (spelling_of_decision d ++ [])) ++ line_end
 unfolding choice_text

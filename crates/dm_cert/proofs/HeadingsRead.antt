@@ -11,9 +11,9 @@ use Rattle.dm_tree.specs.declared.forms.Mark.TheVariants as mark
 use Rattle.dm_cert.specs.declared.plan_lines.Heading.{Heading}
 use Rattle.dm_cert.specs.PlanTexts.{line_end, largest_cost, mark_text}
 use Rattle.dm_cert.specs.PlansRead.{IsHeadingLine, heading_text, size_words}
-use Rattle.dm_cert.specs.Inside.PlanLines.{number_behind, mark_in, marked, counts_in, costs_in, heading_in, heading_of}
+use Rattle.dm_cert.specs.Inside.PlanLines.{number_behind, mark_in, marked, counts_in, costs_in, heading_in, heading_of, Reads}
 use Rattle.dm_cert.proofs.Options.{and_then_some, map_some, or_some, whole_some}
-use Rattle.dm_cert.proofs.DecisionsRead.{number_behind_back, number_behind_is, Reads}
+use Rattle.dm_cert.proofs.DecisionsRead.{number_behind_back, number_behind_is}
 
 -- ---- the mark
 

@@ -14,8 +14,10 @@ use Rattle.dm_rows.specs.History.{rows_at, IsLegal}
 use Rattle.dm_feed.specs.DueItems.{DueItem}
 use Rattle.dm_cert.specs.declared.replies.LogItem.{LogItem}
 use Rattle.dm_cert.specs.declared.replies.LogItem.TheVariants.{Malformed, Answered}
+use Rattle.dm_cert.specs.declared.replies.Reply.{Reply}
+use Rattle.dm_cert.specs.declared.replies.Reply.TheVariants.{Ok, Refused, Time, Cost, Read, Planned, Old, NoPlan, Plans, Range}
 use Rattle.dm_cert.specs.Answers.{Setting}
-use Rattle.dm_cert.specs.Logs.{line_of, due_of, IsTrueLog}
+use Rattle.dm_cert.specs.Logs.{entered, kind_of_reply, line_of, due_of, IsTrueLog}
 use Rattle.dm_cert.specs.CoreRun.{line_due, LinesRise, AnswerFirst}
 use Rattle.dm_cert.proofs.Numbers.{last_line}
 use Rattle.dm_cert.proofs.ListsOfLogs.{total_names}
@@ -27,6 +29,19 @@ pub record Holds (s : Setting) (dues : List (List DueItem)) (h : List Entry) (lo
   pub once : (n : ℕ) → 0 < n → n ≤ length h → total_names n logs ≡ 1
   pub as_many : length logs ≡ length dues
   pub first : (place : ℕ) (due : List DueItem) (items : List LogItem) → slice_get dues place ≡ Some due → slice_get logs place ≡ Some items → AnswerFirst due items
+
+-- what the kind of a reply says of an entry's number
+pub ok_of : (reply : Reply) (n : ℕ) → kind_of_reply reply ≡ entered n → reply ≡ Ok n
+ok_of (Ok m) n e = cc
+ok_of (Refused at) n e = absurd (cc)
+ok_of (Time m x) n e = absurd (cc)
+ok_of (Cost m c) n e = absurd (cc)
+ok_of (Read m) n e = absurd (cc)
+ok_of (Planned p) n e = absurd (cc)
+ok_of (Old m) n e = absurd (cc)
+ok_of NoPlan n e = absurd (cc)
+ok_of Plans n e = absurd (cc)
+ok_of (Range v) n e = absurd (cc)
 
 -- ---- lists with one element more
 

@@ -4,7 +4,7 @@ use Rattle.dm_text.specs.Places.{Place, IsLineAt, IsCutAt}
 use Rattle.dm_text.specs.Judging.{Line, SpellsValue}
 use Rattle.dm_cert.specs.PlansRead.{cut_line, misshapen_line}
 use Rattle.dm_cert.proofs.Options.{none_some}
-use Rattle.dm_cert.proofs.DecisionsRead.{Reads}
+use Rattle.dm_cert.specs.Inside.PlanLines.{Reads}
 
 pub told_cut : {V : Type 0} (spells : V → List ℕ → Type 0) (place : Place) (n : ℕ) → n ≡ place.line → IsCutAt place → Line cut_line misshapen_line spells place (Err (cut_line n))
 told_cut spells place n at cut = inl (cut, ap cut_line at)

@@ -14,9 +14,9 @@ use Rattle.dm_tree.specs.declared.forms.Node.TheVariants.{Inner, Cycle, Bound, O
 use Rattle.dm_feed.specs.Parts.{largest_id}
 use Rattle.dm_cert.specs.PlanTexts.{line_end, largest_cost, node_text, FitsNode}
 use Rattle.dm_cert.specs.PlansRead.{IsNodeLine, IsSpelledNode, IsSpelledLeaf}
-use Rattle.dm_cert.specs.Inside.PlanLines.{number_behind, cycle_in, bound_in, open_in, leaf_in, change_in, pair_in, ordered_pair, end_in, node_in_front, node_in, or_else, act, event}
+use Rattle.dm_cert.specs.Inside.PlanLines.{number_behind, cycle_in, bound_in, open_in, leaf_in, leaf_behind, change_in, pair_in, ordered_pair, end_in, node_in_front, node_in, or_else, act, event, Reads}
 use Rattle.dm_cert.proofs.Options.{and_then_some, map_some, or_some, whole_some, none_some, Came}
-use Rattle.dm_cert.proofs.DecisionsRead.{number_behind_back, number_behind_is, Reads}
+use Rattle.dm_cert.proofs.DecisionsRead.{number_behind_back, number_behind_is}
 
 -- the pair stands in order, and nothing behind it
 record IsInOrder (small large : ℕ) (behind_it : List ℕ) (n : Node) : Type 0 where
@@ -80,49 +80,26 @@ leaf_is cycle bound opened line n rest e =
           ]
     ]
 
--- ---- the leaves of version 2
+-- no words stand where others should
+leaf_behind_back : (cycle bound opened : List ℕ) → ((rest : List ℕ) → cycle_in cycle (bound ++ rest) ≡ None) → ((rest : List ℕ) → cycle_in cycle (opened ++ rest) ≡ None) → ((rest : List ℕ) → bound_in bound (opened ++ rest) ≡ None)
+    → (n : Node) (rest : List ℕ) → IsSpelledLeaf n → FitsNode n → EndsNumber rest → leaf_behind cycle bound opened (leaf_words cycle bound opened n rest) ≡ Some (n, rest)
+leaf_behind_back cycle bound opened no_cycle_bound no_cycle_open no_bound_open (Inner c) rest is fits ends = absurd is
+leaf_behind_back cycle bound opened no_cycle_bound no_cycle_open no_bound_open Cycle rest is fits ends = rw (cycle_back cycle rest) refl
+leaf_behind_back cycle bound opened no_cycle_bound no_cycle_open no_bound_open (Bound c) rest is fits ends =
+    rw (no_cycle_bound (decimal c ++ rest), bound_back bound c rest fits ends) refl
+leaf_behind_back cycle bound opened no_cycle_bound no_cycle_open no_bound_open (Open c) rest is fits ends =
+    rw (no_cycle_open (decimal c ++ rest), no_bound_open (decimal c ++ rest)) (open_back opened c rest fits ends)
+leaf_behind_back cycle bound opened no_cycle_bound no_cycle_open no_bound_open Hole rest is fits ends = absurd is
 
-no_cycle_in_bound : (rest : List ℕ) → cycle_in (codes "cycle") (codes "bound " ++ rest) ≡ None
+-- the leaves of version 2
+pub end_back : (n : Node) (rest : List ℕ) → IsSpelledLeaf n → FitsNode n → EndsNumber rest → end_in (leaf_words (codes "cycle") (codes "bound ") (codes "open ") n rest) ≡ Some (n, rest)
 unfolding behind
-no_cycle_in_bound rest = refl
+end_back n rest = leaf_behind_back (codes "cycle") (codes "bound ") (codes "open ") (λ more. refl) (λ more. refl) (λ more. refl) n rest
 
-no_cycle_in_open : (rest : List ℕ) → cycle_in (codes "cycle") (codes "open " ++ rest) ≡ None
+-- the leaves of version 1, without their paths
+pub leaf_back : (n : Node) (rest : List ℕ) → IsSpelledLeaf n → FitsNode n → EndsNumber rest → leaf_in (leaf_words (codes "leaf cycle") (codes "leaf bound ") (codes "leaf open ") n rest) ≡ Some (n, rest)
 unfolding behind
-no_cycle_in_open rest = refl
-
-no_bound_in_open : (rest : List ℕ) → bound_in (codes "bound ") (codes "open " ++ rest) ≡ None
-unfolding behind
-no_bound_in_open rest = refl
-
-pub end_back : (n : Node) (rest : List ℕ) → IsSpelledLeaf n → FitsNode n → EndsNumber rest →
-    end_in (leaf_words (codes "cycle") (codes "bound ") (codes "open ") n rest) ≡ Some (n, rest)
-end_back (Inner c) rest is fits ends = absurd is
-end_back Cycle rest is fits ends = rw (cycle_back (codes "cycle") rest) refl
-end_back (Bound c) rest is fits ends = rw (no_cycle_in_bound (decimal c ++ rest), bound_back (codes "bound ") c rest fits ends) refl
-end_back (Open c) rest is fits ends = rw (no_cycle_in_open (decimal c ++ rest), no_bound_in_open (decimal c ++ rest)) (open_back (codes "open ") c rest fits ends)
-end_back Hole rest is fits ends = absurd is
-
--- ---- the leaves of version 1, without their paths
-
-no_cycle_in_leaf_bound : (rest : List ℕ) → cycle_in (codes "leaf cycle") (codes "leaf bound " ++ rest) ≡ None
-unfolding behind
-no_cycle_in_leaf_bound rest = refl
-
-no_cycle_in_leaf_open : (rest : List ℕ) → cycle_in (codes "leaf cycle") (codes "leaf open " ++ rest) ≡ None
-unfolding behind
-no_cycle_in_leaf_open rest = refl
-
-no_bound_in_leaf_open : (rest : List ℕ) → bound_in (codes "leaf bound ") (codes "leaf open " ++ rest) ≡ None
-unfolding behind
-no_bound_in_leaf_open rest = refl
-
-pub leaf_back : (n : Node) (rest : List ℕ) → IsSpelledLeaf n → FitsNode n → EndsNumber rest →
-    leaf_in (leaf_words (codes "leaf cycle") (codes "leaf bound ") (codes "leaf open ") n rest) ≡ Some (n, rest)
-leaf_back (Inner c) rest is fits ends = absurd is
-leaf_back Cycle rest is fits ends = rw (cycle_back (codes "leaf cycle") rest) refl
-leaf_back (Bound c) rest is fits ends = rw (no_cycle_in_leaf_bound (decimal c ++ rest), bound_back (codes "leaf bound ") c rest fits ends) refl
-leaf_back (Open c) rest is fits ends = rw (no_cycle_in_leaf_open (decimal c ++ rest), no_bound_in_leaf_open (decimal c ++ rest)) (open_back (codes "leaf open ") c rest fits ends)
-leaf_back Hole rest is fits ends = absurd is
+leaf_back n rest = leaf_behind_back (codes "leaf cycle") (codes "leaf bound ") (codes "leaf open ") (λ more. refl) (λ more. refl) (λ more. refl) n rest
 
 -- ---- nodes of version 2
 

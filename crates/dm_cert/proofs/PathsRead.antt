@@ -3,6 +3,7 @@ use Rattle.std.proofs.Common.{◌≡◌, ℕ, List, [], ◌∷◌, ◌++◌, len
 use Rattle.std.specs.List.{flat_map}
 use Rattle.std.specs.Fmt.{decimal}
 use Rattle.std.proofs.lemmas.Bool.{eqb-true}
+use Rattle.std.proofs.lemmas.Grind.{flat_map-append}
 use Rattle.std.proofs.lemmas.List.{append_cancel_right}
 use Rattle.std.proofs.lemmas.List.Elements.{All-nil, All-append, All-head, All-tail, All-cons}
 use Rattle.dm_text.specs.Inside.Parts.{behind}
@@ -43,13 +44,11 @@ pub no_decision_in_nothing : decision_in [] ≡ None
 unfolding behind
 no_decision_in_nothing = refl
 
-flat_push : (held : List Decision) (d : Decision) (rest : List ℕ) →
-    flat_map spelling_of_decision (held ++ d ∷ []) ++ rest ≡ flat_map spelling_of_decision held ++ (spelling_of_decision d ++ rest)
-flat_push [] d rest = ap (λ xs. xs ++ rest) (append-nil (spelling_of_decision d))
-flat_push (h ∷ held) d rest =
-    append_assoc (spelling_of_decision h) (flat_map spelling_of_decision (held ++ d ∷ [])) rest
-    ∙ (ap (λ xs. spelling_of_decision h ++ xs) (flat_push held d rest)
-    ∙ sym (append_assoc (spelling_of_decision h) (flat_map spelling_of_decision held) (spelling_of_decision d ++ rest)))
+-- the texts of what is held and of one more, and what stands behind them
+pub flat_push : {X : Type 0} (text : X → List ℕ) (held : List X) (x : X) (rest : List ℕ) → flat_map text (held ++ x ∷ []) ++ rest ≡ flat_map text held ++ (text x ++ rest)
+flat_push text held x rest =
+    ap (λ l. l ++ rest) (flat_map-append text held (x ∷ []) ∙ ap (λ l. flat_map text held ++ l) (append-nil (text x)))
+    ∙ append_assoc (flat_map text held) (text x) rest
 
 one_behind : (held : List Decision) (d : Decision) (rest next : List ℕ) (path tail : List Decision) → Some (d, next) ≡ decision_in rest → path ≡ held ++ tail → IsPath tail rest →
     GoesOnBehind (held ++ d ∷ []) path next
@@ -73,7 +72,7 @@ pub read_one : (bytes rest next : List ℕ) (held new : List Decision) (d : Deci
 read_one bytes rest next held new d e new_is far =
     let has = decision_is rest d next (sym e) in
     rw new_is (record {
-      front = far.front ∙ (ap (λ xs. flat_map spelling_of_decision held ++ xs) has.line_is ∙ sym (flat_push held d next));
+      front = far.front ∙ (ap (λ xs. flat_map spelling_of_decision held ++ xs) has.line_is ∙ sym (flat_push spelling_of_decision held d next));
       fits = All-append FitsDecision held (d ∷ []) far.fits (All-cons FitsDecision d [] has.fits (All-nil FitsDecision));
       alone = λ path is. let went = far.alone path is in one_behind held d rest next path went.tail e went.is went.stands;
     })

@@ -30,12 +30,12 @@ use Rattle.dm_cert.specs.PlanTexts.{line_end, choice_text, leaf_text, node_text,
 use Rattle.dm_cert.specs.PlansRead.{IsHeadingLine, IsChoiceLine, IsLeafLine, IsNodeLine, IsSpelledLeaf, IsSpelledNode, heading_text, cut_line, misshapen_line, want_of_memory, no_tree, plan_of, TellsHeading, TellsChoices, TellsLeaves, TellsNodes, TellsTree, TellsPlan, ShowsLeaves, ShowsNodes, BeginsWithPlan, ReadsPlan}
 use Rattle.dm_cert.specs.PlanLaws.{IsHeld, PlansHaveOwnTexts}
 use Rattle.dm_cert.specs.Inside.Growing.{FillsDue, IsFirstLeaf}
-use Rattle.dm_cert.proofs.DecisionsRead.{Reads, reads_choice, choice_spelled, decision_back}
+use Rattle.dm_cert.proofs.DecisionsRead.{reads_choice, choice_spelled, decision_back}
 use Rattle.dm_cert.proofs.HeadingsRead.{reads_heading, heading_spelled, front_text}
 use Rattle.dm_cert.proofs.NodesRead.{reads_node, node_spelled, node_words, leaf_back}
 use Rattle.dm_cert.proofs.PathsRead.{leaf_spelled, words, path_ends, no_decision_in_nothing}
 use Rattle.dm_cert.proofs.Options.{none_some, some_pair}
-use Rattle.dm_cert.specs.Inside.PlanLines.{decision_in, choice_in, heading_in, node_in, leaf_in}
+use Rattle.dm_cert.specs.Inside.PlanLines.{decision_in, choice_in, heading_in, node_in, leaf_in, Reads}
 use Rattle.dm_cert.proofs.Grown.{first_lies, asks, AsksChoice, AsksLeaf, longer, same_first}
 use Rattle.dm_cert.proofs.LeavesFill.{fills_from, leaf_same}
 use Rattle.dm_cert.proofs.ToldTexts.{heading_same}
@@ -53,7 +53,8 @@ pub record HasLine {V : Type 0} (spells : V → List ℕ → Type 0) (text : V �
 abbrev next_place : Place → List ℕ → Place
 next_place place rest = record { left = rest; line = place.line + 1 }
 
-line_stands : {V : Type 0} (spells : V → List ℕ → Type 0) (text : V → List ℕ) (v : V) (place : Place) (rest : List ℕ) → HasLine spells text v →
+-- where the text of a value stands, the line tells the value
+pub line_stands : {V : Type 0} (spells : V → List ℕ → Type 0) (text : V → List ℕ) (v : V) (place : Place) (rest : List ℕ) → HasLine spells text v →
     place.left ≡ text v ++ rest → SpellsValue spells place v (next_place place rest)
 line_stands spells text v place rest has left = record {
   bytes = has.line;

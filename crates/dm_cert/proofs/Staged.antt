@@ -91,27 +91,21 @@ tree_whole size old new held path stage (Err fault) g whole (inr is) =
     let grown = subst (λ s. Grows g.leaves held path s) whole g.grows in
     absurd (is.1 (shows_from held g.leaves (fills_at_end g.leaves held grown)).is_tree)
 
+no_tree_told : (size : ℕ) (old new : Place) (held : List Node) (path : List Decision) (stage : Stage) (g : IsGrownFrom size old new held path stage) → ((nodes : List Node) → ShowsLeaves g.leaves nodes → ⊥) →
+    TellsTree 1 size old (Err no_tree)
+no_tree_told size old new held path stage g none = inr (record { value = g.leaves; behind = new; told = g.told; then = (none, refl) })
+
 pub tree_due : (size : ℕ) (old new : Place) (held : List Node) (path : List Decision) (stage : Stage) → IsGrownFrom size old new held path stage → stage ≡ Due →
     TellsTree 1 size old (Err no_tree)
 tree_due size old new held path stage g due =
     let grown = subst (λ s. Grows g.leaves held path s) due g.grows in
-    inr (record {
-      value = g.leaves;
-      behind = new;
-      told = g.told;
-      then = (λ nodes shows. none_while_due g.leaves held path (pending path) grown nodes (fills_from nodes g.leaves shows), refl);
-    })
+    no_tree_told size old new held path stage g (λ nodes shows. none_while_due g.leaves held path (pending path) grown nodes (fills_from nodes g.leaves shows))
 
 pub tree_broken : (size : ℕ) (old new : Place) (held : List Node) (path : List Decision) (stage : Stage) → IsGrownFrom size old new held path stage → stage ≡ Broken →
     TellsTree 1 size old (Err no_tree)
 tree_broken size old new held path stage g broken =
     let none = subst (λ s. Grows g.leaves held path s) broken g.grows in
-    inr (record {
-      value = g.leaves;
-      behind = new;
-      told = g.told;
-      then = (λ nodes shows. none_if_broken g.leaves none nodes (fills_from nodes g.leaves shows), refl);
-    })
+    no_tree_told size old new held path stage g (λ nodes shows. none_if_broken g.leaves none nodes (fills_from nodes g.leaves shows))
 
 pub tree_shown : (size : ℕ) (old new : Place) (read : List Node) (result : Result (List Node) CertFault) →
     TellsNodes size old (Ok (read, new)) → IsTreeOf read result → Answers (TellsTree 2 size) (λ t. t) old new result

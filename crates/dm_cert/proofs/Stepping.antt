@@ -31,13 +31,13 @@ use Rattle.dm_cert.specs.declared.replies.Reply.TheVariants.{Ok, Refused, Time, 
 use Rattle.dm_cert.specs.declared.replies.LogItem.{LogItem}
 use Rattle.dm_cert.specs.declared.replies.LogItem.TheVariants.{Malformed, Answered}
 use Rattle.dm_cert.specs.Answers.{Setting, rows_after, IsEntry, plan_after, plan_after_reply, latest_plan, IsAdopted, IsTrueReply, IsTrueAnswer}
-use Rattle.dm_cert.specs.Logs.{Kind, free, told, entered, kind_of_reply, kind_of, line_of, due_of, Follows, names, AreTrueAnswers, IsTrueLog}
+use Rattle.dm_cert.specs.Logs.{Kind, free, told, entered, kind_of, line_of, due_of, Follows, names, AreTrueAnswers, IsTrueLog}
 use Rattle.dm_cert.specs.CoreRun.{LinesRise, AnswerFirst, IsPresent, IsToEnter, IsItemToEnter, EntersNext, AnswersNow, CoreState, CoreStep, CoreRun, nothing_yet, IsReached}
 use Rattle.dm_tree.proofs.Admitted.{true_plans_are_admitted}
 use Rattle.dm_cert.proofs.Numbers.{last_number, one_name, count_push, names_itself, names_no_other, unnamed_above}
 use Rattle.dm_cert.proofs.TrueLogs.{answers_grow, numbers_within, log_grows, log_push}
 use Rattle.dm_cert.proofs.ListsOfLogs.{get_set_same, get_set_other, sum_set, HasPart, has_part, total_names, empty_at}
-use Rattle.dm_cert.proofs.Holding.{Holds, get_at, first_push, next_rises, legal_push}
+use Rattle.dm_cert.proofs.Holding.{Holds, get_at, first_push, next_rises, legal_push, ok_of}
 
 -- ---- that nothing refuses a message says that there is room
 
@@ -224,23 +224,11 @@ module _ (s : Setting) (h : List Entry) (feed : ℕ) (before : List LogItem) (li
   entered_said (AskPlan budget) m t = absurd t
   entered_said AskRead m t = absurd t
 
-reply_is_ok : (reply : Reply) (n : ℕ) → kind_of_reply reply ≡ entered n → Ok n ≡ reply
-reply_is_ok (Ok m) n e = cc
-reply_is_ok (Refused at) n e = absurd (cc)
-reply_is_ok (Time m x) n e = absurd (cc)
-reply_is_ok (Cost m c) n e = absurd (cc)
-reply_is_ok (Read m) n e = absurd (cc)
-reply_is_ok (Planned p) n e = absurd (cc)
-reply_is_ok (Old m) n e = absurd (cc)
-reply_is_ok NoPlan n e = absurd (cc)
-reply_is_ok Plans n e = absurd (cc)
-reply_is_ok (Range v) n e = absurd (cc)
-
 pub entered_answer : (s : Setting) (h : List Entry) (feed : ℕ) (before : List LogItem) (x : LogItem) (n : ℕ) (m : Message) → n ≡ length h + 1 → kind_of x ≡ entered n → IsItemToEnter s h before x m
     → IsTrueAnswer s (h ++ record { feed = feed; line = line_of x; message = m } ∷ []) feed before x
 entered_answer s h feed before (Malformed line) n m is kind t = absurd t
 entered_answer s h feed before (Answered line said reply) n m is kind t =
-    subst (λ (r : Reply). IsTrueReply s (h ++ record { feed = feed; line = line; message = m } ∷ []) feed before line said r) (reply_is_ok reply n kind)
+    subst (λ (r : Reply). IsTrueReply s (h ++ record { feed = feed; line = line; message = m } ∷ []) feed before line said r) (sym (ok_of reply n kind))
     (entered_said s h feed before line n is said m t)
 
 -- ---- a step

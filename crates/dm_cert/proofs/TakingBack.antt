@@ -17,16 +17,16 @@ use Rattle.dm_feed.specs.declared.grammar.Line.TheVariants.{Say, Time as AskTime
 use Rattle.dm_feed.specs.DueItems.{DueItem}
 use Rattle.dm_tree.specs.declared.plans.Plan.{Plan}
 use Rattle.dm_cert.specs.declared.replies.Reply.{Reply}
-use Rattle.dm_cert.specs.declared.replies.Reply.TheVariants.{Ok, Refused, Time, Cost, Read, Planned, Old, NoPlan, Plans, Range}
+use Rattle.dm_cert.specs.declared.replies.Reply.TheVariants.{Ok}
 use Rattle.dm_cert.specs.declared.replies.LogItem.{LogItem}
 use Rattle.dm_cert.specs.declared.replies.LogItem.TheVariants.{Malformed, Answered}
 use Rattle.dm_cert.specs.Answers.{Setting, rows_after, IsEntry, latest_plan, IsAdopted, IsTrueReply, IsTrueAnswer}
-use Rattle.dm_cert.specs.Logs.{Kind, free, told, entered, kind_of_reply, kind_of, number_after, Follows, names, IsTrueLog}
+use Rattle.dm_cert.specs.Logs.{Kind, free, told, entered, kind_of, number_after, Follows, names, IsTrueLog}
 use Rattle.dm_cert.specs.CoreRun.{AnswerFirst, IsPresent, EntersNext, AnswersNow, CoreState, CoreStep, CoreRun, nothing_yet, IsReached}
 use Rattle.dm_cert.proofs.Numbers.{IsWithin, last_number, last_number_push, order_front, order_last, one_name, count_push, names_itself, names_no_other, named_no_more}
 use Rattle.dm_cert.proofs.TrueLogs.{alike_shorter, answer_within, answers_alike, answers_front, answers_last, numbers_within}
 use Rattle.dm_cert.proofs.ListsOfLogs.{get_set_same, get_set_other, set_back, sum_set, sum_two, HasPart, has_part, total_names, size_of, all_empty, none_named}
-use Rattle.dm_cert.proofs.Holding.{Holds, get_at, first_front, first_next, legal_front, legal_last}
+use Rattle.dm_cert.proofs.Holding.{Holds, get_at, first_front, first_next, legal_front, legal_last, ok_of}
 
 -- ---- last items
 
@@ -210,18 +210,6 @@ module _ (s : Setting) (dues : List (List DueItem)) (logs : List (List LogItem))
       }
 
 -- ---- the last entry is taken back with its item
-
-ok_of : (reply : Reply) (n : ℕ) → kind_of_reply reply ≡ entered n → reply ≡ Ok n
-ok_of (Ok m) n e = cc
-ok_of (Refused at) n e = absurd (cc)
-ok_of (Time m x) n e = absurd (cc)
-ok_of (Cost m c) n e = absurd (cc)
-ok_of (Read m) n e = absurd (cc)
-ok_of (Planned p) n e = absurd (cc)
-ok_of (Old m) n e = absurd (cc)
-ok_of NoPlan n e = absurd (cc)
-ok_of Plans n e = absurd (cc)
-ok_of (Range v) n e = absurd (cc)
 
 module _ (s : Setting) (g : List Entry) (e : Entry) (legal : IsLegal s.net s.start (g ++ e ∷ [])) (feed : ℕ) (before : List LogItem) (line n : ℕ) (is : n ≡ length g + 1) where
   -- entry n is the last

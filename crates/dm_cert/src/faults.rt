@@ -23,3 +23,9 @@ pub struct CertFault {
     pub line: u32,
     pub kind: CertKind,
 }
+
+/// There is not enough memory.
+pub(crate) const WANT_OF_MEMORY: CertFault = CertFault {
+    line: 0,
+    kind: CertKind::OutOfMemory,
+};

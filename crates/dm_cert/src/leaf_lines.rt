@@ -4,6 +4,7 @@ ghost use Rattle.dm_text.specs.Judging.{Line};
 ghost use Rattle.dm_cert.specs.PlansRead.{Answers, IsLeafLine, cut_line, misshapen_line};
 ghost use Rattle.dm_cert.specs.Inside.PlanPaths.{IsPath, IsNoPath};
 
+use crate::faults::WANT_OF_MEMORY;
 use crate::plan_lines::{decision_in, leaf_in};
 use crate::{CertFault, CertKind};
 use dm_base::Items;
@@ -47,10 +48,7 @@ pub(crate) fn leaf_line(alloc: Global, lines: &mut Lines) -> Result<Leaf, CertFa
         });
     };
     let Ok(found) = path_of(alloc, rest) else {
-        return Err(CertFault {
-            line: 0,
-            kind: CertKind::OutOfMemory,
-        });
+        return Err(WANT_OF_MEMORY);
     };
     let Some(path) = found else {
         return Err(CertFault {

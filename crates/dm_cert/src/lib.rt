@@ -29,6 +29,7 @@ mod faults;
 mod growth;
 pub mod laws;
 mod leaf_lines;
+mod listed;
 mod notes;
 mod plan_lines;
 mod plan_reading;

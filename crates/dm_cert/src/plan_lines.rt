@@ -4,7 +4,7 @@ ghost use Rattle.std.specs.Option.{option_map};
 ghost use Rattle.dm_feed.specs.Parts.{largest_id};
 ghost use Rattle.dm_cert.specs.PlanTexts.{largest_cost};
 ghost use Rattle.dm_cert.specs.PlansRead.{size_words};
-ghost use Rattle.dm_cert.specs.Inside.PlanLines.{number_behind, keep_in, drop_in, first_in, decision_in, choice_in, mark_in, counts_in, costs_in, heading_in, leaf_in, change_in, pair_in, node_in, bound_in, open_in, end_in, node_in_front};
+ghost use Rattle.dm_cert.specs.Inside.PlanLines.{number_behind, keep_in, drop_in, first_in, decision_in, choice_in, mark_in, counts_in, costs_in, heading_in, leaf_in, leaf_behind, change_in, pair_in, node_in, bound_in, open_in, end_in, node_in_front};
 
 use dm_base::{ActId, Cost, EventId};
 use dm_rows::{Choice, Decision};
@@ -178,17 +178,29 @@ fn open_in<'l>(line: &'l [u8], text: &str) -> Option<(Node, &'l [u8])>
     Some((Node::Open(cost), rest))
 }
 
+/// A leaf behind the words of its kind, and what stands behind it.
+fn leaf_behind<'l>(
+    line: &'l [u8],
+    cycle: &str,
+    bound: &str,
+    opened: &str,
+) -> Option<(Node, &'l [u8])>
+    ensures { option_map (λ p. (p.0, p.1.now)) result ≡ leaf_behind cycle.now bound.now opened.now line.now }
+{
+    if let Some(rest) = behind(line, cycle) {
+        return Some((Node::Cycle, rest));
+    }
+    if let Some((node, rest)) = bound_in(line, bound) {
+        return Some((node, rest));
+    }
+    open_in(line, opened)
+}
+
 /// A leaf without its path, and what stands behind it.
 pub(crate) fn leaf_in(line: &[u8]) -> Option<(Node, &[u8])>
     ensures { option_map (λ p. (p.0, p.1.now)) result ≡ leaf_in line.now }
 {
-    if let Some(rest) = behind(line, "leaf cycle") {
-        return Some((Node::Cycle, rest));
-    }
-    if let Some((node, rest)) = bound_in(line, "leaf bound ") {
-        return Some((node, rest));
-    }
-    open_in(line, "leaf open ")
+    leaf_behind(line, "leaf cycle", "leaf bound ", "leaf open ")
 }
 
 /// A choice whether to keep a change.
@@ -225,13 +237,7 @@ fn pair_in(line: &[u8]) -> Option<(Node, &[u8])>
 fn end_in(line: &[u8]) -> Option<(Node, &[u8])>
     ensures { option_map (λ p. (p.0, p.1.now)) result ≡ end_in line.now }
 {
-    if let Some(rest) = behind(line, "cycle") {
-        return Some((Node::Cycle, rest));
-    }
-    if let Some((node, rest)) = bound_in(line, "bound ") {
-        return Some((node, rest));
-    }
-    open_in(line, "open ")
+    leaf_behind(line, "cycle", "bound ", "open ")
 }
 
 /// A node in front, and what stands behind it.

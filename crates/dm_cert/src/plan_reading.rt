@@ -2,14 +2,15 @@
 ghost use Rattle.dm_tree.specs.declared.plans.Plan.{Plan as PlanValue};
 ghost use Rattle.std.specs.Prelude.{◌≡◌, ◌⊎◌, ℕ, ◌+◌, ◌<◌, ◌≤◌, length, IfOk};
 ghost use Rattle.dm_base.specs.declared.limits.TheConstants.{TEXT};
-ghost use Rattle.dm_text.specs.Judging.{Line};
 ghost use Rattle.dm_cert.specs.PlanTexts.{IsVersion};
-ghost use Rattle.dm_cert.specs.PlansRead.{Answers, BeginsWithPlan, ReadsPlan, TellsChoices, TellsHeading, TellsNodes, TellsPlan, TellsTree, IsChoiceLine, IsNodeLine, cut_line, misshapen_line, want_of_memory};
+ghost use Rattle.dm_cert.specs.PlansRead.{Answers, BeginsWithPlan, ReadsPlan, TellsChoices, TellsHeading, TellsPlan, TellsTree, want_of_memory};
 ghost use Rattle.dm_cert.specs.Inside.Growing.{AnswersGrown, IsTreeOf};
 
+use crate::faults::WANT_OF_MEMORY;
 use crate::growth::{Growth, Stage};
 use crate::leaf_lines::leaf_line;
-use crate::plan_lines::{Heading, choice_in, heading_in, node_in};
+use crate::listed::read_listed;
+use crate::plan_lines::{Heading, heading_in};
 use crate::{CertFault, CertKind};
 use dm_base::Items;
 use dm_rows::Decision;
@@ -17,37 +18,11 @@ use dm_text::Lines;
 use dm_tree::{AssembleFault, Node, Plan, Tree};
 use std::alloc::Global;
 
-/// There is not enough memory.
-const WANT_OF_MEMORY: CertFault = CertFault {
-    line: 0,
-    kind: CertKind::OutOfMemory,
-};
-
 /// The lines show no tree.
 const NO_TREE: CertFault = CertFault {
     line: 1,
     kind: CertKind::NotATree,
 };
-
-/// The next line, which should be a choice of a plan.
-fn choice_line(lines: &mut Lines) -> Result<Decision, CertFault>
-    ensures { Answers (Line cut_line misshapen_line IsChoiceLine) (λ d. d) lines.old lines.new result }
-{
-    let number = lines.line();
-    let Some(line) = lines.next_line() else {
-        return Err(CertFault {
-            line: number,
-            kind: CertKind::Truncated,
-        });
-    };
-    let Some(decision) = choice_in(line) else {
-        return Err(CertFault {
-            line: number,
-            kind: CertKind::Form,
-        });
-    };
-    Ok(decision)
-}
 
 /// The next line, which should be the first of a plan.
 fn heading_line(version: u32, lines: &mut Lines) -> Result<Heading, CertFault>
@@ -69,26 +44,6 @@ fn heading_line(version: u32, lines: &mut Lines) -> Result<Heading, CertFault>
     Ok(heading)
 }
 
-/// The next line, which should be a node of a tree.
-fn node_line(lines: &mut Lines) -> Result<Node, CertFault>
-    ensures { Answers (Line cut_line misshapen_line IsNodeLine) (λ n. n) lines.old lines.new result }
-{
-    let number = lines.line();
-    let Some(line) = lines.next_line() else {
-        return Err(CertFault {
-            line: number,
-            kind: CertKind::Truncated,
-        });
-    };
-    let Some(node) = node_in(line) else {
-        return Err(CertFault {
-            line: number,
-            kind: CertKind::Form,
-        });
-    };
-    Ok(node)
-}
-
 /// As many choices of a plan as are counted. The list grows as lines are found, so that a number says nothing of memory.
 pub fn read_choices(
     alloc: Global,
@@ -97,34 +52,7 @@ pub fn read_choices(
 ) -> Result<Vec<Decision>, CertFault>
     ensures { Answers (TellsChoices count) (λ v. v.items) lines.old lines.new result }
 {
-    let mut choices = Vec::new(alloc);
-    while (choices.len() as u128) < count {
-        let decision = match choice_line(lines) {
-            Ok(decision) => decision,
-            Err(fault) => return Err(fault),
-        };
-        let Ok(()) = choices.push(decision) else {
-            return Err(WANT_OF_MEMORY);
-        };
-    }
-    Ok(choices)
-}
-
-/// As many nodes as the first line says.
-fn nodes(alloc: Global, lines: &mut Lines, count: u128) -> Result<Vec<Node>, CertFault>
-    ensures { Answers (TellsNodes count) (λ v. v.items) lines.old lines.new result }
-{
-    let mut nodes = Vec::new(alloc);
-    while (nodes.len() as u128) < count {
-        let node = match node_line(lines) {
-            Ok(node) => node,
-            Err(fault) => return Err(fault),
-        };
-        let Ok(()) = nodes.push(node) else {
-            return Err(WANT_OF_MEMORY);
-        };
-    }
-    Ok(nodes)
+    read_listed(alloc, lines, count)
 }
 
 /// The tree that grows from as many leaves as the first line says.
@@ -179,7 +107,7 @@ fn tree_from_leaves(alloc: Global, lines: &mut Lines, size: u128) -> Result<Tree
 fn tree_from_nodes(alloc: Global, lines: &mut Lines, size: u128) -> Result<Tree, CertFault>
     ensures { Answers (TellsTree 2 size) (λ t. t) lines.old lines.new result }
 {
-    match nodes(alloc, lines, size) {
+    match read_listed::<Node>(alloc, lines, size) {
         Ok(nodes) => tree_of(alloc, nodes),
         Err(fault) => Err(fault),
     }

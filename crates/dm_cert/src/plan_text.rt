@@ -5,6 +5,8 @@ ghost use Rattle.std.specs.List.{flat_map};
 ghost use Rattle.dm_outside.specs.Printing.{Prints, Puts, joined};
 ghost use Rattle.dm_cert.specs.PlanTexts.{choice_text, node_text, plan_heading, spelling_of_plan, largest_cost, FitsDecision, FitsNode, FitsPlan};
 
+use crate::listed::{Listed, put_listed};
+use crate::plan_lines::{choice_in, node_in};
 use dm_outside::{Page, Piece, Sink, WriteFault};
 use dm_rows::{Choice, Decision};
 use dm_tree::{Mark, Node, Plan};
@@ -35,39 +37,57 @@ fn put_heading<K: Sink>(sink: &mut K, page: &mut Page, plan: &Plan) -> Result<()
     page.put(sink, &pieces)
 }
 
-// Prints a choice of a plan.
-#[tactic(auto, unfolding(crate::specs::PlanTexts::choice_text))]
-fn put_choice<K: Sink>(sink: &mut K, page: &mut Page, decision: Decision) -> Result<(), WriteFault>
-    ensures text { Prints K.taken K.faults sink.old sink.new page.old page.new result (choice_text decision) }
-    ensures fits { FitsDecision decision }
-{
-    match decision {
-        Decision::Keep(act) => put_number(sink, page, "choice keep ", act.0 as u128),
-        Decision::Drop(act) => put_number(sink, page, "choice drop ", act.0 as u128),
-        Decision::First(first, second) => {
-            put_numbers(
+impl Listed for Decision {
+    ghost use Rattle.dm_cert.specs.PlansRead.{IsChoiceLine};
+
+    ghost text = { choice_text };
+
+    ghost is_within = { FitsDecision };
+
+    ghost is_line = { IsChoiceLine };
+
+    #[tactic(auto, unfolding(crate::specs::PlanTexts::choice_text))]
+    fn put<K: Sink>(self, sink: &mut K, page: &mut Page) -> Result<(), WriteFault> {
+        match self {
+            Decision::Keep(act) => put_number(sink, page, "choice keep ", act.0 as u128),
+            Decision::Drop(act) => put_number(sink, page, "choice drop ", act.0 as u128),
+            Decision::First(first, second) => put_numbers(
                 sink,
                 page,
                 "choice first ",
                 first.0 as u128,
                 second.0 as u128,
-            )
+            ),
         }
+    }
+
+    fn read(line: &[u8]) -> Option<Decision> {
+        choice_in(line)
     }
 }
 
-// Prints a node.
-#[tactic(auto, unfolding(crate::specs::PlanTexts::node_text))]
-fn put_node<K: Sink>(sink: &mut K, page: &mut Page, node: Node) -> Result<(), WriteFault>
-    ensures text { Prints K.taken K.faults sink.old sink.new page.old page.new result (node_text node) }
-    ensures fits { FitsNode node }
-{
-    match node {
-        Node::Inner(choice) => put_inner(sink, page, choice),
-        Node::Cycle => page.put_bytes(sink, b"cycle\n"),
-        Node::Bound(cost) => put_number(sink, page, "bound ", cost),
-        Node::Open(cost) => put_number(sink, page, "open ", cost),
-        Node::Hole => Ok(()),
+impl Listed for Node {
+    ghost use Rattle.dm_cert.specs.PlansRead.{IsNodeLine};
+
+    ghost text = { node_text };
+
+    ghost is_within = { FitsNode };
+
+    ghost is_line = { IsNodeLine };
+
+    #[tactic(auto, unfolding(crate::specs::PlanTexts::node_text))]
+    fn put<K: Sink>(self, sink: &mut K, page: &mut Page) -> Result<(), WriteFault> {
+        match self {
+            Node::Inner(choice) => put_inner(sink, page, choice),
+            Node::Cycle => page.put_bytes(sink, b"cycle\n"),
+            Node::Bound(cost) => put_number(sink, page, "bound ", cost),
+            Node::Open(cost) => put_number(sink, page, "open ", cost),
+            Node::Hole => Ok(()),
+        }
+    }
+
+    fn read(line: &[u8]) -> Option<Node> {
+        node_in(line)
     }
 }
 
@@ -131,25 +151,7 @@ pub fn put_choices<K: Sink>(
     ensures text { Prints K.taken K.faults sink.old sink.new page.old page.new result (flat_map choice_text choices.now) }
     ensures fits { OnOk result (All FitsDecision choices.now) }
 {
-    for choice in choices {
-        let Ok(()) = put_choice(sink, page, *choice) else {
-            return Err(WriteFault);
-        };
-    }
-    Ok(())
-}
-
-// Prints the nodes of a plan's tree.
-fn put_nodes<K: Sink>(sink: &mut K, page: &mut Page, nodes: &[Node]) -> Result<(), WriteFault>
-    ensures text { Prints K.taken K.faults sink.old sink.new page.old page.new result (flat_map node_text nodes.now) }
-    ensures fits { OnOk result (All FitsNode nodes.now) }
-{
-    for node in nodes {
-        let Ok(()) = put_node(sink, page, *node) else {
-            return Err(WriteFault);
-        };
-    }
-    Ok(())
+    put_listed(sink, page, choices)
 }
 
 /// Prints the one spelling of the plan in version 2, behind all that was printed through the page before. A write fault comes only
@@ -164,7 +166,7 @@ pub fn put_plan<K: Sink>(sink: &mut K, page: &mut Page, plan: &Plan) -> Result<(
     let Ok(()) = put_choices(sink, page, plan.choices.as_slice()) else {
         return Err(WriteFault);
     };
-    put_nodes(sink, page, plan.tree.as_slice())
+    put_listed(sink, page, plan.tree.as_slice())
 }
 
 /// Prints the one spelling of the plan in version 2: from the word `plan` to the line end of the last node. It takes no

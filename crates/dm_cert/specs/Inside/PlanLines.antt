@@ -1,5 +1,5 @@
 -- How the lines of a plan's text are read from their front: a function for each function of the code.
-use Rattle.std.specs.Prelude.{ℕ, if◌then◌else◌, nat_lt, List, [], ◌∷◌, codes, Option, Some, None, option_and_then}
+use Rattle.std.specs.Prelude.{◌≡◌, ℕ, if◌then◌else◌, nat_lt, List, [], ◌∷◌, codes, Option, Some, None, option_and_then}
 use Rattle.std.specs.Option.{option_map}
 use Rattle.dm_base.specs.declared.ids.EventId.{EventId}
 use Rattle.dm_base.specs.declared.ids.ActId.{ActId}
@@ -92,10 +92,13 @@ open_in text line = option_map (λ p. (Open p.0, p.1)) (number_behind largest_co
 abbrev pub cycle_in : List ℕ → List ℕ → Option (Node × List ℕ)
 cycle_in text line = option_map (λ rest. (Cycle, rest)) (behind text line)
 
+-- a leaf behind the words of its kind
+abbrev pub leaf_behind : List ℕ → List ℕ → List ℕ → List ℕ → Option (Node × List ℕ)
+leaf_behind cycle bound opened line = or_else (cycle_in cycle line) (or_else (bound_in bound line) (open_in opened line))
+
 -- a leaf without its path
 abbrev pub leaf_in : List ℕ → Option (Node × List ℕ)
-leaf_in line =
-    or_else (cycle_in (codes "leaf cycle") line) (or_else (bound_in (codes "leaf bound ") line) (open_in (codes "leaf open ") line))
+leaf_in line = leaf_behind (codes "leaf cycle") (codes "leaf bound ") (codes "leaf open ") line
 
 abbrev pub change_in : List ℕ → Option (Node × List ℕ)
 change_in line = option_map (λ p. (Inner (Change (act p.0)), p.1)) (number_behind largest_id (codes "inner change ") line)
@@ -110,10 +113,15 @@ pair_in line =
     (number_behind largest_id (codes "inner pair ") line)
 
 abbrev pub end_in : List ℕ → Option (Node × List ℕ)
-end_in line = or_else (cycle_in (codes "cycle") line) (or_else (bound_in (codes "bound ") line) (open_in (codes "open ") line))
+end_in line = leaf_behind (codes "cycle") (codes "bound ") (codes "open ") line
 
 abbrev pub node_in_front : List ℕ → Option (Node × List ℕ)
 node_in_front line = or_else (change_in line) (or_else (pair_in line) (end_in line))
 
 abbrev pub node_in : List ℕ → Option Node
 node_in line = whole (node_in_front line)
+
+-- what is read is a value exactly where the line spells it
+pub record Reads {V : Type 0} (spells : V → List ℕ → Type 0) (line : List ℕ) (read : Option V) : Type 0 where
+  pub is : (v : V) → read ≡ Some v → spells v line
+  pub back : (v : V) → spells v line → read ≡ Some v

@@ -18,12 +18,12 @@ pub returns-clause-text : goal.returns-clause-text
 unfolding spelling_of_plan
 returns-clause-text g c =
     let choices = rw c.as_slice.ensures at c.in-Ok-put_choices.ensures.text in
-    let nodes = rw c.as_slice-2.ensures.nodes at c.put_nodes.ensures.text in
-    prints_last c.put_nodes.new.sink c.put_nodes.new.page (flat_map choice_text c.args.plan.now.choices ++ flat_map node_text c.args.plan.now.tree) c.put_nodes.result c.in-Ok.ensures.text
-    (prints_last c.put_nodes.new.sink c.put_nodes.new.page (flat_map node_text c.args.plan.now.tree) c.put_nodes.result choices nodes)
+    let nodes = rw c.as_slice-2.ensures.nodes at c.put_listed.ensures.text in
+    prints_last c.put_listed.new.sink c.put_listed.new.page (flat_map choice_text c.args.plan.now.choices ++ flat_map node_text c.args.plan.now.tree) c.put_listed.result c.in-Ok.ensures.text
+    (prints_last c.put_listed.new.sink c.put_listed.new.page (flat_map node_text c.args.plan.now.tree) c.put_listed.result choices nodes)
 
 pub returns-clause-fits : goal.returns-clause-fits
 returns-clause-fits g c =
     let choices = rw c.as_slice.ensures at c.in-Ok-put_choices.ensures.fits in
-    let nodes = rw c.as_slice-2.ensures.nodes at c.put_nodes.ensures.fits in
-    plan_fits c.put_nodes.result c.args.plan.now c.in-Ok.ensures.cost c.in-Ok.ensures.bound choices c.as_slice-2.ensures.whole nodes
+    let nodes = rw c.as_slice-2.ensures.nodes at c.put_listed.ensures.fits in
+    plan_fits c.put_listed.result c.args.plan.now c.in-Ok.ensures.cost c.in-Ok.ensures.bound choices c.as_slice-2.ensures.whole nodes
