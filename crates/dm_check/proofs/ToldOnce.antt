@@ -23,7 +23,7 @@ use Rattle.dm_cert.specs.RunTexts.{Run}
 use Rattle.dm_cert.specs.Inside.PlanLines.{choice_in, node_in}
 use Rattle.dm_cert.proofs.DecisionsRead.{reads_choice}
 use Rattle.dm_cert.proofs.NodesRead.{reads_node}
-use Rattle.dm_cert.proofs.DecisionsRead.{Reads as ReadsExactly}
+use Rattle.dm_cert.specs.Inside.PlanLines.{Reads as ReadsExactly}
 use Rattle.dm_cert.proofs.SpelledPlans.{leaf_one, leaves_show_one}
 use Rattle.dm_records.specs.RunLines.{PlanOpening, ItemLine, lone, planned, IsNumberLine, IsVersionLine, IsEntryLine, IsOpeningLine, IsItemLine, IsStopLine, IsNoteLine, IsTimeLine, IsWordLine}
 use Rattle.dm_records.proofs.LinesOnce.{lines_spell_one}
