@@ -14,7 +14,7 @@ use Rattle.dm_tree.specs.Trees.{Shape, choice_in, IsLeaf, IsProper, StandsAt, Ha
 use Rattle.dm_rows.specs.Sides.{IsOrdered, is_ordered}
 use Rattle.dm_tree.specs.Inside.Assembling.{Improves, AreMatched, IsRematched, LiesBelow, AsksFor, MayStand, IsAskedOf, Agree, IsAsked, LiesNone, SeenSoFar, IsDue}
 use Rattle.dm_tree.specs.Pending.{IsFront, KeepsFront}
-use Rattle.dm_tree.proofs.Filled.{ordered_from, from_ordered}
+use Rattle.dm_rows.proofs.Sides.{ordered, ordered_tells}
 use Rattle.dm_tree.proofs.Standing.{one_stands, stands_above}
 use Rattle.dm_tree.proofs.Matching.{full_is_front, front_is_full}
 
@@ -37,7 +37,7 @@ goes_below path l d f lt is = from_rest f.rest f.is
 
 pub asks_below : (path : List Decision) (l : Leaf) (d : Decision) → IsFront path l.path → length path < length l.path →
     d ≡ get_or l.path (length path) d → is_ordered (choice_of d) ≡ true → IsAskedOf path l (Some (Inner (choice_of d)))
-asks_below path l d f lt is o = (goes_below path l d f lt is, ordered_from (choice_of d) o)
+asks_below path l d f lt is o = (goes_below path l d f lt is, ordered (choice_of d) o)
 
 -- a pair that is not written in order stands in no tree
 pub asks_badly : (path : List Decision) (l : Leaf) (d : Decision) → IsFront path l.path → length path < length l.path →
@@ -46,7 +46,7 @@ asks_badly path l d f lt is o shape proper leaf stands =
     let b = goes_below path l d f lt is in
     let s : StandsAt shape (path ++ b.decision ∷ b.rest) l.node = subst (λ p. StandsAt shape p l.node) b.is stands in
     let good : is_ordered (choice_of d) ≡ true =
-    from_ordered (choice_of d) (subst IsOrdered b.decides (stands_above shape path b.rest b.decision l.node proper s).1) in
+    ordered_tells (choice_of d) (subst IsOrdered b.decides (stands_above shape path b.rest b.decision l.node proper s).1) in
     cc
 
 ends_there : (path : List Decision) (l : Leaf) → IsFront path l.path → length l.path ≤ length path → l.path ≡ path

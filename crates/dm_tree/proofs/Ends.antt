@@ -10,7 +10,8 @@ use Rattle.dm_tree.specs.declared.forms.Node.TheVariants.{Inner, Cycle, Bound, O
 use Rattle.dm_tree.specs.Trees.{Shape, leaf, branch, preorder, IsLeaf, IsNoHole, IsTreeBetween, IsProper, IsSecondChild, HasNoChoiceAt, LiesNotBelow, IsChildTowards}
 use Rattle.dm_rows.specs.Sides.{IsOrdered, is_ordered}
 use Rattle.dm_tree.specs.Inside.Filling.{is_none_left, fills, AreEndsFrom, IsSideOf}
-use Rattle.dm_tree.proofs.Filled.{both, ordered_from, some_more, one_back, filled}
+use Rattle.dm_tree.proofs.Filled.{both, some_more, one_back, filled}
+use Rattle.dm_rows.proofs.Sides.{ordered}
 
 -- the nodes left at a place are one tree and some more after it
 pub record IsFilledFrom (nodes : List Node) (i : ℕ) : Type 0 where
@@ -94,7 +95,7 @@ children nodes ends place d c e lt is known =
     let first_tree : IsTreeBetween nodes (place + 1) s = known.1 (place + 1) (omega arith) first in
     let second : s < length nodes = some_left nodes s f.more (others_left nodes (place + 1) s f.more p.1 first_tree) in
     record {
-      ordered = ordered_from c p.0;
+      ordered = ordered c p.0;
       first = first;
       second = second;
       first_tree = first_tree;

@@ -1,14 +1,14 @@
 -- Nodes that fill the places due are trees in preorder, and trees in preorder fill them.
-use Rattle.std.proofs.Common.{◌≡◌, ◌≢◌, ℕ, ◌+◌, ◌-◌, Bool, true, false, cond, ◌&&◌, List, [], ◌∷◌, ◌++◌, length, eqb, refl, sym, ap, ◌∙◌, arith, eqb-true, ltb-true, lt-ltb, append_assoc, append-nil}
+use Rattle.std.proofs.Common.{◌≡◌, ◌≢◌, ℕ, ◌+◌, ◌-◌, Bool, true, false, cond, ◌&&◌, List, [], ◌∷◌, ◌++◌, length, eqb, refl, sym, ap, ◌∙◌, arith, eqb-true, append_assoc, append-nil}
 use Rattle.std.proofs.lemmas.Bool.{ne_eqb}
 use Rattle.std.proofs.lemmas.Bool.Decides.{nat_tests}
 use Rattle.dm_rows.specs.declared.messages.Choice.{Choice}
-use Rattle.dm_rows.specs.declared.messages.Choice.TheVariants.{Change, Pair}
 use Rattle.dm_rows.specs.declared.messages.Decision.{Decision}
 use Rattle.dm_tree.specs.declared.forms.Node.{Node}
 use Rattle.dm_tree.specs.declared.forms.Node.TheVariants.{Inner, Cycle, Bound, Open, Hole}
 use Rattle.dm_tree.specs.Trees.{Shape, leaf, branch, preorder, IsLeaf, IsNoHole, IsProper, IsWhole, IsTree, IsPartialTree, leaves_below}
 use Rattle.dm_rows.specs.Sides.{IsOrdered, first_decision, second_decision, is_ordered}
+use Rattle.dm_rows.proofs.Sides.{ordered, ordered_tells}
 use Rattle.dm_tree.specs.Inside.Filling.{is_none_left, fills, leaves_due}
 
 -- the nodes of several trees, one after another
@@ -36,14 +36,6 @@ pub record Forest (holes : Bool) (more : ℕ) (nodes : List Node) : Type 0 where
 pub both : (a b : Bool) → (a && b) ≡ true → (a ≡ true) × (b ≡ true)
 both true b e = (refl, e)
 both false b e = cc
-
-pub ordered_from : (c : Choice) → is_ordered c ≡ true → IsOrdered c
-ordered_from (Change a) e = tt
-ordered_from (Pair i j) e = ltb-true i.0 j.0 e
-
-pub from_ordered : (c : Choice) → IsOrdered c → is_ordered c ≡ true
-from_ordered (Change a) o = refl
-from_ordered (Pair i j) o = lt-ltb i.0 j.0 o
 
 not_zero : (more : ℕ) → false ≡ eqb more 0 → more ≢ 0
 not_zero more e = grind (arith, nat_tests)
@@ -93,7 +85,7 @@ forest holes more [] e = cc
 forest holes more (Inner c ∷ ns) e =
     let p = both (is_ordered c) (fills holes (more + 1) ns) e in
     let f = forest holes (more + 1) ns p.1 in
-    branch_first holes more c ns (ordered_from c p.0) f.head f.others f.reads f.count f.proper f.whole
+    branch_first holes more c ns (ordered c p.0) f.head f.others f.reads f.count f.proper f.whole
 forest holes more (Cycle ∷ ns) e = leaf_first holes more Cycle ns tt (λ h. tt) (eqb more 0) refl e (λ f. forest holes (more - 1) ns f)
 forest holes more (Bound c ∷ ns) e = leaf_first holes more (Bound c) ns tt (λ h. tt) (eqb more 0) refl e (λ f. forest holes (more - 1) ns f)
 forest holes more (Open c ∷ ns) e = leaf_first holes more (Open c) ns tt (λ h. tt) (eqb more 0) refl e (λ f. forest holes (more - 1) ns f)
@@ -107,25 +99,29 @@ lone (t ∷ ts) e = absurd (omega arith)
 append_none : (xs ys : List Node) → ys ≡ [] → xs ++ ys ≡ xs
 append_none xs ys e = rw e (append-nil xs)
 
--- nodes that fill one place are a tree
-pub whole_tree : (nodes : List Node) → fills false 0 nodes ≡ true → IsTree nodes
-whole_tree nodes e =
-    let f = forest false 0 nodes e in
+-- nodes that fill one place are a tree, whole where there are no holes
+record IsOneTree (holes : Bool) (nodes : List Node) : Type 0 where
+  shape : Shape
+  in_preorder : preorder shape ≡ nodes
+  proper : IsProper shape
+  whole : holes ≡ false → IsWhole shape
+
+one_tree : (holes : Bool) (nodes : List Node) → fills holes 0 nodes ≡ true → IsOneTree holes nodes
+one_tree holes nodes e =
+    let f = forest holes 0 nodes e in
     record {
       shape = f.head;
       in_preorder = sym (append_none (preorder f.head) (preorders f.others) (lone f.others f.count)) ∙ f.reads;
       proper = f.proper.0;
-      whole = (f.whole refl).0;
+      whole = λ h. (f.whole h).0;
     }
 
+pub whole_tree : (nodes : List Node) → fills false 0 nodes ≡ true → IsTree nodes
+whole_tree nodes e =
+    let t = one_tree false nodes e in record { shape = t.shape; in_preorder = t.in_preorder; proper = t.proper; whole = t.whole refl }
+
 pub partial_tree : (nodes : List Node) → fills true 0 nodes ≡ true → IsPartialTree nodes
-partial_tree nodes e =
-    let f = forest true 0 nodes e in
-    record {
-      shape = f.head;
-      in_preorder = sym (append_none (preorder f.head) (preorders f.others) (lone f.others f.count)) ∙ f.reads;
-      proper = f.proper.0;
-    }
+partial_tree nodes e = let t = one_tree true nodes e in record { shape = t.shape; in_preorder = t.in_preorder; proper = t.proper }
 
 pub some_more : (more : ℕ) → eqb (more + 1) 0 ≡ false
 some_more more = ne_eqb (more + 1) 0 (λ e. omega arith)
@@ -143,7 +139,7 @@ filled holes (leaf (Open c)) more ns p w = refl
 filled true (leaf Hole) more ns p w = refl
 filled false (leaf Hole) more ns p w = absurd (w refl)
 filled holes (branch c a b) more ns p w =
-    rw (from_ordered c p.0, append_assoc (preorder a) (preorder b) ns)
+    rw (ordered_tells c p.0, append_assoc (preorder a) (preorder b) ns)
     (filled holes a (more + 1) (preorder b ++ ns) p.1 (λ h. (w h).0)
     ∙ rw (some_more more, one_back more) (filled holes b more ns p.2 (λ h. (w h).1)))
 

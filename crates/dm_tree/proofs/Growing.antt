@@ -14,10 +14,10 @@ use Rattle.dm_rows.specs.Sides.{IsOrdered, first_decision, second_decision, is_o
 use Rattle.dm_tree.specs.Inside.Filling.{is_none_left, fills, visits}
 use Rattle.dm_tree.specs.Pending.{pending, IsFront, KeepsFront}
 use Rattle.dm_tree.specs.Inside.Assembling.{AreMatched, LiesBelow, AsksFor, IsDue, seen, GoesOn, IsNeeded, HasPlace, IsDueAt, IsDraft, IsFinished}
-use Rattle.dm_tree.proofs.Filled.{from_ordered, some_more, one_back, partial_tree}
+use Rattle.dm_tree.proofs.Filled.{some_more, one_back, partial_tree}
 use Rattle.dm_tree.proofs.Walked.{due_after_choice, is_inner}
 use Rattle.dm_tree.proofs.Standing.{stands_above, visits_below, visits_filled, stands_among, among_stands}
-use Rattle.dm_rows.proofs.Sides.{is_either}
+use Rattle.dm_rows.proofs.Sides.{is_either, ordered_tells}
 
 -- what stands at the path of one node
 abbrev pub station : List Decision → Node → Leaf
@@ -238,7 +238,7 @@ grows_below leaves nodes path new matched now n c is next due common draft =
     at_choice : IsDue leaves path (Inner c) → AreMatched (path ++ first_decision c ∷ []) leaves now →
         IsDraft leaves (nodes ++ Inner c ∷ []) (path ++ first_decision c ∷ []) now
     at_choice due common =
-        let o : is_ordered c ≡ true = from_ordered c (may due) in
+        let o : is_ordered c ≡ true = ordered_tells c (may due) in
         record {
           goes_on = goes_below nodes path c o draft.goes_on;
           common = common;

@@ -74,6 +74,14 @@ front_or_behind x y xs h =
     alone : (x y : Leaf) → Contains (x ∷ []) y → x ≡ y
     alone x y h = elim (Contains-push_cases [] x y h) [ inl r ↦ absurd (omega (arith, r.1)) | inr e ↦ e ]
 
+-- the path of what stands below a child begins with the child's decision
+below_child : (path : List Decision) (child d : Decision) (t : Shape) (q : List Decision) (n : Node) → d ≡ child →
+    Contains (visits_below (path ++ child ∷ []) t) (record { path = (path ++ child ∷ []) ++ q; node = n }) →
+    Contains (visits_below (path ++ child ∷ []) t) (record { path = path ++ d ∷ q; node = n })
+below_child path child d t q n is among =
+    let e : (path ++ child ∷ []) ++ q ≡ path ++ d ∷ q = rw is (append_assoc path (child ∷ []) q) in
+    subst (λ p. Contains (visits_below (path ++ child ∷ []) t) (record { path = p; node = n })) e among
+
 -- what stands at a path is among all that stands
 pub stands_among : (path : List Decision) (t : Shape) (q : List Decision) (n : Node) → StandsAt t q n →
     Contains (visits_below path t) (record { path = path ++ q; node = n })
@@ -82,21 +90,15 @@ stands_among path (leaf x) (d ∷ q) n s = elim s [ ]
 stands_among path (branch c a b) [] n s =
     rw (append-nil path, ← s) (in_front (record { path = path; node = Inner c }) _)
 stands_among path (branch c a b) (d ∷ q) n (inl s) =
-    let first = path ++ first_decision c ∷ [] in
-    let r : Contains (visits_below first a) (record { path = first ++ q; node = n }) = stands_among first a q n s.1 in
-    let e : first ++ q ≡ path ++ d ∷ q = rw s.0 (append_assoc path (first_decision c ∷ []) q) in
     let here : Leaf = record { path = path ++ d ∷ q; node = n } in
-    let r' : Contains (visits_below first a) here = subst (λ p. Contains (visits_below first a) (record { path = p; node = n })) e r in
     behind_front (record { path = path; node = Inner c }) here _
-    (Contains-append_left (visits_below (path ++ first_decision c ∷ []) a) (visits_below (path ++ second_decision c ∷ []) b) here r')
+    (Contains-append_left (visits_below (path ++ first_decision c ∷ []) a) (visits_below (path ++ second_decision c ∷ []) b) here
+    (below_child path (first_decision c) d a q n s.0 (stands_among (path ++ first_decision c ∷ []) a q n s.1)))
 stands_among path (branch c a b) (d ∷ q) n (inr s) =
-    let second = path ++ second_decision c ∷ [] in
-    let r : Contains (visits_below second b) (record { path = second ++ q; node = n }) = stands_among second b q n s.1 in
-    let e : second ++ q ≡ path ++ d ∷ q = rw s.0 (append_assoc path (second_decision c ∷ []) q) in
     let here : Leaf = record { path = path ++ d ∷ q; node = n } in
-    let r' : Contains (visits_below second b) here = subst (λ p. Contains (visits_below second b) (record { path = p; node = n })) e r in
     behind_front (record { path = path; node = Inner c }) here _
-    (Contains-append_right (visits_below (path ++ first_decision c ∷ []) a) (visits_below (path ++ second_decision c ∷ []) b) here r')
+    (Contains-append_right (visits_below (path ++ first_decision c ∷ []) a) (visits_below (path ++ second_decision c ∷ []) b) here
+    (below_child path (second_decision c) d b q n s.0 (stands_among (path ++ second_decision c ∷ []) b q n s.1)))
 
 -- and all that stands there has such a path
 pub record IsBelow (path : List Decision) (t : Shape) (l : Leaf) : Type 0 where
@@ -124,23 +126,12 @@ among_stands path (branch c a b) l h =
             stands = ap (λ (y : Leaf). y.node) e;
           }
       | inr r ↦ elim (Contains-append_cases _ _ l r) [
-        | inl s ↦ from_first (among_stands (path ++ first_decision c ∷ []) a l s)
-        | inr s ↦ from_second (among_stands (path ++ second_decision c ∷ []) b l s)
+        | inl s ↦ from_child (first_decision c) a (λ rest h. inl (refl, h)) (among_stands (path ++ first_decision c ∷ []) a l s)
+        | inr s ↦ from_child (second_decision c) b (λ rest h. inr (refl, h)) (among_stands (path ++ second_decision c ∷ []) b l s)
       ]
     ]
   where
-    from_first : IsBelow (path ++ first_decision c ∷ []) a l → IsBelow path (branch c a b) l
-    from_first s =
-        record {
-          rest = first_decision c ∷ s.rest;
-          is = s.is ∙ append_assoc path (first_decision c ∷ []) s.rest;
-          stands = inl (refl, s.stands);
-        }
-
-    from_second : IsBelow (path ++ second_decision c ∷ []) b l → IsBelow path (branch c a b) l
-    from_second s =
-        record {
-          rest = second_decision c ∷ s.rest;
-          is = s.is ∙ append_assoc path (second_decision c ∷ []) s.rest;
-          stands = inr (refl, s.stands);
-        }
+    from_child : (d : Decision) (t : Shape) → ((rest : List Decision) → StandsAt t rest l.node → StandsAt (branch c a b) (d ∷ rest) l.node) →
+        IsBelow (path ++ d ∷ []) t l → IsBelow path (branch c a b) l
+    from_child d t above s =
+        record { rest = d ∷ s.rest; is = s.is ∙ append_assoc path (d ∷ []) s.rest; stands = above s.rest s.stands }
