@@ -4,11 +4,11 @@ use Rattle.std.specs.Char.{IsAsciiDigit}
 use Rattle.dm_lintim.specs.Columns.{FileColumns, ReadsFileColumns}
 use Rattle.dm_lintim.specs.declared.columns.ColumnFault.{ColumnFault}
 use Rattle.dm_lintim.proofs.WordLemmas.{columns_one}
-use Rattle.dm_words.specs.Options.{GivesOption, penalty_option, batch_option, boards_option, event_columns_option, activity_columns_option, event_delays_option, activity_delays_option, at_option, changes_option, workers_option}
+use Rattle.dm_words.specs.Options.{GivesOption, penalty_option, batch_option, boards_option, event_columns_option, activity_columns_option, event_delays_option, activity_delays_option, at_option}
 use Rattle.dm_words.specs.Stops.{AreBoards}
 use Rattle.dm_words.specs.Values.{IsNumber, IsNumberOr}
 use Rattle.dm_words.specs.Words.{Command, FilesAsked, RunAsked, CheckAsked, GenAsked, QueryAsked, RunOf, CheckOf, GenOf, QueryOf, Asks, AsksFiles, AsksRun, AsksCheck, AsksGen, AsksQuery, IsPenalty, IsBatch, HasBoards, event_words, activity_words}
-use Rattle.dm_words.specs.Queries.{AsksJourney, AsksOwn, AsksRules, AsksWindow, HasChanges, HasEntry, HasWorkers, IsEntryOrNone, IsRule, kind_of, word_of}
+use Rattle.dm_words.specs.Queries.{AsksJourney, AsksOwn, AsksRules, AsksWindow, HasEntry, HasNumber, IsEntryOrNone, IsRule, kind_of, word_of}
 use Rattle.dm_words.specs.declared.options.QueryKind.{QueryKind}
 use Rattle.dm_words.specs.declared.options.QueryKind.TheVariants as kind
 use Rattle.dm_words.specs.declared.queries.JourneyWords.{JourneyWords}
@@ -43,9 +43,10 @@ batch_one words a b p q =
     let same = given_one batch_option words p.value q.value p.given q.given in
     number_or_one q.value _ _ _ a b (subst (λ (v : Option (List ℕ)). IsNumberOr v _ _ _ a) same p.is) q.is
 
-workers_one : (words : List (List ℕ)) (a b : ℕ) → HasWorkers words a → HasWorkers words b → a ≡ b
-workers_one words a b p q =
-    let same = given_one workers_option words p.value q.value p.given q.given in
+-- an option gives one number
+option_one : (option : List ℕ) (least most standard : ℕ) (words : List (List ℕ)) (a b : ℕ) → HasNumber option least most standard words a → HasNumber option least most standard words b → a ≡ b
+option_one option least most standard words a b p q =
+    let same = given_one option words p.value q.value p.given q.given in
     number_or_one q.value _ _ _ a b (subst (λ (v : Option (List ℕ)). IsNumberOr v _ _ _ a) same p.is) q.is
 
 stops_one : (given : Option (List ℕ)) (a b : List ℕ) → AreBoards given a → AreBoards given b → a ≡ b
@@ -104,7 +105,7 @@ run_one words x y p q =
     let names = sym p.names ∙ q.names in
     run_is x y (files_one words x.files y.files (first_name x.files.folder y.files.folder x.feeds y.feeds names) p.files q.files)
     (later_names x.files.folder y.files.folder x.feeds y.feeds names) (batch_one words x.batch y.batch p.batch q.batch)
-    (workers_one words x.workers y.workers p.workers q.workers) (boards_one words x.boards y.boards p.boards q.boards)
+    (option_one _ _ _ _ words x.workers y.workers p.workers q.workers) (boards_one words x.boards y.boards p.boards q.boards)
 
 check_is : (x y : CheckAsked) → x.files ≡ y.files → x.text ≡ y.text → x ≡ y
 check_is x y files text = ap (λ v. record x { files = v }) files ∙ ap (λ v. record y { text = v }) text
@@ -145,34 +146,23 @@ differ_later k a b word p q other =
 
 -- ---- questions to a journal
 
-changes_one : (words : List (List ℕ)) (a b : ℕ) → HasChanges words a → HasChanges words b → a ≡ b
-changes_one words a b p q =
-    let same = given_one changes_option words p.value q.value p.given q.given in
-    number_or_one q.value _ _ _ a b (subst (λ (v : Option (List ℕ)). IsNumberOr v _ _ _ a) same p.is) q.is
+three_names : (a b c d e f : List ℕ) → a ∷ b ∷ c ∷ [] ≡ d ∷ e ∷ f ∷ [] → (a ≡ d) × (b ≡ e) × (c ≡ f)
+three_names a b c d e f is = (cc, cc, cc)
 
-third_name : (a b c d e f : List ℕ) → a ∷ b ∷ c ∷ [] ≡ d ∷ e ∷ f ∷ [] → c ≡ f
-third_name a b c d e f is = cc
+four_same : {A B C D X : Type 0} (make : A → B → C → D → X) (a i : A) (b j : B) (c k : C) (d l : D) → a ≡ i → b ≡ j → c ≡ k → d ≡ l → make a b c d ≡ make i j k l
+four_same make a i b j c k d l p q r s = ap (λ v. make v b c d) p ∙ (ap (λ v. make i v c d) q ∙ (ap (λ v. make i j v d) r ∙ ap (λ v. make i j k v) s))
 
-middle_name : (a b c d e f : List ℕ) → a ∷ b ∷ c ∷ [] ≡ d ∷ e ∷ f ∷ [] → b ≡ e
-middle_name a b c d e f is = cc
-
-journey_is : (x y : JourneyWords) → x.from ≡ y.from → x.to ≡ y.to → x.after ≡ y.after → x.changes ≡ y.changes → x ≡ y
-journey_is x y from to after changes =
-    ap (λ v. record x { from = v }) from
-    ∙ (ap (λ v. record x { from = y.from; to = v }) to
-    ∙ (ap (λ v. record x { from = y.from; to = y.to; after = v }) after
-    ∙ ap (λ v. record y { changes = v }) changes))
+abbrev journey_of : ℕ → ℕ → ℕ → ℕ → JourneyWords
+journey_of from to after changes = record { from = from; to = to; after = after; changes = changes }
 
 journey_one : (names words : List (List ℕ)) (x y : JourneyWords) → AsksJourney x names words → AsksJourney y names words → x ≡ y
 journey_one names words x y p q =
-    let same = sym p.are_names ∙ q.are_names in
-    let from = first_name p.from q.from (p.to ∷ p.after ∷ []) (q.to ∷ q.after ∷ []) same in
-    let to = middle_name p.from p.to p.after q.from q.to q.after same in
-    let after = third_name p.from p.to p.after q.from q.to q.after same in
-    journey_is x y (number_one q.from _ _ x.from y.from (subst (λ (t : List ℕ). IsNumber t _ _ x.from) from p.is_from) q.is_from)
-    (number_one q.to _ _ x.to y.to (subst (λ (t : List ℕ). IsNumber t _ _ x.to) to p.is_to) q.is_to)
-    (number_one q.after _ _ x.after y.after (subst (λ (t : List ℕ). IsNumber t _ _ x.after) after p.is_after) q.is_after)
-    (changes_one words x.changes y.changes p.changes q.changes)
+    let same = three_names p.from p.to p.after q.from q.to q.after (sym p.are_names ∙ q.are_names) in
+    four_same journey_of x.from y.from x.to y.to x.after y.after x.changes y.changes
+    (number_one q.from _ _ x.from y.from (subst (λ (t : List ℕ). IsNumber t _ _ x.from) same.0 p.is_from) q.is_from)
+    (number_one q.to _ _ x.to y.to (subst (λ (t : List ℕ). IsNumber t _ _ x.to) same.1 p.is_to) q.is_to)
+    (number_one q.after _ _ x.after y.after (subst (λ (t : List ℕ). IsNumber t _ _ x.after) same.2 p.is_after) q.is_after)
+    (option_one _ _ _ _ words x.changes y.changes p.changes q.changes)
 
 entry_or_one : (value : Option (List ℕ)) (a b : Option ℕ) → IsEntryOrNone value a → IsEntryOrNone value b → a ≡ b
 entry_or_one None None None p q = refl
@@ -187,23 +177,17 @@ entry_one words a b p q =
     let same = given_one at_option words p.value q.value p.given q.given in
     entry_or_one q.value a b (subst (λ (v : Option (List ℕ)). IsEntryOrNone v a) same p.is) q.is
 
-window_is : (x y : WindowWords) → x.from ≡ y.from → x.to ≡ y.to → x.budget ≡ y.budget → x.at ≡ y.at → x ≡ y
-window_is x y from to budget at =
-    ap (λ v. record x { from = v }) from
-    ∙ (ap (λ v. record x { from = y.from; to = v }) to
-    ∙ (ap (λ v. record x { from = y.from; to = y.to; budget = v }) budget
-    ∙ ap (λ v. record y { at = v }) at))
+abbrev window_of : ℕ → ℕ → ℕ → Option ℕ → WindowWords
+window_of from to budget at = record { from = from; to = to; budget = budget; at = at }
 
 window_one : (names words : List (List ℕ)) (x y : WindowWords) → AsksWindow x names words → AsksWindow y names words → x ≡ y
 window_one names words x y p q =
-    let same = sym p.are_names ∙ q.are_names in
-    let from = first_name p.from q.from (p.to ∷ p.budget ∷ []) (q.to ∷ q.budget ∷ []) same in
-    let to = middle_name p.from p.to p.budget q.from q.to q.budget same in
-    let budget = third_name p.from p.to p.budget q.from q.to q.budget same in
-    let to_is : IsNumber q.to x.from _ x.to = subst (λ (t : List ℕ). IsNumber t x.from _ x.to) to p.is_to in
-    window_is x y (number_one q.from _ _ x.from y.from (subst (λ (t : List ℕ). IsNumber t _ _ x.from) from p.is_from) q.is_from)
+    let same = three_names p.from p.to p.budget q.from q.to q.budget (sym p.are_names ∙ q.are_names) in
+    let to_is : IsNumber q.to x.from _ x.to = subst (λ (t : List ℕ). IsNumber t x.from _ x.to) same.1 p.is_to in
+    four_same window_of x.from y.from x.to y.to x.budget y.budget x.at y.at
+    (number_one q.from _ _ x.from y.from (subst (λ (t : List ℕ). IsNumber t _ _ x.from) same.0 p.is_from) q.is_from)
     (to_is.is ∙ sym q.is_to.is)
-    (number_one q.budget _ _ x.budget y.budget (subst (λ (t : List ℕ). IsNumber t _ _ x.budget) budget p.is_budget) q.is_budget)
+    (number_one q.budget _ _ x.budget y.budget (subst (λ (t : List ℕ). IsNumber t _ _ x.budget) same.2 p.is_budget) q.is_budget)
     (entry_one words x.at y.at p.at q.at)
 
 -- no number is spelled by a letter
@@ -236,7 +220,7 @@ rules_one names words x y p q =
     let budget = second_name p.rule p.budget q.rule q.budget same in
     rules_are x y (rule_one q.rule x.rule y.rule (subst (λ (t : List ℕ). IsRule t x.rule) rule p.is_rule) q.is_rule)
     (number_one q.budget _ _ x.budget y.budget (subst (λ (t : List ℕ). IsNumber t _ _ x.budget) budget p.is_budget) q.is_budget)
-    (workers_one words x.workers y.workers p.workers q.workers)
+    (option_one _ _ _ _ words x.workers y.workers p.workers q.workers)
 
 -- each kind of question is asked in one way
 own_one : (names words : List (List ℕ)) (x y : Query) → kind_of x ≡ kind_of y → AsksOwn x names words → AsksOwn y names words → x ≡ y

@@ -1,5 +1,5 @@
 -- Stops read one after another.
-use Rattle.std.proofs.Common.{◌≡◌, ℕ, ◌+◌, ◌-◌, ◌<◌, ◌≤◌, true, false, List, [], ◌∷◌, ◌++◌, length, get_or, take, drop, refl, sym, ap, subst, ◌∙◌, arith, append_assoc, length-append}
+use Rattle.std.proofs.Common.{◌≡◌, ℕ, ◌+◌, ◌-◌, ◌<◌, ◌≤◌, Bool, true, false, List, [], ◌∷◌, ◌++◌, length, get_or, take, drop, refl, sym, ap, subst, ◌∙◌, arith, append_assoc, length-append}
 use Rattle.std.specs.Prelude.{◌==◌, ◌&&◌, not}
 use Rattle.std.specs.List.{list_any}
 use Rattle.std.proofs.lemmas.List.{append-nil, drop_more, take_all, length-drop}
@@ -57,6 +57,15 @@ different_at stops place lt = ap are_different (drop_more stops place 0 lt)
 
 pub rest_is : (stops : List ℕ) (place : ℕ) → take (length stops - (place + 1)) (drop (place + 1) stops) ≡ drop (place + 1) stops
 rest_is stops place = let size = length-drop (place + 1) stops in take_all (length stops - (place + 1)) (drop (place + 1) stops) (omega arith)
+
+-- whether stops differ, by whether a stop stands among those behind it
+pub different_next : (stops : List ℕ) (place : ℕ) (again : Bool) → place < length stops →
+    again ≡ list_any (λ other. other == get_or stops place 0) (take (length stops - (place + 1)) (drop (place + 1) stops)) →
+    are_different (drop place stops) ≡ (not again && are_different (drop (place + 1) stops))
+different_next stops place again lt is =
+    let any : list_any (λ other. other == get_or stops place 0) (drop (place + 1) stops) ≡ again =
+    ap (list_any (λ other. other == get_or stops place 0)) (sym (rest_is stops place)) ∙ sym is in
+    different_at stops place lt ∙ ap (λ (b : Bool). not b && are_different (drop (place + 1) stops)) any
 
 -- pieces are one list of stops at most
 pub spell_one : (pieces : List (List ℕ)) (a b : List ℕ) → Spell pieces a → Spell pieces b → a ≡ b

@@ -58,11 +58,15 @@ IsRule word Never = word ≡ codes "never"
 IsRule word Always = word ≡ codes "always"
 IsRule word (AtMost seconds) = IsNumber word 0 LONGEST_WAIT seconds
 
--- how many workers search
-pub record HasWorkers (words : List (List ℕ)) (workers : ℕ) : Type 0 where
+-- the number that the words give an option, or the standard one where they do not give it
+pub record HasNumber (option : List ℕ) (least most standard : ℕ) (words : List (List ℕ)) (number : ℕ) : Type 0 where
   pub value : Option (List ℕ)
-  pub given : GivesOption workers_option words value
-  pub is : IsNumberOr value 1 WORKERS STANDARD_WORKERS workers
+  pub given : GivesOption option words value
+  pub is : IsNumberOr value least most standard number
+
+-- how many workers search
+abbrev pub HasWorkers : List (List ℕ) → ℕ → Type 0
+HasWorkers words workers = HasNumber workers_option 1 WORKERS STANDARD_WORKERS words workers
 
 -- the names are a rule and a budget, and the words give the workers
 pub record AsksRules (rules : RulesWords) (names words : List (List ℕ)) : Type 0 where
@@ -74,10 +78,8 @@ pub record AsksRules (rules : RulesWords) (names words : List (List ℕ)) : Type
   pub workers : HasWorkers words rules.workers
 
 -- the most changes of a journey
-pub record HasChanges (words : List (List ℕ)) (changes : ℕ) : Type 0 where
-  pub value : Option (List ℕ)
-  pub given : GivesOption changes_option words value
-  pub is : IsNumberOr value 0 CHANGES STANDARD_CHANGES changes
+abbrev pub HasChanges : List (List ℕ) → ℕ → Type 0
+HasChanges words changes = HasNumber changes_option 0 CHANGES STANDARD_CHANGES words changes
 
 -- the names are two stops and a time, and the words give the most changes
 pub record AsksJourney (journey : JourneyWords) (names words : List (List ℕ)) : Type 0 where

@@ -4,10 +4,10 @@ ghost use Rattle.std.specs.List.{list_any};
 ghost use Rattle.dm_base.specs.declared.limits.TheConstants.{BOARDS as MOST};
 ghost use Rattle.dm_lintim.specs.Pieces.{is_comma, pieces};
 ghost use Rattle.dm_words.specs.Stops.{AreBoards, AreStops, IsStop, Spell, are_different};
-ghost use Rattle.dm_words.specs.Inside.Pieces.{pieces_left, IsReadTo};
 
 use dm_base::limits::BOARDS;
 use dm_base::read_whole;
+use dm_lintim::first_piece;
 use std::marker::Model;
 
 /// At most 64 stops. It takes no memory.
@@ -62,18 +62,6 @@ impl Stops {
     {
         &self.ids[..self.count]
     }
-}
-
-/// The first piece of a text, and what stands after its comma.
-fn first_piece(text: &[u8]) -> (&[u8], Option<&[u8]>)
-    ensures { pieces is_comma text.now ≡ result.0.now ∷ pieces_left (option_map (λ s. s.now) result.1) }
-{
-    for (place, byte) in text.iter().enumerate() {
-        if *byte == b',' {
-            return (&text[..place], Some(&text[place + 1..]));
-        }
-    }
-    (text, None)
 }
 
 /// The stop that a piece is.

@@ -1,12 +1,6 @@
 -- How far a text of stops is read.
-use Rattle.std.specs.Prelude.{ℕ, ◌≡◌, List, [], ◌++◌, Option, Some, None}
-use Rattle.dm_lintim.specs.Pieces.{is_comma, pieces}
+use Rattle.std.specs.Prelude.{ℕ, ◌≡◌, List, [], ◌++◌}
 use Rattle.dm_words.specs.Stops.{Spell}
-
--- the pieces of what is left of a text
-abbrev pub pieces_left : Option (List ℕ) → List (List ℕ)
-pieces_left None = []
-pieces_left (Some text) = pieces is_comma text
 
 -- a list of stops that begins with these
 pub record BeginsWith (done : List ℕ) (pieces : List (List ℕ)) (all : List ℕ) : Type 0 where

@@ -1,7 +1,7 @@
 use Rattle.std.proofs.Common.{length}
 use Rattle.std.specs.Prelude.{option_map}
-use Rattle.dm_lintim.specs.Pieces.{is_comma, pieces}
-use Rattle.dm_words.specs.Inside.Pieces.{pieces_left, IsReadTo}
+use Rattle.dm_lintim.specs.Pieces.{is_comma, pieces, pieces_left}
+use Rattle.dm_words.specs.Inside.Pieces.{IsReadTo}
 use Rattle.dm_words.proofs.stops.read_pieces.Given as goal
 
 abbrev pub invariant-loop-rest : goal.invariant-loop-rest
