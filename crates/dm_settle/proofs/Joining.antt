@@ -6,6 +6,7 @@ use Rattle.dm_network.specs.Net.{Net, EndsAreKnown, activity_at, places_into}
 use Rattle.dm_network.specs.Held.{arcs_of}
 use Rattle.dm_settle.specs.Inside.Sweep.{HasJoined, time_along}
 use Rattle.dm_network.proofs.EventRows.{leads_into, stands_into}
+use Rattle.dm_settle.proofs.Held.{with_one_free}
 
 module _ (g : Graph) (times : List ℕ) (e : ℕ) (row : List ℕ) (n time : ℕ) (had : HasJoined g times e row n time) where
   joined_with : IsTrue (g.shape.held (slice_index row n)) →
@@ -37,13 +38,7 @@ module _ (g : Graph) (times : List ℕ) (e : ℕ) (row : List ℕ) (n time : ℕ
   joined_without free =
       record {
         above = had.above;
-        along = λ k lt is. elim (cases_lt k n) [
-          | inl before ↦ had.along k before is
-          | inr past ↦
-              let here : k ≡ n = omega arith in
-              let same : g.shape.held (slice_index row k) ≡ g.shape.held (slice_index row n) = ap (λ (j : ℕ). g.shape.held (slice_index row j)) here in
-              absurd cc
-        ];
+        along = with_one_free (λ k. g.shape.held (slice_index row k)) (λ k. time_along g times (slice_index row k) ≤ time) n free had.along;
         least = λ u floor each. had.least u floor (λ k lt is. each k (omega arith) is);
       }
 

@@ -1,6 +1,7 @@
 pub mod Early
 pub mod Given
 pub mod Going
+pub mod Held
 pub mod Joining
 pub mod Least
 pub mod Marking

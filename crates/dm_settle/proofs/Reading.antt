@@ -128,7 +128,7 @@ module _ (g : Graph) (order ranks : List ℕ) (ranked : AreRanks g.shape.events 
               arc = leads.arc;
               binds = leads.binds;
               leaves = leads.leaves;
-              enters = one_of_rank g.shape.events order ranks ranked (g.shape.head leads.arc) f leads.binds.to_event lt leads.ranked;
+              enters = one_of_rank g.shape.events order ranks ranked (g.shape.head leads.arc) f leads.binds.to_event lt leads.there;
             };
           })
         ];

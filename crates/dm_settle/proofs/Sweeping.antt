@@ -95,7 +95,7 @@ module _ (g : Graph) (order ranks : List ℕ) (ranked : AreRanks g.shape.events 
         omega arith
 
     module _ (marks1 : List Bool) (time : ℕ) (join : IsJoin g (slice_index times) e time)
-        (heads : MarksHeads g.shape ranks e (slice_set marks (slice_index ranks e) false) marks1) where
+        (heads : MarksHeads g.shape (slice_index ranks) e (slice_set marks (slice_index ranks e) false) marks1) where
       at_event : slice_index (slice_set times e time) e ≡ time
       at_event = get_or-set_same times e time 0 (let t = sweeping.unsettled.as_many_times in omega arith)
 
@@ -148,7 +148,7 @@ module _ (g : Graph) (order ranks : List ℕ) (ranked : AreRanks g.shape.events 
               let may = sweeping.may_move e is_event marked in
               let up = forward leads.arc leads.binds (subst (λ (f : ℕ). MayMove g.shape ranks marks0 f) (sym leads.leaves) may) in
               let low : slice_index ranks (g.shape.tail leads.arc) ≡ slice_index ranks e = ap (slice_index ranks) leads.leaves in
-              let high = leads.ranked in
+              let high = leads.there in
               omega arith
         ];
         may_move = λ f lt now. elim (heads.only (slice_index ranks f) now) [
@@ -156,7 +156,7 @@ module _ (g : Graph) (order ranks : List ℕ) (ranked : AreRanks g.shape.events 
           | inr leads ↦ inr (record {
             arc = leads.arc;
             binds = leads.binds;
-            enters = one (g.shape.head leads.arc) f leads.binds.to_event lt leads.ranked;
+            enters = one (g.shape.head leads.arc) f leads.binds.to_event lt leads.there;
           })
         ];
       }

@@ -20,6 +20,7 @@
 mod constraints;
 mod faults;
 pub mod laws;
+mod moving;
 mod scratch;
 mod sweep;
 mod time;
@@ -28,6 +29,7 @@ mod watching;
 
 pub use constraints::Constraints;
 pub use faults::NoTimes;
+pub use moving::Move;
 pub use scratch::least_times;
 pub use sweep::{settle, settle_watched};
 pub use times::Times;

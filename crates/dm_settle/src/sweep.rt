@@ -8,6 +8,7 @@ ghost use Rattle.dm_settle.specs.Settling.{AreLeast, AreEarly, GoesForward, Mark
 ghost use Rattle.dm_settle.specs.Inside.Sweep.{TailsAreEarly, MarksHeads, Renews};
 
 use crate::constraints::Constraints;
+use crate::moving::Move;
 use crate::time::time_of;
 use crate::times::Times;
 use crate::watching::{Unwatched, Watcher};
@@ -139,8 +140,16 @@ fn renew<L: Ledger, W: Watcher, V: Watcher>(
         return false;
     }
     let out_of = net.out_row(event, steps);
-    watcher.moves(net, constraints, times, event, time, into, out_of);
-    other.moves(net, constraints, times, event, time, into, out_of);
+    let to = Move {
+        constraints,
+        times,
+        event,
+        time,
+        into,
+        out_of,
+    };
+    watcher.moves(net, &to);
+    other.moves(net, &to);
     times.set(event, time);
     mark_heads(marks, net, constraints, ranks, event, out_of);
     true
@@ -160,7 +169,7 @@ fn mark_heads(
     requires row { out_of.now ≡ places_out_of net.now event }
     requires as_many_ranks { length ranks.now ≡ length net.now.events }
     requires ranks { (e : ℕ) → e < length net.now.events → slice_index ranks.now e < length marks.old }
-    ensures { MarksHeads (arcs_given net.now constraints.now) ranks.now event marks.old marks.new }
+    ensures { MarksHeads (arcs_given net.now constraints.now) (slice_index ranks.now) event marks.old marks.new }
 {
     net.sound();
     let _event = event;

@@ -1,11 +1,8 @@
 //! What is told of each time that a sweep writes.
-ghost use Rattle.std.specs.Prelude.{◌≡◌, ◌^◌, ◌<◌, length, slice_set};
-ghost use Rattle.dm_network.specs.Net.{places_into, places_out_of};
-ghost use Rattle.dm_settle.specs.Constraints.{IsSizedFor};
+ghost use Rattle.std.specs.Prelude.{◌≡◌};
+ghost use Rattle.dm_settle.specs.Moving.{IsMove, times_after};
 
-use crate::constraints::Constraints;
-use crate::times::Times;
-use dm_base::Secs;
+use crate::moving::Move;
 use dm_network::Network;
 
 /// What a sweep tells of each time that it writes, before it does. A sum over the times can be kept by it.
@@ -20,25 +17,11 @@ pub trait Watcher {
     /// The flags by which it goes, which no time changes.
     ghost flags: { Self → List Bool };
 
-    /// The event at this place will have this time, in seconds. Its rows are those of the activities into it and out of it.
-    fn moves(
-        &mut self,
-        net: &Network,
-        constraints: &Constraints,
-        times: &Times,
-        event: usize,
-        time: Secs,
-        into: &[usize],
-        out_of: &[usize],
-    )
-        requires sized { IsSizedFor net.now constraints.now }
-        requires as_many { length times.now ≡ length net.now.events }
-        requires is_event { event < length net.now.events }
-        requires early { time < 2 ^ 38 }
-        requires into { into.now ≡ places_into net.now event }
-        requires out_of { out_of.now ≡ places_out_of net.now event }
-        requires knows { knows self.old net.now constraints.now times.now }
-        ensures knows { knows self.new net.now constraints.now (slice_set times.now event time) }
+    /// An event will move so.
+    fn moves(&mut self, net: &Network, to: &Move<'_>)
+        requires is_move { IsMove net.now to.now }
+        requires knows { knows self.old net.now to.now.constraints.now to.now.times.now }
+        ensures knows { knows self.new net.now to.now.constraints.now (times_after to.now) }
         ensures flags { flags self.new ≡ flags self.old };
 }
 
@@ -53,14 +36,5 @@ impl Watcher for Unwatched {
 
     ghost flags = { λ w. [] };
 
-    fn moves(
-        &mut self,
-        _net: &Network,
-        _constraints: &Constraints,
-        _times: &Times,
-        _event: usize,
-        _time: Secs,
-        _into: &[usize],
-        _out_of: &[usize],
-    ) {}
+    fn moves(&mut self, _net: &Network, _to: &Move<'_>) {}
 }

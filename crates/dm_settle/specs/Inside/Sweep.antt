@@ -27,27 +27,26 @@ pub record HasJoined (g : Graph) (times : List ℕ) (e : ℕ) (row : List ℕ) (
   pub least : (u : ℕ) → g.floor e ≤ u →
       ((k : ℕ) → k < n → IsTrue (g.shape.held (slice_index row k)) → time_along g times (slice_index row k) ≤ u) → time ≤ u
 
--- an arc that binds leads from the event to one of this rank
-pub record LeadsToRank (g : Arcs) (ranks : List ℕ) (from place : ℕ) : Type 0 where
+-- an arc that binds leads from the event to one whose mark has this place
+pub record LeadsToPlace (g : Arcs) (place_of : ℕ → ℕ) (from place : ℕ) : Type 0 where
   pub arc : ℕ
   pub binds : Binds g arc
   pub leaves : g.tail arc ≡ from
-  pub ranked : slice_index ranks (g.head arc) ≡ place
+  pub there : place_of (g.head arc) ≡ place
 
 -- beside the marks before, the heads of the arcs held among the first n of the row out of the event are marked
-pub record HasMarked (g : Arcs) (ranks : List ℕ) (event : ℕ) (row : List ℕ) (n : ℕ) (before now : List Bool) : Type 0 where
+pub record HasMarked (g : Arcs) (place_of : ℕ → ℕ) (event : ℕ) (row : List ℕ) (n : ℕ) (before now : List Bool) : Type 0 where
   pub as_many : length now ≡ length before
   pub kept : (k : ℕ) → is_marked before k ≡ true → is_marked now k ≡ true
-  pub heads : (k : ℕ) → k < n → IsTrue (g.held (slice_index row k)) →
-      is_marked now (slice_index ranks (g.head (slice_index row k))) ≡ true
-  pub only : (k : ℕ) → is_marked now k ≡ true → (is_marked before k ≡ true) ⊎ LeadsToRank g ranks event k
+  pub heads : (k : ℕ) → k < n → IsTrue (g.held (slice_index row k)) → is_marked now (place_of (g.head (slice_index row k))) ≡ true
+  pub only : (k : ℕ) → is_marked now k ≡ true → (is_marked before k ≡ true) ⊎ LeadsToPlace g place_of event k
 
 -- beside the marks before, the heads of the arcs that bind out of the event are marked, and no other place
-pub record MarksHeads (g : Arcs) (ranks : List ℕ) (event : ℕ) (before now : List Bool) : Type 0 where
+pub record MarksHeads (g : Arcs) (place_of : ℕ → ℕ) (event : ℕ) (before now : List Bool) : Type 0 where
   pub as_many : length now ≡ length before
   pub kept : (k : ℕ) → is_marked before k ≡ true → is_marked now k ≡ true
-  pub heads : (a : ℕ) → Binds g a → g.tail a ≡ event → is_marked now (slice_index ranks (g.head a)) ≡ true
-  pub only : (k : ℕ) → is_marked now k ≡ true → (is_marked before k ≡ true) ⊎ LeadsToRank g ranks event k
+  pub heads : (a : ℕ) → Binds g a → g.tail a ≡ event → is_marked now (place_of (g.head a)) ≡ true
+  pub only : (k : ℕ) → is_marked now k ≡ true → (is_marked before k ≡ true) ⊎ LeadsToPlace g place_of event k
 
 -- the marks take in every event that may not have its time, none stands before a place, and each is of an event that may
 -- move by the marks at first
@@ -69,7 +68,7 @@ pub record Moves (g : Graph) (ranks : List ℕ) (event : ℕ) (before after : St
   pub join : IsJoin g (slice_index before.times) event time
   pub differs : slice_index before.times event ≢ time
   pub times : after.times ≡ slice_set before.times event time
-  pub marks : MarksHeads g.shape ranks event (slice_set before.marks (slice_index ranks event) false) after.marks
+  pub marks : MarksHeads g.shape (slice_index ranks) event (slice_set before.marks (slice_index ranks event) false) after.marks
   pub counted : after.steps ≡ before.steps + 2
 
 -- the event was computed anew, and it has moved or not

@@ -2,6 +2,7 @@ use Rattle.std.proofs.Common.{sym, ◌∙◌, arith, slice_index}
 use Rattle.dm_network.specs.Held.{is_held}
 use Rattle.dm_settle.specs.Constraints.{graph_given}
 use Rattle.dm_settle.proofs.Early.{join_is_early}
+use Rattle.dm_settle.proofs.Held.{into_may_be_held}
 use Rattle.dm_settle.proofs.Joining.{joined_by, joined_still, joined_whole}
 use Rattle.dm_network.proofs.EventRows.{leads_into}
 use Rattle.dm_settle.proofs.time.time_of.Goals as goal
@@ -9,10 +10,7 @@ use Rattle.dm_settle.proofs.time.time_of.Goals.{then-is_held, else-is_held}
 
 pub is_held-requires : goal.is_held-requires
 is_held-requires c =
-    let leads = leads_into c.args.net.now c.args.event c.loop-a.a-index c.args.into.now c.requires.row (omega arith) in
-    let is_activity = leads.is_activity in
-    let sized = c.requires.sized.held in
-    omega arith
+    into_may_be_held c.args.net.now c.args.constraints.now c.requires.sized c.args.event c.loop-a.a-index c.args.into.now c.requires.row (omega arith)
 
 pub time_along-requires-clause-is_activity : goal.time_along-requires-clause-is_activity
 time_along-requires-clause-is_activity c =
