@@ -7,15 +7,15 @@ use Rattle.dm_network.specs.Net.{Net, activity_at, EndsAreKnown}
 use Rattle.dm_network.specs.Held.{is_held}
 use Rattle.dm_order.specs.Value.{OrderValue}
 use Rattle.dm_order.specs.Orders.{IsOrderOf, held_with, held_without}
-use Rattle.dm_settle.specs.Constraints.{ConstraintsValue, graph_given}
-use Rattle.dm_settle.specs.Settling.{AreLeast}
+use Rattle.dm_settle.specs.Constraints.{ConstraintsValue, arcs_given, graph_given}
+use Rattle.dm_settle.specs.Settling.{AreLeast, GoesForward, MarksUnsettled}
 use Rattle.dm_settle.specs.Settling.{ReadsFew as PassReadsFew}
 use Rattle.dm_settle.proofs.Least.{least_is_settled}
-use Rattle.dm_live.specs.Live.{IsLive, LiveValue, ReadsFew, is_fixed, HoldsUnfixed, FixedStand}
+use Rattle.dm_live.specs.Live.{IsLive, LiveValue, ReadsFew, AreMarked, is_fixed, HoldsUnfixed, FixedStand, with_floor}
 use Rattle.dm_live.specs.Inside.Placing.{ArePlaced}
 use Rattle.dm_live.proofs.Moving.{marked_for_one, marked_for_none, floor_of_one, span_of_one, held_of_one}
 use Rattle.dm_live.proofs.Ordering.{with_one, without_one}
-use Rattle.dm_live.proofs.Standing.{flag_here, flag_there, least_stand}
+use Rattle.dm_live.proofs.Standing.{flag_here, flag_there, least_stand, goes_forward, marks_unsettled}
 
 module _ (net : Net) (live : LiveValue) (is : IsLive net live) where
   -- a fixed event that keeps its floor stands
@@ -33,21 +33,27 @@ module _ (net : Net) (live : LiveValue) (is : IsLive net live) where
     ];
   }
 
+  -- with another floor of an event it is live, whatever marks take in what may not have its time
+  floor_live : (i floor : ℕ) → i < length net.events → (is_fixed live.fixed i ≡ true → floor ≡ slice_index live.given.floors i) → (marks : List Bool) →
+      AreMarked (graph_given net (with_floor live.given i floor)) marks live.times →
+      IsLive net (record { given = with_floor live.given i floor; order = live.order; times = live.times; marks = marks; fixed = live.fixed })
+  floor_live i floor lt stays marks marked = record {
+    sized = record { held = is.sized.held; floors = length-set live.given.floors i floor ∙ is.sized.floors; spans = is.sized.spans };
+    ordered = is.ordered;
+    as_many_fixed = is.as_many_fixed;
+    in_order = is.in_order;
+    stand = floor_stands i floor lt stays;
+    marked = marked;
+  }
+
   pub floor_moves : (i floor : ℕ) → i < length net.events → (is_fixed live.fixed i ≡ true → floor ≡ slice_index live.given.floors i) → (given : ConstraintsValue) (marks : List Bool) →
       given ≡ record live.given { floors = slice_set live.given.floors i floor } → marks ≡ slice_set live.marks i true →
       IsLive net (record { given = given; order = live.order; times = live.times; marks = marks; fixed = live.fixed })
   floor_moves i floor lt stays given marks given_is marks_are =
       subst (λ (g : ConstraintsValue). IsLive net (record { given = g; order = live.order; times = live.times; marks = marks; fixed = live.fixed })) (sym given_is)
-      (subst (λ (ms : List Bool). IsLive net (record { given = record live.given { floors = slice_set live.given.floors i floor }; order = live.order; times = live.times; marks = ms; fixed = live.fixed })) (sym marks_are)
-      (record {
-        sized = record { held = is.sized.held; floors = length-set live.given.floors i floor ∙ is.sized.floors; spans = is.sized.spans };
-        ordered = is.ordered;
-        as_many_fixed = is.as_many_fixed;
-        in_order = is.in_order;
-        stand = floor_stands i floor lt stays;
-        marked = marked_for_one net live.given (record live.given { floors = slice_set live.given.floors i floor }) live.marks live.times i lt
-            (floor_of_one net live.given i floor) is.marked;
-      }))
+      (subst (λ (ms : List Bool). IsLive net (record { given = with_floor live.given i floor; order = live.order; times = live.times; marks = ms; fixed = live.fixed })) (sym marks_are)
+      (floor_live i floor lt stays (slice_set live.marks i true)
+      (marked_for_one net live.given (with_floor live.given i floor) live.marks live.times i lt (floor_of_one net live.given i floor) is.marked)))
 
   pub floor_rises : (i floor : ℕ) → i < length net.events → (is_fixed live.fixed i ≡ true → floor ≡ slice_index live.given.floors i) → slice_index live.given.floors i ≤ floor → floor ≤ slice_index live.times i →
       (given : ConstraintsValue) → given ≡ record live.given { floors = slice_set live.given.floors i floor } →
@@ -55,14 +61,7 @@ module _ (net : Net) (live : LiveValue) (is : IsLive net live) where
   floor_rises i floor lt stays rises low given given_is =
       let size = is.sized.floors in
       subst (λ (g : ConstraintsValue). IsLive net (record { given = g; order = live.order; times = live.times; marks = live.marks; fixed = live.fixed })) (sym given_is)
-      (record {
-        sized = record { held = is.sized.held; floors = length-set live.given.floors i floor ∙ is.sized.floors; spans = is.sized.spans };
-        ordered = is.ordered;
-        as_many_fixed = is.as_many_fixed;
-        in_order = is.in_order;
-        stand = floor_stands i floor lt stays;
-        marked = marked_for_none net live.given live.marks live.times i floor (omega arith) rises low is.marked;
-      })
+      (floor_live i floor lt stays live.marks (marked_for_none net live.given live.marks live.times i floor (omega arith) rises low is.marked))
 
   pub span_moves : EndsAreKnown net → (a span : ℕ) → a < length net.activities → (given : ConstraintsValue) (marks : List Bool) →
       given ≡ record live.given { spans = slice_set live.given.spans a span } → marks ≡ slice_set live.marks (activity_at net a).head true →
@@ -154,6 +153,21 @@ module _ (net : Net) (live : LiveValue) (is : IsLive net live) where
         ]);
         marked = is.marked;
       })
+
+  -- a sweep may begin where the marks of the events that are not fixed are at their places
+  pub sweep_begins : (ranks again : List ℕ) (flags placed : List Bool) → ranks ≡ live.order.ranks → again ≡ live.order.ranks → flags ≡ live.fixed →
+      ArePlaced (length live.marks) ranks live.marks flags placed →
+      GoesForward (arcs_given net live.given) again placed × MarksUnsettled (graph_given net live.given) again placed live.times
+  sweep_begins ranks again flags placed ranks_are again_is flags_are at =
+      let many = is.marked.as_many_marks in
+      let there : ArePlaced (length live.marks) live.order.ranks live.marks live.fixed placed =
+      subst (λ (fs : List Bool). ArePlaced (length live.marks) live.order.ranks live.marks fs placed) flags_are
+      (subst (λ (rs : List ℕ). ArePlaced (length live.marks) rs live.marks flags placed) ranks_are at) in (
+        subst (λ (rs : List ℕ). GoesForward (arcs_given net live.given) rs placed) (sym again_is)
+            (goes_forward net live.order live.given live.fixed live.times is.ordered is.in_order is.stand live.marks placed many there),
+        subst (λ (rs : List ℕ). MarksUnsettled (graph_given net live.given) rs placed live.times) (sym again_is)
+            (marks_unsettled net live.order live.given live.fixed live.times is.ordered is.in_order is.stand live.marks placed many there is.marked),
+      )
 
   pub settled_live : (times : List ℕ) (marks : List Bool) → AreLeast (graph_given net live.given) times → length marks ≡ length live.marks →
       IsLive net (record { given = live.given; order = live.order; times = times; marks = marks; fixed = live.fixed })

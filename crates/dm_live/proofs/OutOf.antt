@@ -11,6 +11,7 @@ use Rattle.dm_network.proofs.EventRows.{leads_out, stands_out}
 use Rattle.dm_order.specs.Value.{OrderValue}
 use Rattle.dm_order.specs.Orders.{IsOrderOf, is_among, held_with, held_without}
 use Rattle.dm_settle.specs.Constraints.{ConstraintsValue}
+use Rattle.dm_settle.proofs.Held.{with_one_free}
 use Rattle.dm_live.specs.Live.{is_fixed, is_held_on, HoldsUnfixed}
 use Rattle.dm_live.specs.Inside.Taking.{HasTaken}
 use Rattle.dm_live.proofs.Ordering.{one_with, others_with}
@@ -72,13 +73,7 @@ module _ (net : Net) (event : ℕ) (row : List ℕ) (is : row ≡ places_out_of 
       ordered = had.ordered;
       cycle = had.cycle;
       fewer = had.fewer;
-      taken = λ k le h. elim (cases_lt k n) [
-        | inl less ↦ had.taken k less h
-        | inr past ↦
-            let same : k ≡ n = omega arith in
-            let off : is_held given.held (slice_index row k) ≡ false = ap (λ (j : ℕ). is_held given.held (slice_index row j)) same ∙ free in
-            absurd cc
-      ];
+      taken = with_one_free (λ k. is_held given.held (slice_index row k)) (λ k. is_held now.held (slice_index row k) ≡ true) n free had.taken;
       others = had.others;
     }
 

@@ -1,6 +1,6 @@
 use Rattle.std.proofs.Common.{◌≡◌, ◌∙◌, ◌+◌, true, false, refl, sym, ap, subst, arith}
 use Rattle.dm_order.specs.Value.{OrderValue}
-use Rattle.dm_network.proofs.EventRows.{leads_out}
+use Rattle.dm_settle.proofs.Held.{out_may_be_held}
 use Rattle.dm_live.specs.Inside.Taking.{HasTaken}
 use Rattle.dm_live.proofs.OutOf.{none_taken, none_refused, taken_with, taken_without, taken_whole}
 use Rattle.dm_live.proofs.taking.add_out_of.Goals as goal
@@ -8,10 +8,7 @@ use Rattle.dm_live.proofs.taking.add_out_of.Goals.{then-is_held+in-Ok, else-is_h
 
 pub is_held-requires : goal.is_held-requires
 is_held-requires c =
-    let leads = leads_out c.args.net.now c.args.event c.loop-a.a-index c.args.out_of.now c.requires.out_of (omega arith) in
-    let is_activity = leads.is_activity in
-    let sized = c.requires.sized.held in
-    omega arith
+    out_may_be_held c.args.net.now c.args.constraints.now c.requires.sized c.args.event c.loop-a.a-index c.args.out_of.now c.requires.out_of (omega arith)
 
 pub unreachable-requires : goal.unreachable-requires
 unreachable-requires c =

@@ -1,10 +1,8 @@
 use Rattle.std.proofs.Common.{Bool, List, ℕ, refl, sym, subst, ◌∙◌, length}
-use Rattle.dm_settle.specs.Constraints.{arcs_given, graph_given}
-use Rattle.dm_settle.specs.Settling.{GoesForward, MarksUnsettled}
+use Rattle.dm_settle.specs.Constraints.{arcs_given}
 use Rattle.dm_live.specs.Live.{IsLive, LiveValue, ReadsFew}
 use Rattle.dm_live.specs.Inside.Placing.{ArePlaced}
-use Rattle.dm_live.proofs.Moves.{settled_live, reads_few}
-use Rattle.dm_live.proofs.Standing.{goes_forward, marks_unsettled}
+use Rattle.dm_live.proofs.Moves.{settled_live, sweep_begins, reads_few}
 use Rattle.dm_live.proofs.timetable.LiveTimetable.settle_watched.Goals as goal
 
 pub returns-clause-live : goal.returns-clause-live
@@ -27,20 +25,12 @@ returns-clause-few_reads g c =
 
 pub settle_watched-requires-clause-forward : goal.settle_watched-requires-clause-forward
 settle_watched-requires-clause-forward g c =
-    let was = subst (IsLive c.args.net.now) (sym c.self.view_is) c.requires.live in
-    let placed : ArePlaced (length c.self.inside.marks) c.self.inside.order.ranks c.self.inside.marks c.self.inside.fixed.items c.place_marks.new.placed =
-    subst (λ (f : List Bool). ArePlaced (length c.self.inside.marks) c.self.inside.order.ranks c.self.inside.marks f c.place_marks.new.placed) c.deref.ensures.value
-    (subst (λ (r : List ℕ). ArePlaced (length c.self.inside.marks) r c.self.inside.marks c.deref.result.now c.place_marks.new.placed) c.ranks.ensures c.place_marks.ensures.placed) in
-    subst (λ (r : List ℕ). GoesForward (arcs_given c.args.net.now c.self.inside.constraints) r c.place_marks.new.placed) (sym c.ranks-2.ensures)
-    (goes_forward c.args.net.now c.self.inside.order c.self.inside.constraints c.self.inside.fixed.items c.self.inside.times was.ordered was.in_order was.stand
-    c.self.inside.marks c.place_marks.new.placed was.marked.as_many_marks placed)
+    (sweep_begins c.args.net.now (record { given = c.self.inside.constraints; order = c.self.inside.order; times = c.self.inside.times; marks = c.self.inside.marks; fixed = c.self.inside.fixed.items })
+    (subst (IsLive c.args.net.now) (sym c.self.view_is) c.requires.live) c.ranks.result.now c.ranks-2.result.now c.deref.result.now c.place_marks.new.placed
+    c.ranks.ensures c.ranks-2.ensures c.deref.ensures.value c.place_marks.ensures.placed).0
 
 pub settle_watched-requires-clause-marks : goal.settle_watched-requires-clause-marks
 settle_watched-requires-clause-marks g c =
-    let was = subst (IsLive c.args.net.now) (sym c.self.view_is) c.requires.live in
-    let placed : ArePlaced (length c.self.inside.marks) c.self.inside.order.ranks c.self.inside.marks c.self.inside.fixed.items c.place_marks.new.placed =
-    subst (λ (f : List Bool). ArePlaced (length c.self.inside.marks) c.self.inside.order.ranks c.self.inside.marks f c.place_marks.new.placed) c.deref.ensures.value
-    (subst (λ (r : List ℕ). ArePlaced (length c.self.inside.marks) r c.self.inside.marks c.deref.result.now c.place_marks.new.placed) c.ranks.ensures c.place_marks.ensures.placed) in
-    subst (λ (r : List ℕ). MarksUnsettled (graph_given c.args.net.now c.self.inside.constraints) r c.place_marks.new.placed c.self.inside.times) (sym c.ranks-2.ensures)
-    (marks_unsettled c.args.net.now c.self.inside.order c.self.inside.constraints c.self.inside.fixed.items c.self.inside.times was.ordered was.in_order was.stand
-    c.self.inside.marks c.place_marks.new.placed was.marked.as_many_marks placed was.marked)
+    (sweep_begins c.args.net.now (record { given = c.self.inside.constraints; order = c.self.inside.order; times = c.self.inside.times; marks = c.self.inside.marks; fixed = c.self.inside.fixed.items })
+    (subst (IsLive c.args.net.now) (sym c.self.view_is) c.requires.live) c.ranks.result.now c.ranks-2.result.now c.deref.result.now c.place_marks.new.placed
+    c.ranks.ensures c.ranks-2.ensures c.deref.ensures.value c.place_marks.ensures.placed).1
