@@ -12,12 +12,6 @@ use Rattle.dm_priced.proofs.Sums.{sum_none, sum_none_along, sum_moves, sum_moves
 differs : (j i : ℕ) → (j == i) ≡ false → j ≢ i
 differs j i not is = let yes = eq-eqb j i is in absurd cc
 
--- a list with what it has
-pub set_same : (x : List ℕ) (e : ℕ) → slice_set x e (slice_index x e) ≡ x
-set_same [] e = refl
-set_same (t ∷ x) zero = refl
-set_same (t ∷ x) (suc e) = ap (λ (xs : List ℕ). t ∷ xs) (set_same x e)
-
 -- whether an event comes too early after itself is for its span alone to say
 alone : (u v span : ℕ) → nat_lt u (u + span) ≡ nat_lt v (v + span)
 alone u v span =

@@ -4,6 +4,7 @@ use Rattle.std.specs.Prelude.{slice_set}
 use Rattle.std.proofs.lemmas.List.{length-replicate}
 use Rattle.dm_base.specs.declared.limits.TheConstants.{EVENTS, WEIGHT}
 use Rattle.dm_live.specs.Live.{LiveValue, IsLive, with_span, with_head}
+use Rattle.dm_network.specs.declared.parts.Activity.{Activity}
 use Rattle.dm_network.specs.Net.{Net, activity_at, places_into, IsWithinLimits}
 use Rattle.dm_settle.specs.Constraints.{ConstraintsValue}
 use Rattle.dm_settle.specs.Settling.{AreEarly}
@@ -11,7 +12,6 @@ use Rattle.dm_priced.specs.Priced.{PricedValue, IsPriced, is_flagged, missed_wei
 use Rattle.dm_priced.specs.Inside.Adding.{AreKnown, AreWithin, missed_at}
 use Rattle.dm_priced.proofs.Changing.{passed_moves, span_moves, charge_moves, none_charged, none_missed}
 use Rattle.dm_priced.proofs.Limits.{lateness_within, charged_within, missed_within}
-use Rattle.dm_priced.proofs.Pricing.{sum_of_same}
 
 pub within_beside : (net : Net) → IsWithinLimits net → (priced : PricedValue) → priced.sums.lateness ≤ EVENTS * (WEIGHT * 2 ^ 38) → IsPriced net priced →
     AreWithin priced.sums
@@ -55,12 +55,10 @@ free_is_priced net priced live is lives given times = record {
 }
 
 -- the weights along a row, as they are read
-along_is : (net : Net) (passed flags : List Bool) (spans spans_read x read : List ℕ) (i t : ℕ) (row : List ℕ) →
-    flags ≡ passed → spans_read ≡ spans → read ≡ x → t ≡ slice_index read i →
-    sum_by (missed_weight net flags spans_read (slice_set read i t)) row ≡ sum_by (missed_weight net passed spans x) row
-along_is net passed flags spans spans_read x read i t row flags_are spans_are times_are t_is =
-    sum_of_same net flags spans_read read i t row t_is
-    ∙ ap (λ (fs : List Bool). sum_by (missed_weight net fs spans_read read) row) flags_are
+along_is : (net : Net) (passed flags : List Bool) (spans spans_read x read : List ℕ) (row : List ℕ) → flags ≡ passed → spans_read ≡ spans → read ≡ x →
+    sum_by (missed_weight net flags spans_read read) row ≡ sum_by (missed_weight net passed spans x) row
+along_is net passed flags spans spans_read x read row flags_are spans_are times_are =
+    ap (λ (fs : List Bool). sum_by (missed_weight net fs spans_read read) row) flags_are
     ∙ ap (λ (ss : List ℕ). sum_by (missed_weight net passed ss read) row) spans_are
     ∙ ap (λ (xs : List ℕ). sum_by (missed_weight net passed spans xs) row) times_are
 
@@ -80,29 +78,26 @@ module _ (net : Net) (priced : PricedValue) (is : IsPriced net priced) where
   }
 
   -- an event that has passed or not
-  module _ (i : ℕ) (flag : Bool) (into : List ℕ) (into_is : into ≡ places_into net i) (before after t : ℕ) (spans x : List ℕ) (flags flags_now : List Bool)
-      (spans_are : spans ≡ priced.live.given.spans) (times_are : x ≡ priced.live.times) (t_is : t ≡ slice_index x i)
+  module _ (i : ℕ) (flag : Bool) (into : List ℕ) (into_is : into ≡ places_into net i) (before after : ℕ) (spans x : List ℕ) (flags flags_now : List Bool)
+      (spans_are : spans ≡ priced.live.given.spans) (times_are : x ≡ priced.live.times)
       (flags_are : flags ≡ priced.passed) (now_are : flags_now ≡ slice_set priced.passed i flag)
-      (before_is : before ≡ sum_by (missed_weight net flags spans (slice_set x i t)) into)
-      (after_is : after ≡ sum_by (missed_weight net flags_now spans (slice_set x i t)) into) where
+      (before_is : before ≡ sum_by (missed_weight net flags spans x) into)
+      (after_is : after ≡ sum_by (missed_weight net flags_now spans x) into) where
     passed_balance : missed_of net (slice_set priced.passed i flag) priced.live.given.spans priced.live.times + before ≡ priced.sums.missed + after
     passed_balance =
         let moved = passed_moves net priced.passed priced.live.given.spans priced.live.times i flag into into_is in
-        let one = before_is ∙ along_is net priced.passed flags priced.live.given.spans spans priced.live.times x i t into flags_are spans_are times_are t_is in
-        let other = after_is ∙ along_is net (slice_set priced.passed i flag) flags_now priced.live.given.spans spans priced.live.times x i t into now_are spans_are times_are t_is in
+        let one = before_is ∙ along_is net priced.passed flags priced.live.given.spans spans priced.live.times x into flags_are spans_are times_are in
+        let other = after_is ∙ along_is net (slice_set priced.passed i flag) flags_now priced.live.given.spans spans priced.live.times x into now_are spans_are times_are in
         let missed = is.missed in
         omega (arith, moved, one, other, missed)
 
     pub passed_holds : before ≤ priced.sums.missed + after
     passed_holds = let b = passed_balance in omega (arith, b)
 
-    pub passed_is_priced :
-        IsPriced net (record {
-          live = priced.live;
-          passed = slice_set priced.passed i flag;
-          charged = priced.charged;
-          sums = record { lateness = priced.sums.lateness; charged = priced.sums.charged; missed = priced.sums.missed + after - before };
-        })
+    pub passed_is_priced : IsPriced net (record priced {
+      passed = slice_set priced.passed i flag;
+      sums = record priced.sums { missed = priced.sums.missed + after - before };
+    })
     passed_is_priced = record {
       live = is.live;
       as_many_passed = length-set priced.passed i flag ∙ is.as_many_passed;
@@ -113,26 +108,27 @@ module _ (net : Net) (priced : PricedValue) (is : IsPriced net priced) where
     }
 
   -- an activity that is charged for or not
-  module _ (a : ℕ) (flag : Bool) (lt : a < length net.activities) (before after : ℕ)
-      (before_is : before ≡ (if is_flagged priced.charged a then (activity_at net a).weight else 0))
-      (after_is : after ≡ (if flag then (activity_at net a).weight else 0)) where
+  module _ (a : ℕ) (flag charged : Bool) (lt : a < length net.activities) (activity : Activity) (before after : ℕ)
+      (activity_is : activity ≡ activity_at net a) (charged_is : charged ≡ is_flagged priced.charged a)
+      (before_is : before ≡ (if charged then activity.weight else 0)) (after_is : after ≡ (if flag then activity.weight else 0)) where
     charge_balance : charged_of net (slice_set priced.charged a flag) + before ≡ priced.sums.charged + after
     charge_balance =
+        let weight_if : Bool → Activity → ℕ = λ b v. if b then v.weight else 0 in
         let many = is.as_many_charged in
         let moved = charge_moves net priced.charged a flag lt (omega arith) in
-        let charged = is.charged in
-        omega (arith, moved, charged, before_is, after_is)
+        let charges = is.charged in
+        let one : before ≡ weight_if (is_flagged priced.charged a) (activity_at net a) =
+        before_is ∙ ap (λ (b : Bool). weight_if b activity) charged_is ∙ ap (weight_if (is_flagged priced.charged a)) activity_is in
+        let other : after ≡ weight_if flag (activity_at net a) = after_is ∙ ap (weight_if flag) activity_is in
+        omega (arith, moved, charges, one, other)
 
     pub charge_holds : before ≤ priced.sums.charged + after
     charge_holds = let b = charge_balance in omega (arith, b)
 
-    pub charge_is_priced :
-        IsPriced net (record {
-          live = priced.live;
-          passed = priced.passed;
-          charged = slice_set priced.charged a flag;
-          sums = record { lateness = priced.sums.lateness; charged = priced.sums.charged + after - before; missed = priced.sums.missed };
-        })
+    pub charge_is_priced : IsPriced net (record priced {
+      charged = slice_set priced.charged a flag;
+      sums = record priced.sums { charged = priced.sums.charged + after - before };
+    })
     charge_is_priced = record {
       live = is.live;
       as_many_passed = is.as_many_passed;

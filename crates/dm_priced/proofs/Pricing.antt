@@ -10,7 +10,7 @@ use Rattle.dm_rows.specs.Rows.{RowsValue}
 use Rattle.dm_settle.specs.Settling.{AreEarly}
 use Rattle.dm_priced.specs.Priced.{PricedValue, FollowsPrice, is_flagged, missed_weight, comes_too_early, lateness_of, charged_of, missed_of, priced_cost}
 use Rattle.dm_priced.specs.Inside.Adding.{AreKnown, AreWithin, AreActivities, cost_at}
-use Rattle.dm_priced.proofs.Changing.{set_same, lateness_moves, missed_moves}
+use Rattle.dm_priced.proofs.Changing.{lateness_moves, missed_moves}
 use Rattle.dm_priced.proofs.Limits.{lateness_within, charged_within, missed_within}
 use Rattle.dm_rows.proofs.Totals.{sum_alike}
 use Rattle.dm_network.proofs.EventRows.{leads_into}
@@ -21,13 +21,6 @@ into_are_activities net e row is k lt = (leads_into net e k row is lt).is_activi
 
 pub out_are_activities : (net : Net) (e : ℕ) (row : List ℕ) → row ≡ places_out_of net e → AreActivities net row
 out_are_activities net e row is k lt = (leads_out net e k row is lt).is_activity
-
--- the same weights along a row, where the time that an event has is written once more
-pub sum_of_same : (net : Net) (passed : List Bool) (spans x : List ℕ) (e t : ℕ) (row : List ℕ) → t ≡ slice_index x e →
-    sum_by (missed_weight net passed spans (slice_set x e t)) row ≡ sum_by (missed_weight net passed spans x) row
-sum_of_same net passed spans x e t row is =
-    ap (λ (u : ℕ). sum_by (missed_weight net passed spans (slice_set x e u)) row) is
-    ∙ ap (λ (xs : List ℕ). sum_by (missed_weight net passed spans xs) row) (set_same x e)
 
 module _ (net : Net) (passed : List Bool) (spans x : List ℕ) (e t lateness missed : ℕ) (knew : AreKnown net passed spans x lateness missed)
     (is_event : e < length net.events) (many : length x ≡ length net.events) where
@@ -41,19 +34,16 @@ module _ (net : Net) (passed : List Bool) (spans x : List ℕ) (e t lateness mis
     pub lateness_now : lateness + cost - was ≡ lateness_of net (slice_set x e t)
     lateness_now = let b = lateness_balance in omega (arith, b)
 
-  module _ (into out_of : List ℕ) (into_is : into ≡ places_into net e) (out_is : out_of ≡ places_out_of net e) (earlier new_into new_out was_into was_out : ℕ)
-      (same : earlier ≡ slice_index x e)
+  module _ (into out_of : List ℕ) (into_is : into ≡ places_into net e) (out_is : out_of ≡ places_out_of net e) (new_into new_out was_into was_out : ℕ)
       (new_into_is : new_into ≡ sum_by (missed_weight net passed spans (slice_set x e t)) into)
       (new_out_is : new_out ≡ sum_by (missed_weight net passed spans (slice_set x e t)) out_of)
-      (was_into_is : was_into ≡ sum_by (missed_weight net passed spans (slice_set x e earlier)) into)
-      (was_out_is : was_out ≡ sum_by (missed_weight net passed spans (slice_set x e earlier)) out_of) where
+      (was_into_is : was_into ≡ sum_by (missed_weight net passed spans x) into)
+      (was_out_is : was_out ≡ sum_by (missed_weight net passed spans x) out_of) where
     missed_balance : missed_of net passed spans (slice_set x e t) + (was_into + was_out) ≡ missed + (new_into + new_out)
     missed_balance =
         let moved = missed_moves net passed spans x e t (omega arith) into out_of into_is out_is in
-        let one : was_into ≡ sum_by (missed_weight net passed spans x) into = was_into_is ∙ sum_of_same net passed spans x e earlier into same in
-        let other : was_out ≡ sum_by (missed_weight net passed spans x) out_of = was_out_is ∙ sum_of_same net passed spans x e earlier out_of same in
         let is = knew.is_missed in
-        omega (arith, moved, one, other, is, new_into_is, new_out_is)
+        omega (arith, moved, is, new_into_is, new_out_is, was_into_is, was_out_is)
 
     pub missed_holds : was_into + was_out ≤ missed + (new_into + new_out)
     missed_holds = let b = missed_balance in omega (arith, b)

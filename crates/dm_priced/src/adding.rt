@@ -1,14 +1,15 @@
 //! What one event and one activity add to the sums.
-ghost use Rattle.std.specs.Prelude.{◌≡◌, ◌&&◌, ◌+◌, ◌*◌, ◌^◌, ◌<◌, ◌≤◌, length, slice_index, slice_set, sum_by, if◌then◌else◌};
-ghost use Rattle.dm_network.specs.Net.{activity_at, is_change, places_into};
+ghost use Rattle.std.specs.Prelude.{◌≡◌, ◌&&◌, ◌+◌, ◌*◌, ◌^◌, ◌<◌, ◌≤◌, length, slice_index, sum_by, if◌then◌else◌};
+ghost use Rattle.dm_network.specs.Net.{activity_at, is_change};
 ghost use Rattle.dm_base.specs.declared.limits.TheConstants.{BOUND, DELAY, WEIGHT};
 ghost use Rattle.dm_settle.specs.Constraints.{IsSizedFor};
+ghost use Rattle.dm_settle.specs.Moving.{IsMove, times_after};
 ghost use Rattle.dm_priced.specs.Priced.{is_flagged, missed_weight};
 ghost use Rattle.dm_priced.specs.Inside.Adding.{cost_at, missed_at, AreActivities};
 
 use dm_base::{ActKind, Cost, EventKind, Milli, Secs};
 use dm_network::Network;
-use dm_settle::{Constraints, Times};
+use dm_settle::{Constraints, Move, Times};
 
 /// What the lateness of an event costs at a time, in thousandths of passenger seconds: nothing unless it is an arrival.
 pub fn cost_at(net: &Network, i: usize, time: Secs) -> Cost
@@ -67,30 +68,19 @@ pub fn weight_if(charged: bool, weight: Milli) -> Cost
     if charged { weight as Cost } else { 0 }
 }
 
-/// The weight of an activity that is missed, where one event has another time.
-fn missed_where(
-    net: &Network,
-    constraints: &Constraints,
-    passed: &[bool],
-    times: &Times,
-    event: usize,
-    time: Secs,
-    a: usize,
-) -> Milli
-    requires sized { IsSizedFor net.now constraints.now }
+/// The weight of an activity that is missed, where an event has moved.
+fn missed_after(net: &Network, passed: &[bool], to: &Move<'_>, a: usize) -> Milli
+    requires is_move { IsMove net.now to.now }
     requires as_many { length passed.now ≡ length net.now.events }
-    requires as_many_times { length times.now ≡ length net.now.events }
-    requires is_event { event < length net.now.events }
-    requires early { time < 2 ^ 38 }
     requires is_activity { a < length net.now.activities }
-    ensures weight { result ≡ missed_weight net.now passed.now constraints.now.spans (slice_set times.now event time) a }
+    ensures weight { result ≡ missed_weight net.now passed.now to.now.constraints.now.spans (times_after to.now) a }
     ensures limit { result ≤ WEIGHT }
 {
     net.sound();
     let activity = net.activity(a);
-    let tail = times.time_where(event, time, activity.tail);
-    let head = times.time_where(event, time, activity.head);
-    missed_at(net, passed, a, tail, head, constraints.span(a))
+    let tail = to.times.time_where(to.event, to.time, activity.tail);
+    let head = to.times.time_where(to.event, to.time, activity.head);
+    missed_at(net, passed, a, tail, head, to.constraints.span(a))
 }
 
 /// Whether an activity is a change whose head has passed. No other is missed.
@@ -104,7 +94,7 @@ fn is_change_to_passed(net: &Network, passed: &[bool], a: usize) -> bool
     matches!(activity.kind, ActKind::Change) && passed[activity.head]
 }
 
-/// The weights of activities that are missed, where one event has an earlier time and where it has a later one.
+/// The weights of activities that are missed, before an event moves and from then on.
 #[derive(Clone, Copy)]
 pub struct Missed {
     pub was: Cost,
@@ -112,95 +102,57 @@ pub struct Missed {
 }
 
 /// What one activity adds to these.
-fn missed_by(
-    net: &Network,
-    constraints: &Constraints,
-    passed: &[bool],
-    times: &Times,
-    event: usize,
-    earlier: Secs,
-    later: Secs,
-    a: usize,
-) -> Missed
-    requires sized { IsSizedFor net.now constraints.now }
+fn missed_by(net: &Network, passed: &[bool], to: &Move<'_>, a: usize) -> Missed
+    requires is_move { IsMove net.now to.now }
     requires as_many { length passed.now ≡ length net.now.events }
-    requires as_many_times { length times.now ≡ length net.now.events }
-    requires is_event { event < length net.now.events }
-    requires early { (earlier < 2 ^ 38) × (later < 2 ^ 38) }
     requires is_activity { a < length net.now.activities }
-    ensures was { result.was ≡ missed_weight net.now passed.now constraints.now.spans (slice_set times.now event earlier) a }
-    ensures now { result.now ≡ missed_weight net.now passed.now constraints.now.spans (slice_set times.now event later) a }
+    ensures was { result.was ≡ missed_weight net.now passed.now to.now.constraints.now.spans to.now.times.now a }
+    ensures now { result.now ≡ missed_weight net.now passed.now to.now.constraints.now.spans (times_after to.now) a }
     ensures was_limit { result.was ≤ WEIGHT }
     ensures now_limit { result.now ≤ WEIGHT }
 {
     if !is_change_to_passed(net, passed, a) {
         return Missed { was: 0, now: 0 };
     }
-    let was = missed_where(net, constraints, passed, times, event, earlier, a);
-    let now = missed_where(net, constraints, passed, times, event, later, a);
+    let was = missed_with(net, passed, to.times, a, to.constraints.span(a));
+    let now = missed_after(net, passed, to, a);
     Missed {
-        was: was as Cost,
+        was,
         now: now as Cost,
     }
 }
 
 /// What the activities of a row add to these.
-pub fn missed_between(
-    net: &Network,
-    constraints: &Constraints,
-    passed: &[bool],
-    times: &Times,
-    event: usize,
-    earlier: Secs,
-    later: Secs,
-    row: &[usize],
-) -> Missed
-    requires sized { IsSizedFor net.now constraints.now }
+pub fn missed_between(net: &Network, passed: &[bool], to: &Move<'_>, row: &[usize]) -> Missed
+    requires is_move { IsMove net.now to.now }
     requires as_many { length passed.now ≡ length net.now.events }
-    requires as_many_times { length times.now ≡ length net.now.events }
-    requires is_event { event < length net.now.events }
-    requires early { (earlier < 2 ^ 38) × (later < 2 ^ 38) }
     requires activities { AreActivities net.now row.now }
-    ensures was { result.was ≡ sum_by (missed_weight net.now passed.now constraints.now.spans (slice_set times.now event earlier)) row.now }
-    ensures now { result.now ≡ sum_by (missed_weight net.now passed.now constraints.now.spans (slice_set times.now event later)) row.now }
+    ensures was { result.was ≡ sum_by (missed_weight net.now passed.now to.now.constraints.now.spans to.now.times.now) row.now }
+    ensures now { result.now ≡ sum_by (missed_weight net.now passed.now to.now.constraints.now.spans (times_after to.now)) row.now }
     ensures was_limit { result.was < 2 ^ 96 }
     ensures now_limit { result.now < 2 ^ 96 }
 {
     let mut was = 0;
     let mut now = 0;
     for a in row {
-        let missed = missed_by(net, constraints, passed, times, event, earlier, later, *a);
+        let missed = missed_by(net, passed, to, *a);
         was += missed.was;
         now += missed.now;
     }
     Missed { was, now }
 }
 
-/// What the activities into that event add to these: nothing unless it has passed.
-pub fn missed_into(
-    net: &Network,
-    constraints: &Constraints,
-    passed: &[bool],
-    times: &Times,
-    event: usize,
-    earlier: Secs,
-    later: Secs,
-    into: &[usize],
-) -> Missed
-    requires sized { IsSizedFor net.now constraints.now }
+/// What the activities into the event add to these: nothing unless it has passed.
+pub fn missed_into(net: &Network, passed: &[bool], to: &Move<'_>) -> Missed
+    requires is_move { IsMove net.now to.now }
     requires as_many { length passed.now ≡ length net.now.events }
-    requires as_many_times { length times.now ≡ length net.now.events }
-    requires is_event { event < length net.now.events }
-    requires early { (earlier < 2 ^ 38) × (later < 2 ^ 38) }
-    requires into { into.now ≡ places_into net.now event }
-    ensures was { result.was ≡ sum_by (missed_weight net.now passed.now constraints.now.spans (slice_set times.now event earlier))
-        into.now }
-    ensures now { result.now ≡ sum_by (missed_weight net.now passed.now constraints.now.spans (slice_set times.now event later)) into.now }
+    ensures was { result.was ≡ sum_by (missed_weight net.now passed.now to.now.constraints.now.spans to.now.times.now) to.now.into.now }
+    ensures now { result.now ≡ sum_by (missed_weight net.now passed.now to.now.constraints.now.spans (times_after to.now)) to.now.into.now }
     ensures was_limit { result.was < 2 ^ 96 }
     ensures now_limit { result.now < 2 ^ 96 }
 {
-    if has_passed(passed, event) {
-        missed_between(net, constraints, passed, times, event, earlier, later, into)
+    if has_passed(passed, to.event) {
+        missed_between(net, passed, to, to.into)
     } else {
         Missed { was: 0, now: 0 }
     }
@@ -214,28 +166,24 @@ fn has_passed(passed: &[bool], event: usize) -> bool
     passed[event]
 }
 
-/// The weights of the activities of a row that are missed, where one event has another time.
+/// The weights of the activities of a row that are missed.
 pub fn missed_along(
     net: &Network,
     constraints: &Constraints,
     passed: &[bool],
     times: &Times,
-    event: usize,
-    time: Secs,
     row: &[usize],
 ) -> Cost
     requires sized { IsSizedFor net.now constraints.now }
     requires as_many { length passed.now ≡ length net.now.events }
     requires as_many_times { length times.now ≡ length net.now.events }
-    requires is_event { event < length net.now.events }
-    requires early { time < 2 ^ 38 }
     requires activities { AreActivities net.now row.now }
-    ensures weight { result ≡ sum_by (missed_weight net.now passed.now constraints.now.spans (slice_set times.now event time)) row.now }
+    ensures weight { result ≡ sum_by (missed_weight net.now passed.now constraints.now.spans times.now) row.now }
     ensures limit { result < 2 ^ 96 }
 {
     let mut total = 0;
     for a in row {
-        total += missed_where(net, constraints, passed, times, event, time, *a) as Cost;
+        total += missed_with(net, passed, times, *a, constraints.span(*a));
     }
     total
 }

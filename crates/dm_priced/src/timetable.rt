@@ -15,7 +15,7 @@ use dm_base::{Cost, Secs, Steps};
 use dm_graph::search::Cyclic;
 use dm_live::LiveTimetable;
 use dm_network::Network;
-use dm_settle::{Unwatched, Watcher};
+use dm_settle::{Move, Unwatched, Watcher};
 use std::alloc::{AllocError, Global};
 use std::marker::Model;
 use std::sync::ledger::Ledger;
@@ -180,8 +180,15 @@ impl PricedTimetable {
             lateness: self.lateness,
             missed: self.missed_weight,
         };
-        let constraints = self.live.constraints();
-        watch.moves(net, constraints, self.live.times(), i, time, into, out_of);
+        let to = Move {
+            constraints: self.live.constraints(),
+            times: self.live.times(),
+            event: i,
+            time,
+            into,
+            out_of,
+        };
+        watch.moves(net, &to);
         self.live.fix(net, i, time, out_of, steps);
         self.live.times().is_early();
         self.lateness = watch.lateness;
@@ -294,10 +301,9 @@ impl PricedTimetable {
         net.sound();
         let constraints = self.live.constraints();
         let times = self.live.times();
-        let time = times.time(i);
-        let before = missed_along(net, constraints, &self.passed, times, i, time, into);
+        let before = missed_along(net, constraints, &self.passed, times, into);
         self.passed[i] = passed;
-        let after = missed_along(net, constraints, &self.passed, times, i, time, into);
+        let after = missed_along(net, constraints, &self.passed, times, into);
         self.missed_weight = self.missed_weight + after - before;
     }
 

@@ -10,10 +10,10 @@ pub returns-clause-priced : goal.returns-clause-priced
 returns-clause-priced g c =
     told_is_priced c.args.net.now (record { live = c.self.inside.live; passed = c.self.inside.passed.items; charged = c.self.inside.charged.items; sums = record { lateness = c.self.inside.lateness; charged = c.self.inside.charged_weight; missed = c.self.inside.missed_weight } })
     (subst (IsPriced c.args.net.now) (sym c.self.view_is) c.requires.priced) c.fix.new.self c.moves.new.self.passed.now
-    c.constraints-constraints.result.now.spans (slice_set c.times.result.now c.args.i c.args.time)
+    c.constraints.result.now.spans (slice_set c.times.result.now c.args.i c.args.time)
     c.moves.new.self.lateness c.moves.new.self.missed c.fix.ensures.live c.moves.ensures.knows
     (c.moves.ensures.flags ∙ c.deref.ensures.value)
-    (ap (λ (given : ConstraintsValue). given.spans) c.constraints-constraints.ensures ∙ ap (λ (given : ConstraintsValue). given.spans) (sym c.fix.ensures.floor))
+    (ap (λ (given : ConstraintsValue). given.spans) c.constraints.ensures ∙ ap (λ (given : ConstraintsValue). given.spans) (sym c.fix.ensures.floor))
     (ap (λ (x : List ℕ). slice_set x c.args.i c.args.time) c.times.ensures ∙ sym c.fix.ensures.fixed.times)
 
 pub invariant_of-self : goal.invariant_of-self

@@ -15,17 +15,17 @@ pub overflow_sub-self : goal.overflow_sub-self
 overflow_sub-self c =
     passed_holds c.args.net.now (record { live = c.self.inside.live; passed = c.self.inside.passed.items; charged = c.self.inside.charged.items; sums = record { lateness = c.self.inside.lateness; charged = c.self.inside.charged_weight; missed = c.self.inside.missed_weight } })
     (subst (IsPriced c.args.net.now) (sym c.self.view_is) c.requires.priced) c.args.i c.args.passed c.args.into.now c.requires.into
-    c.missed_along-before.result c.missed_along-after.result c.time-time.result c.constraints-constraints.result.now.spans c.times-times.result.now
+    c.missed_along-before.result c.missed_along-after.result c.constraints-constraints.result.now.spans c.times-times.result.now
     c.deref.result.now c.deref-2.result.now (ap (λ (given : ConstraintsValue). given.spans) c.constraints-constraints.ensures) c.times-times.ensures
-    c.time-time.ensures.value c.deref.ensures.value c.deref-2.ensures.value c.missed_along-before.ensures.weight c.missed_along-after.ensures.weight
+    c.deref.ensures.value c.deref-2.ensures.value c.missed_along-before.ensures.weight c.missed_along-after.ensures.weight
 
 pub returns-clause-priced : goal.returns-clause-priced
 returns-clause-priced c =
     passed_is_priced c.args.net.now (record { live = c.self.inside.live; passed = c.self.inside.passed.items; charged = c.self.inside.charged.items; sums = record { lateness = c.self.inside.lateness; charged = c.self.inside.charged_weight; missed = c.self.inside.missed_weight } })
     (subst (IsPriced c.args.net.now) (sym c.self.view_is) c.requires.priced) c.args.i c.args.passed c.args.into.now c.requires.into
-    c.missed_along-before.result c.missed_along-after.result c.time-time.result c.constraints-constraints.result.now.spans c.times-times.result.now
+    c.missed_along-before.result c.missed_along-after.result c.constraints-constraints.result.now.spans c.times-times.result.now
     c.deref.result.now c.deref-2.result.now (ap (λ (given : ConstraintsValue). given.spans) c.constraints-constraints.ensures) c.times-times.ensures
-    c.time-time.ensures.value c.deref.ensures.value c.deref-2.ensures.value c.missed_along-before.ensures.weight c.missed_along-after.ensures.weight
+    c.deref.ensures.value c.deref-2.ensures.value c.missed_along-before.ensures.weight c.missed_along-after.ensures.weight
 
 pub invariant_of-self : goal.invariant_of-self
 invariant_of-self c =

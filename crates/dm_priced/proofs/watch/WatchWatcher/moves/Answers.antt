@@ -6,24 +6,24 @@ use Rattle.dm_priced.proofs.watch.WatchWatcher.moves.Goals as goal
 
 pub overflow_add-self : goal.overflow_add-self
 overflow_add-self c =
-    let bound = lateness_within c.args.net.now c.sound.ensures.within c.args.times.now c.is_early.ensures in
+    let bound = lateness_within c.args.net.now c.sound.ensures.within c.args.to.now.times.now c.is_early.ensures in
     let is = c.requires.knows.is_lateness in
     let limit = c.cost_at-cost.ensures.limit in
     omega (arith, bound, is, limit)
 
 pub overflow_sub-self : goal.overflow_sub-self
 overflow_sub-self c =
-    lateness_holds c.args.net.now c.args.self.now.passed.now c.args.constraints.now.spans c.args.times.now c.args.event c.args.time
-    c.args.self.now.lateness c.args.self.now.missed c.requires.knows c.requires.is_event c.requires.as_many
+    lateness_holds c.args.net.now c.args.self.now.passed.now c.args.to.now.constraints.now.spans c.args.to.now.times.now c.args.to.now.event c.args.to.now.time
+    c.args.self.now.lateness c.args.self.now.missed c.requires.knows c.requires.is_move.is_event c.requires.is_move.as_many
     c.cost_at-cost.result c.cost_at-was.result c.cost_at-cost.ensures.cost
-    (c.cost_at-was.ensures.cost ∙ ap (cost_at c.args.net.now c.args.event) c.time-earlier.ensures.value)
+    (c.cost_at-was.ensures.cost ∙ ap (cost_at c.args.net.now c.args.to.now.event) c.time-earlier.ensures.value)
 
 pub missed_between-along_out-requires-clause-activities : goal.missed_between-along_out-requires-clause-activities
-missed_between-along_out-requires-clause-activities c = out_are_activities c.args.net.now c.args.event c.args.out_of.now c.requires.out_of
+missed_between-along_out-requires-clause-activities c = out_are_activities c.args.net.now c.args.to.now.event c.args.to.now.out_of.now c.requires.is_move.out_of
 
 pub overflow_add-self-3 : goal.overflow_add-self-3
 overflow_add-self-3 c =
-    let bound = missed_within c.args.net.now c.sound.ensures.within c.args.self.now.passed.now c.args.constraints.now.spans c.args.times.now in
+    let bound = missed_within c.args.net.now c.sound.ensures.within c.args.self.now.passed.now c.args.to.now.constraints.now.spans c.args.to.now.times.now in
     let is = c.requires.knows.is_missed in
     let into = c.missed_into-along_into.ensures.now_limit in
     let out_of = c.missed_between-along_out.ensures.now_limit in
@@ -31,26 +31,26 @@ overflow_add-self-3 c =
 
 pub overflow_sub-self-2 : goal.overflow_sub-self-2
 overflow_sub-self-2 c =
-    missed_holds c.args.net.now c.args.self.now.passed.now c.args.constraints.now.spans c.args.times.now c.args.event c.args.time
-    c.args.self.now.lateness c.args.self.now.missed c.requires.knows c.requires.is_event c.requires.as_many
-    c.args.into.now c.args.out_of.now c.requires.into c.requires.out_of c.time-earlier.result
+    missed_holds c.args.net.now c.args.self.now.passed.now c.args.to.now.constraints.now.spans c.args.to.now.times.now c.args.to.now.event c.args.to.now.time
+    c.args.self.now.lateness c.args.self.now.missed c.requires.knows c.requires.is_move.is_event c.requires.is_move.as_many
+    c.args.to.now.into.now c.args.to.now.out_of.now c.requires.is_move.into c.requires.is_move.out_of
     c.missed_into-along_into.result.now c.missed_between-along_out.result.now c.missed_into-along_into.result.was c.missed_between-along_out.result.was
-    c.time-earlier.ensures.value c.missed_into-along_into.ensures.now c.missed_between-along_out.ensures.now
+    c.missed_into-along_into.ensures.now c.missed_between-along_out.ensures.now
     c.missed_into-along_into.ensures.was c.missed_between-along_out.ensures.was
 
 pub returns-clause-knows : goal.returns-clause-knows
 returns-clause-knows c = record {
   as_many = c.requires.knows.as_many;
   is_lateness =
-      lateness_now c.args.net.now c.args.self.now.passed.now c.args.constraints.now.spans c.args.times.now c.args.event c.args.time
-      c.args.self.now.lateness c.args.self.now.missed c.requires.knows c.requires.is_event c.requires.as_many
+      lateness_now c.args.net.now c.args.self.now.passed.now c.args.to.now.constraints.now.spans c.args.to.now.times.now c.args.to.now.event c.args.to.now.time
+      c.args.self.now.lateness c.args.self.now.missed c.requires.knows c.requires.is_move.is_event c.requires.is_move.as_many
       c.cost_at-cost.result c.cost_at-was.result c.cost_at-cost.ensures.cost
-      (c.cost_at-was.ensures.cost ∙ ap (cost_at c.args.net.now c.args.event) c.time-earlier.ensures.value);
+      (c.cost_at-was.ensures.cost ∙ ap (cost_at c.args.net.now c.args.to.now.event) c.time-earlier.ensures.value);
   is_missed =
-      missed_now c.args.net.now c.args.self.now.passed.now c.args.constraints.now.spans c.args.times.now c.args.event c.args.time
-      c.args.self.now.lateness c.args.self.now.missed c.requires.knows c.requires.is_event c.requires.as_many
-      c.args.into.now c.args.out_of.now c.requires.into c.requires.out_of c.time-earlier.result
+      missed_now c.args.net.now c.args.self.now.passed.now c.args.to.now.constraints.now.spans c.args.to.now.times.now c.args.to.now.event c.args.to.now.time
+      c.args.self.now.lateness c.args.self.now.missed c.requires.knows c.requires.is_move.is_event c.requires.is_move.as_many
+      c.args.to.now.into.now c.args.to.now.out_of.now c.requires.is_move.into c.requires.is_move.out_of
       c.missed_into-along_into.result.now c.missed_between-along_out.result.now c.missed_into-along_into.result.was c.missed_between-along_out.result.was
-      c.time-earlier.ensures.value c.missed_into-along_into.ensures.now c.missed_between-along_out.ensures.now
+      c.missed_into-along_into.ensures.now c.missed_between-along_out.ensures.now
       c.missed_into-along_into.ensures.was c.missed_between-along_out.ensures.was;
 }
