@@ -4,155 +4,130 @@ ghost use Rattle.dm_network.specs.Net.{places_into};
 ghost use Rattle.dm_rows.specs.Active.{has_passed};
 ghost use Rattle.dm_rows.specs.Cost.{is_dropped_change};
 ghost use Rattle.dm_rows.specs.Reach.{ReachesFlip};
-ghost use Rattle.dm_rows.specs.Rows.{IsSized};
 ghost use Rattle.dm_priced.specs.Priced.{IsPriced};
 ghost use Rattle.dm_propagate.specs.Inside.Concern.{IsOfOneBefore};
 ghost use Rattle.dm_propagate.specs.Inside.Flags.{flags_of, AreFlagsOf, FixesPassed, Charges, IsNamed, SetsFlagsAt};
 ghost use Rattle.dm_propagate.specs.Inside.Turning.{IsAmong, IsOnly};
 
+use crate::day::Day;
 use dm_base::{ActKind, Steps};
-use dm_network::Network;
 use dm_priced::PricedTimetable;
-use dm_rows::{Flip, Rows};
+use dm_rows::Flip;
 use std::sync::ledger::Ledger;
 
 /// Sets every flag to what the rows say.
-pub fn set_flags<L: Ledger>(
-    priced: &mut PricedTimetable,
-    net: &Network,
-    rows: &Rows,
-    steps: &mut Steps<L>,
-)
-    requires priced { IsPriced net.now priced.old }
-    requires sized { IsSized net.now rows.now }
-    requires fixed { FixesPassed rows.now priced.old.live.fixed }
-    ensures priced { IsPriced net.now priced.new }
+pub fn set_flags<L: Ledger>(priced: &mut PricedTimetable, day: &Day<'_>, steps: &mut Steps<L>)
+    requires priced { IsPriced day.now.net.now priced.old }
+    requires fixed { FixesPassed day.now.rows.now priced.old.live.fixed }
+    ensures priced { IsPriced day.now.net.now priced.new }
     ensures live { priced.new.live ≡ priced.old.live }
-    ensures flags { AreFlagsOf net.now rows.now (flags_of priced.new) }
+    ensures flags { AreFlagsOf day.now.net.now day.now.rows.now (flags_of priced.new) }
 {
-    net.sound();
-    for i in 0..net.events() {
-        let into = net.in_row(i, steps);
-        set_flags_at(priced, net, rows, i, into);
+    day.net.sound();
+    for i in 0..day.net.events() {
+        let into = day.net.in_row(i, steps);
+        set_flags_at(priced, day, i, into);
     }
 }
 
 /// Sets the flags of an event and of the activities into it, which are those of this row, to what the rows say.
-pub fn set_flags_at(
-    priced: &mut PricedTimetable,
-    net: &Network,
-    rows: &Rows,
-    event: usize,
-    into: &[usize],
-)
-    requires priced { IsPriced net.now priced.old }
-    requires sized { IsSized net.now rows.now }
-    requires is_event { event < length net.now.events }
-    requires into { into.now ≡ places_into net.now event }
-    ensures priced { IsPriced net.now priced.new }
+pub fn set_flags_at(priced: &mut PricedTimetable, day: &Day<'_>, event: usize, into: &[usize])
+    requires priced { IsPriced day.now.net.now priced.old }
+    requires is_event { event < length day.now.net.now.events }
+    requires into { into.now ≡ places_into day.now.net.now event }
+    ensures priced { IsPriced day.now.net.now priced.new }
     ensures live { priced.new.live ≡ priced.old.live }
-    ensures flags { SetsFlagsAt net.now rows.now event (flags_of priced.old) (flags_of priced.new) }
+    ensures flags { SetsFlagsAt day.now.net.now day.now.rows.now event (flags_of priced.old) (flags_of priced.new) }
 {
-    charge_each(priced, net, rows, into);
-    set_passed(priced, net, rows, event, into);
+    charge_each(priced, day, into);
+    set_passed(priced, day, event, into);
 }
 
 /// Takes an event as passed or not, as the rows say. The row is that of the activities into it.
-fn set_passed(
-    priced: &mut PricedTimetable,
-    net: &Network,
-    rows: &Rows,
-    event: usize,
-    into: &[usize],
-)
-    requires priced { IsPriced net.now priced.old }
-    requires sized { IsSized net.now rows.now }
-    requires is_event { event < length net.now.events }
-    requires into { into.now ≡ places_into net.now event }
-    ensures priced { IsPriced net.now priced.new }
+fn set_passed(priced: &mut PricedTimetable, day: &Day<'_>, event: usize, into: &[usize])
+    requires priced { IsPriced day.now.net.now priced.old }
+    requires is_event { event < length day.now.net.now.events }
+    requires into { into.now ≡ places_into day.now.net.now event }
+    ensures priced { IsPriced day.now.net.now priced.new }
     ensures passed { priced.new ≡ record priced.old {
-      passed = slice_set priced.old.passed event (has_passed rows.now event);
+      passed = slice_set priced.old.passed event (has_passed day.now.rows.now event);
       sums = priced.new.sums;
     } }
 {
-    match rows.passed(event) {
-        Some(_) => priced.pass(net, event, into),
-        None => priced.recall(net, event, into),
+    match day.rows.passed(event) {
+        Some(_) => priced.pass(day.net, event, into),
+        None => priced.recall(day.net, event, into),
     }
 }
 
 /// Charges for those of these activities that are dropped changes whose head has not passed, and not for the others.
 #[tactic(auto, using(crate::proofs::Flagging::none_charged, crate::proofs::Flagging::next_charged))]
-fn charge_each(priced: &mut PricedTimetable, net: &Network, rows: &Rows, acts: &[usize])
-    requires priced { IsPriced net.now priced.old }
-    requires sized { IsSized net.now rows.now }
-    requires are_activities { All (λ a. a < length net.now.activities) acts.now }
-    ensures priced { IsPriced net.now priced.new }
+fn charge_each(priced: &mut PricedTimetable, day: &Day<'_>, acts: &[usize])
+    requires priced { IsPriced day.now.net.now priced.old }
+    requires are_activities { All (λ a. a < length day.now.net.now.activities) acts.now }
+    ensures priced { IsPriced day.now.net.now priced.new }
     ensures live { priced.new.live ≡ priced.old.live }
     ensures passed { priced.new.passed ≡ priced.old.passed }
-    ensures charged { Charges net.now rows.now (IsAmong acts.now (length acts.now)) priced.old.charged priced.new.charged }
+    ensures charged { Charges day.now.net.now day.now.rows.now (IsAmong acts.now (length acts.now)) priced.old.charged priced.new.charged }
 {
     for a in acts {
-        charge_one(priced, net, rows, *a);
+        charge_one(priced, day, *a);
     }
 }
 
 /// Charges for an activity if it is a dropped change whose head has not passed.
 #[tactic(auto, using(crate::proofs::Flagging::one_charged))]
-fn charge_one(priced: &mut PricedTimetable, net: &Network, rows: &Rows, a: usize)
-    requires priced { IsPriced net.now priced.old }
-    requires sized { IsSized net.now rows.now }
-    requires is_activity { a < length net.now.activities }
-    ensures priced { IsPriced net.now priced.new }
+fn charge_one(priced: &mut PricedTimetable, day: &Day<'_>, a: usize)
+    requires priced { IsPriced day.now.net.now priced.old }
+    requires is_activity { a < length day.now.net.now.activities }
+    ensures priced { IsPriced day.now.net.now priced.new }
     ensures live { priced.new.live ≡ priced.old.live }
     ensures passed { priced.new.passed ≡ priced.old.passed }
-    ensures charged { Charges net.now rows.now (IsOnly a) priced.old.charged priced.new.charged }
+    ensures charged { Charges day.now.net.now day.now.rows.now (IsOnly a) priced.old.charged priced.new.charged }
 {
-    priced.charge(net, a, is_dropped_change(net, rows, a));
+    priced.charge(day.net, a, is_dropped_change(day, a));
 }
 
 /// Whether an activity is a dropped change whose head has not passed.
-fn is_dropped_change(net: &Network, rows: &Rows, a: usize) -> bool
-    requires sized { IsSized net.now rows.now }
-    requires is_activity { a < length net.now.activities }
-    ensures { result ≡ is_dropped_change net.now rows.now a }
+fn is_dropped_change(day: &Day<'_>, a: usize) -> bool
+    requires is_activity { a < length day.now.net.now.activities }
+    ensures { result ≡ is_dropped_change day.now.net.now day.now.rows.now a }
 {
-    net.sound();
-    let activity = net.activity(a);
+    day.net.sound();
+    let activity = day.net.activity(a);
     matches!(activity.kind, ActKind::Change)
-        && !rows.kept(a)
-        && rows.passed(activity.head).is_none()
+        && !day.rows.kept(a)
+        && day.rows.passed(activity.head).is_none()
 }
 
 /// Charges for the dropped changes, and not for the kept ones, that flips decide about.
 #[tactic(auto, using(crate::proofs::Flagging::no_flip_charged))]
-pub fn charge_by_flips(priced: &mut PricedTimetable, net: &Network, rows: &Rows, flips: &[Flip])
-    requires priced { IsPriced net.now priced.old }
-    requires sized { IsSized net.now rows.now }
-    requires reaches { All (ReachesFlip rows.now) flips.now }
-    ensures priced { IsPriced net.now priced.new }
+pub fn charge_by_flips(priced: &mut PricedTimetable, day: &Day<'_>, flips: &[Flip])
+    requires priced { IsPriced day.now.net.now priced.old }
+    requires reaches { All (ReachesFlip day.now.rows.now) flips.now }
+    ensures priced { IsPriced day.now.net.now priced.new }
     ensures live { priced.new.live ≡ priced.old.live }
     ensures passed { priced.new.passed ≡ priced.old.passed }
-    ensures charged { Charges net.now rows.now (IsOfOneBefore IsNamed flips.now (length flips.now)) priced.old.charged priced.new.charged }
+    ensures charged { Charges day.now.net.now day.now.rows.now (IsOfOneBefore IsNamed flips.now (length flips.now)) priced.old.charged
+        priced.new.charged }
 {
     for flip in flips {
-        charge_by_flip(priced, net, rows, *flip);
+        charge_by_flip(priced, day, *flip);
     }
 }
 
 /// Charges for the change that a flip drops, or no longer for the one that it keeps.
 #[tactic(auto, using(crate::proofs::Flagging::charged_by, crate::proofs::Flagging::charged_as_before))]
-fn charge_by_flip(priced: &mut PricedTimetable, net: &Network, rows: &Rows, flip: Flip)
-    requires priced { IsPriced net.now priced.old }
-    requires sized { IsSized net.now rows.now }
-    requires reaches { ReachesFlip rows.now flip }
-    ensures priced { IsPriced net.now priced.new }
+fn charge_by_flip(priced: &mut PricedTimetable, day: &Day<'_>, flip: Flip)
+    requires priced { IsPriced day.now.net.now priced.old }
+    requires reaches { ReachesFlip day.now.rows.now flip }
+    ensures priced { IsPriced day.now.net.now priced.new }
     ensures live { priced.new.live ≡ priced.old.live }
     ensures passed { priced.new.passed ≡ priced.old.passed }
-    ensures charged { Charges net.now rows.now (IsNamed flip) priced.old.charged priced.new.charged }
+    ensures charged { Charges day.now.net.now day.now.rows.now (IsNamed flip) priced.old.charged priced.new.charged }
 {
     match flip {
-        Flip::Keep { act } | Flip::Drop { act } => charge_one(priced, net, rows, act),
+        Flip::Keep { act } | Flip::Drop { act } => charge_one(priced, day, act),
         Flip::First { .. } => {}
     }
 }

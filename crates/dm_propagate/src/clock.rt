@@ -1,6 +1,5 @@
 //! A timetable that is brought to follow rows at another clock.
 ghost use Rattle.std.specs.Prelude.{ℕ, ◌≡◌, ◌+◌, ◌<◌, All, List, true, length, slice_index, slice_index_or};
-ghost use Rattle.dm_rows.specs.Rows.{IsSized};
 ghost use Rattle.dm_rows.specs.Timetable.{floor_of};
 ghost use Rattle.dm_live.specs.Live.{LiveValue, is_fixed};
 ghost use Rattle.dm_priced.specs.Priced.{IsPriced};
@@ -9,11 +8,10 @@ ghost use Rattle.dm_propagate.specs.Inside.Changing.{AreFloorsAt, HaveFloorsFrom
 ghost use Rattle.dm_propagate.specs.Inside.Raising.{HaveFloorsBut, RaisesFloors};
 ghost use Rattle.dm_schedule.specs.Schedule.{IsScheduleOf};
 
+use crate::day::Day;
 use crate::sweeping::set_floors;
 use dm_base::Secs;
-use dm_network::Network;
 use dm_priced::PricedTimetable;
-use dm_rows::Rows;
 use dm_schedule::{Scheduled, scheduled_before};
 use dm_times::floor_of;
 
@@ -21,68 +19,60 @@ use dm_times::floor_of;
 /// back, an event that is scheduled at it or later has its floor already: a look at each other one finds those to change.
 pub fn move_clock(
     priced: &mut PricedTimetable,
-    net: &Network,
-    rows: &Rows,
+    day: &Day<'_>,
     schedule: &[Scheduled],
     earlier: Secs,
 )
-    requires priced { IsPriced net.now priced.old }
-    requires sized { IsSized net.now rows.now }
-    requires schedule { IsScheduleOf net.now schedule.now }
-    requires floors { AreFloorsAt net.now rows.now earlier priced.old.live.given }
-    requires fixed { FixesPassed rows.now priced.old.live.fixed }
-    ensures priced { IsPriced net.now priced.new }
+    requires priced { IsPriced day.now.net.now priced.old }
+    requires schedule { IsScheduleOf day.now.net.now schedule.now }
+    requires floors { AreFloorsAt day.now.net.now day.now.rows.now earlier priced.old.live.given }
+    requires fixed { FixesPassed day.now.rows.now priced.old.live.fixed }
+    ensures priced { IsPriced day.now.net.now priced.new }
     ensures flags { flags_of priced.new ≡ flags_of priced.old }
-    ensures floors { HasFloors net.now rows.now (length net.now.events) priced.old.live priced.new.live }
+    ensures floors { HasFloors day.now.net.now day.now.rows.now (length day.now.net.now.events) priced.old.live priced.new.live }
 {
-    let clock = rows.clock();
+    let clock = day.rows.clock();
     if clock < earlier {
-        set_floors(priced, net, rows);
+        set_floors(priced, day);
     } else {
         let due = scheduled_before(schedule, clock);
-        raise_floors(priced, net, rows, clock, due);
+        raise_floors(priced, day, clock, due);
     }
 }
 
 /// Gives each event its floor by the rows, where each that is not due has it already, and so has each that has one from a
 /// clock on.
 #[tactic(auto, using(crate::proofs::Raising::none_raised, crate::proofs::Raising::all_raised))]
-fn raise_floors(
-    priced: &mut PricedTimetable,
-    net: &Network,
-    rows: &Rows,
-    clock: Secs,
-    due: &[Scheduled],
-)
-    requires priced { IsPriced net.now priced.old }
-    requires sized { IsSized net.now rows.now }
-    requires are_events { All (λ s. s.event < length net.now.events) due.now }
-    requires stand { HaveFloorsFrom net.now rows.now clock priced.old.live.given }
-    requires others { HaveFloorsBut net.now rows.now due.now priced.old.live.given }
-    requires stay { FloorsStay net.now rows.now priced.old.live.given priced.old.live.fixed }
-    ensures priced { IsPriced net.now priced.new }
+fn raise_floors(priced: &mut PricedTimetable, day: &Day<'_>, clock: Secs, due: &[Scheduled])
+    requires priced { IsPriced day.now.net.now priced.old }
+    requires are_events { All (λ s. s.event < length day.now.net.now.events) due.now }
+    requires stand { HaveFloorsFrom day.now.net.now day.now.rows.now clock priced.old.live.given }
+    requires others { HaveFloorsBut day.now.net.now day.now.rows.now due.now priced.old.live.given }
+    requires stay { FloorsStay day.now.net.now day.now.rows.now priced.old.live.given priced.old.live.fixed }
+    ensures priced { IsPriced day.now.net.now priced.new }
     ensures flags { flags_of priced.new ≡ flags_of priced.old }
-    ensures floors { HasFloors net.now rows.now (length net.now.events) priced.old.live priced.new.live }
+    ensures floors { HasFloors day.now.net.now day.now.rows.now (length day.now.net.now.events) priced.old.live priced.new.live }
 {
     for scheduled in due {
         if clock <= priced.live().floor(scheduled.event) {
             continue;
         }
-        renew_floor(priced, net, rows, scheduled.event);
+        renew_floor(priced, day, scheduled.event);
     }
 }
 
 /// Gives one event its floor by the rows.
 #[tactic(auto, using(crate::proofs::Flagging::flags_stay))]
-fn renew_floor(priced: &mut PricedTimetable, net: &Network, rows: &Rows, i: usize)
-    requires priced { IsPriced net.now priced.old }
-    requires sized { IsSized net.now rows.now }
-    requires is_event { i < length net.now.events }
-    requires stays { is_fixed priced.old.live.fixed i ≡ true → slice_index priced.old.live.given.floors i ≡ floor_of net.now rows.now i }
-    ensures priced { IsPriced net.now priced.new }
+fn renew_floor(priced: &mut PricedTimetable, day: &Day<'_>, i: usize)
+    requires priced { IsPriced day.now.net.now priced.old }
+    requires is_event { i < length day.now.net.now.events }
+    requires stays { is_fixed priced.old.live.fixed i ≡ true →
+        slice_index priced.old.live.given.floors i ≡ floor_of day.now.net.now day.now.rows.now i }
+    ensures priced { IsPriced day.now.net.now priced.new }
     ensures flags { flags_of priced.new ≡ flags_of priced.old }
     ensures next { (before : LiveValue) (due : List Scheduled) (n : ℕ) → ((d : Scheduled) → (slice_index_or due n d).event ≡ i) →
-        RaisesFloors net.now rows.now due n before priced.old.live → RaisesFloors net.now rows.now due (n + 1) before priced.new.live }
+        RaisesFloors day.now.net.now day.now.rows.now due n before priced.old.live →
+        RaisesFloors day.now.net.now day.now.rows.now due (n + 1) before priced.new.live }
 {
-    priced.set_floor(net, i, floor_of(net, rows, i));
+    priced.set_floor(day.net, i, floor_of(day.net, day.rows, i));
 }

@@ -28,6 +28,7 @@
 mod changing;
 mod charging;
 mod clock;
+mod day;
 mod engine;
 mod held;
 pub mod laws;

@@ -19,6 +19,7 @@ ghost use Rattle.dm_propagate.specs.Inside.Changing.{FollowsAt, MarksFor};
 ghost use Rattle.dm_propagate.specs.Inside.Noting.{KeepsTimesBut};
 
 use crate::changing::{turn, turn_adopted};
+use crate::day::Day;
 use crate::noting::{note_passed, settle_noted};
 use dm_base::{Secs, Steps};
 use dm_graph::search::Cyclic;
@@ -72,14 +73,15 @@ pub fn move_to<L: Ledger>(
     ensures moved { TakesInMoved moved.old.flags moved.new.flags priced.old.live.times priced.new.live.times }
 {
     net.sound();
-    match turn_to(priced, net, other, what, schedule, rows.clock(), steps) {
+    let (day, next) = (Day { net, rows }, Day { net, rows: other });
+    match turn_to(priced, &next, what, schedule, rows.clock(), steps) {
         Ok(()) => {
             note_passed(moved, what);
             settle_noted(priced, net, moved, steps);
             Ok(())
         }
         Err(Cyclic) => {
-            come_back(priced, net, rows, what, schedule, other.clock(), steps);
+            come_back(priced, &day, what, schedule, other.clock(), steps);
             Err(Cyclic)
         }
     }
@@ -114,8 +116,9 @@ pub fn try_rows<L: Ledger>(
     ensures cycle { OnErr result (IsCycle net.now other.now priced.new.live.order.cycle) }
 {
     net.sound();
-    let outcome = turn_to(priced, net, other, what, schedule, rows.clock(), steps);
-    come_back(priced, net, rows, what, schedule, other.clock(), steps);
+    let (day, next) = (Day { net, rows }, Day { net, rows: other });
+    let outcome = turn_to(priced, &next, what, schedule, rows.clock(), steps);
+    come_back(priced, &day, what, schedule, other.clock(), steps);
     outcome
 }
 
@@ -123,66 +126,63 @@ pub fn try_rows<L: Ledger>(
 /// clock that it follows is the earlier one.
 fn come_back<L: Ledger>(
     priced: &mut PricedTimetable,
-    net: &Network,
-    rows: &Rows,
+    day: &Day<'_>,
     what: &Alteration<'_>,
     schedule: &[Scheduled],
     earlier: Secs,
     steps: &mut Steps<L>,
 )
-    requires sized { IsSized net.now rows.now }
-    requires reaches { Reaches rows.now (change_in what.now) }
-    requires priced { IsPriced net.now priced.old }
-    requires follows { FollowsBut net.now rows.now (change_in what.now) priced.old.live.given }
-    requires no_cycle { HasNoCycle net.now rows.now }
-    requires flags { AreFlagsBut net.now rows.now (change_in what.now) (flags_of priced.old) }
-    requires clock { FollowsAt net.now rows.now (change_in what.now) earlier priced.old.live.given }
-    requires schedule { IsScheduleOf net.now schedule.now }
-    ensures priced { IsPriced net.now priced.new }
+    requires reaches { Reaches day.now.rows.now (change_in what.now) }
+    requires priced { IsPriced day.now.net.now priced.old }
+    requires follows { FollowsBut day.now.net.now day.now.rows.now (change_in what.now) priced.old.live.given }
+    requires no_cycle { HasNoCycle day.now.net.now day.now.rows.now }
+    requires flags { AreFlagsBut day.now.net.now day.now.rows.now (change_in what.now) (flags_of priced.old) }
+    requires clock { FollowsAt day.now.net.now day.now.rows.now (change_in what.now) earlier priced.old.live.given }
+    requires schedule { IsScheduleOf day.now.net.now schedule.now }
+    ensures priced { IsPriced day.now.net.now priced.new }
     ensures at_rest { IsAtRest priced.new.live }
-    ensures follows { FollowsRows net.now rows.now priced.new.live.given }
-    ensures flags { AreFlagsOf net.now rows.now (flags_of priced.new) }
-    ensures least { IsLeast net.now rows.now priced.new.live.times }
+    ensures follows { FollowsRows day.now.net.now day.now.rows.now priced.new.live.given }
+    ensures flags { AreFlagsOf day.now.net.now day.now.rows.now (flags_of priced.new) }
+    ensures least { IsLeast day.now.net.now day.now.rows.now priced.new.live.times }
     ensures cycle_stays { priced.new.live.order.cycle ≡ priced.old.live.order.cycle }
 {
-    net.sound();
-    let Ok(()) = turn_to(priced, net, rows, what, schedule, earlier, steps) else {
+    day.net.sound();
+    let Ok(()) = turn_to(priced, day, what, schedule, earlier, steps) else {
         unreachable!();
     };
-    priced.settle(net, steps);
+    priced.settle(day.net, steps);
 }
 
 /// Brings a timetable that follows rows, but for what a change concerns, to follow them altogether. Where the rows have a
 /// cycle, it follows them still but for that, and such a cycle is its last. The clock that it follows is the earlier one.
 fn turn_to<L: Ledger>(
     priced: &mut PricedTimetable,
-    net: &Network,
-    rows: &Rows,
+    day: &Day<'_>,
     what: &Alteration<'_>,
     schedule: &[Scheduled],
     earlier: Secs,
     steps: &mut Steps<L>,
 ) -> Result<(), Cyclic>
-    requires priced { IsPriced net.now priced.old }
-    requires sized { IsSized net.now rows.now }
-    requires reaches { Reaches rows.now (change_in what.now) }
-    requires follows { FollowsBut net.now rows.now (change_in what.now) priced.old.live.given }
-    requires flags { AreFlagsBut net.now rows.now (change_in what.now) (flags_of priced.old) }
-    requires clock { FollowsAt net.now rows.now (change_in what.now) earlier priced.old.live.given }
-    requires schedule { IsScheduleOf net.now schedule.now }
-    ensures priced { IsPriced net.now priced.new }
-    ensures follows { OnOk result (FollowsRows net.now rows.now priced.new.live.given) }
-    ensures flags { AreFlagsOf net.now rows.now (flags_of priced.new) }
+    requires priced { IsPriced day.now.net.now priced.old }
+    requires reaches { Reaches day.now.rows.now (change_in what.now) }
+    requires follows { FollowsBut day.now.net.now day.now.rows.now (change_in what.now) priced.old.live.given }
+    requires flags { AreFlagsBut day.now.net.now day.now.rows.now (change_in what.now) (flags_of priced.old) }
+    requires clock { FollowsAt day.now.net.now day.now.rows.now (change_in what.now) earlier priced.old.live.given }
+    requires schedule { IsScheduleOf day.now.net.now schedule.now }
+    ensures priced { IsPriced day.now.net.now priced.new }
+    ensures follows { OnOk result (FollowsRows day.now.net.now day.now.rows.now priced.new.live.given) }
+    ensures flags { AreFlagsOf day.now.net.now day.now.rows.now (flags_of priced.new) }
     ensures cycle_stays { OnOk result (priced.new.live.order.cycle ≡ priced.old.live.order.cycle) }
-    ensures followed { FollowsBut net.now rows.now (change_in what.now) priced.new.live.given }
-    ensures cycle { OnErr result (IsCycle net.now rows.now priced.new.live.order.cycle) }
-    ensures clock { FollowsAt net.now rows.now (change_in what.now) rows.now.clock priced.new.live.given }
-    ensures marks { OnOk result (MarksFor net.now rows.now (change_in what.now) priced.old.live priced.new.live steps.old steps.new) }
+    ensures followed { FollowsBut day.now.net.now day.now.rows.now (change_in what.now) priced.new.live.given }
+    ensures cycle { OnErr result (IsCycle day.now.net.now day.now.rows.now priced.new.live.order.cycle) }
+    ensures clock { FollowsAt day.now.net.now day.now.rows.now (change_in what.now) day.now.rows.now.clock priced.new.live.given }
+    ensures marks { OnOk result (MarksFor day.now.net.now day.now.rows.now (change_in what.now) priced.old.live priced.new.live steps.old
+        steps.new) }
     ensures times { OnOk result (KeepsTimesBut (MovesPass (change_in what.now)) priced.old.live.times priced.new.live.times) }
 {
     let outcome = match what {
-        Alteration::Change(change) => turn(priced, net, rows, change, schedule, earlier, steps),
-        Alteration::Adoption(flips) => turn_adopted(priced, net, rows, flips, steps),
+        Alteration::Change(change) => turn(priced, day, change, schedule, earlier, steps),
+        Alteration::Adoption(flips) => turn_adopted(priced, day, flips, steps),
     };
     match outcome {
         Ok(()) => Ok(()),

@@ -10,12 +10,12 @@ ghost use Rattle.dm_propagate.specs.Inside.Flags.{MovesPass};
 ghost use Rattle.dm_propagate.specs.Inside.Noting.{NotesEach};
 
 use crate::moving::Alteration;
-use dm_base::{Secs, Steps};
+use dm_base::Steps;
 use dm_marks::PlaceSet;
 use dm_network::Network;
 use dm_priced::PricedTimetable;
 use dm_rows::Change;
-use dm_settle::{Constraints, Times, Watcher};
+use dm_settle::{Move, Watcher};
 use std::marker::{Brand, PhantomData};
 use std::sync::ledger::Ledger;
 
@@ -56,17 +56,8 @@ impl<P: Opening> Watcher for Noting<'_, P> {
 
     ghost flags = { λ w. [] };
 
-    fn moves(
-        &mut self,
-        _net: &Network,
-        _constraints: &Constraints,
-        _times: &Times,
-        event: usize,
-        _time: Secs,
-        _into: &[usize],
-        _out_of: &[usize],
-    ) {
-        self.moved.insert(event);
+    fn moves(&mut self, _net: &Network, to: &Move<'_>) {
+        self.moved.insert(to.event);
     }
 }
 

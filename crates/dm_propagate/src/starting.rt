@@ -12,6 +12,7 @@ ghost use Rattle.dm_propagate.specs.Inside.Flags.{flags_of, AreFlagsOf, FixesPas
 ghost use Rattle.dm_propagate.specs.Inside.Sweeping.{IsAtRestFor, IsHeldTo};
 
 use crate::charging::set_flags;
+use crate::day::Day;
 use crate::sweeping::follow;
 use dm_base::Steps;
 use dm_graph::search::Cyclic;
@@ -34,7 +35,7 @@ pub fn priced_for(alloc: Global, net: &Network, rows: &Rows) -> Result<PricedTim
 {
     match held_for(alloc, net, rows) {
         Ok(mut priced) => {
-            settle(&mut priced, net, rows);
+            settle(&mut priced, &Day { net, rows });
             Ok(priced)
         }
         Err(OrderFault::Cyclic) => Err(cycle_of(alloc, net, rows)),
@@ -53,7 +54,7 @@ fn held_for(alloc: Global, net: &Network, rows: &Rows) -> Result<PricedTimetable
         Err(fault) => return Err(fault),
     };
     let mut priced = empty_of(alloc, net, order)?;
-    match hold(&mut priced, net, rows) {
+    match hold(&mut priced, &Day { net, rows }) {
         Ok(()) => Ok(priced),
         Err(Cyclic) => Err(OrderFault::Cyclic),
     }
@@ -77,33 +78,30 @@ fn empty_of(alloc: Global, net: &Network, order: Order) -> Result<PricedTimetabl
 }
 
 /// Holds a timetable that holds nothing to rows, for a ledger that nothing reads.
-fn hold(priced: &mut PricedTimetable, net: &Network, rows: &Rows) -> Result<(), Cyclic>
-    requires sized { IsSized net.now rows.now }
-    requires priced { IsPriced net.now priced.old }
+fn hold(priced: &mut PricedTimetable, day: &Day<'_>) -> Result<(), Cyclic>
+    requires priced { IsPriced day.now.net.now priced.old }
     requires none { (a : ℕ) → is_held priced.old.live.given.held a ≡ false }
-    ensures held { OnOk result (IsHeldTo net.now rows.now priced.new) }
-    ensures cycle { OnErr result (IsCycle net.now rows.now priced.new.live.order.cycle) }
+    ensures held { OnOk result (IsHeldTo day.now.net.now day.now.rows.now priced.new) }
+    ensures cycle { OnErr result (IsCycle day.now.net.now day.now.rows.now priced.new.live.order.cycle) }
 {
-    hold_with::<Brand>(priced, net, rows, Blank::new(1))
+    hold_with::<Brand>(priced, day, Blank::new(1))
 }
 
 fn hold_with<L: Ledger>(
     priced: &mut PricedTimetable,
-    net: &Network,
-    rows: &Rows,
+    day: &Day<'_>,
     blank: Blank,
 ) -> Result<(), Cyclic>
-    requires sized { IsSized net.now rows.now }
-    requires priced { IsPriced net.now priced.old }
+    requires priced { IsPriced day.now.net.now priced.old }
     requires none { (a : ℕ) → is_held priced.old.live.given.held a ≡ false }
     requires name { blank.name ≡ L.name }
     requires parts { blank.parts ≡ L.parts }
     requires has_a_part { 0 < blank.parts }
-    ensures held { OnOk result (IsHeldTo net.now rows.now priced.new) }
-    ensures cycle { OnErr result (IsCycle net.now rows.now priced.new.live.order.cycle) }
+    ensures held { OnOk result (IsHeldTo day.now.net.now day.now.rows.now priced.new) }
+    ensures cycle { OnErr result (IsCycle day.now.net.now day.now.rows.now priced.new.live.order.cycle) }
 {
     let mut steps = Steps::<L>::new(blank);
-    match follow(priced, net, rows, &mut steps) {
+    match follow(priced, day, &mut steps) {
         Ok(()) => Ok(()),
         Err(Cyclic) => Err(Cyclic),
     }
@@ -122,31 +120,29 @@ fn cycle_of(alloc: Global, net: &Network, rows: &Rows) -> NoTimes
 }
 
 /// Sets the flags of a timetable to what rows say, and settles it, for a ledger that nothing reads.
-fn settle(priced: &mut PricedTimetable, net: &Network, rows: &Rows)
-    requires priced { IsPriced net.now priced.old }
-    requires sized { IsSized net.now rows.now }
-    requires fixed { FixesPassed rows.now priced.old.live.fixed }
-    ensures priced { IsPriced net.now priced.new }
+fn settle(priced: &mut PricedTimetable, day: &Day<'_>)
+    requires priced { IsPriced day.now.net.now priced.old }
+    requires fixed { FixesPassed day.now.rows.now priced.old.live.fixed }
+    ensures priced { IsPriced day.now.net.now priced.new }
     ensures at_rest { IsAtRest priced.new.live }
     ensures given { priced.new.live.given ≡ priced.old.live.given }
-    ensures flags { AreFlagsOf net.now rows.now (flags_of priced.new) }
+    ensures flags { AreFlagsOf day.now.net.now day.now.rows.now (flags_of priced.new) }
 {
-    settle_with::<Brand>(priced, net, rows, Blank::new(1));
+    settle_with::<Brand>(priced, day, Blank::new(1));
 }
 
-fn settle_with<L: Ledger>(priced: &mut PricedTimetable, net: &Network, rows: &Rows, blank: Blank)
-    requires priced { IsPriced net.now priced.old }
-    requires sized { IsSized net.now rows.now }
-    requires fixed { FixesPassed rows.now priced.old.live.fixed }
+fn settle_with<L: Ledger>(priced: &mut PricedTimetable, day: &Day<'_>, blank: Blank)
+    requires priced { IsPriced day.now.net.now priced.old }
+    requires fixed { FixesPassed day.now.rows.now priced.old.live.fixed }
     requires name { blank.name ≡ L.name }
     requires parts { blank.parts ≡ L.parts }
     requires has_a_part { 0 < blank.parts }
-    ensures priced { IsPriced net.now priced.new }
+    ensures priced { IsPriced day.now.net.now priced.new }
     ensures at_rest { IsAtRest priced.new.live }
     ensures given { priced.new.live.given ≡ priced.old.live.given }
-    ensures flags { AreFlagsOf net.now rows.now (flags_of priced.new) }
+    ensures flags { AreFlagsOf day.now.net.now day.now.rows.now (flags_of priced.new) }
 {
     let mut steps = Steps::<L>::new(blank);
-    set_flags(priced, net, rows, &mut steps);
-    priced.settle(net, &mut steps);
+    set_flags(priced, day, &mut steps);
+    priced.settle(day.net, &mut steps);
 }

@@ -1,7 +1,7 @@
 //! A timetable that is brought to follow rows at what a change concerns.
 ghost use Rattle.std.specs.Prelude.{ℕ, ◌≡◌, ◌<◌, ◌⊎◌, Some, true, false, length, slice_set, All, OnOk, OnErr};
 ghost use Rattle.dm_network.specs.Net.{places_into, places_out_of};
-ghost use Rattle.dm_rows.specs.Rows.{IsSized, passed_at};
+ghost use Rattle.dm_rows.specs.Rows.{passed_at};
 ghost use Rattle.dm_rows.specs.Active.{has_passed};
 ghost use Rattle.dm_rows.specs.Reach.{Reaches, ReachesFlip};
 ghost use Rattle.dm_rows.specs.Timetable.{floor_of};
@@ -13,12 +13,13 @@ ghost use Rattle.dm_propagate.specs.Inside.Concern.{FollowsBut, LeadsAt, IsDecid
 ghost use Rattle.dm_propagate.specs.Inside.Turning.{Within, LetsGo, TakesUp, IsRefused};
 ghost use Rattle.dm_propagate.specs.Inside.Changing.{HasPlace};
 
+use crate::day::Day;
 use crate::held::{let_go, take_up};
 use dm_base::Steps;
 use dm_graph::search::Cyclic;
-use dm_network::{Network, Pair};
+use dm_network::Pair;
 use dm_priced::PricedTimetable;
-use dm_rows::{Flip, Rows};
+use dm_rows::Flip;
 use dm_times::floor_of;
 use std::sync::ledger::Ledger;
 
@@ -26,51 +27,49 @@ use std::sync::ledger::Ledger;
 #[tactic(auto, using(crate::proofs::Around::let_go_around))]
 pub fn let_go_around(
     priced: &mut PricedTimetable,
-    net: &Network,
-    rows: &Rows,
+    day: &Day<'_>,
     event: usize,
     into: &[usize],
     out: &[usize],
 )
-    requires priced { IsPriced net.now priced.old }
-    requires sized { IsSized net.now rows.now }
-    requires is_event { event < length net.now.events }
-    requires into { into.now ≡ places_into net.now event }
-    requires out { out.now ≡ places_out_of net.now event }
-    ensures priced { IsPriced net.now priced.new }
+    requires priced { IsPriced day.now.net.now priced.old }
+    requires is_event { event < length day.now.net.now.events }
+    requires into { into.now ≡ places_into day.now.net.now event }
+    requires out { out.now ≡ places_out_of day.now.net.now event }
+    ensures priced { IsPriced day.now.net.now priced.new }
     ensures flags { flags_of priced.new ≡ flags_of priced.old }
-    ensures gone { LetsGo net.now rows.now (Within net.now (LeadsAt net.now event)) priced.old.live priced.new.live }
+    ensures gone { LetsGo day.now.net.now day.now.rows.now (Within day.now.net.now (LeadsAt day.now.net.now event)) priced.old.live
+        priced.new.live }
 {
-    let_go(priced, net, rows, into);
-    let_go(priced, net, rows, out);
+    let_go(priced, day, into);
+    let_go(priced, day, out);
 }
 
 /// Holds the active activities that lead into an event or out of it. They are among those of these two rows. One that would
 /// make a cycle is refused.
 pub fn take_up_around(
     priced: &mut PricedTimetable,
-    net: &Network,
-    rows: &Rows,
+    day: &Day<'_>,
     event: usize,
     into: &[usize],
     out: &[usize],
 ) -> Result<(), Cyclic>
-    requires priced { IsPriced net.now priced.old }
-    requires sized { IsSized net.now rows.now }
-    requires is_event { event < length net.now.events }
-    requires into { into.now ≡ places_into net.now event }
-    requires out { out.now ≡ places_out_of net.now event }
-    requires open { FixesNoOther rows.now priced.old.live.fixed }
-    ensures priced { IsPriced net.now priced.new }
+    requires priced { IsPriced day.now.net.now priced.old }
+    requires is_event { event < length day.now.net.now.events }
+    requires into { into.now ≡ places_into day.now.net.now event }
+    requires out { out.now ≡ places_out_of day.now.net.now event }
+    requires open { FixesNoOther day.now.rows.now priced.old.live.fixed }
+    ensures priced { IsPriced day.now.net.now priced.new }
     ensures flags { flags_of priced.new ≡ flags_of priced.old }
-    ensures taken { OnOk result (TakesUp net.now rows.now (Within net.now (LeadsAt net.now event)) priced.old.live priced.new.live) }
-    ensures refused { OnErr result (IsRefused net.now rows.now priced.old.live priced.new.live) }
+    ensures taken { OnOk result (TakesUp day.now.net.now day.now.rows.now (Within day.now.net.now (LeadsAt day.now.net.now event))
+        priced.old.live priced.new.live) }
+    ensures refused { OnErr result (IsRefused day.now.net.now day.now.rows.now priced.old.live priced.new.live) }
 {
-    match take_up(priced, net, rows, into) {
+    match take_up(priced, day, into) {
         Ok(()) => {}
         Err(Cyclic) => return Err(Cyclic),
     }
-    match take_up(priced, net, rows, out) {
+    match take_up(priced, day, out) {
         Ok(()) => Ok(()),
         Err(Cyclic) => Err(Cyclic),
     }
@@ -82,138 +81,132 @@ pub fn take_up_around(
 #[tactic(auto, using(crate::proofs::Noted::keeps_but_one, crate::proofs::Noted::keeps_all))]
 pub fn set_place<L: Ledger>(
     priced: &mut PricedTimetable,
-    net: &Network,
-    rows: &Rows,
+    day: &Day<'_>,
     event: usize,
     into: &[usize],
     out: &[usize],
     steps: &mut Steps<L>,
 )
-    requires priced { IsPriced net.now priced.old }
-    requires sized { IsSized net.now rows.now }
-    requires is_event { event < length net.now.events }
-    requires into { into.now ≡ places_into net.now event }
-    requires out { out.now ≡ places_out_of net.now event }
-    requires entered { (t : ℕ) → passed_at rows.now event ≡ Some t → IsEnteredByNone net.now priced.old.live.given.held event }
-    ensures priced { IsPriced net.now priced.new }
+    requires priced { IsPriced day.now.net.now priced.old }
+    requires is_event { event < length day.now.net.now.events }
+    requires into { into.now ≡ places_into day.now.net.now event }
+    requires out { out.now ≡ places_out_of day.now.net.now event }
+    requires entered { (t : ℕ) → passed_at day.now.rows.now event ≡ Some t → IsEnteredByNone day.now.net.now priced.old.live.given.held
+        event }
+    ensures priced { IsPriced day.now.net.now priced.new }
     ensures flags { flags_of priced.new ≡ record (flags_of priced.old)
-        { fixed = slice_set priced.old.live.fixed event (has_passed rows.now event) } }
-    ensures place { HasPlace net.now rows.now event priced.old.live priced.new.live steps.old steps.new }
+        { fixed = slice_set priced.old.live.fixed event (has_passed day.now.rows.now event) } }
+    ensures place { HasPlace day.now.net.now day.now.rows.now event priced.old.live priced.new.live steps.old steps.new }
 {
-    match rows.passed(event) {
-        Some(time) => priced.fix(net, event, time, into, out, steps),
-        None => open_place(priced, net, rows, event, out),
+    match day.rows.passed(event) {
+        Some(time) => priced.fix(day.net, event, time, into, out, steps),
+        None => open_place(priced, day, event, out),
     }
 }
 
 /// Gives an event that has not passed its floor by the rows, and lets its time move.
-fn open_place(priced: &mut PricedTimetable, net: &Network, rows: &Rows, event: usize, out: &[usize])
-    requires priced { IsPriced net.now priced.old }
-    requires sized { IsSized net.now rows.now }
-    requires is_event { event < length net.now.events }
-    requires out { out.now ≡ places_out_of net.now event }
-    ensures priced { IsPriced net.now priced.new }
-    ensures given { priced.new.live.given ≡ with_floor priced.old.live.given event (floor_of net.now rows.now event) }
+fn open_place(priced: &mut PricedTimetable, day: &Day<'_>, event: usize, out: &[usize])
+    requires priced { IsPriced day.now.net.now priced.old }
+    requires is_event { event < length day.now.net.now.events }
+    requires out { out.now ≡ places_out_of day.now.net.now event }
+    ensures priced { IsPriced day.now.net.now priced.new }
+    ensures given { priced.new.live.given ≡ with_floor priced.old.live.given event (floor_of day.now.net.now day.now.rows.now event) }
     ensures times { priced.new.live.times ≡ priced.old.live.times }
     ensures cycle_stays { priced.new.live.order.cycle ≡ priced.old.live.order.cycle }
     ensures flag { priced.new.live.fixed ≡ slice_set priced.old.live.fixed event false }
     ensures passed { priced.new.passed ≡ priced.old.passed }
     ensures charged { priced.new.charged ≡ priced.old.charged }
 {
-    priced.free(net, event, out);
-    priced.set_floor(net, event, floor_of(net, rows, event));
+    priced.free(day.net, event, out);
+    priced.set_floor(day.net, event, floor_of(day.net, day.rows, event));
 }
 
 /// Lets the activities go that a flip decides about and that are not active.
 fn let_go_by_flip<L: Ledger>(
     priced: &mut PricedTimetable,
-    net: &Network,
-    rows: &Rows,
+    day: &Day<'_>,
     flip: Flip,
     steps: &mut Steps<L>,
 )
-    requires priced { IsPriced net.now priced.old }
-    requires sized { IsSized net.now rows.now }
-    requires reaches { ReachesFlip rows.now flip }
-    ensures priced { IsPriced net.now priced.new }
+    requires priced { IsPriced day.now.net.now priced.old }
+    requires reaches { ReachesFlip day.now.rows.now flip }
+    ensures priced { IsPriced day.now.net.now priced.new }
     ensures flags { flags_of priced.new ≡ flags_of priced.old }
-    ensures gone { LetsGo net.now rows.now (Within net.now (IsDecided net.now flip)) priced.old.live priced.new.live }
+    ensures gone { LetsGo day.now.net.now day.now.rows.now (Within day.now.net.now (IsDecided day.now.net.now flip)) priced.old.live
+        priced.new.live }
 {
     match flip {
-        Flip::Keep { act } | Flip::Drop { act } => let_go(priced, net, rows, &[act]),
-        Flip::First { pair, .. } => let_go_pair(priced, net, rows, pair, steps),
+        Flip::Keep { act } | Flip::Drop { act } => let_go(priced, day, &[act]),
+        Flip::First { pair, .. } => let_go_pair(priced, day, pair, steps),
     }
 }
 
 /// Lets the activities go that lead out of the events of a pair and are not active.
 fn let_go_pair<L: Ledger>(
     priced: &mut PricedTimetable,
-    net: &Network,
-    rows: &Rows,
+    day: &Day<'_>,
     pair: usize,
     steps: &mut Steps<L>,
 )
-    requires priced { IsPriced net.now priced.old }
-    requires sized { IsSized net.now rows.now }
-    requires is_pair { pair < length net.now.pairs }
-    ensures priced { IsPriced net.now priced.new }
+    requires priced { IsPriced day.now.net.now priced.old }
+    requires is_pair { pair < length day.now.net.now.pairs }
+    ensures priced { IsPriced day.now.net.now priced.new }
     ensures flags { flags_of priced.new ≡ flags_of priced.old }
-    ensures gone { LetsGo net.now rows.now (Within net.now (IsDecided net.now (Flip.First pair true))) priced.old.live priced.new.live }
+    ensures gone { LetsGo day.now.net.now day.now.rows.now (Within day.now.net.now (IsDecided day.now.net.now (Flip.First pair true)))
+        priced.old.live priced.new.live }
 {
-    net.sound();
-    let Pair { small, large } = *net.pair(pair);
-    let_go(priced, net, rows, net.out_row(small, steps));
-    let_go(priced, net, rows, net.out_row(large, steps));
+    day.net.sound();
+    let Pair { small, large } = *day.net.pair(pair);
+    let_go(priced, day, day.net.out_row(small, steps));
+    let_go(priced, day, day.net.out_row(large, steps));
 }
 
 /// Holds the active activities that a flip decides about. One that would make a cycle is refused.
 fn take_up_by_flip<L: Ledger>(
     priced: &mut PricedTimetable,
-    net: &Network,
-    rows: &Rows,
+    day: &Day<'_>,
     flip: Flip,
     steps: &mut Steps<L>,
 ) -> Result<(), Cyclic>
-    requires priced { IsPriced net.now priced.old }
-    requires sized { IsSized net.now rows.now }
-    requires reaches { ReachesFlip rows.now flip }
-    requires open { FixesNoOther rows.now priced.old.live.fixed }
-    ensures priced { IsPriced net.now priced.new }
+    requires priced { IsPriced day.now.net.now priced.old }
+    requires reaches { ReachesFlip day.now.rows.now flip }
+    requires open { FixesNoOther day.now.rows.now priced.old.live.fixed }
+    ensures priced { IsPriced day.now.net.now priced.new }
     ensures flags { flags_of priced.new ≡ flags_of priced.old }
-    ensures taken { OnOk result (TakesUp net.now rows.now (Within net.now (IsDecided net.now flip)) priced.old.live priced.new.live) }
-    ensures refused { OnErr result (IsRefused net.now rows.now priced.old.live priced.new.live) }
+    ensures taken { OnOk result (TakesUp day.now.net.now day.now.rows.now (Within day.now.net.now (IsDecided day.now.net.now flip))
+        priced.old.live priced.new.live) }
+    ensures refused { OnErr result (IsRefused day.now.net.now day.now.rows.now priced.old.live priced.new.live) }
 {
     match flip {
-        Flip::Keep { act } | Flip::Drop { act } => take_up(priced, net, rows, &[act]),
-        Flip::First { pair, .. } => take_up_pair(priced, net, rows, pair, steps),
+        Flip::Keep { act } | Flip::Drop { act } => take_up(priced, day, &[act]),
+        Flip::First { pair, .. } => take_up_pair(priced, day, pair, steps),
     }
 }
 
 /// Holds the active activities out of the events of a pair. One that would make a cycle is refused.
 fn take_up_pair<L: Ledger>(
     priced: &mut PricedTimetable,
-    net: &Network,
-    rows: &Rows,
+    day: &Day<'_>,
     pair: usize,
     steps: &mut Steps<L>,
 ) -> Result<(), Cyclic>
-    requires priced { IsPriced net.now priced.old }
-    requires sized { IsSized net.now rows.now }
-    requires is_pair { pair < length net.now.pairs }
-    requires open { FixesNoOther rows.now priced.old.live.fixed }
-    ensures priced { IsPriced net.now priced.new }
+    requires priced { IsPriced day.now.net.now priced.old }
+    requires is_pair { pair < length day.now.net.now.pairs }
+    requires open { FixesNoOther day.now.rows.now priced.old.live.fixed }
+    ensures priced { IsPriced day.now.net.now priced.new }
     ensures flags { flags_of priced.new ≡ flags_of priced.old }
-    ensures taken { OnOk result (TakesUp net.now rows.now (Within net.now (IsDecided net.now (Flip.First pair true))) priced.old.live
+    ensures taken { OnOk result (TakesUp day.now.net.now day.now.rows.now (Within day.now.net.now (IsDecided day.now.net.now (Flip.First
+        pair true))) priced.old.live
         priced.new.live) }
-    ensures refused { OnErr result (IsRefused net.now rows.now priced.old.live priced.new.live) }
+    ensures refused { OnErr result (IsRefused day.now.net.now day.now.rows.now priced.old.live priced.new.live) }
 {
-    net.sound();
-    let Pair { small, large } = *net.pair(pair);
-    match take_up(priced, net, rows, net.out_row(small, steps)) {
+    day.net.sound();
+    let Pair { small, large } = *day.net.pair(pair);
+    match take_up(priced, day, day.net.out_row(small, steps)) {
         Ok(()) => {}
         Err(Cyclic) => return Err(Cyclic),
     }
-    match take_up(priced, net, rows, net.out_row(large, steps)) {
+    match take_up(priced, day, day.net.out_row(large, steps)) {
         Ok(()) => Ok(()),
         Err(Cyclic) => Err(Cyclic),
     }
@@ -222,44 +215,42 @@ fn take_up_pair<L: Ledger>(
 /// Lets the activities go that flips decide about and that are not active.
 pub fn let_go_by_flips<L: Ledger>(
     priced: &mut PricedTimetable,
-    net: &Network,
-    rows: &Rows,
+    day: &Day<'_>,
     flips: &[Flip],
     steps: &mut Steps<L>,
 )
-    requires priced { IsPriced net.now priced.old }
-    requires sized { IsSized net.now rows.now }
-    requires reaches { All (ReachesFlip rows.now) flips.now }
-    ensures priced { IsPriced net.now priced.new }
+    requires priced { IsPriced day.now.net.now priced.old }
+    requires reaches { All (ReachesFlip day.now.rows.now) flips.now }
+    ensures priced { IsPriced day.now.net.now priced.new }
     ensures flags { flags_of priced.new ≡ flags_of priced.old }
-    ensures gone { LetsGo net.now rows.now (Within net.now (IsDecidedBefore net.now flips.now (length flips.now))) priced.old.live
+    ensures gone { LetsGo day.now.net.now day.now.rows.now (Within day.now.net.now (IsDecidedBefore day.now.net.now flips.now (length
+        flips.now))) priced.old.live
         priced.new.live }
 {
     for flip in flips {
-        let_go_by_flip(priced, net, rows, *flip, steps);
+        let_go_by_flip(priced, day, *flip, steps);
     }
 }
 
 /// Holds the active activities that flips decide about. One that would make a cycle is refused.
 pub fn take_up_by_flips<L: Ledger>(
     priced: &mut PricedTimetable,
-    net: &Network,
-    rows: &Rows,
+    day: &Day<'_>,
     flips: &[Flip],
     steps: &mut Steps<L>,
 ) -> Result<(), Cyclic>
-    requires priced { IsPriced net.now priced.old }
-    requires sized { IsSized net.now rows.now }
-    requires reaches { All (ReachesFlip rows.now) flips.now }
-    requires open { FixesNoOther rows.now priced.old.live.fixed }
-    ensures priced { IsPriced net.now priced.new }
+    requires priced { IsPriced day.now.net.now priced.old }
+    requires reaches { All (ReachesFlip day.now.rows.now) flips.now }
+    requires open { FixesNoOther day.now.rows.now priced.old.live.fixed }
+    ensures priced { IsPriced day.now.net.now priced.new }
     ensures flags { flags_of priced.new ≡ flags_of priced.old }
-    ensures taken { OnOk result (TakesUp net.now rows.now (Within net.now (IsDecidedBefore net.now flips.now (length flips.now)))
+    ensures taken { OnOk result (TakesUp day.now.net.now day.now.rows.now (Within day.now.net.now (IsDecidedBefore day.now.net.now
+        flips.now (length flips.now)))
         priced.old.live priced.new.live) }
-    ensures refused { OnErr result (IsRefused net.now rows.now priced.old.live priced.new.live) }
+    ensures refused { OnErr result (IsRefused day.now.net.now day.now.rows.now priced.old.live priced.new.live) }
 {
     for flip in flips {
-        match take_up_by_flip(priced, net, rows, *flip, steps) {
+        match take_up_by_flip(priced, day, *flip, steps) {
             Ok(()) => {}
             Err(Cyclic) => return Err(Cyclic),
         }

@@ -7,16 +7,16 @@ use Rattle.dm_propagate.proofs.changing.turn_adopted.Goals as goal
 
 pub returns-clause-flags : goal.returns-clause-flags
 returns-clause-flags g c =
-    set_by c.args.net.now c.args.rows.now (Adopted c.args.flips.now) c.args.flips.now (λ i moves. moves) (λ a moves. moves)
+    set_by c.args.day.now.net.now c.args.day.now.rows.now (Adopted c.args.flips.now) c.args.flips.now (λ i moves. moves) (λ a moves. moves)
     (flags_of c.args.priced.now) (flags_of c.turn_by_flips.new.priced) c.requires.flags c.turn_by_flips.ensures.flags
 
 pub turn_by_flips-requires-clause-open : goal.turn_by_flips-requires-clause-open
 turn_by_flips-requires-clause-open g c =
-    no_other c.args.net.now c.args.rows.now (Adopted c.args.flips.now) (flags_of c.args.priced.now) (λ i moves. moves) c.requires.flags
+    no_other c.args.day.now.net.now c.args.day.now.rows.now (Adopted c.args.flips.now) (flags_of c.args.priced.now) (λ i moves. moves) c.requires.flags
 
 pub returns-clause-followed : goal.returns-clause-followed
 returns-clause-followed g c =
     on_err_weaker c.turn_by_flips.result
-    (λ refused. followed_by_all c.args.net.now c.args.rows.now c.args.flips.now c.args.priced.now.live c.turn_by_flips.new.priced.live refused
+    (λ refused. followed_by_all c.args.day.now.net.now c.args.day.now.rows.now c.args.flips.now c.args.priced.now.live c.turn_by_flips.new.priced.live refused
     c.turn_by_flips.ensures.floors c.requires.follows)
     c.turn_by_flips.ensures.refused

@@ -8,8 +8,8 @@ use Rattle.dm_propagate.proofs.changing.turn_by_flips.Goals as goal
 
 pub returns-in-Ok-clause-turned : goal.returns-in-Ok-clause-turned
 returns-in-Ok-clause-turned g c =
-    let net = c.args.net.now in
-    let rows = c.args.rows.now in
+    let net = c.args.day.now.net.now in
+    let rows = c.args.day.now.rows.now in
     let some = IsDecidedBefore net c.args.flips.now (length c.args.flips.now) in
     turned net rows some c.args.priced.now.live c.let_go_by_flips.new.priced.live c.let_go_by_flips.new.priced.live c.take_up_by_flips.new.priced.live
     (gone_from net rows (Within net some) c.args.priced.now.live c.charge_by_flips.new.priced.live c.let_go_by_flips.new.priced.live
@@ -18,8 +18,8 @@ returns-in-Ok-clause-turned g c =
 
 pub returns-in-Err-clause-refused : goal.returns-in-Err-clause-refused
 returns-in-Err-clause-refused g c =
-    let net = c.args.net.now in
-    let rows = c.args.rows.now in
+    let net = c.args.day.now.net.now in
+    let rows = c.args.day.now.rows.now in
     let some = IsDecidedBefore net c.args.flips.now (length c.args.flips.now) in
     turn_refused net rows some c.args.priced.now.live c.let_go_by_flips.new.priced.live c.let_go_by_flips.new.priced.live c.take_up_by_flips.new.priced.live
     (gone_from net rows (Within net some) c.args.priced.now.live c.charge_by_flips.new.priced.live c.let_go_by_flips.new.priced.live
@@ -32,7 +32,7 @@ returns-in-Ok-clause-flags g c = record {
       ∙ ap (λ (l : LiveValue). l.fixed) c.charge_by_flips.ensures.live;
   passed = ap (λ (f : FlagsValue). f.passed) c.take_up_by_flips.ensures.flags ∙ ap (λ (f : FlagsValue). f.passed) c.let_go_by_flips.ensures.flags
       ∙ c.charge_by_flips.ensures.passed;
-  charged = subst (λ (fs : List Bool). Charges c.args.net.now c.args.rows.now (IsOfOneBefore IsNamed c.args.flips.now (length c.args.flips.now)) c.args.priced.now.charged fs)
+  charged = subst (λ (fs : List Bool). Charges c.args.day.now.net.now c.args.day.now.rows.now (IsOfOneBefore IsNamed c.args.flips.now (length c.args.flips.now)) c.args.priced.now.charged fs)
       (sym (ap (λ (f : FlagsValue). f.charged) c.take_up_by_flips.ensures.flags ∙ ap (λ (f : FlagsValue). f.charged) c.let_go_by_flips.ensures.flags))
       c.charge_by_flips.ensures.charged;
 }
@@ -43,12 +43,12 @@ returns-in-Err-clause-flags g c = record {
       ∙ ap (λ (l : LiveValue). l.fixed) c.charge_by_flips.ensures.live;
   passed = ap (λ (f : FlagsValue). f.passed) c.take_up_by_flips.ensures.flags ∙ ap (λ (f : FlagsValue). f.passed) c.let_go_by_flips.ensures.flags
       ∙ c.charge_by_flips.ensures.passed;
-  charged = subst (λ (fs : List Bool). Charges c.args.net.now c.args.rows.now (IsOfOneBefore IsNamed c.args.flips.now (length c.args.flips.now)) c.args.priced.now.charged fs)
+  charged = subst (λ (fs : List Bool). Charges c.args.day.now.net.now c.args.day.now.rows.now (IsOfOneBefore IsNamed c.args.flips.now (length c.args.flips.now)) c.args.priced.now.charged fs)
       (sym (ap (λ (f : FlagsValue). f.charged) c.take_up_by_flips.ensures.flags ∙ ap (λ (f : FlagsValue). f.charged) c.let_go_by_flips.ensures.flags))
       c.charge_by_flips.ensures.charged;
 }
 
 pub take_up_by_flips-requires-clause-open : goal.take_up_by_flips-requires-clause-open
 take_up_by_flips-requires-clause-open g c =
-    subst (FixesNoOther c.args.rows.now)
+    subst (FixesNoOther c.args.day.now.rows.now)
     (sym (ap (λ (f : FlagsValue). f.fixed) c.let_go_by_flips.ensures.flags ∙ ap (λ (l : LiveValue). l.fixed) c.charge_by_flips.ensures.live)) c.requires.open

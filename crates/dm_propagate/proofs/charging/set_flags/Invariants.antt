@@ -5,4 +5,4 @@ use Rattle.dm_propagate.proofs.charging.set_flags.Given as goal
 
 abbrev pub invariant-loop-i : goal.invariant-loop-i
 invariant-loop-i g l =
-    IsPriced l.net l.priced × (l.priced.live ≡ l.initial.priced.live) × HasFlagsTo l.net l.rows l.i (flags_of l.priced)
+    IsPriced l.day.net.now l.priced × (l.priced.live ≡ l.initial.priced.live) × HasFlagsTo l.day.net.now l.day.rows.now l.i (flags_of l.priced)

@@ -9,15 +9,15 @@ use Rattle.dm_propagate.proofs.Flagging.{charges_into}
 use Rattle.dm_propagate.proofs.charging.set_flags_at.Goals as goal
 
 pub charge_each-requires-clause-are_activities : goal.charge_each-requires-clause-are_activities
-charge_each-requires-clause-are_activities c = in_row_below c.args.net.now c.args.event c.args.into.now c.requires.into
+charge_each-requires-clause-are_activities c = in_row_below c.args.day.now.net.now c.args.event c.args.into.now c.requires.into
 
 pub returns-clause-live : goal.returns-clause-live
 returns-clause-live c = ap (λ (p : PricedValue). p.live) c.set_passed.ensures.passed ∙ c.charge_each.ensures.live
 
 pub returns-clause-flags : goal.returns-clause-flags
 returns-clause-flags c =
-    let net = c.args.net.now in
-    let rows = c.args.rows.now in
+    let net = c.args.day.now.net.now in
+    let rows = c.args.day.now.rows.now in
     let row = c.args.into.now in
     let now = c.set_passed.new.priced in
     record {

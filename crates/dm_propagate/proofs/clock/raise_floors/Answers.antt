@@ -8,8 +8,8 @@ use Rattle.dm_propagate.proofs.clock.raise_floors.Goals as goal
 
 pub loop-scheduled-preserved-then-clock-floor : goal.loop-scheduled-preserved-then-clock-floor
 loop-scheduled-preserved-then-clock-floor c =
-    let net = c.args.net.now in
-    let rows = c.args.rows.now in
+    let net = c.args.day.now.net.now in
+    let rows = c.args.day.now.rows.now in
     let due = c.args.due.now in
     let n = c.loop-scheduled.scheduled-index in
     let before = c.args.priced.now.live in
@@ -38,5 +38,5 @@ loop-scheduled-preserved c = (
 
 pub renew_floor-requires-clause-stays : goal.renew_floor-requires-clause-stays
 renew_floor-requires-clause-stays c = λ on.
-    raised_stays c.args.net.now c.args.rows.now c.args.due.now c.loop-scheduled.scheduled-index _ c.args.priced.now.live c.loop-scheduled.priced.live
+    raised_stays c.args.day.now.net.now c.args.day.now.rows.now c.args.due.now c.loop-scheduled.scheduled-index _ c.args.priced.now.live c.loop-scheduled.priced.live
     c.args.priced.now.live.fixed c.loop-scheduled.priced.live.fixed (ap (λ (f : FlagsValue). f.fixed) c.loop-scheduled.invariant.1) (c.requires.are_events c.loop-scheduled.scheduled-index _ (omega arith)) c.requires.stay c.loop-scheduled.invariant.2 on

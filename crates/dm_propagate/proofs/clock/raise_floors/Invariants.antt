@@ -5,4 +5,4 @@ use Rattle.dm_propagate.specs.Inside.Raising.{RaisesFloors}
 use Rattle.dm_propagate.proofs.clock.raise_floors.Given as goal
 
 abbrev pub invariant-loop-scheduled : goal.invariant-loop-scheduled
-invariant-loop-scheduled l = IsPriced l.net l.priced × (flags_of l.priced ≡ flags_of l.initial.priced) × RaisesFloors l.net l.rows l.due l.scheduled-index l.initial.priced.live l.priced.live
+invariant-loop-scheduled l = IsPriced l.day.net.now l.priced × (flags_of l.priced ≡ flags_of l.initial.priced) × RaisesFloors l.day.net.now l.day.rows.now l.due l.scheduled-index l.initial.priced.live l.priced.live

@@ -4,8 +4,8 @@ use Rattle.dm_propagate.proofs.clock.renew_floor.Goals as goal
 
 pub returns-clause-next : goal.returns-clause-next
 returns-clause-next c = λ before due n here so.
-    let net = c.args.net.now in
-    let rows = c.args.rows.now in
+    let net = c.args.day.now.net.now in
+    let rows = c.args.day.now.rows.now in
     let i = c.args.i in
     let value = c.floor_of.ensures.value in
     let old = c.args.priced.now.live in

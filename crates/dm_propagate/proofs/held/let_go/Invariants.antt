@@ -5,4 +5,4 @@ use Rattle.dm_propagate.specs.Inside.Turning.{IsAmong, LetsGo}
 use Rattle.dm_propagate.proofs.held.let_go.Given as goal
 
 abbrev pub invariant-loop-a : goal.invariant-loop-a
-invariant-loop-a l = IsPriced l.net l.priced × (flags_of l.priced ≡ flags_of l.initial.priced) × LetsGo l.net l.rows (IsAmong l.acts l.a-index) l.initial.priced.live l.priced.live
+invariant-loop-a l = IsPriced l.day.net.now l.priced × (flags_of l.priced ≡ flags_of l.initial.priced) × LetsGo l.day.net.now l.day.rows.now (IsAmong l.acts l.a-index) l.initial.priced.live l.priced.live

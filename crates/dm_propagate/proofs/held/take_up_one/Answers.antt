@@ -14,10 +14,10 @@ returns-in-Ok-clause-taken c =
     let below : c.args.a < length c.args.priced.now.live.given.held = omega arith in
     let free : is_held c.args.priced.now.live.given.held c.args.a ≡ false =
     ap (λ (live : LiveValue). is_held live.given.held c.args.a) (sym c.live.ensures) ∙ sym c.is_held.ensures ∙ c.if-is_held.false in
-    taken_up_one c.args.net.now c.args.rows.now c.args.a c.requires.is_activity c.args.priced.now.live c.hold.new.self.live below c.in-Ok.ensures.mark
+    taken_up_one c.args.day.now.net.now c.args.day.now.rows.now c.args.a c.requires.is_activity c.args.priced.now.live c.hold.new.self.live below c.in-Ok.ensures.mark
     c.in-Ok.ensures.times c.in-Ok.ensures.cycle_stays c.in-Ok.ensures.held free (sym c.is_active.ensures ∙ c.if-not-is_active.false)
 
 pub hold-requires-clause-open : goal.hold-requires-clause-open
 hold-requires-clause-open c =
-    c.requires.open (activity_at c.args.net.now c.args.a).head
-    (ap is_some (head_is_free c.args.net.now c.args.rows.now c.args.a (sym c.is_active.ensures ∙ c.if-not-is_active.false)))
+    c.requires.open (activity_at c.args.day.now.net.now c.args.a).head
+    (ap is_some (head_is_free c.args.day.now.net.now c.args.day.now.rows.now c.args.a (sym c.is_active.ensures ∙ c.if-not-is_active.false)))

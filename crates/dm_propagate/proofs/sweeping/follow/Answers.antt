@@ -9,13 +9,13 @@ use Rattle.dm_propagate.proofs.sweeping.follow.Goals as goal
 
 pub take_up_all-requires-clause-open : goal.take_up_all-requires-clause-open
 take_up_all-requires-clause-open g c =
-    no_other_of c.args.rows.now c.set_spans.new.priced.live.fixed
-    (subst (FixesPassed c.args.rows.now) (sym c.set_spans.ensures.spans.fixed) c.set_places.ensures.fixed)
+    no_other_of c.args.day.now.rows.now c.set_spans.new.priced.live.fixed
+    (subst (FixesPassed c.args.day.now.rows.now) (sym c.set_spans.ensures.spans.fixed) c.set_places.ensures.fixed)
 
 pub returns-in-Ok-clause-held : goal.returns-in-Ok-clause-held
 returns-in-Ok-clause-held g c =
-    let net = c.args.net.now in
-    let rows = c.args.rows.now in
+    let net = c.args.day.now.net.now in
+    let rows = c.args.day.now.rows.now in
     let middle = c.set_spans.new.priced.live in
     let none : (a : ℕ) → is_held middle.given.held a ≡ false =
     λ a. ap (λ (h : List Bool). is_held h a) c.set_spans.ensures.spans.held ∙ c.set_places.ensures.places.none a in
@@ -32,8 +32,8 @@ returns-in-Ok-clause-held g c =
 
 pub returns-in-Err-clause-cycle : goal.returns-in-Err-clause-cycle
 returns-in-Err-clause-cycle g c =
-    let net = c.args.net.now in
-    let rows = c.args.rows.now in
+    let net = c.args.day.now.net.now in
+    let rows = c.args.day.now.rows.now in
     let middle = c.set_spans.new.priced.live in
     let none : (a : ℕ) → is_held middle.given.held a ≡ false =
     λ a. ap (λ (h : List Bool). is_held h a) c.set_spans.ensures.spans.held ∙ c.set_places.ensures.places.none a in

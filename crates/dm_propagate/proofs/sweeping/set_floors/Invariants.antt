@@ -5,4 +5,4 @@ use Rattle.dm_propagate.specs.Inside.Changing.{HasFloors}
 use Rattle.dm_propagate.proofs.sweeping.set_floors.Given as goal
 
 abbrev pub invariant-loop-i : goal.invariant-loop-i
-invariant-loop-i l = IsPriced l.net l.priced × (flags_of l.priced ≡ flags_of l.initial.priced) × HasFloors l.net l.rows l.i l.initial.priced.live l.priced.live
+invariant-loop-i l = IsPriced l.day.net.now l.priced × (flags_of l.priced ≡ flags_of l.initial.priced) × HasFloors l.day.net.now l.day.rows.now l.i l.initial.priced.live l.priced.live

@@ -5,10 +5,10 @@ use Rattle.dm_propagate.proofs.Placing.{none_placed, none_enters, next_placed, a
 use Rattle.dm_propagate.proofs.sweeping.set_places.Goals as goal
 
 pub loop-i-init : goal.loop-i-init
-loop-i-init g c = (c.requires.priced, none_placed c.args.net.now c.args.rows.now c.args.priced.now.live c.requires.none)
+loop-i-init g c = (c.requires.priced, none_placed c.args.day.now.net.now c.args.day.now.rows.now c.args.priced.now.live c.requires.none)
 
 pub set_place-requires-clause-entered : goal.set_place-requires-clause-entered
-set_place-requires-clause-entered g c = λ t passed. none_enters c.args.net.now c.loop-i.priced.live c.loop-i.i c.loop-i.invariant.1.none
+set_place-requires-clause-entered g c = λ t passed. none_enters c.args.day.now.net.now c.loop-i.priced.live c.loop-i.i c.loop-i.invariant.1.none
 
 pub loop-i-preserved : goal.loop-i-preserved
 loop-i-preserved g c =
@@ -18,7 +18,7 @@ loop-i-preserved g c =
     let below : c.loop-i.i < length c.loop-i.priced.live.given.floors = omega (arith, floors, c.loop-i-test.true, c.events-i-end.ensures) in
     let within : c.loop-i.i < length c.loop-i.priced.live.fixed = omega (arith, fixed, c.loop-i-test.true, c.events-i-end.ensures) in (
       c.set_place.ensures.priced,
-      next_placed c.args.net.now c.args.rows.now c.loop-i.i c.loop-i.priced.live c.set_place.new.priced.live _ _ c.loop-i.invariant.1 below within
+      next_placed c.args.day.now.net.now c.args.day.now.rows.now c.loop-i.i c.loop-i.priced.live c.set_place.new.priced.live _ _ c.loop-i.invariant.1 below within
           c.set_place.ensures.place (ap (λ (f : FlagsValue). f.fixed) c.set_place.ensures.flags),
     )
 
@@ -32,5 +32,5 @@ returns-clause-places g c =
 
 pub returns-clause-fixed : goal.returns-clause-fixed
 returns-clause-fixed g c =
-    all_fixed c.args.net.now c.args.rows.now (length c.args.net.now.events) c.loop-i.priced.live (returns-clause-places g c) c.loop-i.invariant.0.live.as_many_fixed
-    c.requires.sized.passed
+    all_fixed c.args.day.now.net.now c.args.day.now.rows.now (length c.args.day.now.net.now.events) c.loop-i.priced.live (returns-clause-places g c) c.loop-i.invariant.0.live.as_many_fixed
+    c.args.day.now.sized.passed

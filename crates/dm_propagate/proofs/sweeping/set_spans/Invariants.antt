@@ -3,4 +3,4 @@ use Rattle.dm_propagate.specs.Inside.Sweeping.{SpansTo}
 use Rattle.dm_propagate.proofs.sweeping.set_spans.Given as goal
 
 abbrev pub invariant-loop-a : goal.invariant-loop-a
-invariant-loop-a l = IsPriced l.net l.priced × SpansTo l.net l.rows l.a l.initial.priced.live l.priced.live
+invariant-loop-a l = IsPriced l.day.net.now l.priced × SpansTo l.day.net.now l.day.rows.now l.a l.initial.priced.live l.priced.live

@@ -6,4 +6,4 @@ use Rattle.dm_propagate.proofs.sweeping.take_up_all.Given as goal
 
 abbrev pub invariant-loop-a : goal.invariant-loop-a
 invariant-loop-a l =
-    IsPriced l.net l.priced × (flags_of l.priced ≡ flags_of l.initial.priced) × TakesUp l.net l.rows (IsBelow l.a) l.initial.priced.live l.priced.live
+    IsPriced l.day.net.now l.priced × (flags_of l.priced ≡ flags_of l.initial.priced) × TakesUp l.day.net.now l.day.rows.now (IsBelow l.a) l.initial.priced.live l.priced.live

@@ -6,12 +6,12 @@ use Rattle.dm_propagate.proofs.turning.set_place.Goals as goal
 
 pub returns-in-Some-clause-flags : goal.returns-in-Some-clause-flags
 returns-in-Some-clause-flags g c =
-    let is : has_passed c.args.rows.now c.args.event ≡ true = search rules in
-    flags_fixed c.args.priced.now c.fix.new.self c.args.event true (has_passed c.args.rows.now c.args.event)
+    let is : has_passed c.args.day.now.rows.now c.args.event ≡ true = search rules in
+    flags_fixed c.args.priced.now c.fix.new.self c.args.event true (has_passed c.args.day.now.rows.now c.args.event)
     (ap (λ (p : PricedValue). p.passed) c.fix.ensures.others) (ap (λ (p : PricedValue). p.charged) c.fix.ensures.others) c.fix.ensures.flag is
 
 pub returns-in-None-clause-flags : goal.returns-in-None-clause-flags
 returns-in-None-clause-flags g c =
-    let is : has_passed c.args.rows.now c.args.event ≡ false = search rules in
-    flags_fixed c.args.priced.now c.open_place.new.priced c.args.event false (has_passed c.args.rows.now c.args.event)
+    let is : has_passed c.args.day.now.rows.now c.args.event ≡ false = search rules in
+    flags_fixed c.args.priced.now c.open_place.new.priced c.args.event false (has_passed c.args.day.now.rows.now c.args.event)
     c.open_place.ensures.passed c.open_place.ensures.charged c.open_place.ensures.flag is

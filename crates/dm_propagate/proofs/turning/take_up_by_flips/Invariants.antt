@@ -7,4 +7,4 @@ use Rattle.dm_propagate.proofs.turning.take_up_by_flips.Given as goal
 
 abbrev pub invariant-loop-flip : goal.invariant-loop-flip
 invariant-loop-flip g l =
-    IsPriced l.net l.priced × (flags_of l.priced ≡ flags_of l.initial.priced) × TakesUp l.net l.rows (Within l.net (IsDecidedBefore l.net l.flips l.flip-index)) l.initial.priced.live l.priced.live
+    IsPriced l.day.net.now l.priced × (flags_of l.priced ≡ flags_of l.initial.priced) × TakesUp l.day.net.now l.day.rows.now (Within l.day.net.now (IsDecidedBefore l.day.net.now l.flips l.flip-index)) l.initial.priced.live l.priced.live
