@@ -1,5 +1,5 @@
 -- What an evaluator is after a decision is made, refused or taken back.
-use Rattle.std.proofs.Common.{◌≡◌, ℕ, ◌+◌, ◌<◌, Bool, true, false, List, [], ◌∷◌, ◌++◌, length, get_or, take, drop, suc, Some, sym, subst, ◌∙◌, arith}
+use Rattle.std.proofs.Common.{◌≡◌, ℕ, ◌+◌, ◌<◌, Bool, true, false, List, [], ◌∷◌, ◌++◌, length, get_or, take, drop, suc, Some, sym, ap, subst, ◌∙◌, arith}
 use Rattle.std.specs.Prelude.{Contains, slice_get}
 use Rattle.std.proofs.lemmas.List.{length-append}
 use Rattle.std.proofs.lemmas.Option.{slice_get-get_or}
@@ -16,12 +16,14 @@ use Rattle.dm_priced.specs.Priced.{PricedValue, IsPriced}
 use Rattle.dm_tree.specs.Relaxed.{IsRelaxedLeast, IsRelaxedCycle, HasNoRelaxedCycle}
 use Rattle.dm_evaluate.specs.Evaluator.{EvaluatorValue, IsEvaluatorOf, times_of, path_without}
 use Rattle.dm_evaluate.specs.Marks.{MarksValue, MarksUnkept}
-use Rattle.dm_paths.specs.Decisions.{AddsDecision, IsFlipOf}
+use Rattle.dm_paths.specs.Decisions.{AddsDecision, IsFlipOf, IsOpen}
+use Rattle.dm_evaluate.specs.Inside.Places.{DecidesAt}
 use Rattle.dm_evaluate.specs.Inside.Moves.{set_where, Turns, Stays, IsOff}
 use Rattle.dm_paths.specs.Decisions.{is_held_by}
 use Rattle.dm_paths.specs.Flags.{with_change, with_pair}
 use Rattle.dm_evaluate.proofs.Lists.{list_is_short, without_list, without_adds, without_at}
 use Rattle.dm_paths.proofs.Lists.{pushed}
+use Rattle.dm_paths.proofs.Open.{open_list}
 use Rattle.dm_evaluate.proofs.Moving.{stays_evaluates, decided_evaluates, undecided_evaluates, is_off, decision_cycle, one_relaxed_least}
 use Rattle.dm_evaluate.proofs.Relaxing.{relaxed_least, no_relaxed_cycle}
 use Rattle.dm_paths.proofs.Decided.{changes_decided, changes_undecided, pairs_decided, pairs_undecided}
@@ -35,7 +37,10 @@ evaluator_no_cycle net e is = no_relaxed_cycle net e.rows e.path e.priced is.eva
 
 module _ (net : Net) (network : IsNetwork net) (old : EvaluatorValue) (was : IsEvaluatorOf net old) where
   -- a decision more
-  module _ (d : Decision) (list : IsChoiceList net old.rows (old.path ++ d ∷ [])) (flip : Flip) (named : IsFlipOf net old.rows d flip) where
+  module _ (d : Decision) (opened : IsOpen net old.rows old.path (choice_of d)) (flip : Flip) (named : IsFlipOf net old.rows d flip) where
+    list : IsChoiceList net old.rows (old.path ++ d ∷ [])
+    list = open_list net old.rows old.path d was.is_path opened
+
     adds : AddsDecision old.path (old.path ++ d ∷ []) d
     adds = pushed net old.rows old.path d list
 
@@ -93,8 +98,20 @@ module _ (net : Net) (network : IsNetwork net) (old : EvaluatorValue) (was : IsE
       (relaxed_least net old.rows old.path priced (stays_evaluates net old.rows old.path old.priced priced was.evaluates is stays) network.formed.ends_are_known rest)
       (relaxed_least net old.rows old.path old.priced was.evaluates network.formed.ends_are_known was.at_rest)
 
-  -- a decision less
-  module _ (c : Choice) (d : Decision) (k : ℕ) (at : slice_get old.path k ≡ Some d) (lt : k < length old.path) (decides : is_same_choice (choice_of d) c ≡ true) where
+  -- a decision less, which is read where a path decides a choice
+  module _ (c : Choice) (d : Decision) (k : ℕ) (read : List Decision) (same : read ≡ old.path) (found : DecidesAt read c k) (is_read : d ≡ get_or old.path k d) where
+    decides_at : DecidesAt old.path c k
+    decides_at = subst (λ (p : List Decision). DecidesAt p c k) same found
+
+    lt : k < length old.path
+    lt = decides_at.within
+
+    at : slice_get old.path k ≡ Some d
+    at = slice_get-get_or old.path k d lt ∙ ap (λ (x : Decision). Some x) (sym is_read)
+
+    decides : is_same_choice (choice_of d) c ≡ true
+    decides = decides_at.decides d at
+
     here : get_or old.path k d ≡ d
     here = let e : Some (get_or old.path k d) ≡ Some d = sym (slice_get-get_or old.path k d lt) ∙ at in cc
 

@@ -163,6 +163,16 @@ module _ (net : Net) (network : IsNetwork net) (spans x : List ℕ) (e t : ℕ) 
   early_of : (p tail a : ℕ) → IsUnmetHeadway net spans (slice_set x e t) p tail a → IsEarlyHeadway net spans (slice_set x e t) p a
   early_of p tail a h = record { of_pair = h.of_pair; early = h.early }
 
+  -- a pair whose headways lead out of the event and into it
+  pair_there : (p tail from a b : ℕ) → IsUnmetHeadway net spans (slice_set x e t) p tail a → IsUnmetHeadway net spans (slice_set x e t) p from b →
+      (activity_at net b).head ≡ tail → tail ≡ e → is_marked pairs2 p ≡ true
+  pair_there p tail from a b out back enters is =
+      three.marked p (record {
+        out = a;
+        among = among_out a out.is_activity (out.leaves ∙ is);
+        both = record { there = early_of p tail a out; back = b; among = among_into b back.is_activity (enters ∙ is); returns = early_of p from b back };
+      })
+
   pairs_now : (p : ℕ) → p < length net.pairs → IsUnmetPair net spans (slice_set x e t) p → is_marked pairs2 p ≡ true
   pairs_now p below h =
       let small : ℕ = (pair_at net p).small in
@@ -170,27 +180,9 @@ module _ (net : Net) (network : IsNetwork net) (spans x : List ℕ) (e t : ℕ) 
       let there_head : (activity_at net h.there).head ≡ large = there_enters p h.there below h.from_small in
       let back_head : (activity_at net h.back).head ≡ small = back_enters p h.back below h.from_large in
       elim (cases_eq small e) [
-        | inl is ↦ three.marked p (record {
-          out = h.there;
-          among = among_out h.there h.from_small.is_activity (h.from_small.leaves ∙ is);
-          both = record {
-            there = early_of p small h.there h.from_small;
-            back = h.back;
-            among = among_into h.back h.from_large.is_activity (back_head ∙ is);
-            returns = early_of p large h.back h.from_large;
-          };
-        })
+        | inl is ↦ pair_there p small large h.there h.back h.from_small h.from_large back_head is
         | inr no_small ↦ elim (cases_eq large e) [
-          | inl is ↦ three.marked p (record {
-            out = h.back;
-            among = among_out h.back h.from_large.is_activity (h.from_large.leaves ∙ is);
-            both = record {
-              there = early_of p large h.back h.from_large;
-              back = h.there;
-              among = among_into h.there h.from_small.is_activity (there_head ∙ is);
-              returns = early_of p small h.there h.from_small;
-            };
-          })
+          | inl is ↦ pair_there p large small h.back h.there h.from_large h.from_small there_head is
           | inr no_large ↦ three.kept p (was.pairs p below (record {
             there = h.there;
             back = h.back;

@@ -49,6 +49,17 @@ module _ (net : Net) (rows : RowsValue) (path other : List Decision) where
         };
       }
 
+-- what a decision holds and charges for is set
+pub turned_evaluates : (net : Net) (rows : RowsValue) (path other : List Decision) (flip : Flip) (value : Bool) (before after : PricedValue) →
+    ((b : ℕ) → b < length net.activities → cond (is_held_by net flip b) value (is_relaxed_active net rows path b) ≡ is_relaxed_active net rows other b) →
+    ((b : ℕ) → b < length net.activities → cond (is_charged_by flip b) value (is_relaxed_dropped net rows path b) ≡ is_relaxed_dropped net rows other b) →
+    Evaluates net rows path before → IsPriced net after → Turns net flip value before after → Evaluates net rows other after
+turned_evaluates net rows path other flip value before after held charged was priced turns =
+    evaluates_other net rows path other before after was priced
+    (λ b lt. turns.held b lt ∙ ap (λ v. cond (is_held_by net flip b) value v) (was.held b lt) ∙ held b lt)
+    (λ b lt. turns.charged b lt ∙ ap (λ v. cond (is_charged_by flip b) value v) (was.price.charged b lt) ∙ charged b lt)
+    turns.fixed turns.passed turns.floors turns.spans
+
 -- what is held and charged for stays
 pub stays_evaluates : (net : Net) (rows : RowsValue) (path : List Decision) (before after : PricedValue) → Evaluates net rows path before → IsPriced net after →
     Stays net before after → Evaluates net rows path after
@@ -68,22 +79,16 @@ module _ (net : Net) (network : IsNetwork net) (rows : RowsValue) (sized : IsSiz
 
   module _ (flip : Flip) (is : IsFlipOf net rows d flip) (before after : PricedValue) where
     pub decided_evaluates : Evaluates net rows path before → IsPriced net after → Turns net flip true before after → Evaluates net rows other after
-    decided_evaluates was priced turns =
-        evaluates_other net rows path other before after was priced
-        (λ b lt. turns.held b lt ∙ ap (λ v. cond (is_held_by net flip b) true v) (was.held b lt)
-        ∙ set_on (is_held_by net flip b) (is_relaxed_active net rows path b) (is_relaxed_active net rows other b) (held_differs flip is b lt))
-        (λ b lt. turns.charged b lt ∙ ap (λ v. cond (is_charged_by flip b) true v) (was.price.charged b lt)
-        ∙ set_on (is_charged_by flip b) (is_relaxed_dropped net rows path b) (is_relaxed_dropped net rows other b) (charge_differs flip is b lt))
-        turns.fixed turns.passed turns.floors turns.spans
+    decided_evaluates =
+        turned_evaluates net rows path other flip true before after
+        (λ b lt. set_on (is_held_by net flip b) (is_relaxed_active net rows path b) (is_relaxed_active net rows other b) (held_differs flip is b lt))
+        (λ b lt. set_on (is_charged_by flip b) (is_relaxed_dropped net rows path b) (is_relaxed_dropped net rows other b) (charge_differs flip is b lt))
 
     pub undecided_evaluates : Evaluates net rows other before → IsPriced net after → Turns net flip false before after → Evaluates net rows path after
-    undecided_evaluates was priced turns =
-        evaluates_other net rows other path before after was priced
-        (λ b lt. turns.held b lt ∙ ap (λ v. cond (is_held_by net flip b) false v) (was.held b lt)
-        ∙ set_off (is_held_by net flip b) (is_relaxed_active net rows path b) (is_relaxed_active net rows other b) (held_differs flip is b lt))
-        (λ b lt. turns.charged b lt ∙ ap (λ v. cond (is_charged_by flip b) false v) (was.price.charged b lt)
-        ∙ set_off (is_charged_by flip b) (is_relaxed_dropped net rows path b) (is_relaxed_dropped net rows other b) (charge_differs flip is b lt))
-        turns.fixed turns.passed turns.floors turns.spans
+    undecided_evaluates =
+        turned_evaluates net rows other path flip false before after
+        (λ b lt. set_off (is_held_by net flip b) (is_relaxed_active net rows path b) (is_relaxed_active net rows other b) (held_differs flip is b lt))
+        (λ b lt. set_off (is_charged_by flip b) (is_relaxed_dropped net rows path b) (is_relaxed_dropped net rows other b) (charge_differs flip is b lt))
 
   module _ (flip : Flip) (is : IsFlipOf net rows d flip) (before : PricedValue) (was : Evaluates net rows path before) where
     pub is_off : IsOff net flip before

@@ -5,10 +5,10 @@ ghost use Rattle.dm_marks.specs.Marked.{is_marked};
 ghost use Rattle.dm_evaluate.specs.Marks.{MarksUnkept};
 
 use crate::marking::{mark_early, mark_unmet};
-use dm_base::{ActKind, Secs};
+use dm_base::ActKind;
 use dm_marks::Marks;
 use dm_network::Network;
-use dm_settle::{Constraints, Times, Watcher};
+use dm_settle::{Move, Watcher};
 use std::alloc::{AllocError, Global};
 
 /// Marks at the changes whose head comes too early and at the pairs of which neither direction has all its headways met,
@@ -55,29 +55,10 @@ impl Watcher for ViolationMarks {
 
     ghost flags = { λ m. [] };
 
-    fn moves(
-        &mut self,
-        net: &Network,
-        constraints: &Constraints,
-        times: &Times,
-        event: usize,
-        time: Secs,
-        into: &[usize],
-        out_of: &[usize],
-    ) {
+    fn moves(&mut self, net: &Network, to: &Move<'_>) {
         net.sound();
-        let changes = &mut self.changes;
-        mark_early(changes, net, constraints, times, event, time, into);
-        mark_early(changes, net, constraints, times, event, time, out_of);
-        mark_unmet(
-            &mut self.pairs,
-            net,
-            constraints,
-            times,
-            event,
-            time,
-            into,
-            out_of,
-        );
+        mark_early(&mut self.changes, net, to, to.into);
+        mark_early(&mut self.changes, net, to, to.out_of);
+        mark_unmet(&mut self.pairs, net, to);
     }
 }

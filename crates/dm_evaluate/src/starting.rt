@@ -30,7 +30,8 @@ pub fn root_timetable(alloc: Global, net: &Network, rows: &Rows) -> Result<Price
     match live_for(alloc, net, rows) {
         Ok(live) => {
             let mut priced = PricedTimetable::new(alloc, net, live)?;
-            settle(&mut priced, net, rows);
+            // Nothing reads the ledger.
+            settle::<Brand>(&mut priced, net, rows, Blank::new(1));
             Ok(priced)
         }
         Err(OrderFault::Cyclic) => Err(root_cycle(alloc, net, rows)),
@@ -83,21 +84,8 @@ fn root_cycle(alloc: Global, net: &Network, rows: &Rows) -> NoTimes
     }
 }
 
-/// Takes the events as passed that have, and settles a timetable, for a ledger that nothing reads.
-fn settle(priced: &mut PricedTimetable, net: &Network, rows: &Rows)
-    requires priced { IsPriced net.now priced.old }
-    requires sized { IsSized net.now rows.now }
-    ensures priced { IsPriced net.now priced.new }
-    ensures at_rest { IsAtRest priced.new.live }
-    ensures given { priced.new.live.given ≡ priced.old.live.given }
-    ensures fixed { priced.new.live.fixed ≡ priced.old.live.fixed }
-    ensures passed { HasPassedTo rows.now (length net.now.events) priced.new.passed }
-    ensures charged { priced.new.charged ≡ priced.old.charged }
-{
-    settle_with::<Brand>(priced, net, rows, Blank::new(1));
-}
-
-fn settle_with<L: Ledger>(priced: &mut PricedTimetable, net: &Network, rows: &Rows, blank: Blank)
+/// Takes the events as passed that have, and settles a timetable.
+fn settle<L: Ledger>(priced: &mut PricedTimetable, net: &Network, rows: &Rows, blank: Blank)
     requires priced { IsPriced net.now priced.old }
     requires sized { IsSized net.now rows.now }
     requires name { blank.name ≡ L.name }

@@ -1,31 +1,19 @@
-use Rattle.std.proofs.Common.{◌≡◌, List, Some, sym, ap, subst, ◌∙◌}
-use Rattle.std.specs.Prelude.{slice_get}
-use Rattle.std.proofs.lemmas.Option.{slice_get-get_or}
-use Rattle.dm_rows.specs.declared.messages.Decision.{Decision}
+use Rattle.std.proofs.Common.{sym, ap, subst, ◌∙◌}
 use Rattle.dm_evaluate.specs.Evaluator.{EvaluatorValue, IsEvaluatorOf, path_without}
-use Rattle.dm_evaluate.specs.Inside.Places.{DecidesAt}
 use Rattle.dm_evaluate.proofs.Decided.{evaluator_least, undecide_free, undecide_is, undecide_path}
 use Rattle.dm_evaluate.proofs.evaluator.Evaluator.undecide.Goals as goal
 
 pub flip_of-flip-requires : goal.flip_of-flip-requires
 flip_of-flip-requires g c =
-    let net = c.args.net.now in
     let old : EvaluatorValue = record { rows = c.self.inside.rows; path = c.self.inside.path.items; changes = c.self.inside.undecided.changes.items; pairs = c.self.inside.undecided.pairs.items; priced = c.self.inside.priced; marks = record { changes = c.self.inside.marks.changes; pairs = c.self.inside.marks.pairs } } in
-    let was = subst (IsEvaluatorOf net) (sym c.self.view_is) c.requires.evaluator in
-    let at = subst (λ (p : List Decision). DecidesAt p c.args.choice c.place_of-place.result) c.deref.ensures.value c.place_of-place.ensures in
-    let got : slice_get c.self.inside.path.items c.place_of-place.result ≡ Some c.index.result.now =
-    slice_get-get_or c.self.inside.path.items c.place_of-place.result c.index.result.now at.within ∙ ap (λ (x : Decision). Some x) (sym c.index.ensures) in
-    undecide_free net c.sound.ensures.network old was c.args.choice c.index.result.now c.place_of-place.result got at.within (at.decides c.index.result.now got)
+    undecide_free c.args.net.now c.sound.ensures.network old (subst (IsEvaluatorOf c.args.net.now) (sym c.self.view_is) c.requires.evaluator) c.args.choice c.index.result.now c.place_of-place.result
+    c.deref.result.now c.deref.ensures.value c.place_of-place.ensures c.index.ensures
 
 pub returns-clause-evaluator : goal.returns-clause-evaluator
 returns-clause-evaluator g c =
-    let net = c.args.net.now in
     let old : EvaluatorValue = record { rows = c.self.inside.rows; path = c.self.inside.path.items; changes = c.self.inside.undecided.changes.items; pairs = c.self.inside.undecided.pairs.items; priced = c.self.inside.priced; marks = record { changes = c.self.inside.marks.changes; pairs = c.self.inside.marks.pairs } } in
-    let was = subst (IsEvaluatorOf net) (sym c.self.view_is) c.requires.evaluator in
-    let at = subst (λ (p : List Decision). DecidesAt p c.args.choice c.place_of-place.result) c.deref.ensures.value c.place_of-place.ensures in
-    let got : slice_get c.self.inside.path.items c.place_of-place.result ≡ Some c.index.result.now =
-    slice_get-get_or c.self.inside.path.items c.place_of-place.result c.index.result.now at.within ∙ ap (λ (x : Decision). Some x) (sym c.index.ensures) in
-    undecide_is net c.sound.ensures.network old was c.args.choice c.index.result.now c.place_of-place.result got at.within (at.decides c.index.result.now got)
+    undecide_is c.args.net.now c.sound.ensures.network old (subst (IsEvaluatorOf c.args.net.now) (sym c.self.view_is) c.requires.evaluator) c.args.choice c.index.result.now c.place_of-place.result
+    c.deref.result.now c.deref.ensures.value c.place_of-place.ensures c.index.ensures
     c.flip_of-flip.result c.flip_of-flip.ensures.flip
     c.remove-decision.new.self.items c.set.new.self.changes.items c.set.new.self.pairs.items c.turn_off.new.priced
     c.remove-decision.ensures.items c.set.ensures.changes c.set.ensures.pairs c.turn_off.ensures.priced c.turn_off.ensures.at_rest c.turn_off.ensures.turns
@@ -33,13 +21,9 @@ returns-clause-evaluator g c =
 
 pub returns-clause-path : goal.returns-clause-path
 returns-clause-path g c =
-    let net = c.args.net.now in
     let old : EvaluatorValue = record { rows = c.self.inside.rows; path = c.self.inside.path.items; changes = c.self.inside.undecided.changes.items; pairs = c.self.inside.undecided.pairs.items; priced = c.self.inside.priced; marks = record { changes = c.self.inside.marks.changes; pairs = c.self.inside.marks.pairs } } in
-    let was = subst (IsEvaluatorOf net) (sym c.self.view_is) c.requires.evaluator in
-    let at = subst (λ (p : List Decision). DecidesAt p c.args.choice c.place_of-place.result) c.deref.ensures.value c.place_of-place.ensures in
-    let got : slice_get c.self.inside.path.items c.place_of-place.result ≡ Some c.index.result.now =
-    slice_get-get_or c.self.inside.path.items c.place_of-place.result c.index.result.now at.within ∙ ap (λ (x : Decision). Some x) (sym c.index.ensures) in
-    undecide_path net c.sound.ensures.network old was c.args.choice c.index.result.now c.place_of-place.result got at.within (at.decides c.index.result.now got)
+    undecide_path c.args.net.now c.sound.ensures.network old (subst (IsEvaluatorOf c.args.net.now) (sym c.self.view_is) c.requires.evaluator) c.args.choice c.index.result.now c.place_of-place.result
+    c.deref.result.now c.deref.ensures.value c.place_of-place.ensures c.index.ensures
     c.remove-decision.new.self.items c.remove-decision.ensures.items
     ∙ ap (λ (e : EvaluatorValue). path_without c.args.choice e.path) c.self.view_is
 
