@@ -11,6 +11,7 @@ use Rattle.dm_graph.proofs.Timetables.{same_is_least_alike}
 use Rattle.dm_graph.proofs.Transfers.{cycle_carries}
 use Rattle.dm_network.specs.Net.{Net, EndsAreKnown}
 use Rattle.dm_network.specs.Held.{arcs_of, is_held, HasNoCycleOf, ShowsCycleOf}
+use Rattle.dm_network.proofs.Holding.{binds_with}
 use Rattle.dm_rows.specs.Active.{is_active, HasNoCycle}
 use Rattle.dm_rows.specs.Rows.{RowsValue}
 use Rattle.dm_rows.specs.Timetable.{IsLeast, IsLeastHolding, floor_of, span_of, graph_holding}
@@ -104,28 +105,10 @@ filled net rows held_to empty holding floored given is held floors spans =
 -- the graph of the constraints is that of the rows
 module _ (net : Net) (rows : RowsValue) (held : ℕ → Bool) (given : ConstraintsValue) (are : AreConstraintsHolding net rows held given) where
   there : (a : ℕ) → Binds (arcs_given net given) a → BindsIn (arcs_given net given) (arcs_of net held) a
-  there a b = record {
-    binds = record {
-      is_arc = b.is_arc;
-      is_held = sym (are.held a b.is_arc) ∙ b.is_held;
-      from_event = b.from_event;
-      to_event = b.to_event;
-    };
-    same_tail = refl;
-    same_head = refl;
-  }
+  there = binds_with net (is_held given.held) held (λ a below holds. sym (are.held a below) ∙ holds)
 
   back : (a : ℕ) → Binds (arcs_of net held) a → BindsIn (arcs_of net held) (arcs_given net given) a
-  back a b = record {
-    binds = record {
-      is_arc = b.is_arc;
-      is_held = are.held a b.is_arc ∙ b.is_held;
-      from_event = b.from_event;
-      to_event = b.to_event;
-    };
-    same_tail = refl;
-    same_head = refl;
-  }
+  back = binds_with net held (is_held given.held) (λ a below holds. are.held a below ∙ holds)
 
   asks_no_more : AsksNoMore (graph_given net given) (graph_holding net rows held)
   asks_no_more = record {

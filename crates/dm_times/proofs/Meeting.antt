@@ -1,11 +1,9 @@
 -- Rows can be met exactly where they have no cycle; their start rows have none.
-use Rattle.std.proofs.Common.{ℕ, refl, ◌∙◌}
-use Rattle.dm_graph.specs.Arcs.{Binds, BindsIn}
-use Rattle.dm_graph.proofs.Transfers.{cycle_carries}
+use Rattle.std.proofs.Common.{◌∙◌}
 use Rattle.dm_network.specs.Net.{Net}
-use Rattle.dm_network.specs.Held.{arcs_of}
 use Rattle.dm_network.specs.Start.{IsNetwork, is_start_active}
-use Rattle.dm_rows.specs.Active.{is_active, active_arcs}
+use Rattle.dm_network.proofs.Holding.{cycle_with}
+use Rattle.dm_rows.specs.Active.{is_active}
 use Rattle.dm_rows.specs.Decide.{with_decisions}
 use Rattle.dm_rows.specs.Relax.{is_relaxed_active}
 use Rattle.dm_rows.specs.History.{rows_at}
@@ -35,15 +33,6 @@ met_exactly_without_cycle =
 pub start_has_no_cycle : StartHasNoCycle
 start_has_no_cycle net events activities network cycle c =
     let start : RowsValue = start_rows_of net events activities in
-    let same : (a : ℕ) → Binds (active_arcs net start) a → BindsIn (active_arcs net start) (arcs_of net (is_start_active net)) a =
-    λ a b. record {
-      binds = record {
-        is_arc = b.is_arc;
-        is_held = start_activity_agrees net events activities a network.formed b.is_arc ∙ b.is_held;
-        from_event = b.from_event;
-        to_event = b.to_event;
-      };
-      same_tail = refl;
-      same_head = refl;
-    } in
-    network.no_start_cycle cycle (cycle_carries (active_arcs net start) (arcs_of net (is_start_active net)) same cycle c)
+    network.no_start_cycle cycle
+    (cycle_with net (is_active net start) (is_start_active net)
+    (λ a below active. start_activity_agrees net events activities a network.formed below ∙ active) cycle c)
