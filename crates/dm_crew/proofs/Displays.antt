@@ -1,5 +1,5 @@
 -- Boards that are kept up over a server.
-use Rattle.std.proofs.Common.{◌≡◌, ℕ, false, inl, inr, ◌+◌, ◌-◌, ◌<◌, ◌≤◌, List, [], length, eqb, map, Option, Some, None, Result, Ok, Err, refl, sym, ap, subst, ◌∙◌, arith}
+use Rattle.std.proofs.Common.{◌≡◌, ℕ, true, false, inl, inr, ◌+◌, ◌-◌, ◌<◌, ◌≤◌, List, [], length, eqb, eqb-true, map, Option, Some, None, Result, Ok, Err, refl, sym, ap, subst, ◌∙◌, arith}
 use Rattle.std.specs.Prelude.{vec_capacity, OnOk}
 use mathlib.Core.List.{IsPrefix}
 use Rattle.std.proofs.lemmas.Bool.{cases_lt, eqb-false}
@@ -33,6 +33,7 @@ use Rattle.dm_crew.specs.declared.display.Display.{Display}
 use Rattle.dm_crew.specs.Boards.{AreShown}
 use Rattle.dm_crew.specs.Passes.{numbers_in, desk_of, IsSamePass}
 use Rattle.dm_crew.specs.Inside.Works.{IsGathered}
+use Rattle.dm_crew.proofs.Desks.{Holds, IsLegalAfter, holds_at, base_looked}
 use Rattle.dm_crew.specs.Inside.Displays.{IsFor, HasShownNothing, HasEarlierTimes, AreKept, AreUp, Shows}
 
 none_yet : AreTrueNotes 0 []
@@ -135,7 +136,7 @@ module _ {B : Type 0} (place : B → ℕ) (times_on : B → Option (ℕ → Opti
   IsShownAfter base seen display now old new =
       (first : List B) (entries : ℕ) → entries ≤ length seen → AreKept place times_on faults is_sound base.network entries display first old → AreUp place times_on faults is_sound base seen now first new
 
-  pub shows_history : (base : Base) (seen : List Entry) (display now : Display) (net : Net) (entry : ℕ) (old new : List B) → IsFor base.network (length old) display → net ≡ base.network → now.net.now ≡ base.network → vec_capacity display.listed ≤ vec_capacity now.listed → entry ≡ length seen → now.entries ≡ entry
+  shows_history : (base : Base) (seen : List Entry) (display now : Display) (net : Net) (entry : ℕ) (old new : List B) → IsFor base.network (length old) display → net ≡ base.network → now.net.now ≡ base.network → vec_capacity display.listed ≤ vec_capacity now.listed → entry ≡ length seen → now.entries ≡ entry
       → AreTimesAfter base seen now.times → map place new ≡ map place old → KeepsUpLast place times_on faults is_sound net display.publisher.last now.times old new display.publisher.notes now.publisher.notes
       → ((entries : ℕ) → entries ≤ entry → AreTrueNotes entries display.publisher.notes → AreTrueNotes entry now.publisher.notes)
       → now.publisher.last ≡ now.times → now.publisher.boards ≡ display.publisher.boards → now.publisher.events ≡ display.publisher.events → IsShownAfter base seen display now old new
@@ -171,10 +172,9 @@ module _ {B : Type 0} (place : B → ℕ) (times_on : B → Option (ℕ → Opti
   pub keeps_last : (net : Net) (last x : List ℕ) (old new : List B) (notes notes_now : List Note) → KeepsUp place times_on faults is_sound net x old new notes notes_now → KeepsUpLast place times_on faults is_sound net last x old new notes notes_now
   keeps_last net last x old new notes notes_now keeps = λ first kept shown. keeps first kept
 
-  -- no boards are up, whatever the times are
-  pub shows_none : (base : Base) (pass : PassValue Base) (display : Display) (none : List B) → length none ≡ 0 → IsLegal base.network base.start pass.seen → IsFor base.network (length none) display
+  none_shown : (base : Base) (pass : PassValue Base) (display : Display) (none : List B) → length none ≡ 0 → IsLegal base.network base.start pass.seen → IsFor base.network (length none) display
       → Shows place times_on faults is_sound base pass pass display display none none
-  shows_none base pass display none empty legal fits = record {
+  none_shown base pass display none empty legal fits = record {
     looked = record { later = prefix_self pass.seen; same = refl };
     legal = legal;
     up = λ first entries low k.
@@ -190,6 +190,28 @@ module _ {B : Type 0} (place : B → ℕ) (times_on : B → Option (ℕ → Opti
         };
     stops = refl;
   }
+
+  -- no boards are up, whatever the times are
+  pub shows_none : (base : Base) (pass : PassValue Base) (display : Display) (many : ℕ) (none : List B) → many ≡ length none → eqb many 0 ≡ true → IsLegal base.network base.start pass.seen → IsFor base.network many display
+      → Shows place times_on faults is_sound base pass pass display display none none
+  shows_none base pass display many none is empty legal fits =
+      none_shown base pass display none (omega (arith, eqb-true many 0 empty, is)) legal (subst (λ (n : ℕ). IsFor base.network n display) is fits)
+
+  -- boards that were shown the times after what the pass has then seen
+  pub shows_after : (base : Base) (before pass : PassValue Base) (display now : Display) (net : Net) (entry many : ℕ) (old new : List B) → many ≡ length old → IsFor base.network many display → before.base ≡ Some base → HasLooked before pass → Holds IsLegalAfter pass
+      → Holds (λ b seen. AreTimesAfter b seen now.times) pass → net ≡ base.network → now.net.now ≡ base.network → vec_capacity display.listed ≤ vec_capacity now.listed → entry ≡ length pass.seen → now.entries ≡ entry → map place new ≡ map place old
+      → KeepsUpLast place times_on faults is_sound net display.publisher.last now.times old new display.publisher.notes now.publisher.notes
+      → ((entries : ℕ) → entries ≤ entry → AreTrueNotes entries display.publisher.notes → AreTrueNotes entry now.publisher.notes)
+      → now.publisher.last ≡ now.times → now.publisher.boards ≡ display.publisher.boards → now.publisher.events ≡ display.publisher.events → Shows place times_on faults is_sound base before pass display now old new
+  shows_after base before pass display now net entry many old new is_many fits based looked legal times is network room here entries_are stops keeps noted last boards events =
+      let same = base_looked before pass looked in
+      record {
+        looked = looked;
+        legal = holds_at IsLegalAfter base before pass based same legal;
+        up = shows_history base pass.seen display now net entry old new (subst (λ (n : ℕ). IsFor base.network n display) is_many fits) is network room here entries_are
+            (holds_at (λ b seen. AreTimesAfter b seen now.times) base before pass based same times) stops keeps noted last boards events;
+        stops = stops;
+      }
 
   pub shown_first : (base : Base) (seen : List Entry) (display now : Display) (boards new : List B) → HasShownNothing display → IsShownAfter base seen display now boards new
       → AreUp place times_on faults is_sound base seen now boards new

@@ -1,19 +1,16 @@
 //! A day's feeds, answered at once.
 
-ghost use Rattle.std.specs.Prelude.{◌≡◌, ◌+◌, ◌<◌, ◌≤◌, [], Some, length, map, vec_len, IfOk};
+ghost use Rattle.std.specs.Prelude.{◌≡◌, ◌<◌, ◌≤◌, length, map, vec_len, IfOk};
 ghost use Rattle.dm_base.specs.declared.limits.TheConstants.{BOARDS, FEEDS, PENALTY};
 ghost use Rattle.dm_rows.specs.Active.{HasNoCycle};
 ghost use Rattle.dm_rows.specs.Rows.{IsSized};
 ghost use Rattle.dm_desk.specs.Planning.{PlansUnder};
 ghost use Rattle.dm_crew.specs.AtOnce.{AnswersDay, day_desk};
 ghost use Rattle.dm_crew.specs.Boards.{AreShown};
-ghost use Rattle.dm_crew.specs.Inside.Displays.{IsFor, HasShownNothing};
-ghost use Rattle.dm_crew.specs.Passes.{setting_of};
 ghost use Rattle.dm_crew.specs.Inside.Works.{first_pass};
 
-use crate::desk::Seat;
 use crate::display::Display;
-use crate::rounds::answer_feeds;
+use crate::rounds::Crew;
 use dm_cert::FeedLog;
 use dm_desk::Hold;
 use dm_network::Network;
@@ -75,58 +72,17 @@ pub fn answer_at_once<
     ensures stops { map place boards.new.items ≡ map place boards.old.items }
 {
     let seats = feeds.len() as u32 + 1;
-    let display = Display::new(alloc, net, boards.len())?;
-    let (server, main) = new_server(alloc, net, rows, penalty, seats)?;
-    answer_over::<Brand, R, S, L, H>(
-        rt, alloc, server, main, feeds, planner, gate, batch, display, boards,
-    )
-}
-
-// Answers feeds over a server with no entries, and closes it.
-fn answer_over<
-    'n,
-    P: Seat + Send + Sync,
-    R: Threads + Wait + Sync,
-    S: Source + Send + Drop,
-    L: Fn(&Snapshot, u64) -> Result<Plan, AllocError> + Sync,
-    H: Hold + Sync,
->(
-    rt: &R,
-    alloc: Global,
-    server: Server<'n>,
-    mut main: Pass<Kept<'n>>,
-    feeds: Vec<Option<S>>,
-    planner: &L,
-    gate: &H,
-    batch: u32,
-    mut display: Display<'n>,
-    boards: &mut Vec<Box<dyn Board>>,
-) -> Result<AnsweredDay<'n>, AllocError>
-    requires pass { main ≡ first_pass server.id P.base server.seats }
-    requires plans { PlansUnder (L.pre planner.now) (L.post planner.now) (setting_of P.base) }
-    requires few { length feeds.items ≤ FEEDS }
-    requires rooms { length feeds.items < server.seats }
-    requires some { 0 < batch }
-    requires fits { IsFor P.base.network (vec_len boards.old) display }
-    requires none { HasShownNothing display }
-    ensures answers { IfOk result (λ day. AnswersDay S.left S.is_sound P.base.network P.base.start P.base.penalty feeds.items batch
-        day.table day.logs.items) }
-    ensures shown { IfOk result (λ day. AreShown place times (λ b. (Board-box b).faults b.value) (λ b. (Board-box b).is_sound b.value)
-        P.base.network day.table.times (length day.table.history) day.publisher.notes boards.old.items boards.new.items) }
-    ensures stops { map place boards.new.items ≡ map place boards.old.items }
-{
-    let logs = answer_feeds::<P, R, S, L, H>(
+    let mut display = Display::new(alloc, net, boards.len())?;
+    let (server, mut main) = new_server(alloc, net, rows, penalty, seats)?;
+    let crew = Crew {
         rt,
         alloc,
-        &server,
-        &mut main,
-        feeds,
+        server: &server,
         planner,
         gate,
         batch,
-        &mut display,
-        boards,
-    )?;
+    };
+    let logs = crew.answer_feeds::<Brand, S>(&mut main, feeds, &mut display, boards)?;
     let table = server.close(main);
     Ok(AnsweredDay {
         table,

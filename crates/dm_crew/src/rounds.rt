@@ -9,12 +9,12 @@ ghost use Rattle.dm_desk.specs.Planning.{PlansUnder};
 ghost use Rattle.dm_rounds.specs.Rounds.{AnswersFeeds};
 ghost use Rattle.dm_rounds.specs.Inside.Jobs.{AnswersRound, CanReadAll, AllAreTrue};
 ghost use Rattle.dm_crew.specs.Passes.{setting_of, desk_of, IsSamePass};
-ghost use Rattle.dm_crew.specs.Inside.Works.{split_of, IsGathered};
+ghost use Rattle.dm_crew.specs.Inside.Works.{split_of, IsGathered, IsReady, AreWorkedEach};
 ghost use Rattle.dm_crew.specs.Inside.Displays.{IsFor, HasShownNothing, AreUp};
 
 use crate::desk::Seat;
 use crate::display::Display;
-use crate::work::{Work, work_all};
+use crate::work::{Work, count_read};
 use dm_cert::FeedLog;
 use dm_desk::Hold;
 use dm_outside::{Board, Source};
@@ -25,96 +25,116 @@ use dm_tree::Plan;
 use dm_turn::Pass;
 use std::alloc::{AllocError, Global};
 use std::sync::Wait;
+use std::thread;
 use std::thread::Threads;
 
-/// Answers feeds over a server until each has ended, in rounds of so many lines a feed, each round's feeds at once. Boards are
-/// shown the times before the first round, and after each round those that have moved. It may answer want of memory at any point
-/// up to the end of the last round, and then says nothing of the passes.
-pub fn answer_feeds<
-    'n,
-    P: Seat + Send + Sync,
-    R: Threads + Wait + Sync,
-    S: Source + Send + Drop,
-    L: Fn(&Snapshot, u64) -> Result<Plan, AllocError> + Sync,
-    H: Hold + Sync,
->(
-    rt: &R,
-    alloc: Global,
-    server: &Server<'n>,
-    main: &mut Pass<Kept<'n>>,
-    feeds: Vec<Option<S>>,
-    planner: &L,
-    gate: &H,
-    batch: u32,
-    display: &mut Display<'n>,
-    boards: &mut Vec<Box<dyn Board>>,
-) -> Result<Vec<FeedLog>, AllocError>
-    requires here { main.old.turn ≡ server.now.id }
-    requires idle { main.old.holds ≡ false }
-    requires base { main.old.base ≡ Some P.base }
-    requires legal { HasSeenLegal (desk_of P.base main.old) }
-    requires plans { PlansUnder (L.pre planner.now) (L.post planner.now) (setting_of P.base) }
-    requires few { length feeds.items ≤ FEEDS }
-    requires rooms { length feeds.items < main.old.room }
-    requires some { 0 < batch }
-    requires fits { IsFor P.base.network (vec_len boards.old) display.old }
-    requires none { HasShownNothing display.old }
-    ensures same { OnOk result (IsSamePass main.old main.new) }
-    ensures answers { IfOk result (λ logs. AnswersFeeds S.left S.is_sound feeds.items batch (desk_of P.base main.old)
-        (desk_of P.base main.new) logs.items) }
-    ensures up { OnOk result (AreUp place times (λ b. (Board-box b).faults b.value) (λ b. (Board-box b).is_sound b.value) P.base
-        main.new.seen display.new boards.old.items boards.new.items) }
-    ensures stops { map place boards.new.items ≡ map place boards.old.items }
-{
-    let logs = Vec::with_capacity(alloc, feeds.len())?;
-    let mut jobs = begin(alloc, feeds)?;
-    display.show::<P, R>(rt, server, main, boards);
-    for _ in rt.forever() {
-        if have_ended(&jobs) {
-            break;
-        }
-        jobs = answer_round::<P, R, S, L, H>(rt, alloc, server, main, jobs, planner, gate, batch)?;
-        display.show_growth::<P, R>(rt, server, main, boards);
-    }
-    Ok(logs_of(jobs, logs))
+/// What feeds are answered with: a server, what plans for it, a gate, and how many lines a feed has in a round.
+#[derive(Drop)]
+pub struct Crew<'c, 'n, R, L, H> {
+    pub rt: &'c R,
+    pub alloc: Global,
+    pub server: &'c Server<'n>,
+    pub planner: &'c L,
+    pub gate: &'c H,
+    pub batch: u32,
 }
 
-// Answers the next lines of each feed.
-fn answer_round<
+impl<
     'n,
-    P: Seat + Send + Sync,
     R: Threads + Wait + Sync,
-    S: Source + Send + Drop,
     L: Fn(&Snapshot, u64) -> Result<Plan, AllocError> + Sync,
     H: Hold + Sync,
->(
-    rt: &R,
-    alloc: Global,
-    server: &Server<'n>,
-    main: &mut Pass<Kept<'n>>,
-    jobs: Vec<Box<Job<S>>>,
-    planner: &L,
-    gate: &H,
-    batch: u32,
-) -> Result<Vec<Box<Job<S>>>, AllocError>
-    requires here { main.old.turn ≡ server.now.id }
-    requires idle { main.old.holds ≡ false }
-    requires base { main.old.base ≡ Some P.base }
-    requires legal { HasSeenLegal (desk_of P.base main.old) }
-    requires plans { PlansUnder (L.pre planner.now) (L.post planner.now) (setting_of P.base) }
-    requires can_read { CanReadAll (map (λ b. b.value) jobs.items) }
-    requires are_true { AllAreTrue (desk_of P.base main.old) (map (λ b. b.value) jobs.items) }
-    requires few { vec_len jobs ≤ FEEDS }
-    requires rooms { vec_len jobs < main.old.room }
-    requires some { 0 < batch }
-    ensures same { OnOk result (IsSamePass main.old main.new) }
-    ensures later { OnOk result (IsPrefix main.old.seen main.new.seen) }
-    ensures round { IfOk result (λ after. AnswersRound S.left S.is_sound batch (desk_of P.base main.old) (map (λ b. b.value) jobs.items)
-        (desk_of P.base main.new) (map (λ b. b.value) after.items)) }
-{
-    let works = share_out(alloc, server, main, jobs)?;
-    let works = work_all::<P, R, S, L, H>(rt, alloc, server, works, planner, gate, batch)?;
-    gather::<P, S>(alloc, server, main, works)
+> Crew<'_, 'n, R, L, H> {
+    /// Answers feeds over the server until each has ended, each round's feeds at once. Boards are shown the times before the first
+    /// round, and after each round those that have moved. It may answer want of memory at any point up to the end of the last round,
+    /// and then says nothing of the passes.
+    pub fn answer_feeds<P: Seat + Send + Sync, S: Source + Send + Drop>(
+        &self,
+        main: &mut Pass<Kept<'n>>,
+        feeds: Vec<Option<S>>,
+        display: &mut Display<'n>,
+        boards: &mut Vec<Box<dyn Board>>,
+    ) -> Result<Vec<FeedLog>, AllocError>
+        requires here { main.old.turn ≡ self.now.server.now.id }
+        requires idle { main.old.holds ≡ false }
+        requires base { main.old.base ≡ Some P.base }
+        requires legal { HasSeenLegal (desk_of P.base main.old) }
+        requires plans { PlansUnder (L.pre self.now.planner.now) (L.post self.now.planner.now) (setting_of P.base) }
+        requires few { length feeds.items ≤ FEEDS }
+        requires rooms { length feeds.items < main.old.room }
+        requires some { 0 < self.now.batch }
+        requires fits { IsFor P.base.network (vec_len boards.old) display.old }
+        requires none { HasShownNothing display.old }
+        ensures same { OnOk result (IsSamePass main.old main.new) }
+        ensures answers { IfOk result (λ logs. AnswersFeeds S.left S.is_sound feeds.items self.now.batch (desk_of P.base main.old)
+            (desk_of P.base main.new) logs.items) }
+        ensures up { OnOk result (AreUp place times (λ b. (Board-box b).faults b.value) (λ b. (Board-box b).is_sound b.value) P.base
+            main.new.seen display.new boards.old.items boards.new.items) }
+        ensures stops { map place boards.new.items ≡ map place boards.old.items }
+    {
+        let logs = Vec::with_capacity(self.alloc, feeds.len())?;
+        let mut jobs = begin(self.alloc, feeds)?;
+        display.show::<P, R>(self.rt, self.server, main, boards);
+        for _ in self.rt.forever() {
+            if have_ended(&jobs) {
+                break;
+            }
+            jobs = self.answer_round::<P, S>(main, jobs)?;
+            display.show_growth::<P, R>(self.rt, self.server, main, boards);
+        }
+        Ok(logs_of(jobs, logs))
+    }
+
+    // Answers the next lines of each feed.
+    fn answer_round<P: Seat + Send + Sync, S: Source + Send + Drop>(
+        &self,
+        main: &mut Pass<Kept<'n>>,
+        jobs: Vec<Box<Job<S>>>,
+    ) -> Result<Vec<Box<Job<S>>>, AllocError>
+        requires here { main.old.turn ≡ self.now.server.now.id }
+        requires idle { main.old.holds ≡ false }
+        requires base { main.old.base ≡ Some P.base }
+        requires legal { HasSeenLegal (desk_of P.base main.old) }
+        requires plans { PlansUnder (L.pre self.now.planner.now) (L.post self.now.planner.now) (setting_of P.base) }
+        requires can_read { CanReadAll (map (λ b. b.value) jobs.items) }
+        requires are_true { AllAreTrue (desk_of P.base main.old) (map (λ b. b.value) jobs.items) }
+        requires few { vec_len jobs ≤ FEEDS }
+        requires rooms { vec_len jobs < main.old.room }
+        requires some { 0 < self.now.batch }
+        ensures same { OnOk result (IsSamePass main.old main.new) }
+        ensures later { OnOk result (IsPrefix main.old.seen main.new.seen) }
+        ensures round { IfOk result (λ after. AnswersRound S.left S.is_sound self.now.batch (desk_of P.base main.old)
+            (map (λ b. b.value) jobs.items) (desk_of P.base main.new) (map (λ b. b.value) after.items)) }
+    {
+        let works = share_out(self.alloc, self.server, main, jobs)?;
+        let works = self.work_all::<P, S>(works)?;
+        gather::<P, S>(self.alloc, self.server, main, works)
+    }
+
+    // Answers the next lines of feeds. Where two or more are still read, each has a thread of its own if one can be made; else the
+    // caller does all the work, one feed after another.
+    fn work_all<P: Seat + Send + Sync, S: Source + Send + Drop>(
+        &self,
+        works: Vec<Work<'n, S>>,
+    ) -> Result<Vec<Work<'n, S>>, AllocError>
+        requires ready { All (λ w. IsReady self.now.server.now.id P.base w.feed w.pass w.job.value) works.items }
+        requires plans { PlansUnder (L.pre self.now.planner.now) (L.post self.now.planner.now) (setting_of P.base) }
+        ensures len { IfOk result (λ after. vec_len after ≡ vec_len works.entry) }
+        ensures each { IfOk result (λ after. AreWorkedEach S.left S.is_sound P.base self.now.batch works.entry.items after.items) }
+    {
+        if count_read(&works) >= 2 {
+            return thread::map_vec(
+                self.rt,
+                works,
+                &|work: Work<'_, S>| work.worked::<P, R, L, H>(self),
+            );
+        }
+        let mut done = Vec::with_capacity(self.alloc, works.len())?;
+        for work in works {
+            done.push(work.worked::<P, R, L, H>(self))?;
+        }
+        Ok(done)
+    }
 }
 
 // A part of the round for each feed, with a pass that is split from the main one.

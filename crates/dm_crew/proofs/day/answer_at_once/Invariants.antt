@@ -1,5 +1,5 @@
 use Rattle.dm_crew.specs.Inside.Seats.{base_in, no_pass}
 use Rattle.dm_crew.proofs.day.answer_at_once.Given as goal
 
-abbrev pub ghosts-answer_over : goal.ghosts-answer_over
-ghosts-answer_over g a = record { base = base_in a.main.base; pass = no_pass }
+abbrev pub ghosts-answer_feeds : goal.ghosts-answer_feeds
+ghosts-answer_feeds g a = record { base = base_in a.main.now.base; pass = no_pass }

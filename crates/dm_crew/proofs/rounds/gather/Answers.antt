@@ -24,13 +24,11 @@ pub loop-work-preserved : goal.loop-work-preserved
 loop-work-preserved g c =
     let w = c.in-Some.work in
     let inv = c.loop-work.invariant in
-    let rest = c.loop-work.work-iterator.rest.items in
-    let next = c.next.new.self.rest.items in
     let ok : IsOk w.answer = is_ok_of w.answer c.in_ok-answer.field-0 c.in_ok-answer.was in
-    let idle = all_here (λ (v : Work _). (v.pass.turn ≡ c.args.server.now.id) × (v.pass.holds ≡ false) × (v.pass.room ≡ 1)) c.loop-work.yielded rest next c.args.works.items w c.in-Some.ensures.steps.0 inv.whole c.requires.passes in
-    let legal = all_here (λ (v : Work _). OnOk v.answer (IsLegal g.P.Seat.base.network g.P.Seat.base.start v.pass.seen)) c.loop-work.yielded rest next c.args.works.items w c.in-Some.ensures.steps.0 inv.whole c.requires.legal_all in
+    let idle = all_here (λ (v : Work _). (v.pass.turn ≡ c.args.server.now.id) × (v.pass.holds ≡ false) × (v.pass.room ≡ 1)) c.loop-work.yielded _ _ c.args.works.items w c.in-Some.ensures.steps.0 inv.whole c.requires.passes in
+    let legal = all_here (λ (v : Work _). OnOk v.answer (IsLegal g.P.Seat.base.network g.P.Seat.base.start v.pass.seen)) c.loop-work.yielded _ _ c.args.works.items w c.in-Some.ensures.steps.0 inv.whole c.requires.legal_all in
     record {
-      whole = one_yielded c.loop-work.yielded rest next c.args.works.items w c.in-Some.ensures.steps.0 inv.whole;
+      whole = one_yielded c.loop-work.yielded _ _ c.args.works.items w c.in-Some.ensures.steps.0 inv.whole;
       jobs = mapped_push (λ (v : Work _). v.job) c.loop-work.yielded w c.loop-work.jobs.items c.push.new.self.items c.in_ok-push.ensures.items inv.jobs;
       all_ok = All-push (λ (v : Work _). IsOk v.answer) c.loop-work.yielded w inv.all_ok ok;
       gathered =

@@ -1,10 +1,9 @@
-use Rattle.std.proofs.Common.{◌≡◌, ℕ, length, vec_len, eqb-true, refl, sym, ap, subst, ◌∙◌, arith}
+use Rattle.std.proofs.Common.{◌≡◌, length, vec_len, refl, sym, ap, subst, ◌∙◌, arith}
 use Rattle.dm_network.specs.Net.{Net}
 use Rattle.dm_server.specs.declared.kept.Base.{Base}
 use Rattle.dm_server.specs.Answers.{AreTimesAfter}
-use Rattle.dm_crew.specs.Inside.Displays.{IsFor}
-use Rattle.dm_crew.proofs.Desks.{IsLegalAfter, holds_at, base_looked}
-use Rattle.dm_crew.proofs.Displays.{some_base, shows_history, shows_none, keeps_last}
+use Rattle.dm_crew.proofs.Desks.{holds_at, base_looked}
+use Rattle.dm_crew.proofs.Displays.{some_base, shows_after, shows_none, keeps_last}
 use Rattle.dm_crew.proofs.display.Display.show.Goals as goal
 
 pub copy_times-entry-requires-clause-size : goal.copy_times-entry-requires-clause-size
@@ -24,21 +23,11 @@ publish-dropped-requires-clause-boards g c = sym c.requires.fits.boards
 
 pub returns-then-is_empty : goal.returns-then-is_empty
 returns-then-is_empty g c =
-    let none : vec_len c.args.boards.now ≡ 0 = eqb-true _ 0 (sym c.if-is_empty.ensures) in
-    let fits = subst (λ (n : ℕ). IsFor g.P.Seat.base.network n c.args.self.now) c.args.boards.now.ok.0 c.requires.fits in
-    shows_none _ _ _ _ g.P.Seat.base c.args.main.now c.args.self.now c.args.boards.now.items (omega arith) c.requires.legal fits
+    shows_none _ _ _ _ g.P.Seat.base c.args.main.now c.args.self.now (vec_len c.args.boards.now) c.args.boards.now.items c.args.boards.now.ok.0 (sym c.if-is_empty.ensures) c.requires.legal c.requires.fits
 
 pub returns : goal.returns
 returns g c =
-    let pass = c.copy_times-entry.new.pass in
-    let same = base_looked c.args.main.now pass c.copy_times-entry.ensures.looked in
-    let least = holds_at (λ base seen. AreTimesAfter base seen c.copy_times-entry.new.into) g.P.Seat.base c.args.main.now pass c.requires.base same c.copy_times-entry.ensures.times in
     let p = c.publish-dropped.ensures in
-    let fits = subst (λ (n : ℕ). IsFor g.P.Seat.base.network n c.args.self.now) c.args.boards.now.ok.0 c.requires.fits in
-    record {
-      looked = c.copy_times-entry.ensures.looked;
-      legal = holds_at IsLegalAfter g.P.Seat.base c.args.main.now pass c.requires.base same c.copy_times-entry.ensures.legal;
-      up = shows_history _ _ _ _ g.P.Seat.base pass.seen c.args.self.now _ c.args.self.now.net.now c.copy_times-entry.result c.args.boards.now.items c.publish-dropped.new.boards.items
-          fits c.requires.fits.network c.requires.fits.network (omega arith) c.copy_times-entry.ensures.number refl least p.published.stops (keeps_last _ _ _ _ _ _ _ _ _ _ _ p.keeps_up) p.true_notes p.last p.same_boards p.same_events;
-      stops = p.published.stops;
-    }
+    shows_after _ _ _ _ g.P.Seat.base c.args.main.now c.copy_times-entry.new.pass c.args.self.now _ c.args.self.now.net.now c.copy_times-entry.result (vec_len c.args.boards.now) c.args.boards.now.items c.publish-dropped.new.boards.items
+    c.args.boards.now.ok.0 c.requires.fits c.requires.base c.copy_times-entry.ensures.looked c.copy_times-entry.ensures.legal c.copy_times-entry.ensures.times
+    c.requires.fits.network c.requires.fits.network (omega arith) c.copy_times-entry.ensures.number refl p.published.stops (keeps_last _ _ _ _ _ _ _ _ _ _ _ p.keeps_up) p.true_notes p.last p.same_boards p.same_events

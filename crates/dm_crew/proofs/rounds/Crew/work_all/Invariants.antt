@@ -1,11 +1,11 @@
 use Rattle.std.proofs.Common.{◌≡◌, ◌++◌, length}
 use Rattle.dm_crew.specs.Inside.Works.{AreWorkedEach}
-use Rattle.dm_crew.proofs.work.work_in_turn.Given as goal
+use Rattle.dm_crew.proofs.rounds.Crew.work_all.Given as goal
 
 abbrev pub invariant-loop-work : goal.invariant-loop-work
 invariant-loop-work g l =
     record {
       whole : l.yielded ++ l.work-iterator.rest.items ≡ l.fn.works.items;
       many : length l.done.items ≡ length l.yielded;
-      each : AreWorkedEach g.S.Source.left g.S.Source.is_sound g.P.Seat.base l.fn.batch l.yielded l.done.items;
+      each : AreWorkedEach g.S.Source.left g.S.Source.is_sound g.P.Seat.base l.fn.self.batch l.yielded l.done.items;
     }
