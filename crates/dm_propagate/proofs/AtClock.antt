@@ -48,6 +48,18 @@ at_clock_after net rows (Flipped flip) clock given at = tt
 at_clock_after net rows (Adopted flips) clock given at = tt
 at_clock_after net rows (Clock t) clock given at = at
 
+-- the same of rows and of a clock that are read
+module _ (net : Net) (rows other : RowsValue) (change : Change) (other_is : other ≡ after_change rows change) (given : ConstraintsValue) (clock : ℕ) where
+  pub other_at_clock : clock ≡ rows.clock → FollowsRows net rows given → FollowsAt net other change clock given
+  other_at_clock clock_is follows =
+      subst (λ (t : ℕ). FollowsAt net other change t given) (sym clock_is)
+      (subst (λ (r : RowsValue). FollowsAt net r change rows.clock given) (sym other_is) (at_clock_before net rows change given follows))
+
+  pub rows_at_clock : clock ≡ other.clock → FollowsAt net other change other.clock given → FollowsAt net rows change clock given
+  rows_at_clock clock_is at =
+      subst (λ (t : ℕ). FollowsAt net rows change t given) (sym clock_is)
+      (at_clock_after net rows change other.clock given (subst (λ (r : RowsValue). FollowsAt net r change other.clock given) other_is at))
+
 -- a fixed event has the same floor at any clock
 fixed_floor : (passed : Option ℕ) (x y : ℕ) → is_some passed ≡ true → unwrap_or passed x ≡ unwrap_or passed y
 fixed_floor None x y some = absurd cc

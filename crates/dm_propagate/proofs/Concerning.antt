@@ -1,6 +1,6 @@
 -- Which activities, floors and spans a change leaves as they are.
 use Rattle.std.proofs.Common.{◌≡◌, ℕ, zero, suc, ◌+◌, ◌<◌, true, false, List, [], ◌∷◌, length, Option, Some, None, refl, sym, ap, subst, ◌∙◌, ◌⊎◌, inl, inr, arith, fold, slice_index, get_or-set_other}
-use Rattle.std.specs.Prelude.{slice_set, slice_get, is_some, unwrap_or, max}
+use Rattle.std.specs.Prelude.{◌↔◌, slice_set, slice_get, is_some, unwrap_or, max}
 use Rattle.std.proofs.lemmas.Bool.{cases_eq}
 use Rattle.dm_network.specs.Net.{Net, event_at, activity_at, pair_at}
 use Rattle.dm_network.specs.Pairs.{IsPaired}
@@ -107,24 +107,15 @@ delay_leaves net rows e d i is =
       | inr none ↦ inr (is, none)
     ]
 
--- what a change moves of the rows before it, it moves of those after it
-moves_after : (rows : RowsValue) (change : Change) (i : ℕ) → MovesFloor rows change i → MovesFloor (after_change rows change) change i
-moves_after rows (EventDelay e d) i m = m
-moves_after rows (ActDelay a d) i m = m
-moves_after rows (Passed e t) i m = m
-moves_after rows (Recalled e) i m = m
-moves_after rows (Flipped flip) i m = m
-moves_after rows (Adopted flips) i m = m
-moves_after rows (Clock t) i m = m
-
-moves_before : (rows : RowsValue) (change : Change) (i : ℕ) → MovesFloor (after_change rows change) change i → MovesFloor rows change i
-moves_before rows (EventDelay e d) i m = m
-moves_before rows (ActDelay a d) i m = m
-moves_before rows (Passed e t) i m = m
-moves_before rows (Recalled e) i m = m
-moves_before rows (Flipped flip) i m = m
-moves_before rows (Adopted flips) i m = m
-moves_before rows (Clock t) i m = m
+-- what a change moves of the rows before it, it moves of those after it, and of no others
+moves_alike : (rows : RowsValue) (change : Change) (i : ℕ) → MovesFloor rows change i ↔ MovesFloor (after_change rows change) change i
+moves_alike rows (EventDelay e d) i = (λ m. m, λ m. m)
+moves_alike rows (ActDelay a d) i = (λ m. m, λ m. m)
+moves_alike rows (Passed e t) i = (λ m. m, λ m. m)
+moves_alike rows (Recalled e) i = (λ m. m, λ m. m)
+moves_alike rows (Flipped flip) i = (λ m. m, λ m. m)
+moves_alike rows (Adopted flips) i = (λ m. m, λ m. m)
+moves_alike rows (Clock t) i = (λ m. m, λ m. m)
 
 floor_leaves : (net : Net) (rows : RowsValue) (change : Change) (i : ℕ) →
     (floor_of net (after_change rows change) i ≡ floor_of net rows i) ⊎ MovesFloor rows change i
@@ -167,7 +158,7 @@ module _ (net : Net) (paired : IsPaired net) (rows : RowsValue) (change : Change
   pub follows_but_after : FollowsRows net rows given → FollowsBut net (after_change rows change) change given
   follows_but_after f = record {
     held = λ a lt. elim (change_leaves net rows change a (pair_ends net paired a lt)) [ inl same ↦ inl (f.held a lt ∙ sym same) | inr concerned ↦ inr concerned ];
-    floors = λ i lt. elim (floor_leaves net rows change i) [ inl same ↦ inl (f.floors i lt ∙ sym same) | inr moves ↦ inr (moves_after rows change i moves) ];
+    floors = λ i lt. elim (floor_leaves net rows change i) [ inl same ↦ inl (f.floors i lt ∙ sym same) | inr moves ↦ inr ((moves_alike rows change i).0 moves) ];
     spans = λ a lt. elim (span_leaves net rows change a) [ inl same ↦ inl (f.spans a lt ∙ sym same) | inr moves ↦ inr moves ];
   }
 
@@ -179,7 +170,7 @@ module _ (net : Net) (paired : IsPaired net) (rows : RowsValue) (change : Change
     ];
     floors = λ i lt. elim (f.floors i lt) [
       | inl is ↦ elim (floor_leaves net rows change i) [ inl same ↦ inl (is ∙ same) | inr moves ↦ inr moves ]
-      | inr moves ↦ inr (moves_before rows change i moves)
+      | inr moves ↦ inr ((moves_alike rows change i).1 moves)
     ];
     spans = λ a lt. elim (f.spans a lt) [
       | inl is ↦ elim (span_leaves net rows change a) [ inl same ↦ inl (is ∙ same) | inr moves ↦ inr moves ]

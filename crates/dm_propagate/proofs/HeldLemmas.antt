@@ -77,13 +77,6 @@ module _ (net : Net) (rows : RowsValue) where
       let_go_then (IsAmong acts n) (IsOnly a) (IsAmong acts (n + 1)) one two three
       (λ b r. elim (among_next acts n b r) [ inl p ↦ inl p | inr q ↦ inr (q ∙ sym is) ]) f s
 
-  pub none_below_let_go : (live : LiveValue) → LetsGo net rows (IsBelow 0) live live
-  none_below_let_go live = let_go_none (IsBelow 0) live (λ b lt h. absurd (omega arith))
-
-  pub next_below_let_go : (n : ℕ) (one two three : LiveValue) → LetsGo net rows (IsBelow n) one two → LetsGo net rows (IsOnly n) two three →
-      LetsGo net rows (IsBelow (n + 1)) one three
-  next_below_let_go n one two three f s = let_go_then (IsBelow n) (IsOnly n) (IsBelow (n + 1)) one two three (below_next n) f s
-
   -- nothing is taken up
   pub taken_up_none : (among : ℕ → Type 0) (live : LiveValue) → ((b : ℕ) → among b → is_active net rows b ≡ true → is_held live.given.held b ≡ true) →
       TakesUp net rows among live live

@@ -12,10 +12,10 @@ ghost use Rattle.dm_times.specs.Faults.{RefusesTimes};
 ghost use Rattle.dm_network.specs.Net.{Net};
 ghost use Rattle.dm_propagate.specs.Engine.{IsEngineOf, times_of, cycle_of};
 ghost use Rattle.dm_propagate.specs.Moved.{TakesInMoved};
+ghost use Rattle.dm_propagate.specs.Inside.Altering.{change_in};
 ghost use Rattle.dm_propagate.specs.Reading.{KeepsClock, ReadsFew};
 
 use crate::moving::{Alteration, move_to, try_rows};
-use crate::setting::set_flips;
 use crate::starting::priced_for;
 use dm_base::{Cost, Steps};
 use dm_graph::search::Cyclic;
@@ -94,7 +94,6 @@ impl Engine {
     /// then the engine is as before, and [`Engine::last_cycle`] is such a cycle. For a delay, a pass or a clock that is not
     /// taken back, it reads the rows of the events that this can move, and not of the others. It takes no memory.
     /// Each event whose time is not what it was before is [`Engine::moved`] from then on.
-    #[tactic(auto, using(crate::proofs::Following::is_engine, crate::proofs::Following::engine_flags))]
     pub fn update<L: Ledger>(
         &mut self,
         net: &Network,
@@ -114,32 +113,10 @@ impl Engine {
             → ReadsFew net.now (after_change self.old.rows change.now) change.now (times_of self.old) (times_of self.new) steps.old
             steps.new }
     {
-        net.sound();
-        self.twin.apply(change);
-        let what = Alteration::Change(change);
-        match move_to(
-            &mut self.priced,
-            net,
-            &self.rows,
-            &self.twin,
-            &what,
-            self.schedule.as_slice(),
-            &mut self.moved,
-            steps,
-        ) {
-            Ok(()) => {
-                self.rows.apply(change);
-                Ok(())
-            }
-            Err(Cyclic) => {
-                self.twin.copy_from(&self.rows);
-                Err(Cyclic)
-            }
-        }
+        self.alter(net, &Alteration::Change(change), steps)
     }
 
     /// Sets each decision of a list in turn, as [`Engine::update`] makes a change.
-    #[tactic(auto, using(crate::proofs::Following::is_engine, crate::proofs::Following::engine_flags))]
     pub fn adopt<L: Ledger>(
         &mut self,
         net: &Network,
@@ -156,33 +133,11 @@ impl Engine {
         ensures cycle { OnErr result (IsCycle net.now (fold after_flip self.old.rows flips.now) (cycle_of self.new)) }
         ensures moved { TakesInMoved self.old.moved.flags self.new.moved.flags (times_of self.old) (times_of self.new) }
     {
-        net.sound();
-        set_flips(&mut self.twin, flips);
-        let what = Alteration::Adoption(flips);
-        match move_to(
-            &mut self.priced,
-            net,
-            &self.rows,
-            &self.twin,
-            &what,
-            self.schedule.as_slice(),
-            &mut self.moved,
-            steps,
-        ) {
-            Ok(()) => {
-                set_flips(&mut self.rows, flips);
-                Ok(())
-            }
-            Err(Cyclic) => {
-                self.twin.copy_from(&self.rows);
-                Err(Cyclic)
-            }
-        }
+        self.alter(net, &Alteration::Adoption(flips), steps)
     }
 
     /// Whether the rows have no cycle after a change, which is not made: the engine stays as it is. [`Cyclic`] comes exactly
     /// where they have one, and [`Engine::last_cycle`] is such a cycle.
-    #[tactic(auto, using(crate::proofs::Following::is_engine, crate::proofs::Following::engine_flags))]
     pub fn try_update<L: Ledger>(
         &mut self,
         net: &Network,
@@ -197,23 +152,10 @@ impl Engine {
         ensures no_cycle { OnOk result (HasNoCycle net.now (after_change self.old.rows change.now)) }
         ensures cycle { OnErr result (IsCycle net.now (after_change self.old.rows change.now) (cycle_of self.new)) }
     {
-        self.twin.apply(change);
-        let what = Alteration::Change(change);
-        let outcome = try_rows(
-            &mut self.priced,
-            net,
-            &self.rows,
-            &self.twin,
-            &what,
-            self.schedule.as_slice(),
-            steps,
-        );
-        self.twin.copy_from(&self.rows);
-        outcome
+        self.try_altered(net, &Alteration::Change(change), steps)
     }
 
     /// Whether the rows have no cycle with the decisions of a list set, as [`Engine::try_update`].
-    #[tactic(auto, using(crate::proofs::Following::is_engine, crate::proofs::Following::engine_flags))]
     pub fn try_adopt<L: Ledger>(
         &mut self,
         net: &Network,
@@ -228,14 +170,76 @@ impl Engine {
         ensures no_cycle { OnOk result (HasNoCycle net.now (fold after_flip self.old.rows flips.now)) }
         ensures cycle { OnErr result (IsCycle net.now (fold after_flip self.old.rows flips.now) (cycle_of self.new)) }
     {
-        set_flips(&mut self.twin, flips);
-        let what = Alteration::Adoption(flips);
+        self.try_altered(net, &Alteration::Adoption(flips), steps)
+    }
+
+    /// What [`Engine::update`] and [`Engine::adopt`] promise, of any alteration.
+    #[tactic(auto, using(crate::proofs::Following::is_engine, crate::proofs::Following::engine_flags))]
+    fn alter<L: Ledger>(
+        &mut self,
+        net: &Network,
+        what: &Alteration<'_>,
+        steps: &mut Steps<L>,
+    ) -> Result<(), Cyclic>
+        requires engine { IsEngineOf net.now self.old }
+        requires reaches { Reaches self.old.rows (change_in what.now) }
+        ensures engine { IsEngineOf net.now self.new }
+        ensures rows { OnOk result (self.new.rows ≡ after_change self.old.rows (change_in what.now)) }
+        ensures least { IsLeast net.now self.new.rows (times_of self.new) }
+        ensures no_cycle { OnOk result (HasNoCycle net.now self.new.rows) }
+        ensures unchanged { OnErr result ((self.new.rows ≡ self.old.rows) × (times_of self.new ≡ times_of self.old)) }
+        ensures cycle { OnErr result (IsCycle net.now (after_change self.old.rows (change_in what.now)) (cycle_of self.new)) }
+        ensures moved { TakesInMoved self.old.moved.flags self.new.moved.flags (times_of self.old) (times_of self.new) }
+        ensures few_reads { IsDelayPassOrClock (change_in what.now) → KeepsClock self.old.rows (change_in what.now)
+            → ReadsFew net.now (after_change self.old.rows (change_in what.now)) (change_in what.now) (times_of self.old) (times_of self.new)
+            steps.old steps.new }
+    {
+        net.sound();
+        what.make(&mut self.twin);
+        match move_to(
+            &mut self.priced,
+            net,
+            &self.rows,
+            &self.twin,
+            what,
+            self.schedule.as_slice(),
+            &mut self.moved,
+            steps,
+        ) {
+            Ok(()) => {
+                what.make(&mut self.rows);
+                Ok(())
+            }
+            Err(Cyclic) => {
+                self.twin.copy_from(&self.rows);
+                Err(Cyclic)
+            }
+        }
+    }
+
+    /// What [`Engine::try_update`] and [`Engine::try_adopt`] promise, of any alteration.
+    #[tactic(auto, using(crate::proofs::Following::is_engine, crate::proofs::Following::engine_flags))]
+    fn try_altered<L: Ledger>(
+        &mut self,
+        net: &Network,
+        what: &Alteration<'_>,
+        steps: &mut Steps<L>,
+    ) -> Result<(), Cyclic>
+        requires engine { IsEngineOf net.now self.old }
+        requires reaches { Reaches self.old.rows (change_in what.now) }
+        ensures engine { IsEngineOf net.now self.new }
+        ensures unchanged { (self.new.rows ≡ self.old.rows) × (times_of self.new ≡ times_of self.old) }
+        ensures moved { self.new.moved ≡ self.old.moved }
+        ensures no_cycle { OnOk result (HasNoCycle net.now (after_change self.old.rows (change_in what.now))) }
+        ensures cycle { OnErr result (IsCycle net.now (after_change self.old.rows (change_in what.now)) (cycle_of self.new)) }
+    {
+        what.make(&mut self.twin);
         let outcome = try_rows(
             &mut self.priced,
             net,
             &self.rows,
             &self.twin,
-            &what,
+            what,
             self.schedule.as_slice(),
             steps,
         );

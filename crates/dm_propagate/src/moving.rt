@@ -1,6 +1,7 @@
 //! A timetable that is moved from rows to those after a change, or only tried on them.
 ghost use Rattle.std.specs.Prelude.{◌≡◌, length, OnOk, OnErr};
 ghost use Rattle.dm_live.specs.Live.{IsAtRest};
+ghost use Rattle.dm_network.specs.Net.{Net};
 ghost use Rattle.dm_priced.specs.Priced.{IsPriced};
 ghost use Rattle.dm_rows.specs.Rows.{IsSized};
 ghost use Rattle.dm_rows.specs.Active.{IsCycle, HasNoCycle};
@@ -21,6 +22,7 @@ ghost use Rattle.dm_propagate.specs.Inside.Noting.{KeepsTimesBut};
 use crate::changing::{turn, turn_adopted};
 use crate::day::Day;
 use crate::noting::{note_passed, settle_noted};
+use crate::setting::set_flips;
 use dm_base::{Secs, Steps};
 use dm_graph::search::Cyclic;
 use dm_marks::PlaceSet;
@@ -35,6 +37,20 @@ use std::sync::ledger::Ledger;
 pub enum Alteration<'a> {
     Change(&'a Change),
     Adoption(&'a [Flip]),
+}
+
+impl Alteration<'_> {
+    /// Makes it to rows.
+    pub fn make(&self, rows: &mut Rows)
+        requires { Reaches rows.old (change_in self.now) }
+        ensures made { rows.new ≡ after_change rows.old (change_in self.now) }
+        ensures sizes { (net : Net) → IsSized net rows.old → IsSized net rows.new }
+    {
+        match self {
+            Alteration::Change(change) => rows.apply(change),
+            Alteration::Adoption(flips) => set_flips(rows, flips),
+        }
+    }
 }
 
 /// Brings a timetable that follows rows to follow the others, which are those after a change, and settles it. Where the

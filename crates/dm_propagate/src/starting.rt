@@ -35,7 +35,8 @@ pub fn priced_for(alloc: Global, net: &Network, rows: &Rows) -> Result<PricedTim
 {
     match held_for(alloc, net, rows) {
         Ok(mut priced) => {
-            settle(&mut priced, &Day { net, rows });
+            // Nothing reads the ledger.
+            settle::<Brand>(&mut priced, &Day { net, rows }, Blank::new(1));
             Ok(priced)
         }
         Err(OrderFault::Cyclic) => Err(cycle_of(alloc, net, rows)),
@@ -54,7 +55,8 @@ fn held_for(alloc: Global, net: &Network, rows: &Rows) -> Result<PricedTimetable
         Err(fault) => return Err(fault),
     };
     let mut priced = empty_of(alloc, net, order)?;
-    match hold(&mut priced, &Day { net, rows }) {
+    // Nothing reads the ledger.
+    match hold::<Brand>(&mut priced, &Day { net, rows }, Blank::new(1)) {
         Ok(()) => Ok(priced),
         Err(Cyclic) => Err(OrderFault::Cyclic),
     }
@@ -77,21 +79,8 @@ fn empty_of(alloc: Global, net: &Network, order: Order) -> Result<PricedTimetabl
     }
 }
 
-/// Holds a timetable that holds nothing to rows, for a ledger that nothing reads.
-fn hold(priced: &mut PricedTimetable, day: &Day<'_>) -> Result<(), Cyclic>
-    requires priced { IsPriced day.now.net.now priced.old }
-    requires none { (a : ℕ) → is_held priced.old.live.given.held a ≡ false }
-    ensures held { OnOk result (IsHeldTo day.now.net.now day.now.rows.now priced.new) }
-    ensures cycle { OnErr result (IsCycle day.now.net.now day.now.rows.now priced.new.live.order.cycle) }
-{
-    hold_with::<Brand>(priced, day, Blank::new(1))
-}
-
-fn hold_with<L: Ledger>(
-    priced: &mut PricedTimetable,
-    day: &Day<'_>,
-    blank: Blank,
-) -> Result<(), Cyclic>
+/// Holds a timetable that holds nothing to rows.
+fn hold<L: Ledger>(priced: &mut PricedTimetable, day: &Day<'_>, blank: Blank) -> Result<(), Cyclic>
     requires priced { IsPriced day.now.net.now priced.old }
     requires none { (a : ℕ) → is_held priced.old.live.given.held a ≡ false }
     requires name { blank.name ≡ L.name }
@@ -119,19 +108,8 @@ fn cycle_of(alloc: Global, net: &Network, rows: &Rows) -> NoTimes
     }
 }
 
-/// Sets the flags of a timetable to what rows say, and settles it, for a ledger that nothing reads.
-fn settle(priced: &mut PricedTimetable, day: &Day<'_>)
-    requires priced { IsPriced day.now.net.now priced.old }
-    requires fixed { FixesPassed day.now.rows.now priced.old.live.fixed }
-    ensures priced { IsPriced day.now.net.now priced.new }
-    ensures at_rest { IsAtRest priced.new.live }
-    ensures given { priced.new.live.given ≡ priced.old.live.given }
-    ensures flags { AreFlagsOf day.now.net.now day.now.rows.now (flags_of priced.new) }
-{
-    settle_with::<Brand>(priced, day, Blank::new(1));
-}
-
-fn settle_with<L: Ledger>(priced: &mut PricedTimetable, day: &Day<'_>, blank: Blank)
+/// Sets the flags of a timetable to what rows say, and settles it.
+fn settle<L: Ledger>(priced: &mut PricedTimetable, day: &Day<'_>, blank: Blank)
     requires priced { IsPriced day.now.net.now priced.old }
     requires fixed { FixesPassed day.now.rows.now priced.old.live.fixed }
     requires name { blank.name ≡ L.name }

@@ -7,7 +7,7 @@ use Rattle.dm_propagate.specs.Engine.{FollowsRows}
 use Rattle.dm_propagate.specs.Inside.Altering.{change_in}
 use Rattle.dm_propagate.specs.Inside.Concern.{FollowsBut}
 use Rattle.dm_propagate.specs.Inside.Changing.{FollowsAt}
-use Rattle.dm_propagate.proofs.AtClock.{at_clock_before, at_clock_after}
+use Rattle.dm_propagate.proofs.AtClock.{other_at_clock, rows_at_clock}
 use Rattle.dm_propagate.proofs.Concerning.{follows_but_after, follows_but_before}
 use Rattle.dm_propagate.proofs.FewRows.{few_read_for}
 use Rattle.dm_propagate.specs.Inside.Flags.{flags_of, AreFlagsOf, AreFlagsBut, MovesPass}
@@ -81,15 +81,13 @@ returns-in-Ok-clause-flags g c =
 
 pub turn_to-requires-clause-clock : goal.turn_to-requires-clause-clock
 turn_to-requires-clause-clock g c =
-    let what = change_in c.args.what.now in
-    rw c.clock.ensures.value (subst (λ (rows : RowsValue). FollowsAt c.args.net.now rows what c.args.rows.now.clock c.args.priced.now.live.given) (sym c.requires.other)
-    (at_clock_before c.args.net.now c.args.rows.now what c.args.priced.now.live.given c.requires.follows))
+    other_at_clock c.args.net.now c.args.rows.now c.args.other.now (change_in c.args.what.now) c.requires.other c.args.priced.now.live.given
+    c.clock.result c.clock.ensures.value c.requires.follows
 
 pub come_back-requires-clause-clock : goal.come_back-requires-clause-clock
 come_back-requires-clause-clock g c =
-    let what = change_in c.args.what.now in
-    rw c.clock-in-Err.ensures.value (at_clock_after c.args.net.now c.args.rows.now what c.args.other.now.clock c.turn_to.new.priced.live.given
-    (subst (λ (rows : RowsValue). FollowsAt c.args.net.now rows what c.args.other.now.clock c.turn_to.new.priced.live.given) c.requires.other c.turn_to.ensures.clock))
+    rows_at_clock c.args.net.now c.args.rows.now c.args.other.now (change_in c.args.what.now) c.requires.other c.turn_to.new.priced.live.given
+    c.clock-in-Err.result c.clock-in-Err.ensures.value c.turn_to.ensures.clock
 
 pub note_passed-requires : goal.note_passed-requires
 note_passed-requires g c = λ i moves.

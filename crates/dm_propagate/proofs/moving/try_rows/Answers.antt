@@ -4,7 +4,7 @@ use Rattle.dm_rows.specs.Rows.{RowsValue}
 use Rattle.dm_propagate.specs.Inside.Altering.{change_in}
 use Rattle.dm_propagate.specs.Inside.Concern.{FollowsBut}
 use Rattle.dm_propagate.specs.Inside.Changing.{FollowsAt}
-use Rattle.dm_propagate.proofs.AtClock.{at_clock_before, at_clock_after}
+use Rattle.dm_propagate.proofs.AtClock.{other_at_clock, rows_at_clock}
 use Rattle.dm_propagate.proofs.Concerning.{follows_but_after, follows_but_before}
 use Rattle.dm_propagate.specs.Inside.Flags.{flags_of, AreFlagsBut}
 use Rattle.dm_propagate.proofs.Flagging.{but_where_right, flags_but_after, flags_but_before}
@@ -55,12 +55,10 @@ come_back-requires-clause-flags g c =
 
 pub turn_to-outcome-requires-clause-clock : goal.turn_to-outcome-requires-clause-clock
 turn_to-outcome-requires-clause-clock g c =
-    let what = change_in c.args.what.now in
-    rw c.clock.ensures.value (subst (λ (rows : RowsValue). FollowsAt c.args.net.now rows what c.args.rows.now.clock c.args.priced.now.live.given) (sym c.requires.other)
-    (at_clock_before c.args.net.now c.args.rows.now what c.args.priced.now.live.given c.requires.follows))
+    other_at_clock c.args.net.now c.args.rows.now c.args.other.now (change_in c.args.what.now) c.requires.other c.args.priced.now.live.given
+    c.clock.result c.clock.ensures.value c.requires.follows
 
 pub come_back-requires-clause-clock : goal.come_back-requires-clause-clock
 come_back-requires-clause-clock g c =
-    let what = change_in c.args.what.now in
-    rw c.clock-2.ensures.value (at_clock_after c.args.net.now c.args.rows.now what c.args.other.now.clock c.turn_to-outcome.new.priced.live.given
-    (subst (λ (rows : RowsValue). FollowsAt c.args.net.now rows what c.args.other.now.clock c.turn_to-outcome.new.priced.live.given) c.requires.other c.turn_to-outcome.ensures.clock))
+    rows_at_clock c.args.net.now c.args.rows.now c.args.other.now (change_in c.args.what.now) c.requires.other c.turn_to-outcome.new.priced.live.given
+    c.clock-2.result c.clock-2.ensures.value c.turn_to-outcome.ensures.clock

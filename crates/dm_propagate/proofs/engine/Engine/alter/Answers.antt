@@ -2,22 +2,23 @@ use Rattle.std.proofs.Common.{◌≡◌, sym, ap, subst, ◌∙◌}
 use Rattle.dm_rows.specs.Resolve.{after_change}
 use Rattle.dm_rows.specs.Rows.{RowsValue}
 use Rattle.dm_propagate.specs.Engine.{FollowsRows}
+use Rattle.dm_propagate.specs.Inside.Altering.{change_in}
 use Rattle.dm_propagate.proofs.Following.{follows_least, follows_no_cycle}
-use Rattle.dm_propagate.proofs.engine.Engine.update.Goals as goal
+use Rattle.dm_propagate.proofs.engine.Engine.alter.Goals as goal
 
 pub returns-in-Ok-clause-least : goal.returns-in-Ok-clause-least
 returns-in-Ok-clause-least g c =
-    let same : c.apply.new.self ≡ c.apply-in-Ok.new.self =
-    c.apply.ensures.rows ∙ ap (λ (r : RowsValue). after_change r c.args.change.now) c.self.invariant ∙ sym c.apply-in-Ok.ensures.rows in
-    follows_least c.args.net.now c.apply-in-Ok.new.self c.move_to.new.priced.live c.sound.ensures.network.formed.ends_are_known
+    let same : c.make.new.rows ≡ c.make-in-Ok.new.rows =
+    c.make.ensures.made ∙ ap (λ (r : RowsValue). after_change r (change_in c.args.what.now)) c.self.invariant ∙ sym c.make-in-Ok.ensures.made in
+    follows_least c.args.net.now c.make-in-Ok.new.rows c.move_to.new.priced.live c.sound.ensures.network.formed.ends_are_known
     c.in-Ok.ensures.priced.live c.in-Ok.ensures.at_rest
     (subst (λ (r : RowsValue). FollowsRows c.args.net.now r c.move_to.new.priced.live.given) same c.in-Ok.ensures.follows)
 
 pub returns-in-Ok-clause-no_cycle : goal.returns-in-Ok-clause-no_cycle
 returns-in-Ok-clause-no_cycle g c =
-    let same : c.apply.new.self ≡ c.apply-in-Ok.new.self =
-    c.apply.ensures.rows ∙ ap (λ (r : RowsValue). after_change r c.args.change.now) c.self.invariant ∙ sym c.apply-in-Ok.ensures.rows in
-    follows_no_cycle c.args.net.now c.apply-in-Ok.new.self c.move_to.new.priced.live c.in-Ok.ensures.priced.live
+    let same : c.make.new.rows ≡ c.make-in-Ok.new.rows =
+    c.make.ensures.made ∙ ap (λ (r : RowsValue). after_change r (change_in c.args.what.now)) c.self.invariant ∙ sym c.make-in-Ok.ensures.made in
+    follows_no_cycle c.args.net.now c.make-in-Ok.new.rows c.move_to.new.priced.live c.in-Ok.ensures.priced.live
     (subst (λ (r : RowsValue). FollowsRows c.args.net.now r c.move_to.new.priced.live.given) same c.in-Ok.ensures.follows)
 
 pub returns-in-Err-clause-least : goal.returns-in-Err-clause-least
