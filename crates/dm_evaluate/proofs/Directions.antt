@@ -2,34 +2,16 @@
 use Rattle.std.proofs.Common.{◌≡◌, ℕ, ◌<◌, Bool, true, false, List, length, Some, refl, sym, ap, ◌∙◌, inl, inr}
 use Rattle.std.specs.Prelude.{◌==◌}
 use Rattle.std.proofs.lemmas.Bool.{cases_Bool, and_parts, and_from, eqb-true, eq-eqb, both_ways, cond-true, cond-false}
-use Rattle.dm_graph.specs.Arcs.{Binds, BindsIn}
-use Rattle.dm_graph.proofs.Transfers.{cycle_carries}
 use Rattle.dm_network.specs.Net.{Net, activity_at, places_out_of}
-use Rattle.dm_network.specs.Held.{arcs_of, is_held, IsCycleOf}
+use Rattle.dm_network.specs.Held.{is_held, IsCycleOf}
 use Rattle.dm_rows.specs.Relax.{is_of_pair}
 use Rattle.dm_network.proofs.EventRows.{leads_out, stands_out}
+use Rattle.dm_network.proofs.Holding.{cycle_with}
 use Rattle.dm_priced.specs.Priced.{PricedValue}
 use Rattle.dm_evaluate.specs.Inside.Moves.{set_where, TurnsTo, Stays, KeepsBut, TurnsAmong, IsRefused}
 use Rattle.dm_paths.specs.RowsRead.{IsAmong}
 use Rattle.dm_paths.specs.Decisions.{is_directed}
 use Rattle.dm_paths.proofs.Changing.{its_pair}
-
--- a cycle of some activities is one of more
-pub cycle_within : (net : Net) (f g : ℕ → Bool) → ((a : ℕ) → a < length net.activities → f a ≡ true → g a ≡ true) → (cycle : List ℕ) →
-    IsCycleOf net f cycle → IsCycleOf net g cycle
-cycle_within net f g more cycle c =
-    let there : (a : ℕ) → Binds (arcs_of net f) a → BindsIn (arcs_of net f) (arcs_of net g) a =
-    λ a b. record {
-      binds = record {
-        is_arc = b.is_arc;
-        is_held = more a b.is_arc b.is_held;
-        from_event = b.from_event;
-        to_event = b.to_event;
-      };
-      same_tail = refl;
-      same_head = refl;
-    } in
-    cycle_carries (arcs_of net f) (arcs_of net g) there cycle c
 
 -- a timetable that is settled
 pub record IsSettledFrom (turned after : PricedValue) : Type 0 where
@@ -122,7 +104,7 @@ module _ (net : Net) (p tail : ℕ) (row : List ℕ) (row_is : row ≡ places_ou
 
     pub direction_cycle : IsCycleOf net (set_where (is_directed net p tail) true (is_held before.live.given.held)) refused.live.order.cycle
     direction_cycle =
-        cycle_within net (is_held is.flags) (set_where (is_directed net p tail) true (is_held before.live.given.held))
+        cycle_with net (is_held is.flags) (set_where (is_directed net p tail) true (is_held before.live.given.held))
         (λ b below h.
         let dir : Bool = is_directed net p tail b in
         let was : Bool = is_held before.live.given.held b in

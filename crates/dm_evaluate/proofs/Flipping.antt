@@ -5,7 +5,7 @@ use Rattle.std.proofs.lemmas.Bool.{cases_eq, cond-true, cond-false, eq-eqb, ne_e
 use Rattle.dm_network.specs.Net.{Net}
 use Rattle.dm_network.specs.Held.{is_held, IsCycleOf}
 use Rattle.dm_evaluate.specs.Inside.Moves.{set_where}
-use Rattle.dm_evaluate.proofs.Directions.{cycle_within}
+use Rattle.dm_network.proofs.Holding.{cycle_with}
 
 -- one flag that is set
 pub set_one : (flags : List Bool) (a : ℕ) (value : Bool) → a < length flags → (b : ℕ) →
@@ -21,5 +21,5 @@ set_one flags a value below b =
 pub change_cycle : (net : Net) (a : ℕ) (value : Bool) (held : List Bool) → a < length held → (cycle : List ℕ) → IsCycleOf net (is_held (slice_set held a value)) cycle →
     IsCycleOf net (set_where (λ b. b == a) value (is_held held)) cycle
 change_cycle net a value held below cycle c =
-    cycle_within net (is_held (slice_set held a value)) (set_where (λ b. b == a) value (is_held held))
+    cycle_with net (is_held (slice_set held a value)) (set_where (λ b. b == a) value (is_held held))
     (λ b lt h. sym (set_one held a value below b) ∙ h) cycle c

@@ -18,7 +18,7 @@ use Rattle.dm_evaluate.specs.Evaluating.{Evaluates}
 use Rattle.dm_paths.specs.Decisions.{AddsDecision, IsFlipOf}
 use Rattle.dm_evaluate.specs.Inside.Moves.{set_where, Turns, Stays, IsOff}
 use Rattle.dm_paths.specs.Decisions.{is_held_by, is_charged_by}
-use Rattle.dm_evaluate.proofs.Directions.{cycle_within}
+use Rattle.dm_network.proofs.Holding.{cycle_with}
 use Rattle.dm_paths.proofs.Changing.{DiffersAt, set_off, set_on, held_differs as held_apart, charge_differs as charge_apart}
 
 -- the numbers and the passed events are those of any path
@@ -97,7 +97,7 @@ module _ (net : Net) (network : IsNetwork net) (rows : RowsValue) (sized : IsSiz
     pub decision_cycle : (cycle : List ℕ) → IsCycleOf net (set_where (is_held_by net flip) true (is_held before.live.given.held)) cycle →
         IsRelaxedCycle net rows other cycle
     decision_cycle cycle c =
-        cycle_within net (set_where (is_held_by net flip) true (is_held before.live.given.held)) (is_relaxed_active net rows other)
+        cycle_with net (set_where (is_held_by net flip) true (is_held before.live.given.held)) (is_relaxed_active net rows other)
         (λ b lt h. sym (set_on (is_held_by net flip b) (is_relaxed_active net rows path b) (is_relaxed_active net rows other b) (held_differs flip is b lt))
         ∙ sym (ap (λ v. cond (is_held_by net flip b) true v) (was.held b lt)) ∙ h)
         cycle c

@@ -19,7 +19,7 @@ use Rattle.dm_evaluate.specs.Evaluator.{IsEvaluatorOf}
 use Rattle.dm_paths.specs.Flags.{AreFlags}
 use Rattle.dm_evaluate.specs.Marks.{MarksValue, MarksUnkept}
 use Rattle.dm_evaluate.specs.Inside.Starting.{RefusesRoot, HasPassedTo}
-use Rattle.dm_evaluate.proofs.Directions.{cycle_within}
+use Rattle.dm_network.proofs.Holding.{cycle_with}
 
 -- nothing is charged for
 charges_none : (change kept passed : Bool) → ((change && not kept && not passed) && not (change && not passed && not false)) ≡ false
@@ -51,7 +51,7 @@ module _ (net : Net) (rows : RowsValue) (given : ConstraintsValue) (holds : AreC
   pub refuses_root : (fault : OrderFault) → RefusesLive net given fault → RefusesRoot net rows fault
   refuses_root Cyclic h = record {
     cycle = h.cycle;
-    is_cycle = cycle_within net (is_held given.held) (is_relaxed_active net rows []) (λ a lt on. sym (holds.held a lt) ∙ on) h.cycle h.is_cycle;
+    is_cycle = cycle_with net (is_held given.held) (is_relaxed_active net rows []) (λ a lt on. sym (holds.held a lt) ∙ on) h.cycle h.is_cycle;
   }
   refuses_root OutOfMemory h = tt
 

@@ -3,8 +3,8 @@ use Rattle.std.proofs.Common.{◌≡◌, ℕ, ◌+◌, ◌<◌, Bool, true, fals
 use Rattle.std.specs.Prelude.{◌==◌}
 use Rattle.std.specs.List.{range_with_len}
 use Rattle.std.proofs.lemmas.Bool.{cases_lt, and_parts, and_from, eq-eqb, eqb-true, both_ways}
-use Rattle.std.proofs.lemmas.List.{get_or_default, get_or_past}
-use Rattle.dm_network.specs.Net.{Net, activity_at, pair_at, is_change, places_into}
+use Rattle.std.proofs.lemmas.List.{get_or_past}
+use Rattle.dm_network.specs.Net.{Net, activity_at, pair_at, is_change}
 use Rattle.dm_rows.specs.Cost.{comes_too_early}
 use Rattle.dm_rows.specs.Decide.{with_decisions, is_free_change}
 use Rattle.dm_rows.specs.Relax.{is_of_pair, is_unmet_from, has_unmet_from, is_undecided_change, is_undecided_pair}
@@ -12,7 +12,6 @@ use Rattle.dm_rows.specs.Rows.{RowsValue}
 use Rattle.dm_rows.specs.Timetable.{span_of}
 use Rattle.dm_paths.proofs.Agreeing.{passes_one, span_same}
 use Rattle.dm_paths.proofs.Setting.{differs_in_none, differs_with}
-use Rattle.dm_network.proofs.EventRows.{leads_into}
 use Rattle.dm_live.specs.Live.{LiveValue, with_held}
 use Rattle.dm_settle.specs.Constraints.{ConstraintsValue}
 use Rattle.dm_priced.specs.Priced.{PricedValue, is_flagged}
@@ -26,14 +25,6 @@ use Rattle.dm_paths.specs.Decisions.{is_unmet_pair}
 use Rattle.dm_paths.proofs.Changing.{its_pair}
 use Rattle.dm_paths.proofs.Paths.{one_passes}
 use Rattle.dm_paths.proofs.Violating.{in_range, range_below}
-
--- the places in the row into an event are those of activities
-pub into_below : (net : Net) (head : ℕ) (row : List ℕ) → row ≡ places_into net head → (k d : ℕ) → k < length row → get_or row k d < length net.activities
-into_below net head row is k d lt =
-    let leads = leads_into net head k row is lt in
-    let e : get_or row k d ≡ slice_index row k = get_or_default row k d 0 lt in
-    let b = leads.is_activity in
-    omega (arith, e, b)
 
 -- where spans and times stay, what is marked stays
 pub still_marked : (net : Net) (spans spans' x x' : List ℕ) (marks : MarksValue) → spans' ≡ spans → x' ≡ x → MarksUnkept net spans x marks → MarksUnkept net spans' x' marks

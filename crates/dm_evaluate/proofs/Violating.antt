@@ -24,6 +24,17 @@ use Rattle.dm_evaluate.proofs.Behind.{first_passing, none_passing}
 use Rattle.dm_paths.proofs.Paths.{one_passes}
 use Rattle.dm_paths.proofs.Violating.{in_range, range_below, violated_change_by, violated_pair_by}
 
+-- what is first flagged and passes a test from a place on is listed first, of what is listed by both
+pub first_is_listed : (choice : ℕ → Choice) (violated test : ℕ → Bool) (flags : List Bool) (rest : List Choice) (first n place : ℕ) →
+    ((k : ℕ) → k < n → violated k ≡ (is_flagged flags k && test k)) → IsFirst flags test first n place →
+    slice_get (map choice (filter violated (range_with_len first (n - first))) ++ rest) 0 ≡ Some (choice place)
+first_is_listed choice violated test flags rest first n place by f =
+    let start = f.not_before in
+    let within = f.within in
+    first_passing choice violated rest first (n - first) place f.not_before (omega arith)
+    (λ k ge lt. by k (omega arith) ∙ f.none k ge lt)
+    (by place within ∙ and_from (is_flagged flags place) (test place) f.flagged f.passes)
+
 -- the first violated choice from a place on, by flags
 module _ (net : Net) (rows : RowsValue) (path : List Decision) (x : List ℕ) (changes pairs : List Bool)
     (change_flags : AreFlags (is_undecided_change net rows path) (length net.activities) changes)
@@ -34,12 +45,8 @@ module _ (net : Net) (rows : RowsValue) (path : List Decision) (x : List ℕ) (c
   pub change_is_first : (first a : ℕ) → IsFirst changes (comes_too_early net rows x) first (length net.activities) a →
       Some (change_choice net a) ≡ violated_from net rows path x first
   change_is_first first a f =
-      let by = violated_change_by net rows path x changes change_flags in
-      let start = f.not_before in
-      let within = f.within in
-      sym (first_passing (change_choice net) (is_violated_change net rows path x) violated_pairs first (length net.activities - first) a f.not_before (omega arith)
-      (λ k ge lt. by k (omega arith) ∙ f.none k ge lt)
-      (by a within ∙ and_from (is_flagged changes a) (comes_too_early net rows x a) f.flagged f.passes))
+      sym (first_is_listed (change_choice net) (is_violated_change net rows path x) (comes_too_early net rows x) changes violated_pairs first (length net.activities) a
+      (violated_change_by net rows path x changes change_flags) f)
 
   pub no_change_from : (first : ℕ) → ((k : ℕ) → first ≤ k → (is_flagged changes k && comes_too_early net rows x k) ≡ false) →
       slice_get violated_pairs 0 ≡ violated_from net rows path x first
@@ -58,13 +65,9 @@ module _ (net : Net) (rows : RowsValue) (path : List Decision) (x : List ℕ) (c
   pub pair_is_first : (first p : ℕ) → IsFirst pairs (is_unmet_pair net rows x) first (length net.pairs) p →
       Some (pair_choice net p) ≡ violated_pair_from net rows path x first
   pair_is_first first p f =
-      let by = violated_pair_by net rows path x pairs pair_flags in
-      let start = f.not_before in
-      let within = f.within in
       sym (sym (without_end first (length net.pairs - first))
-      ∙ first_passing (pair_choice net) (is_violated_pair net rows path x) [] first (length net.pairs - first) p f.not_before (omega arith)
-      (λ k ge lt. by k (omega arith) ∙ f.none k ge lt)
-      (by p within ∙ and_from (is_flagged pairs p) (is_unmet_pair net rows x p) f.flagged f.passes))
+      ∙ first_is_listed (pair_choice net) (is_violated_pair net rows path x) (is_unmet_pair net rows x) pairs [] first (length net.pairs) p
+      (violated_pair_by net rows path x pairs pair_flags) f)
 
   pub no_pair_from : (first : ℕ) → ((k : ℕ) → first ≤ k → (is_flagged pairs k && is_unmet_pair net rows x k) ≡ false) →
       None ≡ violated_pair_from net rows path x first

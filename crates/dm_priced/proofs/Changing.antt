@@ -7,7 +7,8 @@ use Rattle.dm_network.specs.Net.{Net, activity_at, is_change, places_into, place
 use Rattle.dm_rows.specs.Cost.{event_cost, charged_weight}
 use Rattle.dm_priced.specs.Priced.{is_flagged, comes_too_early, missed_weight, lateness_of, charged_of, missed_of}
 use Rattle.dm_priced.specs.Inside.Adding.{cost_at, missed_at}
-use Rattle.dm_priced.proofs.Sums.{sum_none, sum_none_along, sum_moves, sum_moves_row, sum_moves_rows}
+use Rattle.dm_rows.proofs.Totals.{sum_moves}
+use Rattle.dm_priced.proofs.Sums.{sum_none, sum_none_along, sum_moves_row, sum_moves_rows}
 
 differs : (j i : ℕ) → (j == i) ≡ false → j ≢ i
 differs j i not is = let yes = eq-eqb j i is in absurd cc

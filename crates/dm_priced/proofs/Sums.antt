@@ -1,34 +1,13 @@
 -- Sums over places, and how they change where a function changes at one place or along rows.
-use Rattle.std.proofs.Common.{◌≡◌, ◌≢◌, ℕ, zero, suc, ◌+◌, ◌*◌, ◌<◌, ◌≤◌, Bool, true, false, cond, List, [], ◌∷◌, length, filter, sum_by, refl, ap, ◌∙◌, inl, inr, arith, slice_index}
+use Rattle.std.proofs.Common.{◌≡◌, ℕ, zero, suc, ◌+◌, ◌*◌, ◌<◌, ◌≤◌, Bool, true, false, cond, List, [], ◌∷◌, length, filter, sum_by, refl, ap, ◌∙◌, inl, inr, arith, slice_index}
 use Rattle.std.specs.List.{range_with_len}
-use Rattle.std.proofs.lemmas.Bool.{cases_Bool, cases_eq}
+use Rattle.std.proofs.lemmas.Bool.{cases_Bool}
 use Rattle.std.proofs.lemmas.List.Sums.{sum_by-cons, sum_by_more}
 use Rattle.dm_priced.specs.Inside.Adding.{IsTotalOf, IsTotalBelow}
-use Rattle.dm_rows.proofs.Totals.{sum_alike}
 
 pub sum_none : (f : ℕ → ℕ) (xs : List ℕ) → ((k : ℕ) → f k ≡ 0) → sum_by f xs ≡ 0
 sum_none f [] none = refl
 sum_none f (x ∷ xs) none = let here = none x in let rest = sum_none f xs none in let all = sum_by-cons f x xs in all ∙ omega (arith, here, rest)
-
--- a function that changes at one place
-pub sum_moves : (f g : ℕ → ℕ) (i : ℕ) → ((k : ℕ) → k ≢ i → g k ≡ f k) → (a n : ℕ) → a ≤ i → i < a + n →
-    sum_by g (range_with_len a n) + f i ≡ sum_by f (range_with_len a n) + g i
-sum_moves f g i others a zero le lt = absurd (omega arith)
-sum_moves f g i others a (suc n) le lt =
-    let left : sum_by g (range_with_len a (suc n)) ≡ g a + sum_by g (range_with_len (a + 1) n) = sum_by-cons g a (range_with_len (a + 1) n) in
-    let right : sum_by f (range_with_len a (suc n)) ≡ f a + sum_by f (range_with_len (a + 1) n) = sum_by-cons f a (range_with_len (a + 1) n) in
-    elim (cases_eq a i) [
-      | inl is ↦
-          let rest : sum_by g (range_with_len (a + 1) n) ≡ sum_by f (range_with_len (a + 1) n) =
-          sum_alike g f (a + 1) n (λ k from below. others k (λ same. absurd (omega arith))) in
-          let one : g a ≡ g i = ap g is in
-          let other : f a ≡ f i = ap f is in
-          omega (arith, left, right, rest, one, other)
-      | inr ne ↦
-          let here : g a ≡ f a = others a ne in
-          let rest = sum_moves f g i others (a + 1) n (omega arith) (omega arith) in
-          omega (arith, left, right, rest, here)
-    ]
 
 -- what an element adds where it passes a test
 added : (f : ℕ → ℕ) (p : ℕ → Bool) (x : ℕ) (xs : List ℕ) (b : Bool) → p x ≡ b → sum_by f (filter p (x ∷ xs)) ≡ cond b (f x) 0 + sum_by f (filter p xs)

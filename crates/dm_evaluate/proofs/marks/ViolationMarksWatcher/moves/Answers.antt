@@ -1,6 +1,5 @@
-use Rattle.dm_network.proofs.EventRows.{row_below}
+use Rattle.dm_network.proofs.EventRows.{into_below, row_below}
 use Rattle.dm_evaluate.proofs.Marked.{marks_moved}
-use Rattle.dm_evaluate.proofs.Unkept.{into_below}
 use Rattle.dm_evaluate.proofs.marks.ViolationMarksWatcher.moves.Goals as goal
 
 pub mark_early-requires-clause-are_activities : goal.mark_early-requires-clause-are_activities
