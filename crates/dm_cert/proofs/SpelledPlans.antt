@@ -20,7 +20,7 @@ use Rattle.dm_tree.specs.declared.plans.Plan.{Plan}
 use Rattle.dm_tree.specs.Trees.{IsTree}
 use Rattle.dm_rows.proofs.Sides.{first_decides, ordered}
 use Rattle.dm_rows.specs.Sides.{first_decision, second_decision}
-use Rattle.dm_tree.proofs.Filled.{ordered_from}
+use Rattle.dm_rows.proofs.Sides.{ordered}
 use Rattle.dm_feed.specs.declared.vocabulary.Word.TheVariants as named
 use Rattle.dm_feed.specs.Parts.{Fits, id, word}
 use Rattle.dm_feed.specs.Lines.{spelling_of_decision}
@@ -135,7 +135,7 @@ leaf_node path n (q ∷ due) ns (l ∷ ls) is f ih = All-cons IsSpelledNode n ns
 nodes_spelled : (path : List Decision) (due : List (List Decision)) (nodes : List Node) (leaves : List Leaf) → FillsDue (path ∷ due) nodes leaves → All IsSpelledNode nodes
 nodes_spelled path due [] leaves f = absurd f
 nodes_spelled path due (Inner c ∷ ns) leaves f =
-    All-cons IsSpelledNode (Inner c) ns (ordered_from c f.0)
+    All-cons IsSpelledNode (Inner c) ns (ordered c f.0)
     (nodes_spelled (path ++ first_decision c ∷ []) ((path ++ second_decision c ∷ []) ∷ due) ns leaves f.1)
 nodes_spelled path due (Cycle ∷ ns) leaves f = leaf_node path Cycle due ns leaves tt f (λ q d ls g. nodes_spelled q d ns ls g)
 nodes_spelled path due (Bound c ∷ ns) leaves f = leaf_node path (Bound c) due ns leaves tt f (λ q d ls g. nodes_spelled q d ns ls g)
