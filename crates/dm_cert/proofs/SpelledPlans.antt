@@ -20,7 +20,6 @@ use Rattle.dm_tree.specs.declared.plans.Plan.{Plan}
 use Rattle.dm_tree.specs.Trees.{IsTree}
 use Rattle.dm_rows.proofs.Sides.{first_decides, ordered}
 use Rattle.dm_rows.specs.Sides.{first_decision, second_decision}
-use Rattle.dm_rows.proofs.Sides.{ordered}
 use Rattle.dm_feed.specs.declared.vocabulary.Word.TheVariants as named
 use Rattle.dm_feed.specs.Parts.{Fits, id, word}
 use Rattle.dm_feed.specs.Lines.{spelling_of_decision}
