@@ -1,19 +1,18 @@
 -- Each step keeps the protocol of a deque.
-use Rattle.std.proofs.Common.{◌≡◌, ◌≢◌, ◌⊎◌, ℕ, zero, suc, ◌+◌, ◌-◌, ◌≤◌, ◌<◌, Bool, true, false, cond, List, [], ◌∷◌, ◌++◌, length, set, All, refl, ap, sym, ◌∙◌, subst, arith, inl, inr, ⊎_elim}
+use Rattle.std.proofs.Common.{◌≡◌, ◌⊎◌, ℕ, zero, suc, ◌+◌, ◌-◌, ◌≤◌, Bool, true, false, cond, List, [], ◌∷◌, ◌++◌, set, All, refl, ap, sym, ◌∙◌, subst, arith, inl, inr, ⊎_elim}
 use Rattle.std.specs.List.{sum_by}
 use mathlib.Core.Option.{some, some-injective, some-ne-none}
-use native.Mathlib.Decide.{ℕ_discrete}
 use lib.ListN.{get_elem?}
 use Rattle.crossbeam_deque.specs.Tasks.{Pushes, Takes, Pops, Finds, Learns, Admits, Merges}
-use Rattle.crossbeam_deque.proofs.Lists.{at_set, at_snoc}
+use Rattle.crossbeam_deque.proofs.Lists.{at_snoc}
 use Rattle.atomic_table.proofs.Lists.{set_else}
 use Rattle.std.proofs.lemmas.List.Elements.{All-nil, All-head, All-tail, All-push, All-cons}
 use Rattle.std.proofs.lemmas.List.Sums.{sum_by_push, sum_by-append}
-use Rattle.dm_deques.specs.Rule.{fresh, put_by, taken_by, Balanced, WasEmpty}
+use Rattle.dm_deques.specs.Rule.{fresh, Balanced, WasEmpty}
 use Rattle.dm_deques.specs.Deques.{having_put, having_taken, settled}
 use Rattle.dm_deques.specs.Inside.Steps.{HasPut, HasTaken, HasWhole}
 use Rattle.dm_deques.specs.declared.account.Account.{Account}
-use Rattle.dm_base.proofs.Counts.{set_there, each_set, sum_set, sum_at, sum_lone}
+use Rattle.dm_base.proofs.Counts.{each_set, sum_set, sum_at, sum_lone}
 
 all_left : {T : Type 0} (P : T → Type 0) (xs ys : List T) → All P (xs ++ ys) → All P xs
 all_left P [] ys all = All-nil P
@@ -22,6 +21,10 @@ all_left P (x ∷ xs) ys all = All-cons P x xs (All-head P x (xs ++ ys) all) (al
 all_right : {T : Type 0} (P : T → Type 0) (xs ys : List T) → All P (xs ++ ys) → All P ys
 all_right P [] ys all = all
 all_right P (x ∷ xs) ys all = all_right P xs ys (All-tail P x (xs ++ ys) all)
+
+not_both : (t : Bool) → t ≡ true → t ≡ false → ⊥
+not_both true a c = cc
+not_both false a c = cc
 
 abbrev one_if : Bool → ℕ
 one_if b = cond b 1 0
@@ -49,47 +52,29 @@ module _ {T : Type 0} (fits : T → Type 0) where
     first zero v e none = ap (λ (u : Account T). u.put) (sym (some-injective (fresh true) v e))
     first (suc i) v e none = absurd (some-ne-none v (sym e))
 
+  -- where one account changes by as much as the tasks do, what was balanced still is
+  rebalanced : (port : ℕ) (v w : Account T) (before items : List T) (views : List (Account T)) → get_elem? views port ≡ some v → Holds before views → w.puts ≡ v.puts → Bare w
+      → ((h : T → ℕ) → sum_by h w.put + (sum_by h v.taken + sum_by h before) ≡ sum_by h v.put + (sum_by h w.taken + sum_by h items)) → All fits items → Holds items (set views port w)
+  rebalanced port v w before items views at b same bare weighs fit = record {
+    balance = λ h. omega (arith, sum_set (put_of h) views port v w at, sum_set (taken_of h) views port v w at, b.balance h, weighs h);
+    one_puts = omega (arith, sum_set one_if_puts views port v w at, b.one_puts, ap one_if same);
+    others = each_set Bare views port w (λ j u ne e. b.others j u e) bare;
+    fit = fit;
+  }
+
   pub puts : (port : ℕ) (v : Account T) (x : T) → v.puts ≡ true → fits x → Pushes Holds port v (x ∷ []) (HasPut v (x ∷ []))
-  puts port v x owner fit items views b at =
-      let w : Account T = having_put v (x ∷ []) in (
-        w,
-        record {
-          balance = λ h. omega (
-            arith,
-            sum_set (put_of h) views port v w at,
-            sum_set (taken_of h) views port v w at,
-            b.balance h,
-            sum_by-append h v.put (x ∷ []),
-            sum_by-append h items (x ∷ []),
-          );
-          one_puts = omega (arith, sum_set one_if_puts views port v w at, b.one_puts);
-          others = each_set Bare views port w (λ j u ne e. b.others j u e) (λ none. absurd (both v.puts owner none));
-          fit = All-push fits items x b.fit fit;
-        },
-        refl,
-      ) where
-        both : (t : Bool) → t ≡ true → t ≡ false → ⊥
-        both true a c = cc
-        both false a c = cc
+  puts port v x owner fit items views b at = (
+    having_put v (x ∷ []),
+    rebalanced port v (having_put v (x ∷ [])) items (items ++ x ∷ []) views at b refl (λ none. absurd (not_both v.puts owner none))
+        (λ h. omega (arith, sum_by-append h v.put (x ∷ []), sum_by-append h items (x ∷ []))) (All-push fits items x b.fit fit),
+    refl,
+  )
 
   taken_off : (port : ℕ) (v : Account T) (xs items before : List T) (views : List (Account T)) → get_elem? views port ≡ some v
       → Balanced fits before views → ((h : T → ℕ) → sum_by h before ≡ sum_by h xs + sum_by h items) → All fits items
       → Balanced fits items (set views port (having_taken v xs))
   taken_off port v xs items before views at b weighs fit =
-      let w : Account T = having_taken v xs in
-      record {
-        balance = λ h. omega (
-          arith,
-          sum_set (put_of h) views port v w at,
-          sum_set (taken_of h) views port v w at,
-          b.balance h,
-          sum_by-append h v.taken xs,
-          weighs h,
-        );
-        one_puts = omega (arith, sum_set one_if_puts views port v w at, b.one_puts);
-        others = each_set Bare views port w (λ j u ne e. b.others j u e) (b.others port v at);
-        fit = fit;
-      }
+      rebalanced port v (having_taken v xs) before items views at b refl (b.others port v at) (λ h. omega (arith, sum_by-append h v.taken xs, weighs h)) fit
 
   pub pops : (port : ℕ) (v : Account T) → Pops Holds port v (HasTaken fits v)
   pops port v x items views b at = (
@@ -134,13 +119,10 @@ module _ {T : Type 0} (fits : T → Type 0) where
           sum_by-append h v.taken w.taken,
         );
         one_puts = omega (arith, sum_set one_if_puts views port v u at, sum_set one_if_puts vs other w spent there, b.one_puts, ap one_if guest);
-        others = each_set Bare vs other spent (λ k z _ f. each_set Bare views port u (λ k' z' _ f'. b.others k' z' f') (λ none. absurd (both v.puts owner none)) k z f)
+        others = each_set Bare vs other spent (λ k z _ f. each_set Bare views port u (λ k' z' _ f'. b.others k' z' f') (λ none. absurd (not_both v.puts owner none)) k z f)
             (λ _. refl);
         fit = b.fit;
-      } where
-        both : (t : Bool) → t ≡ true → t ≡ false → ⊥
-        both true a c = cc
-        both false a c = cc
+      }
 
   -- the owner has put what was taken and what the deque holds
   pub learns : (port : ℕ) (v : Account T) → v.puts ≡ true → Learns Holds port v (HasWhole v)
