@@ -1,13 +1,13 @@
 //! What stands outside a window.
 ghost use Rattle.std.specs.Prelude.{◌≡◌, ◌<◌, ◌++◌, [], length, IfOk};
-ghost use Rattle.dm_rows.specs.Rows.{IsSized, kept_at, small_first_at};
-ghost use Rattle.dm_paths.specs.Decisions.{change_decision, pair_decision};
+ghost use Rattle.dm_rows.specs.Rows.{IsSized};
 ghost use Rattle.dm_window.specs.Windows.{is_within, is_change_within, is_pair_within, window_base};
 ghost use Rattle.dm_window.specs.Inside.Standing.{standing_change, standing_pair, standing_changes, standing_pairs};
 
 use dm_base::Secs;
 use dm_network::Network;
-use dm_rows::{Decision, Rows, choice_of_pair, is_free_change, is_free_pair};
+use dm_paths::{change_decision, pair_decision};
+use dm_rows::{Decision, Rows, is_free_change, is_free_pair};
 use std::alloc::{AllocError, Global};
 
 /// A stretch of time, with both of its ends.
@@ -77,7 +77,7 @@ fn standing_change(net: &Network, rows: &Rows, window: Window, a: usize) -> Opti
     ensures { result ≡ standing_change net.now rows.now window.from window.to a }
 {
     if is_free_change(net, rows, a) && !is_change_within(net, window, a) {
-        Some(change_as_it_is(net, rows, a))
+        Some(change_decision(net, a, rows.kept(a)))
     } else {
         None
     }
@@ -90,7 +90,7 @@ fn standing_pair(net: &Network, rows: &Rows, window: Window, p: usize) -> Option
     ensures { result ≡ standing_pair net.now rows.now window.from window.to p }
 {
     if is_free_pair(net, rows, p) && !is_pair_within(net, window, p) {
-        Some(pair_as_it_is(net, rows, p))
+        Some(pair_decision(net, p, rows.small_first(p)))
     } else {
         None
     }
@@ -120,32 +120,4 @@ fn is_pair_within(net: &Network, window: Window, p: usize) -> bool
     net.sound();
     let pair = net.pair(p);
     is_within(window, net.event(pair.small).time) && is_within(window, net.event(pair.large).time)
-}
-
-/// The decision of the change at a place that the rows have.
-fn change_as_it_is(net: &Network, rows: &Rows, a: usize) -> Decision
-    requires sized { IsSized net.now rows.now }
-    requires is_activity { a < length net.now.activities }
-    ensures { result ≡ change_decision net.now a (kept_at rows.now a) }
-{
-    let id = net.activity(a).id;
-    if rows.kept(a) {
-        Decision::Keep(id)
-    } else {
-        Decision::Drop(id)
-    }
-}
-
-/// The decision of the pair at a place that the rows have.
-fn pair_as_it_is(net: &Network, rows: &Rows, p: usize) -> Decision
-    requires sized { IsSized net.now rows.now }
-    requires is_pair { p < length net.now.pairs }
-    ensures { result ≡ pair_decision net.now p (small_first_at rows.now p) }
-{
-    let choice = choice_of_pair(net, p);
-    if rows.small_first(p) {
-        choice.first()
-    } else {
-        choice.second()
-    }
 }
