@@ -12,7 +12,8 @@ use Rattle.dm_tree.specs.Plans.{Task}
 use Rattle.dm_rows.specs.Sides.{first_decision, second_decision, IsOrdered, is_ordered}
 use Rattle.dm_tree.specs.Inside.Filling.{is_none_left, fills, visits}
 use Rattle.dm_tree.specs.Pending.{pending}
-use Rattle.dm_tree.proofs.Filled.{both, some_more, one_back, ordered_from}
+use Rattle.dm_rows.proofs.Sides.{ordered}
+use Rattle.dm_tree.proofs.Filled.{both, some_more, one_back}
 use Rattle.dm_tree.proofs.Walked.{due_after_choice}
 use Rattle.dm_check_plans.specs.Inside.Visiting.{IsTrueNode, AreTrueNodes, IsLeftToVisit, GoesOn}
 
@@ -54,7 +55,7 @@ module _ (task : Task) (plan_cost : ℕ) where
     ordered_here c is =
         let filled : fills false (length (pending path)) (Inner c ∷ rest) ≡ true =
         subst (λ x. fills false (length (pending path)) (x ∷ rest) ≡ true) is (filled_here n rest (length (pending path)) was.filled) in
-        ordered_from c (both (is_ordered c) (fills false (length (pending path) + 1) rest) filled).0
+        ordered c (both (is_ordered c) (fills false (length (pending path) + 1) rest) filled).0
 
   -- behind a choice
   pub choice_visited : (nodes rest : List Node) (path new : List Decision) (c : Choice) → IsTrueNode task plan_cost path (Inner c) →
