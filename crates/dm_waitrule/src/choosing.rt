@@ -2,10 +2,9 @@
 ghost use Rattle.std.specs.Prelude.{◌≡◌, ◌<◌, ◌≤◌, ◌↔◌, [], ◌∷◌, length, All, IfOk, IsTrue};
 ghost use Rattle.dm_base.specs.declared.limits.TheConstants.{DELAY};
 ghost use Rattle.dm_network.specs.Net.{activity_at};
-ghost use Rattle.dm_paths.specs.Decisions.{change_decision};
 ghost use Rattle.dm_rows.specs.Active.{HasNoCycle};
 ghost use Rattle.dm_rows.specs.Decide.{with_decisions};
-ghost use Rattle.dm_rows.specs.Rows.{IsSized, kept_at};
+ghost use Rattle.dm_rows.specs.Rows.{IsSized};
 ghost use Rattle.dm_propagate.specs.Engine.{IsEngineOf, times_of};
 ghost use Rattle.dm_waitrule.specs.Rules.{KeepsWithin, limit_of, with_dropped, IsInTime, Decides, Follows, is_decided_otherwise, differences_to, AreRuled, AreRuleChoices};
 ghost use Rattle.dm_waitrule.specs.Inside.Deciding.{KeepsWhereOpen};
@@ -14,6 +13,7 @@ use crate::order::rule_order;
 use crate::rule::WaitRule;
 use dm_base::Steps;
 use dm_network::Network;
+use dm_paths::change_decision;
 use dm_propagate::Engine;
 use dm_rows::{Change, Decision, Flip, Rows, is_free_change};
 use dm_settle::NoTimes;
@@ -188,7 +188,7 @@ pub fn differences_to(
     let mut choices = Vec::new(alloc);
     for act in 0..net.activities() {
         if is_decided_otherwise(net, rows, other, act) {
-            choices.push(decision_in(net, other, act))?;
+            choices.push(change_decision(net, act, other.kept(act)))?;
         }
     }
     Ok(choices)
@@ -201,18 +201,4 @@ fn is_decided_otherwise(net: &Network, rows: &Rows, other: &Rows, act: usize) ->
     ensures { result ≡ is_decided_otherwise net.now rows.now other.now act }
 {
     is_free_change(net, rows, act) && rows.kept(act) != other.kept(act)
-}
-
-/// What the rows decide of a change.
-fn decision_in(net: &Network, rows: &Rows, act: usize) -> Decision
-    requires sized { IsSized net.now rows.now }
-    requires is_activity { act < length net.now.activities }
-    ensures { result ≡ change_decision net.now act (kept_at rows.now act) }
-{
-    let id = net.activity(act).id;
-    if rows.kept(act) {
-        Decision::Keep(id)
-    } else {
-        Decision::Drop(id)
-    }
 }

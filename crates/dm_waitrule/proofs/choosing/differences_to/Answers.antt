@@ -12,8 +12,8 @@ loop-act-preserved c =
       | then-is_decided_otherwise+in_ok-push w ↦
           ap (λ v. v.items) w.choices-is ∙ w.in_ok-push.ensures.items
           ∙ gathers (is_decided_otherwise c.args.net.now c.args.rows.now c.args.other.now) (λ a. change_decision c.args.net.now a (kept_at c.args.other.now a))
-          c.loop-act.act c.loop-act.choices.items w.decision_in.result c.loop-act.invariant
-          (sym c.is_decided_otherwise.ensures ∙ w.if-is_decided_otherwise.true) w.decision_in.ensures
+          c.loop-act.act c.loop-act.choices.items w.change_decision.result c.loop-act.invariant
+          (sym c.is_decided_otherwise.ensures ∙ w.if-is_decided_otherwise.true) (w.change_decision.ensures ∙ ap (change_decision c.args.net.now c.loop-act.act) w.kept.ensures)
       | else-is_decided_otherwise w ↦
           ap (λ v. v.items) w.choices-is
           ∙ passes_over (is_decided_otherwise c.args.net.now c.args.rows.now c.args.other.now) (λ a. change_decision c.args.net.now a (kept_at c.args.other.now a))
