@@ -5,11 +5,11 @@ use Rattle.std.specs.List.{range_with_len}
 use Rattle.std.proofs.lemmas.List.FromFn.{get_or-map-range_with_len}
 use Rattle.dm_base.specs.declared.rows.ActKind.{ActKind}
 use Rattle.dm_base.specs.declared.rows.ActKind.TheVariants.{Drive, Wait, Turnaround, Change, Headway}
-use Rattle.dm_graph.specs.Arcs.{Binds, BindsIn, IsCycle}
-use Rattle.dm_graph.proofs.Transfers.{cycle_carries}
+use Rattle.dm_graph.specs.Arcs.{IsCycle}
 use Rattle.dm_network.specs.Net.{Net, activity_at, is_headway}
 use Rattle.dm_network.specs.Held.{arcs_of, is_held}
 use Rattle.dm_network.specs.Start.{IsNetwork, is_start_active, binds_at_start}
+use Rattle.dm_network.proofs.Holding.{cycle_with}
 use Rattle.dm_rows.specs.Rows.{RowsValue}
 use Rattle.dm_journey.specs.Walks.{is_usable, is_open}
 
@@ -23,20 +23,11 @@ starts_without_pair net tail place pair false is other = rw is refl
 pub no_cycle_without_headways : (net : Net) (held : ℕ → Bool) → IsNetwork net →
     ((a : ℕ) → a < length net.activities → IsTrue (held a) → is_headway (activity_at net a).kind ≡ false) → (cycle : List ℕ) → IsCycle (arcs_of net held) cycle → ⊥
 no_cycle_without_headways net held network none cycle c =
-    let each : (a : ℕ) → Binds (arcs_of net held) a → BindsIn (arcs_of net held) (arcs_of net (is_start_active net)) a =
-    λ a b. record {
-      binds = record {
-        is_arc = b.is_arc;
-        is_held =
-            starts_without_pair net (activity_at net a).tail _ (activity_at net a).pair (is_headway (activity_at net a).kind)
-            (network.formed.is_paired.belongs a b.is_arc) (none a b.is_arc b.is_held);
-        from_event = b.from_event;
-        to_event = b.to_event;
-      };
-      same_tail = refl;
-      same_head = refl;
-    } in
-    network.no_start_cycle cycle (cycle_carries (arcs_of net held) (arcs_of net (is_start_active net)) each cycle c)
+    network.no_start_cycle cycle
+    (cycle_with net held (is_start_active net)
+    (λ a below holds.
+    starts_without_pair net (activity_at net a).tail _ (activity_at net a).pair (is_headway (activity_at net a).kind)
+    (network.formed.is_paired.belongs a below) (none a below holds)) cycle c)
 
 and_right : (a b : Bool) → (a && b) ≡ true → b ≡ true
 and_right true b is = is
