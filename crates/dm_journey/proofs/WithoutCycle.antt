@@ -6,10 +6,10 @@ use Rattle.std.proofs.lemmas.List.FromFn.{get_or-map-range_with_len}
 use Rattle.dm_base.specs.declared.rows.ActKind.{ActKind}
 use Rattle.dm_base.specs.declared.rows.ActKind.TheVariants.{Drive, Wait, Turnaround, Change, Headway}
 use Rattle.dm_graph.specs.Arcs.{IsCycle}
+use Rattle.dm_network.proofs.Holding.{cycle_with}
 use Rattle.dm_network.specs.Net.{Net, activity_at, is_headway}
 use Rattle.dm_network.specs.Held.{arcs_of, is_held}
 use Rattle.dm_network.specs.Start.{IsNetwork, is_start_active, binds_at_start}
-use Rattle.dm_network.proofs.Holding.{cycle_with}
 use Rattle.dm_rows.specs.Rows.{RowsValue}
 use Rattle.dm_journey.specs.Walks.{is_usable, is_open}
 
@@ -25,9 +25,10 @@ pub no_cycle_without_headways : (net : Net) (held : ℕ → Bool) → IsNetwork 
 no_cycle_without_headways net held network none cycle c =
     network.no_start_cycle cycle
     (cycle_with net held (is_start_active net)
-    (λ a below holds.
+    (λ a below is.
     starts_without_pair net (activity_at net a).tail _ (activity_at net a).pair (is_headway (activity_at net a).kind)
-    (network.formed.is_paired.belongs a below) (none a below holds)) cycle c)
+    (network.formed.is_paired.belongs a below) (none a below is))
+    cycle c)
 
 and_right : (a b : Bool) → (a && b) ≡ true → b ≡ true
 and_right true b is = is
