@@ -83,19 +83,17 @@ module _ (events : List EventRow) (activities : List ActRow) (net : Net) (made :
 
 -- ---- one fault
 
+one_least : (ids : List ℕ) (m n : ℕ) → IsLeastDouble ids m → IsLeastDouble ids n → m ≡ n
+one_least ids m n p q =
+    let le = p.least n q.twice in
+    let ge = q.least m p.twice in
+    omega arith
+
 one_event : (ids : List ℕ) (i j : EventId) → IsLeastDouble ids i.0 → IsLeastDouble ids j.0 → i ≡ j
-one_event ids i j p q =
-    let le = p.least j.0 q.twice in
-    let ge = q.least i.0 p.twice in
-    let e : i.0 ≡ j.0 = omega arith in
-    ap (λ (n : ℕ). let id : EventId = record { 0 = n } in id) e
+one_event ids i j p q = ap (λ (n : ℕ). let id : EventId = record { 0 = n } in id) (one_least ids i.0 j.0 p q)
 
 one_activity : (ids : List ℕ) (i j : ActId) → IsLeastDouble ids i.0 → IsLeastDouble ids j.0 → i ≡ j
-one_activity ids i j p q =
-    let le = p.least j.0 q.twice in
-    let ge = q.least i.0 p.twice in
-    let e : i.0 ≡ j.0 = omega arith in
-    ap (λ (n : ℕ). let id : ActId = record { 0 = n } in id) e
+one_activity ids i j p q = ap (λ (n : ℕ). let id : ActId = record { 0 = n } in id) (one_least ids i.0 j.0 p q)
 
 some_is : {X : Type 0} (x y : X) → Some x ≡ Some y → x ≡ y
 some_is x y e = cc

@@ -264,36 +264,34 @@ module _ (told : Told) (asked : FilesAsked) (known : IsSome told) where
     place_activity_delays : ActivityDelaysAnswer told asked (Err flaw) → stage_place (stage_of flaw) ≡ 3
     place_activity_delays x = place_of_file ReadsDelays delays_one told (file_name asked ActivityDelays) ActivityDelays flaw x
 
+    -- a place that is not behind the refusal, whichever file that is of, is not behind the first
+    not_behind : (place : ℕ) → place ≤ 4
+        → (EventsAnswer told asked (Err flaw) → place ≤ stage_place (stage_of flaw))
+        → (ActivitiesAnswer told asked (Err flaw) → place ≤ stage_place (stage_of flaw))
+        → (EventDelaysAnswer told asked (Err flaw) → place ≤ stage_place (stage_of flaw))
+        → (ActivityDelaysAnswer told asked (Err flaw) → place ≤ stage_place (stage_of flaw))
+        → place ≤ stage_place (stage_of flaw)
+    not_behind place few events activities event_delays activity_delays = elim (late_or_file flaw first) [
+      | inl f ↦ elim (refused_file flaw f) [
+        | inl e ↦ events e
+        | inr rest ↦ elim rest [
+          | inl a ↦ activities a
+          | inr delays ↦ elim delays [ inl d ↦ event_delays d | inr x ↦ activity_delays x ]
+        ]
+      ]
+      | inr late ↦ omega arith
+    ]
+
     -- a file before which nothing is refused is not after the first refusal
     pub not_after : (file : File) → PassesBefore told asked file → IsReadBy file flaw
     not_after Events passes = omega arith
-    not_after Activities passes = elim (late_or_file flaw first) [
-      | inl f ↦ elim (refused_file flaw f) [
-        | inl e ↦ absurd (events_are_one (Ok passes.0) (Err flaw) passes.1 e)
-        | inr rest ↦ elim rest [
-          | inl a ↦ let e = place_activities a in omega arith
-          | inr rest2 ↦ elim rest2 [ inl d ↦ let e = place_event_delays d in omega arith | inr x ↦ let e = place_activity_delays x in omega arith ]
-        ]
-      ]
-      | inr late ↦ omega arith
-    ]
-    not_after EventDelays passes = elim (late_or_file flaw first) [
-      | inl f ↦ elim (refused_file flaw f) [
-        | inl e ↦ absurd (events_are_one (Ok passes.0) (Err flaw) passes.1 e)
-        | inr rest ↦ elim rest [
-          | inl a ↦ absurd (activities_are_one (Ok passes.2) (Err flaw) passes.3 a)
-          | inr rest2 ↦ elim rest2 [ inl d ↦ let e = place_event_delays d in omega arith | inr x ↦ let e = place_activity_delays x in omega arith ]
-        ]
-      ]
-      | inr late ↦ omega arith
-    ]
-    not_after ActivityDelays passes = elim (late_or_file flaw first) [
-      | inl f ↦ elim (refused_file flaw f) [
-        | inl e ↦ absurd (events_are_one (Ok passes.0) (Err flaw) passes.1 e)
-        | inr rest ↦ elim rest [
-          | inl a ↦ absurd (activities_are_one (Ok passes.2) (Err flaw) passes.3 a)
-          | inr rest2 ↦ elim rest2 [ inl d ↦ absurd (event_delays_are_one (Ok passes.4) (Err flaw) passes.5 d) | inr x ↦ let e = place_activity_delays x in omega arith ]
-        ]
-      ]
-      | inr late ↦ omega arith
-    ]
+    not_after Activities passes =
+        not_behind 1 (omega arith) (λ e. absurd (events_are_one (Ok passes.0) (Err flaw) passes.1 e))
+        (λ a. let e = place_activities a in omega arith) (λ d. let e = place_event_delays d in omega arith) (λ x. let e = place_activity_delays x in omega arith)
+    not_after EventDelays passes =
+        not_behind 2 (omega arith) (λ e. absurd (events_are_one (Ok passes.0) (Err flaw) passes.1 e))
+        (λ a. absurd (activities_are_one (Ok passes.2) (Err flaw) passes.3 a)) (λ d. let e = place_event_delays d in omega arith) (λ x. let e = place_activity_delays x in omega arith)
+    not_after ActivityDelays passes =
+        not_behind 3 (omega arith) (λ e. absurd (events_are_one (Ok passes.0) (Err flaw) passes.1 e))
+        (λ a. absurd (activities_are_one (Ok passes.2) (Err flaw) passes.3 a)) (λ d. absurd (event_delays_are_one (Ok passes.4) (Err flaw) passes.5 d))
+        (λ x. let e = place_activity_delays x in omega arith)

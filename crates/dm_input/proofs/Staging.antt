@@ -26,6 +26,21 @@ pub answers_back : {R : Type 0} {H : Type 0} {files : H → Told} {is_sound : H 
     → IsKept files is_sound a b → FileStage (files b) name file Reads answer → FileStage (files a) name file Reads answer
 answers_back {R} name file Reads answer kept h = subst (λ told. FileStage told name file Reads answer) kept.same h
 
+-- what was read of the first three files, each told by the shelf behind the one before, the shelf told at first
+pub record ThreeRead {H : Type 0} (files : H → Told) (is_sound : H → List ℕ → Type 0) (before now : H) (asked : FilesAsked) (act_rows : List ActRow) (delay_rows : List DelayRow) : Type 0 where
+  pub kept : IsKept files is_sound before now
+  pub activities : ActivitiesAnswer (files before) asked (Ok act_rows)
+  pub delays : EventDelaysAnswer (files before) asked (Ok delay_rows)
+
+pub three_read : {H : Type 0} {files : H → Told} {is_sound : H → List ℕ → Type 0} {a b c d : H} (asked : FilesAsked) (act_rows : List ActRow) (delay_rows : List DelayRow)
+    → IsKept files is_sound a b → IsKept files is_sound b c → IsKept files is_sound c d
+    → ActivitiesAnswer (files b) asked (Ok act_rows) → EventDelaysAnswer (files c) asked (Ok delay_rows) → ThreeRead files is_sound a d asked act_rows delay_rows
+three_read asked act_rows delay_rows first second third activities delays = record {
+  kept = kept_then (kept_then first second) third;
+  activities = answers_back (file_name asked Activities) Activities (ReadsActivities asked.columns.activities) (Ok act_rows) first activities;
+  delays = answers_back (file_name asked EventDelays) EventDelays ReadsDelays (Ok delay_rows) (kept_then first second) delays;
+}
+
 stops_back_name : {R : Type 0} {H : Type 0} {files : H → Told} {is_sound : H → List ℕ → Type 0} {a b : H} (name : List ℕ) (file : File) (Reads : List ℕ → Result (List R) FileFault → Type 0) (stop : InputStop)
     → IsKept files is_sound a b → StopsAtName (files b) (is_sound b) name file Reads stop → StopsAtName (files a) (is_sound a) name file Reads stop
 stops_back_name {R} name file Reads (Refused flaw) kept h = subst (λ told. Raised (InFile file) (NamedAnswers told name Reads) (Err flaw)) kept.same h

@@ -3,7 +3,6 @@
 use dm_lintim::FileFault;
 use dm_network::NetFault;
 use dm_rows::StartFault;
-use std::alloc::AllocError;
 
 /// A file of the folder, in the order of reading.
 #[derive(Clone, Copy, PartialEq, Eq, Debug)]
@@ -46,15 +45,4 @@ pub enum InputStop {
     ReadFault(File),
 
     NoMemory,
-}
-
-impl From<AllocError> for InputStop {
-    ghost use Rattle.std.specs.Prelude.{◌≡◌};
-    ghost use Rattle.dm_input.specs.declared.flaws.InputStop.TheVariants.{NoMemory};
-
-    ghost from_gives = { λ _ stop. stop ≡ NoMemory };
-
-    fn from(_: AllocError) -> InputStop {
-        InputStop::NoMemory
-    }
 }

@@ -20,10 +20,7 @@ fn print_kind<K: Sink>(sink: &mut K, page: &mut Page, kind: FileKind) -> Result<
     ensures { Prints K.taken K.faults sink.old sink.new page.old page.new result (kind_text kind) }
 {
     match kind {
-        FileKind::FieldCount(count) => page.put(
-            sink,
-            &[Piece::Text(" field-count "), Piece::Number(count as u128)],
-        ),
+        FileKind::FieldCount(count) => page.put_number(sink, " field-count ", count as u128),
         FileKind::BadNumber(column) => page.put(
             sink,
             &[Piece::Text(" bad-number "), Piece::Text(column.name())],
@@ -42,7 +39,7 @@ fn print_kind<K: Sink>(sink: &mut K, page: &mut Page, kind: FileKind) -> Result<
 fn print_id<K: Sink>(sink: &mut K, page: &mut Page, id: ActId) -> Result<(), WriteFault>
     ensures { Prints K.taken K.faults sink.old sink.new page.old page.new result (id_text id) }
 {
-    page.put(sink, &[Piece::Text(" "), Piece::Number(id.0 as u128)])
+    page.put_number(sink, " ", id.0 as u128)
 }
 
 fn print_ids<K: Sink>(sink: &mut K, page: &mut Page, ids: &[ActId]) -> Result<(), WriteFault>
@@ -72,25 +69,10 @@ fn print_network<K: Sink>(sink: &mut K, page: &mut Page, fault: &NetFault) -> Re
 {
     match fault {
         NetFault::TooMany => page.put(sink, &[Piece::Text(" too-many")]),
-        NetFault::DoubleEvent(id) => page.put(
-            sink,
-            &[Piece::Text(" double-event "), Piece::Number(id.0 as u128)],
-        ),
-        NetFault::DoubleActivity(id) => page.put(
-            sink,
-            &[
-                Piece::Text(" double-activity "),
-                Piece::Number(id.0 as u128),
-            ],
-        ),
-        NetFault::UnknownEvent(id) => page.put(
-            sink,
-            &[Piece::Text(" unknown-event "), Piece::Number(id.0 as u128)],
-        ),
-        NetFault::ZeroHeadway(id) => page.put(
-            sink,
-            &[Piece::Text(" zero-headway "), Piece::Number(id.0 as u128)],
-        ),
+        NetFault::DoubleEvent(id) => page.put_number(sink, " double-event ", id.0 as u128),
+        NetFault::DoubleActivity(id) => page.put_number(sink, " double-activity ", id.0 as u128),
+        NetFault::UnknownEvent(id) => page.put_number(sink, " unknown-event ", id.0 as u128),
+        NetFault::ZeroHeadway(id) => page.put_number(sink, " zero-headway ", id.0 as u128),
         NetFault::Cycle(ids) => print_cycle(sink, page, ids.as_slice()),
         NetFault::OutOfMemory => page.put(sink, &[]),
     }
@@ -101,16 +83,11 @@ fn print_start<K: Sink>(sink: &mut K, page: &mut Page, fault: &StartFault) -> Re
     ensures { Prints K.taken K.faults sink.old sink.new page.old page.new result (start_text fault.now) }
 {
     match fault {
-        StartFault::UnknownEvent(id) => page.put(
+        StartFault::UnknownEvent(id) => page.put_number(sink, " unknown-event ", id.0 as u128),
+        StartFault::UnknownActivity(id) => page.put_number(
             sink,
-            &[Piece::Text(" unknown-event "), Piece::Number(id.0 as u128)],
-        ),
-        StartFault::UnknownActivity(id) => page.put(
-            sink,
-            &[
-                Piece::Text(" unknown-activity "),
-                Piece::Number(id.0 as u128),
-            ],
+            " unknown-activity ",
+            id.0 as u128,
         ),
         StartFault::OutOfMemory => page.put(sink, &[]),
     }
@@ -202,10 +179,7 @@ fn print_file<K: Sink>(sink: &mut K, page: &mut Page, why: FileFlaw) -> Result<(
 fn print_record<K: Sink>(sink: &mut K, page: &mut Page, fault: FileFault) -> Result<(), WriteFault>
     ensures { Prints K.taken K.faults sink.old sink.new page.old page.new result (file_text (FileFlaw.Record fault)) }
 {
-    let Ok(()) = page.put(
-        sink,
-        &[Piece::Text(" record "), Piece::Number(fault.number as u128)],
-    ) else {
+    let Ok(()) = page.put_number(sink, " record ", fault.number as u128) else {
         return Err(WriteFault);
     };
     print_kind(sink, page, fault.kind)

@@ -5,7 +5,7 @@ use Rattle.dm_input.specs.Input.{file_name}
 use Rattle.dm_words.specs.Asked.{files_of}
 use Rattle.dm_input.specs.Stops.{StopsOpening}
 use Rattle.dm_input.proofs.Fits.{events_fit, activities_fit, delays_are_within}
-use Rattle.dm_input.proofs.Staging.{kept_then, answers_back, stops_back, stops_event_delays, stops_activity_delays, files_answer}
+use Rattle.dm_input.proofs.Staging.{kept_then, answers_back, three_read, stops_back, stops_event_delays, stops_activity_delays, files_answer}
 use Rattle.dm_input.proofs.reading.read_files.Goals as goal
 
 pub returns-in_err-event_delays-clause-stops : goal.returns-in_err-event_delays-clause-stops
@@ -22,42 +22,33 @@ returns-in_err-event_delays-clause-stops g c =
 pub returns-in_err-activity_delays-clause-stops : goal.returns-in_err-activity_delays-clause-stops
 returns-in_err-activity_delays-clause-stops g c =
     let asked = files_of c.args.words.now in
-    let first = c.in_ok-events.ensures.kept in
-    let second = kept_then first c.in_ok-activities.ensures.kept in
-    let third = kept_then second c.in_ok-event_delays.ensures.kept in
-    let activities = answers_back (file_name asked Activities) Activities (ReadsActivities asked.columns.activities) (Ok c.in_ok-activities.activities.items) first c.in_ok-activities.ensures.rows in
-    let delays = answers_back (file_name asked EventDelays) EventDelays ReadsDelays (Ok c.in_ok-event_delays.event_delays.items) second c.in_ok-event_delays.ensures.rows in
-    let stops = stops_back (file_name asked ActivityDelays) ActivityDelays ReadsDelays c.in_err-activity_delays.field-0.0 third c.in_err-activity_delays.ensures.stops in
+    let read = three_read asked c.in_ok-activities.activities.items c.in_ok-event_delays.event_delays.items
+    c.in_ok-events.ensures.kept c.in_ok-activities.ensures.kept c.in_ok-event_delays.ensures.kept c.in_ok-activities.ensures.rows c.in_ok-event_delays.ensures.rows in
+    let stops = stops_back (file_name asked ActivityDelays) ActivityDelays ReadsDelays c.in_err-activity_delays.field-0.0 read.kept c.in_err-activity_delays.ensures.stops in
     let fact : StopsOpening (g.H.Shelf.files c.args.shelf.now) (g.H.Shelf.is_sound c.args.shelf.now) asked c.in_err-activity_delays.field-0.0 =
     stops_activity_delays _ _ asked c.in_ok-events.events.items c.in_ok-activities.activities.items c.in_ok-event_delays.event_delays.items _
-    c.in_ok-events.ensures.rows activities delays stops in
+    c.in_ok-events.ensures.rows read.activities read.delays stops in
     search rules
 
 pub returns-clause-rows : goal.returns-clause-rows
 returns-clause-rows g c =
     let asked = files_of c.args.words.now in
-    let first = c.in_ok-events.ensures.kept in
-    let second = kept_then first c.in_ok-activities.ensures.kept in
-    let third = kept_then second c.in_ok-event_delays.ensures.kept in
-    let activities = answers_back (file_name asked Activities) Activities (ReadsActivities asked.columns.activities) (Ok c.in_ok-activities.activities.items) first c.in_ok-activities.ensures.rows in
-    let delays = answers_back (file_name asked EventDelays) EventDelays ReadsDelays (Ok c.in_ok-event_delays.event_delays.items) second c.in_ok-event_delays.ensures.rows in
-    let last = answers_back (file_name asked ActivityDelays) ActivityDelays ReadsDelays (Ok c.in_ok-activity_delays.activity_delays.items) third c.in_ok-activity_delays.ensures.rows in
+    let read = three_read asked c.in_ok-activities.activities.items c.in_ok-event_delays.event_delays.items
+    c.in_ok-events.ensures.kept c.in_ok-activities.ensures.kept c.in_ok-event_delays.ensures.kept c.in_ok-activities.ensures.rows c.in_ok-event_delays.ensures.rows in
     files_answer _ asked c.in_ok-events.events.items c.in_ok-activities.activities.items c.in_ok-event_delays.event_delays.items c.in_ok-activity_delays.activity_delays.items
-    c.in_ok-events.ensures.rows activities delays last
+    c.in_ok-events.ensures.rows read.activities read.delays
+    (answers_back (file_name asked ActivityDelays) ActivityDelays ReadsDelays (Ok c.in_ok-activity_delays.activity_delays.items) read.kept c.in_ok-activity_delays.ensures.rows)
 
 pub returns-clause-fit : goal.returns-clause-fit
 returns-clause-fit g c =
     let asked = files_of c.args.words.now in
     let told = g.H.Shelf.files c.args.shelf.now in
-    let first = c.in_ok-events.ensures.kept in
-    let second = kept_then first c.in_ok-activities.ensures.kept in
-    let third = kept_then second c.in_ok-event_delays.ensures.kept in
-    let activities = answers_back (file_name asked Activities) Activities (ReadsActivities asked.columns.activities) (Ok c.in_ok-activities.activities.items) first c.in_ok-activities.ensures.rows in
-    let delays = answers_back (file_name asked EventDelays) EventDelays ReadsDelays (Ok c.in_ok-event_delays.event_delays.items) second c.in_ok-event_delays.ensures.rows in
-    let last = answers_back (file_name asked ActivityDelays) ActivityDelays ReadsDelays (Ok c.in_ok-activity_delays.activity_delays.items) third c.in_ok-activity_delays.ensures.rows in
+    let read = three_read asked c.in_ok-activities.activities.items c.in_ok-event_delays.event_delays.items
+    c.in_ok-events.ensures.kept c.in_ok-activities.ensures.kept c.in_ok-event_delays.ensures.kept c.in_ok-activities.ensures.rows c.in_ok-event_delays.ensures.rows in
     record {
       events = events_fit asked.columns.events told (file_name asked Events) c.in_ok-events.events.items c.in_ok-events.ensures.rows;
-      activities = activities_fit asked.columns.activities told (file_name asked Activities) c.in_ok-activities.activities.items activities;
-      event_delays = delays_are_within told (file_name asked EventDelays) c.in_ok-event_delays.event_delays.items delays;
-      activity_delays = delays_are_within told (file_name asked ActivityDelays) c.in_ok-activity_delays.activity_delays.items last;
+      activities = activities_fit asked.columns.activities told (file_name asked Activities) c.in_ok-activities.activities.items read.activities;
+      event_delays = delays_are_within told (file_name asked EventDelays) c.in_ok-event_delays.event_delays.items read.delays;
+      activity_delays = delays_are_within told (file_name asked ActivityDelays) c.in_ok-activity_delays.activity_delays.items
+          (answers_back (file_name asked ActivityDelays) ActivityDelays ReadsDelays (Ok c.in_ok-activity_delays.activity_delays.items) read.kept c.in_ok-activity_delays.ensures.rows);
     }
