@@ -152,6 +152,13 @@ walks_in net rows x from to after most journeys are =
 
 -- ---- answers to a journal
 
+-- every question but that for the state wants all lines
+wants_all : (query : Query) → (query ≡ Follow → ⊥) → WantsAll query
+wants_all Follow other = other refl
+wants_all (Window asked) other = tt
+wants_all (Rules asked) other = tt
+wants_all (Journey asked) other = tt
+
 module _ {K : Type 0} (taken : K → Option (List ℕ)) (faults : K → ℕ) (net : Net) (rows : RowsValue) (penalty : ℕ) (bytes : List ℕ) (before now : K) (result : Status) where
   broken_is_bad : (query : Query) (line : ℕ) (rule : BrokenRule) → IsBrokenAt net rows penalty bytes (record { line = line; rule = rule }) → IsBadFor query net rows penalty bytes line (kind_of_rule rule)
   broken_is_bad query line Form is = is
@@ -166,12 +173,12 @@ module _ {K : Type 0} (taken : K → Option (List ℕ)) (faults : K → ℕ) (ne
         ends = ends;
       })
 
-  pub answers_torn : (query : Query) (line : ℕ) → WantsAll query → IsTornAt net rows penalty bytes line → EndsAs taken faults before now (verdict_line (BadVerdict line bad.Truncated)) Bad result → EndsOnJournal taken faults query net rows penalty bytes before now result
-  answers_torn query line wants is ends =
+  pub answers_torn : (query : Query) (line : ℕ) → (query ≡ Follow → ⊥) → IsTornAt net rows penalty bytes line → EndsAs taken faults before now (verdict_line (BadVerdict line bad.Truncated)) Bad result → EndsOnJournal taken faults query net rows penalty bytes before now result
+  answers_torn query line other is ends =
       inl (record {
         status = Bad;
         text = verdict_line (BadVerdict line bad.Truncated);
-        answers = record { line = line; kind = bad.Truncated; is_bad = (wants, is); is_text = refl };
+        answers = record { line = line; kind = bad.Truncated; is_bad = (wants_all query other, is); is_text = refl };
         ends = ends;
       })
 

@@ -6,7 +6,7 @@ ghost use Rattle.dm_program.specs.Followed.{cost_line, entries_line, state_text,
 ghost use Rattle.dm_program.specs.Inside.Asking.{state_of};
 
 use crate::status::Status;
-use crate::verdicts::put_pieces;
+use crate::verdicts::{put_number, put_pieces, put_two_numbers};
 use dm_base::Cost;
 use dm_follow::{Follower, Tail};
 use dm_network::Network;
@@ -69,14 +69,7 @@ fn put_parts<K: Sink>(
 fn put_entries<K: Sink>(out: &mut K, entries: u32) -> Result<(), WriteFault>
     ensures { Puts K.taken K.faults out.old out.new result (entries_line entries) }
 {
-    put_pieces(
-        out,
-        &[
-            Piece::Text("entries "),
-            Piece::Number(entries as u128),
-            Piece::Text("\n"),
-        ],
-    )
+    put_number(out, "entries ", entries as u128)
 }
 
 /// Puts what there is of a journal's lines.
@@ -85,16 +78,9 @@ fn put_tail<K: Sink>(out: &mut K, tail: Tail) -> Result<(), WriteFault>
 {
     match tail {
         Tail::Whole => put_pieces(out, &[Piece::Text("tail whole"), Piece::Text("\n")]),
-        Tail::Torn { line, bytes } => put_pieces(
-            out,
-            &[
-                Piece::Text("tail torn "),
-                Piece::Number(line as u128),
-                Piece::Text(" "),
-                Piece::Number(bytes as u128),
-                Piece::Text("\n"),
-            ],
-        ),
+        Tail::Torn { line, bytes } => {
+            put_two_numbers(out, "tail torn ", line as u128, bytes as u128)
+        }
         Tail::Failed { .. } => put_pieces(out, &[]),
     }
 }
@@ -103,8 +89,5 @@ fn put_tail<K: Sink>(out: &mut K, tail: Tail) -> Result<(), WriteFault>
 fn put_cost<K: Sink>(out: &mut K, cost: Cost) -> Result<(), WriteFault>
     ensures { Puts K.taken K.faults out.old out.new result (cost_line cost) }
 {
-    put_pieces(
-        out,
-        &[Piece::Text("cost "), Piece::Number(cost), Piece::Text("\n")],
-    )
+    put_number(out, "cost ", cost)
 }

@@ -23,18 +23,15 @@ use dm_network::Network;
 use dm_outside::{Shelf, Sink, TakeFault};
 use dm_rows::Rows;
 use dm_words::{Query, QueryWords};
-use std::alloc::Global;
 use std::sync::Wait;
 use std::thread::Threads;
 
 /// Reads the files that the words name, and then the text, whose journal is followed over the network and from the rows that they
 /// make, and answers what is asked of it.
 pub fn answer_query<R: Threads + Wait + Sync, H: Shelf, K: Sink, G: Hold + Sync>(
-    rt: &R,
-    alloc: Global,
+    means: &Means<'_, R, G>,
     words: &QueryWords<'_>,
     shelf: &mut H,
-    gate: &G,
     out: &mut K,
 ) -> Status
     requires penalty { (query_of words.now).files.penalty ≤ PENALTY }
@@ -43,12 +40,12 @@ pub fn answer_query<R: Threads + Wait + Sync, H: Shelf, K: Sink, G: Hold + Sync>
     ensures kept { IsKept H.files H.is_sound shelf.old shelf.new }
     ensures later { K.faults out.old ≤ K.faults out.new }
 {
-    let opened = match read_opening(alloc, shelf, &words.files) {
+    let opened = match read_opening(means.alloc, shelf, &words.files) {
         Ok(opened) => opened,
         Err(stop) => return end_stopped(&words.files, &stop, out),
     };
     let Opened { net, rows } = opened;
-    ask_text(&Means { rt, alloc, gate }, &net, rows, words, shelf, out)
+    ask_text(means, &net, rows, words, shelf, out)
 }
 
 /// Reads a text and answers what the words ask of its journal, or says why that is not known.
@@ -95,9 +92,7 @@ fn answer_journal<R: Threads + Wait + Sync, K: Sink, G: Hold + Sync>(
         Journal::Broken(broken) => end_broken(*broken, out),
         Journal::Torn(line, follower) => match query {
             Query::Follow => end_state(follower, out),
-            Query::Journey(_) => end_torn(*line, out),
-            Query::Rules(_) => end_torn(*line, out),
-            Query::Window(_) => end_torn(*line, out),
+            _ => end_torn(*line, out),
         },
         Journal::Whole(follower) => match query {
             Query::Follow => end_state(follower, out),

@@ -29,18 +29,16 @@ use dm_rows::{Rows, Snapshot};
 use dm_tree::Plan;
 use dm_words::RunWords;
 use dm_workers::search;
-use std::alloc::{AllocError, Global};
+use std::alloc::AllocError;
 use std::sync::Wait;
 use std::thread::Threads;
 
 /// Reads the files of a run, opens and answers its feeds, shows boards the times, and prints it.
 pub fn run_feeds<R: Threads + Wait + Sync, H: Shelf, K: Sink, G: Hold + Sync>(
-    rt: &R,
-    alloc: Global,
+    means: &Means<'_, R, G>,
     run: &RunWords<'_>,
     shelf: &mut H,
     boards: &mut Vec<Box<dyn Board>>,
-    gate: &G,
     out: &mut K,
 ) -> Status
     requires within { AreWithin (run_of run.now) }
@@ -52,19 +50,19 @@ pub fn run_feeds<R: Threads + Wait + Sync, H: Shelf, K: Sink, G: Hold + Sync>(
     ensures later { K.faults out.old ≤ K.faults out.new }
     ensures stops { map place boards.new.items ≡ map place boards.old.items }
 {
-    let opened = match read_opening(alloc, shelf, &run.files) {
+    let opened = match read_opening(means.alloc, shelf, &run.files) {
         Ok(opened) => opened,
         Err(stop) => return end_stopped(&run.files, &stop, out),
     };
     let Opened { net, rows } = opened;
-    let Ok(names) = names_of(alloc, run.feeds) else {
+    let Ok(names) = names_of(means.alloc, run.feeds) else {
         return Status::NoMemory;
     };
-    let Ok(feeds) = open_feeds(alloc, shelf, names.as_slice()) else {
+    let Ok(feeds) = open_feeds(means.alloc, shelf, names.as_slice()) else {
         return Status::NoMemory;
     };
     let answered = answer_run(
-        &Means { rt, alloc, gate },
+        means,
         &net,
         rows,
         run.files.penalty,

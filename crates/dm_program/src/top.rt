@@ -20,6 +20,7 @@ use crate::checking::check_text;
 use crate::ending::{BoardList, Ending};
 use crate::ends::end_usage;
 use crate::generate::generate;
+use crate::means::Means;
 use crate::queries::answer_query;
 use crate::run::run_feeds;
 use crate::status::Status;
@@ -140,17 +141,15 @@ pub fn dispatch<R: Threads + Wait + Sync, H: Shelf, K: Sink, G: Gate>(
     ensures later { K.faults out.old ≤ K.faults out.new }
     ensures boards_kept { map place boards.new.items ≡ map place boards.old.items }
 {
-    run(rt, alloc, words, shelf, boards, gate, out)
+    run(&Means { rt, alloc, gate }, words, shelf, boards, out)
 }
 
 /// Does what the words ask.
 fn run<R: Threads + Wait + Sync, H: Shelf, K: Sink, G: Hold + Sync>(
-    rt: &R,
-    alloc: Global,
+    means: &Means<'_, R, G>,
     words: &[String],
     shelf: &mut H,
     boards: &mut Vec<Box<dyn Board>>,
-    gate: &G,
     out: &mut K,
 ) -> Status
     requires few_boards { vec_len boards.old ≤ BOARDS }
@@ -162,19 +161,17 @@ fn run<R: Threads + Wait + Sync, H: Shelf, K: Sink, G: Hold + Sync>(
     ensures left { AsksNoRun (map string_bytes words.now) → boards.new.items ≡ boards.old.items }
 {
     match read_words(words) {
-        Some(command) => do_command(rt, alloc, &command, shelf, boards, gate, out),
+        Some(command) => do_command(means, &command, shelf, boards, out),
         None => end_usage(out),
     }
 }
 
 /// Does what a command asks.
 fn do_command<R: Threads + Wait + Sync, H: Shelf, K: Sink, G: Hold + Sync>(
-    rt: &R,
-    alloc: Global,
+    means: &Means<'_, R, G>,
     command: &CommandWords<'_>,
     shelf: &mut H,
     boards: &mut Vec<Box<dyn Board>>,
-    gate: &G,
     out: &mut K,
 ) -> Status
     requires within { IsWithin (command_of command.now) }
@@ -188,9 +185,9 @@ fn do_command<R: Threads + Wait + Sync, H: Shelf, K: Sink, G: Hold + Sync>(
     ensures left { ((asked : RunAsked) → command_of command.now ≡ RunOf asked → ⊥) → boards.new.items ≡ boards.old.items }
 {
     match command {
-        CommandWords::Run(run) => run_feeds(rt, alloc, run, shelf, boards, gate, out),
-        CommandWords::Check(check) => check_text(alloc, check, shelf, out),
-        CommandWords::Gen(day) => generate(alloc, day, out),
-        CommandWords::Query(query) => answer_query(rt, alloc, query, shelf, gate, out),
+        CommandWords::Run(run) => run_feeds(means, run, shelf, boards, out),
+        CommandWords::Check(check) => check_text(means.alloc, check, shelf, out),
+        CommandWords::Gen(day) => generate(means.alloc, day, out),
+        CommandWords::Query(query) => answer_query(means, query, shelf, out),
     }
 }

@@ -1,6 +1,8 @@
 //! Verdicts in print, and the lines that say why a text has none.
-ghost use Rattle.std.specs.Prelude.{◌≡◌};
-ghost use Rattle.dm_outside.specs.Printing.{Puts, pieces_text};
+ghost use Rattle.std.specs.Prelude.{◌≡◌, ◌∷◌, [], codes};
+ghost use Rattle.std.specs.Fmt.{decimal};
+ghost use Rattle.dm_input.specs.Lines.{line_end};
+ghost use Rattle.dm_outside.specs.Printing.{Puts, joined, pieces_text};
 ghost use Rattle.dm_program.specs.Verdicts.{kind_word, verdict_line, long_text_line, unread_text_line};
 
 use dm_check::{BadKind, Verdict};
@@ -34,21 +36,46 @@ pub fn put_pieces<K: Sink>(sink: &mut K, pieces: &[Piece<'_>]) -> Result<(), Wri
     page.finish(sink)
 }
 
+/// Puts a line of words and a number.
+pub fn put_number<K: Sink>(sink: &mut K, words: &str, number: u128) -> Result<(), WriteFault>
+    ensures { Puts K.taken K.faults sink.old sink.new result (joined (words.now ∷ decimal number ∷ line_end ∷ [])) }
+{
+    put_pieces(
+        sink,
+        &[Piece::Text(words), Piece::Number(number), Piece::Text("\n")],
+    )
+}
+
+/// Puts a line of words and two numbers.
+pub fn put_two_numbers<K: Sink>(
+    sink: &mut K,
+    words: &str,
+    first: u128,
+    second: u128,
+) -> Result<(), WriteFault>
+    ensures { Puts K.taken K.faults sink.old sink.new result
+        (joined (words.now ∷ decimal first ∷ codes " " ∷ decimal second ∷ line_end ∷ [])) }
+{
+    put_pieces(
+        sink,
+        &[
+            Piece::Text(words),
+            Piece::Number(first),
+            Piece::Text(" "),
+            Piece::Number(second),
+            Piece::Text("\n"),
+        ],
+    )
+}
+
 /// Puts the line of a verdict.
 pub fn put_verdict<K: Sink>(sink: &mut K, verdict: Verdict) -> Result<(), WriteFault>
     ensures { Puts K.taken K.faults sink.old sink.new result (verdict_line verdict) }
 {
     match verdict {
-        Verdict::Good { entries, plans } => put_pieces(
-            sink,
-            &[
-                Piece::Text("good "),
-                Piece::Number(entries as u128),
-                Piece::Text(" "),
-                Piece::Number(plans as u128),
-                Piece::Text("\n"),
-            ],
-        ),
+        Verdict::Good { entries, plans } => {
+            put_two_numbers(sink, "good ", entries as u128, plans as u128)
+        }
         Verdict::Bad { line, kind } => put_pieces(
             sink,
             &[

@@ -8,9 +8,9 @@ ghost use Rattle.dm_program.specs.Inside.Asking.{EndsOutlook};
 ghost use Rattle.dm_program.specs.Inside.Stages.{IsWindowWithin};
 
 use crate::status::Status;
-use crate::verdicts::put_pieces;
+use crate::verdicts::put_number;
 use dm_outlook::{Outlook, outlook_of, print_outlook};
-use dm_outside::{Piece, Sink, WriteFault};
+use dm_outside::{Sink, WriteFault};
 use dm_table::Table;
 use dm_words::WindowWords;
 use std::alloc::{AllocError, Global};
@@ -53,14 +53,7 @@ fn end_unknown_entry<K: Sink>(at: u32, out: &mut K) -> Status
 fn put_unknown_entry<K: Sink>(out: &mut K, at: u32) -> Result<(), WriteFault>
     ensures { Puts K.taken K.faults out.old out.new result (unknown_entry_line at) }
 {
-    put_pieces(
-        out,
-        &[
-            Piece::Text("refused entry "),
-            Piece::Number(at as u128),
-            Piece::Text("\n"),
-        ],
-    )
+    put_number(out, "refused entry ", at as u128)
 }
 
 /// Prints a plan, with the number of all entries.

@@ -13,11 +13,10 @@ returns-in-Follow-clause-ends g c = λ net rows penalty bytes is.
     subst (λ (q : Query). EndsOnJournal g.K.Sink.taken g.K.Sink.faults q net rows penalty bytes c.args.out.now c.end_state.new.out c.end_state.result) (sym c.in-Follow.is)
     (answers_state g.K.Sink.taken g.K.Sink.faults net rows penalty bytes c.args.out.now c.end_state.new.out c.end_state.result c.in-Torn.follower there.0 c.end_state.ensures.ends)
 
-pub returns-in-Journey-clause-ends : goal.returns-in-Journey-clause-ends
-returns-in-Journey-clause-ends g c = λ net rows penalty bytes is.
+pub returns-in_default-clause-ends : goal.returns-in_default-clause-ends
+returns-in_default-clause-ends g c = λ net rows penalty bytes is.
     let there = subst (λ (j : AJournal). IsJournal net rows penalty bytes j) c.in-Torn.is is in
-    subst (λ (q : Query). EndsOnJournal g.K.Sink.taken g.K.Sink.faults q net rows penalty bytes c.args.out.now c.end_torn.new.out c.end_torn.result) (sym c.in-Journey.is)
-    (answers_torn g.K.Sink.taken g.K.Sink.faults net rows penalty bytes c.args.out.now c.end_torn.new.out c.end_torn.result _ c.in-Torn.line tt there.1 c.end_torn.ensures.ends)
+    answers_torn g.K.Sink.taken g.K.Sink.faults net rows penalty bytes c.args.out.now c.end_torn.new.out c.end_torn.result _ c.in-Torn.line c.in_default.not-Follow there.1 c.end_torn.ensures.ends
 
 pub returns-in-Follow-query-clause-ends : goal.returns-in-Follow-query-clause-ends
 returns-in-Follow-query-clause-ends g c = λ net rows penalty bytes is.
@@ -25,35 +24,23 @@ returns-in-Follow-query-clause-ends g c = λ net rows penalty bytes is.
     subst (λ (q : Query). EndsOnJournal g.K.Sink.taken g.K.Sink.faults q net rows penalty bytes c.args.out.now c.end_state-in-Follow-query.new.out c.end_state-in-Follow-query.result) (sym c.in-Follow-query.is)
     (answers_state g.K.Sink.taken g.K.Sink.faults net rows penalty bytes c.args.out.now c.end_state-in-Follow-query.new.out c.end_state-in-Follow-query.result c.in-Whole.follower there.0 c.end_state-in-Follow-query.ensures.ends)
 
-pub returns-in-Journey-query-clause-ends : goal.returns-in-Journey-query-clause-ends
-returns-in-Journey-query-clause-ends g c = λ net rows penalty bytes is.
+pub returns-in-Journey-clause-ends : goal.returns-in-Journey-clause-ends
+returns-in-Journey-clause-ends g c = λ net rows penalty bytes is.
     let there = subst (λ (j : AJournal). IsJournal net rows penalty bytes j) c.in-Whole.is is in
-    let ends = subst (λ (t : TableValue). EndsTravelled g.K.Sink.taken g.K.Sink.faults c.in-Journey-query.asked t c.args.out.now c.end_journeys.new.out c.end_journeys.result) c.table.ensures c.end_journeys.ensures.ends in
-    subst (λ (q : Query). EndsOnJournal g.K.Sink.taken g.K.Sink.faults q net rows penalty bytes c.args.out.now c.end_journeys.new.out c.end_journeys.result) (sym c.in-Journey-query.is)
-    (answers_journeys g.K.Sink.taken g.K.Sink.faults net rows penalty bytes c.args.out.now c.end_journeys.new.out c.end_journeys.result c.in-Whole.follower c.in-Journey-query.asked there.0 there.1 ends)
+    let ends = subst (λ (t : TableValue). EndsTravelled g.K.Sink.taken g.K.Sink.faults c.in-Journey.asked t c.args.out.now c.end_journeys.new.out c.end_journeys.result) c.table.ensures c.end_journeys.ensures.ends in
+    subst (λ (q : Query). EndsOnJournal g.K.Sink.taken g.K.Sink.faults q net rows penalty bytes c.args.out.now c.end_journeys.new.out c.end_journeys.result) (sym c.in-Journey.is)
+    (answers_journeys g.K.Sink.taken g.K.Sink.faults net rows penalty bytes c.args.out.now c.end_journeys.new.out c.end_journeys.result c.in-Whole.follower c.in-Journey.asked there.0 there.1 ends)
 
 pub returns-in-Rules-clause-ends : goal.returns-in-Rules-clause-ends
 returns-in-Rules-clause-ends g c = λ net rows penalty bytes is.
-    let there = subst (λ (j : AJournal). IsJournal net rows penalty bytes j) c.in-Torn.is is in
-    subst (λ (q : Query). EndsOnJournal g.K.Sink.taken g.K.Sink.faults q net rows penalty bytes c.args.out.now c.end_torn-in-Rules.new.out c.end_torn-in-Rules.result) (sym c.in-Rules.is)
-    (answers_torn g.K.Sink.taken g.K.Sink.faults net rows penalty bytes c.args.out.now c.end_torn-in-Rules.new.out c.end_torn-in-Rules.result _ c.in-Torn.line tt there.1 c.end_torn-in-Rules.ensures.ends)
-
-pub returns-in-Rules-query-clause-ends : goal.returns-in-Rules-query-clause-ends
-returns-in-Rules-query-clause-ends g c = λ net rows penalty bytes is.
     let there = subst (λ (j : AJournal). IsJournal net rows penalty bytes j) c.in-Whole.is is in
-    let ends = subst (λ (t : TableValue). EndsCompared g.K.Sink.taken g.K.Sink.faults c.in-Rules-query.asked t c.args.out.now c.end_rules.new.out c.end_rules.result) c.table-in-Rules-query.ensures c.end_rules.ensures.ends in
-    subst (λ (q : Query). EndsOnJournal g.K.Sink.taken g.K.Sink.faults q net rows penalty bytes c.args.out.now c.end_rules.new.out c.end_rules.result) (sym c.in-Rules-query.is)
-    (answers_rules g.K.Sink.taken g.K.Sink.faults net rows penalty bytes c.args.out.now c.end_rules.new.out c.end_rules.result c.in-Whole.follower c.in-Rules-query.asked there.0 there.1 ends)
+    let ends = subst (λ (t : TableValue). EndsCompared g.K.Sink.taken g.K.Sink.faults c.in-Rules.asked t c.args.out.now c.end_rules.new.out c.end_rules.result) c.table-in-Rules.ensures c.end_rules.ensures.ends in
+    subst (λ (q : Query). EndsOnJournal g.K.Sink.taken g.K.Sink.faults q net rows penalty bytes c.args.out.now c.end_rules.new.out c.end_rules.result) (sym c.in-Rules.is)
+    (answers_rules g.K.Sink.taken g.K.Sink.faults net rows penalty bytes c.args.out.now c.end_rules.new.out c.end_rules.result c.in-Whole.follower c.in-Rules.asked there.0 there.1 ends)
 
 pub returns-in-Window-clause-ends : goal.returns-in-Window-clause-ends
 returns-in-Window-clause-ends g c = λ net rows penalty bytes is.
-    let there = subst (λ (j : AJournal). IsJournal net rows penalty bytes j) c.in-Torn.is is in
-    subst (λ (q : Query). EndsOnJournal g.K.Sink.taken g.K.Sink.faults q net rows penalty bytes c.args.out.now c.end_torn-in-Window.new.out c.end_torn-in-Window.result) (sym c.in-Window.is)
-    (answers_torn g.K.Sink.taken g.K.Sink.faults net rows penalty bytes c.args.out.now c.end_torn-in-Window.new.out c.end_torn-in-Window.result _ c.in-Torn.line tt there.1 c.end_torn-in-Window.ensures.ends)
-
-pub returns-in-Window-query-clause-ends : goal.returns-in-Window-query-clause-ends
-returns-in-Window-query-clause-ends g c = λ net rows penalty bytes is.
     let there = subst (λ (j : AJournal). IsJournal net rows penalty bytes j) c.in-Whole.is is in
-    let ends = subst (λ (t : TableValue). EndsOutlook g.K.Sink.taken g.K.Sink.faults c.in-Window-query.asked t c.args.out.now c.end_window.new.out c.end_window.result) c.table-in-Window-query.ensures c.end_window.ensures.ends in
-    subst (λ (q : Query). EndsOnJournal g.K.Sink.taken g.K.Sink.faults q net rows penalty bytes c.args.out.now c.end_window.new.out c.end_window.result) (sym c.in-Window-query.is)
-    (answers_window g.K.Sink.taken g.K.Sink.faults net rows penalty bytes c.args.out.now c.end_window.new.out c.end_window.result c.in-Whole.follower c.in-Window-query.asked there.0 there.1 ends)
+    let ends = subst (λ (t : TableValue). EndsOutlook g.K.Sink.taken g.K.Sink.faults c.in-Window.asked t c.args.out.now c.end_window.new.out c.end_window.result) c.table-in-Window.ensures c.end_window.ensures.ends in
+    subst (λ (q : Query). EndsOnJournal g.K.Sink.taken g.K.Sink.faults q net rows penalty bytes c.args.out.now c.end_window.new.out c.end_window.result) (sym c.in-Window.is)
+    (answers_window g.K.Sink.taken g.K.Sink.faults net rows penalty bytes c.args.out.now c.end_window.new.out c.end_window.result c.in-Whole.follower c.in-Window.asked there.0 there.1 ends)
