@@ -13,13 +13,10 @@ returns-in-Follow-clause-ends g c = λ net rows penalty bytes is.
     subst (λ (q : Query). EndsOnJournal g.K.Sink.taken g.K.Sink.faults q net rows penalty bytes c.args.out.now c.end_state.new.out c.end_state.result) (sym c.in-Follow.is)
     (answers_state g.K.Sink.taken g.K.Sink.faults net rows penalty bytes c.args.out.now c.end_state.new.out c.end_state.result c.in-Torn.follower there.0 c.end_state.ensures.ends)
 
-pub returns-in_default : goal.returns-in_default
-returns-in_default g c = record {
-  ends = λ net rows penalty bytes is.
-      let there = subst (λ (j : AJournal). IsJournal net rows penalty bytes j) c.in-Torn.is is in
-      answers_torn g.K.Sink.taken g.K.Sink.faults net rows penalty bytes c.args.out.now c.end_torn.new.out c.end_torn.result _ c.in-Torn.line c.in_default.not-Follow there.1 c.end_torn.ensures.ends;
-  later = c.end_torn.ensures.later;
-}
+pub returns-in_default-clause-ends : goal.returns-in_default-clause-ends
+returns-in_default-clause-ends g c = λ net rows penalty bytes is.
+    let there = subst (λ (j : AJournal). IsJournal net rows penalty bytes j) c.in-Torn.is is in
+    answers_torn g.K.Sink.taken g.K.Sink.faults net rows penalty bytes c.args.out.now c.end_torn.new.out c.end_torn.result _ c.in-Torn.line c.in_default.not-Follow there.1 c.end_torn.ensures.ends
 
 pub returns-in-Follow-query-clause-ends : goal.returns-in-Follow-query-clause-ends
 returns-in-Follow-query-clause-ends g c = λ net rows penalty bytes is.
