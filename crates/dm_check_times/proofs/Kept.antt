@@ -15,30 +15,10 @@ use Rattle.dm_rows.specs.Active.{has_passed}
 use Rattle.dm_rows.specs.Cost.{event_cost, charged_weight, dropped_weight, missed_weight, comes_too_early, cost_of, cost_charging, is_arrival}
 use Rattle.dm_check_times.specs.Binding.{AreBelowLimit}
 use Rattle.dm_check_times.specs.KeptCosts.{KeptCostValue, IsKeptCostOf, IsPricedFor, priced_weight, penalized_weight}
-use Rattle.dm_rows.proofs.Totals.{sum_alike, sum_within}
+use Rattle.dm_rows.proofs.Totals.{sum_alike, sum_moves, sum_within}
 use Rattle.dm_check_times.proofs.Renewing.{at_most_set}
 
 -- ---- sums over places
-
--- a function that changes at one place
-sum_moves : (f g : ℕ → ℕ) (i : ℕ) → ((k : ℕ) → (k ≡ i → ⊥) → g k ≡ f k) → (a n : ℕ) → a ≤ i → i < a + n →
-    sum_by g (range_with_len a n) + f i ≡ sum_by f (range_with_len a n) + g i
-sum_moves f g i others a zero le lt = absurd (omega arith)
-sum_moves f g i others a (suc n) le lt =
-    let left : sum_by g (range_with_len a (suc n)) ≡ g a + sum_by g (range_with_len (a + 1) n) = sum_by-cons g a (range_with_len (a + 1) n) in
-    let right : sum_by f (range_with_len a (suc n)) ≡ f a + sum_by f (range_with_len (a + 1) n) = sum_by-cons f a (range_with_len (a + 1) n) in
-    elim (cases_eq a i) [
-      | inl is ↦
-          let rest : sum_by g (range_with_len (a + 1) n) ≡ sum_by f (range_with_len (a + 1) n) =
-          sum_alike g f (a + 1) n (λ k from below. others k (λ same. absurd (omega arith))) in
-          let one : g a ≡ g i = ap g is in
-          let other : f a ≡ f i = ap f is in
-          omega (arith, left, right, rest, one, other)
-      | inr ne ↦
-          let here : g a ≡ f a = others a ne in
-          let rest = sum_moves f g i others (a + 1) n (omega arith) (omega arith) in
-          omega (arith, left, right, rest, here)
-    ]
 
 one_of_all : (f : ℕ → ℕ) (i a n : ℕ) → a ≤ i → i < a + n → f i ≤ sum_by f (range_with_len a n)
 one_of_all f i a zero le lt = absurd (omega arith)
