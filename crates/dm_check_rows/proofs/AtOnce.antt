@@ -27,37 +27,16 @@ no_memory_in net rows (decision.Drop a) h = h
 no_memory_in net rows (decision.First i j) h = h
 
 pub no_cycle_at_once : (net : Net) (rows : RowsValue) (m : Message) (ids : List ActId) → RefusesAtOnce net rows m (Cycle ids) → ⊥
-no_cycle_at_once net rows (message.DelayEvent e d) ids h = h
-no_cycle_at_once net rows (message.DelayActivity a d) ids h = h
-no_cycle_at_once net rows (message.Pass e t) ids h = h
-no_cycle_at_once net rows (message.Recall e) ids h = h
-no_cycle_at_once net rows (message.Keep a) ids h = h
-no_cycle_at_once net rows (message.Drop a) ids h = h
-no_cycle_at_once net rows (message.First i j) ids h = h
 no_cycle_at_once net rows (message.Adopt ds) ids h = no_cycle_in net rows h.decision ids h.refused
-no_cycle_at_once net rows (message.Now t) ids h = h
+no_cycle_at_once net rows m ids h = h
 
 pub no_full_at_once : (net : Net) (rows : RowsValue) (m : Message) (k : ℕ) → RefusesAtOnce net rows m (Full k) → ⊥
-no_full_at_once net rows (message.DelayEvent e d) k h = h
-no_full_at_once net rows (message.DelayActivity a d) k h = h
-no_full_at_once net rows (message.Pass e t) k h = h
-no_full_at_once net rows (message.Recall e) k h = h
-no_full_at_once net rows (message.Keep a) k h = h
-no_full_at_once net rows (message.Drop a) k h = h
-no_full_at_once net rows (message.First i j) k h = h
 no_full_at_once net rows (message.Adopt ds) k h = no_full_in net rows h.decision k h.refused
-no_full_at_once net rows (message.Now t) k h = h
+no_full_at_once net rows m k h = h
 
 pub no_memory_at_once : (net : Net) (rows : RowsValue) (m : Message) → RefusesAtOnce net rows m OutOfMemory → ⊥
-no_memory_at_once net rows (message.DelayEvent e d) h = h
-no_memory_at_once net rows (message.DelayActivity a d) h = h
-no_memory_at_once net rows (message.Pass e t) h = h
-no_memory_at_once net rows (message.Recall e) h = h
-no_memory_at_once net rows (message.Keep a) h = h
-no_memory_at_once net rows (message.Drop a) h = h
-no_memory_at_once net rows (message.First i j) h = h
 no_memory_at_once net rows (message.Adopt ds) h = no_memory_in net rows h.decision h.refused
-no_memory_at_once net rows (message.Now t) h = h
+no_memory_at_once net rows m h = h
 
 -- so it is the message's refusal
 pub refuses_at_once : (net : Net) (rows : RowsValue) (n : ℕ) (m : Message) (r : Refusal) → RefusesAtOnce net rows m r → Refuses net rows n m r
