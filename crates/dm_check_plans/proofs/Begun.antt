@@ -1,11 +1,10 @@
 -- Times that follow what is held: how they begin from others, and what is known of rows where they are least.
-use Rattle.std.proofs.Common.{◌≡◌, ℕ, ◌^◌, ◌<◌, ◌⊎◌, Bool, true, false, List, length, slice_index, refl, sym, subst, ◌∙◌, inl, inr, arith, ap, replicate}
+use Rattle.std.proofs.Common.{◌≡◌, ℕ, ◌^◌, ◌<◌, Bool, true, false, List, length, slice_index, refl, sym, subst, ◌∙◌, inl, inr, arith, ap, replicate}
 use Rattle.std.proofs.lemmas.Bool.{both_ways, cases_lt}
 use Rattle.std.proofs.lemmas.List.{length-replicate, get_or-replicate, get_or_past}
 use Rattle.dm_graph.specs.Arcs.{HasNoCycle}
 use Rattle.dm_graph.specs.Graph.{IsLeast}
-use Rattle.dm_graph.proofs.Timetables.{same_is_least_alike}
-use Rattle.dm_network.specs.Net.{Net, IsWithinLimits, activity_at}
+use Rattle.dm_network.specs.Net.{Net, IsWithinLimits}
 use Rattle.dm_network.specs.Held.{arcs_of, is_held, HasNoCycleOf}
 use Rattle.dm_network.specs.Start.{IsNetwork}
 use Rattle.dm_rows.specs.Laws.{EntersNoPassed}
@@ -13,34 +12,11 @@ use Rattle.dm_rows.specs.Rows.{RowsValue, RowsAreWithinLimits}
 use Rattle.dm_rows.specs.Timetable.{floor_of, IsLeastHolding}
 use Rattle.dm_check_times.specs.Binding.{graph_with, AreFlags, AreSpansOf, AreFloorsOf, AreBelowLimit}
 use Rattle.dm_check_times.specs.Timetables.{AreAtMost}
-use Rattle.dm_check_times.specs.Following.{Follows}
 use Rattle.dm_marks.specs.Marked.{is_marked}
-use Rattle.dm_check_times.proofs.OfRows.{times_are_below, least_holding_rows, no_cycle_of_rows, cycle_of_rows}
+use Rattle.dm_check_times.proofs.OfRows.{least_over_floors, times_are_below, least_holding_rows, no_cycle_of_rows, cycle_of_rows}
 use Rattle.dm_check_times.proofs.Renewing.{least_follows}
 use Rattle.dm_check_times.proofs.Spreading.{true_false}
 use Rattle.dm_check_plans.specs.Inside.Timetables.{KnownValue, IsKnown, HeldTimetableValue, IsTimetableOf, IsRoomOf, IsLeastNow, AreOfRows, KeepsSpans}
-
--- times that are least for other activities follow what is held, where the heads of what differs are stale
-pub begins_again : (net : Net) (before held : List Bool) (spans floors times : List ℕ) (stale : List Bool) →
-    IsLeast (graph_with net before spans (slice_index floors)) (slice_index times) →
-    ((a : ℕ) → a < length net.activities → (is_held held a ≡ is_held before a) ⊎ (is_marked stale (activity_at net a).head ≡ true)) →
-    Follows net held spans floors times stale
-begins_again net before held spans floors times stale least heads = record {
-  held_before = before;
-  spans_before = spans;
-  floor_before = slice_index floors;
-  least = least;
-  floors_kept = λ e below fresh. inl (omega arith);
-  above = λ e below fresh. least.meets.above e below;
-  held_kept = λ a binds fresh tight. (same a binds.is_arc fresh ∙ binds.is_held, omega arith);
-  met = λ a binds fresh. least.meets.along a (record { is_arc = binds.is_arc; is_held = sym (same a binds.is_arc fresh) ∙ binds.is_held; from_event = binds.from_event; to_event = binds.to_event });
-}
-  where
-    same : (a : ℕ) → a < length net.activities → is_marked stale (activity_at net a).head ≡ false → is_held held a ≡ is_held before a
-    same a below fresh = elim (heads a below) [
-      | inl s ↦ s
-      | inr m ↦ true_false m fresh
-    ]
 
 -- the floors are least where nothing is held
 pub floors_least : (net : Net) (held : List Bool) (spans floors : List ℕ) → ((a : ℕ) → is_held held a ≡ false) → IsLeast (graph_with net held spans (slice_index floors)) (slice_index floors)
@@ -78,11 +54,7 @@ floors_known net spans floors known n count held times size early = record {
 
 module _ (net : Net) (rows : RowsValue) (t : HeldTimetableValue) (are : AreOfRows net rows t) where
   over_floors : IsLeastNow net t → IsLeast (graph_with net t.held t.spans (floor_of net rows)) (slice_index t.times)
-  over_floors now =
-      same_is_least_alike (graph_with net t.held t.spans (slice_index t.floors)) (graph_with net t.held t.spans (floor_of net rows)) (slice_index t.times)
-      (record { same_events = refl; floors = λ e below. let f = are.floors.each e below in omega arith; binds = λ a b. record { binds = b; same_tail = refl; same_head = refl }; spans = λ a b. omega arith })
-      (record { same_events = refl; floors = λ e below. let f = are.floors.each e below in omega arith; binds = λ a b. record { binds = b; same_tail = refl; same_head = refl }; spans = λ a b. omega arith })
-      now
+  over_floors now = least_over_floors net rows t.held t.spans t.floors t.times are.floors now
 
   module _ (network : IsNetwork net) where
     pub now_below : IsWithinLimits net → RowsAreWithinLimits rows → length t.times ≡ length net.events → IsLeastNow net t → AreBelowLimit t.times

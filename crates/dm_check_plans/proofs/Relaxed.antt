@@ -1,5 +1,5 @@
 -- The relaxed problem of a path has the floors, the spans and the passed events of the rows themselves.
-use Rattle.std.proofs.Common.{◌≡◌, ℕ, ◌+◌, ◌*◌, Bool, List, length, Option, None, sym, ap, ◌∙◌, inl, inr, arith}
+use Rattle.std.proofs.Common.{◌≡◌, ℕ, ◌+◌, ◌*◌, Bool, List, length, Option, None, sym, ap, subst, ◌∙◌, inl, inr, arith}
 use Rattle.std.specs.Prelude.{◌&&◌, nat_lt, is_some, slice_index_or, sum_by, if◌then◌else◌, Result, Ok, Err, OnOk}
 use Rattle.std.specs.List.{range_with_len}
 use Rattle.dm_network.specs.Net.{Net, activity_at, is_change}
@@ -13,7 +13,7 @@ use Rattle.dm_rows.specs.Relax.{is_relaxed_active, is_relaxed_dropped}
 use Rattle.dm_rows.specs.Timetable.{time_at, MeetsHolding, IsLeastHolding}
 use Rattle.dm_rows.proofs.AsGraph.{relaxed_enter_no_passed}
 use Rattle.dm_tree.specs.Relaxed.{IsRelaxedLeast, HasNoRelaxedCycle, relaxed_cost_of}
-use Rattle.dm_check_plans.specs.Inside.RelaxedProblems.{HasRelaxedCycle}
+use Rattle.dm_check_plans.specs.Inside.RelaxedProblems.{RelaxedProblemValue, HasRelaxedCycle, times_of}
 use Rattle.dm_check_plans.proofs.Cycles.{cycle_or_none}
 use Rattle.dm_paths.proofs.Setting.{DiffersInDecisions, differs_in_none, differs_with}
 use Rattle.dm_paths.proofs.Agreeing.{passed_same, span_same}
@@ -39,6 +39,11 @@ meets_over net rows r held x over m = record {
   clock = λ i below is. let c = m.clock i below (sym (passed_same rows r over i) ∙ is) in let e = over.clock in omega arith;
   along = λ a below h. let l = m.along a below h in let s = span_same rows r over net a in omega arith;
 }
+
+-- what holds of a problem's path and times, by other names for the problem and the times
+pub of_problem : (P : List Decision → List ℕ → Type 0) (inside problem : RelaxedProblemValue) (times : List ℕ) → inside ≡ problem → times ≡ times_of inside → P inside.path times → P problem.path (times_of problem)
+of_problem P inside problem times same at holds =
+    subst (λ (r : RelaxedProblemValue). P r.path (times_of r)) same (subst (λ (x : List ℕ). P inside.path x) at holds)
 
 least_over : (net : Net) (rows r : RowsValue) (held : ℕ → Bool) (x : List ℕ) → DiffersInDecisions rows r → IsLeastHolding net rows held x → IsLeastHolding net r held x
 least_over net rows r held x over least = record {

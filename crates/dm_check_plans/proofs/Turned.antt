@@ -22,7 +22,7 @@ use Rattle.dm_marks.specs.Places.{PlaceSetValue}
 use Rattle.dm_check_times.specs.Noting.{AreAlikeBut}
 use Rattle.dm_check_times.specs.Changes.{AreChangesTo}
 use Rattle.dm_check_times.specs.KeptCosts.{KeptCostValue, IsKeptCostOf, IsPricedFor}
-use Rattle.dm_check_plans.specs.Inside.RelaxedProblems.{RelaxedProblemValue, IsRelaxedProblemOf}
+use Rattle.dm_check_plans.specs.Inside.RelaxedProblems.{RelaxedProblemValue, IsRelaxedProblemOf, IsCosted}
 use Rattle.dm_paths.proofs.Apart.{Apart, choice_list_from}
 use Rattle.dm_paths.proofs.Decided.{changes_decided, pairs_decided, changes_undecided, pairs_undecided}
 use Rattle.dm_paths.proofs.Lists.{pushed, decides_free, apart_from_once}
@@ -62,7 +62,17 @@ module _ (net : Net) (network : IsNetwork net) (rows : RowsValue) (sized : IsSiz
     (charged : List Bool) (cost : KeptCostValue) (is_cost : IsKeptCostOf net cost) (priced : IsPricedFor net rows (is_flagged charged) cost) (cost_times : cost.times ≡ old.kept_cost.times)
     (times : timetable.times ≡ old.timetable.times) where
   noted_still : IsTrue old.is_noted → AreAlikeBut old.moved.flags cost.times timetable.times
-  noted_still so e unmarked = ap (λ (x : List ℕ). slice_index x e) cost_times ∙ (was.noted so e unmarked ∙ ap (λ (x : List ℕ). slice_index x e) (sym times))
+  noted_still so e unmarked = ap (λ (x : List ℕ). slice_index x e) cost_times ∙ (was.costed.noted so e unmarked ∙ ap (λ (x : List ℕ). slice_index x e) (sym times))
+
+  costed : IsCosted net rows charged timetable cost old.moved old.is_noted
+  costed = record {
+    timetable = is_timetable;
+    of_rows = still_of_rows net rows old.timetable timetable was.costed.of_rows keeps;
+    cost = is_cost;
+    priced = priced;
+    as_many_moved = was.costed.as_many_moved;
+    noted = noted_still;
+  }
 
   pub decided : IsOpen net rows old.path (choice_of d) →
       AreSetWhere (is_held_by net flip) true (length net.activities) old.timetable.held timetable.held → AreSetWhere (is_charged_by flip) true (length net.activities) old.charged charged →
@@ -79,12 +89,7 @@ module _ (net : Net) (network : IsNetwork net) (rows : RowsValue) (sized : IsSiz
             (held_differs net network rows sized old.path other was.is_path list d adds flip named);
         charged = flags_on (is_charged_by flip) (is_relaxed_dropped net rows old.path) (is_relaxed_dropped net rows other) (length net.activities) old.charged charged was.charged charges
             (charge_differs net network rows sized old.path other was.is_path list d adds flip named);
-        timetable = is_timetable;
-        of_rows = still_of_rows net rows old.timetable timetable was.of_rows keeps;
-        cost = is_cost;
-        priced = priced;
-        as_many_moved = was.as_many_moved;
-        noted = noted_still;
+        costed = costed;
         places = was.places;
       }
 
@@ -108,12 +113,7 @@ module _ (net : Net) (network : IsNetwork net) (rows : RowsValue) (sized : IsSiz
         charged = flags_off (is_charged_by flip) (is_relaxed_dropped net rows path) (is_relaxed_dropped net rows other) (length net.activities) old.charged charged
             (subst (λ (p : List Decision). AreFlags (is_relaxed_dropped net rows p) (length net.activities) old.charged) is was.charged) charges
             (charge_differs net network rows sized path other less list d adds flip named);
-        timetable = is_timetable;
-        of_rows = still_of_rows net rows old.timetable timetable was.of_rows keeps;
-        cost = is_cost;
-        priced = priced;
-        as_many_moved = was.as_many_moved;
-        noted = noted_still;
+        costed = costed;
         places = was.places;
       }
 
@@ -128,12 +128,7 @@ settled_again net rows old was timetable cost moved is_noted is held keeps kept 
   pairs = was.pairs;
   held = subst (λ (f : List Bool). AreFlags (is_relaxed_active net rows old.path) (length net.activities) f) (sym held) was.held;
   charged = was.charged;
-  timetable = is;
-  of_rows = still_of_rows net rows old.timetable timetable was.of_rows keeps;
-  cost = kept;
-  priced = priced;
-  as_many_moved = as_many;
-  noted = noted;
+  costed = record { timetable = is; of_rows = still_of_rows net rows old.timetable timetable was.costed.of_rows keeps; cost = kept; priced = priced; as_many_moved = as_many; noted = noted };
   places = was.places;
 }
 
@@ -141,20 +136,8 @@ settled_again net rows old was timetable cost moved is_noted is held keeps kept 
 pub taken : (net : Net) (rows : RowsValue) (old : RelaxedProblemValue) → IsRelaxedProblemOf net rows old → (cost : KeptCostValue) (moved : PlaceSetValue) → IsKeptCostOf net cost →
     IsPricedFor net rows (is_flagged old.charged) cost → length moved.flags ≡ length net.events → cost.times ≡ old.timetable.times →
     IsRelaxedProblemOf net rows (record { path = old.path; changes = old.changes; pairs = old.pairs; charged = old.charged; timetable = old.timetable; kept_cost = cost; moved = moved; is_noted = true; places = old.places })
-taken net rows old was cost moved kept priced as_many same = record {
-  is_path = was.is_path;
-  changes = was.changes;
-  pairs = was.pairs;
-  held = was.held;
-  charged = was.charged;
-  timetable = was.timetable;
-  of_rows = was.of_rows;
-  cost = kept;
-  priced = priced;
-  as_many_moved = as_many;
-  noted = λ so e unmarked. ap (λ (x : List ℕ). slice_index x e) same;
-  places = was.places;
-}
+taken net rows old was cost moved kept priced as_many same =
+    settled_again net rows old was old.timetable cost moved true was.costed.timetable refl (record { spans = refl; floors = refl }) kept priced as_many (λ so e unmarked. ap (λ (x : List ℕ). slice_index x e) same)
 
 -- where nothing is decided nothing is charged for
 none_dropped : (change kept passed : Bool) → ((change && not kept && not passed) && not ((change && not passed) && true)) ≡ false
@@ -188,12 +171,7 @@ begins net rows changes pairs charged timetable cost moved places path is are_ch
         size = ap (λ (f : List Bool). length f) none ∙ length-replicate (length net.activities) false;
         each = λ a below. ap (λ (f : List Bool). is_flagged f a) none ∙ (get_or-replicate (length net.activities) a false false below ∙ sym (none_charged net rows a));
       };
-      timetable = is_timetable;
-      of_rows = of_rows;
-      cost = kept;
-      priced = priced;
-      as_many_moved = as_many;
-      noted = λ no. absurd cc;
+      costed = record { timetable = is_timetable; of_rows = of_rows; cost = kept; priced = priced; as_many_moved = as_many; noted = λ no. absurd cc };
       places = are_places;
     })
 

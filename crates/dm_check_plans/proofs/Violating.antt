@@ -1,13 +1,24 @@
 -- Which choices a timetable violates, by flags of what is undecided and by rows.
-use Rattle.std.proofs.Common.{◌≡◌, ℕ, suc, ◌+◌, ◌<◌, Bool, false, ◌&&◌, List, [], ◌∷◌, length, get_or, refl, sym, ap, subst, ◌∙◌, inl, inr, arith, slice_index}
+use Rattle.std.proofs.Common.{◌≡◌, ℕ, suc, ◌+◌, ◌<◌, Bool, true, false, ◌&&◌, List, [], ◌∷◌, length, get_or, refl, sym, ap, subst, ◌∙◌, inl, inr, arith, slice_index}
 use Rattle.std.specs.Prelude.{sum_by, if◌then◌else◌}
 use Rattle.std.specs.List.{range_with_len}
-use Rattle.std.proofs.lemmas.Bool.{cases_lt, false_from_ne_true, cond-true, cond-false}
+use Rattle.std.proofs.lemmas.Bool.{and_from, and_parts, cases_lt, false_from_ne_true, cond-true, cond-false}
 use Rattle.std.proofs.lemmas.List.Sums.{sum_by-cons, get_or-le-sum_by}
 use Rattle.std.proofs.lemmas.List.FromFn.{length-range_with_len, get_or-range_with_len}
 use Rattle.dm_network.specs.Net.{Net, activity_at, is_change}
+use Rattle.dm_network.specs.Start.{IsNetwork}
+use Rattle.dm_rows.specs.declared.messages.Choice.{Choice}
+use Rattle.dm_rows.specs.declared.messages.Decision.{Decision}
+use Rattle.dm_rows.specs.Cost.{comes_too_early}
+use Rattle.dm_rows.specs.Relax.{is_undecided_change, is_undecided_pair}
+use Rattle.dm_rows.specs.Rows.{RowsValue}
+use Rattle.dm_tree.specs.Relaxed.{IsViolated}
+use Rattle.dm_paths.specs.declared.places.ChoicePlace.{ChoicePlace}
+use Rattle.dm_paths.specs.Decisions.{is_unmet_pair}
+use Rattle.dm_paths.specs.Places.{IsPlaceOf, at_place}
+use Rattle.dm_paths.proofs.Open.{violated_where, where_violated}
 use Rattle.dm_check_times.specs.Changes.{AreChangesTo}
-use Rattle.dm_paths.specs.Flags.{is_flagged}
+use Rattle.dm_paths.specs.Flags.{is_flagged, AreFlags}
 use Rattle.dm_check_plans.specs.Inside.Violations.{NoneFlagged, NoneFlaggedAmong, AreFlagsOfChanges}
 
 -- one more place that is not flagged, or does not meet the test
@@ -17,6 +28,22 @@ next_flagged flags test n none here k lt =
       | inl early ↦ none k early
       | inr past ↦ let is : k ≡ n = omega arith in subst (λ (j : ℕ). (is_flagged flags j && test j) ≡ false) (sym is) here
     ]
+
+-- a choice is violated exactly where it is flagged at its place and unkept there
+module _ (net : Net) (network : IsNetwork net) (rows : RowsValue) (path : List Decision) (x : List ℕ) (choice : Choice) (place : ChoicePlace) (is : IsPlaceOf net choice place)
+    (changes pairs : List Bool) (are_changes : AreFlags (is_undecided_change net rows path) (length net.activities) changes)
+    (are_pairs : AreFlags (is_undecided_pair net rows path) (length net.pairs) pairs) where
+  abbrev flag : Bool
+  flag = at_place (is_flagged changes) (is_flagged pairs) place
+
+  abbrev unkept : Bool
+  unkept = at_place (comes_too_early net rows x) (is_unmet_pair net rows x) place
+
+  pub flagged_and_unkept : flag ≡ true → unkept ≡ true → IsViolated net rows path x choice
+  flagged_and_unkept yes early = violated_where net network rows path x choice place is changes pairs are_changes are_pairs (and_from flag unkept yes early)
+
+  pub violated_is_both : IsViolated net rows path x choice → (flag ≡ true) × (unkept ≡ true)
+  violated_is_both v = and_parts flag unkept (where_violated net network rows path x choice place is changes pairs are_changes are_pairs v)
 
 sum_by_none : (f : ℕ → ℕ) (xs : List ℕ) → ((k : ℕ) → k < length xs → f (slice_index xs k) ≡ 0) → sum_by f xs ≡ 0
 sum_by_none f [] none = refl

@@ -1,5 +1,5 @@
 -- The nodes of a tree, visited in preorder.
-use Rattle.std.proofs.Common.{◌≡◌, ℕ, ◌+◌, ◌-◌, ◌<◌, true, false, List, [], ◌∷◌, ◌++◌, length, get_or, drop, refl, sym, subst, ◌⊎◌, inl, inr, arith, add-one, eqb, cond}
+use Rattle.std.proofs.Common.{◌≡◌, ℕ, ◌+◌, ◌-◌, ◌<◌, Bool, true, false, List, [], ◌∷◌, ◌++◌, length, get_or, drop, refl, sym, subst, ◌⊎◌, inl, inr, arith, add-one, eqb, cond}
 use Rattle.std.specs.Prelude.{All}
 use Rattle.std.proofs.lemmas.List.{drop_more}
 use Rattle.std.proofs.lemmas.List.Elements.{All-head, All-tail, All-cons}
@@ -144,3 +144,15 @@ module _ (task : Task) (plan_cost : ℕ) where
   pub next_left : (nodes : List Node) (i : ℕ) (d : Node) (path : List Decision) → i < length nodes → IsLeftToVisit task plan_cost nodes (drop i nodes) path →
       IsLeftToVisit task plan_cost nodes (get_or nodes i d ∷ drop (i + 1) nodes) path
   next_left nodes i d path lt was = subst (λ (ns : List Node). IsLeftToVisit task plan_cost nodes ns path) (drop_more nodes i d lt) was
+
+  -- one step from the node at a place, by what is said of the next place
+  module _ (nodes : List Node) (i : ℕ) (d : Node) (path mid new : List Decision) (more : Bool) (lt : i < length nodes) (was : IsLeftToVisit task plan_cost nodes (drop i nodes) path)
+      (holds : IsTrueNode task plan_cost path (get_or nodes i d)) (same : mid ≡ path) (on : GoesOn (get_or nodes i d) more mid new) where
+    from_path : (b : Bool) → more ≡ b → GoesOn (get_or nodes i d) b path new
+    from_path b is = subst (λ (m : Bool). GoesOn (get_or nodes i d) m path new) is (subst (λ (p : List Decision). GoesOn (get_or nodes i d) more p new) same on)
+
+    pub steps_on : more ≡ true → IsLeftToVisit task plan_cost nodes (drop (i + 1) nodes) new
+    steps_on is = goes_on nodes (drop (i + 1) nodes) path new (get_or nodes i d) holds (from_path true is) (next_left nodes i d path lt was)
+
+    pub steps_past : more ≡ false → AreTrueNodes task plan_cost ([] ∷ []) nodes
+    steps_past is = ends_there nodes (drop (i + 1) nodes) path new (get_or nodes i d) holds (from_path false is) (next_left nodes i d path lt was)

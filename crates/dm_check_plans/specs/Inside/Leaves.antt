@@ -1,29 +1,22 @@
 -- What the leaves of a tree carry, by place.
 use Rattle.std.specs.Prelude.{ℕ, ◌≡◌, ◌==◌, ◌<◌, nat_lt, Bool, true, false, List, length, slice_index_or}
 use Rattle.dm_tree.specs.declared.forms.Node.{Node}
-use Rattle.dm_tree.specs.declared.forms.Node.TheVariants.{Inner, Cycle, Bound, Open, Hole}
+use Rattle.dm_tree.specs.declared.forms.Node.TheVariants.{Bound, Open, Hole}
 
 abbrev pub is_open : Node → Bool
-is_open (Inner choice) = false
-is_open Cycle = false
-is_open (Bound c) = false
 is_open (Open c) = true
-is_open Hole = false
+is_open _ = false
 
 -- the node carries this cost, a smaller one
 abbrev pub is_at : ℕ → Node → Bool
-is_at cost (Inner choice) = false
-is_at cost Cycle = false
 is_at cost (Bound c) = c == cost
 is_at cost (Open c) = c == cost
-is_at cost Hole = false
+is_at cost _ = false
 
 abbrev pub is_below : ℕ → Node → Bool
-is_below cost (Inner choice) = false
-is_below cost Cycle = false
 is_below cost (Bound c) = nat_lt c cost
 is_below cost (Open c) = nat_lt c cost
-is_below cost Hole = false
+is_below cost _ = false
 
 abbrev pub node_at : List Node → ℕ → Node
 node_at nodes k = slice_index_or nodes k Hole

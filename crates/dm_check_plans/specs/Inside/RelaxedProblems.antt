@@ -31,6 +31,16 @@ pub record RelaxedProblemValue : Type 0 where
 abbrev pub times_of : RelaxedProblemValue → List ℕ
 times_of problem = problem.timetable.times
 
+-- the timetable has the spans and the floors of the rows, the cost its weights for what is flagged, and the times of the cost are
+-- those of the timetable but at the places of the set, where these are all that may have moved
+pub record IsCosted (net : Net) (rows : RowsValue) (flags : List Bool) (t : HeldTimetableValue) (kept : KeptCostValue) (set : PlaceSetValue) (are_all : Bool) : Type 0 where
+  pub timetable : IsTimetableOf net t
+  pub of_rows : AreOfRows net rows t
+  pub cost : IsKeptCostOf net kept
+  pub priced : IsPricedFor net rows (is_flagged flags) kept
+  pub as_many_moved : length set.flags ≡ length net.events
+  pub noted : IsTrue are_all → AreAlikeBut set.flags kept.times t.times
+
 -- the path decides free choices, none twice, and the flags are those of its relaxed problem
 pub record IsRelaxedProblemOf (net : Net) (rows : RowsValue) (problem : RelaxedProblemValue) : Type 0 where
   pub is_path : IsChoiceList net rows problem.path
@@ -38,12 +48,7 @@ pub record IsRelaxedProblemOf (net : Net) (rows : RowsValue) (problem : RelaxedP
   pub pairs : AreFlags (is_undecided_pair net rows problem.path) (length net.pairs) problem.pairs
   pub held : AreFlags (is_relaxed_active net rows problem.path) (length net.activities) problem.timetable.held
   pub charged : AreFlags (is_relaxed_dropped net rows problem.path) (length net.activities) problem.charged
-  pub timetable : IsTimetableOf net problem.timetable
-  pub of_rows : AreOfRows net rows problem.timetable
-  pub cost : IsKeptCostOf net problem.kept_cost
-  pub priced : IsPricedFor net rows (is_flagged problem.charged) problem.kept_cost
-  pub as_many_moved : length problem.moved.flags ≡ length net.events
-  pub noted : IsTrue problem.is_noted → AreAlikeBut problem.moved.flags problem.kept_cost.times problem.timetable.times
+  pub costed : IsCosted net rows problem.charged problem.timetable problem.kept_cost problem.moved problem.is_noted
   pub places : AreChangesTo net (length net.activities) problem.places
 
 -- the times are the least of the relaxed problem, which has no cycle, and what they cost is kept

@@ -39,19 +39,13 @@ IsOwnCost net rows penalty (Some c) = Costs net rows penalty c
 IsOwnCost net rows penalty None = (c : ℕ) → Costs net rows penalty c → ⊥
 
 abbrev pub is_cycle : Node → Bool
-is_cycle (Inner choice) = false
 is_cycle Cycle = true
-is_cycle (Bound c) = false
-is_cycle (Open c) = false
-is_cycle Hole = false
+is_cycle _ = false
 
 -- where the node is a choice, it is free, and the path leaves it undecided
 abbrev pub IsNextOpen : Net → RowsValue → List Decision → Node → Type 0
 IsNextOpen net rows path (Inner choice) = IsOpen net rows path choice × IsOrdered choice
-IsNextOpen net rows path Cycle = Unit {0}
-IsNextOpen net rows path (Bound c) = Unit {0}
-IsNextOpen net rows path (Open c) = Unit {0}
-IsNextOpen net rows path Hole = Unit {0}
+IsNextOpen net rows path _ = Unit {0}
 
 -- behind a choice comes its first child, behind a leaf the next place that is due, where one is
 abbrev pub GoesOn : Node → Bool → List Decision → List Decision → Type 0

@@ -1,4 +1,4 @@
-use Rattle.std.proofs.Common.{Bool, List, ◌+◌, get_or, drop, sym, subst}
+use Rattle.std.proofs.Common.{List, ◌+◌, get_or, drop, sym, subst}
 use Rattle.std.proofs.lemmas.List.{drop_all}
 use Rattle.dm_base.specs.declared.ids.ActId.{ActId}
 use Rattle.dm_rows.specs.declared.messages.Choice.TheVariants.{Change}
@@ -6,9 +6,9 @@ use Rattle.dm_rows.specs.declared.messages.Decision.{Decision}
 use Rattle.dm_tree.specs.declared.forms.Node.{Node}
 use Rattle.dm_tree.specs.declared.forms.Node.TheVariants.{Inner}
 use Rattle.dm_tree.specs.Plans.{whole_task}
-use Rattle.dm_check_plans.specs.Inside.Visiting.{IsNextOpen, IsLeftToVisit, GoesOn}
+use Rattle.dm_check_plans.specs.Inside.Visiting.{IsNextOpen, IsLeftToVisit}
 use Rattle.dm_check_plans.proofs.Told.{next_open}
-use Rattle.dm_check_plans.proofs.Visited.{at_first, false_here, ordered_here, goes_on, ends_there, none_to_visit, next_left}
+use Rattle.dm_check_plans.proofs.Visited.{at_first, false_here, ordered_here, steps_on, steps_past, none_to_visit, next_left}
 use Rattle.dm_check_plans.proofs.nodes.are_all_true.Goals as goal
 
 -- what stands past the end of a list
@@ -48,31 +48,15 @@ go_on-requires-clause-open c =
 
 pub returns-in-Ok-false : goal.returns-in-Ok-false
 returns-in-Ok-false c = λ budget.
-    let task = whole_task c.args.net.now c.args.rows.now c.args.penalty budget in
-    let n : Node = get_or c.args.nodes.now c.loop-node.node-index past_end in
-    let rest : List Node = drop (c.loop-node.node-index + 1) c.args.nodes.now in
-    let path = c.loop-node.problem.path in
-    let new = c.go_on.new.problem.path in
-    let left = next_left task c.args.costs.plan c.args.nodes.now c.loop-node.node-index past_end path c.loop-node-test.true (c.loop-node.invariant.left budget) in
-    let goes : GoesOn n c.in-Ok-false.field-0 path new =
-    subst (λ (p : List Decision). GoesOn n c.in-Ok-false.field-0 p new) c.is_true.ensures.path c.in-Ok-false.ensures.next in
-    ends_there task c.args.costs.plan c.args.nodes.now rest path new n (c.if-not-is_true.ensures.tells budget)
-    (subst (λ (b : Bool). GoesOn n b path new) c.in-Ok-false.field-0-test goes) left
+    steps_past (whole_task c.args.net.now c.args.rows.now c.args.penalty budget) c.args.costs.plan c.args.nodes.now c.loop-node.node-index past_end c.loop-node.problem.path c.is_true.new.problem.path c.go_on.new.problem.path c.in-Ok-false.field-0
+    c.loop-node-test.true (c.loop-node.invariant.left budget) (c.if-not-is_true.ensures.tells budget) c.is_true.ensures.path c.in-Ok-false.ensures.next c.in-Ok-false.field-0-test
 
 pub loop-node-preserved : goal.loop-node-preserved
 loop-node-preserved c = record {
   problem = c.in-Ok-true.ensures.problem;
   left = λ budget.
-      let task = whole_task c.args.net.now c.args.rows.now c.args.penalty budget in
-      let n : Node = get_or c.args.nodes.now c.loop-node.node-index past_end in
-      let rest : List Node = drop (c.loop-node.node-index + 1) c.args.nodes.now in
-      let path = c.loop-node.problem.path in
-      let new = c.go_on.new.problem.path in
-      let left = next_left task c.args.costs.plan c.args.nodes.now c.loop-node.node-index past_end path c.loop-node-test.true (c.loop-node.invariant.left budget) in
-      let goes : GoesOn n c.in-Ok-true.field-0 path new =
-      subst (λ (p : List Decision). GoesOn n c.in-Ok-true.field-0 p new) c.is_true.ensures.path c.in-Ok-true.ensures.next in
-      goes_on task c.args.costs.plan c.args.nodes.now rest path new n (c.if-not-is_true.ensures.tells budget)
-      (subst (λ (b : Bool). GoesOn n b path new) c.in-Ok-true.field-0-test goes) left;
+      steps_on (whole_task c.args.net.now c.args.rows.now c.args.penalty budget) c.args.costs.plan c.args.nodes.now c.loop-node.node-index past_end c.loop-node.problem.path c.is_true.new.problem.path c.go_on.new.problem.path c.in-Ok-true.field-0
+      c.loop-node-test.true (c.loop-node.invariant.left budget) (c.if-not-is_true.ensures.tells budget) c.is_true.ensures.path c.in-Ok-true.ensures.next c.in-Ok-true.field-0-test;
 }
 
 pub returns : goal.returns

@@ -19,7 +19,7 @@ returns c =
     let path = c.self.inside.path.items in
     let times = c.self.inside.timetable.times in
     let priced : IsPricedFor net rows (is_relaxed_dropped net rows path) c.self.inside.kept_cost =
-    charged_alike net rows (is_flagged c.self.inside.charged.items) (is_relaxed_dropped net rows path) c.self.inside.kept_cost was.charged.each was.priced in
+    charged_alike net rows (is_flagged c.self.inside.charged.items) (is_relaxed_dropped net rows path) c.self.inside.kept_cost was.charged.each was.costed.priced in
     subst (λ (r : RelaxedProblemValue). c.cost.result ≡ relaxed_cost_of net rows r.path (times_of r) penalty) c.self.view_is
     (c.cost.ensures rows (is_relaxed_dropped net rows path) priced
     ∙ ap (λ (x : List ℕ). cost_charging net rows (is_relaxed_dropped net rows path) x penalty) solved.kept

@@ -12,8 +12,8 @@ pub take_cost-requires-clause-problem : goal.take_cost-requires-clause-problem
 take_cost-requires-clause-problem c =
     let was = subst (IsRelaxedProblemOf c.args.net.now c.args.rows.now) (sym c.self.view_is) c.requires.problem in
     settled_again c.args.net.now c.args.rows.now _ was
-    c.settle.new.self c.self.inside.kept_cost c.settle.new.moved c.self.inside.is_noted c.settle.ensures.timetable c.settle.ensures.held c.settle.ensures.keeps was.cost was.priced
-    c.settle.ensures.as_many_moved (λ yes. c.in-Ok.ensures.notes.noted c.self.inside.kept_cost.times (was.noted yes))
+    c.settle.new.self c.self.inside.kept_cost c.settle.new.moved c.self.inside.is_noted c.settle.ensures.timetable c.settle.ensures.held c.settle.ensures.keeps was.costed.cost was.costed.priced
+    c.settle.ensures.as_many_moved (λ yes. c.in-Ok.ensures.notes.noted c.self.inside.kept_cost.times (was.costed.noted yes))
 
 pub returns-in-Ok-clause-solved : goal.returns-in-Ok-clause-solved
 returns-in-Ok-clause-solved c =
@@ -33,14 +33,11 @@ pub returns-in-Err-clause-problem : goal.returns-in-Err-clause-problem
 returns-in-Err-clause-problem c =
     let was = subst (IsRelaxedProblemOf c.args.net.now c.args.rows.now) (sym c.self.view_is) c.requires.problem in
     settled_again c.args.net.now c.args.rows.now _ was
-    c.settle.new.self c.self.inside.kept_cost c.settle.new.moved _ c.settle.ensures.timetable c.settle.ensures.held c.settle.ensures.keeps was.cost was.priced
+    c.settle.new.self c.self.inside.kept_cost c.settle.new.moved _ c.settle.ensures.timetable c.settle.ensures.held c.settle.ensures.keeps was.costed.cost was.costed.priced
     c.settle.ensures.as_many_moved (λ no. absurd cc)
 
 pub returns-in-Err-clause-cyclic : goal.returns-in-Err-clause-cyclic
 returns-in-Err-clause-cyclic c =
-    let net = c.args.net.now in
-    let rows = c.args.rows.now in
-    let was = subst (IsRelaxedProblemOf net rows) (sym c.self.view_is) c.requires.problem in
-    let path = c.self.inside.path.items in
-    subst (λ (p : List Decision). HasRelaxedCycle net rows p) (ap (λ (r : RelaxedProblemValue). r.path) c.self.view_is)
-    (has_cycle net rows path (c.in-Err.ensures.cyclic (is_relaxed_active net rows path) was.held.each))
+    let was = subst (IsRelaxedProblemOf c.args.net.now c.args.rows.now) (sym c.self.view_is) c.requires.problem in
+    subst (λ (p : List Decision). HasRelaxedCycle c.args.net.now c.args.rows.now p) (ap (λ (r : RelaxedProblemValue). r.path) c.self.view_is)
+    (has_cycle c.args.net.now c.args.rows.now _ (c.in-Err.ensures.cyclic (is_relaxed_active c.args.net.now c.args.rows.now c.self.inside.path.items) was.held.each))

@@ -8,7 +8,7 @@ use Rattle.dm_check_plans.proofs.relaxed_problem.RelaxedProblem.take_cost.Goals 
 pub bring-requires-clause-priced : goal.bring-requires-clause-priced
 bring-requires-clause-priced c = λ yes.
     let was = subst (IsRelaxedProblemOf c.args.net.now c.args.rows.now) (sym c.self.view_is) c.requires.problem in
-    subst (λ (f : List Bool). IsPricedFor c.args.net.now c.args.rows.now (is_flagged f) c.self.inside.kept_cost) (sym c.deref.ensures.value) was.priced
+    subst (λ (f : List Bool). IsPricedFor c.args.net.now c.args.rows.now (is_flagged f) c.self.inside.kept_cost) (sym c.deref.ensures.value) was.costed.priced
 
 pub returns-clause-problem : goal.returns-clause-problem
 returns-clause-problem c =
