@@ -125,86 +125,75 @@ module _ (s : Setting) (history : List Entry) (feed : ℕ) (before : List LogIte
   abbrev is_of : List Node → LogItem
   is_of nodes = Answered opening.line opening.said (Planned (plan_opened opening choices nodes))
 
-  abbrev Behind : Bool → Result (LogItem × Place) Fault → Type 0
-  Behind b answer =
-      MatchBool b
-      (Then (Times opening.size (λ read. Reads IsLeafLine) []) (λ leaves. Finds (IsNextPlan s history feed before opening choices (ShowsLeaves leaves)) (bad kind.Plan first)) place answer)
-      (Then (Times opening.size (λ read. Reads IsNodeLine) []) (λ nodes. Finds (IsNextPlan s history feed before opening choices (ShowsNodes nodes)) (bad kind.Plan first)) place answer)
-
-  abbrev TreeAt : Bool → Result (List Node × Place) CertFault → Type 0
-  TreeAt b answer =
-      MatchBool b
-      (Then (TellsLeaves opening.size) (λ leaves. Finds (ShowsLeaves leaves) no_tree) place answer)
-      (Then (TellsNodes opening.size) (λ nodes. Finds (ShowsNodes nodes) no_tree) place answer)
-
-  tree_next : (b : Bool) (nodes : List Node) (next : Place) → TreeAt b (Ok (nodes, next)) → IsNextItem s history feed before (is_of nodes) → Behind b (Ok (is_of nodes, next))
-  tree_next true nodes next told is = record {
-    value = told.value;
-    behind = told.behind;
-    told = times_ok IsLeafLine opening.size [] place told.value told.behind told.told;
-    then = (record { nodes = nodes; shown = told.then.0; is = refl; next = is }, told.then.1);
-  }
-  tree_next false nodes next told is = record {
-    value = told.value;
-    behind = told.behind;
-    told = times_ok IsNodeLine opening.size [] place told.value told.behind told.told;
-    then = (record { nodes = nodes; shown = told.then.0; is = refl; next = is }, told.then.1);
-  }
-
   other_next : (nodes : List Node) → (IsNextItem s history feed before (is_of nodes) → ⊥) → (Shows : List Node → Type 0) → ((other : List Node) → Shows other → other ≡ nodes) →
       (answered : LogItem) → IsNextPlan s history feed before opening choices Shows answered → ⊥
   other_next nodes none Shows one answered is =
       none (subst (λ (ns : List Node). IsNextItem s history feed before (is_of ns)) (one is.nodes is.shown)
       (subst (λ (a : LogItem). IsNextItem s history feed before a) is.is is.next))
 
+  -- a tree by its lines, each of which spells a leaf or a node
+  module _ {V : Type 0} (spells : V → List ℕ → Type 0) (Shows : List V → List Node → Type 0) where
+    abbrev TreeOf : Result (List Node × Place) CertFault → Type 0
+    TreeOf answer = Then (Times opening.size (λ read. Line cut_line misshapen_line spells) []) (λ vs. Finds (Shows vs) no_tree) place answer
+
+    abbrev PlanOf : Result (LogItem × Place) Fault → Type 0
+    PlanOf answer = Then (Times opening.size (λ read. Reads spells) []) (λ vs. Finds (IsNextPlan s history feed before opening choices (Shows vs)) (bad kind.Plan first)) place answer
+
+    plan_next : (nodes : List Node) (next : Place) → TreeOf (Ok (nodes, next)) → IsNextItem s history feed before (is_of nodes) → PlanOf (Ok (is_of nodes, next))
+    plan_next nodes next told is = record {
+      value = told.value;
+      behind = told.behind;
+      told = times_ok spells opening.size [] place told.value told.behind told.told;
+      then = (record { nodes = nodes; shown = told.then.0; is = refl; next = is }, told.then.1);
+    }
+
+    plan_none : (nodes : List Node) (next : Place) → ((other : List Node) (behind : Place) → TreeOf (Ok (other, behind)) → other ≡ nodes) → TreeOf (Ok (nodes, next)) →
+        (IsNextItem s history feed before (is_of nodes) → ⊥) → PlanOf (Err (bad kind.Plan first))
+    plan_none nodes next single told none = inr (record {
+      value = told.value;
+      behind = told.behind;
+      told = times_ok spells opening.size [] place told.value told.behind told.told;
+      then = (
+        other_next nodes none (Shows told.value)
+            (λ other shown. single other told.behind (record { value = told.value; behind = told.behind; told = told.told; then = (shown, refl) })),
+        refl,
+      );
+    })
+
+    -- a line of the tree is cut or misshapen, or no tree is shown
+    plan_fault : (f : CertFault) → TreeOf (Err f) → (IsLineKind f.kind × PlanOf (Err (carried f))) ⊎ ((f ≡ no_tree) × PlanOf (Err (bad kind.Plan first)))
+    plan_fault f (inl told) = inl (times_kind spells opening.size [] place f told, inl (times_err spells opening.size [] place f told))
+    plan_fault f (inr on) = inr (
+      on.then.1,
+      inr (record {
+        value = on.value;
+        behind = on.behind;
+        told = times_ok spells opening.size [] place on.value on.behind on.told;
+        then = (λ answered is. on.then.0 is.nodes is.shown, refl);
+      }),
+    )
+
+  abbrev Behind : Bool → Result (LogItem × Place) Fault → Type 0
+  Behind b answer = MatchBool b (PlanOf IsLeafLine ShowsLeaves answer) (PlanOf IsNodeLine ShowsNodes answer)
+
+  abbrev TreeAt : Bool → Result (List Node × Place) CertFault → Type 0
+  TreeAt b answer = MatchBool b (TreeOf IsLeafLine ShowsLeaves answer) (TreeOf IsNodeLine ShowsNodes answer)
+
+  tree_next : (b : Bool) (nodes : List Node) (next : Place) → TreeAt b (Ok (nodes, next)) → IsNextItem s history feed before (is_of nodes) → Behind b (Ok (is_of nodes, next))
+  tree_next true = plan_next IsLeafLine ShowsLeaves
+  tree_next false = plan_next IsNodeLine ShowsNodes
+
   tree_none : (b : Bool) (nodes : List Node) (next : Place) → ((other : List Node) (behind : Place) → TreeAt b (Ok (other, behind)) → other ≡ nodes) → TreeAt b (Ok (nodes, next)) →
       (IsNextItem s history feed before (is_of nodes) → ⊥) → Behind b (Err (bad kind.Plan first))
-  tree_none true nodes next single told none = inr (record {
-    value = told.value;
-    behind = told.behind;
-    told = times_ok IsLeafLine opening.size [] place told.value told.behind told.told;
-    then = (
-      other_next nodes none (ShowsLeaves told.value)
-          (λ other shown. single other told.behind (record { value = told.value; behind = told.behind; told = told.told; then = (shown, refl) })),
-      refl,
-    );
-  })
-  tree_none false nodes next single told none = inr (record {
-    value = told.value;
-    behind = told.behind;
-    told = times_ok IsNodeLine opening.size [] place told.value told.behind told.told;
-    then = (
-      other_next nodes none (ShowsNodes told.value)
-          (λ other shown. single other told.behind (record { value = told.value; behind = told.behind; told = told.told; then = (shown, refl) })),
-      refl,
-    );
-  })
+  tree_none true = plan_none IsLeafLine ShowsLeaves
+  tree_none false = plan_none IsNodeLine ShowsNodes
 
-  -- a line of the tree is cut or misshapen, or no tree is shown
   abbrev FaultBehind : Bool → CertFault → Type 0
   FaultBehind b f = (IsLineKind f.kind × Behind b (Err (carried f))) ⊎ ((f ≡ no_tree) × Behind b (Err (bad kind.Plan first)))
 
   tree_fault : (b : Bool) (f : CertFault) → TreeAt b (Err f) → FaultBehind b f
-  tree_fault true f (inl told) = inl (times_kind IsLeafLine opening.size [] place f told, inl (times_err IsLeafLine opening.size [] place f told))
-  tree_fault true f (inr on) = inr (
-    on.then.1,
-    inr (record {
-      value = on.value;
-      behind = on.behind;
-      told = times_ok IsLeafLine opening.size [] place on.value on.behind on.told;
-      then = (λ answered is. on.then.0 is.nodes is.shown, refl);
-    }),
-  )
-  tree_fault false f (inl told) = inl (times_kind IsNodeLine opening.size [] place f told, inl (times_err IsNodeLine opening.size [] place f told))
-  tree_fault false f (inr on) = inr (
-    on.then.1,
-    inr (record {
-      value = on.value;
-      behind = on.behind;
-      told = times_ok IsNodeLine opening.size [] place on.value on.behind on.told;
-      then = (λ answered is. on.then.0 is.nodes is.shown, refl);
-    }),
-  )
+  tree_fault true = plan_fault IsLeafLine ShowsLeaves
+  tree_fault false = plan_fault IsNodeLine ShowsNodes
 
 -- ---- the block
 

@@ -112,6 +112,19 @@ stands_left : {V : Type 0} (spells : V → List ℕ → Type 0) (text : V → Li
     (place : Place) (v : V) (next : Place) → Reads spells place (Ok (v, next)) → place.left ≡ text v ++ next.left
 stands_left spells text spelled place v next told = line_told spells text spelled place next v told
 
+-- lines that are read one after the other, each as what it spells
+lines_left : {V : Type 0} (spells : V → List ℕ → Type 0) (text : V → List ℕ) → ((v : V) (line : List ℕ) → spells v line → text v ≡ line ++ line_end) → (n : ℕ) (vs all : List V) (place behind next : Place) →
+    Times n (λ read. Reads spells) [] place (Ok (all, behind)) → next ≡ behind → vs ≡ all → (place.left ≡ flat_map text vs ++ next.left) × (length vs ≡ n)
+lines_left {V} spells text spelled n vs all place behind next told at is =
+    let had = times_left (λ read. Reads spells) (λ k. text) (λ read p l m t. stands_left spells text spelled p l m t) n [] all place behind told in
+    let same : vs ≡ had.tail = is ∙ had.is in (
+      had.left
+          ∙ (ap (λ xs. xs ++ behind.left) (same_each text 0 had.tail)
+          ∙ (ap (λ (ls : List V). flat_map text ls ++ behind.left) (sym same)
+          ∙ ap (λ (p : Place). flat_map text vs ++ p.left) (sym at))),
+      ap (λ (ls : List V). length ls) same ∙ had.count,
+    )
+
 -- ---- log items
 
 -- a plan's lines behind its first one
@@ -128,32 +141,22 @@ tree_behind : (s : Setting) (history : List Entry) (feed : ℕ) (before : List L
     (Then {W = LogItem} (Times o.size (λ read. Reads IsNodeLine) []) (λ nodes. Finds (IsNextPlan s history feed before o choices (ShowsNodes nodes)) fault) place (Ok (answered, next))) →
     Behind s.version o choices answered place next
 tree_behind s history feed before o choices fault answered place next true v told =
-    let all = times_left (λ read. Reads IsLeafLine) (λ k. leaf_text) (λ read p l n t. stands_left IsLeafLine leaf_text (λ x line is. is.spelled) p l n t) o.size [] told.value place told.behind told.told in
     let plan = told.then.0 in
-    let leaves : leaves_in plan.nodes ≡ all.tail = plan.shown.shown ∙ all.is in
+    let lines = lines_left IsLeafLine leaf_text (λ x line is. is.spelled) o.size (leaves_in plan.nodes) told.value place told.behind next told.told told.then.1 plan.shown.shown in
     record {
       nodes = plan.nodes;
       is = plan.is;
-      left = all.left
-          ∙ (ap (λ xs. xs ++ told.behind.left) (same_each leaf_text 0 all.tail)
-          ∙ (ap (λ (ls : List Leaf). flat_map leaf_text ls ++ told.behind.left) (sym leaves)
-          ∙ (ap (λ (p : Place). flat_map leaf_text (leaves_in plan.nodes) ++ p.left) (sym told.then.1)
-          ∙ ap (λ c. cond c (flat_map leaf_text (leaves_in plan.nodes)) (flat_map node_text plan.nodes) ++ next.left) (sym v))));
-      size = rw (v, leaves, all.count) refl;
+      left = lines.0 ∙ ap (λ c. cond c (flat_map leaf_text (leaves_in plan.nodes)) (flat_map node_text plan.nodes) ++ next.left) (sym v);
+      size = rw (v, lines.1) refl;
     }
 tree_behind s history feed before o choices fault answered place next false v told =
-    let all = times_left (λ read. Reads IsNodeLine) (λ k. node_text) (λ read p l n t. stands_left IsNodeLine node_text (λ x line is. is.spelled) p l n t) o.size [] told.value place told.behind told.told in
     let plan = told.then.0 in
-    let same : plan.nodes ≡ all.tail = plan.shown.shown ∙ all.is in
+    let lines = lines_left IsNodeLine node_text (λ x line is. is.spelled) o.size plan.nodes told.value place told.behind next told.told told.then.1 plan.shown.shown in
     record {
       nodes = plan.nodes;
       is = plan.is;
-      left = all.left
-          ∙ (ap (λ xs. xs ++ told.behind.left) (same_each node_text 0 all.tail)
-          ∙ (ap (λ (ns : List Node). flat_map node_text ns ++ told.behind.left) (sym same)
-          ∙ (ap (λ (p : Place). flat_map node_text plan.nodes ++ p.left) (sym told.then.1)
-          ∙ ap (λ c. cond c (flat_map leaf_text (leaves_in plan.nodes)) (flat_map node_text plan.nodes) ++ next.left) (sym v))));
-      size = rw (v, same, all.count) refl;
+      left = lines.0 ∙ ap (λ c. cond c (flat_map leaf_text (leaves_in plan.nodes)) (flat_map node_text plan.nodes) ++ next.left) (sym v);
+      size = rw (v, lines.1) refl;
     }
 
 regroup : (l said n m c b k w z list tree rest : List ℕ) →

@@ -24,7 +24,7 @@ use Rattle.dm_check.specs.declared.faults.Stop.TheVariants.{Fault as Found, OutO
 use Rattle.dm_check.specs.declared.checking.Counts.{Counts}
 use Rattle.dm_check.specs.declared.verdicts.BadKind.TheVariants.{Time}
 use Rattle.dm_check.specs.FalseRecords.{bad, Reads, TellsEntry, TellsLog, TellsBoards, TellsNote, TellsNumber, TellsTime, TellsCost, TellsEnd, TellsRest, TellsBody, TellsRun, IsGood}
-use Rattle.dm_check.specs.Judged.{Judges, Judged, ToldThat, JudgedThat, TellsTimetable, TellsEnding, HasLogs, HasPlans, IsCounted, KeepsLogs, EndingOn, RestOn, LogsOn, LogsAndRestOn, HistoryOn, BodyOn, RunOn, TellsEntries, EntersAll}
+use Rattle.dm_check.specs.Judged.{Judges, Judged, ToldThat, JudgedThat, TellsTimetable, HasLogs, HasPlans, IsCounted, KeepsLogs, EndingOn, RestOn, LogsOn, LogsAndRestOn, HistoryOn, BodyOn, RunOn, TellsEntries, EntersAll}
 
 -- ---- the times, the cost and the last line
 

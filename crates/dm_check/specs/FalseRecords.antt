@@ -166,14 +166,11 @@ TellsEnd run =
 abbrev pub TellsNumber : List ℕ → (ℕ → Type 0) → Place → Result (ℕ × Place) Fault → Type 0
 TellsNumber words rule = Rules (IsNumberLine words) rule kind.Form (λ n. n)
 
--- the notes, the times and the cost, after all logs
-abbrev pub TellsRest : Setting → List Entry → List FeedLog → Place → Result (Run × Place) Fault → Type 0
-TellsRest s history logs =
-    Then (TellsBoards history logs) (λ count.
-    Then (Times count (TellsNote history) []) (λ notes.
-    Then (TellsNumber (codes "times ") (λ n. n ≡ length history)) (λ heading.
-    Then (Times (length s.net.events) (TellsTime s.net (rows_after s history (length history))) []) (λ times.
-    Then (TellsCost s.net (rows_after s history (length history)) s.penalty) (λ cost.
+-- the times, the cost and the last line, where these are the rows after all entries
+abbrev pub TellsEnding : Setting → List Entry → List FeedLog → List Note → RowsValue → Place → Result (Run × Place) Fault → Type 0
+TellsEnding s history logs notes rows =
+    Then (Times (length s.net.events) (TellsTime s.net rows) []) (λ times.
+    Then (TellsCost s.net rows s.penalty) (λ cost.
     TellsEnd (record {
       net = s.net;
       penalty = s.penalty;
@@ -182,7 +179,15 @@ TellsRest s history logs =
       notes = notes;
       times = times;
       cost = cost;
-    }))))))
+    })))
+
+-- the notes, and what stands behind them, after all logs
+abbrev pub TellsRest : Setting → List Entry → List FeedLog → Place → Result (Run × Place) Fault → Type 0
+TellsRest s history logs =
+    Then (TellsBoards history logs) (λ count.
+    Then (Times count (TellsNote history) []) (λ notes.
+    Then (TellsNumber (codes "times ") (λ n. n ≡ length history)) (λ heading.
+    TellsEnding s history logs notes (rows_after s history (length history)))))
 
 -- what stands behind the version
 abbrev pub TellsBody : Setting → Place → Result (Run × Place) Fault → Type 0

@@ -20,7 +20,7 @@ use Rattle.dm_check_answers.specs.declared.past.Past.{Past}
 use Rattle.dm_check_answers.specs.Judging.{IsPast}
 use Rattle.dm_check.specs.declared.told_notes.Notes.{Notes}
 use Rattle.dm_check.specs.declared.verdicts.BadKind.TheVariants.{Plan as PlanKind}
-use Rattle.dm_check.specs.FalseRecords.{bad, TellsEntry, TellsTime, TellsNote, TellsBehind, TellsItem, TellsLog, TellsCost, TellsEnd, TellsRest, TellsBody, TellsRun, TellsPlanBehind, IsNextItem, entry_before}
+use Rattle.dm_check.specs.FalseRecords.{bad, TellsEntry, TellsTime, TellsNote, TellsBehind, TellsItem, TellsLog, TellsEnding, TellsRest, TellsBody, TellsRun, TellsPlanBehind, IsNextItem, entry_before}
 use Rattle.dm_text.specs.Places.{Place}
 use Rattle.dm_text.specs.Judging.{Then, Times}
 use Rattle.dm_check.specs.declared.faults.Fault.{Fault}
@@ -188,21 +188,6 @@ abbrev pub TellsNotes : List Entry → ℕ → Place → Place → Result (Unit 
 TellsNotes history count old new = JudgedThat (Times count (TellsNote history) []) (λ done notes. Unit {0}) old new
 
 -- ---- the whole
-
--- the times, the cost and the last line, where these are the rows after all entries
-abbrev pub TellsEnding : Setting → List Entry → List FeedLog → List Note → RowsValue → Place → Result (Run × Place) Fault → Type 0
-TellsEnding s history logs notes rows =
-    Then (Times (length s.net.events) (TellsTime s.net rows) []) (λ times.
-    Then (TellsCost s.net rows s.penalty) (λ cost.
-    TellsEnd (record {
-      net = s.net;
-      penalty = s.penalty;
-      history = history;
-      logs = logs;
-      notes = notes;
-      times = times;
-      cost = cost;
-    })))
 
 -- the run has these entries and logs
 pub record HasLogs (history : List Entry) (logs : List FeedLog) (run : Run) : Type 0 where

@@ -21,19 +21,7 @@ use dm_text::Lines;
 pub(crate) fn penalty_told(lines: &mut Lines, penalty: u64) -> Result<u128, Fault>
     ensures { Judges (TellsNumber (codes "penalty ") (λ n. n ≡ penalty)) (λ n. n) lines.old lines.new result }
 {
-    let line = lines.line();
-    let number = match number_told(lines, "penalty ") {
-        Ok(number) => number,
-        Err(fault) => return Err(fault),
-    };
-    if number == penalty as u128 {
-        Ok(number)
-    } else {
-        Err(Fault {
-            line,
-            kind: BadKind::Form,
-        })
-    }
+    this_number_told(lines, "penalty ", penalty as u128)
 }
 
 /// How many feeds there are.
@@ -78,12 +66,19 @@ pub(crate) fn entries_told(lines: &mut Lines) -> Result<u32, Fault>
 pub(crate) fn heading_told(lines: &mut Lines, entries: u32) -> Result<u128, Fault>
     ensures { Judges (TellsNumber (codes "times ") (λ n. n ≡ entries)) (λ n. n) lines.old lines.new result }
 {
+    this_number_told(lines, "times ", entries as u128)
+}
+
+/// The number behind the words, which must be this one.
+fn this_number_told(lines: &mut Lines, words: &str, expected: u128) -> Result<u128, Fault>
+    ensures { Judges (TellsNumber words.now (λ n. n ≡ expected)) (λ n. n) lines.old lines.new result }
+{
     let line = lines.line();
-    let number = match number_told(lines, "times ") {
+    let number = match number_told(lines, words) {
         Ok(number) => number,
         Err(fault) => return Err(fault),
     };
-    if number == entries as u128 {
+    if number == expected {
         Ok(number)
     } else {
         Err(Fault {
