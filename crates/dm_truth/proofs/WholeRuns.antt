@@ -18,7 +18,7 @@ use Rattle.dm_records.specs.Laws.{IsHeldLog, IsInPrint}
 use Rattle.dm_records.specs.RunLines.{IsNumberLine, IsVersionLine, IsWordLine}
 use Rattle.dm_records.proofs.HeldRuns.{is_in_print}
 use Rattle.dm_check.specs.declared.verdicts.BadKind.TheVariants as kind
-use Rattle.dm_check.specs.FalseRecords.{bad, Reads, IsNextEntry, TellsEntry, TellsLog, TellsBoards, IsNextNote, TellsNote, IsNextTime, TellsTime, TellsCost, TellsEnd, TellsNumber, TellsRest, TellsBody, TellsRun}
+use Rattle.dm_check.specs.FalseRecords.{bad, Reads, IsNextEntry, TellsEntry, TellsLog, TellsBoards, IsNextNote, TellsNote, IsNextTime, TellsTime, TellsCost, TellsEnd, TellsEnding, TellsNumber, TellsRest, TellsBody, TellsRun}
 use Rattle.dm_check.proofs.Spelled.{texts_from, same_each, entries_same, logs_same, times_same, timed_text, regroup_all}
 use Rattle.dm_truth.specs.Laws.{TrueTextsAreGood}
 use Rattle.dm_records.proofs.Each.{Each, each_of_splits, each_both, all_there}
@@ -45,18 +45,6 @@ module _ (version : ℕ) (start : RowsValue) (run : Run) (text : List ℕ) (ids 
 
   abbrev rows : RowsValue
   rows = rows_after s run.history (length run.history)
-
-  -- what is told of the logs and what stands before them, and of the rest
-  abbrev the_run : Run
-  the_run = record {
-    net = s.net;
-    penalty = s.penalty;
-    history = run.history;
-    logs = run.logs;
-    notes = run.notes;
-    times = run.times;
-    cost = run.cost;
-  }
 
   entries_told : Each (IsTold (TellsEntry s (length run.logs)) (λ k. entry_text (k + 1))) [] run.history
   entries_told =
@@ -104,27 +92,19 @@ module _ (version : ℕ) (start : RowsValue) (run : Run) (text : List ℕ) (ids 
   abbrev end_text : List ℕ
   end_text = codes "done" ++ line_end
 
-  end_stands : (place : Place) → place.left ≡ end_text → Told (TellsEnd the_run) the_run place []
+  end_stands : (place : Place) → place.left ≡ end_text → Told (TellsEnd run) run place []
   end_stands place left =
-      then_stands (Reads (IsWordLine (codes "done"))) (λ said p. Demands (p.left ≡ []) (bad kind.Form p.line) the_run p) tt the_run place [] []
+      then_stands (Reads (IsWordLine (codes "done"))) (λ said p. Demands (p.left ≡ []) (bad kind.Form p.line) run p) tt run place [] []
       (line_stands (IsWordLine (codes "done")) (λ said. end_text) tt place [] (word_line (codes "done") refl) (left ∙ sym (append-nil end_text)))
       (λ p e. record { next = p; left = e; told = (e, refl, refl) })
 
   abbrev cost_text : List ℕ
   cost_text = counted (codes "cost ") run.cost ++ end_text
 
-  cost_stands : (place : Place) → place.left ≡ cost_text → Told (Then (TellsCost run.net rows run.penalty) (λ cost. TellsEnd (record {
-    net = s.net;
-    penalty = s.penalty;
-    history = run.history;
-    logs = run.logs;
-    notes = run.notes;
-    times = run.times;
-    cost = cost;
-  }))) the_run place []
+  cost_stands : (place : Place) → place.left ≡ cost_text → Told (Then (TellsCost run.net rows run.penalty) (λ cost. TellsEnd (record run { cost = cost }))) run place []
   cost_stands place left =
       let costs : Costs run.net rows run.penalty run.cost = record { times = run.times; least = is.is_true.least; cost = is.is_true.cost } in
-      then_stands (TellsCost run.net rows run.penalty) _ run.cost the_run place end_text []
+      then_stands (TellsCost run.net rows run.penalty) _ run.cost run place end_text []
       (rule_stands (IsNumberLine (codes "cost ")) (counted (codes "cost ")) (Costs run.net rows run.penalty) kind.Cost (λ c. c) run.cost place end_text
       (number_line (codes "cost ") run.cost refl is.fits.cost) costs left)
       (λ p e. end_stands p e)
@@ -137,17 +117,9 @@ module _ (version : ℕ) (start : RowsValue) (run : Run) (text : List ℕ) (ids 
   table_is =
       times_same run.net [] run.times ∙ ap (λ k. flat_map (time_text run.net run.times) (range_with_len 0 k)) is.is_spelled.times
 
-  table_stands : (place : Place) → place.left ≡ table_text → Told (Then (Times (length run.net.events) (TellsTime run.net rows) []) (λ times. Then (TellsCost run.net rows run.penalty) (λ cost. TellsEnd (record {
-    net = s.net;
-    penalty = s.penalty;
-    history = run.history;
-    logs = run.logs;
-    notes = run.notes;
-    times = times;
-    cost = cost;
-  })))) the_run place []
+  table_stands : (place : Place) → place.left ≡ table_text → Told (TellsEnding s run.history run.logs run.notes rows) run place []
   table_stands place left =
-      then_stands (Times (length run.net.events) (TellsTime run.net rows) []) _ run.times the_run place cost_text []
+      then_stands (Times (length run.net.events) (TellsTime run.net rows) []) _ run.times run place cost_text []
       (subst (λ (k : ℕ). Told (Times k (TellsTime run.net rows) []) run.times place cost_text) is.is_spelled.times
       (all_stand (TellsTime run.net rows) (timed_text run.net) [] run.times place cost_text times_told (left ∙ ap (λ xs. xs ++ cost_text) (sym table_is))))
       (λ p e. cost_stands p e)
@@ -181,12 +153,12 @@ module _ (version : ℕ) (start : RowsValue) (run : Run) (text : List ℕ) (ids 
         told = record { value = length run.notes; behind = one.next; told = one.told; then = (all_named s run.history run.logs is.is_true.logs, refl, refl) };
       }
 
-  rest_stands : (place : Place) → place.left ≡ boards_text (length run.notes) ++ notes_text → Told (TellsRest s run.history run.logs) the_run place []
+  rest_stands : (place : Place) → place.left ≡ boards_text (length run.notes) ++ notes_text → Told (TellsRest s run.history run.logs) run place []
   rest_stands place left =
-      then_stands (TellsBoards run.history run.logs) _ (length run.notes) the_run place notes_text [] (boards_stand place left)
-      (λ p e. then_stands (Times (length run.notes) (TellsNote run.history) []) _ run.notes the_run p heading_and_table []
+      then_stands (TellsBoards run.history run.logs) _ (length run.notes) run place notes_text [] (boards_stand place left)
+      (λ p e. then_stands (Times (length run.notes) (TellsNote run.history) []) _ run.notes run p heading_and_table []
       (all_stand (TellsNote run.history) (λ k. note_text) [] run.notes p heading_and_table notes_told (e ∙ ap (λ xs. xs ++ heading_and_table) (sym (same_each note_text 0 run.notes))))
-      (λ q f. then_stands (TellsNumber (codes "times ") (λ n. n ≡ length run.history)) _ (length run.history) the_run q table_text []
+      (λ q f. then_stands (TellsNumber (codes "times ") (λ n. n ≡ length run.history)) _ (length run.history) run q table_text []
       (number_stands (codes "times ") (λ n. n ≡ length run.history) (length run.history) q table_text refl entries_few refl f)
       (λ r g. table_stands r g)))
 
@@ -204,19 +176,19 @@ module _ (version : ℕ) (start : RowsValue) (run : Run) (text : List ℕ) (ids 
   abbrev body_text : List ℕ
   body_text = counted (codes "penalty ") run.penalty ++ (counted (codes "feeds ") (length run.logs) ++ (counted (codes "entries ") (length run.history) ++ entries_and_rest))
 
-  body_stands : (place : Place) → place.left ≡ body_text → Told (TellsBody s) the_run place []
+  body_stands : (place : Place) → place.left ≡ body_text → Told (TellsBody s) run place []
   body_stands place left =
       let penalty : run.penalty ≤ largest_cost = let low = is.fits.penalty in omega arith in
       let feeds_text : List ℕ = counted (codes "feeds ") (length run.logs) ++ (counted (codes "entries ") (length run.history) ++ entries_and_rest) in
-      then_stands (TellsNumber (codes "penalty ") (λ n. n ≡ run.penalty)) _ run.penalty the_run place feeds_text []
+      then_stands (TellsNumber (codes "penalty ") (λ n. n ≡ run.penalty)) _ run.penalty run place feeds_text []
       (number_stands (codes "penalty ") (λ n. n ≡ run.penalty) run.penalty place feeds_text refl penalty refl left)
-      (λ p e. then_stands (TellsNumber (codes "feeds ") (λ n. (1 ≤ n) × (n ≤ FEEDS))) _ (length run.logs) the_run p (counted (codes "entries ") (length run.history) ++ entries_and_rest) []
+      (λ p e. then_stands (TellsNumber (codes "feeds ") (λ n. (1 ≤ n) × (n ≤ FEEDS))) _ (length run.logs) run p (counted (codes "entries ") (length run.history) ++ entries_and_rest) []
       (number_stands (codes "feeds ") (λ n. (1 ≤ n) × (n ≤ FEEDS)) (length run.logs) p (counted (codes "entries ") (length run.history) ++ entries_and_rest) refl feeds_few (is.is_true.some_feed, is.is_true.few_feeds) e)
-      (λ q f. then_stands (TellsNumber (codes "entries ") (λ n. n ≤ ENTRIES)) _ (length run.history) the_run q entries_and_rest []
+      (λ q f. then_stands (TellsNumber (codes "entries ") (λ n. n ≤ ENTRIES)) _ (length run.history) run q entries_and_rest []
       (number_stands (codes "entries ") (λ n. n ≤ ENTRIES) (length run.history) q entries_and_rest refl entries_few is.is_true.legal.size f)
-      (λ r g. then_stands (Times (length run.history) (TellsEntry s (length run.logs)) []) _ run.history the_run r logs_and_rest []
+      (λ r g. then_stands (Times (length run.history) (TellsEntry s (length run.logs)) []) _ run.history run r logs_and_rest []
       (all_stand (TellsEntry s (length run.logs)) (λ k. entry_text (k + 1)) [] run.history r logs_and_rest entries_told (g ∙ ap (λ xs. xs ++ logs_and_rest) (sym (entries_same 0 run.history))))
-      (λ t h. then_stands (Times (length run.logs) (TellsLog s run.history) []) _ run.logs the_run t rest_text []
+      (λ t h. then_stands (Times (length run.logs) (TellsLog s run.history) []) _ run.logs run t rest_text []
       (all_stand (TellsLog s run.history) (λ k. log_text version (k + 1)) [] run.logs t rest_text logs_told (h ∙ ap (λ xs. xs ++ rest_text) (sym (logs_same version 0 run.logs))))
       (λ u i. rest_stands u i)))))
 
@@ -227,9 +199,9 @@ module _ (version : ℕ) (start : RowsValue) (run : Run) (text : List ℕ) (ids 
       ∙ sym (regroup_all (decimal version) (decimal run.penalty) (decimal (length run.logs)) (decimal (length run.history)) (entries_text 1 run.history) (logs_text version 1 run.logs)
       (boards_text (length run.notes)) (flat_map note_text run.notes) (counted (codes "times ") (length run.history)) (timetable_text run.net run.times) (decimal run.cost))
 
-  pub run_stands : Told (TellsRun run.net start run.penalty) the_run (at_start text) []
+  pub run_stands : Told (TellsRun run.net start run.penalty) run (at_start text) []
   run_stands =
-      then_stands (Reads IsVersionLine) _ version the_run (at_start text) body_text []
+      then_stands (Reads IsVersionLine) _ version run (at_start text) body_text []
       (line_stands IsVersionLine (counted (codes "dm-run ")) version (at_start text) body_text (version_has_line version is.is_version) text_is)
       (λ p e. body_stands p e)
 
@@ -237,15 +209,7 @@ pub true_texts_are_good : TrueTextsAreGood
 true_texts_are_good version start run text network limits ids is =
     let told = run_stands version start run text ids is (is_in_print version start run text network limits is) in
     record {
-      run = record {
-        net = run.net;
-        penalty = run.penalty;
-        history = run.history;
-        logs = run.logs;
-        notes = run.notes;
-        times = run.times;
-        cost = run.cost;
-      };
+      run = run;
       end = told.next;
       told = told.told;
       entries_are = refl;
