@@ -1,11 +1,12 @@
 -- What was done over some lists was done over equal ones.
-use Rattle.std.proofs.Common.{◌≡◌, ℕ, List, [], Option, subst}
+use Rattle.std.proofs.Common.{◌≡◌, ℕ, ◌-◌, List, [], length, Option, subst}
 use Rattle.dm_network.specs.Net.{Net}
 use Rattle.dm_cert.specs.declared.notes.Note.{Note}
 use Rattle.dm_publish.specs.Publishing.{Publishes}
 use Rattle.dm_publish.specs.Since.{KeepsUp, KeepsUpLast}
 use Rattle.dm_publish.specs.Inside.Turns.{TakesTurn, IsPublishedTo}
 use Rattle.dm_publish.proofs.Repeated.{all_show_none}
+use Rattle.dm_publish.proofs.Turned.{published_all}
 
 module _ {B : Type 0} (place : B → ℕ) (times : B → Option (ℕ → Option ℕ)) (faults : B → ℕ) (is_sound : B → ℕ → Type 0) (net : Net) (last other x : List ℕ) (same : last ≡ other) where
   pub turn_by : (entry at : ℕ) (noted noted_now : List Note) (before now : B) → TakesTurn place times faults is_sound net last x entry at noted noted_now before now → TakesTurn place times faults is_sound net other x entry at noted noted_now before now
@@ -29,6 +30,12 @@ module _ {B : Type 0} (place : B → ℕ) (times : B → Option (ℕ → Option 
   pub published_to_by : (entry : ℕ) (old new : List B) (noted noted_now others : List Note) (k : ℕ) → noted_now ≡ others → IsPublishedTo place times faults is_sound net last x entry old new noted noted_now k
       → IsPublishedTo place times faults is_sound net last x entry old new noted others k
   published_to_by entry old new noted noted_now others k same h = let P : List Note → Type 0 = λ n. IsPublishedTo place times faults is_sound net last x entry old new noted n k in subst P same h
+
+  -- all boards were met, and these are the notes
+  pub published_whole : (entry : ℕ) (old new : List B) (noted noted_now others : List Note) (k count : ℕ) → noted_now ≡ others → k ≡ length old → count ≡ length others - length noted
+      → IsPublishedTo place times faults is_sound net last x entry old new noted noted_now k → Publishes place times faults is_sound net last x entry old new noted others count
+  published_whole entry old new noted noted_now others k count same all number h =
+      published_all place times faults is_sound net last x entry old noted k new others count (published_to_by entry old new noted noted_now others k same h) all number
 
   -- where nothing was published
   pub keeps_up_by : (old new : List B) (noted others noted_now : List Note) → last ≡ [] → noted ≡ others → KeepsUpLast place times faults is_sound net last x old new noted noted_now

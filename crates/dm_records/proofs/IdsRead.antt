@@ -10,6 +10,7 @@ use Rattle.dm_feed.specs.Parts.{largest_id}
 use Rattle.dm_cert.specs.RunTexts.{spaced_id}
 use Rattle.dm_cert.proofs.Options.{none_some, some_pair}
 use Rattle.dm_cert.proofs.DecisionsRead.{number_behind_back, number_behind_is}
+use Rattle.dm_cert.proofs.PathsRead.{flat_push}
 use Rattle.dm_records.specs.Inside.Fields.{number_behind}
 use Rattle.dm_records.specs.Inside.Kinds.{act}
 use Rattle.dm_records.specs.Inside.Answers.{IsIds, IsNoIds, GoOnBehind, IdsSoFar}
@@ -34,13 +35,6 @@ no_id_in_nothing : id_in [] ≡ None
 unfolding behind
 no_id_in_nothing = refl
 
-flat_push : (held : List ActId) (a : ActId) (rest : List ℕ) → flat_map spaced_id (held ++ a ∷ []) ++ rest ≡ flat_map spaced_id held ++ (spaced_id a ++ rest)
-flat_push [] a rest = ap (λ xs. xs ++ rest) (append-nil (spaced_id a))
-flat_push (h ∷ held) a rest =
-    append_assoc (spaced_id h) (flat_map spaced_id (held ++ a ∷ [])) rest
-    ∙ (ap (λ xs. spaced_id h ++ xs) (flat_push held a rest)
-    ∙ sym (append_assoc (spaced_id h) (flat_map spaced_id held) (spaced_id a ++ rest)))
-
 one_behind : (held : List ActId) (n : ℕ) (rest next : List ℕ) (ids tail : List ActId) → Some (n, next) ≡ id_in rest → ids ≡ held ++ tail → IsIds tail rest →
     GoOnBehind (held ++ act n ∷ []) ids next
 one_behind held n rest next ids [] e is stands = absurd (none_some (sym (ap id_in stands.spelled ∙ no_id_in_nothing) ∙ sym e))
@@ -57,7 +51,7 @@ pub ids_more : (bytes rest next : List ℕ) (held new : List ActId) (n : ℕ) �
 ids_more bytes rest next held new n e new_is far =
     let has = number_behind_is largest_id n (codes " ") rest next (omega arith) (sym e) in
     rw new_is (record {
-      front = far.front ∙ (ap (λ xs. flat_map spaced_id held ++ xs) has.line_is ∙ sym (flat_push held (act n) next));
+      front = far.front ∙ (ap (λ xs. flat_map spaced_id held ++ xs) has.line_is ∙ sym (flat_push spaced_id held (act n) next));
       fits = All-append FitsId held (act n ∷ []) far.fits (All-cons FitsId (act n) [] has.fits (All-nil FitsId));
       alone = λ ids is. let went = far.alone ids is in one_behind held n rest next ids went.tail e went.is went.stands;
     })

@@ -55,25 +55,28 @@ version_once line n m p q =
     low v (inl e) = omega (arith, e)
     low v (inr e) = omega (arith, e)
 
+-- what is made of the two numbers of a line
+two_once : {V : Type 0} (fs : List (List ℕ × ℕ)) (make : ℕ → ℕ → V) (a b c d : ℕ) (line : List ℕ) → FieldsFit fs (a ∷ b ∷ []) [] → FieldsFit fs (c ∷ d ∷ []) []
+    → field_text fs (a ∷ b ∷ []) [] ≡ line → field_text fs (c ∷ d ∷ []) [] ≡ line → make a b ≡ make c d
+two_once fs make a b c d line p q s t =
+    let same = fields_once fs (a ∷ b ∷ []) (c ∷ d ∷ []) line p q s t in
+    let first = head_same a c (b ∷ []) (d ∷ []) same in
+    let second = head_same b d [] [] (tail_same a c (b ∷ []) (d ∷ []) same) in
+    ap (λ n. make n b) first ∙ ap (λ n. make c n) second
+
+abbrev opening_of : ℕ → ℕ → Opening
+opening_of feed items = record { feed = feed; items = items }
+
 opening_once : SpellsOne IsOpeningLine
 opening_once line o u p q =
-    let same = fields_once opening_fields (o.feed ∷ o.items ∷ []) (u.feed ∷ u.items ∷ []) line (p.feed, omega arith, refl, (p.items, omega arith, refl, tt)) (q.feed, omega arith, refl, (q.items, omega arith, refl, tt)) p.spelled q.spelled in
-    let feed = head_same o.feed u.feed (o.items ∷ []) (u.items ∷ []) same in
-    let items = head_same o.items u.items [] [] (tail_same o.feed u.feed (o.items ∷ []) (u.items ∷ []) same) in
-    ap (λ n. make n o.items) feed ∙ ap (λ n. make u.feed n) items
-  where
-    make : ℕ → ℕ → Opening
-    make feed items = record { feed = feed; items = items }
+    two_once opening_fields opening_of o.feed o.items u.feed u.items line (p.feed, omega arith, refl, (p.items, omega arith, refl, tt)) (q.feed, omega arith, refl, (q.items, omega arith, refl, tt)) p.spelled q.spelled
+
+abbrev timed_of : ℕ → ℕ → Timed
+timed_of event time = record { event = event; time = time }
 
 time_once : SpellsOne IsTimeLine
 time_once line o u p q =
-    let same = fields_once time_fields (o.event ∷ o.time ∷ []) (u.event ∷ u.time ∷ []) line (p.event, omega arith, refl, (p.time, omega arith, refl, tt)) (q.event, omega arith, refl, (q.time, omega arith, refl, tt)) p.spelled q.spelled in
-    let event = head_same o.event u.event (o.time ∷ []) (u.time ∷ []) same in
-    let time = head_same o.time u.time [] [] (tail_same o.event u.event (o.time ∷ []) (u.time ∷ []) same) in
-    ap (λ n. make n o.time) event ∙ ap (λ n. make u.event n) time
-  where
-    make : ℕ → ℕ → Timed
-    make event time = record { event = event; time = time }
+    two_once time_fields timed_of o.event o.time u.event u.time line (p.event, omega arith, refl, (p.time, omega arith, refl, tt)) (q.event, omega arith, refl, (q.time, omega arith, refl, tt)) p.spelled q.spelled
 
 note_once : SpellsOne IsNoteLine
 note_once line n m p q =

@@ -1,5 +1,5 @@
 -- An item that names an entry tells its feed and its line.
-use Rattle.std.proofs.Common.{◌≡◌, ℕ, zero, suc, ◌+◌, ◌<◌, ◌≤◌, Bool, true, false, cond, List, [], ◌∷◌, ◌++◌, length, Option, Some, None, refl, subst, arith, length-append}
+use Rattle.std.proofs.Common.{◌≡◌, ℕ, zero, suc, ◌+◌, ◌-◌, ◌<◌, ◌≤◌, Bool, true, false, cond, List, [], ◌∷◌, ◌++◌, length, slice_get, Option, Some, None, refl, sym, ap, ◌∙◌, subst, arith, length-append}
 use Rattle.std.specs.Prelude.{count_by}
 use Rattle.std.specs.Option.{IsSomeAnd}
 use Rattle.std.proofs.lemmas.Bool.{eqb-true}
@@ -15,8 +15,9 @@ use Rattle.dm_cert.specs.declared.replies.LogItem.{LogItem}
 use Rattle.dm_cert.specs.declared.replies.LogItem.TheVariants.{Malformed, Answered}
 use Rattle.dm_cert.specs.declared.replies.FeedLog.{FeedLog}
 use Rattle.dm_cert.specs.Answers.{Setting, latest_plan, IsEntry, IsAdopted, IsTrueReply, IsTrueAnswer}
-use Rattle.dm_cert.specs.Logs.{kind_of, line_of, number_after, names, all_items, AreTrueAnswers, IsInOrder, IsTrueLog}
-use Rattle.dm_records.proofs.Each.{Each}
+use Rattle.dm_cert.specs.Logs.{kind_of, line_of, number_after, names, all_items, AreTrueAnswers, IsInOrder, IsTrueLog, AreTrueLogs}
+use Rattle.dm_cert.proofs.Holding.{get_at}
+use Rattle.dm_records.proofs.Each.{Each, each_of_splits}
 
 -- the entry of this number came from this line of this feed
 pub record CameFrom (history : List Entry) (feed line n : ℕ) : Type 0 where
@@ -114,3 +115,19 @@ module _ (s : Setting) (history : List Entry) (n : ℕ) where
       (let more = length-append before (log ∷ []) in omega (arith, more)) in
       in_this_or_later before log (length before + length (log ∷ logs)) (count_by (names n) log.items) (count_by (names n) (all_items logs)) refl each.0 (omega arith)
       (λ more. subst (λ (k : ℕ). CameSomehow history k n) feeds (named_somewhere (before ++ log ∷ []) logs each.1 more)) (omega (arith, some, sum))
+
+-- ---- true logs of a history
+
+pub logs_behind : (s : Setting) (history : List Entry) (logs : List FeedLog) → AreTrueLogs s history logs → Each (IsTrueBehind s history) [] logs
+logs_behind s history logs are =
+    each_of_splits (IsTrueBehind s history) logs
+    (λ before log later e. are.each (length before) log (ap (λ ls. slice_get ls (length before)) e ∙ get_at before log later)) [] logs refl
+
+-- one entry has a number
+pub same_entry : (history : List Entry) (before : List Entry) (entry : Entry) (later : List Entry) (other : Entry) → history ≡ before ++ entry ∷ later → IsEntry history (length before + 1) other → other ≡ entry
+same_entry history before entry later other e is =
+    let place : (length before + 1) - 1 ≡ length before = omega arith in
+    let there : slice_get history (length before) ≡ Some other = subst (λ (k : ℕ). slice_get history k ≡ Some other) place is.1 in
+    let here : slice_get history (length before) ≡ Some entry = ap (λ es. slice_get es (length before)) e ∙ get_at before entry later in
+    let both : Some other ≡ Some entry = sym there ∙ here in
+    cc

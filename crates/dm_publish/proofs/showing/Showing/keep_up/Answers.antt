@@ -20,8 +20,7 @@ unreachable-requires g c =
     let none : has_note c.self.inside.notes.items c.args.index ≡ false = sym (c.if-has_note.ensures ∙ ap (λ (notes : List Note). has_note notes c.args.index) c.deref.ensures.value) in
     let boards : c.self.inside.boards ≡ c.args.self.now.boards = ap (λ (v : _). v.boards) c.self.view_is in
     let below : c.args.index < c.self.inside.boards = omega (arith, boards, c.requires.is_board) in
-    let i = c.self.invariant in
-    let room = has_room c.self.inside.boards c.self.inside.notes.items c.args.index (note_of c.args.index 0 0) i.4 below none refl in
+    let room = has_room c.self.inside.boards c.self.inside.notes.items c.args.index (note_of c.args.index 0 0) c.self.invariant.4 below none refl in
     let full = c.in_default-push.ensures.full in
     omega arith
 

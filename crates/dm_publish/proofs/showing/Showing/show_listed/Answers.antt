@@ -1,11 +1,11 @@
 use Rattle.std.proofs.Common.{◌≤◌, ◌≡◌, ◌<◌, length, ap, sym, ◌∙◌, arith, refl}
 use Rattle.std.proofs.lemmas.Option.{slice_get_read}
 use Rattle.dm_base.specs.declared.limits.TheConstants.{BOARDS}
-use Rattle.dm_publish.proofs.Carried.{turn_by, published_to_by}
+use Rattle.dm_publish.proofs.Carried.{turn_by, published_whole}
 use Rattle.dm_publish.proofs.Notes.{few_notes}
 use Rattle.dm_publish.proofs.Repeated.{published, all_shown}
 use Rattle.dm_publish.proofs.TrueNotes.{notes_stay_true}
-use Rattle.dm_publish.proofs.Turned.{published_none, published_next, published_all, as_long}
+use Rattle.dm_publish.proofs.Turned.{published_none, published_next, as_long}
 use Rattle.dm_publish.proofs.showing.Showing.show_listed.Goals as goal
 
 pub loop-index-init : goal.loop-index-init
@@ -29,19 +29,13 @@ returns-clause-published g c =
     let same = as_long _ _ _ _ c.args.net.now c.args.self.now.last c.args.timetable.now c.args.entry c.args.boards.now.items c.args.self.now.notes _ _ _ c.loop-index.invariant.0 in
     let over : c.loop-index.index ≡ length c.args.boards.now.items = omega arith in
     let was : length c.self.inside.notes.items ≡ length c.args.self.now.notes = ap (λ (v : _). length v.notes) c.self.view_is in
-    let notes : c.loop-index.self.notes ≡ c.self-2.inside.notes.items = sym (ap (λ (v : _). v.notes) c.self-2.view_is) in
-    let done = published_to_by _ _ _ _ c.args.net.now c.args.self.now.last c.args.timetable.now c.args.entry c.args.boards.now.items c.loop-index.boards.items c.args.self.now.notes _ _ c.loop-index.index notes c.loop-index.invariant.0 in
-    published_all _ _ _ _ c.args.net.now c.args.self.now.last c.args.timetable.now c.args.entry c.args.boards.now.items c.args.self.now.notes c.loop-index.index c.loop-index.boards.items
-    c.self-2.inside.notes.items _ done over (omega arith)
+    published_whole _ _ _ _ c.args.net.now c.args.self.now.last c.args.timetable.now c.args.entry c.args.boards.now.items c.loop-index.boards.items c.args.self.now.notes _ c.self-2.inside.notes.items c.loop-index.index _ (sym (ap (λ (v : _). v.notes) c.self-2.view_is)) over (omega arith) c.loop-index.invariant.0
 
 pub returns-clause-keeps_up : goal.returns-clause-keeps_up
 returns-clause-keeps_up g c =
     let same = as_long _ _ _ _ c.args.net.now c.args.self.now.last c.args.timetable.now c.args.entry c.args.boards.now.items c.args.self.now.notes _ _ _ c.loop-index.invariant.0 in
     let over : c.loop-index.index ≡ length c.args.boards.now.items = omega arith in
-    let notes : c.loop-index.self.notes ≡ c.self-2.inside.notes.items = sym (ap (λ (v : _). v.notes) c.self-2.view_is) in
-    let done = published_to_by _ _ _ _ c.args.net.now c.args.self.now.last c.args.timetable.now c.args.entry c.args.boards.now.items c.loop-index.boards.items c.args.self.now.notes _ _ c.loop-index.index notes c.loop-index.invariant.0 in
-    let is = published_all _ _ _ _ c.args.net.now c.args.self.now.last c.args.timetable.now c.args.entry c.args.boards.now.items c.args.self.now.notes c.loop-index.index c.loop-index.boards.items
-    c.self-2.inside.notes.items _ done over refl in
+    let is = published_whole _ _ _ _ c.args.net.now c.args.self.now.last c.args.timetable.now c.args.entry c.args.boards.now.items c.loop-index.boards.items c.args.self.now.notes _ c.self-2.inside.notes.items c.loop-index.index _ (sym (ap (λ (v : _). v.notes) c.self-2.view_is)) over refl c.loop-index.invariant.0 in
     λ first kept showed. record {
       kept = published _ _ _ _ c.args.net.now c.args.self.now.last c.args.timetable.now c.args.entry first c.args.boards.now.items c.loop-index.boards.items c.args.self.now.notes c.self-2.inside.notes.items _ kept is;
       shown = all_shown _ _ _ _ c.args.net.now c.args.self.now.last c.args.timetable.now c.args.entry first c.args.boards.now.items c.loop-index.boards.items c.args.self.now.notes c.self-2.inside.notes.items _ kept is showed;
@@ -51,10 +45,7 @@ pub returns-clause-true_notes : goal.returns-clause-true_notes
 returns-clause-true_notes g c =
     let same = as_long _ _ _ _ c.args.net.now c.args.self.now.last c.args.timetable.now c.args.entry c.args.boards.now.items c.args.self.now.notes _ _ _ c.loop-index.invariant.0 in
     let over : c.loop-index.index ≡ length c.args.boards.now.items = omega arith in
-    let notes : c.loop-index.self.notes ≡ c.self-2.inside.notes.items = sym (ap (λ (v : _). v.notes) c.self-2.view_is) in
-    let done = published_to_by _ _ _ _ c.args.net.now c.args.self.now.last c.args.timetable.now c.args.entry c.args.boards.now.items c.loop-index.boards.items c.args.self.now.notes _ _ c.loop-index.index notes c.loop-index.invariant.0 in
-    let published = published_all _ _ _ _ c.args.net.now c.args.self.now.last c.args.timetable.now c.args.entry c.args.boards.now.items c.args.self.now.notes c.loop-index.index c.loop-index.boards.items
-    c.self-2.inside.notes.items _ done over refl in
+    let published = published_whole _ _ _ _ c.args.net.now c.args.self.now.last c.args.timetable.now c.args.entry c.args.boards.now.items c.loop-index.boards.items c.args.self.now.notes _ c.self-2.inside.notes.items c.loop-index.index _ (sym (ap (λ (v : _). v.notes) c.self-2.view_is)) over refl c.loop-index.invariant.0 in
     let made : c.self.inside.boards ≡ c.args.self.now.boards = ap (λ (v : _). v.boards) c.self.view_is in
     let most = c.self.invariant.0 in
     let boards : length c.args.boards.now.items ≤ BOARDS = omega arith in
