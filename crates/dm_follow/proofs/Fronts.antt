@@ -26,7 +26,7 @@ use Rattle.dm_follow.proofs.Chains.{times_front, times_grow}
 use Rattle.dm_follow.proofs.Single.{journal_once, times_once}
 use Rattle.dm_follow.proofs.Carried.{ok_same, ok_or_err, stands_told, same_header, ends_there}
 use Rattle.dm_records.proofs.Each.{Each, each_of_splits, all_there}
-use Rattle.dm_records.proofs.Named.{IsTrueBehind, CameSomehow, named_somewhere}
+use Rattle.dm_records.proofs.Named.{IsTrueBehind, CameSomehow, named_somewhere, logs_behind, same_entry}
 use Rattle.dm_follow.proofs.Longer.{fault_stays}
 
 -- ---- two histories that one text carries
@@ -80,23 +80,6 @@ followed_is_one = record {
 }
 
 -- ---- a run's text
-
-at_seam : {V : Type 0} (before : List V) (v : V) (later : List V) → slice_get (before ++ v ∷ later) (length before) ≡ Some v
-at_seam before v later =
-    slice_get-get_or (before ++ v ∷ later) (length before) v (omega (arith, length-append before (v ∷ later))) ∙ ap Some (get_or-append_seam before v later v)
-
-logs_behind : (s : Setting) (history : List Entry) (logs : List FeedLog) → AreTrueLogs s history logs → Each (IsTrueBehind s history) [] logs
-logs_behind s history logs are =
-    each_of_splits (IsTrueBehind s history) logs
-    (λ before log later e. are.each (length before) log (ap (λ ls. slice_get ls (length before)) e ∙ at_seam before log later)) [] logs refl
-
-same_entry : (history : List Entry) (before : List Entry) (entry : Entry) (later : List Entry) (other : Entry) → history ≡ before ++ entry ∷ later → IsEntry history (length before + 1) other → other ≡ entry
-same_entry history before entry later other e is =
-    let place : (length before + 1) - 1 ≡ length before = omega arith in
-    let there : slice_get history (length before) ≡ Some other = subst (λ (k : ℕ). slice_get history k ≡ Some other) place is.1 in
-    let here : slice_get history (length before) ≡ Some entry = ap (λ es. slice_get es (length before)) e ∙ at_seam before entry later in
-    let both : Some other ≡ Some entry = sym there ∙ here in
-    cc
 
 module _ (s : Setting) (history : List Entry) (logs : List FeedLog) (are : AreTrueLogs s history logs) where
   -- each entry came from some line of one of the feeds

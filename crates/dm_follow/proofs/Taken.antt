@@ -301,27 +301,28 @@ module _ (net : Net) (start : RowsValue) (penalty : ℕ) (history : List Entry) 
       is_past false test whole less = let past = ltb-false (length history) entries test in omega (arith, past, less)
   whole_more (Failed line k) count whole at = absurd cc
 
-pub goes_part : (old new : FollowerValue) (xs : List ℕ) → IsLive old.stage → HasNoLineFeed xs → new.table ≡ old.table → new.stage ≡ old.stage → new.part ≡ old.part ++ xs → new.taken ≡ old.taken + length xs → Goes old new xs
-goes_part old new xs live none table_is stage_is part_is counted = record {
+-- the same line goes on
+goes_with : (old new : FollowerValue) (xs part : List ℕ) → new.table ≡ old.table → new.stage ≡ old.stage → new.part ≡ part → new.taken ≡ old.taken + length xs
+    → ((bytes : List ℕ) → IsReadTo old.table.network old.table.start old.table.penalty old.table.history old.stage old.part bytes
+    → IsReadTo old.table.network old.table.start old.table.penalty old.table.history old.stage part (bytes ++ xs)) → Goes old new xs
+goes_with old new xs part table_is stage_is part_is counted more = record {
   day = subst (λ (t : TableValue). SameDay old.table t) (sym table_is) (same_day old.table);
   counted = counted;
   reads = λ bytes read.
       subst (λ (t : TableValue). IsReadTo t.network t.start t.penalty t.history new.stage new.part (bytes ++ xs)) (sym table_is)
       (subst (λ (stage : Stage). IsReadTo old.table.network old.table.start old.table.penalty old.table.history stage new.part (bytes ++ xs)) (sym stage_is)
-      (subst (λ (part : List ℕ). IsReadTo old.table.network old.table.start old.table.penalty old.table.history old.stage part (bytes ++ xs)) (sym part_is)
-      (part_more old.table.network old.table.start old.table.penalty old.table.history old.part bytes xs none old.stage live read)));
+      (subst (λ (part : List ℕ). IsReadTo old.table.network old.table.start old.table.penalty old.table.history old.stage part (bytes ++ xs)) (sym part_is) (more bytes read)));
 }
 
+pub goes_part : (old new : FollowerValue) (xs : List ℕ) → IsLive old.stage → HasNoLineFeed xs → new.table ≡ old.table → new.stage ≡ old.stage → new.part ≡ old.part ++ xs → new.taken ≡ old.taken + length xs → Goes old new xs
+goes_part old new xs live none table_is stage_is part_is counted =
+    goes_with old new xs (old.part ++ xs) table_is stage_is part_is counted
+    (λ bytes read. part_more old.table.network old.table.start old.table.penalty old.table.history old.part bytes xs none old.stage live read)
+
 pub goes_past : (old new : FollowerValue) (xs : List ℕ) → tail_of old ≡ tail.Whole → HasNoLineFeed xs → new.table ≡ old.table → new.stage ≡ old.stage → new.part ≡ old.part → new.taken ≡ old.taken + length xs → Goes old new xs
-goes_past old new xs whole none table_is stage_is part_is counted = record {
-  day = subst (λ (t : TableValue). SameDay old.table t) (sym table_is) (same_day old.table);
-  counted = counted;
-  reads = λ bytes read.
-      subst (λ (t : TableValue). IsReadTo t.network t.start t.penalty t.history new.stage new.part (bytes ++ xs)) (sym table_is)
-      (subst (λ (stage : Stage). IsReadTo old.table.network old.table.start old.table.penalty old.table.history stage new.part (bytes ++ xs)) (sym stage_is)
-      (subst (λ (part : List ℕ). IsReadTo old.table.network old.table.start old.table.penalty old.table.history old.stage part (bytes ++ xs)) (sym part_is)
-      (whole_more old.table.network old.table.start old.table.penalty old.table.history old.part bytes xs none old.stage (length old.part) whole read)));
-}
+goes_past old new xs whole none table_is stage_is part_is counted =
+    goes_with old new xs old.part table_is stage_is part_is counted
+    (λ bytes read. whole_more old.table.network old.table.start old.table.penalty old.table.history old.part bytes xs none old.stage (length old.part) whole read)
 
 -- ---- pieces
 

@@ -17,7 +17,8 @@ use Rattle.dm_rows.specs.History.{rows_at, IsLegal}
 use Rattle.dm_feed.specs.Parts.{largest_id}
 use Rattle.dm_cert.specs.PlanTexts.{line_end, largest_cost, IsVersion}
 use Rattle.dm_cert.specs.RunTexts.{header_text, entry_text, entries_text, FitsEntry}
-use Rattle.dm_cert.proofs.SpelledPlans.{HasLine}
+use Rattle.dm_cert.proofs.Holding.{get_at}
+use Rattle.dm_cert.proofs.SpelledPlans.{HasLine, line_stands}
 use Rattle.dm_cert.proofs.ToldTexts.{line_told}
 use Rattle.dm_records.specs.RunLines.{Numbered, IsNumberLine, IsVersionLine, IsEntryLine}
 use Rattle.dm_records.proofs.LinesSpelled.{counted, numbered, number_line, version_line, version_has_line, entry_line}
@@ -33,15 +34,7 @@ next_line place rest = record { left = rest; line = place.line + 1 }
 
 reads_there : {V : Type 0} (spells : V → List ℕ → Type 0) (text : V → List ℕ) (v : V) (place : Place) (rest : List ℕ) → HasLine spells text v → place.left ≡ text v ++ rest →
     Reads spells place (Ok (v, next_line place rest))
-reads_there spells text v place rest has left = record {
-  bytes = has.line;
-  stands = record {
-    whole = left ∙ (ap (λ xs. xs ++ rest) has.text_is ∙ append_assoc has.line line_end rest);
-    one_line = has.one_line;
-    counted = refl;
-  };
-  spelled = has.spelled;
-}
+reads_there spells text v place rest has left = line_stands spells text v place rest has left
 
 rules_there : {V W : Type 0} (spells : V → List ℕ → Type 0) (text : V → List ℕ) (rule : V → Type 0) (k : FollowKind) (gives : V → W) (v : V) (place : Place) (rest : List ℕ) → HasLine spells text v →
     rule v → place.left ≡ text v ++ rest → Rules spells rule k gives place (Ok (gives v, next_line place rest))
@@ -152,10 +145,6 @@ pub rows_before : (net : Net) (start : RowsValue) (before later : List Entry) �
 rows_before net start before later =
     ap (λ es. fold (λ rows (entry : Entry). after net rows entry.message) start es) (take-append_seam before later ∙ sym (take-length before))
 
-at_seam : {V : Type 0} (before : List V) (v : V) (later : List V) → slice_get (before ++ v ∷ later) (length before) ≡ Some v
-at_seam before v later =
-    slice_get-get_or (before ++ v ∷ later) (length before) v (omega (arith, length-append before (v ∷ later))) ∙ ap Some (get_or-append_seam before v later v)
-
 -- where the entries stand that are left, they are told
 pub record EntriesThere (net : Net) (start : RowsValue) (feeds : ℕ) (before tail : List Entry) (place : Place) (rest : List ℕ) : Type 0 where
   pub behind : Place
@@ -177,7 +166,7 @@ entries_there net start feeds before (e ∷ tail) place rest legal each left =
       number = refl;
       feed = here.feed;
       line = here.line;
-      accepted = λ r refuses. legal.accepted (length before) e r (at_seam before e tail)
+      accepted = λ r refuses. legal.accepted (length before) e r (get_at before e tail)
           (subst (λ (rows : RowsValue). Refuses net rows (length before) e.message r) (sym (rows_before net start before (e ∷ tail))) refuses);
     } in
     let one = rules_there IsEntryLine (λ (s : Numbered). entry_text s.number s.entry) (IsNextEntry net start feeds before) kind.Entry (λ (s : Numbered). s.entry) said place more

@@ -3,6 +3,7 @@ use Rattle.std.proofs.Common.{◌≡◌, ℕ, zero, suc, ◌+◌, ◌-◌, ◌<�
 use Rattle.std.specs.List.{flat_map, range_with_len}
 use Rattle.std.proofs.Math.Seq.{drop-cons}
 use Rattle.std.specs.Prelude.{codes, Result, Ok, Err}
+use Rattle.dm_cert.specs.RunTexts.{Run, entries_text, logs_text, note_text, timetable_text, header_text, boards_text, heading_text, ending_text, run_text}
 use Rattle.dm_outside.specs.Printing.{joined, Gathers, Breaks, Prints}
 use Rattle.dm_outside.proofs.Printing.{prints_none, prints_then, prints_then_fault, prints_fault_at}
 
@@ -58,8 +59,16 @@ log_parts feed items stop = simp append-nil
 pub entry_parts : (n feed line message : List ℕ) → joined (codes "entry " ∷ n ∷ codes " feed " ∷ feed ∷ codes " line " ∷ line ∷ codes " " ∷ message ∷ (10 ∷ []) ∷ []) ≡ joined (codes "entry " ∷ n ∷ codes " feed " ∷ feed ∷ codes " line " ∷ line ∷ codes " " ∷ []) ++ (message ++ 10 ∷ [])
 entry_parts n feed line message = simp append_assoc
 
-pub run_parts : (a b c d e f g h : List ℕ) → joined (a ∷ b ∷ c ∷ d ∷ e ∷ f ∷ g ∷ h ∷ []) ≡ a ++ (b ++ (c ++ (d ++ (e ++ (f ++ (g ++ h))))))
+run_parts : (a b c d e f g h : List ℕ) → joined (a ∷ b ∷ c ∷ d ∷ e ∷ f ∷ g ∷ h ∷ []) ≡ a ++ (b ++ (c ++ (d ++ (e ++ (f ++ (g ++ h))))))
 run_parts a b c d e f g h = simp append-nil
+
+pub run_is : (run : Run) → run_text 2 run ≡
+    header_text 2 run.penalty (length run.logs) (length run.history) ++ (entries_text 1 run.history ++ (logs_text 2 1 run.logs ++ (boards_text (length run.notes)
+    ++ (flat_map note_text run.notes ++ (heading_text (length run.history) ++ (timetable_text run.net run.times ++ ending_text run.cost))))))
+unfolding run_text
+run_is run =
+    run_parts (header_text 2 run.penalty (length run.logs) (length run.history)) (entries_text 1 run.history) (logs_text 2 1 run.logs) (boards_text (length run.notes))
+    (flat_map note_text run.notes) (heading_text (length run.history)) (timetable_text run.net run.times) (ending_text run.cost)
 
 -- ---- what is still to come in a loop
 

@@ -6,7 +6,7 @@ ghost use Rattle.dm_outside.specs.Printing.{Prints, joined};
 ghost use Rattle.dm_cert.specs.PlanTexts.{line_end, spelling_of_plan};
 ghost use Rattle.dm_cert.specs.RunTexts.{spaced_id, reason_text, reply_text, item_text, feed_text, stop_text, log_text, logs_text, IsSpelledReason, IsSpelledReply, IsSpelledItem, IsSpelledLog};
 
-use crate::words::{put_number, put_numbers, put_pair};
+use crate::words::{put_number, put_numbers};
 use dm_base::ActId;
 use dm_cert::{FeedLog, LogItem, Reply, put_plan};
 use dm_feed::{FeedStop, Line, put_line};
@@ -61,10 +61,10 @@ fn put_reason<K: Sink>(sink: &mut K, page: &mut Page, why: &Refusal) -> Result<(
             put_number(sink, page, "unknown-change ", act.0 as u128, "")
         }
         Refusal::UnknownPair(one, other) => {
-            put_pair(sink, page, "unknown-pair ", one.0 as u128, other.0 as u128)
+            page.put_pair(sink, "unknown-pair ", (one.0 as u128, other.0 as u128))
         }
         Refusal::Passed(event, time) => {
-            put_pair(sink, page, "passed ", event.0 as u128, *time as u128)
+            page.put_pair(sink, "passed ", (event.0 as u128, *time as u128))
         }
         Refusal::NotPassed(event) => put_number(sink, page, "not-passed ", event.0 as u128, ""),
         Refusal::Back(clock) => put_number(sink, page, "back ", *clock as u128, ""),

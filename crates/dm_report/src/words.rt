@@ -1,5 +1,5 @@
 //! Words and numbers in print.
-ghost use Rattle.std.specs.Prelude.{◌≡◌, ◌∷◌, ◌++◌, [], codes};
+ghost use Rattle.std.specs.Prelude.{◌≡◌, ◌∷◌, ◌++◌, []};
 ghost use Rattle.std.specs.Fmt.{decimal};
 ghost use Rattle.dm_outside.specs.Printing.{Prints, joined};
 
@@ -40,26 +40,6 @@ pub fn put_numbers<'w, K: Sink>(
         Piece::Text(between),
         Piece::Number(second),
         Piece::Text(after),
-    ];
-    page.put(sink, &pieces)
-}
-
-/// Prints words and two numbers with a space between.
-pub fn put_pair<K: Sink>(
-    sink: &mut K,
-    page: &mut Page,
-    before: &str,
-    first: u128,
-    second: u128,
-) -> Result<(), WriteFault>
-    ensures { Prints K.taken K.faults sink.old sink.new page.old page.new result
-        (joined (before.now ∷ decimal first ∷ codes " " ∷ decimal second ∷ [])) }
-{
-    let pieces = [
-        Piece::Text(before),
-        Piece::Number(first),
-        Piece::Text(" "),
-        Piece::Number(second),
     ];
     page.put(sink, &pieces)
 }

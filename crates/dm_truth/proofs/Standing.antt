@@ -2,8 +2,7 @@
 use Rattle.std.proofs.Common.{◌≡◌, ℕ, ◌+◌, List, [], ◌∷◌, ◌++◌, length, Result, Ok, refl, sym, ap, subst, ◌∙◌, append_assoc, append-nil, length-append}
 use Rattle.dm_text.specs.Places.{Place}
 use Rattle.dm_text.specs.Judging.{Then, Times}
-use Rattle.dm_cert.specs.PlanTexts.{line_end}
-use Rattle.dm_cert.proofs.SpelledPlans.{HasLine}
+use Rattle.dm_cert.proofs.SpelledPlans.{HasLine, line_stands as line_tells}
 use Rattle.dm_check.specs.declared.faults.Fault.{Fault}
 use Rattle.dm_check.specs.declared.verdicts.BadKind.{BadKind}
 use Rattle.dm_check.specs.FalseRecords.{Reads, Rules}
@@ -25,15 +24,7 @@ pub line_stands : {V : Type 0} (spells : V → List ℕ → Type 0) (text : V �
 line_stands spells text v place rest has left = record {
   next = record { left = rest; line = place.line + 1 };
   left = refl;
-  told = record {
-    bytes = has.line;
-    stands = record {
-      whole = left ∙ (ap (λ xs. xs ++ rest) has.text_is ∙ append_assoc has.line line_end rest);
-      one_line = has.one_line;
-      counted = refl;
-    };
-    spelled = has.spelled;
-  };
+  told = line_tells spells text v place rest has left;
 }
 
 pub rule_stands : {V W : Type 0} (spells : V → List ℕ → Type 0) (text : V → List ℕ) (rule : V → Type 0) (k : BadKind) (gives : V → W) (v : V) (place : Place) (rest : List ℕ) → HasLine spells text v →

@@ -14,14 +14,14 @@ use Rattle.dm_rows.specs.Timetable.{IsLeast, time_at}
 use Rattle.dm_cert.specs.declared.notes.Note.{Note}
 use Rattle.dm_cert.specs.declared.replies.LogItem.{LogItem}
 use Rattle.dm_cert.specs.declared.replies.FeedLog.{FeedLog}
-use Rattle.dm_cert.specs.Answers.{Setting, rows_after, IsEntry}
+use Rattle.dm_cert.specs.Answers.{Setting, rows_after}
 use Rattle.dm_cert.specs.Logs.{kind_of, line_of, number_after, names, all_items, AreTrueAnswers, IsInOrder, AreTrueLogs}
 use Rattle.dm_cert.specs.Runs.{IsTrueNote, AreTrueNotes}
 use Rattle.dm_records.specs.RunLines.{Numbered, Timed}
 use Rattle.dm_check_answers.specs.Judging.{line_before, number_before}
 use Rattle.dm_check.specs.FalseRecords.{IsNextEntry, IsNextItem, AreNamed, IsNextNote, IsNextTime, entry_before}
 use Rattle.dm_records.proofs.Each.{Each, each_of_splits, all_there}
-use Rattle.dm_records.proofs.Named.{IsTrueBehind, named_somewhere}
+use Rattle.dm_records.proofs.Named.{named_somewhere, logs_behind, same_entry}
 
 -- ---- values at their places
 
@@ -36,21 +36,8 @@ pub rows_before : (s : Setting) (before later : List Entry) → rows_after s (be
 rows_before s before later =
     ap (λ es. fold (λ rows (entry : Entry). after s.net rows entry.message) s.start es) (take-append_seam before later ∙ sym (take-length before))
 
-pub logs_behind : (s : Setting) (history : List Entry) (logs : List FeedLog) → AreTrueLogs s history logs → Each (IsTrueBehind s history) [] logs
-logs_behind s history logs are =
-    each_of_splits (IsTrueBehind s history) logs
-    (λ before log later e. are.each (length before) log (ap (λ ls. slice_get ls (length before)) e ∙ at_seam before log later)) [] logs refl
-
 abbrev pub numbered_next : List Entry → Entry → Numbered
 numbered_next before entry = record { number = length before + 1; entry = entry }
-
-same_entry : (history : List Entry) (before : List Entry) (entry : Entry) (later : List Entry) (other : Entry) → history ≡ before ++ entry ∷ later → IsEntry history (length before + 1) other → other ≡ entry
-same_entry history before entry later other e is =
-    let place : (length before + 1) - 1 ≡ length before = omega arith in
-    let there : slice_get history (length before) ≡ Some other = subst (λ (k : ℕ). slice_get history k ≡ Some other) place is.1 in
-    let here : slice_get history (length before) ≡ Some entry = ap (λ es. slice_get es (length before)) e ∙ at_seam before entry later in
-    let both : Some other ≡ Some entry = sym there ∙ here in
-    cc
 
 module _ (s : Setting) (history : List Entry) (logs : List FeedLog) (legal : IsLegal s.net s.start history) (are : AreTrueLogs s history logs) where
   next_entry : (before : List Entry) (entry : Entry) (later : List Entry) → history ≡ before ++ entry ∷ later → IsNextEntry s (length logs) before (numbered_next before entry)

@@ -25,9 +25,9 @@ use Rattle.dm_records.proofs.Each.{Each, each_of_splits, each_both, all_there}
 use Rattle.dm_records.proofs.LinesSpelled.{counted, number_line, version_has_line}
 use Rattle.dm_truth.proofs.Lines.{word_line}
 use Rattle.dm_truth.proofs.Logs.{entry_told, note_told, time_told, log_told, IsPrintedLog}
-use Rattle.dm_records.proofs.Named.{IsTrueBehind}
+use Rattle.dm_records.proofs.Named.{IsTrueBehind, logs_behind}
 use Rattle.dm_truth.proofs.Standing.{Told, IsTold, line_stands, rule_stands, then_stands, all_stand}
-use Rattle.dm_truth.proofs.Truths.{numbered_next, entries_next, logs_behind, all_named, notes_next, timed_next, times_next}
+use Rattle.dm_truth.proofs.Truths.{numbered_next, entries_next, all_named, notes_next, timed_next, times_next}
 
 -- ---- lines with a number
 
