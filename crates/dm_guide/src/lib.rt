@@ -14,9 +14,14 @@
 //! it finds: it is safe, it ends, and `dm_search` judges all of it anew. It dives along the cheaper side of each violated
 //! choice, makes the choices better some at a time, and grows a tree where its bound is least, branching where the cost is
 //! known to rise most.
+//!
+//! A [`Searcher`] is one of those who look, and a [`Round`] what all of them do at once, each its part: all read it, and each changes
+//! nothing but itself. How a round is run is the caller's: `in_turn` has them play one after the other; in threads they may play
+//! at once. Want of memory of any of them ends the search.
 #![tactic(auto)]
 
 mod choices;
+mod climbing;
 mod diving;
 mod gaining;
 mod growing;
@@ -24,12 +29,18 @@ mod guiding;
 mod kicking;
 mod moving;
 mod noting;
-mod rooting;
+mod places;
+mod rounds;
 mod scouting;
+mod searchers;
+mod sharing;
 mod tasks;
+mod telling;
 mod tree;
 mod windows;
 
-pub use guiding::{Start, guide};
+pub use guiding::{Start, guide, in_turn};
+pub use rounds::Round;
+pub use searchers::Searcher;
 pub use tasks::Task;
 pub use tree::{Guide, Hint};

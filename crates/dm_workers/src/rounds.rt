@@ -1,0 +1,154 @@
+//! The rounds of a guide, played by several workers at once.
+ghost use Rattle.std.specs.Prelude.{◌≡◌, ◌≤◌, IfOk};
+ghost use Rattle.std.specs.Thread.{IsSync};
+ghost use Rattle.dm_guide.specs.Tasks.{task_of, IsPosedTask};
+ghost use Rattle.dm_rows.specs.Active.{HasNoCycle};
+ghost use Rattle.dm_search.specs.Moving.{IsOver};
+ghost use Rattle.dm_tree.specs.Plans.{IsTruePlan};
+ghost use Rattle.dm_workers.specs.Inside.Workers.{IsOwnCost};
+
+use dm_base::Cost;
+use dm_evaluate::Evaluator;
+use dm_guide::{Guide, Round, Searcher, Start, guide};
+use dm_search::{Task, evaluator_at_base, plan_with, searcher_at};
+use dm_times::{cost, least};
+use dm_tree::{Node, Plan};
+use std::alloc::AllocError;
+use std::thread;
+use std::thread::{Threads, join, join_mut};
+
+/// What the rows cost by themselves.
+fn own_cost(task: &Task<'_>) -> Result<Cost, AllocError>
+    requires posed { IsPosedTask task.now }
+    ensures { IfOk result (IsOwnCost (task_of task.now)) }
+{
+    match least(task.alloc, task.net, task.rows) {
+        Ok(times) => Ok(cost(task.net, task.rows, &times, task.penalty)),
+        Err(_no_times) => Err(AllocError),
+    }
+}
+
+/// What the rows cost by themselves, and so many searchers at the root, where there is room for a choice.
+pub(crate) fn begin<'t, R: Threads + Sync>(
+    rt: &R,
+    task: &Task<'t>,
+    workers: u32,
+) -> Result<(Cost, Vec<Searcher<'t>>), AllocError>
+    requires posed { IsPosedTask task.now }
+    ensures own { IfOk result (λ r. IsOwnCost (task_of task.now) r.0) }
+{
+    if task.budget < 3 {
+        return Ok((own_cost(task)?, Vec::new(task.alloc)));
+    }
+    let many = workers as usize;
+    if many < 2 {
+        let own = own_cost(task)?;
+        return Ok((own, searchers_of(rt, task, many)?));
+    }
+    let (own, searchers) = join(rt, || own_cost(task), || searchers_of(rt, task, many));
+    Ok((own?, searchers?))
+}
+
+/// So many searchers, each made in a thread of its own where one can be made.
+fn searchers_of<'t, R: Threads + Sync>(
+    rt: &R,
+    task: &Task<'t>,
+    many: usize,
+) -> Result<Vec<Searcher<'t>>, AllocError>
+    requires { IsPosedTask task.now }
+{
+    let made = thread::map_indices(
+        rt,
+        task.alloc,
+        many,
+        &|place: usize| searcher_at(task, place, many),
+    )?;
+    let mut all = Vec::new(task.alloc);
+    for searcher in made {
+        all.push(searcher?)?;
+    }
+    Ok(all)
+}
+
+/// A true plan for a task, with an entry, whose rows cost so much by themselves: the searchers look for a guide, in rounds that they
+/// play at once, and an evaluator that is made meanwhile judges.
+pub(crate) fn plan_at_once<'t, R: Threads + Sync>(
+    rt: &R,
+    task: &Task<'t>,
+    entry: u32,
+    own: Cost,
+    searchers: &mut [Searcher<'t>],
+) -> Result<Plan, AllocError>
+    requires posed { IsPosedTask task.now }
+    requires no_cycle { HasNoCycle task.now.net.now task.now.rows.now }
+    requires some { 1 ≤ task.now.budget }
+    requires own { IsOwnCost (task_of task.now) own }
+    ensures plan { IfOk result (IsTruePlan (task_of task.now)) }
+    ensures entry { IfOk result (λ plan. plan.entry ≡ entry) }
+{
+    let (evaluator, guide) = judge_and_guide(rt, task, own, searchers)?;
+    let mut evaluator = evaluator;
+    plan_with(task, entry, own, &mut evaluator, &guide)
+}
+
+/// An evaluator at the base, and a guide, at once where there are several searchers.
+fn judge_and_guide<'t, R: Threads + Sync>(
+    rt: &R,
+    task: &Task<'t>,
+    own: Cost,
+    searchers: &mut [Searcher<'t>],
+) -> Result<(Evaluator, Guide), AllocError>
+    requires posed { IsPosedTask task.now }
+    ensures evaluator { IfOk result (λ r. IsOver (task_of task.now) r.0) }
+{
+    if searchers.len() < 2 {
+        let guide = guided(rt, task, own, searchers)?;
+        return Ok((evaluator_at_base(task)?, guide));
+    }
+    let (evaluator, guide) = join(
+        rt,
+        || evaluator_at_base(task),
+        || guided(rt, task, own, searchers),
+    );
+    Ok((evaluator?, guide?))
+}
+
+/// What guides a search from the root.
+fn guided<'t, R: Threads + Sync>(
+    rt: &R,
+    task: &Task<'t>,
+    own: Cost,
+    searchers: &mut [Searcher<'t>],
+) -> Result<Guide, AllocError> {
+    let run = |round: &Round, first: &mut Searcher<'_>, others: &mut [Searcher<'_>]|
+        requires { IsSync R.row }
+    { play_at_once(rt, round, first, others) };
+    let start = Start {
+        nodes: &[Node::Hole],
+        choices: &[],
+        cost: own,
+    };
+    guide(task.alloc, searchers, &run, start, task.budget)
+}
+
+/// Each searcher plays its part of a round, in a thread of its own where one can be made. This one starts them all, and plays the
+/// first's part then.
+#[cycle(play)]
+fn play_at_once<R: Threads + Sync>(
+    rt: &R,
+    round: &Round,
+    first: &mut Searcher<'_>,
+    others: &mut [Searcher<'_>],
+) {
+    let Some((last, rest)) = others.split_last_mut() else {
+        play_one(round, first);
+        return;
+    };
+    let mut there = || play_one(round, last);
+    let mut here = || play_at_once(rt, round, first, rest);
+    join_mut(rt, &mut there, &mut here);
+}
+
+fn play_one(round: &Round, searcher: &mut Searcher<'_>) {
+    searcher.play(round);
+}
