@@ -52,8 +52,8 @@ pub fn plan(
 
 /// A true plan for the rows of a snapshot, with the snapshot's entry and a tree of at most `budget` nodes, of which there are
 /// 1 to 16,384. It searches each hole of the tree that it is given, and each open leaf while there is room for two nodes more:
-/// first those that cost least. The choices that it begins with cost no more than the rows by themselves; a tree of one hole and no choices
-/// will do where the rows have no cycle. The penalty is in seconds for each passenger, at most 1,000,000.
+/// first those that cost least. The choices that it begins with cost no more than the rows by themselves; a tree of one hole and
+/// no choices will do where the rows have no cycle. The penalty is in seconds for each passenger, at most 1,000,000.
 pub fn finish(
     alloc: Global,
     net: &Network,
@@ -102,8 +102,8 @@ pub fn whole<'t>(
     }
 }
 
-/// A true plan for a task, with an entry. The rows have no cycle, and the budget is at least 1. It is what is made of a tree of one
-/// hole and no choices.
+/// A true plan for a task, with an entry. The rows have no cycle, and the budget is at least 1. It is what is made of a tree of
+/// one hole and no choices.
 pub fn plan_task(task: &Task<'_>, entry: u32) -> Result<Plan, AllocError>
     requires posed { IsPosedTask task.now }
     requires no_cycle { HasNoCycle task.now.net.now task.now.rows.now }
@@ -118,7 +118,7 @@ pub fn plan_task(task: &Task<'_>, entry: u32) -> Result<Plan, AllocError>
     finish_standing(task, entry, standing, &mut evaluator, &guide)
 }
 
-/// The same where the rows cost so much by themselves, by an evaluator of the task, and by what a guide says.
+/// The same where the rows cost so much by themselves, by an evaluator of the task and by what a guide says.
 pub fn plan_with(
     task: &Task<'_>,
     entry: u32,
@@ -158,8 +158,8 @@ fn standing_at_hole(task: &Task<'_>, own: Cost) -> Result<Standing, AllocError>
     Ok(Standing { nodes, best })
 }
 
-/// A true plan for a task, with an entry, from a tree and choices: what [`finish`] does for any task, by an evaluator of the task, and by
-/// what a guide says.
+/// A true plan for a task, with an entry, from a tree and choices: what [`finish`] does for any task, by an evaluator of the task
+/// and by what a guide says.
 pub fn finish_with(
     task: &Task<'_>,
     entry: u32,

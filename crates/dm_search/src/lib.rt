@@ -15,11 +15,12 @@
 //! of the snapshot's rows for the budget, with the snapshot's entry, or want of memory; how it searches is outside its
 //! clause. `plan` does so from nothing, for rows that have no cycle, and `plan_task` for a task: a true plan of it, in which
 //! every path begins with the task's base and what the base decides stays as it is. `finish_with` is `finish` of a task, and
-//! `plan_with` is `plan_task`, with the searchers of a guide and what runs their rounds. `whole` gives the task of a whole network.
+//! `plan_with` is `plan_task` where it is known what the rows cost by themselves; both go by what a guide says, with an
+//! evaluator of the task. `whole` gives the task of a whole network.
 //!
-//! `step_to` says what `step` does of a path behind the base of a task, in the time that an evaluator takes to go there from where it
-//! stands; `evaluator_at_base` makes one, and `searcher_at` makes it a guide's searcher. `BoundWord` and `Hand` are those of dm_bound: a
-//! word that several searches lower.
+//! `step_to` says what `step` does of a path behind the base of a task, in the time that an evaluator takes to go there from
+//! where it stands; `evaluator_at_base` makes one, and `searcher_at` makes of one a guide's searcher, of which nothing is
+//! promised. `BoundWord` and `Hand` are those of dm_bound: a word that several searches lower.
 //!
 //! A guide finds good choices and a tree that tells much; the tree is then gone through in preorder, each node judged anew
 //! by an evaluator that is brought from path to path; what is left of the budget goes, in traversals whose cost limit rises, to
