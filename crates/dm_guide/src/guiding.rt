@@ -54,7 +54,8 @@ pub fn in_turn<'t>(round: &Round, first: &mut Searcher<'t>, others: &mut [Search
     }
 }
 
-/// Good choices that cost less than those of the start, if the searchers find some. The first stands at the root before and after.
+/// Good choices that cost less than those of the start, if the searchers find some. The first stands at the root before and
+/// after.
 fn found_by<'t, F: Fn(&Round, &mut Searcher<'t>, &mut [Searcher<'t>])>(
     first: &mut Searcher<'t>,
     others: &mut [Searcher<'t>],

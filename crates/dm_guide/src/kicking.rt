@@ -138,8 +138,8 @@ impl Kicks {
     }
 }
 
-/// Decides the first violated choice on its cheaper side until nothing is violated. It is false where that costs more than this, or
-/// each side of a choice makes a cycle.
+/// Decides the first violated choice on its cheaper side until nothing is violated. It is false where that costs more than
+/// this, or each side of a choice makes a cycle.
 pub fn repair(scout: &mut Scout<'_>, most: Cost) -> Result<bool, AllocError> {
     for _ in 0..scout.choices().len() {
         if scout.cost() > most {

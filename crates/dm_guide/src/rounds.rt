@@ -9,8 +9,8 @@ use std::alloc::{AllocError, Global};
 #[derive(Drop)]
 pub struct Round {
     /// How many searchers have a part in it: all of them, or the first alone.
-    pub parts: usize,
-    pub work: Work,
+    pub(crate) parts: usize,
+    pub(crate) work: Work,
 }
 
 /// What there is to do.

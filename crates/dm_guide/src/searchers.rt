@@ -16,10 +16,10 @@ use std::alloc::{AllocError, Global};
 /// One of those who search together: nothing that it changes is another's.
 #[derive(Drop)]
 pub struct Searcher<'t> {
-    pub alloc: Global,
-    pub scout: Scout<'t>,
-    pub kicks: Kicks,
-    pub tree: Tree,
+    pub(crate) alloc: Global,
+    pub(crate) scout: Scout<'t>,
+    pub(crate) kicks: Kicks,
+    pub(crate) tree: Tree,
 
     /// Its place among all, the first being 0.
     place: usize,
@@ -29,8 +29,8 @@ pub struct Searcher<'t> {
 }
 
 impl<'t> Searcher<'t> {
-    /// The searcher at a place, from 0, among so many, of a task whose base an evaluator has decided, and nothing else. It has tried
-    /// its part of the choices that are violated there.
+    /// The searcher at a place, from 0, among so many, of a task whose base an evaluator has decided, and nothing else. It has
+    /// tried its part of the choices that are violated there.
     pub fn new(
         task: &Task<'t>,
         evaluator: Evaluator,
@@ -94,7 +94,7 @@ impl<'t> Searcher<'t> {
     }
 
     /// Want of memory, if a round met it.
-    pub fn check(&self) -> Result<(), AllocError> {
+    pub(crate) fn check(&self) -> Result<(), AllocError> {
         if self.is_short {
             Err(AllocError)
         } else {
@@ -138,7 +138,7 @@ impl<'t> Searcher<'t> {
     }
 
     /// Takes over what another has made better, where it still is.
-    pub fn take_over(&mut self, other: &Searcher<'t>) -> Result<(), AllocError> {
+    pub(crate) fn take_over(&mut self, other: &Searcher<'t>) -> Result<(), AllocError> {
         let told = &other.kicks.windows.told;
         for k in 0..told.groups() {
             self.kicks

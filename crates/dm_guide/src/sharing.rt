@@ -45,8 +45,8 @@ struct Placed {
     node: Grown,
 }
 
-/// The tree of at most `budget` nodes that grows from the nodes of a tree in preorder, and the best choices that it meets. The first
-/// searcher stands at the root.
+/// The tree of at most `budget` nodes that grows from the nodes of a tree in preorder, and the best choices that it meets. The
+/// first searcher stands at the root.
 pub fn grow<'t, F: Fn(&Round, &mut Searcher<'t>, &mut [Searcher<'t>])>(
     first: &mut Searcher<'t>,
     others: &mut [Searcher<'t>],
