@@ -16,6 +16,7 @@ ghost use Rattle.dm_search.specs.Inside.Ending.{closed, carried, least_with, bou
 
 use crate::Outcome;
 use crate::moving::{evaluator_at_base, searcher_at};
+use crate::parts::Hints;
 use crate::searching::{Best, Standing, traverse};
 use crate::walking::{behind, make, outcome_here};
 use dm_base::{Cost, Items};
@@ -139,7 +140,7 @@ pub fn plan_with(
 }
 
 /// The tree of one hole and no choices, with which the rows cost so much.
-fn standing_at_hole(task: &Task<'_>, own: Cost) -> Result<Standing, AllocError>
+pub(crate) fn standing_at_hole(task: &Task<'_>, own: Cost) -> Result<Standing, AllocError>
     requires posed { IsPosedTask task.now }
     requires no_cycle { HasNoCycle task.now.net.now task.now.rows.now }
     requires some { 1 ≤ task.now.budget }
@@ -210,8 +211,27 @@ fn finish_standing(
     ensures plan { IfOk result (IsTruePlan (task_of task.now)) }
     ensures entry { IfOk result (λ plan. plan.entry ≡ entry) }
 {
+    let improved = improved(task, evaluator, standing, guide)?;
+    let hints = Hints::whole(task.alloc, guide)?;
+    let judged = traverse(task, evaluator, improved, 0, hints)?;
+    finished(task, entry, judged, evaluator)
+}
+
+/// The plan of a tree and choices that stand, when it has been searched with nothing that guides.
+pub(crate) fn finished(
+    task: &Task<'_>,
+    entry: u32,
+    standing: Standing,
+    evaluator: &mut Evaluator,
+) -> Result<Plan, AllocError>
+    requires posed { IsPosedTask task.now }
+    requires stands { Stands (task_of task.now) standing.nodes.items standing.best.choices standing.best.cost }
+    requires evaluator { IsOver (task_of task.now) evaluator.old }
+    ensures plan { IfOk result (IsTruePlan (task_of task.now)) }
+    ensures entry { IfOk result (λ plan. plan.entry ≡ entry) }
+{
     task.net.sound();
-    let searched = search_with(task, evaluator, standing, guide)?;
+    let searched = search_on(task, evaluator, standing)?;
     plan_of(task.alloc, entry, searched)
 }
 
@@ -238,8 +258,8 @@ fn guide_alone(task: &Task<'_>, standing: &Standing) -> Result<Guide, AllocError
     )
 }
 
-/// Searches a tree until each open leaf that costs less than the best choices is one for which there is no room.
-fn search_with(
+/// The tree with the choices of a guide, where they cost less.
+pub(crate) fn improved(
     task: &Task<'_>,
     evaluator: &mut Evaluator,
     standing: Standing,
@@ -249,12 +269,25 @@ fn search_with(
     requires evaluator { IsOver (task_of task.now) evaluator.old }
     requires stands { Stands (task_of task.now) standing.nodes.items standing.best.choices standing.best.cost }
     ensures stands { IfOk result (λ s. Stands (task_of task.now) s.nodes.items s.best.choices s.best.cost) }
-    ensures used { IfOk result (λ s. AreUsedUp task.now.budget s.best.cost s.nodes.items) }
+    ensures evaluator { IsOver (task_of task.now) evaluator.new }
 {
     let path = behind(guide.path.as_slice(), task.base.len());
-    let improved = improve(task, evaluator, standing, path)?;
-    let guided = traverse(task, evaluator, improved, 0, guide)?;
-    let spread = traverse_all(task, evaluator, guided)?;
+    improve(task, evaluator, standing, path)
+}
+
+/// Searches a tree until each open leaf that costs less than the best choices is one for which there is no room.
+fn search_on(
+    task: &Task<'_>,
+    evaluator: &mut Evaluator,
+    standing: Standing,
+) -> Result<Standing, AllocError>
+    requires posed { IsPosedTask task.now }
+    requires evaluator { IsOver (task_of task.now) evaluator.old }
+    requires stands { Stands (task_of task.now) standing.nodes.items standing.best.choices standing.best.cost }
+    ensures stands { IfOk result (λ s. Stands (task_of task.now) s.nodes.items s.best.choices s.best.cost) }
+    ensures used { IfOk result (λ s. AreUsedUp task.now.budget s.best.cost s.nodes.items) }
+{
+    let spread = traverse_all(task, evaluator, standing)?;
     last_traversal(task, evaluator, spread)
 }
 
@@ -293,7 +326,8 @@ fn last_traversal(
 {
     let limit = standing.best.cost;
     let guide = Guide::new(task.alloc);
-    let searched = traverse(task, evaluator, standing, limit, &guide)?;
+    let hints = Hints::whole(task.alloc, &guide)?;
+    let searched = traverse(task, evaluator, standing, limit, hints)?;
     Ok(searched)
 }
 
@@ -370,7 +404,8 @@ fn traverse_all(
         let Some(limit) = next_limit(&standing.nodes, best, task.budget) else {
             return Ok(standing);
         };
-        standing = traverse(task, evaluator, standing, limit, &guide)?;
+        let hints = Hints::whole(task.alloc, &guide)?;
+        standing = traverse(task, evaluator, standing, limit, hints)?;
     }
     Ok(standing)
 }

@@ -175,7 +175,7 @@ pub(crate) fn behind(path: &[Decision], many: usize) -> &[Decision]
 }
 
 /// How many decisions the two have in common at the front.
-fn common_front(one: &[Decision], other: &[Decision]) -> usize
+pub(crate) fn common_front(one: &[Decision], other: &[Decision]) -> usize
     ensures { AreFronts one.now other.now result }
 {
     for (i, decision) in one.iter().enumerate() {

@@ -3,7 +3,7 @@ use Rattle.dm_search.proofs.Beside.{beside_is_task}
 use Rattle.dm_search.proofs.Limits.{at_most_itself}
 use Rattle.dm_search.proofs.Ended.{plan_is_true}
 use Rattle.dm_search.specs.Inside.Ending.{IsPlanOf}
-use Rattle.dm_search.proofs.finishing.finish_standing.Goals as goal
+use Rattle.dm_search.proofs.finishing.finished.Goals as goal
 
 pub returns-clause-plan : goal.returns-clause-plan
 returns-clause-plan c =
