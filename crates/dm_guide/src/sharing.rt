@@ -83,30 +83,41 @@ fn go_on<'t, F: Fn(&Round, &mut Searcher<'t>, &mut [Searcher<'t>])>(
             return Ok(());
         }
         let parts = others.len().saturating_add(1);
-        let work = Work::Leaves(leaves_of(first, &open, left, left <= few)?);
+        let many = if left <= few {
+            left
+        } else {
+            many_of(first.tree.expanded(), left, parts)
+        };
+        let work = Work::Leaves(leaves_of(first, &open, many, left)?);
         play(first, others, run, &Round { parts, work })?;
         merge(first, others)?;
     }
     Ok(())
 }
 
-/// The leaves of a round, where so many nodes may still be expanded.
+/// How many leaves a round before the last expands, where so many nodes were expanded and so many may still be: more where
+/// several searchers play, who are started anew for each round.
+fn many_of(expanded: u64, left: u64, parts: usize) -> u64 {
+    if parts > 1 {
+        left.saturating_sub(left / 4)
+            .min(expanded.saturating_mul(2))
+    } else {
+        (left / 2).min(expanded.saturating_add(1) / 2)
+    }
+}
+
+/// The leaves of a round, so many, where so many nodes may still be expanded. In the last round nothing below them is.
 fn leaves_of(
     first: &mut Searcher<'_>,
     open: &[Leaf],
+    many: u64,
     left: u64,
-    is_last: bool,
 ) -> Result<Leaves, AllocError> {
-    let many = if is_last {
-        left
-    } else {
-        (left / 2).min(first.tree.expanded().saturating_add(1) / 2)
-    };
     let chosen = cheapest(first.alloc, open, many.max(1))?;
     let known = first.tree.known(&chosen.nodes)?;
     Ok(Leaves {
         chosen: chosen.nodes,
-        limit: if is_last { 0 } else { chosen.limit },
+        limit: if many < left { chosen.limit } else { 0 },
         most: left,
         known,
     })
