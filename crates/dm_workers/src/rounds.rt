@@ -14,8 +14,7 @@ use dm_search::{Task, evaluator_at_base, plan_with, searcher_at};
 use dm_times::{cost, least};
 use dm_tree::{Node, Plan};
 use std::alloc::AllocError;
-use std::thread;
-use std::thread::{Threads, join, join_mut};
+use std::thread::{Threads, join};
 
 /// What the rows cost by themselves.
 fn own_cost(task: &Task<'_>) -> Result<Cost, AllocError>
@@ -43,35 +42,54 @@ pub(crate) fn begin<'t, R: Threads + Sync>(
     let many = workers as usize;
     if many < 2 {
         let own = own_cost(task)?;
-        return Ok((own, searchers_of(rt, task, many)?));
+        return Ok((own, searchers_of(rt, task, many, many)?));
     }
-    let (own, searchers) = join(rt, || own_cost(task), || searchers_of(rt, task, many));
+    let (own, searchers) = join(
+        rt,
+        || -> Result<Cost, AllocError>
+            requires { IsPosedTask task.now }
+            ensures { IfOk result (IsOwnCost (task_of task.entry.now)) }
+        { own_cost(task) },
+        || -> Result<Vec<Searcher<'t>>, AllocError>
+            requires { IsSync R.row × IsPosedTask task.now }
+        { searchers_of(rt, task, many, many) },
+    );
     Ok((own?, searchers?))
 }
 
-/// So many searchers, each made in a thread of its own where one can be made.
+/// The first so many of many searchers, each made in a thread of its own where one can be made. This one starts them all, and
+/// makes the first then.
+#[cycle(make)]
 fn searchers_of<'t, R: Threads + Sync>(
     rt: &R,
     task: &Task<'t>,
+    count: usize,
     many: usize,
 ) -> Result<Vec<Searcher<'t>>, AllocError>
     requires { IsPosedTask task.now }
 {
-    let made = thread::map_indices(
-        rt,
-        task.alloc,
-        many,
-        &|place: usize| searcher_at(task, place, many),
-    )?;
-    let mut all = Vec::new(task.alloc);
-    for searcher in made {
-        all.push(searcher?)?;
+    if count < 2 {
+        let mut all = Vec::with_capacity(task.alloc, many)?;
+        all.push(searcher_at(task, 0, many)?)?;
+        return Ok(all);
     }
+    let last = count - 1;
+    let (searcher, before) = join(
+        rt,
+        || -> Result<Searcher<'t>, AllocError>
+            requires { IsPosedTask task.now }
+        { searcher_at(task, last, many) },
+        || -> Result<Vec<Searcher<'t>>, AllocError>
+            requires { IsSync R.row × IsPosedTask task.now }
+        { searchers_of(rt, task, last, many) },
+    );
+    let mut all = before?;
+    all.push(searcher?)?;
     Ok(all)
 }
 
-/// A true plan for a task, with an entry, whose rows cost so much by themselves: the searchers look for a guide, in rounds that they
-/// play at once, and an evaluator that is made meanwhile judges.
+/// A true plan for a task, with an entry, whose rows cost so much by themselves: the searchers look for a guide, in rounds that
+/// they play at once, and an evaluator that is made meanwhile judges.
 pub(crate) fn plan_at_once<'t, R: Threads + Sync>(
     rt: &R,
     task: &Task<'t>,
@@ -107,8 +125,13 @@ fn judge_and_guide<'t, R: Threads + Sync>(
     }
     let (evaluator, guide) = join(
         rt,
-        || evaluator_at_base(task),
-        || guided(rt, task, own, searchers),
+        || -> Result<Evaluator, AllocError>
+            requires { IsPosedTask task.now }
+            ensures { IfOk result (IsOver (task_of task.entry.now)) }
+        { evaluator_at_base(task) },
+        || -> Result<Guide, AllocError>
+            requires { IsSync R.row }
+        { guided(rt, task, own, searchers) },
     );
     Ok((evaluator?, guide?))
 }
@@ -144,9 +167,13 @@ fn play_at_once<R: Threads + Sync>(
         play_one(round, first);
         return;
     };
-    let mut there = || play_one(round, last);
-    let mut here = || play_at_once(rt, round, first, rest);
-    join_mut(rt, &mut there, &mut here);
+    join(
+        rt,
+        move || play_one(round, last),
+        move ||
+            requires { IsSync R.row }
+        { play_at_once(rt, round, first, rest) },
+    );
 }
 
 fn play_one(round: &Round, searcher: &mut Searcher<'_>) {

@@ -12,6 +12,7 @@ ghost use Rattle.dm_workers.specs.Inside.Workers.{IsOwnCost};
 ghost use Rattle.dm_workers.specs.Inside.Found.{IsFound};
 
 use crate::finding::{Found, find_nodes};
+use crate::pace::Pace;
 use crate::rounds::{begin, plan_at_once};
 use crate::working::Best;
 use dm_base::Cost;
@@ -28,9 +29,9 @@ use std::thread::Threads;
 /// A root where more choices are violated than this is not searched from deques: so few branchings do not end it.
 const FEW: usize = 64;
 
-/// A true plan for the rows of a snapshot, which have no cycle, with the snapshot's entry and a tree of at most `budget` nodes, of
-/// which there are 1 to 16,384, searched by 1 to 16 workers in threads of their own. The penalty is in seconds for each passenger, at
-/// most 1,000,000.
+/// A true plan for the rows of a snapshot, which have no cycle, with the snapshot's entry and a tree of at most `budget` nodes,
+/// of which there are 1 to 16,384, searched by 1 to 16 workers in threads of their own. The penalty is in seconds for each
+/// passenger, at most 1,000,000.
 pub fn search<R: Threads + Wait + Sync, H: Hold + Sync>(
     rt: &R,
     alloc: Global,
@@ -54,8 +55,8 @@ pub fn search<R: Threads + Wait + Sync, H: Hold + Sync>(
     search_task(rt, &task, snapshot.entry, workers, gate)
 }
 
-/// The same for a task, with an entry. A search that the workers end is the plan's tree; else it is searched anew from the root. What
-/// choices they had found by then hangs on whose turn it was, so that these are not taken up.
+/// The same for a task, with an entry. A search that the workers end is the plan's tree; else it is searched anew from the root.
+/// What choices they had found by then hangs on whose turn it was, so that these are not taken up.
 pub fn search_task<R: Threads + Wait + Sync, H: Hold + Sync>(
     rt: &R,
     task: &Task<'_>,
@@ -72,12 +73,14 @@ pub fn search_task<R: Threads + Wait + Sync, H: Hold + Sync>(
 {
     let (own, searchers) = begin(rt, task, workers)?;
     let mut searchers = searchers;
-    if is_small(searchers.as_mut_slice())? {
-        let found = find_nodes(rt, task, own, workers, gate)?;
-        let (partial, best) = begun(task, own, found)?;
-        if is_whole(&partial) {
-            return finish_alone(task, entry, partial, best);
-        }
+    let pace = Pace::new();
+    if !is_small(searchers.as_mut_slice())? {
+        pace.stop();
+    }
+    let found = find_nodes(rt, task, own, workers, &pace, gate)?;
+    let (partial, best) = begun(task, own, found)?;
+    if is_whole(&partial) {
+        return finish_alone(task, entry, partial, best);
     }
     plan_at_once(rt, task, entry, own, searchers.as_mut_slice())
 }
@@ -90,7 +93,8 @@ fn is_small(searchers: &mut [Searcher<'_>]) -> Result<bool, AllocError> {
     }
 }
 
-/// The tree that a search goes on from, and the choices: the workers' tree where it is whole and keeps to the budget, and else one hole.
+/// The tree that a search goes on from, and the choices: the workers' tree where it is whole and keeps to the budget, and else
+/// one hole.
 fn begun(task: &Task<'_>, own: Cost, found: Found) -> Result<(Partial, Best), AllocError>
     requires posed { IsPosedTask task.now }
     requires no_cycle { HasNoCycle task.now.net.now task.now.rows.now }
