@@ -50,7 +50,7 @@ pub(crate) fn begin<'t, R: Threads + Sync>(
             requires { IsPosedTask task.now }
             ensures { IfOk result (IsOwnCost (task_of task.entry.now)) }
         { own_cost(task) },
-        || -> Result<Vec<Searcher<'t>>, AllocError>
+        ||
             requires { IsSync R.row × IsPosedTask task.now }
         { searchers_of(rt, task, many, many) },
     );
@@ -76,10 +76,10 @@ fn searchers_of<'t, R: Threads + Sync>(
     let last = count - 1;
     let (searcher, before) = join(
         rt,
-        || -> Result<Searcher<'t>, AllocError>
+        ||
             requires { IsPosedTask task.now }
         { searcher_at(task, last, many) },
-        || -> Result<Vec<Searcher<'t>>, AllocError>
+        ||
             requires { IsSync R.row × IsPosedTask task.now }
         { searchers_of(rt, task, last, many) },
     );
