@@ -14,7 +14,7 @@ use dm_search::{Task, evaluator_at_base, plan_with, searcher_at};
 use dm_times::{cost, least};
 use dm_tree::{Node, Plan};
 use std::alloc::AllocError;
-use std::thread::{Threads, join};
+use std::thread::{Threads, join, join_mut};
 
 /// What the rows cost by themselves.
 fn own_cost(task: &Task<'_>) -> Result<Cost, AllocError>
@@ -44,16 +44,14 @@ pub(crate) fn begin<'t, R: Threads + Sync>(
         let own = own_cost(task)?;
         return Ok((own, searchers_of(rt, task, many, many)?));
     }
-    let (own, searchers) = join(
-        rt,
-        || -> Result<Cost, AllocError>
-            requires { IsPosedTask task.now }
-            ensures { IfOk result (IsOwnCost (task_of task.entry.now)) }
-        { own_cost(task) },
-        ||
-            requires { IsSync R.row × IsPosedTask task.now }
-        { searchers_of(rt, task, many, many) },
-    );
+    let mut cost = || -> Result<Cost, AllocError>
+        requires { IsPosedTask task.now }
+        ensures { IfOk result (IsOwnCost (task_of task.entry.now)) }
+    { own_cost(task) };
+    let mut make = ||
+        requires { IsSync R.row × IsPosedTask task.now }
+    { searchers_of(rt, task, many, many) };
+    let (own, searchers) = join_mut(rt, &mut cost, &mut make);
     Ok((own?, searchers?))
 }
 
@@ -123,16 +121,14 @@ fn judge_and_guide<'t, R: Threads + Sync>(
         let guide = guided(rt, task, own, searchers)?;
         return Ok((evaluator_at_base(task)?, guide));
     }
-    let (evaluator, guide) = join(
-        rt,
-        || -> Result<Evaluator, AllocError>
-            requires { IsPosedTask task.now }
-            ensures { IfOk result (IsOver (task_of task.entry.now)) }
-        { evaluator_at_base(task) },
-        || -> Result<Guide, AllocError>
-            requires { IsSync R.row }
-        { guided(rt, task, own, searchers) },
-    );
+    let mut judge = || -> Result<Evaluator, AllocError>
+        requires { IsPosedTask task.now }
+        ensures { IfOk result (IsOver (task_of task.entry.now)) }
+    { evaluator_at_base(task) };
+    let mut look = || -> Result<Guide, AllocError>
+        requires { IsSync R.row }
+    { guided(rt, task, own, searchers) };
+    let (evaluator, guide) = join_mut(rt, &mut judge, &mut look);
     Ok((evaluator?, guide?))
 }
 
