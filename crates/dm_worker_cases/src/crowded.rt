@@ -12,7 +12,7 @@ use dm_outside::OpenGate;
 use dm_rows::{Message, Snapshot};
 use dm_samples::{Failure, generated_day, hear, network_of, rows_on_time};
 use dm_tree::{Mark, Plan};
-use std::alloc::Global;
+use std::alloc::{AllocError, Global};
 use std::sync::Wait;
 use std::thread::Threads;
 
@@ -36,7 +36,8 @@ pub fn crowd_is_planned<R: Threads + Wait + Sync + AllocGlobal>(
 ) -> Result<(), Failure>
     requires { (1 ≤ workers) × (workers ≤ WORKERS) }
 {
-    let net = crowd(rt.alloc())?;
+    let (events, activities) = crowd(rt.alloc())?;
+    let net = network_of(rt.alloc(), events, activities)?;
     let late = late_rows(rt.alloc(), &net)?;
     let gate = Passing::new(rt.alloc(), workers)?;
     let plan = planned(rt, &net, &late, workers, DAY_BUDGET, &gate)?;
@@ -98,8 +99,8 @@ fn late_day(alloc: Global, net: &Network) -> Result<Snapshot, Failure>
     })
 }
 
-/// The network of a train from stop 1 to stop 2, and of those that leave stop 2 half a minute after it has come.
-fn crowd(alloc: Global) -> Result<Network, Failure> {
+/// The records of a train from stop 1 to stop 2, and of those that leave stop 2 half a minute after it has come.
+fn crowd(alloc: Global) -> Result<(Vec<EventRow>, Vec<ActRow>), AllocError> {
     let mut events = Vec::new(alloc);
     let mut activities = Vec::new(alloc);
     events.push(event(1, EventKind::Departure, 100, 10_000, 1))?;
@@ -113,7 +114,7 @@ fn crowd(alloc: Global) -> Result<Network, Failure> {
         activities.push(drive)?;
         activities.push(activity(departure + 1, ActKind::Change, 2, departure, 20))?;
     }
-    network_of(alloc, events, activities)
+    Ok((events, activities))
 }
 
 fn event(id: u32, kind: EventKind, time: u64, weight: u64, stop: u32) -> EventRow {
