@@ -3,6 +3,7 @@ ghost use Rattle.std.specs.Prelude.{◌<◌, length};
 ghost use Rattle.dm_evaluate.specs.Evaluator.{IsEvaluatorOf};
 
 use crate::moving::leaving;
+use crate::places::{NOWHERE, Place};
 use dm_base::{ActKind, Secs};
 use dm_evaluate::Evaluator;
 use dm_network::Network;
@@ -35,10 +36,12 @@ struct Sides {
 
     /// The side that the rows have.
     own: Side,
-    start: usize,
-    middle: usize,
-    end: usize,
-    ends: Ends,
+    start: Place,
+    middle: Place,
+    end: Place,
+    tail: Place,
+    head: Place,
+    when: Secs,
 }
 
 /// The tail and the head of a change, or the two events of a pair, and for when the first of them is scheduled, in seconds.
@@ -56,10 +59,10 @@ pub struct Choices {
     acts: Vec<usize>,
 
     /// The number of the choice to which an activity belongs, by place.
-    numbers: Vec<Option<usize>>,
+    numbers: Vec<Place>,
 
     /// The number of a pair's choice, by place of the pair.
-    pair_numbers: Vec<Option<usize>>,
+    pair_numbers: Vec<Place>,
 }
 
 impl Choices {
@@ -78,7 +81,7 @@ impl Choices {
         requires { IsEvaluatorOf net.now evaluator.now }
     {
         self.sides.reserve(net.pairs())?;
-        self.numbers.resize(net.activities(), None)?;
+        self.numbers.resize(net.activities(), NOWHERE)?;
         self.pair_numbers.reserve(net.pairs())?;
         self.add_changes(net, evaluator)?;
         self.add_pairs(net, evaluator)
@@ -122,10 +125,12 @@ impl Choices {
         self.sides.push(Sides {
             choice,
             own: side_for(evaluator.rows().kept(a)),
-            start,
-            middle: end,
-            end,
-            ends: ends_of(net, activity.tail, activity.head),
+            start: Place::of(start),
+            middle: Place::of(end),
+            end: Place::of(end),
+            tail: Place::of(activity.tail),
+            head: Place::of(activity.head),
+            when: when_of(net, activity.tail),
         })?;
         Ok(())
     }
@@ -136,10 +141,10 @@ impl Choices {
     {
         let choice = choice_of_pair(net, p);
         if !evaluator.is_open(net, choice) {
-            self.pair_numbers.push(None)?;
+            self.pair_numbers.push(NOWHERE)?;
             return Ok(());
         }
-        self.pair_numbers.push(Some(self.sides.len()))?;
+        self.pair_numbers.push(Place::of(self.sides.len()))?;
         let pair = net.pair(p);
         let (small, large) = (pair.small, pair.large);
         let start = self.acts.len();
@@ -150,10 +155,12 @@ impl Choices {
         self.sides.push(Sides {
             choice,
             own: side_for(evaluator.rows().small_first(p)),
-            start,
-            middle,
-            end,
-            ends: ends_of(net, small, large),
+            start: Place::of(start),
+            middle: Place::of(middle),
+            end: Place::of(end),
+            tail: Place::of(small),
+            head: Place::of(large),
+            when: when_of(net, small),
         })?;
         Ok(())
     }
@@ -172,7 +179,7 @@ impl Choices {
     fn add_act(&mut self, a: usize) -> Result<(), AllocError> {
         self.acts.push(a)?;
         if let Some(number) = self.numbers.get_mut(a) {
-            *number = Some(self.sides.len());
+            *number = Place::of(self.sides.len());
         }
         Ok(())
     }
@@ -192,7 +199,7 @@ impl Choices {
     /// The number of the choice to which an activity belongs.
     pub fn number(&self, act: usize) -> Option<usize> {
         match self.numbers.get(act) {
-            Some(number) => *number,
+            Some(number) => number.get(),
             None => None,
         }
     }
@@ -201,7 +208,11 @@ impl Choices {
     pub fn find(&self, net: &Network, choice: Choice) -> Option<usize> {
         match place_of_choice(net, choice) {
             Some(ChoicePlace::Change(act)) => self.number(act),
-            Some(ChoicePlace::Pair(pair)) => self.pair_numbers.get(pair).copied().flatten(),
+            Some(ChoicePlace::Pair(pair)) => self
+                .pair_numbers
+                .get(pair)
+                .copied()
+                .and_then(Place::get),
             None => None,
         }
     }
@@ -209,7 +220,11 @@ impl Choices {
     /// The two events of a choice.
     pub fn ends(&self, i: usize) -> Option<Ends> {
         match self.sides.get(i) {
-            Some(sides) => Some(sides.ends),
+            Some(sides) => Some(Ends {
+                tail: sides.tail.index(),
+                head: sides.head.index(),
+                when: sides.when,
+            }),
             None => None,
         }
     }
@@ -238,8 +253,8 @@ impl Choices {
             return &[];
         };
         let bound = match side {
-            Side::First => self.acts.get(sides.start..sides.middle),
-            Side::Second => self.acts.get(sides.middle..sides.end),
+            Side::First => self.acts.get(sides.start.index()..sides.middle.index()),
+            Side::Second => self.acts.get(sides.middle.index()..sides.end.index()),
         };
         match bound {
             Some(acts) => acts,
@@ -248,14 +263,13 @@ impl Choices {
     }
 }
 
-/// Two events, and for when the first is scheduled.
-fn ends_of(net: &Network, tail: usize, head: usize) -> Ends {
-    let when = if tail < net.events() {
-        net.event(tail).time
+/// For when an event is scheduled.
+fn when_of(net: &Network, event: usize) -> Secs {
+    if event < net.events() {
+        net.event(event).time
     } else {
         0
-    };
-    Ends { tail, head, when }
+    }
 }
 
 /// The first side where it is so, and else the second.

@@ -6,41 +6,55 @@ use dm_base::Cost;
 use std::alloc::{AllocError, Global};
 
 /// A gain that stands for no limit.
-const LIMIT: Cost = 1_152_921_504_606_846_976;
+const LIMIT: u64 = 1_152_921_504_606_846_976;
 
 /// What deciding a choice on either side added to the cost when it was tried last.
 #[derive(Clone, Copy)]
 pub struct Gains {
-    pub first: Cost,
-    pub second: Cost,
+    pub first: u64,
+    pub second: u64,
 }
 
 impl Gains {
     /// The gains where either side costs so much.
     pub fn over(cost: Cost, first: Cost, second: Cost) -> Gains {
         Gains {
-            first: first.saturating_sub(cost).min(LIMIT),
-            second: second.saturating_sub(cost).min(LIMIT),
+            first: gain(first.saturating_sub(cost)),
+            second: gain(second.saturating_sub(cost)),
         }
     }
 
-    pub fn larger(&self) -> Cost {
+    pub fn larger(&self) -> u64 {
         self.first.max(self.second)
     }
 
     /// Twice the smaller gain and once the larger, neither counting for more than the cap.
-    pub fn promise(&self, cap: Cost) -> Cost {
+    pub fn promise(&self, cap: u64) -> u64 {
         let low = self.first.min(self.second).min(cap);
         let high = self.first.max(self.second).min(cap);
         low.saturating_mul(2).saturating_add(high)
     }
 
     /// How far the two gains are apart.
-    pub fn regret(&self) -> Cost {
+    pub fn regret(&self) -> u64 {
         let low = self.first.min(self.second);
         self.first.max(self.second).saturating_sub(low)
     }
 }
+
+/// A gain, or the limit where it is more.
+pub fn gain(more: Cost) -> u64 {
+    match u64::try_from(more) {
+        Ok(gain) => gain.min(LIMIT),
+        Err(_) => LIMIT,
+    }
+}
+
+/// No gains: the choice was not tried.
+const UNTRIED: Gains = Gains {
+    first: u64::MAX,
+    second: u64::MAX,
+};
 
 /// Tries both sides of a choice.
 pub fn try_both(scout: &mut Scout<'_>, i: usize) -> Gains {
@@ -53,14 +67,14 @@ pub fn try_both(scout: &mut Scout<'_>, i: usize) -> Gains {
 /// The gains of each choice that was tried.
 #[derive(Drop)]
 pub struct Table {
-    gains: Vec<Option<Gains>>,
+    gains: Vec<Gains>,
 }
 
 impl Table {
     /// A table of so many choices, of which none was tried.
     pub fn new(alloc: Global, choices: usize) -> Result<Table, AllocError> {
         Ok(Table {
-            gains: vec![in alloc; None; choices]?,
+            gains: vec![in alloc; UNTRIED; choices]?,
         })
     }
 
@@ -70,13 +84,20 @@ impl Table {
         })
     }
 
+    pub fn len(&self) -> usize {
+        self.gains.len()
+    }
+
     pub fn get(&self, i: usize) -> Option<Gains> {
-        self.gains.get(i).copied().flatten()
+        match self.gains.get(i) {
+            Some(gains) if gains.first != u64::MAX => Some(*gains),
+            _ => None,
+        }
     }
 
     pub fn set(&mut self, i: usize, gains: Gains) {
         if let Some(slot) = self.gains.get_mut(i) {
-            *slot = Some(gains);
+            *slot = gains;
         }
     }
 }
@@ -93,7 +114,7 @@ pub enum By {
 pub struct Scores {
     by: By,
     leaves: usize,
-    tree: Vec<Cost>,
+    tree: Vec<u64>,
 }
 
 impl Scores {
@@ -112,7 +133,7 @@ impl Scores {
         })
     }
 
-    fn at(&self, place: usize) -> Cost {
+    fn at(&self, place: usize) -> u64 {
         match self.tree.get(place) {
             Some(score) => *score,
             None => 0,
@@ -120,7 +141,7 @@ impl Scores {
     }
 
     /// Sets the score of a choice, and the greatest ones above it.
-    fn set(&mut self, i: usize, score: Cost) {
+    fn set(&mut self, i: usize, score: u64) {
         let mut place = i.saturating_add(self.leaves);
         let mut greatest = score;
         for _ in 0..64 {
@@ -147,7 +168,7 @@ impl Scores {
             0
         } else {
             match (table.get(i), self.by) {
-                (None, _) => Cost::MAX,
+                (None, _) => u64::MAX,
                 (Some(gains), By::Promise) => gains.promise(LIMIT).saturating_add(1),
                 (Some(gains), By::Regret) => gains.regret().saturating_add(1),
             }

@@ -1,29 +1,27 @@
-//! A tree that grows where its bound is least.
+//! A tree that grows.
 ghost use Rattle.std.specs.Prelude.{◌≤◌, length};
 
 use crate::choices::Side;
-use crate::gaining::{By, Gains, Scores, Table, try_both};
+use crate::gaining::{By, Gains, Scores, Table, gain, try_both};
+use crate::places::{NOWHERE, Place};
 use crate::scouting::Scout;
 use crate::tree::{Found, Guide, Hint};
 use dm_base::Cost;
 use dm_tree::Node;
 use std::alloc::{AllocError, Global};
 
-/// How many nodes are expanded best first before the rounds, and how few are left for the last round.
-const FIRST: u64 = 16;
-
 /// A node, and the last decision of its path.
 #[derive(Clone, Copy)]
-struct Grown {
-    parent: usize,
-    depth: usize,
-    number: usize,
+pub struct Grown {
+    pub parent: Place,
+    depth: Place,
+    number: Place,
     side: Side,
     cost: Cost,
 
     /// A choice that is violated there, or the one on which it branches.
-    choice: Option<usize>,
-    below: Option<usize>,
+    choice: Place,
+    pub below: Place,
 
     /// Whether it is a leaf that may be branched on.
     is_open: bool,
@@ -31,54 +29,82 @@ struct Grown {
 
 /// An open leaf, and what it costs.
 #[derive(Clone, Copy)]
-struct Leaf {
-    cost: Cost,
-    node: usize,
+pub struct Leaf {
+    pub cost: Cost,
+    pub node: usize,
+}
+
+/// The gains of a choice that was tried.
+#[derive(Clone, Copy)]
+pub struct Change {
+    pub number: usize,
+    pub gains: Gains,
 }
 
 /// A tree that grows, the gains of the choices, and the best choices that it has met.
 #[derive(Drop)]
-struct Tree {
-    alloc: Global,
-    nodes: Vec<Grown>,
-    table: Table,
+pub struct Tree {
+    pub alloc: Global,
+    pub nodes: Vec<Grown>,
+    pub table: Table,
     scores: Scores,
-    best: Found,
+    pub best: Found,
 
     /// The nodes from below the root down to where the scout stands.
-    here: Vec<usize>,
+    pub here: Vec<usize>,
 
     /// How many nodes were expanded.
-    expanded: u64,
-}
+    pub expanded: u64,
 
-/// The tree of at most `budget` nodes that grows from the nodes of a tree in preorder, and the best choices that it meets. The scout
-/// stands at the root.
-pub fn grow(
-    alloc: Global,
-    scout: &mut Scout<'_>,
-    nodes: &[Node],
-    table: Table,
-    best: Found,
-    budget: u64,
-) -> Result<Guide, AllocError> {
-    let mut tree = Tree {
-        alloc,
-        nodes: Vec::new(alloc),
-        scores: Scores::new(alloc, By::Promise, scout.choices().len())?,
-        table,
-        best,
-        here: Vec::new(alloc),
-        expanded: 0,
-    };
-    scout.note_violated()?;
-    tree.take_up(scout, nodes)?;
-    tree.begin(scout, budget)?;
-    tree.go_on(scout, budget)?;
-    tree.told(scout)
+    /// How many nodes it had, and which of these were to be expanded, when the round began.
+    pub before: usize,
+    pub chosen: Vec<usize>,
+
+    /// The gains that have come since the round began, where another searcher is told of them.
+    pub changes: Vec<Change>,
+    pub tells: bool,
 }
 
 impl Tree {
+    /// No tree yet, among so many choices, of which none was tried, with room for so many nodes.
+    pub fn new(
+        alloc: Global,
+        choices: usize,
+        room: usize,
+        tells: bool,
+    ) -> Result<Tree, AllocError> {
+        let mut nodes = Vec::new(alloc);
+        nodes.reserve(room)?;
+        Ok(Tree {
+            alloc,
+            nodes,
+            scores: Scores::new(alloc, By::Promise, choices)?,
+            table: Table::new(alloc, choices)?,
+            best: Found {
+                path: Vec::new(alloc),
+                cost: 0,
+            },
+            here: Vec::new(alloc),
+            expanded: 0,
+            before: 0,
+            chosen: Vec::new(alloc),
+            changes: Vec::new(alloc),
+            tells,
+        })
+    }
+
+    /// Begins with the nodes of a tree, and the best choices so far. The scout stands at the root.
+    pub fn begin(
+        &mut self,
+        scout: &mut Scout<'_>,
+        nodes: &[Node],
+        best: Found,
+    ) -> Result<(), AllocError> {
+        self.best = best;
+        scout.note_violated()?;
+        self.take_up(scout, nodes)
+    }
+
     /// Takes up the nodes of a tree.
     fn take_up(&mut self, scout: &mut Scout<'_>, nodes: &[Node]) -> Result<(), AllocError> {
         let mut due = Vec::new(self.alloc);
@@ -109,10 +135,10 @@ impl Tree {
         let below = self.nodes.len();
         let depth = match self.nodes.get_mut(node) {
             Some(grown) => {
-                grown.choice = Some(number);
-                grown.below = Some(below);
+                grown.choice = Place::of(number);
+                grown.below = Place::of(below);
                 grown.is_open = false;
-                grown.depth.saturating_add(1)
+                grown.depth.index().saturating_add(1)
             }
             None => 0,
         };
@@ -130,13 +156,13 @@ impl Tree {
         side: Side,
     ) -> Result<(), AllocError> {
         self.nodes.push(Grown {
-            parent,
-            depth,
-            number,
+            parent: Place::of(parent),
+            depth: Place::of(depth),
+            number: Place::of(number),
             side,
             cost: Cost::MAX,
-            choice: None,
-            below: None,
+            choice: NOWHERE,
+            below: NOWHERE,
             is_open: false,
         })?;
         Ok(())
@@ -163,7 +189,7 @@ impl Tree {
         let choice = scout.violated()?.first().copied();
         if let Some(grown) = self.nodes.get_mut(node) {
             grown.cost = cost;
-            grown.choice = choice;
+            grown.choice = Place::of_any(choice);
             grown.is_open = choice.is_some();
         }
         if choice.is_none() && cost < self.best.cost {
@@ -173,9 +199,9 @@ impl Tree {
         Ok(())
     }
 
-    /// Expands what costs least a few times, of several the youngest.
-    fn begin(&mut self, scout: &mut Scout<'_>, budget: u64) -> Result<(), AllocError> {
-        for _ in 0..FIRST.min(self.left(budget)) {
+    /// Expands what costs least so many times, of several the youngest.
+    pub fn expand_first(&mut self, scout: &mut Scout<'_>, many: u64) -> Result<(), AllocError> {
+        for _ in 0..many {
             let mut next: Option<Leaf> = None;
             for leaf in &self.open_leaves()? {
                 next = match next {
@@ -191,42 +217,25 @@ impl Tree {
         Ok(())
     }
 
-    /// Expands the rest in rounds, each down to a limit of costs.
-    fn go_on(&mut self, scout: &mut Scout<'_>, budget: u64) -> Result<(), AllocError> {
-        for _ in 0..budget {
-            let left = self.left(budget);
-            let leaves = self.open_leaves()?;
-            if left == 0 || leaves.is_empty() {
-                return Ok(());
-            }
-            let is_last = left <= FIRST;
-            let many = if is_last {
-                left
-            } else {
-                (left / 2).min(self.expanded.saturating_add(1) / 2)
-            };
-            let chosen = cheapest(self.alloc, &leaves, many.max(1))?;
-            let limit = if is_last { 0 } else { chosen.limit };
-            self.round(scout, chosen.nodes, limit, left)?;
-        }
-        Ok(())
-    }
-
     /// How many nodes may still be expanded.
-    fn left(&self, budget: u64) -> u64 {
+    pub fn left(&self, budget: u64) -> u64 {
         let nodes = self.nodes.len() as u64;
         budget.saturating_sub(nodes) / 2
     }
 
-    /// Expands the chosen leaves in preorder, and below them what costs less than the limit, so often at most.
-    fn round(
+    pub fn expanded(&self) -> u64 {
+        self.expanded
+    }
+
+    /// Expands these leaves, and below them what costs less than the limit, so often at most.
+    pub fn expand_all(
         &mut self,
         scout: &mut Scout<'_>,
-        chosen: Vec<usize>,
+        chosen: &[usize],
         limit: Cost,
         most: u64,
     ) -> Result<(), AllocError> {
-        let mut due = chosen;
+        let mut due = Vec::from_slice(self.alloc, chosen)?;
         due.reverse();
         for _ in 0..most {
             let Some(node) = due.pop() else {
@@ -253,7 +262,7 @@ impl Tree {
     }
 
     /// The open leaves that cost less than the best, in preorder.
-    fn open_leaves(&self) -> Result<Vec<Leaf>, AllocError> {
+    pub fn open_leaves(&self) -> Result<Vec<Leaf>, AllocError> {
         let mut leaves = Vec::new(self.alloc);
         let mut due = Vec::new(self.alloc);
         due.push(0_usize)?;
@@ -261,21 +270,15 @@ impl Tree {
             let Some(node) = due.pop() else {
                 return Ok(leaves);
             };
-            match self.nodes.get(node) {
-                Some(
-                    Grown {
-                        below: Some(below),
-                        ..
-                    },
-                ) => {
-                    due.push(below.saturating_add(1))?;
-                    due.push(*below)?;
-                }
-                Some(grown) if grown.is_open && grown.cost < self.best.cost => {
-                    let cost = grown.cost;
-                    leaves.push(Leaf { cost, node })?;
-                }
-                _ => {}
+            let Some(grown) = self.nodes.get(node) else {
+                continue;
+            };
+            if let Some(below) = grown.below.get() {
+                due.push(below.saturating_add(1))?;
+                due.push(below)?;
+            } else if grown.is_open && grown.cost < self.best.cost {
+                let cost = grown.cost;
+                leaves.push(Leaf { cost, node })?;
             }
         }
         Ok(leaves)
@@ -301,8 +304,7 @@ impl Tree {
             self.go_up(scout)?;
         }
         let first = self.child(scout, below)?;
-        self.table.set(number, Gains::over(cost, first, second));
-        self.scores.look_at(scout, &self.table, number);
+        self.learn(scout, number, Gains::over(cost, first, second))?;
         self.expanded = self.expanded.saturating_add(1);
         children.push(below)?;
         children.push(beside)?;
@@ -345,7 +347,7 @@ impl Tree {
                 return Ok(None);
             };
             if let Some(gains) = self.table.get(i) {
-                let cap = self.best.cost.saturating_sub(scout.cost());
+                let cap = gain(self.best.cost.saturating_sub(scout.cost()));
                 return if gains.larger() > cap {
                     self.most_under(scout, cap)
                 } else {
@@ -353,15 +355,29 @@ impl Tree {
                 };
             }
             let gains = try_both(scout, i);
-            self.table.set(i, gains);
             self.scores.follow(scout, &self.table)?;
-            self.scores.look_at(scout, &self.table, i);
+            self.learn(scout, i, gains)?;
         }
         Ok(None)
     }
 
+    /// Enters the gains of a choice.
+    pub fn learn(
+        &mut self,
+        scout: &Scout<'_>,
+        number: usize,
+        gains: Gains,
+    ) -> Result<(), AllocError> {
+        self.table.set(number, gains);
+        self.scores.look_at(scout, &self.table, number);
+        if self.tells {
+            self.changes.push(Change { number, gains })?;
+        }
+        Ok(())
+    }
+
     /// The violated choice that promises most where no gain counts for more than a cap.
-    fn most_under(&self, scout: &mut Scout<'_>, cap: Cost) -> Result<Option<usize>, AllocError> {
+    fn most_under(&self, scout: &mut Scout<'_>, cap: u64) -> Result<Option<usize>, AllocError> {
         let mut most = None;
         for i in scout.violated()? {
             let promise = match self.table.get(*i) {
@@ -405,11 +421,11 @@ impl Tree {
             let Some(grown) = self.nodes.get(at) else {
                 break;
             };
-            if grown.depth == 0 {
+            if grown.depth.index() == 0 {
                 break;
             }
             way.push(at)?;
-            at = grown.parent;
+            at = grown.parent.index();
         }
         way.reverse();
         Ok(way)
@@ -420,7 +436,7 @@ impl Tree {
             return Ok(());
         };
         match self.nodes.get(node) {
-            Some(grown) => scout.undecide(grown.number),
+            Some(grown) => scout.undecide(grown.number.index()),
             None => Ok(()),
         }
     }
@@ -430,7 +446,7 @@ impl Tree {
         let Some(grown) = self.nodes.get(node).copied() else {
             return Ok(false);
         };
-        if !scout.decide(grown.number, grown.side)? {
+        if !scout.decide(grown.number.index(), grown.side)? {
             return Ok(false);
         }
         self.here.push(node)?;
@@ -438,16 +454,16 @@ impl Tree {
     }
 
     /// What the tree says.
-    fn told(&self, scout: &Scout<'_>) -> Result<Guide, AllocError> {
+    pub fn told(&self, scout: &Scout<'_>) -> Result<Guide, AllocError> {
         let mut hints = Vec::new(self.alloc);
         for grown in &self.nodes {
-            let choice = match grown.choice {
+            let choice = match grown.choice.get() {
                 Some(i) => scout.choice(i),
                 None => None,
             };
             hints.push(Hint {
                 choice,
-                below: grown.below,
+                below: grown.below.get(),
             })?;
         }
         Ok(Guide {
@@ -460,54 +476,6 @@ impl Tree {
 /// Whether one leaf is expanded before another that is more to the right.
 fn is_before(one: Leaf, other: Leaf) -> bool {
     one.cost < other.cost || (one.cost == other.cost && one.node > other.node)
-}
-
-/// Leaves in preorder, and what the dearest of them costs.
-#[derive(Drop)]
-struct Chosen {
-    nodes: Vec<usize>,
-    limit: Cost,
-}
-
-/// So many of these leaves that cost least, of those that cost the same the first.
-fn cheapest(alloc: Global, leaves: &[Leaf], many: u64) -> Result<Chosen, AllocError> {
-    let mut costs = Vec::new(alloc);
-    for leaf in leaves {
-        costs.push(leaf.cost)?;
-    }
-    let many = many.min(costs.len() as u64) as usize;
-    let limit = nth_least(&mut costs, many.saturating_sub(1));
-    let mut ties = many;
-    for leaf in leaves {
-        if leaf.cost < limit {
-            ties = ties.saturating_sub(1);
-        }
-    }
-    at_most(alloc, leaves, limit, ties)
-}
-
-/// The cost that as many others are not above, or 0 where there are not so many.
-fn nth_least(costs: &mut [Cost], many: usize) -> Cost {
-    if many >= costs.len() {
-        return 0;
-    }
-    let (_below, nth, _above) = costs.select_nth_unstable(many);
-    *nth
-}
-
-/// The leaves that cost less than a limit, and the first so many of those that cost just that.
-fn at_most(alloc: Global, leaves: &[Leaf], limit: Cost, ties: usize) -> Result<Chosen, AllocError> {
-    let mut nodes = Vec::new(alloc);
-    let mut left = ties;
-    for leaf in leaves {
-        if leaf.cost < limit {
-            nodes.push(leaf.node)?;
-        } else if leaf.cost == limit && left > 0 {
-            left = left.saturating_sub(1);
-            nodes.push(leaf.node)?;
-        }
-    }
-    Ok(Chosen { nodes, limit })
 }
 
 /// How many nodes two ways have in common at the front.

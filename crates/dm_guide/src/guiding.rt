@@ -1,16 +1,13 @@
 //! Good choices first, and then a tree.
-ghost use Rattle.dm_guide.specs.Tasks.{IsPosedTask};
 
 use crate::choices::side_of;
+use crate::climbing::climb;
 use crate::diving::dive;
-use crate::gaining::{Table, try_both};
-use crate::growing::grow;
-use crate::kicking::Kicks;
-use crate::rooting::at_root;
+use crate::rounds::Round;
 use crate::scouting::Scout;
-use crate::tasks::Task;
+use crate::searchers::{Searcher, go_back};
+use crate::sharing::grow;
 use crate::tree::{Found, Guide};
-use crate::windows::{WIDE, Windows, all_binding};
 use dm_base::Cost;
 use dm_rows::Decision;
 use dm_tree::Node;
@@ -27,76 +24,70 @@ pub struct Start<'s> {
     pub cost: Cost,
 }
 
-/// A guide for a search of a task, which begins from a tree and choices. Every decision behind the base is one of a choice that the
-/// base leaves to be made. The rows have no cycle.
-pub fn guide(task: &Task<'_>, start: Start<'_>) -> Result<Guide, AllocError>
-    requires { IsPosedTask task.now }
-{
-    let (mover, choices) = at_root(task)?;
-    let mut scout = Scout::new(task.alloc, mover, task.base, choices);
-    on_scout(task, &mut scout, start)
-}
-
-fn on_scout(task: &Task<'_>, scout: &mut Scout<'_>, start: Start<'_>) -> Result<Guide, AllocError> {
-    scout.look_at_all()?;
-    let table = tried_at_root(task.alloc, scout)?;
-    let found = found_by(task.alloc, scout, &table, start, task.budget)?;
-    grow(task.alloc, scout, start.nodes, table, found, task.budget)
-}
-
-/// The gains of the choices that are violated at the root.
-fn tried_at_root(alloc: Global, scout: &mut Scout<'_>) -> Result<Table, AllocError> {
-    let mut table = Table::new(alloc, scout.choices().len())?;
-    let violated = Vec::from_slice(alloc, scout.violated()?)?;
-    for i in &violated {
-        let gains = try_both(scout, *i);
-        table.set(*i, gains);
-    }
-    Ok(table)
-}
-
-/// Good choices that cost less than those of the start, if the scout finds some. It stands at the root before and after.
-fn found_by(
+/// A guide for a search of so many nodes, which begins from a tree and choices. All searchers stand at the root of one task, of
+/// which every decision of the start behind the base is a free choice; where there are none there is nothing that guides. A
+/// round is run by having the first searcher play it and each of the others, at once or one after the other.
+pub fn guide<'t, F: Fn(&Round, &mut Searcher<'t>, &mut [Searcher<'t>])>(
     alloc: Global,
-    scout: &mut Scout<'_>,
-    table: &Table,
+    searchers: &mut [Searcher<'t>],
+    run: &F,
     start: Start<'_>,
     budget: u64,
-) -> Result<Found, AllocError> {
+) -> Result<Guide, AllocError>
+    requires { F.IsAlwaysCallable run.now }
+{
+    let Some((first, others)) = searchers.split_first_mut() else {
+        return Ok(Guide::new(alloc));
+    };
+    for other in others.iter() {
+        first.tree.learn_of(&first.scout, &other.tree)?;
+    }
+    let found = found_by(first, others, run, start, budget)?;
+    grow(first, others, run, start.nodes, found, budget)
+}
+
+/// Plays a round with one searcher after the other.
+pub fn in_turn<'t>(round: &Round, first: &mut Searcher<'t>, others: &mut [Searcher<'t>]) {
+    first.play(round);
+    for k in 0..others.len() {
+        others[k].play(round);
+    }
+}
+
+/// Good choices that cost less than those of the start, if the searchers find some. The first stands at the root before and
+/// after.
+fn found_by<'t, F: Fn(&Round, &mut Searcher<'t>, &mut [Searcher<'t>])>(
+    first: &mut Searcher<'t>,
+    others: &mut [Searcher<'t>],
+    run: &F,
+    start: Start<'_>,
+    budget: u64,
+) -> Result<Found, AllocError>
+    requires { F.IsAlwaysCallable run.now }
+{
     let nothing = Found {
-        path: Vec::new(alloc),
+        path: Vec::new(first.alloc),
         cost: start.cost,
     };
     // Where nothing is violated at the root, or it costs too much, there is nothing better.
-    if scout.cost() >= start.cost || scout.first_violated()?.is_none() {
+    if first.scout.cost() >= start.cost || first.scout.first_violated()?.is_none() {
         return Ok(nothing);
     }
-    if !dive(alloc, scout, table)? || scout.cost() >= start.cost {
-        go_back(scout)?;
-        take_over(scout, start.choices)?;
+    let dived = dive(first.alloc, &mut first.scout, &first.tree.table)?;
+    if !dived || first.scout.cost() >= start.cost {
+        go_back(&mut first.scout)?;
+        take_over(&mut first.scout, start.choices)?;
     }
-    if scout.violated()?.is_empty() {
-        climb(alloc, scout, budget.saturating_mul(TRIES))?;
+    if first.scout.violated()?.is_empty() {
+        climb(first, others, run, budget.saturating_mul(TRIES))?;
     }
-    let found = found_at(alloc, scout, nothing)?;
-    go_back(scout)?;
+    let found = found_at(&mut first.scout, nothing)?;
+    go_back(&mut first.scout)?;
     Ok(found)
 }
 
-/// Makes the choices better, by windows and by kicks with so many decisions each.
-fn climb(alloc: Global, scout: &mut Scout<'_>, tries: u64) -> Result<(), AllocError> {
-    let choices = scout.choices().len();
-    let limit = scout.tried().saturating_add(tries);
-    let mut windows = Windows::new(alloc, choices, limit)?;
-    let seeds = all_binding(alloc, scout)?;
-    windows.improve(scout, seeds, WIDE)?;
-    let limit = scout.tried().saturating_add(tries);
-    let mut kicks = Kicks::new(alloc, scout, limit)?;
-    kicks.improve(scout)
-}
-
 /// The choices where the scout stands, if they violate nothing and cost less than what was found before.
-fn found_at(alloc: Global, scout: &mut Scout<'_>, before: Found) -> Result<Found, AllocError> {
+fn found_at(scout: &mut Scout<'_>, before: Found) -> Result<Found, AllocError> {
     if scout.first_violated()?.is_some() || scout.cost() >= before.cost {
         return Ok(before);
     }
@@ -117,14 +108,6 @@ fn take_over(scout: &mut Scout<'_>, choices: &[Decision]) -> Result<(), AllocErr
     for i in (0..scout.choices().len()).rev() {
         let side = scout.choices().own_side(i);
         let _decided = scout.decide(i, side)?;
-    }
-    Ok(())
-}
-
-/// Takes all decisions back.
-fn go_back(scout: &mut Scout<'_>) -> Result<(), AllocError> {
-    for i in 0..scout.choices().len() {
-        scout.undecide(i)?;
     }
     Ok(())
 }

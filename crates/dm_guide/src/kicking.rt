@@ -4,12 +4,9 @@ use crate::diving::decide_cheaper;
 use crate::gaining::try_both;
 use crate::noting::Numbers;
 use crate::scouting::Scout;
-use crate::windows::{Windows, all_binding, binding};
+use crate::windows::Windows;
 use dm_base::Cost;
 use std::alloc::{AllocError, Global};
-
-/// How many rounds of kicks there are at most.
-const ROUNDS: usize = 4;
 
 /// How many choices near a kick are left undecided, how many events are looked at for them, and how many windows follow.
 const BALL: usize = 8;
@@ -19,24 +16,22 @@ const EVENTS: usize = 128;
 const WINDOWS: usize = 8;
 
 /// How many choices a window behind a kick has at most, and how often it branches.
-const NARROW: usize = 16;
+pub const NARROW: usize = 16;
 
 /// The search for better choices by kicks, and windows where one is better.
 #[derive(Drop)]
 pub struct Kicks {
-    alloc: Global,
-    windows: Windows,
+    pub windows: Windows,
     ball: Numbers,
     events: Numbers,
 }
 
 impl Kicks {
-    /// No kick yet. The search ends when so many decisions were made or tried.
-    pub fn new(alloc: Global, scout: &Scout<'_>, limit: u64) -> Result<Kicks, AllocError> {
+    /// No kick yet. What becomes better is told to another searcher, or is touched.
+    pub fn new(alloc: Global, scout: &Scout<'_>, tells: bool) -> Result<Kicks, AllocError> {
         let choices = scout.choices().len();
         let mut kicks = Kicks {
-            alloc,
-            windows: Windows::new(alloc, choices, limit)?,
+            windows: Windows::new(alloc, choices, tells)?,
             ball: Numbers::new(alloc),
             events: Numbers::new(alloc),
         };
@@ -45,27 +40,10 @@ impl Kicks {
         Ok(kicks)
     }
 
-    /// Kicks each choice that binds, and later those near which something became better.
-    pub fn improve(&mut self, scout: &mut Scout<'_>) -> Result<(), AllocError> {
-        let mut seeds = all_binding(self.alloc, scout)?;
-        for _ in 0..ROUNDS {
-            self.windows.touched.forget();
-            self.round(scout, &seeds)?;
-            let touched = Vec::from_slice(self.alloc, self.windows.touched.list())?;
-            let near = binding(self.alloc, scout, &touched)?;
-            self.windows.improve(scout, near, NARROW)?;
-            seeds = binding(self.alloc, scout, &touched)?;
-            if seeds.is_empty() || scout.tried() >= self.windows.limit {
-                return Ok(());
-            }
-        }
-        Ok(())
-    }
-
     /// One kick of each of these choices that binds.
     pub fn round(&mut self, scout: &mut Scout<'_>, seeds: &[usize]) -> Result<(), AllocError> {
         for i in seeds {
-            if scout.tried() >= self.windows.limit {
+            if self.windows.is_spent(scout) {
                 return Ok(());
             }
             if scout.is_binding(*i) {
@@ -86,7 +64,8 @@ impl Kicks {
         for member in self.ball.list() {
             scout.undecide(*member)?;
         }
-        if !scout.decide(i, side.other())? || !repair(scout, before)? {
+        let most = before.saturating_add(before / 1000);
+        if !scout.decide(i, side.other())? || !repair(scout, most)? {
             return scout.restore();
         }
         if scout.cost() >= before {
@@ -95,7 +74,7 @@ impl Kicks {
         if scout.cost() >= before {
             return scout.restore();
         }
-        self.windows.touch(scout)
+        self.windows.keep(scout)
     }
 
     /// Opens small windows around the first choices that bind where something has moved.
@@ -159,10 +138,9 @@ impl Kicks {
     }
 }
 
-/// Decides the first violated choice on its cheaper side until nothing is violated. It is false where that costs more than a
-/// thousandth above a cost, or each side of a choice makes a cycle.
-fn repair(scout: &mut Scout<'_>, before: Cost) -> Result<bool, AllocError> {
-    let most = before.saturating_add(before / 1000);
+/// Decides the first violated choice on its cheaper side until nothing is violated. It is false where that costs more than
+/// this, or each side of a choice makes a cycle.
+pub fn repair(scout: &mut Scout<'_>, most: Cost) -> Result<bool, AllocError> {
     for _ in 0..scout.choices().len() {
         if scout.cost() > most {
             return Ok(false);

@@ -6,8 +6,8 @@ use std::alloc::{AllocError, Global};
 /// Places that are noted once each until all are forgotten.
 #[derive(Drop)]
 pub struct Once {
-    stamps: Vec<u64>,
-    now: u64,
+    stamps: Vec<u32>,
+    now: u32,
 }
 
 impl Once {

@@ -3,6 +3,7 @@
 use crate::choices::{Choices, Side, decision_for};
 use crate::moving::{Mover, entering, leaving};
 use crate::noting::{Moved, Moves, Numbers, Once};
+use crate::places::{NOWHERE, Place};
 use dm_base::{Cost, Secs};
 use dm_network::Network;
 use dm_rows::{Choice, Decision};
@@ -27,7 +28,7 @@ pub struct Scout<'a> {
 
     /// The undecided choices that are violated, and the place of each choice among them.
     violated: Vec<usize>,
-    places: Vec<Option<usize>>,
+    places: Vec<Place>,
 
     /// Choices and events that are to be looked at again, and the choices that were judged since the times were settled last.
     stale: Vec<usize>,
@@ -117,7 +118,7 @@ impl<'a> Scout<'a> {
 
     fn leave_undecided(&mut self) -> Result<(), AllocError> {
         self.sides.resize(self.choices.len(), None)?;
-        self.places.resize(self.choices.len(), None)
+        self.places.resize(self.choices.len(), NOWHERE)
     }
 
     fn judge_all(&mut self) -> Result<(), AllocError> {
@@ -171,9 +172,17 @@ impl<'a> Scout<'a> {
         Ok(first)
     }
 
+    /// The place of a choice among the violated ones.
+    fn place(&self, i: usize) -> Option<usize> {
+        match self.places.get(i) {
+            Some(place) => place.get(),
+            None => None,
+        }
+    }
+
     /// Whether a choice was violated when all was looked at last.
     pub fn is_violated(&self, i: usize) -> bool {
-        matches!(self.places.get(i), Some(Some(_)))
+        self.place(i).is_some()
     }
 
     /// The choices that have become violated or are so no more since they were taken last.
@@ -213,6 +222,11 @@ impl<'a> Scout<'a> {
             Some(side) => *side,
             None => None,
         }
+    }
+
+    /// The sides on which all choices are decided.
+    pub fn sides(&self) -> Result<Vec<Option<Side>>, AllocError> {
+        Vec::from_slice(self.alloc, &self.sides)
     }
 
     /// Decides an undecided choice, unless that makes a cycle.
@@ -485,10 +499,9 @@ impl<'a> Scout<'a> {
     /// Puts a choice among the violated ones, or takes it off.
     fn judge(&mut self, i: usize) -> Result<(), AllocError> {
         let is_unkept = self.is_unkept(i);
-        match self.places.get(i) {
-            Some(None) if is_unkept => self.add(i),
-            Some(Some(place)) if !is_unkept => {
-                let place = *place;
+        match self.place(i) {
+            None if is_unkept => self.add(i),
+            Some(place) if !is_unkept => {
                 self.take_off(i, place);
                 let _new = self.changed.add(i)?;
                 Ok(())
@@ -539,7 +552,7 @@ impl<'a> Scout<'a> {
 
     fn set_place(&mut self, i: usize, place: Option<usize>) {
         if let Some(slot) = self.places.get_mut(i) {
-            *slot = place;
+            *slot = Place::of_any(place);
         }
     }
 }

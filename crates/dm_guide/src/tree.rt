@@ -2,6 +2,7 @@
 
 use dm_base::Cost;
 use dm_rows::{Choice, Decision};
+use std::alloc::Global;
 
 /// Decisions after which nothing is violated, and what they cost.
 #[derive(Drop)]
@@ -31,6 +32,14 @@ pub struct Hint {
 }
 
 impl Guide {
+    /// A guide that says nothing.
+    pub fn new(alloc: Global) -> Guide {
+        Guide {
+            path: Vec::new(alloc),
+            hints: Vec::new(alloc),
+        }
+    }
+
     /// The node of a number.
     pub fn hint(&self, node: usize) -> Option<Hint> {
         self.hints.get(node).copied()

@@ -4,11 +4,9 @@ use crate::choices::Side;
 use crate::gaining::try_both;
 use crate::noting::Numbers;
 use crate::scouting::Scout;
+use crate::telling::{Stand, Told, take_over};
 use dm_base::Cost;
 use std::alloc::{AllocError, Global};
-
-/// How many choices a window has at most, and how often it branches.
-pub const WIDE: usize = 32;
 
 /// A choice on which a window has branched, and the side that is left with what it costs.
 #[derive(Clone, Copy)]
@@ -26,20 +24,13 @@ struct Pick {
     high: Cost,
 }
 
-/// A choice and the side on which it is to stand, or none where the times keep it undecided.
-#[derive(Clone, Copy)]
-struct Stand {
-    number: usize,
-    side: Option<Side>,
-}
-
 /// The search for better choices near choices that bind. Nothing is violated before and after.
 #[derive(Drop)]
 pub struct Windows {
     alloc: Global,
 
     /// How many decisions are made or tried until the search ends.
-    pub limit: u64,
+    limit: u64,
 
     /// The choices of the window.
     members: Numbers,
@@ -50,41 +41,38 @@ pub struct Windows {
 
     /// The choices near which something became better since it was looked at.
     pub touched: Numbers,
+
+    /// What became better, where another searcher is told of it.
+    pub told: Told,
+    tells: bool,
 }
 
 impl Windows {
-    /// No window yet, among so many choices.
-    pub fn new(alloc: Global, choices: usize, limit: u64) -> Result<Windows, AllocError> {
+    /// No window yet, among so many choices. What becomes better is told to another searcher, or is touched.
+    pub fn new(alloc: Global, choices: usize, tells: bool) -> Result<Windows, AllocError> {
         let mut windows = Windows {
             alloc,
-            limit,
+            limit: 0,
             members: Numbers::new(alloc),
             stands: Vec::new(alloc),
             best: 0,
             touched: Numbers::new(alloc),
+            told: Told::new(alloc),
+            tells,
         };
         windows.members.extend(choices)?;
         windows.touched.extend(choices)?;
         Ok(windows)
     }
 
-    /// Opens windows around these choices, and then around what these touch, until nothing becomes better.
-    pub fn improve(
-        &mut self,
-        scout: &mut Scout<'_>,
-        seeds: Vec<usize>,
-        size: usize,
-    ) -> Result<(), AllocError> {
-        let mut seeds = seeds;
-        for _ in 0..self.limit {
-            if seeds.is_empty() || scout.tried() >= self.limit {
-                return Ok(());
-            }
-            self.touched.forget();
-            self.round(scout, &seeds, size)?;
-            seeds = binding(self.alloc, scout, self.touched.list())?;
-        }
-        Ok(())
+    /// Allows so many decisions more.
+    pub fn allow(&mut self, scout: &Scout<'_>, tries: u64) {
+        self.limit = scout.tried().saturating_add(tries);
+    }
+
+    /// Whether all decisions were made or tried that are allowed.
+    pub fn is_spent(&self, scout: &Scout<'_>) -> bool {
+        scout.tried() >= self.limit
     }
 
     /// One window around each of these choices that binds.
@@ -95,17 +83,26 @@ impl Windows {
         size: usize,
     ) -> Result<(), AllocError> {
         for i in seeds {
-            if scout.tried() >= self.limit {
+            if self.is_spent(scout) {
                 return Ok(());
             }
             if scout.is_binding(*i) {
                 scout.begin()?;
                 if self.open(scout, *i, size)? {
-                    self.touch(scout)?;
+                    self.keep(scout)?;
                 }
             }
         }
         Ok(())
+    }
+
+    /// Tells what was turned since the scout began, or has it looked at again with what is near.
+    pub fn keep(&mut self, scout: &mut Scout<'_>) -> Result<(), AllocError> {
+        if self.tells {
+            self.told.add(scout)
+        } else {
+            self.touch(scout)
+        }
     }
 
     /// Has what was turned since the scout began, and what is near, looked at again.
@@ -114,6 +111,14 @@ impl Windows {
         self.touched.add_all(&near)?;
         for turned in &scout.turned()? {
             let _new = self.touched.add(turned.number)?;
+        }
+        Ok(())
+    }
+
+    /// Takes over what another searcher was better with, if it still is better.
+    pub fn take_over(&mut self, scout: &mut Scout<'_>, group: &[Stand]) -> Result<(), AllocError> {
+        if take_over(scout, group)? {
+            self.touch(scout)?;
         }
         Ok(())
     }
@@ -282,7 +287,7 @@ impl Windows {
         let mut most: Option<Pick> = None;
         for i in &violated {
             let gains = try_both(scout, *i);
-            let (first, second) = (gains.first, gains.second);
+            let (first, second) = (Cost::from(gains.first), Cost::from(gains.second));
             let near = if first <= second {
                 Side::First
             } else {

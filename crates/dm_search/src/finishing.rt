@@ -15,11 +15,13 @@ ghost use Rattle.dm_search.specs.Moving.{IsOver};
 ghost use Rattle.dm_search.specs.Inside.Ending.{closed, carried, least_with, bound_of, is_open, mark_of, IsPlanOf};
 
 use crate::Outcome;
+use crate::moving::{evaluator_at_base, searcher_at};
+use crate::parts::Hints;
 use crate::searching::{Best, Standing, traverse};
-use crate::walking::{behind, make, make_all, outcome_here};
+use crate::walking::{behind, make, outcome_here};
 use dm_base::{Cost, Items};
 use dm_evaluate::Evaluator;
-use dm_guide::{Guide, Start, Task, guide};
+use dm_guide::{Guide, Start, Task, guide, in_turn};
 use dm_network::Network;
 use dm_relax::with_decisions;
 use dm_rows::{Decision, Rows, Snapshot};
@@ -51,8 +53,8 @@ pub fn plan(
 
 /// A true plan for the rows of a snapshot, with the snapshot's entry and a tree of at most `budget` nodes, of which there are
 /// 1 to 16,384. It searches each hole of the tree that it is given, and each open leaf while there is room for two nodes more:
-/// first those that cost least. The choices that it begins with cost no more than the rows by themselves; a tree of one hole and no choices
-/// will do where the rows have no cycle. The penalty is in seconds for each passenger, at most 1,000,000.
+/// first those that cost least. The choices that it begins with cost no more than the rows by themselves; a tree of one hole and
+/// no choices will do where the rows have no cycle. The penalty is in seconds for each passenger, at most 1,000,000.
 pub fn finish(
     alloc: Global,
     net: &Network,
@@ -71,7 +73,10 @@ pub fn finish(
 {
     let rows = &snapshot.rows;
     let task = whole(alloc, net, rows, penalty, budget);
-    finish_task(&task, snapshot.entry, partial, best)
+    let standing = standing_at(&task, partial, best)?;
+    let guide = guide_alone(&task, &standing)?;
+    let mut evaluator = evaluator_at_base(&task)?;
+    finish_standing(&task, snapshot.entry, standing, &mut evaluator, &guide)
 }
 
 /// The task of a whole network: no choice stands before the search.
@@ -98,8 +103,8 @@ pub fn whole<'t>(
     }
 }
 
-/// A true plan for a task, with an entry. The rows have no cycle, and the budget is at least 1. It is what is made of a tree of one
-/// hole and no choices.
+/// A true plan for a task, with an entry. The rows have no cycle, and the budget is at least 1. It is what is made of a tree of
+/// one hole and no choices.
 pub fn plan_task(task: &Task<'_>, entry: u32) -> Result<Plan, AllocError>
     requires posed { IsPosedTask task.now }
     requires no_cycle { HasNoCycle task.now.net.now task.now.rows.now }
@@ -107,81 +112,154 @@ pub fn plan_task(task: &Task<'_>, entry: u32) -> Result<Plan, AllocError>
     ensures plan { IfOk result (IsTruePlan (task_of task.now)) }
     ensures entry { IfOk result (λ plan. plan.entry ≡ entry) }
 {
+    let own = cost_with(task, &[])?;
+    let standing = standing_at_hole(task, own)?;
+    let guide = guide_alone(task, &standing)?;
+    let mut evaluator = evaluator_at_base(task)?;
+    finish_standing(task, entry, standing, &mut evaluator, &guide)
+}
+
+/// The same where the rows cost so much by themselves, by an evaluator of the task and by what a guide says.
+pub fn plan_with(
+    task: &Task<'_>,
+    entry: u32,
+    own: Cost,
+    evaluator: &mut Evaluator,
+    guide: &Guide,
+) -> Result<Plan, AllocError>
+    requires posed { IsPosedTask task.now }
+    requires no_cycle { HasNoCycle task.now.net.now task.now.rows.now }
+    requires some { 1 ≤ task.now.budget }
+    requires own { Costs task.now.net.now task.now.rows.now task.now.penalty own }
+    requires evaluator { IsOver (task_of task.now) evaluator.old }
+    ensures plan { IfOk result (IsTruePlan (task_of task.now)) }
+    ensures entry { IfOk result (λ plan. plan.entry ≡ entry) }
+{
+    let standing = standing_at_hole(task, own)?;
+    finish_standing(task, entry, standing, evaluator, guide)
+}
+
+/// The tree of one hole and no choices, with which the rows cost so much.
+pub(crate) fn standing_at_hole(task: &Task<'_>, own: Cost) -> Result<Standing, AllocError>
+    requires posed { IsPosedTask task.now }
+    requires no_cycle { HasNoCycle task.now.net.now task.now.rows.now }
+    requires some { 1 ≤ task.now.budget }
+    requires own { Costs task.now.net.now task.now.rows.now task.now.penalty own }
+    ensures { IfOk result (λ s. Stands (task_of task.now) s.nodes.items s.best.choices s.best.cost) }
+{
     task.net.sound();
     // No leaves are those of a tree, so that only memory may be missing.
     let Ok(unsearched) = assemble(task.alloc, Vec::new(task.alloc)) else {
         return Err(AllocError);
     };
-    let choices = Vec::new(task.alloc);
-    finish_task(task, entry, unsearched, choices)
+    let nodes = Vec::from_slice(task.alloc, unsearched.as_slice())?;
+    let nothing = Vec::new(task.alloc);
+    let choices = Items::from_vec(nothing);
+    let best = Best { choices, cost: own };
+    Ok(Standing { nodes, best })
 }
 
-/// A true plan for a task, with an entry, from a tree and choices: what [`finish`] does for any task.
-pub fn finish_task(
+/// A true plan for a task, with an entry, from a tree and choices: what [`finish`] does for any task, by an evaluator of the task
+/// and by what a guide says.
+pub fn finish_with(
     task: &Task<'_>,
     entry: u32,
     partial: Partial,
     best: Vec<Decision>,
+    evaluator: &mut Evaluator,
+    guide: &Guide,
 ) -> Result<Plan, AllocError>
     requires posed { IsPosedTask task.now }
     requires start { IsStart (task_of task.now) partial best.items }
+    requires evaluator { IsOver (task_of task.now) evaluator.old }
     ensures plan { IfOk result (IsTruePlan (task_of task.now)) }
     ensures entry { IfOk result (λ plan. plan.entry ≡ entry) }
+{
+    let standing = standing_at(task, partial, best)?;
+    finish_standing(task, entry, standing, evaluator, guide)
+}
+
+/// A tree and choices, and what these cost.
+fn standing_at(
+    task: &Task<'_>,
+    partial: Partial,
+    best: Vec<Decision>,
+) -> Result<Standing, AllocError>
+    requires posed { IsPosedTask task.now }
+    requires start { IsStart (task_of task.now) partial best.items }
+    ensures { IfOk result (λ s. Stands (task_of task.now) s.nodes.items s.best.choices s.best.cost) }
 {
     task.net.sound();
     let cost = cost_with(task, &best)?;
     let choices = Items::from_vec(best);
     let nodes = Vec::from_slice(task.alloc, partial.as_slice())?;
     let best = Best { choices, cost };
-    let standing = Standing { nodes, best };
-    let searched = search_whole(task, standing)?;
+    Ok(Standing { nodes, best })
+}
+
+/// The plan of a tree and choices that stand, when all has been searched.
+fn finish_standing(
+    task: &Task<'_>,
+    entry: u32,
+    standing: Standing,
+    evaluator: &mut Evaluator,
+    guide: &Guide,
+) -> Result<Plan, AllocError>
+    requires posed { IsPosedTask task.now }
+    requires stands { Stands (task_of task.now) standing.nodes.items standing.best.choices standing.best.cost }
+    requires evaluator { IsOver (task_of task.now) evaluator.old }
+    ensures plan { IfOk result (IsTruePlan (task_of task.now)) }
+    ensures entry { IfOk result (λ plan. plan.entry ≡ entry) }
+{
+    let improved = improved(task, evaluator, standing, guide)?;
+    let hints = Hints::whole(task.alloc, guide)?;
+    let judged = traverse(task, evaluator, improved, 0, hints)?;
+    finished(task, entry, judged, evaluator)
+}
+
+/// The plan of a tree and choices that stand, when it has been searched with nothing that guides.
+pub(crate) fn finished(
+    task: &Task<'_>,
+    entry: u32,
+    standing: Standing,
+    evaluator: &mut Evaluator,
+) -> Result<Plan, AllocError>
+    requires posed { IsPosedTask task.now }
+    requires stands { Stands (task_of task.now) standing.nodes.items standing.best.choices standing.best.cost }
+    requires evaluator { IsOver (task_of task.now) evaluator.old }
+    ensures plan { IfOk result (IsTruePlan (task_of task.now)) }
+    ensures entry { IfOk result (λ plan. plan.entry ≡ entry) }
+{
+    task.net.sound();
+    let searched = search_on(task, evaluator, standing)?;
     plan_of(task.alloc, entry, searched)
 }
 
-/// Searches a tree until each open leaf that costs less than the best choices is one for which there is no room.
-fn search_whole(task: &Task<'_>, standing: Standing) -> Result<Standing, AllocError>
-    requires posed { IsPosedTask task.now }
-    requires stands { Stands (task_of task.now) standing.nodes.items standing.best.choices standing.best.cost }
-    ensures stands { IfOk result (λ s. Stands (task_of task.now) s.nodes.items s.best.choices s.best.cost) }
-    ensures used { IfOk result (λ s. AreUsedUp task.now.budget s.best.cost s.nodes.items) }
+/// What guides the search, by one searcher, where there is room for a choice.
+fn guide_alone(task: &Task<'_>, standing: &Standing) -> Result<Guide, AllocError>
+    requires { IsPosedTask task.now }
 {
-    let guide = guide_for(task, &standing)?;
-    search_guided(task, standing, &guide)
-}
-
-fn search_guided(task: &Task<'_>, standing: Standing, guide: &Guide) -> Result<Standing, AllocError>
-    requires posed { IsPosedTask task.now }
-    requires stands { Stands (task_of task.now) standing.nodes.items standing.best.choices standing.best.cost }
-    ensures stands { IfOk result (λ s. Stands (task_of task.now) s.nodes.items s.best.choices s.best.cost) }
-    ensures used { IfOk result (λ s. AreUsedUp task.now.budget s.best.cost s.nodes.items) }
-{
-    let mut evaluator = evaluator_of(task)?;
-    search_from(task, &mut evaluator, standing, guide)
-}
-
-/// Searches a tree by an evaluator that has decided nothing.
-fn search_from(
-    task: &Task<'_>,
-    evaluator: &mut Evaluator,
-    standing: Standing,
-    guide: &Guide,
-) -> Result<Standing, AllocError>
-    requires posed { IsPosedTask task.now }
-    requires evaluator { IsEvaluatorOf task.now.net.now evaluator.old }
-    requires rows { evaluator.old.rows ≡ task.now.rows.now }
-    requires path { evaluator.old.path ≡ [] }
-    requires stands { Stands (task_of task.now) standing.nodes.items standing.best.choices standing.best.cost }
-    ensures stands { IfOk result (λ s. Stands (task_of task.now) s.nodes.items s.best.choices s.best.cost) }
-    ensures used { IfOk result (λ s. AreUsedUp task.now.budget s.best.cost s.nodes.items) }
-{
-    // The rows have the base and no cycle, so that only memory may be missing.
-    let Ok(()) = make_all(task.net, evaluator, task.base) else {
-        return Err(AllocError);
+    if task.budget < 3 {
+        return Ok(Guide::new(task.alloc));
+    }
+    let mut searchers = Vec::new(task.alloc);
+    searchers.push(searcher_at(task, 0, 1)?)?;
+    let start = Start {
+        nodes: &standing.nodes,
+        choices: standing.best.choices.as_slice(),
+        cost: standing.best.cost,
     };
-    search_with(task, evaluator, standing, guide)
+    guide(
+        task.alloc,
+        searchers.as_mut_slice(),
+        &in_turn,
+        start,
+        task.budget,
+    )
 }
 
-fn search_with(
+/// The tree with the choices of a guide, where they cost less.
+pub(crate) fn improved(
     task: &Task<'_>,
     evaluator: &mut Evaluator,
     standing: Standing,
@@ -191,12 +269,25 @@ fn search_with(
     requires evaluator { IsOver (task_of task.now) evaluator.old }
     requires stands { Stands (task_of task.now) standing.nodes.items standing.best.choices standing.best.cost }
     ensures stands { IfOk result (λ s. Stands (task_of task.now) s.nodes.items s.best.choices s.best.cost) }
-    ensures used { IfOk result (λ s. AreUsedUp task.now.budget s.best.cost s.nodes.items) }
+    ensures evaluator { IsOver (task_of task.now) evaluator.new }
 {
     let path = behind(guide.path.as_slice(), task.base.len());
-    let improved = improve(task, evaluator, standing, path)?;
-    let guided = traverse(task, evaluator, improved, 0, guide)?;
-    let spread = traverse_all(task, evaluator, guided)?;
+    improve(task, evaluator, standing, path)
+}
+
+/// Searches a tree until each open leaf that costs less than the best choices is one for which there is no room.
+fn search_on(
+    task: &Task<'_>,
+    evaluator: &mut Evaluator,
+    standing: Standing,
+) -> Result<Standing, AllocError>
+    requires posed { IsPosedTask task.now }
+    requires evaluator { IsOver (task_of task.now) evaluator.old }
+    requires stands { Stands (task_of task.now) standing.nodes.items standing.best.choices standing.best.cost }
+    ensures stands { IfOk result (λ s. Stands (task_of task.now) s.nodes.items s.best.choices s.best.cost) }
+    ensures used { IfOk result (λ s. AreUsedUp task.now.budget s.best.cost s.nodes.items) }
+{
+    let spread = traverse_all(task, evaluator, standing)?;
     last_traversal(task, evaluator, spread)
 }
 
@@ -234,8 +325,9 @@ fn last_traversal(
     ensures used { IfOk result (λ s. AreUsedUp task.now.budget s.best.cost s.nodes.items) }
 {
     let limit = standing.best.cost;
-    let guide = no_guide(task.alloc);
-    let searched = traverse(task, evaluator, standing, limit, &guide)?;
+    let guide = Guide::new(task.alloc);
+    let hints = Hints::whole(task.alloc, &guide)?;
+    let searched = traverse(task, evaluator, standing, limit, hints)?;
     Ok(searched)
 }
 
@@ -251,29 +343,6 @@ pub(crate) fn evaluator_of(task: &Task<'_>) -> Result<Evaluator, AllocError>
     match Evaluator::new(task.alloc, task.net, rows) {
         Ok(evaluator) => Ok(evaluator),
         Err(_no_times) => Err(AllocError),
-    }
-}
-
-/// What guides the search, where there is room for a choice.
-fn guide_for(task: &Task<'_>, standing: &Standing) -> Result<Guide, AllocError>
-    requires { IsPosedTask task.now }
-{
-    if task.budget >= 3 {
-        let start = Start {
-            nodes: &standing.nodes,
-            choices: standing.best.choices.as_slice(),
-            cost: standing.best.cost,
-        };
-        guide(task, start)
-    } else {
-        Ok(no_guide(task.alloc))
-    }
-}
-
-fn no_guide(alloc: Global) -> Guide {
-    Guide {
-        path: Vec::new(alloc),
-        hints: Vec::new(alloc),
     }
 }
 
@@ -328,14 +397,15 @@ fn traverse_all(
     ensures stands { IfOk result (λ s. Stands (task_of task.now) s.nodes.items s.best.choices s.best.cost) }
     ensures evaluator { IsOver (task_of task.now) evaluator.new }
 {
-    let guide = no_guide(task.alloc);
+    let guide = Guide::new(task.alloc);
     let mut standing = standing;
     for _ in 0..TRAVERSALS {
         let best = standing.best.cost;
         let Some(limit) = next_limit(&standing.nodes, best, task.budget) else {
             return Ok(standing);
         };
-        standing = traverse(task, evaluator, standing, limit, &guide)?;
+        let hints = Hints::whole(task.alloc, &guide)?;
+        standing = traverse(task, evaluator, standing, limit, hints)?;
     }
     Ok(standing)
 }

@@ -14,11 +14,17 @@
 //! a budget of 1 to 16,384 nodes, and from any choices that cost no more than the rows' own: what it gives is a true plan
 //! of the snapshot's rows for the budget, with the snapshot's entry, or want of memory; how it searches is outside its
 //! clause. `plan` does so from nothing, for rows that have no cycle, and `plan_task` for a task: a true plan of it, in which
-//! every path begins with the task's base and what the base decides stays as it is. `finish_task` is `finish` of a task, and `whole`
-//! gives the task of a whole network.
+//! every path begins with the task's base and what the base decides stays as it is. `finish_with` is `finish` of a task, and
+//! `plan_with` is `plan_task` where it is known what the rows cost by themselves; both go by what a guide says, with an
+//! evaluator of the task. `whole` gives the task of a whole network.
 //!
-//! `step_to` says what `step` does of a path behind the base of a task, in the time that an evaluator takes to go there from where it
-//! stands; `evaluator_at_base` makes one. `BoundWord` and `Hand` are those of dm_bound: a word that several searches lower.
+//! `step_to` says what `step` does of a path behind the base of a task, in the time that an evaluator takes to go there from
+//! where it stands; `evaluator_at_base` makes one, and `searcher_at` makes of one a guide's searcher, of which nothing is
+//! promised. `BoundWord` and `Hand` are those of dm_bound: a word that several searches lower.
+//!
+//! A [`Judge`] is one of several who judge what a guide says, and is seen as its task. `new` gives one that has judged nothing;
+//! `judge_choices` and `judge_part` give what was judged for the same task, `join` puts together what two have judged of one,
+//! and `plan` searches on and gives a true plan of it. Which parts are judged is outside their clauses.
 //!
 //! A guide finds good choices and a tree that tells much; the tree is then gone through in preorder, each node judged anew
 //! by an evaluator that is brought from path to path; what is left of the budget goes, in traversals whose cost limit rises, to
@@ -30,14 +36,18 @@
 #![tactic(auto)]
 
 mod finishing;
+mod judging;
 pub mod laws;
 mod moving;
+mod parts;
 mod searching;
+mod splicing;
 mod steps;
 mod walking;
 
 pub use dm_bound::{BoundWord, Hand};
 pub use dm_guide::Task;
-pub use finishing::{finish, finish_task, plan, plan_task, whole};
-pub use moving::{evaluator_at_base, step_to};
+pub use finishing::{finish, finish_with, plan, plan_task, plan_with, whole};
+pub use judging::{Judge, Judged};
+pub use moving::{evaluator_at_base, searcher_at, step_to};
 pub use steps::{Outcome, step};

@@ -11,7 +11,7 @@ use crate::finishing::evaluator_of;
 use crate::walking::{make_all, outcome_here, violated_in, walk};
 use dm_base::Cost;
 use dm_evaluate::Evaluator;
-use dm_guide::Task;
+use dm_guide::{Searcher, Task};
 use dm_rows::Decision;
 use std::alloc::AllocError;
 
@@ -37,6 +37,18 @@ fn decide_base(task: &Task<'_>, evaluator: &mut Evaluator) -> Result<(), AllocEr
         return Err(AllocError);
     };
     Ok(())
+}
+
+/// The searcher at a place, from 0, among so many, at the base of a task whose rows have no cycle.
+pub fn searcher_at<'t>(
+    task: &Task<'t>,
+    place: usize,
+    many: usize,
+) -> Result<Searcher<'t>, AllocError>
+    requires { IsPosedTask task.now }
+{
+    let evaluator = evaluator_at_base(task)?;
+    Searcher::new(task, evaluator, place, many)
 }
 
 /// What [`step`](crate::step) says of a path behind the base of a task, in the time that the task's evaluator takes to go there.

@@ -13,10 +13,11 @@ ghost use Rattle.dm_search.specs.Moving.{IsOver};
 ghost use Rattle.dm_search.specs.Inside.Searching.{AreBest, AreUsedUp, IsSearched, Stands, IsCeiling, IsFound, IsAdvanced};
 
 use crate::Outcome;
+use crate::parts::{Advice, Hints, Sight};
 use crate::walking::step_there;
 use dm_base::{Cost, Items};
 use dm_evaluate::Evaluator;
-use dm_guide::{Guide, Hint, Task};
+use dm_guide::Task;
 use dm_rows::{Choice, Decision};
 use dm_tree::{Node, turn_back};
 use std::alloc::{AllocError, Global};
@@ -38,17 +39,10 @@ pub(crate) struct Standing {
 /// The first nodes of a tree in preorder, the path to the next one, and the nodes from there on, of which the next one stands
 /// last.
 #[derive(Drop)]
-struct Search {
-    nodes: Vec<Node>,
-    path: Vec<Decision>,
-    due: Vec<Node>,
-}
-
-/// A guide, and its nodes for the last of the nodes that are due.
-#[derive(Drop)]
-struct Hints<'g> {
-    guide: &'g Guide,
-    due: Vec<Option<usize>>,
+pub(crate) struct Search {
+    pub(crate) nodes: Vec<Node>,
+    pub(crate) path: Vec<Decision>,
+    pub(crate) due: Vec<Node>,
 }
 
 /// What is found at a leaf.
@@ -66,7 +60,7 @@ pub(crate) enum Found {
 
 impl Search {
     /// Nothing is settled: the root is the next node.
-    fn new(alloc: Global, nodes: Vec<Node>) -> Search
+    pub(crate) fn new(alloc: Global, nodes: Vec<Node>) -> Search
         ensures nodes { result.nodes.items ≡ [] }
         ensures path { result.path.items ≡ [] }
         ensures due { result.due.items ≡ reverse nodes.items }
@@ -81,7 +75,7 @@ impl Search {
     }
 
     /// Settles a choice and goes on to its first child.
-    fn descend(&mut self, choice: Choice) -> Result<(), AllocError>
+    pub(crate) fn descend(&mut self, choice: Choice) -> Result<(), AllocError>
         ensures nodes { OnOk result (self.new.nodes.items ≡ self.old.nodes.items ++ InnerNode choice ∷ []) }
         ensures path { OnOk result (self.new.path.items ≡ self.old.path.items ++ first_decision choice ∷ []) }
         ensures due { self.new.due.items ≡ self.old.due.items }
@@ -103,7 +97,7 @@ impl Search {
     }
 
     /// Settles a leaf and goes on to the next node in preorder, if there is one.
-    fn leave(&mut self, leaf: Node) -> Result<(), AllocError>
+    pub(crate) fn leave(&mut self, leaf: Node) -> Result<(), AllocError>
         ensures nodes { OnOk result (self.new.nodes.items ≡ self.old.nodes.items ++ leaf ∷ []) }
         ensures path { OnOk result ((pending self.old.path.items ≡ self.new.path.items ∷ pending self.new.path.items)
             ⊎ (pending self.old.path.items ≡ [])) }
@@ -117,35 +111,6 @@ impl Search {
     }
 }
 
-impl Hints<'_> {
-    /// What the guide says of the node that stands next.
-    fn next(&mut self) -> Option<Hint> {
-        match self.due.pop() {
-            Some(Some(node)) => self.guide.hint(node),
-            _ => None,
-        }
-    }
-
-    /// Goes on to the guide's children, where the search branches as it does, and else to none.
-    fn branch(&mut self, hint: Option<Hint>, choice: Choice) -> Result<(), AllocError> {
-        let below = match hint {
-            Some(hint) if hint.choice == Some(choice) => hint.below,
-            _ => None,
-        };
-        self.due.push(beside(below))?;
-        self.due.push(below)?;
-        Ok(())
-    }
-}
-
-/// The guide's second child.
-fn beside(below: Option<usize>) -> Option<usize> {
-    match below {
-        Some(node) => node.checked_add(1),
-        None => None,
-    }
-}
-
 /// Goes through a tree in preorder: each hole is searched, and each leaf below the limit while there is room for two nodes
 /// more.
 pub(crate) fn traverse(
@@ -153,7 +118,7 @@ pub(crate) fn traverse(
     evaluator: &mut Evaluator,
     standing: Standing,
     limit: Cost,
-    guide: &Guide,
+    hints: Hints<'_>,
 ) -> Result<Standing, AllocError>
     requires posed { IsPosedTask task.now }
     requires evaluator { IsOver (task_of task.now) evaluator.old }
@@ -164,10 +129,7 @@ pub(crate) fn traverse(
     ensures evaluator { IsOver (task_of task.now) evaluator.new }
 {
     task.net.sound();
-    let mut hints = Hints {
-        guide,
-        due: vec![in task.alloc; Some(0)]?,
-    };
+    let mut hints = hints;
     let mut search = Search::new(task.alloc, standing.nodes);
     let best = standing.best;
     let best = search_all(task, evaluator, &mut search, best, limit, &mut hints)?;
@@ -240,7 +202,7 @@ fn advance(
         node,
         best.cost,
         ceiling,
-        hinted(hint),
+        hints.advice(hint),
     )?;
     if let Found::Split(choice) = &found {
         hints.branch(hint, *choice)?;
@@ -286,20 +248,12 @@ fn place(
 }
 
 /// How little a leaf costs that is searched: where the guide has a choice there, each one that costs less than the best.
-fn wanted_at(hint: Option<Hint>, limit: Cost, best: Cost) -> Cost
+fn wanted_at(hint: Option<Sight>, limit: Cost, best: Cost) -> Cost
     ensures { limit ≤ result }
 {
     match hint {
-        Some(Hint { below: Some(_), .. }) => limit.max(best),
+        Some(sight) if sight.hint.below.is_some() => limit.max(best),
         _ => limit,
-    }
-}
-
-/// The choice that the guide branches on, or knows to be violated.
-fn hinted(hint: Option<Hint>) -> Option<Choice> {
-    match hint {
-        Some(hint) => hint.choice,
-        None => None,
     }
 }
 
@@ -321,7 +275,7 @@ fn found_at(
     leaf: Node,
     best: Cost,
     ceiling: Cost,
-    hint: Option<Choice>,
+    advice: Advice,
 ) -> Result<Found, AllocError>
     requires posed { IsPosedTask task.now }
     requires evaluator { IsOver (task_of task.now) evaluator.old }
@@ -334,13 +288,14 @@ fn found_at(
 {
     task.net.sound();
     match leaf {
+        Node::Hole if advice.is_elsewhere => return Ok(Found::Settled(Node::Hole)),
         Node::Hole => {}
         Node::Open(cost) if cost < ceiling => {}
         Node::Inner(_) | Node::Cycle | Node::Bound(_) | Node::Open(_) => {
             return Ok(Found::Settled(leaf));
         }
     }
-    match step_there(task, evaluator, path, best, hint)? {
+    match step_there(task, evaluator, path, best, advice.choice)? {
         Outcome::Cycle => Ok(Found::Settled(Node::Cycle)),
         Outcome::Pruned(cost) => Ok(Found::Settled(Node::Bound(cost))),
         Outcome::Solved(cost, choices) => Ok(Found::Better(Best { choices, cost })),

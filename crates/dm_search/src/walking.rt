@@ -23,8 +23,8 @@ use std::alloc::AllocError;
 use std::marker::Brand;
 use std::sync::ledger::{Blank, Ledger};
 
-/// What a search does with a path behind the base of a task, in the time that the task's evaluator takes to go there. It branches on
-/// the choice that it is hinted at, where that one is violated.
+/// What a search does with a path behind the base of a task, in the time that the task's evaluator takes to go there. It branches
+/// on the choice that it is hinted at, where that one is violated.
 pub(crate) fn step_there(
     task: &Task<'_>,
     evaluator: &mut Evaluator,
@@ -142,8 +142,8 @@ fn violated_with<L: Ledger>(
     evaluator.violated(net, &mut steps)
 }
 
-/// Brings a task's evaluator to a path behind the base: decisions are taken back from the end of its own path down to what both have
-/// in front, and the others of the path are made. It is refused where the relaxed problem of the path has a cycle.
+/// Brings a task's evaluator to a path behind the base: decisions are taken back from the end of its own path down to what both
+/// have in front, and the others of the path are made. It is refused where the relaxed problem of the path has a cycle.
 pub(crate) fn walk(
     task: &Task<'_>,
     evaluator: &mut Evaluator,
@@ -175,7 +175,7 @@ pub(crate) fn behind(path: &[Decision], many: usize) -> &[Decision]
 }
 
 /// How many decisions the two have in common at the front.
-fn common_front(one: &[Decision], other: &[Decision]) -> usize
+pub(crate) fn common_front(one: &[Decision], other: &[Decision]) -> usize
     ensures { AreFronts one.now other.now result }
 {
     for (i, decision) in one.iter().enumerate() {

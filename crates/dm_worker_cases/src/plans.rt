@@ -6,12 +6,13 @@ ghost use Rattle.dm_rows.specs.Rows.{IsSized};
 use crate::late::late_rows;
 use dm_base::{ActId, Cost, EventId};
 use dm_network::Network;
-use dm_outside::OpenGate;
+use dm_outside::{Gate, OpenGate};
 use dm_rows::{Choice, Decision, Snapshot};
 use dm_samples::{Draws, Failure, Sample, drawn_rows, generated_day};
 use dm_times::{cost, least};
 use dm_tree::{Mark, Node, Plan};
 use dm_workers::search;
+use std::alloc::Global;
 use std::sync::Wait;
 use std::thread::Threads;
 
@@ -37,7 +38,7 @@ const TURNS: u32 = 50;
 
 const MANY: u32 = 16;
 
-const DAY_BUDGET: u64 = 300;
+pub const DAY_BUDGET: u64 = 300;
 
 /// The plan of the late connection is the same for any number of workers.
 pub fn connection_is_planned<R: Threads + Wait + Sync + AllocGlobal>(
@@ -48,7 +49,7 @@ pub fn connection_is_planned<R: Threads + Wait + Sync + AllocGlobal>(
 {
     let net = Sample::Connection.network(rt.alloc())?;
     let late = late_rows(rt.alloc(), &net)?;
-    let plan = planned(rt, &net, &late, workers, 100)?;
+    let plan = planned(rt, &net, &late, workers, 100, &OpenGate)?;
     is_plan_of_connection(&plan)
 }
 
@@ -62,8 +63,7 @@ fn is_plan_of_connection(plan: &Plan) -> Result<(), Failure> {
     Ok(())
 }
 
-/// A day of 100 trains after drawn messages is planned many times. Each plan branches, costs no more than the rows by themselves, and no
-/// less than its bound.
+/// A day of 100 trains after drawn messages is planned many times.
 pub fn day_is_planned<R: Threads + Wait + Sync + AllocGlobal>(rt: &R) -> Result<(), Failure> {
     let net = generated_day(rt.alloc(), TRAINS)?;
     let mut draws = Draws {
@@ -81,18 +81,26 @@ fn plan_often<R: Threads + Wait + Sync + AllocGlobal>(
 ) -> Result<(), Failure>
     requires sized { IsSized net.now late.now.rows }
 {
-    let Ok(times) = least(rt.alloc(), net, &late.rows) else {
-        return Err(Failure::NoDay);
-    };
-    let own = cost(net, &late.rows, &times, PENALTY);
+    let own = own_cost(rt.alloc(), net, late)?;
     for turn in 0..TURNS {
-        let plan = planned(rt, net, late, MANY, DAY_BUDGET)?;
+        let plan = planned(rt, net, late, MANY, DAY_BUDGET, &OpenGate)?;
         is_good_plan(&plan, own, turn)?;
     }
     Ok(())
 }
 
-fn is_good_plan(plan: &Plan, own: Cost, turn: u32) -> Result<(), Failure> {
+/// What the rows cost by themselves.
+pub fn own_cost(alloc: Global, net: &Network, late: &Snapshot) -> Result<Cost, Failure>
+    requires sized { IsSized net.now late.now.rows }
+{
+    let Ok(times) = least(alloc, net, &late.rows) else {
+        return Err(Failure::NoDay);
+    };
+    Ok(cost(net, &late.rows, &times, PENALTY))
+}
+
+/// Whether a plan branches, costs no more than the rows by themselves, and no less than its bound.
+pub fn is_good_plan(plan: &Plan, own: Cost, turn: u32) -> Result<(), Failure> {
     let nodes = plan.tree.as_slice().len() as u64;
     if plan.cost > own || plan.bound > plan.cost || nodes > DAY_BUDGET {
         return Err(Failure::Differs(turn));
@@ -103,12 +111,14 @@ fn is_good_plan(plan: &Plan, own: Cost, turn: u32) -> Result<(), Failure> {
     Ok(())
 }
 
-fn planned<R: Threads + Wait + Sync + AllocGlobal>(
+/// What so many workers find who pass a gate.
+pub fn planned<R: Threads + Wait + Sync + AllocGlobal, G: Gate>(
     rt: &R,
     net: &Network,
     late: &Snapshot,
     workers: u32,
     budget: u64,
+    gate: &G,
 ) -> Result<Plan, Failure>
     requires sized { IsSized net.now late.now.rows }
     requires workers { (1 ≤ workers) × (workers ≤ WORKERS) }
@@ -118,6 +128,6 @@ fn planned<R: Threads + Wait + Sync + AllocGlobal>(
     let Ok(_times) = least(alloc, net, &late.rows) else {
         return Err(Failure::NoDay);
     };
-    let plan = search(rt, alloc, net, PENALTY, late, budget, workers, &OpenGate)?;
+    let plan = search(rt, alloc, net, PENALTY, late, budget, workers, gate)?;
     Ok(plan)
 }

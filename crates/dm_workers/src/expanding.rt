@@ -15,9 +15,9 @@ use dm_rows::{Decision, Snapshot};
 use dm_search::{BoundWord, Hand, Outcome, Task, step, step_to};
 use std::alloc::{AllocError, Global};
 
-/// What a search does with a path over the rows of a snapshot, where the best choices so far cost what the word tells: it looks at the
-/// word once, and where nothing is violated it lowers the word by the cost. The path decides free choices, none twice. The penalty is in
-/// seconds for each passenger, at most 1,000,000.
+/// What a search does with a path over the rows of a snapshot, where the best choices so far cost what the word tells: it looks
+/// at the word once, and where nothing is violated it lowers the word by the cost. The path decides free choices, none twice. The
+/// penalty is in seconds for each passenger, at most 1,000,000.
 pub fn expand(
     alloc: Global,
     net: &Network,
@@ -44,7 +44,8 @@ pub fn expand(
     }
 }
 
-/// The same for a path behind the base of a task, by an evaluator that goes there from where it stands, with the value that the word had.
+/// The same for a path behind the base of a task, by an evaluator that goes there from where it stands, with the value that the
+/// word had.
 pub(crate) fn expand_to(
     task: &Task<'_>,
     evaluator: &mut Evaluator,

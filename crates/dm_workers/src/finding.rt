@@ -37,6 +37,7 @@ pub(crate) fn find_nodes<R: Threads + Wait + Sync, H: Hold + Sync>(
     task: &Task<'_>,
     own: Cost,
     workers: u32,
+    pace: &Pace,
     gate: &H,
 ) -> Result<Found, AllocError>
     requires posed { IsPosedTask task.now }
@@ -45,7 +46,7 @@ pub(crate) fn find_nodes<R: Threads + Wait + Sync, H: Hold + Sync>(
     requires own { IsOwnCost (task_of task.now) own }
     ensures { IfOk result (λ found. IsFound (task_of task.now) own found.leaves.items found.best.choices found.best.cost) }
 {
-    find::<Brand, R, H>(rt, task, own, workers, gate)
+    find::<Brand, R, H>(rt, task, own, workers, pace, gate)
 }
 
 /// What workers find, each on a deque of its own and on those of the others.
@@ -54,6 +55,7 @@ fn find<F: Grown<Path> + Send + Sync, R: Threads + Wait + Sync, H: Hold + Sync>(
     task: &Task<'_>,
     own: Cost,
     workers: u32,
+    pace: &Pace,
     gate: &H,
 ) -> Result<Found, AllocError>
     requires posed { IsPosedTask task.now }
@@ -69,7 +71,6 @@ fn find<F: Grown<Path> + Send + Sync, R: Threads + Wait + Sync, H: Hold + Sync>(
     let (word, mut hand) = BoundWord::new(alloc, start, workers + 1)?;
     let (owners, thieves) = enlist::<F>(alloc, workers)?;
     let crew = muster(alloc, &word, &mut hand, own, owners)?;
-    let pace = Pace::new();
     let share = task.budget.saturating_sub(1) / (2 * workers as u64);
     let team = Team {
         task,
@@ -77,7 +78,7 @@ fn find<F: Grown<Path> + Send + Sync, R: Threads + Wait + Sync, H: Hold + Sync>(
         word: &word,
         start,
         thieves: &thieves,
-        pace: &pace,
+        pace,
         share,
     };
     let worked = work_all(rt, &team, crew, gate)?;

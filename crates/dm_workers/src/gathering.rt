@@ -16,8 +16,8 @@ use dm_search::{BoundWord, Hand};
 use dm_tree::Leaf;
 use std::alloc::{AllocError, Global};
 
-/// What all workers have: their deques, what each has taken from all of them, their hands made one, their leaves, and the cheapest
-/// of their choices.
+/// What all workers have: their deques, what each has taken from all of them, their hands made one, their leaves, and the
+/// cheapest of their choices.
 #[derive(Drop)]
 pub(crate) struct Gathered<F: Grown<Path>> {
     pub(crate) owners: Vec<Owner<Path, F>>,

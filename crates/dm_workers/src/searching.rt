@@ -12,21 +12,26 @@ ghost use Rattle.dm_workers.specs.Inside.Workers.{IsOwnCost};
 ghost use Rattle.dm_workers.specs.Inside.Found.{IsFound};
 
 use crate::finding::{Found, find_nodes};
+use crate::pace::Pace;
+use crate::rounds::{begin, plan_at_once};
 use crate::working::Best;
 use dm_base::Cost;
 use dm_desk::Hold;
+use dm_guide::{Guide, Searcher};
 use dm_network::Network;
 use dm_rows::Snapshot;
-use dm_search::{Task, finish_task, whole};
-use dm_times::{cost, least};
+use dm_search::{Task, evaluator_at_base, finish_with, whole};
 use dm_tree::{AssembleFault, Leaf, Node, Partial, Plan, assemble};
 use std::alloc::{AllocError, Global};
 use std::sync::Wait;
 use std::thread::Threads;
 
-/// A true plan for the rows of a snapshot, which have no cycle, with the snapshot's entry and a tree of at most `budget` nodes, of
-/// which there are 1 to 16,384, searched by 1 to 16 workers in threads of their own. The penalty is in seconds for each passenger, at
-/// most 1,000,000.
+/// A root where more choices are violated than this is not searched from deques: so few branchings do not end it.
+const FEW: usize = 64;
+
+/// A true plan for the rows of a snapshot, which have no cycle, with the snapshot's entry and a tree of at most `budget` nodes,
+/// of which there are 1 to 16,384, searched by 1 to 16 workers in threads of their own. The penalty is in seconds for each
+/// passenger, at most 1,000,000.
 pub fn search<R: Threads + Wait + Sync, H: Hold + Sync>(
     rt: &R,
     alloc: Global,
@@ -50,8 +55,8 @@ pub fn search<R: Threads + Wait + Sync, H: Hold + Sync>(
     search_task(rt, &task, snapshot.entry, workers, gate)
 }
 
-/// The same for a task, with an entry. A search that the workers end is the plan's tree; else it is searched anew from the best choices
-/// that they have found.
+/// The same for a task, with an entry. A search that the workers end is the plan's tree; else it is searched anew from the root.
+/// What choices they had found by then hangs on whose turn it was, so that these are not taken up.
 pub fn search_task<R: Threads + Wait + Sync, H: Hold + Sync>(
     rt: &R,
     task: &Task<'_>,
@@ -66,24 +71,30 @@ pub fn search_task<R: Threads + Wait + Sync, H: Hold + Sync>(
     ensures plan { IfOk result (IsTruePlan (task_of task.now)) }
     ensures entry { IfOk result (λ plan. plan.entry ≡ entry) }
 {
-    let own = own_cost(task)?;
-    let found = find_nodes(rt, task, own, workers, gate)?;
+    let (own, searchers) = begin(rt, task, workers)?;
+    let mut searchers = searchers;
+    let pace = Pace::new();
+    if !is_small(searchers.as_mut_slice())? {
+        pace.stop();
+    }
+    let found = find_nodes(rt, task, own, workers, &pace, gate)?;
     let (partial, best) = begun(task, own, found)?;
-    finish_task(task, entry, partial, best.choices.into_vec())
+    if is_whole(&partial) {
+        return finish_alone(task, entry, partial, best);
+    }
+    plan_at_once(rt, task, entry, own, searchers.as_mut_slice())
 }
 
-/// What the rows cost by themselves.
-fn own_cost(task: &Task<'_>) -> Result<Cost, AllocError>
-    requires posed { IsPosedTask task.now }
-    ensures { IfOk result (IsOwnCost (task_of task.now)) }
-{
-    match least(task.alloc, task.net, task.rows) {
-        Ok(times) => Ok(cost(task.net, task.rows, &times, task.penalty)),
-        Err(_no_times) => Err(AllocError),
+/// Whether so few choices are violated at the root that a few branchings may end the search, or nobody can tell.
+fn is_small(searchers: &mut [Searcher<'_>]) -> Result<bool, AllocError> {
+    match searchers.first_mut() {
+        Some(first) => Ok(first.violated()? <= FEW),
+        None => Ok(true),
     }
 }
 
-/// The tree that a search goes on from, and the choices: the workers' tree where it is whole and keeps to the budget, and else one hole.
+/// The tree that a search goes on from, and the choices: the workers' tree where it is whole and keeps to the budget, and else
+/// one hole.
 fn begun(task: &Task<'_>, own: Cost, found: Found) -> Result<(Partial, Best), AllocError>
     requires posed { IsPosedTask task.now }
     requires no_cycle { HasNoCycle task.now.net.now task.now.rows.now }
@@ -100,6 +111,24 @@ fn begun(task: &Task<'_>, own: Cost, found: Found) -> Result<(Partial, Best), Al
     }
     let hole = one_hole(task.alloc)?;
     Ok((hole, best))
+}
+
+/// The plan of a tree that is whole: nothing guides what is left.
+fn finish_alone(
+    task: &Task<'_>,
+    entry: u32,
+    partial: Partial,
+    best: Best,
+) -> Result<Plan, AllocError>
+    requires posed { IsPosedTask task.now }
+    requires start { IsStart (task_of task.now) partial best.choices }
+    ensures plan { IfOk result (IsTruePlan (task_of task.now)) }
+    ensures entry { IfOk result (λ plan. plan.entry ≡ entry) }
+{
+    let mut evaluator = evaluator_at_base(task)?;
+    let guide = Guide::new(task.alloc);
+    let choices = best.choices.into_vec();
+    finish_with(task, entry, partial, choices, &mut evaluator, &guide)
 }
 
 /// The tree of the leaves that the workers have handed in.

@@ -41,8 +41,8 @@ pub(crate) struct Best {
     pub(crate) cost: Cost,
 }
 
-/// One worker of a search: its number from 1, how many branchings it has made, its deque, what it has taken from all deques, its hand
-/// of the word, the leaves that it hands in, and its best choices.
+/// One worker of a search: its number from 1, how many branchings it has made, its deque, what it has taken from all deques, its
+/// hand of the word, the leaves that it hands in, and its best choices.
 #[derive(Drop)]
 pub(crate) struct Worker<F: Grown<Path>> {
     pub(crate) who: u32,
@@ -201,13 +201,11 @@ impl<F: Grown<Path>> Worker<F> {
         self,
         rt: &R,
         team: &Team<'_, '_, F>,
-        evaluator: &mut Evaluator,
         gate: &H,
     ) -> Result<Worker<F>, AllocError>
         requires posed { IsPosedTask team.now.task.now }
         requires picks { PicksNodes (task_of team.now.task.now) F.fits }
         requires own { IsOwnCost (task_of team.now.task.now) team.now.own }
-        requires evaluator { IsOver (task_of team.now.task.now) evaluator.old }
         requires deques { map deque_of self.tallies.items ≡ team.now.thieves.now.items }
         requires word { self.hand.word ≡ team.now.word.now.id }
         ensures same { IfOk result (IsSameWorker self) }
@@ -217,9 +215,10 @@ impl<F: Grown<Path>> Worker<F> {
             → IsWorking (task_of team.now.task.now) team.now.own team.now.word.now.id start given nothing w) }
     {
         let mut worker = self;
+        let mut evaluator: Option<Evaluator> = None;
         for _ in rt.forever() {
             match worker.next(team.thieves) {
-                Some(path) => worker.take_on(team, evaluator, path, gate)?,
+                Some(path) => worker.take_on(team, &mut evaluator, path, gate)?,
                 None => {
                     if team.pace.has_ended() {
                         return Ok(worker);
@@ -232,11 +231,11 @@ impl<F: Grown<Path>> Worker<F> {
         unreachable!()
     }
 
-    /// Expands a node, or gives it up where no further one is expanded.
+    /// Expands a node, or gives it up where no further one is expanded. The evaluator is made at the first that it expands.
     fn take_on<H: Hold>(
         &mut self,
         team: &Team<'_, '_, F>,
-        evaluator: &mut Evaluator,
+        evaluator: &mut Option<Evaluator>,
         path: Path,
         gate: &H,
     ) -> Result<(), AllocError>
@@ -244,9 +243,9 @@ impl<F: Grown<Path>> Worker<F> {
         requires picks { PicksNodes (task_of team.now.task.now) F.fits }
         requires own { IsOwnCost (task_of team.now.task.now) team.now.own }
         requires fits { F.fits path }
-        requires evaluator { IsOver (task_of team.now.task.now) evaluator.old }
+        requires evaluator { IfSome evaluator.old (IsOver (task_of team.now.task.now)) }
         requires word { self.old.hand.word ≡ team.now.word.now.id }
-        ensures evaluator { IsOver (task_of team.now.task.now) evaluator.new }
+        ensures evaluator { IfSome evaluator.new (IsOver (task_of team.now.task.now)) }
         ensures same { OnOk result (IsSameWorker self.old self.new) }
         ensures works { OnOk result ((given : List Bool → ℕ) (start : ℕ)
             → IsWorking (task_of team.now.task.now) team.now.own team.now.word.now.id start given (λ s. on_way s path) self.old
@@ -257,7 +256,22 @@ impl<F: Grown<Path>> Worker<F> {
             return Ok(());
         }
         gate.hold(self.who, EXPANDS);
-        self.expand(team, evaluator, path)
+        let mut there = made(team.task, evaluator.take())?;
+        self.expand(team, &mut there, path)?;
+        *evaluator = Some(there);
+        Ok(())
+    }
+}
+
+/// An evaluator of the task, made where there is none yet.
+fn made(task: &Task<'_>, evaluator: Option<Evaluator>) -> Result<Evaluator, AllocError>
+    requires posed { IsPosedTask task.now }
+    requires evaluator { IfSome evaluator (IsOver (task_of task.now)) }
+    ensures { IfOk result (IsOver (task_of task.now)) }
+{
+    match evaluator {
+        Some(evaluator) => Ok(evaluator),
+        None => evaluator_at_base(task),
     }
 }
 
@@ -304,8 +318,7 @@ impl<F: Grown<Path>> Worker<F> {
         let mut worker = self;
         let tallies = tallies_of(team.task.alloc, team.thieves.as_slice())?;
         worker.tallies = tallies;
-        let mut evaluator = evaluator_at_base(team.task)?;
-        match worker.work_on(rt, team, &mut evaluator, gate) {
+        match worker.work_on(rt, team, gate) {
             Ok(done) => Ok(done),
             Err(fault) => Err(fault),
         }

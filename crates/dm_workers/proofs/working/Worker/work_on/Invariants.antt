@@ -1,4 +1,5 @@
 use Rattle.std.proofs.Common.{ℕ, Bool, List}
+use Rattle.std.specs.Prelude.{IfSome}
 use Rattle.dm_guide.specs.Tasks.{task_of}
 use Rattle.dm_search.specs.Moving.{IsOver}
 use Rattle.dm_workers.specs.Inside.Working.{nothing}
@@ -9,7 +10,7 @@ abbrev pub invariant-loop : goal.invariant-loop
 invariant-loop g l =
     record {
       same : IsSameWorker l.fn.self l.worker;
-      at : IsOver (task_of l.fn.team.task.now) l.evaluator;
+      at : IfSome l.evaluator (IsOver (task_of l.fn.team.task.now));
       works : (given : List Bool → ℕ) (start : ℕ) → IsWorking (task_of l.fn.team.task.now) l.fn.team.own l.fn.team.word.now.id start given nothing l.fn.self
           → IsWorking (task_of l.fn.team.task.now) l.fn.team.own l.fn.team.word.now.id start given nothing l.worker;
     }

@@ -1,0 +1,85 @@
+//! What several searchers do at once, each its part.
+
+use crate::choices::Side;
+use crate::searchers::Searcher;
+use crate::sharing::Leaves;
+use std::alloc::{AllocError, Global};
+
+/// What searchers do at once, each its part. All of them read it, and each changes nothing but itself.
+#[derive(Drop)]
+pub struct Round {
+    /// How many searchers have a part in it: all of them, or the first alone.
+    pub(crate) parts: usize,
+    pub(crate) work: Work,
+}
+
+/// What there is to do.
+#[derive(Drop)]
+pub enum Work {
+    /// A window of so many choices around each of these.
+    Windows(Seeds, usize),
+
+    /// A kick of each of these choices.
+    Kicks(Seeds),
+
+    /// Expands the leaves of a tree.
+    Leaves(Leaves),
+}
+
+/// Choices to begin from, and the sides on which the first searcher has all choices, none where it is alone.
+#[derive(Drop)]
+pub struct Seeds {
+    pub numbers: Vec<usize>,
+    pub sides: Vec<Option<Side>>,
+}
+
+/// Has all searchers that have a part in a round do it. The first alone needs nobody to run it.
+pub fn play<'t, F: Fn(&Round, &mut Searcher<'t>, &mut [Searcher<'t>])>(
+    first: &mut Searcher<'t>,
+    others: &mut [Searcher<'t>],
+    run: &F,
+    round: &Round,
+) -> Result<(), AllocError>
+    requires { F.IsAlwaysCallable run.now }
+{
+    if round.parts < 2 {
+        first.play(round);
+    } else {
+        run(round, first, others);
+    }
+    first.check()?;
+    for other in others.iter() {
+        other.check()?;
+    }
+    Ok(())
+}
+
+/// The part of a searcher: of so many equal blocks of a list the one of its place.
+pub fn block<T>(list: &[T], place: usize, parts: usize) -> &[T] {
+    let many = list.len();
+    let from = many.saturating_mul(place).checked_div(parts);
+    let to = many
+        .saturating_mul(place.saturating_add(1))
+        .checked_div(parts);
+    list.get(from.unwrap_or(0)..to.unwrap_or(0)).unwrap_or(&[])
+}
+
+/// How many blocks of a list each searcher is dealt.
+const BLOCKS: usize = 4;
+
+/// The part of a searcher where blocks of a list are dealt in turn.
+pub fn dealt(
+    alloc: Global,
+    list: &[usize],
+    place: usize,
+    parts: usize,
+) -> Result<Vec<usize>, AllocError> {
+    let mut all = Vec::new(alloc);
+    for k in 0..BLOCKS {
+        let next = k.saturating_mul(parts).saturating_add(place);
+        for i in block(list, next, parts.saturating_mul(BLOCKS)) {
+            all.push(*i)?;
+        }
+    }
+    Ok(all)
+}

@@ -1,0 +1,167 @@
+//! The rounds of a guide, played by several workers at once.
+ghost use Rattle.std.specs.Prelude.{◌≡◌, ◌≤◌, IfOk};
+ghost use Rattle.std.specs.Thread.{IsSync};
+ghost use Rattle.dm_guide.specs.Tasks.{task_of, IsPosedTask};
+ghost use Rattle.dm_rows.specs.Active.{HasNoCycle};
+ghost use Rattle.dm_tree.specs.Plans.{IsTruePlan};
+ghost use Rattle.dm_workers.specs.Inside.Judging.{AreJudges};
+ghost use Rattle.dm_workers.specs.Inside.Workers.{IsOwnCost};
+
+use crate::judging::{Judges, judged, judges_of};
+use dm_base::Cost;
+use dm_guide::{Guide, Round, Searcher, Start, guide};
+use dm_search::{Task, evaluator_at_base, plan_with, searcher_at};
+use dm_times::{cost, least};
+use dm_tree::{Node, Plan};
+use std::alloc::AllocError;
+use std::thread::{Threads, join, join_mut};
+
+/// What the rows cost by themselves.
+fn own_cost(task: &Task<'_>) -> Result<Cost, AllocError>
+    requires posed { IsPosedTask task.now }
+    ensures { IfOk result (IsOwnCost (task_of task.now)) }
+{
+    match least(task.alloc, task.net, task.rows) {
+        Ok(times) => Ok(cost(task.net, task.rows, &times, task.penalty)),
+        Err(_no_times) => Err(AllocError),
+    }
+}
+
+/// What the rows cost by themselves, and so many searchers at the root, where there is room for a choice.
+pub(crate) fn begin<'t, R: Threads + Sync>(
+    rt: &R,
+    task: &Task<'t>,
+    workers: u32,
+) -> Result<(Cost, Vec<Searcher<'t>>), AllocError>
+    requires posed { IsPosedTask task.now }
+    ensures own { IfOk result (λ r. IsOwnCost (task_of task.now) r.0) }
+{
+    if task.budget < 3 {
+        return Ok((own_cost(task)?, Vec::new(task.alloc)));
+    }
+    let many = workers as usize;
+    if many < 2 {
+        let own = own_cost(task)?;
+        return Ok((own, searchers_of(rt, task, many, many)?));
+    }
+    let mut cost = || -> Result<Cost, AllocError>
+        requires { IsPosedTask task.now }
+        ensures { IfOk result (IsOwnCost (task_of task.entry.now)) }
+    { own_cost(task) };
+    let mut make = ||
+        requires { IsSync R.row × IsPosedTask task.now }
+    { searchers_of(rt, task, many, many) };
+    let (own, searchers) = join_mut(rt, &mut cost, &mut make);
+    Ok((own?, searchers?))
+}
+
+/// The first so many of many searchers, each made in a thread of its own where one can be made. This one starts them all, and
+/// makes the first then.
+#[cycle(make)]
+fn searchers_of<'t, R: Threads + Sync>(
+    rt: &R,
+    task: &Task<'t>,
+    count: usize,
+    many: usize,
+) -> Result<Vec<Searcher<'t>>, AllocError>
+    requires { IsPosedTask task.now }
+{
+    if count < 2 {
+        let mut all = Vec::with_capacity(task.alloc, many)?;
+        all.push(searcher_at(task, 0, many)?)?;
+        return Ok(all);
+    }
+    let last = count - 1;
+    let (searcher, before) = join(
+        rt,
+        ||
+            requires { IsPosedTask task.now }
+        { searcher_at(task, last, many) },
+        ||
+            requires { IsSync R.row × IsPosedTask task.now }
+        { searchers_of(rt, task, last, many) },
+    );
+    let mut all = before?;
+    all.push(searcher?)?;
+    Ok(all)
+}
+
+/// A true plan for a task, with an entry, whose rows cost so much by themselves: the searchers look for a guide, in rounds that
+/// they play at once, and judges who are made meanwhile share what it says.
+pub(crate) fn plan_at_once<'t, R: Threads + Sync>(
+    rt: &R,
+    task: &Task<'t>,
+    entry: u32,
+    own: Cost,
+    searchers: &mut [Searcher<'t>],
+) -> Result<Plan, AllocError>
+    requires posed { IsPosedTask task.now }
+    requires no_cycle { HasNoCycle task.now.net.now task.now.rows.now }
+    requires some { 1 ≤ task.now.budget }
+    requires own { IsOwnCost (task_of task.now) own }
+    ensures plan { IfOk result (IsTruePlan (task_of task.now)) }
+    ensures entry { IfOk result (λ plan. plan.entry ≡ entry) }
+{
+    if searchers.len() < 2 {
+        let guide = guided(rt, task, own, searchers)?;
+        let mut evaluator = evaluator_at_base(task)?;
+        return plan_with(task, entry, own, &mut evaluator, &guide);
+    }
+    let many = searchers.len() - 1;
+    let mut gather = || -> Result<Judges, AllocError>
+        requires { IsPosedTask task.now × HasNoCycle task.now.net.now task.now.rows.now × (1 ≤ task.now.budget)
+            × IsOwnCost (task_of task.now) own }
+        ensures { IfOk result (AreJudges (task_of task.entry.now)) }
+    { judges_of(task, own, many) };
+    let mut look = || -> Result<Guide, AllocError>
+        requires { IsSync R.row }
+    { guided(rt, task, own, searchers) };
+    let (judges, guide) = join_mut(rt, &mut gather, &mut look);
+    let guide = guide?;
+    let judge = judged(rt, &guide, judges?)?;
+    judge.plan(entry)
+}
+
+/// What guides a search from the root.
+fn guided<'t, R: Threads + Sync>(
+    rt: &R,
+    task: &Task<'t>,
+    own: Cost,
+    searchers: &mut [Searcher<'t>],
+) -> Result<Guide, AllocError> {
+    let run = |round: &Round, first: &mut Searcher<'_>, others: &mut [Searcher<'_>]|
+        requires { IsSync R.row }
+    { play_at_once(rt, round, first, others) };
+    let start = Start {
+        nodes: &[Node::Hole],
+        choices: &[],
+        cost: own,
+    };
+    guide(task.alloc, searchers, &run, start, task.budget)
+}
+
+/// Each searcher plays its part of a round, in a thread of its own where one can be made. This one starts them all, and plays the
+/// first's part then.
+#[cycle(play)]
+fn play_at_once<R: Threads + Sync>(
+    rt: &R,
+    round: &Round,
+    first: &mut Searcher<'_>,
+    others: &mut [Searcher<'_>],
+) {
+    let Some((last, rest)) = others.split_last_mut() else {
+        play_one(round, first);
+        return;
+    };
+    join(
+        rt,
+        move || play_one(round, last),
+        move ||
+            requires { IsSync R.row }
+        { play_at_once(rt, round, first, rest) },
+    );
+}
+
+fn play_one(round: &Round, searcher: &mut Searcher<'_>) {
+    searcher.play(round);
+}
