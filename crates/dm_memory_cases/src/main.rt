@@ -1,7 +1,7 @@
 //! Calls that are made again where memory was refused.
 //!
 //! On a connection at one station whose first train is a minute late, calls are made that take memory: entries are kept, a table and
-//! a server are entered into, a journal is followed, and plans, journeys and what computes times are asked for. Where a call is
+//! a server are entered into, a journal is followed, and plans, journeys, trees, completions and what computes times are asked for. Where a call is
 //! refused memory, what it changes is to be as before, and the same call is made again and is to answer. For each case it prints
 //! `NAME ok`, or after how many steps it came out otherwise. With ample memory nothing is refused: `bench/memory.py` refuses each
 //! call for memory in turn, and what is printed is to stay the same. It stands on the crates that it calls and on dm_samples for
@@ -13,6 +13,7 @@ mod entries;
 mod followers;
 mod made;
 mod plans;
+mod problems;
 mod servers;
 mod tables;
 
@@ -26,6 +27,7 @@ use entries::KeepsEntries;
 use followers::FollowsJournal;
 use made::{MakesBoards, MakesOrder};
 use plans::{ComparesRule, FindsJourneys, MakesPlan, MakesWindowPlan};
+use problems::{Assembles, CarriesOver, CompletesPath, Updates};
 use servers::serves;
 use std::io;
 use std::sync::Wait;
@@ -58,6 +60,10 @@ fn on_day<R: Print + Wait + AllocGlobal>(rt: &R, net: &Network, day: &Snapshot) 
     say::<MakesWindowPlan, _>(rt, "window-plan", net, day)?;
     say::<ComparesRule, _>(rt, "rule", net, day)?;
     say::<FindsJourneys, _>(rt, "journeys", net, day)?;
+    say::<CompletesPath, _>(rt, "completion", net, day)?;
+    say::<Assembles, _>(rt, "tree", net, day)?;
+    say::<CarriesOver, _>(rt, "carried-over", net, day)?;
+    say::<Updates, _>(rt, "engine", net, day)?;
     report(rt, "server", serves(rt, net))
 }
 

@@ -18,10 +18,10 @@ use dm_window::window_plan;
 use std::alloc::Global;
 
 /// More nodes than the choices of the connection can have.
-const NODES: u64 = 100;
+pub const NODES: u64 = 100;
 
 /// The least timetable of the rows.
-fn times_of(alloc: Global, net: &Network, rows: &Rows) -> Result<Times, Failure>
+pub fn times_of(alloc: Global, net: &Network, rows: &Rows) -> Result<Times, Failure>
     requires { IsSized net.now rows.now }
     ensures least { IfOk result (IsLeast net.now rows.now) }
     ensures no_cycle { OnOk result (HasNoCycle net.now rows.now) }

@@ -6,7 +6,7 @@ ghost use Rattle.dm_server.specs.Answers.{IsTrueOf};
 ghost use Rattle.dm_server_cases.specs.Passes.{IsOver, IsSame};
 
 use crate::calls::{LATE, PENALTY, copied, post};
-use crate::case::{Case, Opened};
+use crate::case::Case;
 use crate::standing::{Decided, stands};
 use dm_base::ActId;
 use dm_base::limits::ENTRIES;
@@ -29,23 +29,20 @@ type Answers = [Result<u32, AdoptRefusal>; 2];
 pub struct AdoptsPlan;
 
 impl Case for AdoptsPlan {
-    fn come_out<R: Wait + AllocGlobal>(rt: &R, opened: Opened<'_>) -> Result<(), Failure> {
-        let Opened {
-            net,
-            server,
-            mut pass,
-        } = opened;
-        let entered = post(rt, &server, &mut pass, LATE) == Ok(1);
-        let before = stands_after(rt, net, &server, &mut pass, 1, Decided::Kept);
-        let answers = adopt_twice(rt, net, &server, &mut pass);
-        let after = stands_after(rt, net, &server, &mut pass, 2, Decided::Dropped);
-        let entries = server.close(pass).len();
+    const ENTRIES: u32 = 2;
+
+    fn comes_out<'n, R: Wait + AllocGlobal>(
+        rt: &R,
+        net: &'n Network,
+        server: &Server<'n>,
+        pass: &mut Pass<Kept<'n>>,
+    ) -> Result<bool, Failure> {
+        let entered = post(rt, server, pass, LATE) == Ok(1);
+        let before = stands_after(rt, net, server, pass, 1, Decided::Kept);
+        let answers = adopt_twice(rt, net, server, pass);
+        let after = stands_after(rt, net, server, pass, 2, Decided::Dropped);
         let due = answers == Some([Ok(2), Err(AdoptRefusal::Old { now: 2 })]);
-        if entered && before && due && after && entries == 2 {
-            Ok(())
-        } else {
-            Err(Failure::Differs(1))
-        }
+        Ok(entered && before && due && after)
     }
 }
 
@@ -74,21 +71,17 @@ fn stands_after<'n, R: Wait>(
 pub struct FullServerAdoptsNothing;
 
 impl Case for FullServerAdoptsNothing {
-    fn come_out<R: Wait + AllocGlobal>(rt: &R, opened: Opened<'_>) -> Result<(), Failure> {
-        let Opened {
-            net,
-            server,
-            mut pass,
-        } = opened;
-        fill(rt, net, &server, &mut pass);
-        let answers = adopt_twice(rt, net, &server, &mut pass);
-        let entries = server.close(pass).len();
+    const ENTRIES: u32 = ENTRIES;
+
+    fn comes_out<'n, R: Wait + AllocGlobal>(
+        rt: &R,
+        net: &'n Network,
+        server: &Server<'n>,
+        pass: &mut Pass<Kept<'n>>,
+    ) -> Result<bool, Failure> {
+        fill(rt, net, server, pass);
         let full = AdoptRefusal::Full { now: ENTRIES };
-        if answers == Some([Err(full), Err(full)]) && entries == ENTRIES {
-            Ok(())
-        } else {
-            Err(Failure::Differs(entries))
-        }
+        Ok(adopt_twice(rt, net, server, pass) == Some([Err(full), Err(full)]))
     }
 }
 

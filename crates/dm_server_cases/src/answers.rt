@@ -4,7 +4,7 @@ ghost use Rattle.std.specs.Option.{ForSome};
 ghost use Rattle.dm_server_cases.specs.Passes.{IsSame};
 
 use crate::calls::{LATE, post, time};
-use crate::case::{Case, Opened};
+use crate::case::Case;
 use dm_network::Network;
 use dm_samples::Failure;
 use dm_server::{Kept, Server};
@@ -19,23 +19,20 @@ const TIMES: [u64; 6] = [160, 250, 260, 340, 270, 365];
 pub struct AnswersAfterDelay;
 
 impl Case for AnswersAfterDelay {
-    fn come_out<R: Wait + AllocGlobal>(rt: &R, opened: Opened<'_>) -> Result<(), Failure> {
-        let Opened {
-            net,
-            server,
-            mut pass,
-        } = opened;
-        let entered = post(rt, &server, &mut pass, LATE) == Ok(1);
-        let told = tells_times(rt, &server, &mut pass);
-        let counted = counts(rt, &server, &mut pass);
-        let copied = copies_times(rt, net, &server, &mut pass);
-        let taken = takes_snapshot(rt, &server, &mut pass);
-        let entries = server.close(pass).len();
-        if entered && told && counted && copied && taken && entries == 1 {
-            Ok(())
-        } else {
-            Err(Failure::Differs(1))
-        }
+    const ENTRIES: u32 = 1;
+
+    fn comes_out<'n, R: Wait + AllocGlobal>(
+        rt: &R,
+        net: &'n Network,
+        server: &Server<'n>,
+        pass: &mut Pass<Kept<'n>>,
+    ) -> Result<bool, Failure> {
+        let entered = post(rt, server, pass, LATE) == Ok(1);
+        let told = tells_times(rt, server, pass);
+        let counted = counts(rt, server, pass);
+        let copied = copies_times(rt, net, server, pass);
+        let taken = takes_snapshot(rt, server, pass);
+        Ok(entered && told && counted && copied && taken)
     }
 }
 

@@ -4,8 +4,9 @@ ghost use Rattle.std.specs.Option.{ForSome};
 ghost use Rattle.dm_server_cases.specs.Passes.{IsSame};
 
 use crate::calls::{LATE, post};
-use crate::case::{Case, Opened};
+use crate::case::Case;
 use dm_base::Secs;
+use dm_network::Network;
 use dm_samples::Failure;
 use dm_server::{Kept, Server};
 use dm_settle::Times;
@@ -19,21 +20,17 @@ const TIMES: [Secs; 6] = [160, 250, 260, 340, 270, 365];
 pub struct FollowsDelay;
 
 impl Case for FollowsDelay {
-    fn come_out<R: Wait + AllocGlobal>(rt: &R, opened: Opened<'_>) -> Result<(), Failure> {
-        let Opened {
-            net,
-            server,
-            mut pass,
-        } = opened;
+    const ENTRIES: u32 = 1;
+
+    fn comes_out<'n, R: Wait + AllocGlobal>(
+        rt: &R,
+        net: &'n Network,
+        server: &Server<'n>,
+        pass: &mut Pass<Kept<'n>>,
+    ) -> Result<bool, Failure> {
         let mut times = Times::room(rt.alloc(), net)?;
         let mut listed = Vec::with_capacity(rt.alloc(), net.events())?;
-        let due = moves_all(rt, &server, &mut pass, &mut times, &mut listed);
-        let entries = server.close(pass).len();
-        if due && entries == 1 {
-            Ok(())
-        } else {
-            Err(Failure::Differs(1))
-        }
+        Ok(moves_all(rt, server, pass, &mut times, &mut listed))
     }
 }
 

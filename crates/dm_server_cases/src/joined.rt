@@ -1,8 +1,11 @@
 //! Passes that are split and joined.
 
 use crate::calls::{LATE, post, time};
-use crate::case::{Case, Opened};
+use crate::case::Case;
+use dm_network::Network;
 use dm_samples::Failure;
+use dm_server::{Kept, Server};
+use dm_turn::Pass;
 use std::sync::Wait;
 
 /// One of two passes enters a delay of a minute and takes the other in: then the last arrival is at 365, after entry 1, and the
@@ -10,21 +13,18 @@ use std::sync::Wait;
 pub struct ReadsAfterJoin;
 
 impl Case for ReadsAfterJoin {
-    fn come_out<R: Wait + AllocGlobal>(rt: &R, opened: Opened<'_>) -> Result<(), Failure> {
-        let Opened {
-            net: _,
-            server,
-            mut pass,
-        } = opened;
-        let second = server.split(&mut pass);
-        let entered = post(rt, &server, &mut pass, LATE) == Ok(1);
-        server.join(&mut pass, second);
-        let told = time(rt, &server, &mut pass, 6) == Some((365, 1));
-        let entries = server.close(pass).len();
-        if entered && told && entries == 1 {
-            Ok(())
-        } else {
-            Err(Failure::Differs(1))
-        }
+    const ENTRIES: u32 = 1;
+
+    fn comes_out<'n, R: Wait + AllocGlobal>(
+        rt: &R,
+        _net: &'n Network,
+        server: &Server<'n>,
+        pass: &mut Pass<Kept<'n>>,
+    ) -> Result<bool, Failure> {
+        let second = server.split(pass);
+        let entered = post(rt, server, pass, LATE) == Ok(1);
+        server.join(pass, second);
+        let told = time(rt, server, pass, 6) == Some((365, 1));
+        Ok(entered && told)
     }
 }

@@ -3,8 +3,9 @@ ghost use Rattle.std.specs.Prelude.{◌≡◌, false};
 ghost use Rattle.dm_server_cases.specs.Passes.{IsSame};
 
 use crate::calls::post;
-use crate::case::{Case, Opened};
+use crate::case::Case;
 use dm_base::{ActId, EventId};
+use dm_network::Network;
 use dm_rows::{At, Message, Refusal};
 use dm_samples::Failure;
 use dm_server::{Kept, Server};
@@ -18,19 +19,15 @@ const CASES: u32 = 6;
 pub struct RefusalsEnterNothing;
 
 impl Case for RefusalsEnterNothing {
-    fn come_out<R: Wait + AllocGlobal>(rt: &R, opened: Opened<'_>) -> Result<(), Failure> {
-        let Opened {
-            net: _,
-            server,
-            mut pass,
-        } = opened;
-        let count = refused(rt, &server, &mut pass);
-        let entries = server.close(pass).len();
-        if count == CASES && entries == 0 {
-            Ok(())
-        } else {
-            Err(Failure::Differs(count))
-        }
+    const ENTRIES: u32 = 0;
+
+    fn comes_out<'n, R: Wait + AllocGlobal>(
+        rt: &R,
+        _net: &'n Network,
+        server: &Server<'n>,
+        pass: &mut Pass<Kept<'n>>,
+    ) -> Result<bool, Failure> {
+        Ok(refused(rt, server, pass) == CASES)
     }
 }
 

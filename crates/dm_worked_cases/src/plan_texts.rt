@@ -1,5 +1,6 @@
 //! Plans read from their texts.
 
+use crate::trees::long_nodes;
 use dm_base::limits::TEXT;
 use dm_base::{ActId, EventId, Items};
 use dm_cert::{CertFault, CertKind, print_plan, read_plan};
@@ -261,17 +262,6 @@ fn the_first_wrong_line_is_named(rt: HostRuntime) -> Result<(), Fail> {
         }
     }
     Ok(())
-}
-
-/// A tree of one long path: each choice has a leaf below its first decision, and the next choice below its second.
-fn long_nodes(alloc: Global, depth: u32) -> Result<Vec<Node>, AllocError> {
-    let mut made = Vec::new(alloc);
-    for act in 0..depth {
-        made.push(Node::Inner(Choice::Change(ActId(act))))?;
-        made.push(Node::Cycle)?;
-    }
-    made.push(Node::Bound(1))?;
-    Ok(made)
 }
 
 #[test]

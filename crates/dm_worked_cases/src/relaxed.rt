@@ -1,5 +1,5 @@
 //! Relaxed problems where two trains meet and the first is a minute late.
-ghost use Rattle.std.specs.Prelude.{◌≡◌, [], ◌∷◌, IsTrue, IfOk, Contains};
+ghost use Rattle.std.specs.Prelude.{◌≡◌, [], ◌∷◌, IfOk, Contains};
 ghost use Rattle.dm_rows.specs.Rows.{IsSized};
 ghost use Rattle.dm_rows.specs.Decide.{IsChoiceList, choice_of, free_choices_of};
 
@@ -7,7 +7,7 @@ use dm_base::{ActId, EventId};
 use dm_network::Network;
 use dm_relax::{complete, relax};
 use dm_rows::{Choice, Decision, Message, Rows, admit, free_choices};
-use dm_samples::{Failure, Sample, rows_on_time};
+use dm_samples::{Failure, Sample, decides_one_of, rows_on_time};
 use dm_settle::NoTimes;
 use std::alloc::Global;
 use std::test::Fail;
@@ -33,24 +33,6 @@ pub(crate) fn late_rows(alloc: Global, net: &Network) -> Result<Rows, Fail>
     let change = admit(alloc, net, &rows, &Message::DelayEvent(EventId(1), 60))?;
     rows.apply(&change);
     Ok(rows)
-}
-
-/// Whether the decision decides one of these choices.
-pub(crate) fn decides_one_of(free: &[Choice], decision: Decision) -> bool
-    ensures { IsTrue result → Contains free.now (choice_of decision) }
-{
-    is_one_of(free, decision.choice())
-}
-
-fn is_one_of(free: &[Choice], choice: Choice) -> bool
-    ensures { IsTrue result → Contains free.now choice }
-{
-    for other in free {
-        if *other == choice {
-            return true;
-        }
-    }
-    false
 }
 
 /// What the relaxed problem of a path costs and violates, and what differs in its completion where it violates nothing.

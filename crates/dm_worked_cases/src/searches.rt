@@ -3,11 +3,11 @@ ghost use Rattle.std.specs.Prelude.{◌≤◌};
 ghost use Rattle.dm_base.specs.declared.limits.TheConstants.{PENALTY, BUDGET};
 ghost use Rattle.dm_rows.specs.Rows.{IsSized};
 
-use crate::relaxed::{CHANGE, DROP, TURNED, connection, decides_one_of, late_rows};
+use crate::relaxed::{CHANGE, DROP, TURNED, connection, late_rows};
 use dm_base::{Cost, Items};
 use dm_network::Network;
 use dm_rows::{Decision, Snapshot, free_choices};
-use dm_samples::{Sample, rows_on_time};
+use dm_samples::{Sample, decides_one_of, rows_on_time};
 use dm_search::{Outcome, plan, step};
 use dm_times::least;
 use dm_tree::{Mark, Node, Plan};

@@ -153,7 +153,7 @@ fn nodes_make_a_tree_where_they_are_whole(rt: HostRuntime) -> Result<(), Fail> {
 }
 
 /// A tree of one long path: each choice has a leaf below its first decision, and the next choice below its second.
-fn long_nodes(alloc: Global, depth: u32) -> Result<Vec<Node>, AllocError> {
+pub(crate) fn long_nodes(alloc: Global, depth: u32) -> Result<Vec<Node>, AllocError> {
     let mut made = Vec::new(alloc);
     for act in 0..depth {
         made.push(Node::Inner(Choice::Change(ActId(act))))?;

@@ -7,7 +7,7 @@ use crate::late::late_rows;
 use dm_base::{ActId, EventId};
 use dm_network::Network;
 use dm_rows::{Choice, Decision, Snapshot, free_choices};
-use dm_samples::{Failure, Sample};
+use dm_samples::{Failure, Sample, decides_one_of};
 use dm_search::{BoundWord, Hand, Outcome};
 use dm_workers::laws::expand;
 use std::alloc::Global;
@@ -68,21 +68,10 @@ fn expand_behind(
     ensures word { hand.new.word ≡ word.now.id }
 {
     let free = free_choices(alloc, net, &late.rows)?;
-    if !is_one_of(&free, decision.choice()) {
+    if !decides_one_of(&free, decision) {
         return Err(Failure::NoDay);
     }
     Ok(expand(alloc, net, PENALTY, late, &[decision], word, hand)?)
-}
-
-fn is_one_of(free: &[Choice], choice: Choice) -> bool
-    ensures { IsTrue result → Contains free.now choice }
-{
-    for other in free {
-        if *other == choice {
-            return true;
-        }
-    }
-    false
 }
 
 /// Whether an outcome is this one, which is due after so many steps.
