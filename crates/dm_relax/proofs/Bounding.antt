@@ -13,6 +13,7 @@ use Rattle.dm_graph.proofs.Transfers.{cycle_carries}
 use Rattle.dm_network.specs.Net.{Net, event_at, activity_at, is_change}
 use Rattle.dm_network.specs.Held.{arcs_of}
 use Rattle.dm_network.specs.Start.{IsNetwork}
+use Rattle.dm_network.proofs.Holding.{binds_with}
 use Rattle.dm_rows.specs.declared.messages.Decision.{Decision}
 use Rattle.dm_rows.specs.Rows.{RowsValue, kept_at, passed_at}
 use Rattle.dm_rows.specs.Active.{has_passed, is_active, active_arcs, HasNoCycle}
@@ -70,16 +71,7 @@ module _ (net : Net) (network : IsNetwork net) (rows : RowsValue) (path : List D
       sym (active_same net network rows path (with_decisions net rows path) s over_r over_s has_r has_s a below both.0) ∙ both.1
 
   there : (a : ℕ) → Binds (arcs_of net (is_relaxed_active net rows path)) a → BindsIn (arcs_of net (is_relaxed_active net rows path)) (active_arcs net s) a
-  there a b = record {
-    binds = record {
-      is_arc = b.is_arc;
-      is_held = relaxed_is_active a b.is_arc b.is_held;
-      from_event = b.from_event;
-      to_event = b.to_event;
-    };
-    same_tail = refl;
-    same_head = refl;
-  }
+  there = binds_with net (is_relaxed_active net rows path) (is_active net s) relaxed_is_active
 
   pub asks_no_more : AsksNoMore (graph_holding net (with_decisions net rows path) (is_relaxed_active net rows path)) (graph_of net s)
   asks_no_more = record {

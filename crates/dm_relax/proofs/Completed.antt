@@ -139,30 +139,27 @@ module _ (net : Net) (network : IsNetwork net) (rows : RowsValue) (sized : IsSiz
   forms p below =
       (network.formed.is_paired.exact (pair_at net p).small (pair_at net p).large).0 (some_is _ p (pair_found net network p below))
 
+  -- the event from which all is met goes first
+  small_goes_first : (p : ℕ) → p < length net.pairs → has_unmet_from net rows x p (pair_at net p).small ≡ false →
+      time_at x (pair_at net p).small < time_at x (pair_at net p).large
+  small_goes_first p below met =
+      let f = (forms p below).1 in goes_first (pair_at net p).small (pair_at net p).large f.0 p f.1 (pair_found net network p below) met
+
+  large_goes_first : (p : ℕ) → p < length net.pairs → has_unmet_from net rows x p (pair_at net p).large ≡ false →
+      time_at x (pair_at net p).large < time_at x (pair_at net p).small
+  large_goes_first p below met =
+      let f = (forms p below).2 in goes_first (pair_at net p).large (pair_at net p).small f.0 p f.1 (pair_found_back net network p below) met
+
   -- the direction that goes first by its times is the one that is met
   small_is_met : (p : ℕ) → p < length net.pairs → is_undecided_pair net rows path p ≡ true →
       time_at x (pair_at net p).small < time_at x (pair_at net p).large → has_unmet_from net rows x p (pair_at net p).small ≡ false
   small_is_met p below undecided order =
-      let f = forms p below in
-      elim (pair_is_met p below undecided) [
-        | inl m ↦ m
-        | inr m ↦
-            let back : time_at x (pair_at net p).large < time_at x (pair_at net p).small =
-            goes_first (pair_at net p).large (pair_at net p).small f.2.0 p f.2.1 (pair_found_back net network p below) m in
-            absurd (omega arith)
-      ]
+      elim (pair_is_met p below undecided) [ inl m ↦ m | inr m ↦ let back = large_goes_first p below m in absurd (omega arith) ]
 
   large_is_met : (p : ℕ) → p < length net.pairs → is_undecided_pair net rows path p ≡ true →
       time_at x (pair_at net p).large ≤ time_at x (pair_at net p).small → has_unmet_from net rows x p (pair_at net p).large ≡ false
   large_is_met p below undecided order =
-      let f = forms p below in
-      elim (pair_is_met p below undecided) [
-        | inr m ↦ m
-        | inl m ↦
-            let forth : time_at x (pair_at net p).small < time_at x (pair_at net p).large =
-            goes_first (pair_at net p).small (pair_at net p).large f.1.0 p f.1.1 (pair_found net network p below) m in
-            absurd (omega arith)
-      ]
+      elim (pair_is_met p below undecided) [ inl m ↦ let forth = small_goes_first p below m in absurd (omega arith) | inr m ↦ m ]
 
   -- what binds of an undecided pair goes out of the event that is first
   tail_is_first : (kind : ActKind) (p tail a : ℕ) → is_headway kind ≡ true → has_passed s tail ≡ false → binds net s kind (Some p) tail a ≡ true →

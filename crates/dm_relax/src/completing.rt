@@ -4,13 +4,13 @@ ghost use Rattle.dm_rows.specs.Rows.{IsSized};
 ghost use Rattle.dm_rows.specs.Decide.{IsChoiceList};
 ghost use Rattle.dm_relax.specs.Relaxed.{IsRelaxed};
 ghost use Rattle.dm_relax.specs.Complete.{completion_of, differences_from, completed_kept, completed_small_first};
-ghost use Rattle.dm_paths.specs.Decisions.{change_decision, pair_decision};
 ghost use Rattle.dm_relax.specs.Inside.Differing.{differing_change, differing_pair, differing_changes, differing_pairs};
 
 use crate::relaxation::Relaxation;
 use crate::relaxing::Relaxed;
 use dm_network::Network;
-use dm_rows::{Decision, Rows, choice_of_pair, is_free_change, is_free_pair};
+use dm_paths::{change_decision, pair_decision};
+use dm_rows::{Decision, Rows, is_free_change, is_free_pair};
 use dm_times::Times;
 use std::alloc::{AllocError, Global};
 
@@ -125,31 +125,5 @@ fn goes_small_first(relaxation: &Relaxation, times: &Times, p: usize) -> bool
         times.time(pair.small) < times.time(pair.large)
     } else {
         relaxation.set.small_first(p)
-    }
-}
-
-/// The change at a place kept or dropped.
-fn change_decision(net: &Network, a: usize, kept: bool) -> Decision
-    requires { a < length net.now.activities }
-    ensures { result ≡ change_decision net.now a kept }
-{
-    let id = net.activity(a).id;
-    if kept {
-        Decision::Keep(id)
-    } else {
-        Decision::Drop(id)
-    }
-}
-
-/// The small or the large event of the pair at a place first.
-fn pair_decision(net: &Network, p: usize, small: bool) -> Decision
-    requires { p < length net.now.pairs }
-    ensures { result ≡ pair_decision net.now p small }
-{
-    let choice = choice_of_pair(net, p);
-    if small {
-        choice.first()
-    } else {
-        choice.second()
     }
 }
