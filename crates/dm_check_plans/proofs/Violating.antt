@@ -40,7 +40,7 @@ module _ (net : Net) (network : IsNetwork net) (rows : RowsValue) (path : List D
   unkept = at_place (comes_too_early net rows x) (is_unmet_pair net rows x) place
 
   pub flagged_and_unkept : flag ≡ true → unkept ≡ true → IsViolated net rows path x choice
-  flagged_and_unkept yes early = violated_where net network rows path x choice place is changes pairs are_changes are_pairs (and_from flag unkept yes early)
+  flagged_and_unkept flagged early = violated_where net network rows path x choice place is changes pairs are_changes are_pairs (and_from flag unkept flagged early)
 
   pub violated_is_both : IsViolated net rows path x choice → (flag ≡ true) × (unkept ≡ true)
   violated_is_both v = and_parts flag unkept (where_violated net network rows path x choice place is changes pairs are_changes are_pairs v)
