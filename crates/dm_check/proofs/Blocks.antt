@@ -139,17 +139,17 @@ module _ (s : Setting) (history : List Entry) (feed : ℕ) (before : List LogIte
     abbrev PlanOf : Result (LogItem × Place) Fault → Type 0
     PlanOf answer = Then (Times opening.size (λ read. Reads spells) []) (λ vs. Finds (IsNextPlan s history feed before opening choices (Shows vs)) (bad kind.Plan first)) place answer
 
-    plan_next : (nodes : List Node) (next : Place) → TreeOf (Ok (nodes, next)) → IsNextItem s history feed before (is_of nodes) → PlanOf (Ok (is_of nodes, next))
-    plan_next nodes next told is = record {
+    lines_next : (nodes : List Node) (next : Place) → TreeOf (Ok (nodes, next)) → IsNextItem s history feed before (is_of nodes) → PlanOf (Ok (is_of nodes, next))
+    lines_next nodes next told is = record {
       value = told.value;
       behind = told.behind;
       told = times_ok spells opening.size [] place told.value told.behind told.told;
       then = (record { nodes = nodes; shown = told.then.0; is = refl; next = is }, told.then.1);
     }
 
-    plan_none : (nodes : List Node) (next : Place) → ((other : List Node) (behind : Place) → TreeOf (Ok (other, behind)) → other ≡ nodes) → TreeOf (Ok (nodes, next)) →
+    lines_none : (nodes : List Node) (next : Place) → ((other : List Node) (behind : Place) → TreeOf (Ok (other, behind)) → other ≡ nodes) → TreeOf (Ok (nodes, next)) →
         (IsNextItem s history feed before (is_of nodes) → ⊥) → PlanOf (Err (bad kind.Plan first))
-    plan_none nodes next single told none = inr (record {
+    lines_none nodes next single told none = inr (record {
       value = told.value;
       behind = told.behind;
       told = times_ok spells opening.size [] place told.value told.behind told.told;
@@ -161,9 +161,9 @@ module _ (s : Setting) (history : List Entry) (feed : ℕ) (before : List LogIte
     })
 
     -- a line of the tree is cut or misshapen, or no tree is shown
-    plan_fault : (f : CertFault) → TreeOf (Err f) → (IsLineKind f.kind × PlanOf (Err (carried f))) ⊎ ((f ≡ no_tree) × PlanOf (Err (bad kind.Plan first)))
-    plan_fault f (inl told) = inl (times_kind spells opening.size [] place f told, inl (times_err spells opening.size [] place f told))
-    plan_fault f (inr on) = inr (
+    lines_fault : (f : CertFault) → TreeOf (Err f) → (IsLineKind f.kind × PlanOf (Err (carried f))) ⊎ ((f ≡ no_tree) × PlanOf (Err (bad kind.Plan first)))
+    lines_fault f (inl told) = inl (times_kind spells opening.size [] place f told, inl (times_err spells opening.size [] place f told))
+    lines_fault f (inr on) = inr (
       on.then.1,
       inr (record {
         value = on.value;
@@ -180,20 +180,20 @@ module _ (s : Setting) (history : List Entry) (feed : ℕ) (before : List LogIte
   TreeAt b answer = MatchBool b (TreeOf IsLeafLine ShowsLeaves answer) (TreeOf IsNodeLine ShowsNodes answer)
 
   tree_next : (b : Bool) (nodes : List Node) (next : Place) → TreeAt b (Ok (nodes, next)) → IsNextItem s history feed before (is_of nodes) → Behind b (Ok (is_of nodes, next))
-  tree_next true = plan_next IsLeafLine ShowsLeaves
-  tree_next false = plan_next IsNodeLine ShowsNodes
+  tree_next true = lines_next IsLeafLine ShowsLeaves
+  tree_next false = lines_next IsNodeLine ShowsNodes
 
   tree_none : (b : Bool) (nodes : List Node) (next : Place) → ((other : List Node) (behind : Place) → TreeAt b (Ok (other, behind)) → other ≡ nodes) → TreeAt b (Ok (nodes, next)) →
       (IsNextItem s history feed before (is_of nodes) → ⊥) → Behind b (Err (bad kind.Plan first))
-  tree_none true = plan_none IsLeafLine ShowsLeaves
-  tree_none false = plan_none IsNodeLine ShowsNodes
+  tree_none true = lines_none IsLeafLine ShowsLeaves
+  tree_none false = lines_none IsNodeLine ShowsNodes
 
   abbrev FaultBehind : Bool → CertFault → Type 0
   FaultBehind b f = (IsLineKind f.kind × Behind b (Err (carried f))) ⊎ ((f ≡ no_tree) × Behind b (Err (bad kind.Plan first)))
 
   tree_fault : (b : Bool) (f : CertFault) → TreeAt b (Err f) → FaultBehind b f
-  tree_fault true = plan_fault IsLeafLine ShowsLeaves
-  tree_fault false = plan_fault IsNodeLine ShowsNodes
+  tree_fault true = lines_fault IsLeafLine ShowsLeaves
+  tree_fault false = lines_fault IsNodeLine ShowsNodes
 
 -- ---- the block
 
