@@ -3,4 +3,3 @@ pub mod Workers
 pub mod Gathering
 pub mod Together
 pub mod Found
-pub mod Judging

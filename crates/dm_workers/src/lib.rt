@@ -13,8 +13,7 @@
 //! for another cause than want of memory has found its deque empty; the leaves stand on paths of which none is a front of
 //! another; each decision on such a path is one of the two of the first choice that is violated at the path before it. So the
 //! leaves are those of a tree. Where it is whole and keeps to the budget it is the plan's; else the search begins anew from the
-//! root, with a guide's searcher for each worker, who play its rounds in threads of their own. What it says is judged by two or
-//! three at once.
+//! root, with a guide's searcher for each worker, who play its rounds in threads of their own.
 //!
 //! [`laws::expand`] is what a worker does at one node, for a path over the rows of a snapshot: it answers dm_search's `step` for
 //! the value that the word has, and lowers the word where it has found choices.
@@ -29,7 +28,6 @@
 mod expanding;
 mod finding;
 mod gathering;
-mod judging;
 pub mod laws;
 mod mustering;
 mod pace;

@@ -3,12 +3,12 @@ ghost use Rattle.std.specs.Prelude.{◌≡◌, ◌≤◌, IfOk};
 ghost use Rattle.std.specs.Thread.{IsSync};
 ghost use Rattle.dm_guide.specs.Tasks.{task_of, IsPosedTask};
 ghost use Rattle.dm_rows.specs.Active.{HasNoCycle};
+ghost use Rattle.dm_search.specs.Moving.{IsOver};
 ghost use Rattle.dm_tree.specs.Plans.{IsTruePlan};
-ghost use Rattle.dm_workers.specs.Inside.Judging.{AreJudges};
 ghost use Rattle.dm_workers.specs.Inside.Workers.{IsOwnCost};
 
-use crate::judging::{Judges, judged, judges_of};
 use dm_base::Cost;
+use dm_evaluate::Evaluator;
 use dm_guide::{Guide, Round, Searcher, Start, guide};
 use dm_search::{Task, evaluator_at_base, plan_with, searcher_at};
 use dm_times::{cost, least};
@@ -87,7 +87,7 @@ fn searchers_of<'t, R: Threads + Sync>(
 }
 
 /// A true plan for a task, with an entry, whose rows cost so much by themselves: the searchers look for a guide, in rounds that
-/// they play at once, and judges who are made meanwhile share what it says.
+/// they play at once, and an evaluator that is made meanwhile judges.
 pub(crate) fn plan_at_once<'t, R: Threads + Sync>(
     rt: &R,
     task: &Task<'t>,
@@ -102,24 +102,34 @@ pub(crate) fn plan_at_once<'t, R: Threads + Sync>(
     ensures plan { IfOk result (IsTruePlan (task_of task.now)) }
     ensures entry { IfOk result (λ plan. plan.entry ≡ entry) }
 {
+    let (evaluator, guide) = judge_and_guide(rt, task, own, searchers)?;
+    let mut evaluator = evaluator;
+    plan_with(task, entry, own, &mut evaluator, &guide)
+}
+
+/// An evaluator at the base, and a guide, at once where there are several searchers.
+fn judge_and_guide<'t, R: Threads + Sync>(
+    rt: &R,
+    task: &Task<'t>,
+    own: Cost,
+    searchers: &mut [Searcher<'t>],
+) -> Result<(Evaluator, Guide), AllocError>
+    requires posed { IsPosedTask task.now }
+    ensures evaluator { IfOk result (λ r. IsOver (task_of task.now) r.0) }
+{
     if searchers.len() < 2 {
         let guide = guided(rt, task, own, searchers)?;
-        let mut evaluator = evaluator_at_base(task)?;
-        return plan_with(task, entry, own, &mut evaluator, &guide);
+        return Ok((evaluator_at_base(task)?, guide));
     }
-    let many = searchers.len() - 1;
-    let mut gather = || -> Result<Judges, AllocError>
-        requires { IsPosedTask task.now × HasNoCycle task.now.net.now task.now.rows.now × (1 ≤ task.now.budget)
-            × IsOwnCost (task_of task.now) own }
-        ensures { IfOk result (AreJudges (task_of task.entry.now)) }
-    { judges_of(task, own, many) };
+    let mut judge = || -> Result<Evaluator, AllocError>
+        requires { IsPosedTask task.now }
+        ensures { IfOk result (IsOver (task_of task.entry.now)) }
+    { evaluator_at_base(task) };
     let mut look = || -> Result<Guide, AllocError>
         requires { IsSync R.row }
     { guided(rt, task, own, searchers) };
-    let (judges, guide) = join_mut(rt, &mut gather, &mut look);
-    let guide = guide?;
-    let judge = judged(rt, &guide, judges?)?;
-    judge.plan(entry)
+    let (evaluator, guide) = join_mut(rt, &mut judge, &mut look);
+    Ok((evaluator?, guide?))
 }
 
 /// What guides a search from the root.
