@@ -123,10 +123,12 @@ pub struct Updates;
 impl Case for Updates {
     fn come_out(alloc: Global, net: &Network, _day: &Snapshot) -> Result<(), Failure> {
         let rows = rows_on_time(alloc, net)?;
-        let change = admit(alloc, net, &rows, &LATE);
-        let mut engine = Engine::new(alloc, net, rows).map_err(failure_of)?;
-        let Ok(change) = change else {
+        let Ok(change) = admit(alloc, net, &rows, &LATE) else {
             return Err(Failure::OutOfMemory);
+        };
+        let mut engine = match Engine::new(alloc, net, rows) {
+            Ok(engine) => engine,
+            Err(no_times) => return Err(failure_of(no_times)),
         };
         let updated = update(&mut engine, net, &change).is_ok();
         is_due(updated && engine.cost(net, PENALTY) == KEPT, 0)
