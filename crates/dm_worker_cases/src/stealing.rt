@@ -1,5 +1,4 @@
 //! A deque from which a thief takes.
-ghost use Rattle.std.specs.Prelude.{◌≡◌, OnOk};
 
 use dm_samples::Failure;
 use dm_workers::laws::Owner;
@@ -12,34 +11,17 @@ pub fn first_is_stolen(alloc: Global) -> Result<(), Failure> {
     let mut owner = Owner::<u64, Brand>::new(alloc)?;
     let thief = owner.thief()?;
     let mut tally = thief.tally();
-    put_three(&mut owner)?;
-    let Some(stolen) = thief.steal(&mut tally) else {
-        return Err(Failure::Differs(0));
-    };
-    let Some(last) = owner.take() else {
-        return Err(Failure::Differs(1));
-    };
-    let Some(between) = owner.take() else {
-        return Err(Failure::Differs(2));
-    };
-    owner.settle(tally);
-    if (stolen, last, between) != (1, 3, 2) || owner.count() != 0 || owner.take().is_some() {
-        return Err(Failure::Differs(3));
+    if owner.put(1).is_err() || owner.put(2).is_err() || owner.put(3).is_err() {
+        return Err(Failure::OutOfMemory);
     }
-    Ok(())
-}
-
-fn put_three(owner: &mut Owner<u64, Brand>) -> Result<(), Failure>
-    ensures { OnOk result (owner.new.deque ≡ owner.old.deque) }
-{
-    let Ok(()) = owner.put(1) else {
-        return Err(Failure::OutOfMemory);
-    };
-    let Ok(()) = owner.put(2) else {
-        return Err(Failure::OutOfMemory);
-    };
-    let Ok(()) = owner.put(3) else {
-        return Err(Failure::OutOfMemory);
-    };
+    let stolen = thief.steal(&mut tally);
+    let taken = (owner.take(), owner.take());
+    owner.settle(tally);
+    if stolen != Some(1) || taken != (Some(3), Some(2)) {
+        return Err(Failure::Differs(0));
+    }
+    if owner.count() != 0 || owner.take().is_some() {
+        return Err(Failure::Differs(1));
+    }
     Ok(())
 }
