@@ -1,5 +1,5 @@
 -- What the walk has found: an order where it placed every event, a cycle where its path closes.
-use Rattle.std.proofs.Common.{◌≡◌, ℕ, zero, suc, ◌+◌, ◌-◌, ◌*◌, ◌<◌, ◌≤◌, Bool, false, cond, List, [], ◌∷◌, length, refl, sym, ap, subst, ◌∙◌, arith, ne_eqb, slice_index, slice_index_or, mul-zero, add-zero, take, ◌++◌}
+use Rattle.std.proofs.Common.{◌≡◌, ℕ, zero, suc, ◌+◌, ◌-◌, ◌*◌, ◌<◌, ◌≤◌, false, cond, List, [], ◌∷◌, length, refl, sym, ap, subst, ◌∙◌, arith, ne_eqb, slice_index, slice_index_or, mul-zero, add-zero, take, ◌++◌}
 use Rattle.std.specs.Prelude.{◌==◌, count_by}
 use Rattle.std.proofs.lemmas.Grind.{common_steps}
 use Rattle.std.proofs.lemmas.List.Sums.{sum_by-le}
@@ -8,6 +8,7 @@ use Rattle.dm_graph.specs.Arcs.{Arcs, Binds, Chain, IsCycle, IsOrder}
 use Rattle.dm_graph.specs.Arrays.{InRow, AreArraysOf, AreRanks}
 use Rattle.dm_graph.proofs.Ranks.{order_of_ranks}
 use Rattle.dm_graph.specs.declared.walk.Walk.{Walk}
+use Rattle.dm_graph.specs.declared.walk.ArcsByHead.{ArcsByHead}
 use Rattle.dm_graph.specs.Inside.Walk.{IsHeldAt, tail_at, AreMarks, LeadsTo, Closes, PlacesAll, path_arc, HasPathArcs, ListsPathArcs}
 
 -- no rank is n, so as many events are placed as there are
@@ -23,7 +24,7 @@ all_placed n order rank placed m met =
     let all = m.unmet in
     omega arith
 
-module _ (tails offsets places : List ℕ) (held : List Bool) (walk : Walk) (p : PlacesAll tails offsets places held walk) where
+module _ (by_head : ArcsByHead) (walk : Walk) (p : PlacesAll by_head walk) where
   placed_count : walk.placed ≡ length walk.order.items
   placed_count =
       all_placed (length walk.order.items) walk.order.items walk.rank.items walk.placed
@@ -41,7 +42,7 @@ module _ (tails offsets places : List ℕ) (held : List Bool) (walk : Walk) (p :
         is_ranked = λ k lt. (p.holds.marks.placed_stand k (omega arith)).is_ranked;
       }
 
-  module _ (g : Arcs) (arrays : AreArraysOf g tails offsets places held) where
+  module _ (g : Arcs) (arrays : AreArraysOf g by_head.tails.now by_head.offsets.now by_head.places.now by_head.held.now) where
     events_are : length walk.order.items ≡ g.events
     events_are = let a = arrays.offset_count in let b = p.holds.rows.offset_count in omega arith
 
@@ -52,14 +53,14 @@ module _ (tails offsets places : List ℕ) (held : List Bool) (walk : Walk) (p :
         let count = placed_count in
         let arc = binds.is_arc in
         let s = arrays.lists.has_each a arc binds.to_event in
-        let is_tail : tail_at tails places s.place ≡ g.tail a = ap (slice_index tails) s.is ∙ arrays.same_tail a arc in
-        let is_held : IsHeldAt held places s.place =
-        ap (λ b. slice_index_or held b false) s.is ∙ arrays.same_held a arc ∙ binds.is_held in
+        let is_tail : tail_at by_head s.place ≡ g.tail a = ap (slice_index by_head.tails.now) s.is ∙ arrays.same_tail a arc in
+        let is_held : IsHeldAt by_head s.place =
+        ap (λ b. slice_index_or by_head.held.now b false) s.is ∙ arrays.same_held a arc ∙ binds.is_held in
         let head = binds.to_event in
         let head_in : g.head a < length walk.order.items = omega arith in
         let early = p.met (g.head a) head_in in
         let rises = p.holds.looks.forward (g.head a) s.place head_in (omega arith) s.in_row is_held in
-        let same : slice_index walk.rank.items (tail_at tails places s.place) ≡ slice_index walk.rank.items (g.tail a) = ap (slice_index walk.rank.items) is_tail in
+        let same : slice_index walk.rank.items (tail_at by_head s.place) ≡ slice_index walk.rank.items (g.tail a) = ap (slice_index walk.rank.items) is_tail in
         omega arith
 
     pub placed_is_order : IsOrder g walk.order.items
@@ -87,22 +88,22 @@ round_event : List ℕ → ℕ → ℕ → ℕ → ℕ
 round_event order top last zero = slice_index order last
 round_event order top last (suc k) = slice_index order (top + k)
 
-module _ (tails offsets places : List ℕ) (held : List Bool) (walk : Walk) (last : ℕ) (c : Closes tails offsets places held walk last) where
+module _ (by_head : ArcsByHead) (walk : Walk) (last : ℕ) (c : Closes by_head walk last) where
   -- the next arc of an event of the path leaves the event above it, or at the top the one that closes the path
   path_leads : (k : ℕ) → walk.top + k ≤ last →
-      LeadsTo tails offsets places held walk.next.items (slice_index walk.order.items (walk.top + k)) (round_event walk.order.items walk.top last k)
+      LeadsTo by_head walk.next.items (slice_index walk.order.items (walk.top + k)) (round_event walk.order.items walk.top last k)
   unfolding round_event
   path_leads zero le = rw (add-zero) c.leads
   path_leads (suc k) le =
       let lt = c.within in
       let step = c.holds.looks.path (walk.top + k) (omega arith) (omega arith) in
       let is : walk.top + k + 1 ≡ walk.top + suc k = omega arith in
-      subst (λ j. LeadsTo tails offsets places held walk.next.items (slice_index walk.order.items j) (slice_index walk.order.items (walk.top + k))) is step
+      subst (λ j. LeadsTo by_head walk.next.items (slice_index walk.order.items j) (slice_index walk.order.items (walk.top + k))) is step
 
   event_at : (k : ℕ) → walk.top + k ≤ last → slice_index walk.order.items (walk.top + k) < length walk.order.items
   event_at k le = let lt = c.within in (c.holds.marks.path_stands (walk.top + k) (omega arith) (omega arith)).is_event
 
-  pub closed_has_arcs : HasPathArcs places walk last
+  pub closed_has_arcs : HasPathArcs by_head.places.now walk last
   closed_has_arcs = record {
     on_path = c.on_path;
     within = c.within;
@@ -114,7 +115,7 @@ module _ (tails offsets places : List ℕ) (held : List Bool) (walk : Walk) (las
         omega arith;
     is_place = λ place from to.
         let is : walk.top + (place - walk.top) ≡ place = omega arith in
-        let l = subst (λ j. LeadsTo tails offsets places held walk.next.items (slice_index walk.order.items j) (round_event walk.order.items walk.top last (place - walk.top))) is
+        let l = subst (λ j. LeadsTo by_head walk.next.items (slice_index walk.order.items j) (round_event walk.order.items walk.top last (place - walk.top))) is
         (path_leads (place - walk.top) (omega arith)) in
         let below = l.not_over in
         let lt = c.within in
@@ -123,30 +124,30 @@ module _ (tails offsets places : List ℕ) (held : List Bool) (walk : Walk) (las
         omega arith;
   }
 
-  module _ (g : Arcs) (arrays : AreArraysOf g tails offsets places held) where
+  module _ (g : Arcs) (arrays : AreArraysOf g by_head.tails.now by_head.offsets.now by_head.places.now by_head.held.now) where
     -- each arc of the path binds, and leads from the event before to its own
     link : (k : ℕ) → walk.top + k ≤ last →
-        Binds g (path_arc places walk (walk.top + k)) ×
-        (g.tail (path_arc places walk (walk.top + k)) ≡ round_event walk.order.items walk.top last k) ×
-        (g.head (path_arc places walk (walk.top + k)) ≡ slice_index walk.order.items (walk.top + k))
+        Binds g (path_arc by_head.places.now walk (walk.top + k)) ×
+        (g.tail (path_arc by_head.places.now walk (walk.top + k)) ≡ round_event walk.order.items walk.top last k) ×
+        (g.head (path_arc by_head.places.now walk (walk.top + k)) ≡ slice_index walk.order.items (walk.top + k))
     link k le =
         let a = arrays.offset_count in
         let b = c.holds.rows.offset_count in
         let t = arrays.tail_count in
         let e : slice_index walk.order.items (walk.top + k) < length walk.order.items = event_at k le in
         let l = path_leads k le in
-        let in_row : InRow offsets (slice_index walk.order.items (walk.top + k)) (slice_index walk.next.items (slice_index walk.order.items (walk.top + k))) =
+        let in_row : InRow by_head.offsets.now (slice_index walk.order.items (walk.top + k)) (slice_index walk.next.items (slice_index walk.order.items (walk.top + k))) =
         record { begun = c.holds.looks.begun (slice_index walk.order.items (walk.top + k)) e; not_over = l.not_over } in
-        let arc : path_arc places walk (walk.top + k) < length tails =
+        let arc : path_arc by_head.places.now walk (walk.top + k) < length by_head.tails.now =
         c.holds.rows.has_arcs (slice_index walk.order.items (walk.top + k)) (slice_index walk.next.items (slice_index walk.order.items (walk.top + k))) e in_row in
-        let arc_in : path_arc places walk (walk.top + k) < g.arcs = omega arith in
-        let tail_is = arrays.same_tail (path_arc places walk (walk.top + k)) arc_in in
-        let tail_in = c.holds.ends.from_event (path_arc places walk (walk.top + k)) arc in
-        let head_is : g.head (path_arc places walk (walk.top + k)) ≡ slice_index walk.order.items (walk.top + k) =
+        let arc_in : path_arc by_head.places.now walk (walk.top + k) < g.arcs = omega arith in
+        let tail_is = arrays.same_tail (path_arc by_head.places.now walk (walk.top + k)) arc_in in
+        let tail_in = c.holds.ends.from_event (path_arc by_head.places.now walk (walk.top + k)) arc in
+        let head_is : g.head (path_arc by_head.places.now walk (walk.top + k)) ≡ slice_index walk.order.items (walk.top + k) =
         arrays.lists.ends_there (slice_index walk.order.items (walk.top + k)) (slice_index walk.next.items (slice_index walk.order.items (walk.top + k))) (omega arith) in_row in (
           record {
             is_arc = arc_in;
-            is_held = sym (arrays.same_held (path_arc places walk (walk.top + k)) arc_in) ∙ l.is_held;
+            is_held = sym (arrays.same_held (path_arc by_head.places.now walk (walk.top + k)) arc_in) ∙ l.is_held;
             from_event = omega arith;
             to_event = omega arith;
           },
@@ -154,7 +155,7 @@ module _ (tails offsets places : List ℕ) (held : List Bool) (walk : Walk) (las
           head_is,
         )
 
-    pub closed_is_cycle : (arcs : List ℕ) → ListsPathArcs places walk last arcs → IsCycle g arcs
+    pub closed_is_cycle : (arcs : List ℕ) → ListsPathArcs by_head.places.now walk last arcs → IsCycle g arcs
     unfolding round_event
     closed_is_cycle arcs lists =
         let count = lists.as_many in

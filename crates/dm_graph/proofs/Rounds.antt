@@ -175,14 +175,8 @@ raised g (suc k) e lt more chain j h =
           let is = from.is in
           let before = raised g k (g.shape.tail from.arc) from.binds.from_event (omega arith) (from.arc ∷ chain) j
           (longer g (round g (suc k)) e (round g (suc (suc k)) e) from chain j h) in
-          let n = before.long in
-          record {
-            first = before.first;
-            is_event = before.is_event;
-            chain = before.chain;
-            leads = before.leads;
-            long = omega arith;
-          }
+          let same : suc k + length (from.arc ∷ chain) ≡ suc (suc k) + length chain = omega arith in
+          subst (λ arcs. LongChain g.shape arcs j) same before
     ]
 
 -- without a cycle, the rounds are settled after as many of them as there are events

@@ -1,8 +1,9 @@
 -- The steps of the walk keep what holds of it.
-use Rattle.std.proofs.Common.{◌≡◌, ◌≢◌, ℕ, suc, ◌+◌, ◌<◌, ◌≤◌, Bool, cond, List, length, set, ◌⊎◌, refl, sym, ap, subst, ◌∙◌, inl, inr, arith, eq-eqb, ne_eqb, length-set, get_or-set_same, get_or-set_other, slice_index}
+use Rattle.std.proofs.Common.{◌≡◌, ◌≢◌, ℕ, suc, ◌+◌, ◌<◌, ◌≤◌, cond, List, length, set, ◌⊎◌, refl, sym, ap, subst, ◌∙◌, inl, inr, arith, eq-eqb, ne_eqb, length-set, get_or-set_same, get_or-set_other, slice_index}
 use Rattle.std.specs.Prelude.{◌==◌, count_by}
 use Rattle.std.proofs.lemmas.Bool.{cases_eq, cases_lt}
 use Rattle.std.proofs.lemmas.List.Sums.{sum_by-set, get_or-le-sum_by}
+use Rattle.dm_graph.specs.declared.walk.ArcsByHead.{ArcsByHead}
 use Rattle.dm_graph.specs.Inside.Walk.{IsHeldAt, tail_at, Stands, AreMarks, LeadsTo, AreLooks}
 
 -- a read of a list after a write elsewhere, and at the place written
@@ -43,6 +44,15 @@ module _ (n : ℕ) (order rank : List ℕ) (placed top : ℕ) (m : AreMarks n or
       let all = m.unmet in
       omega arith
 
+  -- how many events are not met, after an event got a rank that is a place
+  unmet_after : (e r : ℕ) → e < n → r < n → placed + count_by (λ r. r == n) (set rank e r) + one_at n (slice_index rank e) ≡ top
+  unmet_after e r lt is_place =
+      let c = m.rank_count in
+      let count = count-set n rank e r (omega arith) in
+      let now = one_at-other n r (omega arith) in
+      let all = m.unmet in
+      omega arith
+
   -- two places with one event are one
   same_place : (i j : ℕ) → Stands n order rank i → Stands n order rank j → slice_index order i ≡ slice_index order j → i ≡ j
   same_place i j a b is = sym a.is_ranked ∙ ap (slice_index rank) is ∙ b.is_ranked
@@ -72,10 +82,8 @@ module _ (n : ℕ) (order rank : List ℕ) (placed top : ℕ) (m : AreMarks n or
         let rc = m.rank_count in
         let t = m.top_within in
         let r = room u lt unmet in
-        let count = count-set n rank u above (omega arith) in
         let was = one_at-same n (slice_index rank u) unmet in
-        let now = one_at-other n above (omega arith) in
-        let all = m.unmet in
+        let now = unmet_after u above lt (omega arith) in
         record {
           order_count = length-set order above u ∙ m.order_count;
           rank_count = length-set rank u above ∙ m.rank_count;
@@ -123,13 +131,13 @@ module _ (n : ℕ) (order rank : List ℕ) (placed top : ℕ) (m : AreMarks n or
               ];
         }
 
-    module _ (tails offsets places : List ℕ) (held : List Bool) (next : List ℕ)
-        (l : AreLooks tails offsets places held n order rank next placed top)
-        (leads : top < n → LeadsTo tails offsets places held next (slice_index order top) u) where
+    module _ (by_head : ArcsByHead) (next : List ℕ)
+        (l : AreLooks by_head n order rank next placed top)
+        (leads : top < n → LeadsTo by_head next (slice_index order top) u) where
       placed_within : placed ≤ n
       placed_within = let t = m.top_within in let a = m.unmet in omega arith
 
-      pub enter_looks : AreLooks tails offsets places held n order' rank' next placed above
+      pub enter_looks : AreLooks by_head n order' rank' next placed above
       enter_looks =
           let oc = m.order_count in
           let rc = m.rank_count in
@@ -142,7 +150,7 @@ module _ (n : ℕ) (order rank : List ℕ) (placed top : ℕ) (m : AreMarks n or
             not_past = l.not_past;
             looked = λ e place lt' from to held_at.
                 let was = l.looked e place lt' from to held_at in
-                let o = other rank u above (tail_at tails places place) (not_met (tail_at tails places place) (omega arith)) in
+                let o = other rank u above (tail_at by_head place) (not_met (tail_at by_head place) (omega arith)) in
                 omega arith;
             forward = λ e place lt' below in_row held_at.
                 elim (cases_eq e u) [
@@ -150,7 +158,7 @@ module _ (n : ℕ) (order rank : List ℕ) (placed top : ℕ) (m : AreMarks n or
                   | inr ne ↦
                       let o = other rank u above e ne in
                       let was = l.forward e place lt' (omega arith) in_row held_at in
-                      let q = other rank u above (tail_at tails places place) (not_met (tail_at tails places place) (omega arith)) in
+                      let q = other rank u above (tail_at by_head place) (not_met (tail_at by_head place) (omega arith)) in
                       omega arith
                 ];
             path = λ place from within.
@@ -215,10 +223,8 @@ module _ (n : ℕ) (order rank : List ℕ) (placed top : ℕ) (m : AreMarks n or
         let p = placed_below in
         let ve = v_is_event in
         let vr = v_rank in
-        let count = count-set n rank v placed (omega arith) in
         let was = one_at-other n (slice_index rank v) (omega arith) in
-        let now = one_at-other n placed (omega arith) in
-        let all = m.unmet in
+        let now = unmet_after v placed ve (omega arith) in
         record {
           order_count = length-set order placed v ∙ m.order_count;
           rank_count = length-set rank v placed ∙ m.rank_count;
@@ -266,14 +272,14 @@ module _ (n : ℕ) (order rank : List ℕ) (placed top : ℕ) (m : AreMarks n or
               ];
         }
 
-    module _ (tails offsets places : List ℕ) (held : List Bool) (next : List ℕ)
-        (l : AreLooks tails offsets places held n order rank next placed top) where
+    module _ (by_head : ArcsByHead) (next : List ℕ)
+        (l : AreLooks by_head n order rank next placed top) where
       -- the tail of an arc, once it is placed, is not v
       placed_apart : (e : ℕ) → slice_index rank e < placed → e ≢ v
       placed_apart e early = let p = placed_below in not_top e (λ q. absurd (omega arith))
 
-      pub place_looks : slice_index next v ≡ slice_index offsets (v + 1) →
-          AreLooks tails offsets places held n (set order placed v) (set rank v placed) next (suc placed) (suc top)
+      pub place_looks : slice_index next v ≡ slice_index by_head.offsets.now (v + 1) →
+          AreLooks by_head n (set order placed v) (set rank v placed) next (suc placed) (suc top)
       place_looks over =
           let oc = m.order_count in
           let rc = m.rank_count in
@@ -286,17 +292,17 @@ module _ (n : ℕ) (order rank : List ℕ) (placed top : ℕ) (m : AreMarks n or
             not_past = l.not_past;
             looked = λ e place lt from to held_at.
                 let was = l.looked e place lt from to held_at in
-                let o = other rank v placed (tail_at tails places place) (placed_apart (tail_at tails places place) was) in
+                let o = other rank v placed (tail_at by_head place) (placed_apart (tail_at by_head place) was) in
                 omega arith;
             forward = λ e place lt below in_row held_at.
                 elim (cases_eq e v) [
                   | inl is ↦
                       let o = same rank v placed e is (omega arith) in
-                      let ends : slice_index offsets (e + 1) ≡ slice_index next e = subst (λ k. slice_index offsets (k + 1) ≡ slice_index next k) (sym is) (sym over) in
+                      let ends : slice_index by_head.offsets.now (e + 1) ≡ slice_index next e = subst (λ k. slice_index by_head.offsets.now (k + 1) ≡ slice_index next k) (sym is) (sym over) in
                       let b = in_row.begun in
                       let f = in_row.not_over in
                       let was = l.looked e place lt b (omega arith) held_at in
-                      let q = other rank v placed (tail_at tails places place) (placed_apart (tail_at tails places place) was) in
+                      let q = other rank v placed (tail_at by_head place) (placed_apart (tail_at by_head place) was) in
                       omega arith
                   | inr ne ↦
                       let o = other rank v placed e ne in
@@ -307,7 +313,7 @@ module _ (n : ℕ) (order rank : List ℕ) (placed top : ℕ) (m : AreMarks n or
                         | inr late ↦ absurd (omega arith)
                       ] in
                       let was = l.forward e place lt early in_row held_at in
-                      let q = other rank v placed (tail_at tails places place) (placed_apart (tail_at tails places place) (omega arith)) in
+                      let q = other rank v placed (tail_at by_head place) (placed_apart (tail_at by_head place) (omega arith)) in
                       omega arith
                 ];
             path = λ place from within.
@@ -316,9 +322,9 @@ module _ (n : ℕ) (order rank : List ℕ) (placed top : ℕ) (m : AreMarks n or
                 rw (o, q) (l.path place (omega arith) within);
           }
 
-      pub pass_looks : slice_index next v < slice_index offsets (v + 1) →
-          (IsHeldAt held places (slice_index next v) → slice_index rank (tail_at tails places (slice_index next v)) < placed) →
-          AreLooks tails offsets places held n order rank (set next v (slice_index next v + 1)) placed top
+      pub pass_looks : slice_index next v < slice_index by_head.offsets.now (v + 1) →
+          (IsHeldAt by_head (slice_index next v) → slice_index rank (tail_at by_head (slice_index next v)) < placed) →
+          AreLooks by_head n order rank (set next v (slice_index next v + 1)) placed top
       pass_looks not_over free =
           let nc = l.next_count in
           let ve = v_is_event in
@@ -338,7 +344,7 @@ module _ (n : ℕ) (order rank : List ℕ) (placed top : ℕ) (m : AreMarks n or
                 elim (cases_eq e v) [
                   | inl is ↦
                       let o = same next v (slice_index next v + 1) e is (omega arith) in
-                      let q : slice_index offsets (e + 1) ≡ slice_index offsets (v + 1) = ap (λ k. slice_index offsets (k + 1)) is in
+                      let q : slice_index by_head.offsets.now (e + 1) ≡ slice_index by_head.offsets.now (v + 1) = ap (λ k. slice_index by_head.offsets.now (k + 1)) is in
                       omega arith
                   | inr ne ↦ let o = other next v (slice_index next v + 1) e ne in omega arith
                 ];
@@ -351,8 +357,8 @@ module _ (n : ℕ) (order rank : List ℕ) (placed top : ℕ) (m : AreMarks n or
                             let o = same next v (slice_index next v + 1) e is (omega arith) in
                             let q : slice_index next e ≡ slice_index next v = ap (slice_index next) is in
                             let here : place ≡ slice_index next v = omega arith in
-                            subst (λ k. slice_index rank (tail_at tails places k) < placed) (sym here)
-                            (free (subst (λ k. IsHeldAt held places k) here held_at))
+                            subst (λ k. slice_index rank (tail_at by_head k) < placed) (sym here)
+                            (free (subst (λ k. IsHeldAt by_head k) here held_at))
                         | inr ne ↦ let o = other next v (slice_index next v + 1) e ne in absurd (omega arith)
                       ]
                 ];
@@ -365,8 +371,8 @@ module _ (n : ℕ) (order rank : List ℕ) (placed top : ℕ) (m : AreMarks n or
                 other next v (slice_index next v + 1) (slice_index order (place + 1)) apart in
                 record {
                   not_over = let f = p.not_over in omega arith;
-                  is_held = subst (λ k. IsHeldAt held places k) (sym o) p.is_held;
-                  tail = ap (tail_at tails places) o ∙ p.tail;
+                  is_held = subst (λ k. IsHeldAt by_head k) (sym o) p.is_held;
+                  tail = ap (tail_at by_head) o ∙ p.tail;
                 };
           }
 

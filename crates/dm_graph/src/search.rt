@@ -4,7 +4,7 @@ ghost use Rattle.std.specs.Prelude.{◌≡◌, ◌<◌, ◌≤◌, [], length, I
 ghost use Rattle.dm_graph.specs.Arcs.{Arcs, IsOrder, IsCycle};
 ghost use Rattle.dm_graph.specs.Arrays.{AreRows, AreEnds, AreArraysOf, AreRanks};
 
-use crate::walk::Walk;
+use crate::walk::{ArcsByHead, Walk};
 use std::alloc::{AllocError, Global};
 use std::marker::Model;
 
@@ -76,7 +76,13 @@ impl Search {
         ensures cycle { OnErr result ((g : Arcs) → AreArraysOf g tails.now offsets.now places.now held.now → IsCycle g self.new.cycle) }
     {
         self.closed = 0;
-        match self.walk.place_all(tails, offsets, places, held) {
+        let by_head = ArcsByHead {
+            tails,
+            offsets,
+            places,
+            held,
+        };
+        match self.walk.place_all(&by_head) {
             Ok(()) => Ok(()),
             Err(last) => {
                 self.closed = self.walk.write_arcs(last, places, &mut self.cycle);

@@ -6,6 +6,18 @@ ghost use Rattle.dm_graph.specs.Arrays.{AreRows, AreEnds};
 
 use std::alloc::{AllocError, Global};
 
+/// Arcs by arrays: tails and flags go by arc, and the arcs into an event stand in `places`, from the event's offset up to
+/// the next one's.
+#[derive(Clone, Copy)]
+pub struct ArcsByHead<'a> {
+    pub tails: &'a [usize],
+    pub offsets: &'a [usize],
+    pub places: &'a [usize],
+
+    /// Whether an arc is held to.
+    pub held: &'a [bool],
+}
+
 /// The events that are placed stand at the first places of `order`, those on the path at its last,
 /// the one on top first. `rank` has the place of each, or the number of events where it is not met yet.
 #[derive(Drop)]
@@ -51,27 +63,20 @@ impl Walk {
     }
 
     /// Looks at the next arc into the event.
-    fn look(
-        &self,
-        event: usize,
-        tails: &[usize],
-        offsets: &[usize],
-        places: &[usize],
-        held: &[bool],
-    ) -> Look
-        requires walk { IsWalk tails.now offsets.now places.now held.now self.now }
+    fn look(&self, event: usize, by_head: &ArcsByHead<'_>) -> Look
+        requires walk { IsWalk by_head.now self.now }
         requires event { event < length self.now.order.items }
-        ensures { Finds tails.now offsets.now places.now held.now self.now event result }
+        ensures { Finds by_head.now self.now event result }
     {
         let place = self.next[event];
-        if place == offsets[event + 1] {
+        if place == by_head.offsets[event + 1] {
             return Look::Over;
         }
-        let arc = places[place];
-        if !held[arc] {
+        let arc = by_head.places[place];
+        if !by_head.held[arc] {
             return Look::Free;
         }
-        let tail = tails[arc];
+        let tail = by_head.tails[arc];
         let rank = self.rank[tail];
         if rank < self.placed {
             Look::Free
@@ -117,20 +122,14 @@ impl Walk {
     }
 
     /// One step for the event on top of the path; the error is the place of the event that closes the path.
-    fn step(
-        &mut self,
-        tails: &[usize],
-        offsets: &[usize],
-        places: &[usize],
-        held: &[bool],
-    ) -> Result<(), usize>
-        requires walk { IsWalk tails.now offsets.now places.now held.now self.old }
+    fn step(&mut self, by_head: &ArcsByHead<'_>) -> Result<(), usize>
+        requires walk { IsWalk by_head.now self.old }
         requires more { self.old.top < length self.old.order.items }
-        ensures goes_on { OnOk result (GoesOn tails.now offsets.now places.now held.now self.old self.new) }
-        ensures closes { IfErr result (λ place. Closes tails.now offsets.now places.now held.now self.new place) }
+        ensures goes_on { OnOk result (GoesOn by_head.now self.old self.new) }
+        ensures closes { IfErr result (λ place. Closes by_head.now self.new place) }
     {
         let event = self.order[self.top];
-        match self.look(event, tails, offsets, places, held) {
+        match self.look(event, by_head) {
             Look::Over => {
                 self.place(event);
                 Ok(())
@@ -148,19 +147,13 @@ impl Walk {
     }
 
     /// Steps until the path is empty; the error is the place of the event that closes it.
-    fn empty_path(
-        &mut self,
-        tails: &[usize],
-        offsets: &[usize],
-        places: &[usize],
-        held: &[bool],
-    ) -> Result<(), usize>
-        requires { IsWalk tails.now offsets.now places.now held.now self.old }
-        ensures returns { OnOk result (Returns tails.now offsets.now places.now held.now self.old self.new) }
-        ensures closes { IfErr result (λ place. Closes tails.now offsets.now places.now held.now self.new place) }
+    fn empty_path(&mut self, by_head: &ArcsByHead<'_>) -> Result<(), usize>
+        requires { IsWalk by_head.now self.old }
+        ensures returns { OnOk result (Returns by_head.now self.old self.new) }
+        ensures closes { IfErr result (λ place. Closes by_head.now self.new place) }
     {
         while self.top < self.order.len() {
-            self.step(tails, offsets, places, held)?;
+            self.step(by_head)?;
         }
         Ok(())
     }
@@ -179,45 +172,33 @@ impl Walk {
     }
 
     /// Places the event, and all that come before it; the error is the place of the event that closes the path.
-    fn visit(
-        &mut self,
-        event: usize,
-        tails: &[usize],
-        offsets: &[usize],
-        places: &[usize],
-        held: &[bool],
-    ) -> Result<(), usize>
-        requires walk { IsWalk tails.now offsets.now places.now held.now self.old }
+    fn visit(&mut self, event: usize, by_head: &ArcsByHead<'_>) -> Result<(), usize>
+        requires walk { IsWalk by_head.now self.old }
         requires is_empty { self.old.top ≡ length self.old.order.items }
         requires event { event < length self.old.order.items }
-        ensures visits { OnOk result (Visits tails.now offsets.now places.now held.now self.old event self.new) }
-        ensures closes { IfErr result (λ place. Closes tails.now offsets.now places.now held.now self.new place) }
+        ensures visits { OnOk result (Visits by_head.now self.old event self.new) }
+        ensures closes { IfErr result (λ place. Closes by_head.now self.new place) }
     {
         if self.rank[event] == self.order.len() {
             self.enter(event);
-            self.empty_path(tails, offsets, places, held)?;
+            self.empty_path(by_head)?;
         }
         Ok(())
     }
 
     /// Places every event; the error is the place of the event that closes the path.
-    pub fn place_all(
-        &mut self,
-        tails: &[usize],
-        offsets: &[usize],
-        places: &[usize],
-        held: &[bool],
-    ) -> Result<(), usize>
+    pub fn place_all(&mut self, by_head: &ArcsByHead<'_>) -> Result<(), usize>
         requires sized { HasEvenLists self.old }
-        requires rows { AreRows (length self.old.order.items) (length tails.now) offsets.now places.now }
-        requires ends { AreEnds (length self.old.order.items) (length tails.now) tails.now held.now }
+        requires rows { AreRows (length self.old.order.items) (length by_head.now.tails.now)
+            by_head.now.offsets.now by_head.now.places.now }
+        requires ends { AreEnds (length self.old.order.items) (length by_head.now.tails.now) by_head.now.tails.now by_head.now.held.now }
         ensures as_many { length self.new.order.items ≡ length self.old.order.items }
-        ensures all { OnOk result (PlacesAll tails.now offsets.now places.now held.now self.new) }
-        ensures closes { IfErr result (λ place. Closes tails.now offsets.now places.now held.now self.new place) }
+        ensures all { OnOk result (PlacesAll by_head.now self.new) }
+        ensures closes { IfErr result (λ place. Closes by_head.now self.new place) }
     {
-        self.start(offsets);
+        self.start(by_head.offsets);
         for event in 0..self.order.len() {
-            self.visit(event, tails, offsets, places, held)?;
+            self.visit(event, by_head)?;
         }
         Ok(())
     }

@@ -1,17 +1,18 @@
 -- The walk that searches for an order: the events that are placed, those on the path, and how far each row is looked through.
-use Rattle.std.specs.Prelude.{◌≡◌, ℕ, ◌+◌, ◌-◌, ◌*◌, ◌<◌, ◌≤◌, ◌⊎◌, ◌==◌, Bool, false, IsTrue, List, length, slice_index, slice_index_or, slice_set, take, replicate, sum, count_by}
+use Rattle.std.specs.Prelude.{◌≡◌, ℕ, ◌+◌, ◌-◌, ◌*◌, ◌<◌, ◌≤◌, ◌⊎◌, ◌==◌, false, IsTrue, List, length, slice_index, slice_index_or, slice_set, take, replicate, sum, count_by}
 use Rattle.dm_graph.specs.Arrays.{InRow, AreRows, AreEnds}
 use Rattle.dm_graph.specs.declared.walk.Walk.{Walk}
+use Rattle.dm_graph.specs.declared.walk.ArcsByHead.{ArcsByHead}
 use Rattle.dm_graph.specs.declared.walk.Look.{Look}
 use Rattle.dm_graph.specs.declared.walk.Look.TheVariants.{Over, Free, Unmet, OnPath}
 
 -- the arc at a place of the rows is held to
-abbrev pub IsHeldAt : List Bool → List ℕ → ℕ → Type 0
-IsHeldAt held places place = IsTrue (slice_index_or held (slice_index places place) false)
+abbrev pub IsHeldAt : ArcsByHead → ℕ → Type 0
+IsHeldAt by_head place = IsTrue (slice_index_or by_head.held.now (slice_index by_head.places.now place) false)
 
 -- the event that the arc at a place of the rows leaves
-abbrev pub tail_at : List ℕ → List ℕ → ℕ → ℕ
-tail_at tails places place = slice_index tails (slice_index places place)
+abbrev pub tail_at : ArcsByHead → ℕ → ℕ
+tail_at by_head place = slice_index by_head.tails.now (slice_index by_head.places.now place)
 
 -- the event at a place of the order has that place as its rank
 pub record Stands (n : ℕ) (order rank : List ℕ) (place : ℕ) : Type 0 where
@@ -31,57 +32,57 @@ pub record AreMarks (n : ℕ) (order rank : List ℕ) (placed top : ℕ) : Type 
   pub ranked : (e : ℕ) → e < n → slice_index rank e < n → slice_index order (slice_index rank e) ≡ e
 
 -- the next arc to look at in the row of e is held to, and leaves u
-pub record LeadsTo (tails offsets places : List ℕ) (held : List Bool) (next : List ℕ) (e u : ℕ) : Type 0 where
-  pub not_over : slice_index next e < slice_index offsets (e + 1)
-  pub is_held : IsHeldAt held places (slice_index next e)
-  pub tail : tail_at tails places (slice_index next e) ≡ u
+pub record LeadsTo (by_head : ArcsByHead) (next : List ℕ) (e u : ℕ) : Type 0 where
+  pub not_over : slice_index next e < slice_index by_head.offsets.now (e + 1)
+  pub is_held : IsHeldAt by_head (slice_index next e)
+  pub tail : tail_at by_head (slice_index next e) ≡ u
 
 -- each arc looked at is not held to or leaves an event that is placed; among the placed events the arcs go forward;
 -- and each event of the path is what the next arc of the one below it leaves
-pub record AreLooks (tails offsets places : List ℕ) (held : List Bool) (n : ℕ) (order rank next : List ℕ) (placed top : ℕ) : Type 0 where
+pub record AreLooks (by_head : ArcsByHead) (n : ℕ) (order rank next : List ℕ) (placed top : ℕ) : Type 0 where
   pub next_count : length next ≡ n
-  pub begun : (e : ℕ) → e < n → slice_index offsets e ≤ slice_index next e
-  pub not_past : (e : ℕ) → e < n → slice_index next e ≤ slice_index offsets (e + 1)
-  pub looked : (e place : ℕ) → e < n → slice_index offsets e ≤ place → place < slice_index next e →
-      IsHeldAt held places place → slice_index rank (tail_at tails places place) < placed
-  pub forward : (e place : ℕ) → e < n → slice_index rank e < placed → InRow offsets e place →
-      IsHeldAt held places place → slice_index rank (tail_at tails places place) < slice_index rank e
+  pub begun : (e : ℕ) → e < n → slice_index by_head.offsets.now e ≤ slice_index next e
+  pub not_past : (e : ℕ) → e < n → slice_index next e ≤ slice_index by_head.offsets.now (e + 1)
+  pub looked : (e place : ℕ) → e < n → slice_index by_head.offsets.now e ≤ place → place < slice_index next e →
+      IsHeldAt by_head place → slice_index rank (tail_at by_head place) < placed
+  pub forward : (e place : ℕ) → e < n → slice_index rank e < placed → InRow by_head.offsets.now e place →
+      IsHeldAt by_head place → slice_index rank (tail_at by_head place) < slice_index rank e
   pub path : (place : ℕ) → top ≤ place → place + 1 < n →
-      LeadsTo tails offsets places held next (slice_index order (place + 1)) (slice_index order place)
+      LeadsTo by_head next (slice_index order (place + 1)) (slice_index order place)
 
 -- what holds of the walk between its steps
-pub record IsWalk (tails offsets places : List ℕ) (held : List Bool) (walk : Walk) : Type 0 where
-  pub rows : AreRows (length walk.order.items) (length tails) offsets places
-  pub ends : AreEnds (length walk.order.items) (length tails) tails held
+pub record IsWalk (by_head : ArcsByHead) (walk : Walk) : Type 0 where
+  pub rows : AreRows (length walk.order.items) (length by_head.tails.now) by_head.offsets.now by_head.places.now
+  pub ends : AreEnds (length walk.order.items) (length by_head.tails.now) by_head.tails.now by_head.held.now
   pub marks : AreMarks (length walk.order.items) walk.order.items walk.rank.items walk.placed walk.top
-  pub looks : AreLooks tails offsets places held (length walk.order.items) walk.order.items walk.rank.items walk.next.items walk.placed walk.top
+  pub looks : AreLooks by_head (length walk.order.items) walk.order.items walk.rank.items walk.next.items walk.placed walk.top
 
 -- the next arc into the event on top of the path leaves the event that stands at a place of the path
-pub record Closes (tails offsets places : List ℕ) (held : List Bool) (walk : Walk) (place : ℕ) : Type 0 where
-  pub holds : IsWalk tails offsets places held walk
+pub record Closes (by_head : ArcsByHead) (walk : Walk) (place : ℕ) : Type 0 where
+  pub holds : IsWalk by_head walk
   pub on_path : walk.top ≤ place
   pub within : place < length walk.order.items
-  pub leads : LeadsTo tails offsets places held walk.next.items (slice_index walk.order.items walk.top) (slice_index walk.order.items place)
+  pub leads : LeadsTo by_head walk.next.items (slice_index walk.order.items walk.top) (slice_index walk.order.items place)
 
 -- what a look at the row of e finds: it is looked through; its next arc may be passed over; the arc leaves an event
 -- not met yet; or it leaves the event at a place of the path
-abbrev pub Finds : List ℕ → List ℕ → List ℕ → List Bool → Walk → ℕ → Look → Type 0
-Finds tails offsets places held walk e Over = slice_index walk.next.items e ≡ slice_index offsets (e + 1)
-Finds tails offsets places held walk e Free =
-    (slice_index walk.next.items e < slice_index offsets (e + 1)) ×
-    (IsHeldAt held places (slice_index walk.next.items e) →
-    slice_index walk.rank.items (tail_at tails places (slice_index walk.next.items e)) < walk.placed)
-Finds tails offsets places held walk e (Unmet u) =
-    LeadsTo tails offsets places held walk.next.items e u × (u < length walk.order.items) ×
+abbrev pub Finds : ArcsByHead → Walk → ℕ → Look → Type 0
+Finds by_head walk e Over = slice_index walk.next.items e ≡ slice_index by_head.offsets.now (e + 1)
+Finds by_head walk e Free =
+    (slice_index walk.next.items e < slice_index by_head.offsets.now (e + 1)) ×
+    (IsHeldAt by_head (slice_index walk.next.items e) →
+    slice_index walk.rank.items (tail_at by_head (slice_index walk.next.items e)) < walk.placed)
+Finds by_head walk e (Unmet u) =
+    LeadsTo by_head walk.next.items e u × (u < length walk.order.items) ×
     (slice_index walk.rank.items u ≡ length walk.order.items)
-Finds tails offsets places held walk e (OnPath place) =
-    LeadsTo tails offsets places held walk.next.items e (slice_index walk.order.items place) ×
+Finds by_head walk e (OnPath place) =
+    LeadsTo by_head walk.next.items e (slice_index walk.order.items place) ×
     (walk.top ≤ place) × (place < length walk.order.items)
 
 -- at most so many steps are left
-abbrev pub steps_left : List ℕ → Walk → ℕ
-steps_left places walk =
-    length walk.order.items * length places + length walk.order.items + walk.top - (sum walk.next.items + 2 * walk.placed)
+abbrev pub steps_left : ArcsByHead → Walk → ℕ
+steps_left by_head walk =
+    length walk.order.items * length by_head.places.now + length walk.order.items + walk.top - (sum walk.next.items + 2 * walk.placed)
 
 -- every event that was met before is met after
 abbrev pub KeepsMet : Walk → Walk → Type 0
@@ -113,15 +114,15 @@ pub record Passes (old : Walk) (e : ℕ) (new : Walk) : Type 0 where
   pub next : new.next.items ≡ slice_set old.next.items e (slice_index old.next.items e + 1)
 
 -- the walk went on: it holds, has fewer steps left, and no event that was met is not met
-pub record GoesOn (tails offsets places : List ℕ) (held : List Bool) (old new : Walk) : Type 0 where
-  pub holds : IsWalk tails offsets places held new
+pub record GoesOn (by_head : ArcsByHead) (old new : Walk) : Type 0 where
+  pub holds : IsWalk by_head new
   pub as_many : length new.order.items ≡ length old.order.items
-  pub fewer : steps_left places new < steps_left places old
+  pub fewer : steps_left by_head new < steps_left by_head old
   pub met : KeepsMet old new
 
 -- the path is empty again, and no event that was met is not met
-pub record Returns (tails offsets places : List ℕ) (held : List Bool) (old new : Walk) : Type 0 where
-  pub holds : IsWalk tails offsets places held new
+pub record Returns (by_head : ArcsByHead) (old new : Walk) : Type 0 where
+  pub holds : IsWalk by_head new
   pub as_many : length new.order.items ≡ length old.order.items
   pub is_empty : new.top ≡ length new.order.items
   pub met : KeepsMet old new
@@ -140,13 +141,13 @@ pub record Starts (old : Walk) (offsets : List ℕ) (new : Walk) : Type 0 where
   pub top : new.top ≡ length old.order.items
 
 -- the path is empty again, no event that was met is not met, and the event is met
-pub record Visits (tails offsets places : List ℕ) (held : List Bool) (old : Walk) (e : ℕ) (new : Walk) : Type 0 where
-  pub returns : Returns tails offsets places held old new
+pub record Visits (by_head : ArcsByHead) (old : Walk) (e : ℕ) (new : Walk) : Type 0 where
+  pub returns : Returns by_head old new
   pub is_met : slice_index new.rank.items e < length new.order.items
 
 -- every event is placed
-pub record PlacesAll (tails offsets places : List ℕ) (held : List Bool) (walk : Walk) : Type 0 where
-  pub holds : IsWalk tails offsets places held walk
+pub record PlacesAll (by_head : ArcsByHead) (walk : Walk) : Type 0 where
+  pub holds : IsWalk by_head walk
   pub is_empty : walk.top ≡ length walk.order.items
   pub met : (e : ℕ) → e < length walk.order.items → slice_index walk.rank.items e < length walk.order.items
 

@@ -5,19 +5,19 @@ use Rattle.dm_graph.proofs.search.Search.search.Goals as goal
 
 pub returns-in-Ok-clause-order : goal.returns-in-Ok-clause-order
 returns-in-Ok-clause-order c =
-    placed_is_order c.args.tails.now c.args.offsets.now c.args.places.now c.args.held.now c.place_all.new.self c.in-Ok.ensures.all
+    placed_is_order _ c.place_all.new.self c.in-Ok.ensures.all
 
 pub returns-in-Ok-clause-ranks : goal.returns-in-Ok-clause-ranks
 returns-in-Ok-clause-ranks c =
-    placed_is_ranked c.args.tails.now c.args.offsets.now c.args.places.now c.args.held.now c.place_all.new.self c.in-Ok.ensures.all
+    placed_is_ranked _ c.place_all.new.self c.in-Ok.ensures.all
 
 pub write_arcs-self-inside-requires-clause-path : goal.write_arcs-self-inside-requires-clause-path
 write_arcs-self-inside-requires-clause-path c =
-    closed_has_arcs c.args.tails.now c.args.offsets.now c.args.places.now c.args.held.now c.place_all.new.self c.in-Err.last c.in-Err.ensures.closes
+    closed_has_arcs _ c.place_all.new.self c.in-Err.last c.in-Err.ensures.closes
 
 pub returns-in-Err-clause-cycle : goal.returns-in-Err-clause-cycle
 returns-in-Err-clause-cycle c = λ g arrays.
-    let is = closed_is_cycle c.args.tails.now c.args.offsets.now c.args.places.now c.args.held.now c.place_all.new.self c.in-Err.last c.in-Err.ensures.closes
+    let is = closed_is_cycle _ c.place_all.new.self c.in-Err.last c.in-Err.ensures.closes
     g arrays (take c.write_arcs-self-inside.result c.write_arcs-self-inside.new.arcs) c.write_arcs-self-inside.ensures.arcs in
     let same = c.write_arcs-self-inside.auto.arcs in
     let lent : length c.deref_mut.result.now ≡ length c.self.inside.cycle.items = ap length c.deref_mut.ensures.value in

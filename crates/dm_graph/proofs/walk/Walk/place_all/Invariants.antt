@@ -4,7 +4,7 @@ use Rattle.dm_graph.proofs.walk.Walk.place_all.Given as goal
 
 abbrev pub invariant-loop-event : goal.invariant-loop-event
 invariant-loop-event l = record {
-  holds : IsWalk l.tails l.offsets l.places l.held l.self;
+  holds : IsWalk l.by_head l.self;
   is_empty : l.self.top ≡ length l.self.order.items;
   as_many : length l.self.order.items ≡ length l.fn.self.order.items;
   is_end : l.event-end ≡ length l.fn.self.order.items;

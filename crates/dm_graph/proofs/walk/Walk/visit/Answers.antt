@@ -6,7 +6,7 @@ pub empty_path-requires : goal.empty_path-requires
 empty_path-requires c =
     let r = c.requires.is_empty in
     let is = c.len.ensures ∙ c.args.self.now.order.ok.0 in
-    (entered c.args.tails.now c.args.offsets.now c.args.places.now c.args.held.now c.args.self.now c.enter.new.self c.requires.walk
+    (entered c.args.by_head.now c.args.self.now c.enter.new.self c.requires.walk
     c.args.event c.requires.event
     (unmet_is c.args.self.now.rank.items c.args.event c.index.result.now (length c.args.self.now.order.items)
     (let m = c.requires.walk.marks.rank_count in let e = c.requires.event in omega arith) c.index.ensures (c.if-index-len.true ∙ is))
