@@ -1,5 +1,5 @@
 -- Look-ups by a key in a list whose keys ascend.
-use Rattle.std.proofs.Common.{◌≡◌, ℕ, zero, suc, ◌+◌, ◌-◌, ◌<◌, ◌≤◌, true, false, eqb, ltb, List, [], ◌∷◌, length, map, get_or, ap, ◌∙◌, subst, inl, inr, arith, Some, None, position}
+use Rattle.std.proofs.Common.{◌≡◌, ℕ, zero, suc, ◌+◌, ◌-◌, ◌<◌, ◌≤◌, true, false, eqb, ltb, List, [], ◌∷◌, length, map, get_or, refl, ap, ◌∙◌, subst, inl, inr, arith, Some, None, position}
 use Rattle.std.specs.List.{position_or_len}
 use Rattle.std.specs.List.Sorted.{IsStrictlyIncreasing, IsNonDecreasing, IsNonDecreasingBy, IsPartitionPoint}
 use Rattle.std.proofs.lemmas.Option.{slice_get-get_or}
@@ -49,7 +49,7 @@ module _ {X : Type 0} (key : X → ℕ) (xs : List X) (up : IsStrictlyIncreasing
       (λ _. eq-eqb (key (get_or xs p d)) k is) in
       rw (at, lt-ltb p (length xs) in')
 
-  pub key_is_absent : (k p : ℕ) (d : X) → p ≤ length xs →
+  key_is_absent : (k p : ℕ) (d : X) → p ≤ length xs →
       IsPartitionPoint (λ x. ltb (key x) k ≡ true) (λ x. ltb (key x) k ≡ false) xs p →
       (p < length xs → key (get_or xs p d) ≡ k → ⊥) → position (λ x. eqb (key x) k) xs ≡ None
   key_is_absent k p d le part other =
@@ -68,6 +68,13 @@ module _ {X : Type 0} (key : X → ℕ) (xs : List X) (up : IsStrictlyIncreasing
       (λ j lt. ne_eqb (key (get_or xs j d)) k (differs j lt))
       (λ lt. absurd (omega arith)) in
       rw (at, le-ltb (length xs) (length xs) (omega arith))
+
+-- the same, of whatever value would stand past the end
+pub key_is_nowhere : {X : Type 0} (key : X → ℕ) (xs : List X) → IsStrictlyIncreasing (map key xs) → (k p : ℕ) → p ≤ length xs →
+    IsPartitionPoint (λ x. ltb (key x) k ≡ true) (λ x. ltb (key x) k ≡ false) xs p →
+    ((d : X) → p < length xs → key (get_or xs p d) ≡ k → ⊥) → position (λ x. eqb (key x) k) xs ≡ None
+key_is_nowhere key [] up k p le part other = refl
+key_is_nowhere key (x ∷ xs) up k p le part other = key_is_absent key (x ∷ xs) up k p x le part (other x)
 
 -- keys that do not fall along a list, as a list
 pub keys_do_not_fall : {X : Type 0} (key : X → ℕ) (xs : List X) → IsNonDecreasingBy key xs → IsNonDecreasing (map key xs)

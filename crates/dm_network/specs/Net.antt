@@ -7,7 +7,7 @@ use Rattle.dm_base.specs.declared.ids.ActId.{ActId}
 use Rattle.dm_base.specs.declared.ids.StopId.{StopId}
 use Rattle.dm_base.specs.declared.rows.EventKind.TheVariants.{Departure}
 use Rattle.dm_base.specs.declared.rows.ActKind.{ActKind}
-use Rattle.dm_base.specs.declared.rows.ActKind.TheVariants.{Drive, Wait, Turnaround, Change, Headway}
+use Rattle.dm_base.specs.declared.rows.ActKind.TheVariants.{Drive, Change, Headway}
 use Rattle.dm_base.specs.declared.limits.TheConstants.{EVENTS, ACTIVITIES, TIME, BOUND, WEIGHT}
 use Rattle.dm_network.specs.declared.parts.Event.{Event}
 use Rattle.dm_network.specs.declared.parts.Activity.{Activity}
@@ -49,17 +49,11 @@ activity_place net id = position (λ a. a.id.0 == id.0) net.activities
 
 abbrev pub is_change : ActKind → Bool
 is_change Change = true
-is_change Drive = false
-is_change Wait = false
-is_change Turnaround = false
-is_change Headway = false
+is_change _ = false
 
 abbrev pub is_headway : ActKind → Bool
 is_headway Headway = true
-is_headway Drive = false
-is_headway Wait = false
-is_headway Turnaround = false
-is_headway Change = false
+is_headway _ = false
 
 -- the places of the activities with this head, with this tail, ascending
 abbrev pub places_into : Net → ℕ → List ℕ

@@ -7,54 +7,67 @@ ghost use Rattle.dm_network.specs.Inside.Flat.{ArePairsInOrder, stands_before, S
 use crate::parts::{Activity, Event, Pair};
 use dm_base::{ActId, EventId, StopId};
 
-/// The place of the event with this id. Where ids follow one another from the first on, it is told at once.
+/// What has a number of its own, in ascending order of which lists stand.
+trait Numbered {
+    ghost number: { Self → ℕ };
+
+    fn number(&self) -> u32
+        ensures { result ≡ number self.now };
+}
+
+impl Numbered for Event {
+    ghost number = { λ e. e.id.0 };
+
+    fn number(&self) -> u32 {
+        self.id.0
+    }
+}
+
+impl Numbered for Activity {
+    ghost number = { λ a. a.id.0 };
+
+    fn number(&self) -> u32 {
+        self.id.0
+    }
+}
+
+/// The place of the event with this id.
 pub fn event_place(events: &[Event], id: EventId) -> Option<usize>
     requires { IsStrictlyIncreasing (map (λ e. e.id.0) events.now) }
     ensures { result ≡ position (λ e. e.id.0 == id.0) events.now }
 {
-    if let Some(first) = events.first() {
-        let guess = id.0.saturating_sub(first.id.0) as usize;
-        if guess < events.len() && events[guess].id.0 == id.0 {
-            return Some(guess);
-        }
-    }
-    event_by_halves(events, id)
+    place_of(events, id.0)
 }
 
-/// The place of the event with this id, by halving.
-fn event_by_halves(events: &[Event], id: EventId) -> Option<usize>
-    requires { IsStrictlyIncreasing (map (λ e. e.id.0) events.now) }
-    ensures { result ≡ position (λ e. e.id.0 == id.0) events.now }
-{
-    let place = events.partition_point(|e| e.id.0 < id.0);
-    if place < events.len() && events[place].id.0 == id.0 {
-        Some(place)
-    } else {
-        None
-    }
-}
-
-/// The place of the activity with this id. Where ids follow one another from the first on, it is told at once.
+/// The place of the activity with this id.
 pub fn activity_place(activities: &[Activity], id: ActId) -> Option<usize>
     requires { IsStrictlyIncreasing (map (λ a. a.id.0) activities.now) }
     ensures { result ≡ position (λ a. a.id.0 == id.0) activities.now }
 {
-    if let Some(first) = activities.first() {
-        let guess = id.0.saturating_sub(first.id.0) as usize;
-        if guess < activities.len() && activities[guess].id.0 == id.0 {
+    place_of(activities, id.0)
+}
+
+/// The place of the item with this number. Where numbers follow one another from the first on, it is told at once.
+fn place_of<T: Numbered>(items: &[T], number: u32) -> Option<usize>
+    requires { IsStrictlyIncreasing (map T.number items.now) }
+    ensures { result ≡ position (λ x. T.number x == number) items.now }
+{
+    if let Some(first) = items.first() {
+        let guess = number.saturating_sub(first.number()) as usize;
+        if guess < items.len() && items[guess].number() == number {
             return Some(guess);
         }
     }
-    activity_by_halves(activities, id)
+    place_by_halves(items, number)
 }
 
-/// The place of the activity with this id, by halving.
-fn activity_by_halves(activities: &[Activity], id: ActId) -> Option<usize>
-    requires { IsStrictlyIncreasing (map (λ a. a.id.0) activities.now) }
-    ensures { result ≡ position (λ a. a.id.0 == id.0) activities.now }
+/// The place of the item with this number, by halving.
+fn place_by_halves<T: Numbered>(items: &[T], number: u32) -> Option<usize>
+    requires { IsStrictlyIncreasing (map T.number items.now) }
+    ensures { result ≡ position (λ x. T.number x == number) items.now }
 {
-    let place = activities.partition_point(|a| a.id.0 < id.0);
-    if place < activities.len() && activities[place].id.0 == id.0 {
+    let place = items.partition_point(|x| x.number() < number);
+    if place < items.len() && items[place].number() == number {
         Some(place)
     } else {
         None

@@ -10,7 +10,7 @@ ghost use Rattle.dm_network.specs.Inside.Stages.{formed_net, with_events, StandB
 
 use crate::arrays::{Arrays, ByStop};
 use crate::find;
-use crate::flat::{FlatRows, row};
+use crate::flat::FlatRows;
 use crate::forming::Formed;
 use crate::parts::{Activity, Event, Pair};
 use dm_base::limits::{ACTIVITIES, EVENTS};
@@ -191,8 +191,7 @@ impl Network {
         ensures places { result.now ≡ places_into self.now i }
         ensures counted { steps.new ≡ steps.old + 1 }
     {
-        steps.tick();
-        row(&self.incoming.offsets, &self.incoming.places, i)
+        self.incoming.row(i, steps)
     }
 
     /// The places of the activities with this tail, ascending. It counts one step.
@@ -201,8 +200,7 @@ impl Network {
         ensures places { result.now ≡ places_out_of self.now i }
         ensures counted { steps.new ≡ steps.old + 1 }
     {
-        steps.tick();
-        row(&self.outgoing.offsets, &self.outgoing.places, i)
+        self.outgoing.row(i, steps)
     }
 
     /// Searches for an order of all events in which each held activity goes forward, or for a cycle of held activities.

@@ -7,7 +7,7 @@ use Rattle.dm_network.specs.declared.parts.Event.{Event}
 use Rattle.dm_network.specs.declared.parts.Activity.{Activity}
 use Rattle.dm_network.specs.declared.parts.Pair.{Pair}
 use Rattle.dm_network.specs.declared.parts.NetFault.{NetFault}
-use Rattle.dm_network.specs.declared.parts.NetFault.TheVariants.{TooMany, DoubleEvent, DoubleActivity, UnknownEvent, ZeroHeadway, Cycle, OutOfMemory}
+use Rattle.dm_network.specs.declared.parts.NetFault.TheVariants.{DoubleEvent, DoubleActivity, UnknownEvent, ZeroHeadway, Cycle, OutOfMemory}
 use Rattle.dm_base.specs.declared.ids.StopId.{StopId}
 use Rattle.dm_network.specs.declared.forming.Formed.{Formed}
 use Rattle.dm_network.specs.declared.arrays.Standing.{Standing}
@@ -47,11 +47,7 @@ pub record AreResolved (events : List Event) (rows : List ActRow) (activities : 
 abbrev pub RefusesEnds : List Event → List ActRow → NetFault → Type 0
 RefusesEnds events rows (UnknownEvent id) = IsFirst (NamesNoEvent (map event_row events)) rows id
 RefusesEnds events rows OutOfMemory = Unit {0}
-RefusesEnds events rows TooMany = ⊥
-RefusesEnds events rows (DoubleEvent id) = ⊥
-RefusesEnds events rows (DoubleActivity id) = ⊥
-RefusesEnds events rows (ZeroHeadway id) = ⊥
-RefusesEnds events rows (Cycle ids) = ⊥
+RefusesEnds events rows _ = ⊥
 
 -- a headway from one event to another, by place
 pub record IsHeadwayAmong (activities : List Activity) (i j a : ℕ) : Type 0 where
@@ -109,11 +105,7 @@ pub record AreEventsOf (rows : List EventRow) (events : List Event) : Type 0 whe
 abbrev pub RefusesEvents : List EventRow → NetFault → Type 0
 RefusesEvents rows (DoubleEvent id) = IsLeastDouble (event_ids rows) id.0
 RefusesEvents rows OutOfMemory = Unit {0}
-RefusesEvents rows TooMany = ⊥
-RefusesEvents rows (DoubleActivity id) = ⊥
-RefusesEvents rows (UnknownEvent id) = ⊥
-RefusesEvents rows (ZeroHeadway id) = ⊥
-RefusesEvents rows (Cycle ids) = ⊥
+RefusesEvents rows _ = ⊥
 
 -- a headway keeps its events apart
 abbrev pub IsApart : Activity → Type 0
@@ -134,9 +126,7 @@ RefusesActivities events rows (UnknownEvent id) =
 RefusesActivities events rows (ZeroHeadway id) =
     NoneStandsTwice (activity_ids rows) × HoldsOfNone (NamesNoEvent (map event_row events)) rows × IsFirst IsZeroHeadway rows id
 RefusesActivities events rows OutOfMemory = Unit {0}
-RefusesActivities events rows TooMany = ⊥
-RefusesActivities events rows (DoubleEvent id) = ⊥
-RefusesActivities events rows (Cycle ids) = ⊥
+RefusesActivities events rows _ = ⊥
 
 -- the network that the parts make
 abbrev pub formed_net : Formed → Net
@@ -159,11 +149,7 @@ pub record StandBeside (net : Net) (arrays : Arrays) : Type 0 where
 abbrev pub RefusesFormed : Net → NetFault → Type 0
 RefusesFormed net (Cycle ids) = ShowsStartCycle net ids
 RefusesFormed net OutOfMemory = Unit {0}
-RefusesFormed net TooMany = ⊥
-RefusesFormed net (DoubleEvent id) = ⊥
-RefusesFormed net (DoubleActivity id) = ⊥
-RefusesFormed net (UnknownEvent id) = ⊥
-RefusesFormed net (ZeroHeadway id) = ⊥
+RefusesFormed net _ = ⊥
 
 -- the stop of the event at a place, with the place
 abbrev pub standing_at : List Event → ℕ → Standing
