@@ -39,9 +39,7 @@ module _ {S B : Type 0} (history : S → List Entry) (base : S → B) (opened : 
     words = words;
     slot = slot;
     views = views;
-    short = r.short;
-    opened_before = r.opened_before;
-    few = r.few;
+    counted = r.counted;
   }
 
   -- so does one that a seat has only looked at
@@ -69,9 +67,7 @@ module _ {S B : Type 0} (history : S → List Entry) (base : S → B) (opened : 
           words = ap (λ (ws : List ℕ). set ws 1 ((slice_index ws 1 + 1) % 2 ^ 64)) r.words ∙ ap (λ (x : ℕ). length r.log ∷ x ∷ r.serving % 2 ^ 64 ∷ []) (mod-add-mod r.next (2 ^ 64) 1);
           slot = subst (SlotIs history base opened seats s.homes r.log) (sym same) r.slot;
           views = stand_draw history base opened seats r.log r.serving r.next s.views id me.0 r.views at room idle;
-          short = r.short;
-          opened_before = r.opened_before;
-          few = r.few;
+          counted = r.counted;
         },
         (r.next, refl, sym (ap (λ (ws : List ℕ). slice_index ws 1) r.words)),
       )
@@ -126,7 +122,7 @@ module _ {S B : Type 0} (history : S → List Entry) (base : S → B) (opened : 
     hit e =
         let range = in_range history base opened seats r.log r.serving r.next s.views id me.0 t r.views at (ap (has_ticket t) waits ∙ eq-eqb t t refl) in
         let mine : r.serving % 2 ^ 64 ≡ t % 2 ^ 64 = sym (ap (λ (ws : List ℕ). slice_index ws 2) r.words) ∙ (e ∙ ap (λ (p : Phase). ticket_of p % 2 ^ 64) waits) in
-        let close = short_queue r.log r.serving r.next s.views r.views r.few in
+        let close = short_queue r.log r.serving r.next s.views r.views r.counted.few in
         let own : r.serving ≡ t = one_turn r.serving t (2 ^ 64) range.0 (omega (arith, range.1, close)) mine in
         let free = none_served r.log r.serving r.next s.views id me.0 r.views at (waits ∙ ap Waiting (sym own)) in
         let home = home_of s.homes r.log (served s.views) r.slot free in
@@ -199,10 +195,12 @@ module _ {S B : Type 0} (history : S → List Entry) (base : S → B) (opened : 
           next = r.next;
           words = ap (λ (ws : List ℕ). set ws 0 ((slice_index ws 0 + 1) % 2 ^ 64)) r.words ∙ ap (λ (x : ℕ). x ∷ r.next % 2 ^ 64 ∷ r.serving % 2 ^ 64 ∷ []) small_sum;
           slot = inr (omega (arith, same, at_most, at_least), out_of s.homes r.log (served s.views) r.slot at_least);
-          views = stand_add history base opened seats r.log r.serving r.next s.views id me.0 t e r.views at room serves at_most r.opened_before;
-          short = omega (arith, longer, longer', few);
-          opened_before = omega (arith, longer', r.opened_before);
-          few = r.few;
+          views = stand_add history base opened seats r.log r.serving r.next s.views id me.0 t e r.views at room serves at_most r.counted.opened_before;
+          counted = record {
+            short = omega (arith, longer, longer', few);
+            opened_before = omega (arith, longer', r.counted.opened_before);
+            few = r.counted.few;
+          };
         },
         (λ e' shows'. let same_end : e ∷ [] ≡ e' ∷ [] = append_cancel_left me.0.seen (e ∷ []) (e' ∷ []) (sym shows ∙ shows') in
             let same_entry : e ≡ e' = cc same_end in ap (λ (x : Entry). let z : Sat S B = (gained me.0 x, me.1) in z) same_entry),
@@ -230,9 +228,7 @@ module _ {S B : Type 0} (history : S → List Entry) (base : S → B) (opened : 
           words = ap (λ (ws : List ℕ). set ws 2 ((slice_index ws 2 + 1) % 2 ^ 64)) r.words ∙ ap (λ (x : ℕ). length r.log ∷ r.next % 2 ^ 64 ∷ x ∷ []) (mod-add-mod r.serving (2 ^ 64) 1);
           slot = inl (none_left, record { state = state; there = λ i. put_back (out i) (carried i); whole = has ∙ turn.1; base_is = same_base });
           views = stand_serve history base opened seats r.log r.serving r.next s.views id me.0 t r.views at room serves at_most;
-          short = r.short;
-          opened_before = r.opened_before;
-          few = r.few;
+          counted = r.counted;
         },
         ap (λ (c : List (ℕ × Option S)). let z : Sat S B = (w, rest c) in z) carried,
       )
@@ -300,9 +296,7 @@ module _ {S B : Type 0} (history : S → List Entry) (base : S → B) (opened : 
           none_later = λ k a. refl;
           all_rooms = omega arith;
         };
-        short = short;
-        opened_before = omega arith;
-        few = few;
+        counted = record { short = short; opened_before = omega arith; few = few };
       } where
         first_fits : (i : ℕ) (u : View B) → get_elem? (opening_view history base opened seats ∷ []) i ≡ some u → Fits history base opened seats (history opened) 0 u
         first_fits zero u e = subst (Fits history base opened seats (history opened) 0) (some-injective (opening_view history base opened seats) u e) (record {

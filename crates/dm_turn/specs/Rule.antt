@@ -104,6 +104,12 @@ module _ {S B : Type 0} (history : S → List Entry) (base : S → B) (opened : 
   abbrev pub SlotIs : List (maybe.Option (Option S)) → List Entry → ℕ → Type 0
   SlotIs homes log served = ((served ≡ 0) × IsHome homes log) ⊎ ((served ≡ 1) × (homes ≡ none ∷ []))
 
+  -- the words count every entry and every seat, and no entry was lost
+  pub record IsCounted (log : List Entry) : Type 0 where
+    pub short : length log < 2 ^ 32
+    pub opened_before : length (history opened) ≤ length log
+    pub few : seats < 2 ^ 32
+
   pub record Rule (s : State (Option S) (View B)) : Type 0 where
     pub log : List Entry
     pub serving : ℕ
@@ -111,6 +117,4 @@ module _ {S B : Type 0} (history : S → List Entry) (base : S → B) (opened : 
     pub words : s.words ≡ length log ∷ next % 2 ^ 64 ∷ serving % 2 ^ 64 ∷ []
     pub slot : SlotIs s.homes log (served s.views)
     pub views : Stands log serving next s.views
-    pub short : length log < 2 ^ 32
-    pub opened_before : length (history opened) ≤ length log
-    pub few : seats < 2 ^ 32
+    pub counted : IsCounted log

@@ -1,6 +1,8 @@
 //! The rule under which the words and the slot of a turn change, and what each kind of step tells.
 ghost use Rattle.std.specs.Prelude.{List, []};
 ghost use Rattle.dm_rows.specs.declared.messages.Entry.{Entry as AnEntry};
+ghost use Rattle.dm_turn.specs.Rule.{Rule, spent};
+ghost use Rattle.dm_turn.specs.Inside.Steps.{Drew, Looked, Glanced, Added, Gave, Settled, opening_view, left_over, cut_off, joined};
 
 use crate::state::HasHistory;
 use crate::view::View;
@@ -19,9 +21,6 @@ pub struct About<S> {
 pub struct Lock;
 
 impl<S: HasHistory> TableRule<Option<S>, View<S::Base>, About<S>> for Lock {
-    ghost use Rattle.dm_turn.specs.Rule.{Rule};
-    ghost use Rattle.dm_turn.specs.Inside.Steps.{opening_view};
-
     ghost holds = { λ about. Rule S.history S.base about.opened.value about.seats };
 
     ghost first = { λ about. opening_view S.history S.base about.opened.value about.seats };
@@ -31,8 +30,6 @@ impl<S: HasHistory> TableRule<Option<S>, View<S::Base>, About<S>> for Lock {
 pub struct Draw;
 
 impl<S: HasHistory> Play<Option<S>, View<S::Base>> for Draw {
-    ghost use Rattle.dm_turn.specs.Inside.Steps.{Drew};
-
     ghost then = { Drew };
 }
 
@@ -40,8 +37,6 @@ impl<S: HasHistory> Play<Option<S>, View<S::Base>> for Draw {
 pub struct Look;
 
 impl<S: HasHistory> Play<Option<S>, View<S::Base>> for Look {
-    ghost use Rattle.dm_turn.specs.Inside.Steps.{Looked};
-
     ghost then = { Looked S.history S.base };
 }
 
@@ -49,8 +44,6 @@ impl<S: HasHistory> Play<Option<S>, View<S::Base>> for Look {
 pub struct Glance;
 
 impl<S: HasHistory> Play<Option<S>, View<S::Base>> for Glance {
-    ghost use Rattle.dm_turn.specs.Inside.Steps.{Glanced};
-
     ghost then = { Glanced };
 }
 
@@ -69,8 +62,6 @@ pub struct Add<T> {
 }
 
 impl<S: HasHistory, T: Told> Play<Option<S>, View<S::Base>> for Add<T> {
-    ghost use Rattle.dm_turn.specs.Inside.Steps.{Added};
-
     ghost then = { Added T.history };
 }
 
@@ -78,8 +69,6 @@ impl<S: HasHistory, T: Told> Play<Option<S>, View<S::Base>> for Add<T> {
 pub struct Serve;
 
 impl<S: HasHistory> Play<Option<S>, View<S::Base>> for Serve {
-    ghost use Rattle.dm_turn.specs.Inside.Steps.{Gave};
-
     ghost then = { Gave };
 }
 
@@ -87,8 +76,6 @@ impl<S: HasHistory> Play<Option<S>, View<S::Base>> for Serve {
 pub struct Settle;
 
 impl<S: HasHistory> Play<Option<S>, View<S::Base>> for Settle {
-    ghost use Rattle.dm_turn.specs.Inside.Steps.{Settled};
-
     ghost then = { Settled };
 }
 
@@ -96,8 +83,6 @@ impl<S: HasHistory> Play<Option<S>, View<S::Base>> for Settle {
 pub struct Cut;
 
 impl<B> Split<View<B>> for Cut {
-    ghost use Rattle.dm_turn.specs.Inside.Steps.{left_over, cut_off};
-
     ghost left = { left_over };
 
     ghost right = { cut_off };
@@ -107,9 +92,6 @@ impl<B> Split<View<B>> for Cut {
 pub struct Glue;
 
 impl<B> Join<View<B>> for Glue {
-    ghost use Rattle.dm_turn.specs.Inside.Steps.{joined};
-    ghost use Rattle.dm_turn.specs.Rule.{spent};
-
     ghost both = { joined };
 
     ghost spent = { spent };
