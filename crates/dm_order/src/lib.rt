@@ -21,7 +21,6 @@ mod lists;
 mod order;
 mod reach;
 mod shift;
-mod starting;
 mod way;
 
 pub use faults::OrderFault;

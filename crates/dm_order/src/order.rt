@@ -1,5 +1,6 @@
 //! An order of all events in which the held activities go forward.
-ghost use Rattle.std.specs.Prelude.{ℕ, ◌≡◌, ◌<◌, ◌≤◌, length, All, IfOk, IfErr, OnOk, OnErr};
+ghost use Rattle.std.specs.Prelude.{ℕ, ◌≡◌, ◌<◌, ◌≤◌, length, map, All, IfOk, IfErr, OnOk, OnErr};
+ghost use Rattle.std.specs.List.{range_with_len};
 ghost use Rattle.dm_network.specs.Net.{Net};
 ghost use Rattle.dm_network.specs.Held.{is_held, IsCycleOf, HasNoCycleOf};
 ghost use Rattle.dm_rows.specs.Rows.{IsSized};
@@ -10,10 +11,9 @@ ghost use Rattle.dm_order.specs.Refuse.{RefusesOrder};
 use crate::faults::OrderFault;
 use crate::flags::Flags;
 use crate::lists::Lists;
-use crate::starting::ordered_activities;
 use dm_graph::search::Cyclic;
 use dm_network::Network;
-use dm_rows::Rows;
+use dm_rows::{Rows, is_active};
 use std::alloc::{AllocError, Global};
 use std::marker::Model;
 
@@ -137,4 +137,29 @@ impl Order {
     {
         self.lists.cycle()
     }
+}
+
+/// Of each activity whether it is active between events that have not passed.
+fn ordered_activities(alloc: Global, net: &Network, rows: &Rows) -> Result<Vec<bool>, AllocError>
+    requires { IsSized net.now rows.now }
+    ensures { IfOk result (λ held. held.items ≡ map (is_ordered net.now rows.now) (range_with_len 0 (length net.now.activities))) }
+{
+    let mut held = Vec::with_capacity(alloc, net.activities())?;
+    for a in 0..net.activities() {
+        held.push(is_ordered(net, rows, a))?;
+    }
+    Ok(held)
+}
+
+/// Whether an activity is active and its tail has not passed.
+fn is_ordered(net: &Network, rows: &Rows, a: usize) -> bool
+    requires sized { IsSized net.now rows.now }
+    requires is_activity { a < length net.now.activities }
+    ensures { result ≡ is_ordered net.now rows.now a }
+{
+    net.sound();
+    if rows.passed(net.activity(a).tail).is_some() {
+        return false;
+    }
+    is_active(net, rows, a)
 }

@@ -44,37 +44,19 @@ impl Reach {
         requires within { high < length net.now.events }
         ensures { HasReached net.now held.now ranks.now low high high self.new.causes.items }
     {
-        self.reach_with::<Brand>(net, held, order, ranks, low, high, first, Blank::new(1));
-    }
-
-    /// The same, for a ledger that nothing reads.
-    fn reach_with<L: Ledger>(
-        &mut self,
-        net: &Network,
-        held: &[bool],
-        order: &[usize],
-        ranks: &[usize],
-        low: usize,
-        high: usize,
-        first: usize,
-        blank: Blank,
-    )
-        requires name { blank.name ≡ L.name }
-        requires parts { blank.parts ≡ L.parts }
-        requires has_a_part { 0 < blank.parts }
-        requires flags { length held.now ≡ length net.now.activities }
-        requires ranked { AreRanks (length net.now.events) order.now ranks.now }
-        requires room { length self.old.causes.items ≡ length net.now.events }
-        requires interval { low ≤ high }
-        requires within { high < length net.now.events }
-        ensures { HasReached net.now held.now ranks.now low high high self.new.causes.items }
-    {
-        let mut steps = Steps::<L>::new(blank);
         net.sound();
         self.clear(low, high, first);
         for place in low..high {
             if self.causes[place].is_some() {
-                self.follow_all(net, held, ranks, place, high, order[place], &mut steps);
+                self.follow_all::<Brand>(
+                    net,
+                    held,
+                    ranks,
+                    place,
+                    high,
+                    order[place],
+                    Blank::new(1),
+                );
             }
         }
     }
@@ -91,7 +73,7 @@ impl Reach {
         self.causes[low] = Some(first);
     }
 
-    /// Reaches what the held activities out of an event lead to, up to a high place.
+    /// Reaches what the held activities out of an event lead to, up to a high place, for a ledger that nothing reads.
     fn follow_all<L: Ledger>(
         &mut self,
         net: &Network,
@@ -100,8 +82,11 @@ impl Reach {
         at: usize,
         high: usize,
         event: usize,
-        steps: &mut Steps<L>,
+        blank: Blank,
     )
+        requires name { blank.name ≡ L.name }
+        requires parts { blank.parts ≡ L.parts }
+        requires has_a_part { 0 < blank.parts }
         requires flags { length held.now ≡ length net.now.activities }
         requires ranks { length ranks.now ≡ length net.now.events }
         requires within { high < length self.old.causes.items }
@@ -110,8 +95,9 @@ impl Reach {
             (places_out_of net.now event) }
         ensures as_many { length self.new.causes.items ≡ length self.old.causes.items }
     {
+        let mut steps = Steps::<L>::new(blank);
         net.sound();
-        for a in net.out_row(event, steps) {
+        for a in net.out_row(event, &mut steps) {
             self.follow(net, held, ranks, at, high, *a);
         }
     }

@@ -1,4 +1,8 @@
+use Rattle.dm_order.specs.Inside.Reaching.{HasReached}
 use Rattle.dm_order.proofs.reach.Reach.reach.Given as goal
 
-abbrev pub ghosts-reach_with : goal.ghosts-reach_with
-ghosts-reach_with a = record { name = a.blank.name; parts = a.blank.parts }
+abbrev pub invariant-loop-place : goal.invariant-loop-place
+invariant-loop-place l = HasReached l.net l.held l.ranks l.low l.high l.place l.self.causes.items
+
+abbrev pub ghosts-follow_all : goal.ghosts-follow_all
+ghosts-follow_all a = record { name = a.blank.name; parts = a.blank.parts }

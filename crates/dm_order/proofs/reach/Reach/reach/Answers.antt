@@ -4,11 +4,11 @@ use Rattle.std.proofs.lemmas.List.{get_or_default}
 use Rattle.dm_order.specs.declared.reach.Reach.{Reach}
 use Rattle.dm_order.specs.Inside.Reaching.{HasReached, is_reached}
 use Rattle.dm_order.proofs.Reached.{passes_by, goes_on}
-use Rattle.dm_order.proofs.reach.Reach.reach_with.Goals as goal
-use Rattle.dm_order.proofs.reach.Reach.reach_with.Goals.{then-is_some, else-is_some}
+use Rattle.dm_order.proofs.reach.Reach.reach.Goals as goal
+use Rattle.dm_order.proofs.reach.Reach.reach.Goals.{then-is_some, else-is_some}
 
 pub loop-place-preserved : goal.loop-place-preserved
-loop-place-preserved g c =
+loop-place-preserved c =
     let here : c.loop-place.place < length c.loop-place.self.causes.items = let n = c.loop-place.invariant.as_many in omega arith in
     let item : slice_index_or c.loop-place.self.causes.items c.loop-place.place None ≡ c.index.result.now =
     get_or_default c.loop-place.self.causes.items c.loop-place.place None c.index.result.now here ∙ sym c.index.ensures in

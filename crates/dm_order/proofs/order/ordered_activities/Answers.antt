@@ -1,6 +1,6 @@
 use Rattle.dm_order.specs.Orders.{is_ordered}
 use Rattle.dm_rows.proofs.StartDelays.{one_more_item}
-use Rattle.dm_order.proofs.starting.ordered_activities.Goals as goal
+use Rattle.dm_order.proofs.order.ordered_activities.Goals as goal
 
 pub loop-a-preserved : goal.loop-a-preserved
 loop-a-preserved c =
