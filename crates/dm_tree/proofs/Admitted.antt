@@ -177,6 +177,22 @@ record IsFreePair (net : Net) (rows : RowsValue) (i j : EventId) : Type 0 where
 in_order : (net : Net) → IsPaired net → ArePairsInOrder net.pairs
 in_order net paired = record { smaller_first = paired.smaller_first; ascending = paired.ascending }
 
+-- the ids are those of two places at which these ids stand, and the places are those of a pair
+free_from : (net : Net) (rows : RowsValue) (i j k l : EventId) (one other place : ℕ) → k ≡ i → l ≡ j → event_place net k ≡ Some one →
+    event_place net l ≡ Some other → pair_place net one other ≡ Some place → passed_at rows one ≡ None → passed_at rows other ≡ None →
+    IsFreePair net rows i j
+free_from net rows i j k l one other place ki lj one_found other_found found one_not other_not =
+    record {
+      one = one;
+      other = other;
+      place = place;
+      one_found = subst (λ (x : EventId). event_place net x ≡ Some one) ki one_found;
+      other_found = subst (λ (x : EventId). event_place net x ≡ Some other) lj other_found;
+      found = found;
+      one_not_passed = one_not;
+      other_not_passed = other_not;
+    }
+
 -- either order of the events
 free_pair_either : (net : Net) (rows : RowsValue) → IsNetwork net → (i j k l : EventId) → Stands (free_choices_of net rows) (Pair k l)
     → ((k ≡ i) × (l ≡ j)) ⊎ ((k ≡ j) × (l ≡ i)) → IsFreePair net rows i j
@@ -195,29 +211,16 @@ free_pair_either net rows network i j k l s either =
           let small_found : event_place net k ≡ Some small = event_is_found net network small k (small_is_event net network c.place c.below) small_is in
           let large_found : event_place net l ≡ Some large = event_is_found net network large l (large_is_event net network c.place c.below) large_is in
           let order : small < large = network.formed.is_paired.smaller_first c.place c.below in
+          let pairs : ArePairsInOrder net.pairs = in_order net network.formed.is_paired in
           elim either [
             | inl b ↦
-                record {
-                  one = small;
-                  other = large;
-                  place = c.place;
-                  one_found = subst (λ (x : EventId). event_place net x ≡ Some small) b.0 small_found;
-                  other_found = subst (λ (x : EventId). event_place net x ≡ Some large) b.1 large_found;
-                  found = pair_is_found net.pairs (in_order net network.formed.is_paired) (λ q. joins q small large) small large (joins_forward small large (omega arith)) c.place no_pair c.below refl refl;
-                  one_not_passed = small_not;
-                  other_not_passed = large_not;
-                }
+                free_from net rows i j k l small large c.place b.0 b.1 small_found large_found
+                (pair_is_found net.pairs pairs (λ q. joins q small large) small large (joins_forward small large (omega arith)) c.place no_pair c.below refl refl)
+                small_not large_not
             | inr b ↦
-                record {
-                  one = large;
-                  other = small;
-                  place = c.place;
-                  one_found = subst (λ (x : EventId). event_place net x ≡ Some large) b.1 large_found;
-                  other_found = subst (λ (x : EventId). event_place net x ≡ Some small) b.0 small_found;
-                  found = pair_is_found net.pairs (in_order net network.formed.is_paired) (λ q. joins q large small) small large (joins_backward small large (omega arith)) c.place no_pair c.below refl refl;
-                  one_not_passed = large_not;
-                  other_not_passed = small_not;
-                }
+                free_from net rows i j l k large small c.place b.1 b.0 large_found small_found
+                (pair_is_found net.pairs pairs (λ q. joins q large small) small large (joins_backward small large (omega arith)) c.place no_pair c.below refl refl)
+                large_not small_not
           ]
     ]
 

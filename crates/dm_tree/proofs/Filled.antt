@@ -6,6 +6,7 @@ use Rattle.dm_rows.specs.declared.messages.Choice.{Choice}
 use Rattle.dm_rows.specs.declared.messages.Decision.{Decision}
 use Rattle.dm_tree.specs.declared.forms.Node.{Node}
 use Rattle.dm_tree.specs.declared.forms.Node.TheVariants.{Inner, Cycle, Bound, Open, Hole}
+use Rattle.dm_tree.specs.declared.forms.Leaf.{Leaf}
 use Rattle.dm_tree.specs.Trees.{Shape, leaf, branch, preorder, IsLeaf, IsNoHole, IsProper, IsWhole, IsTree, IsPartialTree, leaves_below}
 use Rattle.dm_rows.specs.Sides.{IsOrdered, first_decision, second_decision, is_ordered}
 use Rattle.dm_rows.proofs.Sides.{ordered, ordered_tells}
@@ -147,18 +148,44 @@ pub tree_fills : (nodes : List Node) → IsTree nodes → fills false 0 nodes �
 tree_fills nodes t =
     rw (← t.in_preorder) (rw (← append-nil (preorder t.shape)) (filled false t.shape 0 [] t.proper (λ h. t.whole)))
 
+-- what holds of every node but an inner one holds of a leaf
+pub at_leaf : (P : Node → Type 0) → P Cycle → ((c : ℕ) → P (Bound c)) → ((c : ℕ) → P (Open c)) → P Hole → (n : Node) → IsProper (leaf n) → P n
+at_leaf P cycle bound opened hole (Inner c) p = elim p [ ]
+at_leaf P cycle bound opened hole Cycle p = cycle
+at_leaf P cycle bound opened hole (Bound c) p = bound c
+at_leaf P cycle bound opened hole (Open c) p = opened c
+at_leaf P cycle bound opened hole Hole p = hole
+
+-- What is listed of nodes read from the left, where the paths of the places due are known: what is listed below each place, one
+-- after the other. After a choice the places of its children are due next.
+module _ (listed : List (List Decision) → List Node → List Leaf) (below : List Decision → Shape → List Leaf)
+    (front : List Decision → Choice → List Leaf)
+    (of_leaf : (path : List Decision) (due : List (List Decision)) (n : Node) (ns : List Node) → IsProper (leaf n) →
+    listed (path ∷ due) (n ∷ ns) ≡ below path (leaf n) ++ listed due ns)
+    (of_choice : (path : List Decision) (due : List (List Decision)) (c : Choice) (ns : List Node) →
+    listed (path ∷ due) (Inner c ∷ ns)
+    ≡ front path c ++ listed ((path ++ first_decision c ∷ []) ∷ (path ++ second_decision c ∷ []) ∷ due) ns)
+    (of_branch : (path : List Decision) (c : Choice) (a b : Shape) →
+    below path (branch c a b) ≡ front path c ++ (below (path ++ first_decision c ∷ []) a ++ below (path ++ second_decision c ∷ []) b)) where
+  pub tree_by_tree : (path : List Decision) (due : List (List Decision)) (t : Shape) (ns : List Node) → IsProper t →
+      listed (path ∷ due) (preorder t ++ ns) ≡ below path t ++ listed due ns
+  tree_by_tree path due (leaf n) ns p = of_leaf path due n ns p
+  tree_by_tree path due (branch c a b) ns p =
+      let first = path ++ first_decision c ∷ [] in
+      let second = path ++ second_decision c ∷ [] in
+      rw (append_assoc (preorder a) (preorder b) ns)
+      (of_choice path due c (preorder a ++ (preorder b ++ ns))
+      ∙ ap (λ xs. front path c ++ xs)
+      (tree_by_tree first (second ∷ due) a (preorder b ++ ns) p.1
+      ∙ ap (λ xs. below first a ++ xs) (tree_by_tree second due b ns p.2)
+      ∙ sym (append_assoc (below first a) (below second b) (listed due ns)))
+      ∙ sym (append_assoc (front path c) (below first a ++ below second b) (listed due ns))
+      ∙ ap (λ xs. xs ++ listed due ns) (sym (of_branch path c a b)))
+
 -- the leaves at the places due are those of the trees that fill them
 pub leaves_filled : (path : List Decision) (due : List (List Decision)) (t : Shape) (ns : List Node) → IsProper t →
     leaves_due (path ∷ due) (preorder t ++ ns) ≡ leaves_below path t ++ leaves_due due ns
-leaves_filled path due (leaf (Inner c)) ns p = elim p [ ]
-leaves_filled path due (leaf Cycle) ns p = refl
-leaves_filled path due (leaf (Bound c)) ns p = refl
-leaves_filled path due (leaf (Open c)) ns p = refl
-leaves_filled path due (leaf Hole) ns p = refl
-leaves_filled path due (branch c a b) ns p =
-    let first = path ++ first_decision c ∷ [] in
-    let second = path ++ second_decision c ∷ [] in
-    rw (append_assoc (preorder a) (preorder b) ns)
-    (leaves_filled first (second ∷ due) a (preorder b ++ ns) p.1
-    ∙ (ap (λ xs. leaves_below first a ++ xs) (leaves_filled second due b ns p.2)
-    ∙ sym (append_assoc (leaves_below first a) (leaves_below second b) (leaves_due due ns))))
+leaves_filled =
+    tree_by_tree leaves_due leaves_below (λ q c. [])
+    (λ q ds n ms. at_leaf (λ m. leaves_due (q ∷ ds) (m ∷ ms) ≡ leaves_below q (leaf m) ++ leaves_due ds ms) refl (λ c. refl) (λ c. refl) refl n)
+    (λ q ds c ms. refl) (λ q c a b. refl)

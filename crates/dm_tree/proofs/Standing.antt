@@ -5,11 +5,12 @@ use Rattle.std.proofs.lemmas.List.Elements.{Contains-append_left, Contains-appen
 use Rattle.dm_rows.specs.declared.messages.Decision.{Decision}
 use Rattle.dm_rows.specs.Decide.{choice_of}
 use Rattle.dm_tree.specs.declared.forms.Node.{Node}
-use Rattle.dm_tree.specs.declared.forms.Node.TheVariants.{Inner, Cycle, Bound, Open, Hole}
+use Rattle.dm_tree.specs.declared.forms.Node.TheVariants.{Inner}
 use Rattle.dm_tree.specs.declared.forms.Leaf.{Leaf}
 use Rattle.dm_tree.specs.Trees.{Shape, leaf, branch, preorder, IsProper, StandsAt}
 use Rattle.dm_rows.specs.Sides.{IsOrdered, first_decision, second_decision}
 use Rattle.dm_tree.specs.Inside.Filling.{visits}
+use Rattle.dm_tree.proofs.Filled.{at_leaf, tree_by_tree}
 use Rattle.dm_rows.proofs.Sides.{first_decides, second_decides, two_decisions}
 
 -- one node stands at a path
@@ -47,19 +48,10 @@ visits_below path (branch c a b) =
 
 pub visits_filled : (path : List Decision) (due : List (List Decision)) (t : Shape) (ns : List Node) → IsProper t →
     visits (path ∷ due) (preorder t ++ ns) ≡ visits_below path t ++ visits due ns
-visits_filled path due (leaf (Inner c)) ns p = elim p [ ]
-visits_filled path due (leaf Cycle) ns p = refl
-visits_filled path due (leaf (Bound c)) ns p = refl
-visits_filled path due (leaf (Open c)) ns p = refl
-visits_filled path due (leaf Hole) ns p = refl
-visits_filled path due (branch c a b) ns p =
-    let first = path ++ first_decision c ∷ [] in
-    let second = path ++ second_decision c ∷ [] in
-    rw (append_assoc (preorder a) (preorder b) ns)
-    (ap (λ xs. (record { path = path; node = Inner c }) ∷ xs)
-    (visits_filled first (second ∷ due) a (preorder b ++ ns) p.1
-    ∙ (ap (λ xs. visits_below first a ++ xs) (visits_filled second due b ns p.2)
-    ∙ sym (append_assoc (visits_below first a) (visits_below second b) (visits due ns)))))
+visits_filled =
+    tree_by_tree visits visits_below (λ q c. (record { path = q; node = Inner c }) ∷ [])
+    (λ q ds n ms. at_leaf (λ m. visits (q ∷ ds) (m ∷ ms) ≡ visits_below q (leaf m) ++ visits ds ms) refl (λ c. refl) (λ c. refl) refl n)
+    (λ q ds c ms. refl) (λ q c a b. refl)
 
 in_front : (x : Leaf) (xs : List Leaf) → Contains (x ∷ xs) x
 in_front x xs = (0, omega arith, refl)
