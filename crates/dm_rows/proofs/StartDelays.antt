@@ -1,5 +1,5 @@
 -- Delays set by one record after another.
-use Rattle.std.proofs.Common.{◌≡◌, ℕ, ◌+◌, ◌<◌, ◌≤◌, List, [], ◌∷◌, ◌++◌, length, map, take, get_or, set, Option, Some, Bool, true, false, eqb, cond, arith, refl, sym, ap, ◌∙◌, subst, inl, inr, position}
+use Rattle.std.proofs.Common.{◌≡◌, ℕ, ◌+◌, ◌<◌, ◌≤◌, List, [], ◌∷◌, ◌++◌, length, map, take, get_or, set, Option, Some, None, Bool, true, false, eqb, cond, arith, refl, sym, ap, ◌∙◌, subst, inl, inr, position}
 use Rattle.std.specs.Prelude.{slice_get, IsSome}
 use Rattle.std.specs.List.{range_with_len}
 use Rattle.std.specs.List.Sorted.{IsStrictlyIncreasing}
@@ -18,9 +18,11 @@ use Rattle.dm_network.specs.Net.{Net, no_event, no_activity}
 use Rattle.dm_network.specs.Start.{IsNetwork}
 use Rattle.dm_network.proofs.Keys.{key_is_found}
 use Rattle.dm_base.specs.declared.limits.TheConstants.{DELAY}
+use Rattle.dm_rows.specs.declared.starting.Delayed.{Delayed}
+use Rattle.dm_rows.specs.declared.starting.Delayed.TheVariants.{Events, Activities}
 use Rattle.dm_rows.specs.Rows.{last_delay}
-use Rattle.dm_rows.specs.Inside.Delays.{AreDelaysOf, event_number, activity_number}
-use Rattle.dm_rows.specs.StartFaults.{AreKnown, AllAreKnown, DelaysAreWithin, event_numbered, activity_numbered}
+use Rattle.dm_rows.specs.Inside.Delays.{AreDelaysOf, count_of, number_of, place_numbered, unknown, RefusesDelays}
+use Rattle.dm_rows.specs.StartFaults.{AreKnown, AllAreKnown, DelaysAreWithin, IsFirstUnknown}
 
 -- the first n records are known, and each delay is by the last of them with its id
 pub record HasSetDelays (count : ℕ) (number : ℕ → ℕ) (place : ℕ → Option ℕ) (records : List DelayRow) (n : ℕ) (delays : List ℕ) : Type 0 where
@@ -132,15 +134,32 @@ number_alone number items none ascend id i found =
     }
 
 -- an id is that of one event, of one activity alone
-pub event_alone : (net : Net) → IsNetwork net → (id i : ℕ) → event_numbered net id ≡ Some i →
-    IsPlaceOf (length net.events) (event_number net) id i
-event_alone net network id i found =
+pub delayed_alone : (net : Net) → IsNetwork net → (delayed : Delayed) (id i : ℕ) → place_numbered net delayed id ≡ Some i →
+    IsPlaceOf (count_of net delayed) (number_of net delayed) id i
+delayed_alone net network Events id i found =
     number_alone (λ (e : Event). e.id.0) net.events no_event network.formed.events_ascend id i found
-
-pub activity_alone : (net : Net) → IsNetwork net → (id i : ℕ) → activity_numbered net id ≡ Some i →
-    IsPlaceOf (length net.activities) (activity_number net) id i
-activity_alone net network id i found =
+delayed_alone net network Activities id i found =
     number_alone (λ (a : Activity). a.id.0) net.activities no_activity network.formed.activities_ascend id i found
+
+-- the first record that names none is what refuses the records
+first_refuses : (net : Net) (delayed : Delayed) (records : List DelayRow) (id : ℕ) → IsFirstUnknown (place_numbered net delayed) records id →
+    RefusesDelays net delayed records (unknown delayed id)
+first_refuses net Events records id is = is
+first_refuses net Activities records id is = is
+
+-- a record that names none, where all before it are known, is the first
+pub first_unknown : (net : Net) (delayed : Delayed) (records : List DelayRow) (n : ℕ) (row : DelayRow) → n < length records →
+    row ≡ get_or records n row → place_numbered net delayed row.id ≡ None → AreKnown (place_numbered net delayed) records n →
+    RefusesDelays net delayed records (unknown delayed row.id)
+first_unknown net delayed records n row below is none known =
+    first_refuses net delayed records row.id (record {
+      at = n;
+      row = row;
+      stands = slice_get-get_or records n row below ∙ ap Some (sym is);
+      named = refl;
+      unknown = none;
+      known_before = known;
+    })
 
 -- one more item of a list made place by place
 pub one_more_item : (f : ℕ → Bool) (items : List Bool) (p : ℕ) (item : Bool) → items ≡ map f (range_with_len 0 p) → item ≡ f p →

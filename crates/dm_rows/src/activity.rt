@@ -1,7 +1,8 @@
 //! Which activities bind.
 ghost use Rattle.std.specs.Prelude.{◌≡◌, ◌<◌, length};
+ghost use Rattle.dm_network.specs.Net.{activity_at};
 ghost use Rattle.dm_rows.specs.Rows.{IsSized};
-ghost use Rattle.dm_rows.specs.Active.{is_active, binds_in_pair};
+ghost use Rattle.dm_rows.specs.Active.{has_passed, is_active, binds_in_pair};
 
 use crate::rows::Rows;
 use dm_base::ActKind;
@@ -14,16 +15,26 @@ pub fn is_active(net: &Network, rows: &Rows, a: usize) -> bool
     ensures { result ≡ is_active net.now rows.now a }
 {
     net.sound();
-    let activity = net.activity(a);
-    if rows.passed(activity.head).is_some() {
+    if head_has_passed(net, rows, a) {
         return false;
     }
+    let activity = net.activity(a);
     match (activity.kind, activity.pair) {
         (ActKind::Drive | ActKind::Wait | ActKind::Turnaround, _) => true,
         (ActKind::Change, _) => rows.kept(a),
         (ActKind::Headway, None) => true,
         (ActKind::Headway, Some(p)) => binds_in_pair(net, rows, p, activity.tail),
     }
+}
+
+/// Whether the head of the activity at this place has passed.
+pub(crate) fn head_has_passed(net: &Network, rows: &Rows, a: usize) -> bool
+    requires sized { IsSized net.now rows.now }
+    requires is_activity { a < length net.now.activities }
+    ensures { result ≡ has_passed rows.now (activity_at net.now a).head }
+{
+    net.sound();
+    rows.passed(net.activity(a).head).is_some()
 }
 
 /// Whether a headway of this pair with this tail binds into an event that has not passed.

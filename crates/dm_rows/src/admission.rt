@@ -28,9 +28,21 @@ pub fn admit(
     ensures refused { IfErr result (RefusesAdmission net.now rows.now message.now) }
 {
     match message {
-        Message::DelayEvent(e, delay) => delay_of_event(net, rows, *e, *delay),
-        Message::DelayActivity(a, delay) => delay_of_activity(net, rows, *a, *delay),
-        Message::Pass(e, time) => passed_event(net, rows, *e, *time),
+        Message::DelayEvent(e, delay) => {
+            let event = free_event(net, rows, DELAY, *e, *delay)?;
+            Ok(Change::EventDelay {
+                event,
+                delay: *delay,
+            })
+        }
+        Message::DelayActivity(a, delay) => {
+            let act = delayed_activity(net, rows, *a, *delay)?;
+            Ok(Change::ActDelay { act, delay: *delay })
+        }
+        Message::Pass(e, time) => {
+            let event = free_event(net, rows, PASSED_TIME, *e, *time)?;
+            Ok(Change::Passed { event, time: *time })
+        }
         Message::Recall(e) => recalled_event(net, rows, *e),
         Message::Keep(a) => flip_of(net, rows, &Decision::Keep(*a)).map(Change::Flipped),
         Message::Drop(a) => flip_of(net, rows, &Decision::Drop(*a)).map(Change::Flipped),
@@ -150,30 +162,6 @@ fn first_of_pair(net: &Network, rows: &Rows, i: EventId, j: EventId) -> Result<F
     Ok(Flip::First { pair, small })
 }
 
-/// A delay for an event that has not passed.
-fn delay_of_event(net: &Network, rows: &Rows, e: EventId, delay: Secs) -> Result<Change, Refusal>
-    requires { IsSized net.now rows.now }
-    ensures named { IfOk result (λ change. change_named net.now (Message.DelayEvent e delay) ≡ Some change) }
-    ensures reaches { IfOk result (Reaches rows.now) }
-    ensures passes { IfOk result (λ _. RefusesNothing (RefusesNumberFor net.now rows.now DELAY e delay)) }
-    ensures refused { IfErr result (RefusesNumberFor net.now rows.now DELAY e delay) }
-{
-    let event = free_event(net, rows, DELAY, e, delay)?;
-    Ok(Change::EventDelay { event, delay })
-}
-
-/// A passed time for an event that has none.
-fn passed_event(net: &Network, rows: &Rows, e: EventId, time: Secs) -> Result<Change, Refusal>
-    requires { IsSized net.now rows.now }
-    ensures named { IfOk result (λ change. change_named net.now (Message.Pass e time) ≡ Some change) }
-    ensures reaches { IfOk result (Reaches rows.now) }
-    ensures passes { IfOk result (λ _. RefusesNothing (RefusesNumberFor net.now rows.now PASSED_TIME e time)) }
-    ensures refused { IfErr result (RefusesNumberFor net.now rows.now PASSED_TIME e time) }
-{
-    let event = free_event(net, rows, PASSED_TIME, e, time)?;
-    Ok(Change::Passed { event, time })
-}
-
 /// The place of an event that has not passed, where the number for it is at most the limit.
 fn free_event(
     net: &Network,
@@ -201,11 +189,12 @@ fn free_event(
     }
 }
 
-/// A delay for an activity whose head has not passed.
-fn delay_of_activity(net: &Network, rows: &Rows, a: ActId, delay: Secs) -> Result<Change, Refusal>
+/// The place of an activity whose head has not passed, where the delay for it is at most the limit.
+fn delayed_activity(net: &Network, rows: &Rows, a: ActId, delay: Secs) -> Result<usize, Refusal>
     requires { IsSized net.now rows.now }
-    ensures named { IfOk result (λ change. change_named net.now (Message.DelayActivity a delay) ≡ Some change) }
-    ensures reaches { IfOk result (Reaches rows.now) }
+    ensures place { IfOk result (λ act. activity_place net.now a ≡ Some act) }
+    ensures is_activity { IfOk result (λ act. act < length net.now.activities) }
+    ensures in_range { OnOk result (delay ≤ DELAY) }
     ensures passes { IfOk result (λ _. RefusesNothing (RefusesDelayOf net.now rows.now a delay)) }
     ensures refused { IfErr result (RefusesDelayOf net.now rows.now a delay) }
 {
@@ -217,7 +206,7 @@ fn delay_of_activity(net: &Network, rows: &Rows, a: ActId, delay: Secs) -> Resul
     };
     match passed_head(net, rows, act) {
         Some((e, time)) => Err(Refusal::Passed(e, time)),
-        None => Ok(Change::ActDelay { act, delay }),
+        None => Ok(act),
     }
 }
 

@@ -3,6 +3,7 @@ ghost use Rattle.std.specs.Prelude.{◌≡◌, ◌<◌, ◌++◌, length, IfOk};
 ghost use Rattle.dm_rows.specs.Rows.{IsSized};
 ghost use Rattle.dm_rows.specs.Decide.{free_choices_of, free_changes_of, free_pairs_of, is_free_change, is_free_pair, pair_choice};
 
+use crate::activity::head_has_passed;
 use crate::messages::Choice;
 use crate::rows::Rows;
 use dm_base::ActKind;
@@ -57,9 +58,7 @@ pub fn is_free_change(net: &Network, rows: &Rows, a: usize) -> bool
     requires is_activity { a < length net.now.activities }
     ensures { result ≡ is_free_change net.now rows.now a }
 {
-    net.sound();
-    let activity = net.activity(a);
-    matches!(activity.kind, ActKind::Change) && rows.passed(activity.head).is_none()
+    matches!(net.activity(a).kind, ActKind::Change) && !head_has_passed(net, rows, a)
 }
 
 /// Whether neither event of the pair at this place has passed.

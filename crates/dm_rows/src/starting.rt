@@ -4,7 +4,7 @@ ghost use Rattle.std.specs.List.{range_with_len};
 ghost use Rattle.dm_network.specs.Net.{event_at, activity_at};
 ghost use Rattle.dm_network.specs.Start.{starts_small_first};
 ghost use Rattle.dm_rows.specs.Rows.{IsSized, start_rows_of};
-ghost use Rattle.dm_rows.specs.Inside.Delays.{AreDelaysOf, event_number, activity_number, RefusesEventDelays, RefusesActivityDelays};
+ghost use Rattle.dm_rows.specs.Inside.Delays.{AreDelaysOf, count_of, number_of, place_numbered, unknown, RefusesDelays};
 ghost use Rattle.dm_rows.specs.StartFaults.{DelaysAreWithin, RefusesDelayRecords, AllAreKnown, IsFirstUnknown, event_numbered, activity_numbered};
 
 use crate::messages::StartFault;
@@ -29,80 +29,89 @@ pub fn start_rows(
     ensures activities_known { OnOk result (AllAreKnown (activity_numbered net.now) activities.now) }
     ensures refused { IfErr result (RefusesDelayRecords net.now events.now activities.now) }
 {
-    let event_delays = delays_of_events(alloc, net, events)?;
-    let act_delays = delays_of_activities(alloc, net, activities)?;
+    let event_delays = delays_of(alloc, net, Delayed::Events, events)?;
+    let act_delays = delays_of(alloc, net, Delayed::Activities, activities)?;
     match Rows::at_start(alloc, net, event_delays, act_delays) {
         Ok(rows) => Ok(rows),
         Err(_) => Err(StartFault::OutOfMemory),
     }
 }
 
-/// The delay of each event by the records, or the first of them that names no event.
-fn delays_of_events(
-    alloc: Global,
-    net: &Network,
-    records: &[DelayRow],
-) -> Result<Vec<Secs>, StartFault>
-    requires { DelaysAreWithin records.now }
-    ensures delays { IfOk result (λ delays. AreDelaysOf (length net.now.events) (event_number net.now) records.now delays.items) }
-    ensures known { OnOk result (AllAreKnown (event_numbered net.now) records.now) }
-    ensures refused { IfErr result (RefusesEventDelays net.now records.now) }
-{
-    let count = net.events();
-    let Ok(mut delays) = vec![in alloc; 0; count] else {
-        return Err(StartFault::OutOfMemory);
-    };
-    for record in records {
-        let Some(event) = net.place_of(EventId(record.id)) else {
-            return Err(StartFault::UnknownEvent(EventId(record.id)));
-        };
-        delays[event] = record.delay;
-    }
-    Ok(delays)
+/// What the records of a delay file are of.
+#[derive(Clone, Copy)]
+pub enum Delayed {
+    Events,
+    Activities,
 }
 
-/// The delay of each activity by the records, or the first of them that names no activity.
-fn delays_of_activities(
+impl Delayed {
+    /// How many of them a network has.
+    fn count(self, net: &Network) -> usize
+        ensures { result ≡ count_of net.now self }
+    {
+        match self {
+            Delayed::Events => net.events(),
+            Delayed::Activities => net.activities(),
+        }
+    }
+
+    /// The place of the one with this number as its id.
+    fn place(self, net: &Network, number: u32) -> Option<usize>
+        ensures { result ≡ place_numbered net.now self number }
+    {
+        match self {
+            Delayed::Events => net.place_of(EventId(number)),
+            Delayed::Activities => net.act_place(ActId(number)),
+        }
+    }
+
+    /// That none has this number.
+    fn unknown(self, number: u32) -> StartFault
+        ensures { result ≡ unknown self number }
+    {
+        match self {
+            Delayed::Events => StartFault::UnknownEvent(EventId(number)),
+            Delayed::Activities => StartFault::UnknownActivity(ActId(number)),
+        }
+    }
+}
+
+/// The delay of each event or of each activity by the records, or the first of them that names none.
+fn delays_of(
     alloc: Global,
     net: &Network,
+    delayed: Delayed,
     records: &[DelayRow],
 ) -> Result<Vec<Secs>, StartFault>
     requires { DelaysAreWithin records.now }
-    ensures delays { IfOk result (λ delays. AreDelaysOf (length net.now.activities) (activity_number net.now) records.now delays.items) }
-    ensures known { OnOk result (AllAreKnown (activity_numbered net.now) records.now) }
-    ensures refused { IfErr result (RefusesActivityDelays net.now records.now) }
+    ensures delays { IfOk result (λ delays. AreDelaysOf (count_of net.now delayed) (number_of net.now delayed) records.now delays.items) }
+    ensures known { OnOk result (AllAreKnown (place_numbered net.now delayed) records.now) }
+    ensures refused { IfErr result (RefusesDelays net.now delayed records.now) }
 {
     net.sound();
-    let count = net.activities();
+    let count = delayed.count(net);
     let Ok(mut delays) = vec![in alloc; 0; count] else {
         return Err(StartFault::OutOfMemory);
     };
     for record in records {
-        let Some(act) = net.act_place(ActId(record.id)) else {
-            return Err(StartFault::UnknownActivity(ActId(record.id)));
+        let Some(place) = delayed.place(net, record.id) else {
+            return Err(delayed.unknown(record.id));
         };
-        delays[act] = record.delay;
+        delays[place] = record.delay;
     }
     Ok(delays)
 }
 
-/// Whether the event with the smaller id is first in each pair.
+/// Whether the event with the smaller id is first in each pair at the start.
 pub fn first_events(alloc: Global, net: &Network) -> Result<Vec<bool>, AllocError>
     ensures { IfOk result (λ small_first. small_first.items ≡ map (starts_small_first net.now) (range_with_len 0 (length net.now.pairs))) }
 {
+    net.sound();
     let mut small_first = Vec::with_capacity(alloc, net.pairs())?;
     for p in 0..net.pairs() {
-        small_first.push(starts_small_first(net, p))?;
+        let pair = net.pair(p);
+        let is_first = net.event(pair.small).time <= net.event(pair.large).time;
+        small_first.push(is_first)?;
     }
     Ok(small_first)
-}
-
-/// Whether the event of a pair with the smaller id is first at the start.
-fn starts_small_first(net: &Network, p: usize) -> bool
-    requires { p < length net.now.pairs }
-    ensures { result ≡ starts_small_first net.now p }
-{
-    net.sound();
-    let pair = net.pair(p);
-    net.event(pair.small).time <= net.event(pair.large).time
 }

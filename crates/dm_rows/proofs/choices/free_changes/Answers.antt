@@ -10,10 +10,9 @@ pub loop-a-preserved : goal.loop-a-preserved
 loop-a-preserved c =
     elim c.if-is_free_change.branch [
       | then-is_free_change+in_ok-push w ↦
-          let pushed = w.in_ok-push.ensures in
-          rw w.choices-is (rw pushed.items
+          rw (w.choices-is, w.in_ok-push.ensures.items)
           (one_chosen (is_free_change c.args.net.now c.args.rows.now) (change_choice c.args.net.now) [] c.loop-a.a c.loop-a.choices.items _ c.loop-a.invariant
-          (sym c.is_free_change.ensures ∙ w.if-is_free_change.true) (ap (λ (a : Activity). Change a.id) w.activity.ensures)))
+          (sym c.is_free_change.ensures ∙ w.if-is_free_change.true) (ap (λ (a : Activity). Change a.id) w.activity.ensures))
       | else-is_free_change w ↦
           rw w.choices-is
           (one_passed_over (is_free_change c.args.net.now c.args.rows.now) (change_choice c.args.net.now) [] c.loop-a.a c.loop-a.choices.items c.loop-a.invariant
