@@ -1,26 +1,20 @@
 -- The choices of a plan, one after the other.
-use Rattle.std.proofs.Common.{◌≡◌, ℕ, zero, suc, ◌+◌, ◌<◌, ◌≤◌, Bool, true, false, List, [], ◌∷◌, length, map, get_or, drop, take, Some, eqb, eqb-true, eq-eqb, refl, sym, ap, subst, ◌∙◌, inl, inr, arith}
+use Rattle.std.proofs.Common.{◌≡◌, ℕ, zero, suc, ◌+◌, ◌<◌, ◌≤◌, Bool, true, false, List, [], ◌∷◌, length, map, get_or, drop, Some, eqb, eqb-true, eq-eqb, refl, sym, ap, subst, ◌∙◌, inl, inr, arith}
 use Rattle.std.specs.Prelude.{All, Contains, slice_get, MatchBool}
 use Rattle.std.proofs.lemmas.Bool.{cases_lt, both_ways}
 use Rattle.std.proofs.lemmas.List.{drop_more, drop_all, length-drop, length-map, get_or-map}
-use Rattle.std.proofs.lemmas.List.Sums.{fold_more}
 use Rattle.std.proofs.lemmas.List.Elements.{Contains-append_right}
 use Rattle.std.proofs.lemmas.Option.{slice_get-get_or, slice_get_past}
 use Rattle.dm_network.specs.Net.{Net}
 use Rattle.dm_rows.specs.declared.messages.Choice.{Choice}
 use Rattle.dm_rows.specs.declared.messages.Decision.{Decision}
-use Rattle.dm_rows.specs.declared.messages.Flip.{Flip}
-use Rattle.dm_rows.specs.declared.messages.Flip.TheVariants.{Keep, Drop, First}
-use Rattle.dm_rows.specs.Decide.{choice_of, free_choices_of, with_flip, with_decisions}
-use Rattle.dm_rows.specs.Reach.{ReachesFlip}
+use Rattle.dm_rows.specs.Decide.{choice_of, free_choices_of, with_decisions}
 use Rattle.dm_rows.specs.Relax.{is_same_choice}
-use Rattle.dm_rows.specs.Resolve.{flip_named, after_flip}
-use Rattle.dm_rows.specs.Rows.{RowsValue, IsSized}
+use Rattle.dm_rows.specs.Rows.{RowsValue}
 use Rattle.dm_rows.specs.Active.{HasNoCycle}
 use Rattle.dm_rows.specs.Cost.{Costs}
 use Rattle.dm_tree.specs.Plans.{AreSomeOf, DiffersFrom, CostsWith, whole_task}
 use Rattle.dm_check_rows.specs.Claims.{Tells}
-use Rattle.dm_paths.specs.Decisions.{ReachesNet}
 use Rattle.dm_check_plans.specs.Inside.Paths.{AreFree, decides, is_next, IsLeftToChoose, AreTrueChoices}
 use Rattle.dm_rows.proofs.Sides.{same_choice, same_itself}
 use Rattle.dm_paths.proofs.Setting.{in_front}
@@ -151,19 +145,6 @@ chosen_are_free net rows decisions h = λ k d lt. chosen_allowed (free_choices_o
     in_map ds k d lt = let e = length-map ds choice_of in (k, omega (arith, e, lt), get_or-map choice_of ds k d (choice_of (get_or ds k d)) lt)
 
 -- ---- the rows with decisions set
-
-pub reaches_rows : (net : Net) (rows : RowsValue) (flip : Flip) → IsSized net rows → ReachesNet net flip → ReachesFlip rows flip
-reaches_rows net rows (Keep a) sized r = let e = sized.kept in omega (arith, e, r)
-reaches_rows net rows (Drop a) sized r = let e = sized.kept in omega (arith, e, r)
-reaches_rows net rows (First p small) sized r = let e = sized.small_first in omega (arith, e, r)
-
-pub one_more_set : (net : Net) (rows set next : RowsValue) (decisions : List Decision) (i : ℕ) (d : Decision) (flip : Flip) → i < length decisions →
-    set ≡ with_decisions net rows (take i decisions) → flip_named net (get_or decisions i d) ≡ Some flip → next ≡ after_flip set flip →
-    next ≡ with_decisions net rows (take (i + 1) decisions)
-one_more_set net rows set next decisions i d flip lt was named is =
-    is ∙ ap (λ (r : RowsValue). after_flip r flip) was
-    ∙ ap (λ o. with_flip (with_decisions net rows (take i decisions)) o) (sym named)
-    ∙ sym (fold_more (λ r e. with_flip r (flip_named net e)) rows decisions i d lt)
 
 pub costs_told : (net : Net) (rows : RowsValue) (penalty budget : ℕ) (decisions : List Decision) (cost : ℕ) (set : RowsValue) → set ≡ with_decisions net rows decisions →
     HasNoCycle net set → (b : Bool) → Tells (Costs net set penalty cost) b → Tells (CostsWith (whole_task net rows penalty budget) decisions cost) b

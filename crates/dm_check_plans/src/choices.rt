@@ -15,8 +15,8 @@ use dm_check_rows::is_cost_of;
 use dm_check_times::{HeldCycle, KeptTimetable};
 use dm_marks::PlaceSet;
 use dm_network::Network;
-use dm_paths::flip_of;
-use dm_rows::{Change, Choice, Decision, Flip, Rows};
+use dm_paths::{flip_of, with_decisions};
+use dm_rows::{Choice, Decision, Flip, Rows};
 use std::alloc::AllocError;
 
 /// Whether decisions decide some of the choices allowed, in their order and each at most once.
@@ -110,22 +110,4 @@ pub fn cost_with(
         Ok(()) => Ok(is_cost_of(net, &set, timetable.times(), penalty, cost)),
         Err(HeldCycle) => Ok(false),
     }
-}
-
-/// The rows with decisions of free choices set.
-fn with_decisions(net: &Network, rows: &Rows, decisions: &[Decision]) -> Result<Rows, AllocError>
-    requires sized { IsSized net.now rows.now }
-    requires free { AreFree net.now rows.now decisions.now }
-    ensures set { IfOk result (λ set. set ≡ with_decisions net.now rows.now decisions.now) }
-    ensures sized { IfOk result (IsSized net.now) }
-{
-    let mut set = match rows.copy() {
-        Ok(set) => set,
-        Err(full) => return Err(full),
-    };
-    for decision in decisions {
-        let flip = flip_of(net, rows, *decision);
-        set.apply(&Change::Flipped(flip));
-    }
-    Ok(set)
 }

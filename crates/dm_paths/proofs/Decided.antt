@@ -13,7 +13,7 @@ use Rattle.dm_rows.specs.Relax.{is_undecided_change, is_undecided_pair}
 use Rattle.dm_paths.specs.Flags.{AreFlags, is_flagged}
 use Rattle.dm_paths.specs.Decisions.{AddsDecision, IsFlipOf}
 use Rattle.dm_paths.specs.Flags.{with_change, with_pair, HasRoomFor}
-use Rattle.dm_paths.proofs.Paths.{undecided_change_same, undecided_pair_same, change_undecided_before, change_decided_after, change_apart, change_no_pair, pair_undecided_before, pair_decided_after, pair_apart, pair_no_change}
+use Rattle.dm_paths.proofs.Paths.{undecided_change_same, undecided_pair_same, change_decided, change_no_pair, pair_decided, pair_no_change}
 
 pub flags_set : (f g : ℕ → Bool) (n a : ℕ) (flags : List Bool) (v : Bool) → AreFlags f n flags → a < n → g a ≡ v →
     ((k : ℕ) → k < n → (k ≡ a → ⊥) → g k ≡ f k) → AreFlags g n (slice_set flags a v)
@@ -37,12 +37,12 @@ module _ (net : Net) (network : IsNetwork net) (rows : RowsValue) (sized : IsSiz
       AreFlags (is_undecided_change net rows other) (length net.activities) (with_change flip false flags)
   changes_decided (Keep a) is flags h =
       flags_set (is_undecided_change net rows path) (is_undecided_change net rows other) (length net.activities) a flags false h is.is_activity
-      (change_decided_after net network rows sized path other list other_list d adds a true is)
-      (λ k lt ne. undecided_change_same net network rows sized path other list other_list d adds k (change_apart net network rows sized path other list other_list d adds a true is k lt ne))
+      (change_decided net network rows sized path other list other_list d adds a true is).after
+      (λ k lt ne. undecided_change_same net network rows sized path other list other_list d adds k ((change_decided net network rows sized path other list other_list d adds a true is).apart k lt ne))
   changes_decided (Drop a) is flags h =
       flags_set (is_undecided_change net rows path) (is_undecided_change net rows other) (length net.activities) a flags false h is.is_activity
-      (change_decided_after net network rows sized path other list other_list d adds a false is)
-      (λ k lt ne. undecided_change_same net network rows sized path other list other_list d adds k (change_apart net network rows sized path other list other_list d adds a false is k lt ne))
+      (change_decided net network rows sized path other list other_list d adds a false is).after
+      (λ k lt ne. undecided_change_same net network rows sized path other list other_list d adds k ((change_decided net network rows sized path other list other_list d adds a false is).apart k lt ne))
   changes_decided (First p small) is flags h =
       flags_same (is_undecided_change net rows path) (is_undecided_change net rows other) (length net.activities) flags h
       (λ k lt. undecided_change_same net network rows sized path other list other_list d adds k (pair_no_change net network rows sized path other list other_list d adds p small is k))
@@ -57,19 +57,19 @@ module _ (net : Net) (network : IsNetwork net) (rows : RowsValue) (sized : IsSiz
       (λ k lt. undecided_pair_same net network rows sized path other list other_list d adds k (change_no_pair net network rows sized path other list other_list d adds a false is k))
   pairs_decided (First p small) is flags h =
       flags_set (is_undecided_pair net rows path) (is_undecided_pair net rows other) (length net.pairs) p flags false h is.is_pair
-      (pair_decided_after net network rows sized path other list other_list d adds p small is)
-      (λ k lt ne. undecided_pair_same net network rows sized path other list other_list d adds k (pair_apart net network rows sized path other list other_list d adds p small is k lt ne))
+      (pair_decided net network rows sized path other list other_list d adds p small is).after
+      (λ k lt ne. undecided_pair_same net network rows sized path other list other_list d adds k ((pair_decided net network rows sized path other list other_list d adds p small is).apart k lt ne))
 
   pub changes_undecided : (flip : Flip) → IsFlipOf net rows d flip → (flags : List Bool) → AreFlags (is_undecided_change net rows other) (length net.activities) flags →
       AreFlags (is_undecided_change net rows path) (length net.activities) (with_change flip true flags)
   changes_undecided (Keep a) is flags h =
       flags_set (is_undecided_change net rows other) (is_undecided_change net rows path) (length net.activities) a flags true h is.is_activity
-      (change_undecided_before net network rows sized path other list other_list d adds a true is)
-      (λ k lt ne. sym (undecided_change_same net network rows sized path other list other_list d adds k (change_apart net network rows sized path other list other_list d adds a true is k lt ne)))
+      (change_decided net network rows sized path other list other_list d adds a true is).before
+      (λ k lt ne. sym (undecided_change_same net network rows sized path other list other_list d adds k ((change_decided net network rows sized path other list other_list d adds a true is).apart k lt ne)))
   changes_undecided (Drop a) is flags h =
       flags_set (is_undecided_change net rows other) (is_undecided_change net rows path) (length net.activities) a flags true h is.is_activity
-      (change_undecided_before net network rows sized path other list other_list d adds a false is)
-      (λ k lt ne. sym (undecided_change_same net network rows sized path other list other_list d adds k (change_apart net network rows sized path other list other_list d adds a false is k lt ne)))
+      (change_decided net network rows sized path other list other_list d adds a false is).before
+      (λ k lt ne. sym (undecided_change_same net network rows sized path other list other_list d adds k ((change_decided net network rows sized path other list other_list d adds a false is).apart k lt ne)))
   changes_undecided (First p small) is flags h =
       flags_same (is_undecided_change net rows other) (is_undecided_change net rows path) (length net.activities) flags h
       (λ k lt. sym (undecided_change_same net network rows sized path other list other_list d adds k (pair_no_change net network rows sized path other list other_list d adds p small is k)))
@@ -84,8 +84,8 @@ module _ (net : Net) (network : IsNetwork net) (rows : RowsValue) (sized : IsSiz
       (λ k lt. sym (undecided_pair_same net network rows sized path other list other_list d adds k (change_no_pair net network rows sized path other list other_list d adds a false is k)))
   pairs_undecided (First p small) is flags h =
       flags_set (is_undecided_pair net rows other) (is_undecided_pair net rows path) (length net.pairs) p flags true h is.is_pair
-      (pair_undecided_before net network rows sized path other list other_list d adds p small is)
-      (λ k lt ne. sym (undecided_pair_same net network rows sized path other list other_list d adds k (pair_apart net network rows sized path other list other_list d adds p small is k lt ne)))
+      (pair_decided net network rows sized path other list other_list d adds p small is).before
+      (λ k lt ne. sym (undecided_pair_same net network rows sized path other list other_list d adds k ((pair_decided net network rows sized path other list other_list d adds p small is).apart k lt ne)))
 
 pub room_for : (net : Net) (rows : RowsValue) (d : Decision) (flip : Flip) → IsFlipOf net rows d flip → (changes pairs : List Bool) →
     length changes ≡ length net.activities → length pairs ≡ length net.pairs → HasRoomFor flip changes pairs

@@ -1,19 +1,18 @@
 -- What a decision of a free choice names.
 use Rattle.std.proofs.Common.{◌≡◌, ℕ, ◌<◌, Bool, true, false, eqb, List, length, map, get_or, Some, refl, sym, ap, ◌∙◌, inl, inr, arith}
-use Rattle.std.specs.Prelude.{filter, Contains, All, option_map}
+use Rattle.std.specs.Prelude.{filter, Contains, All, option_map, position}
 use Rattle.std.specs.List.{range_with_len}
-use Rattle.std.proofs.lemmas.Bool.{eqb-true, eq-eqb, ne_eqb, lt-ltb, le-ltb, and_parts, and_from}
+use Rattle.std.proofs.lemmas.Bool.{eq-eqb, ne_eqb, lt-ltb, le-ltb}
 use Rattle.std.proofs.lemmas.List.{get_or-map, length-map}
 use Rattle.std.proofs.lemmas.List.FromFn.{length-range_with_len, get_or-range_with_len}
 use Rattle.std.proofs.lemmas.List.Elements.{All-filter, filter_passes, Contains-append_cases}
-use Rattle.dm_base.specs.declared.ids.ActId.{ActId}
-use Rattle.dm_base.specs.declared.ids.EventId.{EventId}
 use Rattle.dm_network.specs.Net.{Net, event_at, activity_at, pair_at, no_event, no_activity, no_pair, event_place, activity_place}
-use Rattle.dm_network.specs.Pairs.{joins, pair_place}
+use Rattle.dm_network.specs.declared.parts.Pair.{Pair as Ends}
+use Rattle.dm_network.specs.Pairs.{pair_place}
 use Rattle.dm_network.specs.Start.{IsNetwork}
 use Rattle.dm_network.specs.Inside.Flat.{ArePairsInOrder}
 use Rattle.dm_network.proofs.Keys.{key_is_found, key_rises}
-use Rattle.dm_network.proofs.PairKeys.{pair_is_found, joins_forward, joins_backward}
+use Rattle.dm_network.proofs.PairKeys.{PassesOnly, pair_is_found, joins_forward, joins_backward}
 use Rattle.dm_rows.specs.declared.messages.Choice.{Choice}
 use Rattle.dm_rows.specs.declared.messages.Choice.TheVariants.{Change, Pair}
 use Rattle.dm_rows.specs.declared.messages.Decision.{Decision}
@@ -23,7 +22,7 @@ use Rattle.dm_rows.specs.declared.messages.Flip.TheVariants.{Keep as KeepFlip, D
 use Rattle.dm_rows.specs.Rows.{RowsValue}
 use Rattle.dm_rows.specs.Resolve.{flip_named, first_named}
 use Rattle.dm_rows.specs.Decide.{is_free_change, is_free_pair, change_choice, pair_choice, free_changes_of, free_pairs_of, free_choices_of, choice_of}
-use Rattle.dm_rows.specs.Relax.{is_same_choice}
+use Rattle.dm_rows.specs.Sides.{first_decision, second_decision}
 use Rattle.dm_rows.proofs.PairEnds.{small_is_event, large_is_event}
 use Rattle.dm_rows.proofs.Sides.{is_either}
 use Rattle.dm_paths.specs.Decisions.{change_decision, pair_decision}
@@ -57,27 +56,24 @@ pub data Names (net : Net) (rows : RowsValue) (d : Decision) : Type 0 where
   of_pair : (p : ℕ) (small : Bool) → p < length net.pairs → is_free_pair net rows p ≡ true →
       d ≡ pair_decision net p small → Names net rows d
 
-of_changes : (net : Net) (rows : RowsValue) (d : Decision) →
-    IsFromPlace (change_choice net) (is_free_change net rows) (length net.activities) (choice_of d) → Names net rows d
-of_changes net rows d f =
-    elim (is_either d (change_choice net f.place) (sym f.is)) [
-      | inl e ↦ of_change f.place true f.below f.passes e
-      | inr e ↦ of_change f.place false f.below f.passes e
-    ]
-
-of_pairs : (net : Net) (rows : RowsValue) (d : Decision) →
-    IsFromPlace (pair_choice net) (is_free_pair net rows) (length net.pairs) (choice_of d) → Names net rows d
-of_pairs net rows d f =
-    elim (is_either d (pair_choice net f.place) (sym f.is)) [
-      | inl e ↦ of_pair f.place true f.below f.passes e
-      | inr e ↦ of_pair f.place false f.below f.passes e
+-- what decides a choice of the places that pass is the first or the second decision of such a place
+by_place : (net : Net) (rows : RowsValue) (d : Decision) (of : ℕ → Choice) (test : ℕ → Bool) (n : ℕ) →
+    ((k : ℕ) → k < n → test k ≡ true → d ≡ first_decision (of k) → Names net rows d) →
+    ((k : ℕ) → k < n → test k ≡ true → d ≡ second_decision (of k) → Names net rows d) →
+    Contains (map of (filter test (range_with_len 0 n))) (choice_of d) → Names net rows d
+by_place net rows d of test n first second h =
+    let f = from_place of test n (choice_of d) h in
+    elim (is_either d (of f.place) (sym f.is)) [
+      | inl e ↦ first f.place f.below f.passes e
+      | inr e ↦ second f.place f.below f.passes e
     ]
 
 pub names : (net : Net) (rows : RowsValue) (d : Decision) → Contains (free_choices_of net rows) (choice_of d) → Names net rows d
 names net rows d h =
     elim (Contains-append_cases (free_changes_of net rows) (free_pairs_of net rows) (choice_of d) h) [
-      | inl l ↦ of_changes net rows d (from_place (change_choice net) (is_free_change net rows) (length net.activities) (choice_of d) l)
-      | inr r ↦ of_pairs net rows d (from_place (pair_choice net) (is_free_pair net rows) (length net.pairs) (choice_of d) r)
+      | inl l ↦
+          by_place net rows d (change_choice net) (is_free_change net rows) (length net.activities) (λ a. of_change a true) (λ a. of_change a false) l
+      | inr r ↦ by_place net rows d (pair_choice net) (is_free_pair net rows) (length net.pairs) (λ p. of_pair p true) (λ p. of_pair p false) r
     ]
 
 -- the flips of these decisions
@@ -104,19 +100,15 @@ module _ (net : Net) (network : IsNetwork net) where
   pub rises : (p : ℕ) → p < length net.pairs → (pair_at net p).small < (pair_at net p).large
   rises p below = network.formed.is_paired.smaller_first p below
 
+  found : {test : Ends → Bool} → (p : ℕ) → p < length net.pairs → PassesOnly test (pair_at net p).small (pair_at net p).large → position test net.pairs ≡ Some p
+  found p below alone = pair_is_found net.pairs in_order _ (pair_at net p).small (pair_at net p).large alone p no_pair below refl refl
+
+  -- a pair is found by its ends in either order, whichever test tells it alone
   pub pair_found : (p : ℕ) → p < length net.pairs → pair_place net (pair_at net p).small (pair_at net p).large ≡ Some p
-  pair_found p below =
-      let s : ℕ = (pair_at net p).small in
-      let l : ℕ = (pair_at net p).large in
-      let up : s < l = rises p below in
-      pair_is_found net.pairs in_order (λ q. joins q s l) s l (joins_forward s l (omega arith)) p no_pair below refl refl
+  pair_found p below = let up = rises p below in found p below (joins_forward (pair_at net p).small (pair_at net p).large (omega arith))
 
   pub pair_found_back : (p : ℕ) → p < length net.pairs → pair_place net (pair_at net p).large (pair_at net p).small ≡ Some p
-  pair_found_back p below =
-      let s : ℕ = (pair_at net p).small in
-      let l : ℕ = (pair_at net p).large in
-      let up : s < l = rises p below in
-      pair_is_found net.pairs in_order (λ q. joins q l s) s l (joins_backward s l (omega arith)) p no_pair below refl refl
+  pair_found_back p below = let up = rises p below in found p below (joins_backward (pair_at net p).small (pair_at net p).large (omega arith))
 
   first_is : (x y p : ℕ) (b : Bool) → pair_place net x y ≡ Some p → eqb (pair_at net p).small x ≡ b →
       first_named net (Some x) (Some y) ≡ Some (FirstFlip p b)

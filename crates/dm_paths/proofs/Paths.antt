@@ -57,6 +57,13 @@ module _ (path other : List Decision) (d : Decision) (adds : AddsDecision path o
   pub undecided_before : (c : Choice) → choice_of d ≡ c → is_decided path c ≡ false
   undecided_before c is = subst (λ e. is_decided path e ≡ false) is adds.new
 
+-- Of the choices at some places: the decision decides that at one of them, which was free and undecided and is decided now, and
+-- no other.
+pub record DecidesOne (path other : List Decision) (d : Decision) (of : ℕ → Choice) (free : ℕ → Bool) (n k : ℕ) : Type 0 where
+  pub before : (free k && not (is_decided path (of k))) ≡ true
+  pub after : (free k && not (is_decided other (of k))) ≡ false
+  pub apart : (j : ℕ) → j < n → (j ≡ k → ⊥) → is_same_choice (choice_of d) (of j) ≡ false
+
 three : (c k p : Bool) → (c && p) ≡ false → (c && k && p) ≡ false
 three true true p h = h
 three true false p h = refl
@@ -151,18 +158,15 @@ module _ (net : Net) (network : IsNetwork net) (rows : RowsValue) (sized : IsSiz
         ]
       ]
 
-  -- a choice that the decision decides was undecided and is decided, and no other one is the same
-  undecided_till : (c : Choice) (free : Bool) → choice_of d ≡ c → free ≡ true → (free && not (is_decided path c)) ≡ true
-  undecided_till c free decides is =
-      and_from free (not (is_decided path c)) is (not_from_false (is_decided path c) (undecided_before path other d adds c decides))
-
-  decided_now : (c : Choice) (free : Bool) → choice_of d ≡ c → (free && not (is_decided other c)) ≡ false
-  decided_now c free decides =
-      and_right free (not (is_decided other c)) (not_from_true (is_decided other c) (decided_here path other d adds c decides))
-
-  not_same : (c one : Choice) → choice_of d ≡ c → (c ≡ one → ⊥) → is_same_choice (choice_of d) one ≡ false
-  not_same c one decides apart =
-      false_from_ne_true (is_same_choice (choice_of d) one) (λ h. apart (sym decides ∙ same_choice (choice_of d) one h))
+  decides_one : (of : ℕ → Choice) (free : ℕ → Bool) (n k : ℕ) → choice_of d ≡ of k → free k ≡ true → ((j : ℕ) → j < n → of k ≡ of j → k ≡ j) →
+      DecidesOne path other d of free n k
+  decides_one of free n k decides is one = record {
+    before = and_from (free k) (not (is_decided path (of k))) is (not_from_false (is_decided path (of k)) (undecided_before path other d adds (of k) decides));
+    after = and_right (free k) (not (is_decided other (of k))) (not_from_true (is_decided other (of k)) (decided_here path other d adds (of k) decides));
+    apart = λ j below elsewhere.
+        false_from_ne_true (is_same_choice (choice_of d) (of j))
+        (λ h. elsewhere (sym (one j below (sym decides ∙ same_choice (choice_of d) (of j) h))));
+  }
 
   -- the decision of a change
   module _ (a : ℕ) (kept : Bool) (is : IsOfChange net rows d a kept) where
@@ -178,18 +182,13 @@ module _ (net : Net) (network : IsNetwork net) (rows : RowsValue) (sized : IsSiz
     kind_is : (activity_at net a).kind ≡ Change
     kind_is = change_kind (activity_at net a).kind (and_parts (is_change (activity_at net a).kind) (not (has_passed rows (activity_at net a).head)) is.free).0
 
-    pub change_undecided_before : is_undecided_change net rows path a ≡ true
-    change_undecided_before = undecided_till (change_choice net a) (is_free_change net rows a) decides_change is.free
-
-    pub change_decided_after : is_undecided_change net rows other a ≡ false
-    change_decided_after = decided_now (change_choice net a) (is_free_change net rows a) decides_change
-
-    pub change_apart : (b : ℕ) → b < length net.activities → (b ≡ a → ⊥) → is_same_choice (choice_of d) (change_choice net b) ≡ false
-    change_apart b below other_one =
-        not_same (change_choice net a) (change_choice net b) decides_change (λ e. other_one (sym (one_change net network a b is.is_activity below e)))
+    pub change_decided : DecidesOne path other d (change_choice net) (is_free_change net rows) (length net.activities) a
+    change_decided =
+        decides_one (change_choice net) (is_free_change net rows) (length net.activities) a decides_change is.free
+        (λ b below. one_change net network a b is.is_activity below)
 
     of_change : (b : ℕ) (o : Option ℕ) → b < length net.activities → (b ≡ a → ⊥) → is_of net (choice_of d) b o ≡ false
-    of_change b None below other_one = change_apart b below other_one
+    of_change b None below other_one = change_decided.apart b below other_one
     of_change b (Some p) below other_one = ap (λ c. is_same_choice c (pair_choice net p)) decides_change
 
     pub change_not_of : (b : ℕ) → b < length net.activities → (b ≡ a → ⊥) → is_of net (choice_of d) b (activity_at net b).pair ≡ false
@@ -201,12 +200,12 @@ module _ (net : Net) (network : IsNetwork net) (rows : RowsValue) (sized : IsSiz
     pub change_bound_before : is_relaxed_active net rows path a ≡ false
     change_bound_before =
         cond-true (is_of_undecided net rows path a (activity_at net a).pair) false (is_active net (with_decisions net rows path) a)
-        (ap (is_of_undecided net rows path a) no_pair ∙ change_undecided_before)
+        (ap (is_of_undecided net rows path a) no_pair ∙ change_decided.before)
 
     pub change_dropped_before : is_relaxed_dropped net rows path a ≡ false
     change_dropped_before =
         and_right (is_dropped_change net (with_decisions net rows path) a) (not (is_undecided_change net rows path a))
-        (not_from_true (is_undecided_change net rows path a) change_undecided_before)
+        (not_from_true (is_undecided_change net rows path a) change_decided.before)
 
     kept_is : kept_at (with_decisions net rows other) a ≡ kept
     kept_is =
@@ -218,7 +217,7 @@ module _ (net : Net) (network : IsNetwork net) (rows : RowsValue) (sized : IsSiz
         let s : RowsValue = with_decisions net rows other in
         let act = activity_at net a in
         cond-false (is_of_undecided net rows other a act.pair) false (is_active net s a)
-        (ap (is_of_undecided net rows other a) no_pair ∙ change_decided_after)
+        (ap (is_of_undecided net rows other a) no_pair ∙ change_decided.after)
         ∙ cond-false (has_passed s act.head) false (binds net s act.kind act.pair act.tail a) (has_passed_same rows s (over other) act.head ∙ head_free)
         ∙ ap (λ k. binds net s k act.pair act.tail a) kind_is
         ∙ kept_is
@@ -227,7 +226,7 @@ module _ (net : Net) (network : IsNetwork net) (rows : RowsValue) (sized : IsSiz
     change_dropped =
         let s : RowsValue = with_decisions net rows other in
         let act = activity_at net a in
-        ap (λ b. is_dropped_change net s a && not b) change_decided_after
+        ap (λ b. is_dropped_change net s a && not b) change_decided.after
         ∙ and_true (is_dropped_change net s a)
         ∙ ap (λ k. is_change k && not (kept_at s a) && not (has_passed s act.head)) kind_is
         ∙ ap (λ k. not k && not (has_passed s act.head)) kept_is
@@ -243,22 +242,17 @@ module _ (net : Net) (network : IsNetwork net) (rows : RowsValue) (sized : IsSiz
     pub decides_pair : choice_of d ≡ pair_choice net p
     decides_pair = ap choice_of is.is ∙ pair_decides net network p small is.is_pair
 
-    pub pair_undecided_before : is_undecided_pair net rows path p ≡ true
-    pair_undecided_before = undecided_till (pair_choice net p) (is_free_pair net rows p) decides_pair is.free
-
-    pub pair_decided_after : is_undecided_pair net rows other p ≡ false
-    pair_decided_after = decided_now (pair_choice net p) (is_free_pair net rows p) decides_pair
-
-    pub pair_apart : (q : ℕ) → q < length net.pairs → (q ≡ p → ⊥) → is_same_choice (choice_of d) (pair_choice net q) ≡ false
-    pair_apart q below other_one =
-        not_same (pair_choice net p) (pair_choice net q) decides_pair (λ e. other_one (sym (one_pair net network p q is.is_pair below e)))
+    pub pair_decided : DecidesOne path other d (pair_choice net) (is_free_pair net rows) (length net.pairs) p
+    pair_decided =
+        decides_one (pair_choice net) (is_free_pair net rows) (length net.pairs) p decides_pair is.free
+        (λ q below. one_pair net network p q is.is_pair below)
 
     pub pair_no_change : (b : ℕ) → is_same_choice (choice_of d) (change_choice net b) ≡ false
     pair_no_change b = ap (λ c. is_same_choice c (change_choice net b)) decides_pair
 
     of_pair : (b : ℕ) (o : Option ℕ) → ((q : ℕ) → o ≡ Some q → q < length net.pairs) → (o ≡ Some p → ⊥) → is_of net (choice_of d) b o ≡ false
     of_pair b None below other_one = pair_no_change b
-    of_pair b (Some q) below other_one = pair_apart q (below q refl) (λ e. other_one (ap (λ r. Some r) e))
+    of_pair b (Some q) below other_one = pair_decided.apart q (below q refl) (λ e. other_one (ap (λ r. Some r) e))
 
     pub pair_not_of : (b : ℕ) → b < length net.activities → ((activity_at net b).pair ≡ Some p → ⊥) → is_of net (choice_of d) b (activity_at net b).pair ≡ false
     pair_not_of b below other_one =
@@ -268,7 +262,7 @@ module _ (net : Net) (network : IsNetwork net) (rows : RowsValue) (sized : IsSiz
       pub pair_bound_before : is_relaxed_active net rows path b ≡ false
       pair_bound_before =
           cond-true (is_of_undecided net rows path b (activity_at net b).pair) false (is_active net (with_decisions net rows path) b)
-          (ap (is_of_undecided net rows path b) its ∙ pair_undecided_before)
+          (ap (is_of_undecided net rows path b) its ∙ pair_decided.before)
 
       joins : PairJoins net b p
       joins = pair_joins net network b p below its
@@ -295,7 +289,7 @@ module _ (net : Net) (network : IsNetwork net) (rows : RowsValue) (sized : IsSiz
           let s : RowsValue = with_decisions net rows other in
           let act = activity_at net b in
           cond-false (is_of_undecided net rows other b act.pair) false (is_active net s b)
-          (ap (is_of_undecided net rows other b) its ∙ pair_decided_after)
+          (ap (is_of_undecided net rows other b) its ∙ pair_decided.after)
           ∙ cond-false (has_passed s act.head) false (binds net s act.kind act.pair act.tail b) (has_passed_same rows s (over other) act.head ∙ ends_free.1)
           ∙ ap (λ k. binds net s k act.pair act.tail b) (headway_kind act.kind joins.headway)
           ∙ ap (λ o. binds net s Headway o act.tail b) its

@@ -1,6 +1,6 @@
 -- What the rows have after decisions of free choices, one after another.
 use Rattle.std.proofs.Common.{◌≡◌, ℕ, ◌<◌, Bool, true, false, List, [], ◌∷◌, length, set, Option, Some, None, refl, sym, ap, subst, ◌∙◌, ◌⊎◌, inl, inr, arith}
-use Rattle.std.specs.Prelude.{Contains, All, slice_get}
+use Rattle.std.specs.Prelude.{Contains, All, slice_get, not}
 use Rattle.std.proofs.lemmas.Bool.{cases_Bool, not-true, not_from_false, both_ways}
 use Rattle.std.proofs.lemmas.Grind.{get_or-set_at}
 use Rattle.std.proofs.lemmas.List.{get_or-set_other, length-set}
@@ -12,11 +12,12 @@ use Rattle.dm_rows.specs.declared.messages.Decision.{Decision}
 use Rattle.dm_rows.specs.declared.messages.Flip.{Flip}
 use Rattle.dm_rows.specs.declared.messages.Flip.TheVariants.{Keep, Drop, First}
 use Rattle.dm_rows.specs.Rows.{RowsValue, IsSized, kept_at, small_first_at}
+use Rattle.dm_rows.specs.Reach.{ReachesFlip}
 use Rattle.dm_rows.specs.Resolve.{flip_named}
 use Rattle.dm_rows.specs.Decide.{free_choices_of, change_choice, pair_choice, choice_of, with_flip, with_decisions, IsChoiceList}
 use Rattle.dm_rows.specs.Relax.{is_same_choice}
 use Rattle.dm_tree.specs.Plans.{is_set}
-use Rattle.dm_paths.specs.Decisions.{change_decision, pair_decision}
+use Rattle.dm_paths.specs.Decisions.{change_decision, pair_decision, ReachesNet}
 use Rattle.dm_paths.proofs.Naming.{Names, of_change, of_pair, names, change_flip, change_flips, pair_flips, change_decides, pair_decides}
 use Rattle.dm_rows.proofs.Sides.{same_choice, same_itself}
 
@@ -43,25 +44,26 @@ pub differs_with : (net : Net) (rows r : RowsValue) (ds : List Decision) → Dif
 differs_with net rows r [] h = h
 differs_with net rows r (d ∷ ds) h = differs_with net rows (with_flip r (flip_named net d)) ds (differs_after rows r (flip_named net d) h)
 
+-- a flip within the network is within rows of its size
+pub reaches_rows : (net : Net) (rows : RowsValue) (flip : Flip) → IsSized net rows → ReachesNet net flip → ReachesFlip rows flip
+reaches_rows net rows (Keep a) sized r = let e = sized.kept in omega (arith, e, r)
+reaches_rows net rows (Drop a) sized r = let e = sized.kept in omega (arith, e, r)
+reaches_rows net rows (First p small) sized r = let e = sized.small_first in omega (arith, e, r)
+
 -- the rows have the decision
 abbrev pub HasDecision : Net → RowsValue → Decision → Type 0
 HasDecision net r d = is_set r (flip_named net d) ≡ true
 
-set_kept : (r : RowsValue) (a : ℕ) (kept : Bool) → is_set r (Some (change_flip a kept)) ≡ true → kept_at r a ≡ kept
-set_kept r a true h = h
-set_kept r a false h = not-true (kept_at r a) h
+-- the rows have a decision exactly where a flag of theirs is as it wants it: the test of its flip is the flag, or that it is not set
+module _ (net : Net) (r : RowsValue) (flag : Bool) (flip : Bool → Flip) (on : is_set r (Some (flip true)) ≡ flag)
+    (off : is_set r (Some (flip false)) ≡ not flag) where
+  flag_is : (d : Decision) (wanted : Bool) → flip_named net d ≡ Some (flip wanted) → HasDecision net r d → flag ≡ wanted
+  flag_is d true named h = sym on ∙ subst (λ f. is_set r f ≡ true) named h
+  flag_is d false named h = not-true flag (sym off ∙ subst (λ f. is_set r f ≡ true) named h)
 
-kept_set : (r : RowsValue) (a : ℕ) (kept : Bool) → kept_at r a ≡ kept → is_set r (Some (change_flip a kept)) ≡ true
-kept_set r a true h = h
-kept_set r a false h = not_from_false (kept_at r a) h
-
-set_first : (r : RowsValue) (p : ℕ) (small : Bool) → is_set r (Some (First p small)) ≡ true → small_first_at r p ≡ small
-set_first r p true h = h
-set_first r p false h = not-true (small_first_at r p) h
-
-first_set : (r : RowsValue) (p : ℕ) (small : Bool) → small_first_at r p ≡ small → is_set r (Some (First p small)) ≡ true
-first_set r p true h = h
-first_set r p false h = not_from_false (small_first_at r p) h
+  has_where : (d : Decision) (wanted : Bool) → flip_named net d ≡ Some (flip wanted) → flag ≡ wanted → HasDecision net r d
+  has_where d true named h = subst (λ f. is_set r f ≡ true) (sym named) (on ∙ h)
+  has_where d false named h = subst (λ f. is_set r f ≡ true) (sym named) (off ∙ not_from_false flag h)
 
 after_change_kept : (r : RowsValue) (a : ℕ) (kept : Bool) → (with_flip r (Some (change_flip a kept))).kept ≡ set r.kept a kept
 after_change_kept r a true = refl
@@ -81,20 +83,16 @@ in_front x y xs h =
 module _ (net : Net) (network : IsNetwork net) where
   -- what the rows have of a change, of a pair
   pub has_kept : (r : RowsValue) (a : ℕ) (kept : Bool) → a < length net.activities → HasDecision net r (change_decision net a kept) → kept_at r a ≡ kept
-  has_kept r a kept below h =
-      set_kept r a kept (subst (λ f. is_set r f ≡ true) (change_flips net network a kept below) h)
+  has_kept r a kept below = flag_is net r (kept_at r a) (change_flip a) refl refl (change_decision net a kept) kept (change_flips net network a kept below)
 
   pub kept_has : (r : RowsValue) (a : ℕ) (kept : Bool) → a < length net.activities → kept_at r a ≡ kept → HasDecision net r (change_decision net a kept)
-  kept_has r a kept below h =
-      subst (λ f. is_set r f ≡ true) (sym (change_flips net network a kept below)) (kept_set r a kept h)
+  kept_has r a kept below = has_where net r (kept_at r a) (change_flip a) refl refl (change_decision net a kept) kept (change_flips net network a kept below)
 
   pub has_first : (r : RowsValue) (p : ℕ) (small : Bool) → p < length net.pairs → HasDecision net r (pair_decision net p small) → small_first_at r p ≡ small
-  has_first r p small below h =
-      set_first r p small (subst (λ f. is_set r f ≡ true) (pair_flips net network p small below) h)
+  has_first r p small below = flag_is net r (small_first_at r p) (First p) refl refl (pair_decision net p small) small (pair_flips net network p small below)
 
   pub first_has : (r : RowsValue) (p : ℕ) (small : Bool) → p < length net.pairs → small_first_at r p ≡ small → HasDecision net r (pair_decision net p small)
-  first_has r p small below h =
-      subst (λ f. is_set r f ≡ true) (sym (pair_flips net network p small below)) (first_set r p small h)
+  first_has r p small below = has_where net r (small_first_at r p) (First p) refl refl (pair_decision net p small) small (pair_flips net network p small below)
 
   after_d : RowsValue → Decision → RowsValue
   after_d r d = with_flip r (flip_named net d)

@@ -23,7 +23,7 @@ use dm_base::{Cost, Items};
 use dm_evaluate::Evaluator;
 use dm_guide::{Guide, Start, Task, guide, in_turn};
 use dm_network::Network;
-use dm_relax::with_decisions;
+use dm_paths::with_decisions;
 use dm_rows::{Decision, Rows, Snapshot};
 use dm_times::{cost, least};
 use dm_tree::{Mark, Node, Partial, Plan, Tree, assemble};
@@ -451,7 +451,7 @@ fn cost_with(task: &Task<'_>, choices: &[Decision]) -> Result<Cost, AllocError>
     requires list { IsChoiceList task.now.net.now task.now.rows.now choices.now }
     ensures { IfOk result (Costs task.now.net.now (with_decisions task.now.net.now task.now.rows.now choices.now) task.now.penalty) }
 {
-    let set = with_decisions(task.alloc, task.net, task.rows, choices)?;
+    let set = with_decisions(task.net, task.rows, choices)?;
     // Rows without a cycle have no times for want of memory alone.
     let Ok(times) = least(task.alloc, task.net, &set) else {
         return Err(AllocError);

@@ -12,8 +12,7 @@ ghost use Rattle.dm_window.specs.Inside.Carrying.{AreFree, CostsCarried, Refuses
 
 use dm_base::{ActId, Cost, Items};
 use dm_network::Network;
-use dm_paths::{ChoicePlace, flip_of, place_of_choice};
-use dm_relax::with_decisions;
+use dm_paths::{ChoicePlace, flip_of, place_of_choice, with_decisions};
 use dm_rows::{Choice, Decision, Flip, Rows, Snapshot, is_free_change, is_free_pair};
 use dm_times::{NoTimes, cost, least};
 use dm_tree::Plan;
@@ -196,7 +195,7 @@ fn cost_carried(
     ensures carried { IfOk result (CostsCarried net.now rows.now penalty decisions.now) }
     ensures refused { IfErr result (RefusesCarried net.now rows.now decisions.now) }
 {
-    let Ok(set) = with_decisions(alloc, net, rows, decisions) else {
+    let Ok(set) = with_decisions(net, rows, decisions) else {
         return Err(RebaseFault::OutOfMemory);
     };
     match least(alloc, net, &set) {

@@ -1,5 +1,5 @@
-use Rattle.dm_check_plans.proofs.Chosen.{reaches_rows}
-use Rattle.dm_check_plans.proofs.choices.with_decisions.Goals as goal
+use Rattle.dm_paths.proofs.Setting.{reaches_rows}
+use Rattle.dm_paths.proofs.decisions.with_decisions.Goals as goal
 
 pub apply-requires : goal.apply-requires
 apply-requires c = reaches_rows c.args.net.now c.loop-decision.set c.flip_of-flip.result c.loop-decision.invariant.sized c.flip_of-flip.ensures.reaches
