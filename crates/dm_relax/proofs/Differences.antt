@@ -1,5 +1,5 @@
 -- What of a completion differs from the rows.
-use Rattle.std.proofs.Common.{◌≡◌, ℕ, ◌+◌, ◌<◌, Bool, true, false, List, [], ◌∷◌, ◌++◌, length, map, Option, Some, None, refl, sym, ap, subst, ◌∙◌, inl, inr, arith}
+use Rattle.std.proofs.Common.{◌≡◌, ℕ, ◌+◌, Bool, true, false, List, [], ◌∷◌, ◌++◌, length, map, Option, Some, None, refl, sym, ap, subst, ◌∙◌, inl, inr, arith}
 use Rattle.std.specs.Prelude.{filter, ◌&&◌}
 use mathlib.Core.Bool.{beq}
 use Rattle.std.specs.List.{range_with_len, filter_map, cons_option}
@@ -7,44 +7,36 @@ use Rattle.std.proofs.lemmas.Bool.{cases_Bool, cond-true, cond-false, and_from, 
 use Rattle.std.proofs.lemmas.List.{append_assoc, append-nil}
 use Rattle.std.proofs.lemmas.List.Elements.{filter-append, filter_map-append}
 use Rattle.dm_network.specs.Net.{Net}
-use Rattle.dm_network.specs.Start.{IsNetwork}
 use Rattle.dm_network.proofs.Filling.{range_more}
 use Rattle.dm_rows.specs.declared.messages.Decision.{Decision}
-use Rattle.dm_rows.specs.Rows.{RowsValue, kept_at, small_first_at}
+use Rattle.dm_rows.specs.Rows.{RowsValue}
 use Rattle.dm_rows.specs.Resolve.{flip_named}
 use Rattle.dm_rows.specs.Decide.{is_free_change, is_free_pair}
 use Rattle.dm_tree.specs.Plans.{is_set}
 use Rattle.dm_relax.specs.Complete.{completed_change, completed_pair, completion_of, differences_from}
-use Rattle.dm_paths.specs.Decisions.{change_decision, pair_decision, differs_from}
+use Rattle.dm_paths.specs.Decisions.{differs_from}
 use Rattle.dm_relax.specs.Inside.Differing.{differing, differing_changes, differing_pairs}
-use Rattle.dm_paths.proofs.Setting.{has_kept, kept_has, has_first, first_has}
 
--- one place more
+-- one place more, and what it gives
+pub gathered_more : (f : ℕ → Option Decision) (before : List Decision) (n : ℕ) (items more : List Decision) →
+    items ≡ before ++ filter_map f (range_with_len 0 n) → more ≡ items ++ cons_option (f n) [] → more ≡ before ++ filter_map f (range_with_len 0 (n + 1))
+gathered_more f before n items more is next =
+    let e : 0 + n ≡ n = omega arith in
+    next
+    ∙ ap (λ xs. xs ++ cons_option (f n) []) is
+    ∙ append_assoc before (filter_map f (range_with_len 0 n)) (cons_option (f n) [])
+    ∙ ap (λ xs. before ++ xs) (sym (filter_map-append f (range_with_len 0 n) (n ∷ [])))
+    ∙ ap (λ xs. before ++ filter_map f xs) (sym (range_more 0 n ∙ ap (λ m. range_with_len 0 n ++ m ∷ []) e))
+
 pub gathers : (f : ℕ → Option Decision) (before : List Decision) (n : ℕ) (d : Decision) (items : List Decision) →
     items ≡ before ++ filter_map f (range_with_len 0 n) → f n ≡ Some d → items ++ d ∷ [] ≡ before ++ filter_map f (range_with_len 0 (n + 1))
 gathers f before n d items is here =
-    let e : 0 + n ≡ n = omega arith in
-    ap (λ xs. xs ++ d ∷ []) is
-    ∙ append_assoc before (filter_map f (range_with_len 0 n)) (d ∷ [])
-    ∙ ap (λ xs. before ++ (filter_map f (range_with_len 0 n) ++ xs)) (sym (alone (f n) here))
-    ∙ ap (λ xs. before ++ xs) (sym (filter_map-append f (range_with_len 0 n) (n ∷ [])))
-    ∙ ap (λ xs. before ++ filter_map f xs) (sym (range_more 0 n ∙ ap (λ m. range_with_len 0 n ++ m ∷ []) e))
-  where
-    alone : (o : Option Decision) → o ≡ Some d → filter_map (λ (m : ℕ). o) (n ∷ []) ≡ d ∷ []
-    alone o h = rw h refl
+    gathered_more f before n items (items ++ d ∷ []) is (ap (λ o. items ++ cons_option o []) (sym here))
 
 pub passes_over : (f : ℕ → Option Decision) (before : List Decision) (n : ℕ) (items : List Decision) →
     items ≡ before ++ filter_map f (range_with_len 0 n) → f n ≡ None → items ≡ before ++ filter_map f (range_with_len 0 (n + 1))
 passes_over f before n items is here =
-    let e : 0 + n ≡ n = omega arith in
-    is
-    ∙ ap (λ xs. before ++ xs) (sym (append-nil (filter_map f (range_with_len 0 n))))
-    ∙ ap (λ xs. before ++ (filter_map f (range_with_len 0 n) ++ xs)) (sym (alone (f n) here))
-    ∙ ap (λ xs. before ++ xs) (sym (filter_map-append f (range_with_len 0 n) (n ∷ [])))
-    ∙ ap (λ xs. before ++ filter_map f xs) (sym (range_more 0 n ∙ ap (λ m. range_with_len 0 n ++ m ∷ []) e))
-  where
-    alone : (o : Option Decision) → o ≡ None → filter_map (λ (m : ℕ). o) (n ∷ []) ≡ []
-    alone o h = rw h refl
+    gathered_more f before n items items is (sym (append-nil items) ∙ ap (λ o. items ++ cons_option o []) (sym here))
 
 -- what differs of the decisions of the places that pass
 listed_once : (net : Net) (rows : RowsValue) (f : ℕ → Decision) (free : ℕ → Bool) (xs : List ℕ) →
@@ -89,36 +81,17 @@ differences_gathered net rows path x =
     (listed_once net rows (completed_pair net rows path x) (is_free_pair net rows) (range_with_len 0 (length net.pairs))))
 
 -- when a decision differs from the rows
-module _ (net : Net) (network : IsNetwork net) (rows : RowsValue) where
-  pub not_free : (d : Decision) (free : Bool) → free ≡ false → None ≡ differing net rows free d
-  not_free d free is = sym (cond-false (free && differs_from net rows d) (Some d) None (and_left free (differs_from net rows d) is))
-
-  there_already : (d : Decision) (free : Bool) → is_set rows (flip_named net d) ≡ true → None ≡ differing net rows free d
+module _ (net : Net) (rows : RowsValue) where
+  pub there_already : (d : Decision) (free : Bool) → is_set rows (flip_named net d) ≡ true → None ≡ differing net rows free d
   there_already d free is =
       sym (cond-false (free && differs_from net rows d) (Some d) None
       (and_right free (differs_from net rows d) (not_from_true (is_set rows (flip_named net d)) is)))
 
-  is_new : (d : Decision) (free : Bool) → free ≡ true → (is_set rows (flip_named net d) ≡ true → ⊥) → Some d ≡ differing net rows free d
+  pub is_new : (d : Decision) (free : Bool) → free ≡ true → (is_set rows (flip_named net d) ≡ true → ⊥) → Some d ≡ differing net rows free d
   is_new d free is other =
       sym (cond-true (free && differs_from net rows d) (Some d) None
       (and_from free (differs_from net rows d) is
       (not_from_false (is_set rows (flip_named net d)) (false_from_ne_true (is_set rows (flip_named net d)) other))))
-
-  pub change_is_there : (a : ℕ) (kept free : Bool) → a < length net.activities → kept ≡ kept_at rows a → None ≡ differing net rows free (change_decision net a kept)
-  change_is_there a kept free below same = there_already (change_decision net a kept) free (kept_has net network rows a kept below (sym same))
-
-  pub change_differs : (a : ℕ) (kept free : Bool) → a < length net.activities → free ≡ true → (kept ≡ kept_at rows a → ⊥) →
-      Some (change_decision net a kept) ≡ differing net rows free (change_decision net a kept)
-  change_differs a kept free below is other =
-      is_new (change_decision net a kept) free is (λ h. other (sym (has_kept net network rows a kept below h)))
-
-  pub pair_is_there : (p : ℕ) (small free : Bool) → p < length net.pairs → small ≡ small_first_at rows p → None ≡ differing net rows free (pair_decision net p small)
-  pair_is_there p small free below same = there_already (pair_decision net p small) free (first_has net network rows p small below (sym same))
-
-  pub pair_differs : (p : ℕ) (small free : Bool) → p < length net.pairs → free ≡ true → (small ≡ small_first_at rows p → ⊥) →
-      Some (pair_decision net p small) ≡ differing net rows free (pair_decision net p small)
-  pair_differs p small free below is other =
-      is_new (pair_decision net p small) free is (λ h. other (sym (has_first net network rows p small below h)))
 
 -- what is gathered from a relaxed problem that is filled in, is the path's
 module _ (net : Net) (rows : RowsValue) (path : List Decision) (x : List ℕ) (items changes : List Decision) where

@@ -34,10 +34,10 @@ some_pass p (d ∷ ds) =
     ]
 
 -- what passes is among what is left, and what is left was among all
-pub passes_filter : (p : Decision → Bool) (ds : List Decision) (d : Decision) → Contains ds d → p d ≡ true → Contains (filter p ds) d
+pub passes_filter : {X : Type 0} (p : X → Bool) (ds : List X) (d : X) → Contains ds d → p d ≡ true → Contains (filter p ds) d
 passes_filter p [] d h is = absurd (omega (arith, h.1))
-passes_filter p (e ∷ ds) d h is =
-    let rest : List Decision = filter p ds in
+passes_filter {X = X} p (e ∷ ds) d h is =
+    let rest : List X = filter p ds in
     elim (in_front e d ds h) [
       | inl same ↦
           subst (λ es. Contains es d) (sym (cond-true (p e) (e ∷ rest) rest (ap p same ∙ is)))
@@ -50,7 +50,7 @@ passes_filter p (e ∷ ds) d h is =
           ]
     ]
 
-pub was_among : (p : Decision → Bool) (ds : List Decision) (d : Decision) → Contains (filter p ds) d → Contains ds d
+pub was_among : {X : Type 0} (p : X → Bool) (ds : List X) (d : X) → Contains (filter p ds) d → Contains ds d
 was_among p ds d h = All-contains (Contains ds) (filter p ds) d (All-filter p (Contains ds) ds (All-contains_itself ds)) h
 
 pub differences_complete : DifferencesComplete

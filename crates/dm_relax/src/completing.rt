@@ -9,7 +9,7 @@ ghost use Rattle.dm_relax.specs.Inside.Differing.{differing_change, differing_pa
 use crate::relaxation::Relaxation;
 use crate::relaxing::Relaxed;
 use dm_network::Network;
-use dm_paths::{change_decision, pair_decision};
+use dm_paths::{change_decision, pair_decision, push_some};
 use dm_rows::{Decision, Rows, is_free_change, is_free_pair};
 use dm_times::Times;
 use std::alloc::{AllocError, Global};
@@ -43,9 +43,7 @@ fn differing_changes(alloc: Global, relaxation: &Relaxation) -> Result<Vec<Decis
 {
     let mut decisions = Vec::new(alloc);
     for a in 0..relaxation.net.activities() {
-        if let Some(decision) = differing_change(relaxation, a) {
-            decisions.push(decision)?;
-        }
+        push_some(&mut decisions, differing_change(relaxation, a))?;
     }
     Ok(decisions)
 }
@@ -63,9 +61,7 @@ fn with_differing_pairs(
 {
     let mut decisions = changes;
     for p in 0..relaxation.net.pairs() {
-        if let Some(decision) = differing_pair(relaxation, times, p) {
-            decisions.push(decision)?;
-        }
+        push_some(&mut decisions, differing_pair(relaxation, times, p))?;
     }
     Ok(decisions)
 }

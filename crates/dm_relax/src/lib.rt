@@ -20,9 +20,7 @@ mod completing;
 pub mod laws;
 mod relaxation;
 mod relaxing;
-mod undecided;
 mod unmet;
 
 pub use completing::complete;
 pub use relaxing::{Relaxed, relax};
-pub use undecided::with_decisions;

@@ -6,12 +6,10 @@ ghost use Rattle.dm_rows.specs.Decide.{IsChoiceList, with_decisions};
 ghost use Rattle.dm_rows.specs.Relax.{is_undecided_change, is_undecided_pair, is_of_undecided};
 ghost use Rattle.dm_paths.specs.Flags.{AreFlags};
 
-use crate::undecided::{undecided_by, with_decisions};
-use dm_base::ActKind;
 use dm_network::Network;
-use dm_paths::Undecided;
+use dm_paths::{Undecided, all_undecided, flip_of, with_decisions};
 use dm_rows::{Decision, Rows, is_active};
-use dm_times::{Charging, Holding};
+use dm_times::{AsRowsSay, Charging, Holding};
 use std::alloc::{AllocError, Global};
 
 /// The rows with the decisions of a path set, and what the path leaves undecided.
@@ -42,12 +40,17 @@ impl<'a> Relaxation<'a> {
         ensures rows { IfOk result (λ r. r.rows.now ≡ rows.now) }
         ensures path { IfOk result (λ r. r.path.now ≡ path.now) }
     {
+        net.sound();
+        let mut undecided = all_undecided(alloc, net, rows)?;
+        for decision in path {
+            undecided.set(flip_of(net, rows, *decision), false);
+        }
         Ok(Relaxation {
             net,
             rows,
             path,
-            set: with_decisions(alloc, net, rows, path)?,
-            undecided: undecided_by(alloc, net, rows, path)?,
+            set: with_decisions(net, rows, path)?,
+            undecided,
         })
     }
 
@@ -81,19 +84,15 @@ impl Holding for Relaxation<'_> {
 }
 
 impl Charging for Relaxation<'_> {
-    ghost use Rattle.std.specs.Prelude.{length};
     ghost use Rattle.dm_rows.specs.Relax.{is_relaxed_dropped};
-
-    ghost places = { λ r. length r.net.now.activities };
 
     ghost charged = { λ r. is_relaxed_dropped r.net.now r.rows.now r.path.now };
 
     fn is_charged(&self, a: usize) -> bool {
-        self.net.sound();
-        let activity = self.net.activity(a);
-        matches!(activity.kind, ActKind::Change)
-            && !self.set.kept(a)
-            && self.set.passed(activity.head).is_none()
-            && !self.undecided.changes[a]
+        let as_set = AsRowsSay {
+            net: self.net,
+            rows: &self.set,
+        };
+        as_set.is_charged(a) && !self.undecided.changes[a]
     }
 }

@@ -24,7 +24,7 @@ use Rattle.dm_settle.specs.declared.faults.NoTimes.{NoTimes}
 use Rattle.dm_settle.specs.declared.faults.NoTimes.TheVariants.{Cycle, OutOfMemory}
 use Rattle.dm_times.specs.Faults.{RefusesHolding}
 use Rattle.dm_times.specs.Constraints.{AreConstraintsHolding, AreConstraintsOf}
-use Rattle.dm_times.specs.Inside.Filling.{HoldsTo, FloorsTo, SpansTo}
+use Rattle.dm_times.specs.Inside.Filling.{ActivitiesTo, FloorsTo}
 
 -- the first n items are by a function, and so is the next one that is set
 one_more : {A : Type 0} (xs : List A) (d v : A) (f : ℕ → A) (n : ℕ) → n < length xs → ((k : ℕ) → k < n → get_or xs k d ≡ f k) →
@@ -35,17 +35,21 @@ one_more xs d v f n below each is k lt =
       | inr other ↦ get_or-set_other xs n k v d other ∙ each k (omega arith)
     ]
 
-pub holds_none : (held : ℕ → Bool) (given : ConstraintsValue) → HoldsTo held 0 given given
-holds_none held given = record { size = refl; each = λ a lt. absurd (omega arith); floors = refl; spans = refl }
+pub activities_none : (net : Net) (rows : RowsValue) (held : ℕ → Bool) (given : ConstraintsValue) → ActivitiesTo net rows held 0 given given
+activities_none net rows held given =
+    record { flags = refl; as_many_spans = refl; held = λ a lt. absurd (omega arith); spans = λ a lt. absurd (omega arith); floors = refl }
 
-pub holds_next : (held : ℕ → Bool) (n : ℕ) (before now : ConstraintsValue) (b : Bool) → n < length before.held →
-    b ≡ held n → HoldsTo held n before now → HoldsTo held (n + 1) before (record now { held = set now.held n b })
-holds_next held n before now b below is h =
+-- the next activity is held or not, and then has its span
+pub activities_next : (net : Net) (rows : RowsValue) (held : ℕ → Bool) (n : ℕ) (before now : ConstraintsValue) (b : Bool) (span : ℕ) →
+    n < length before.held → n < length before.spans → b ≡ held n → span ≡ span_of net rows n → ActivitiesTo net rows held n before now →
+    ActivitiesTo net rows held (n + 1) before (record now { held = set now.held n b; spans = set now.spans n span })
+activities_next net rows held n before now b span below within is span_is h =
     record {
-      size = length-set now.held n b ∙ h.size;
-      each = one_more now.held false b held n (let size = h.size in omega arith) h.each is;
+      flags = length-set now.held n b ∙ h.flags;
+      as_many_spans = length-set now.spans n span ∙ h.as_many_spans;
+      held = one_more now.held false b held n (let size = h.flags in omega arith) h.held is;
+      spans = one_more now.spans 0 span (span_of net rows) n (let size = h.as_many_spans in omega arith) h.spans span_is;
       floors = h.floors;
-      spans = h.spans;
     }
 
 pub floors_none : (net : Net) (rows : RowsValue) (given : ConstraintsValue) → FloorsTo net rows 0 given given
@@ -62,20 +66,6 @@ floors_next net rows n before now floor below is h =
       spans = h.spans;
     }
 
-pub spans_none : (net : Net) (rows : RowsValue) (given : ConstraintsValue) → SpansTo net rows 0 given given
-spans_none net rows given = record { size = refl; each = λ a lt. absurd (omega arith); held = refl; floors = refl }
-
-pub spans_next : (net : Net) (rows : RowsValue) (n : ℕ) (before now : ConstraintsValue) (span : ℕ) → n < length before.spans →
-    span ≡ span_of net rows n → SpansTo net rows n before now →
-    SpansTo net rows (n + 1) before (record now { spans = set now.spans n span })
-spans_next net rows n before now span below is h =
-    record {
-      size = length-set now.spans n span ∙ h.size;
-      each = one_more now.spans 0 span (span_of net rows) n (let size = h.size in omega arith) h.each is;
-      held = h.held;
-      floors = h.floors;
-    }
-
 -- constraints that hold nothing are as long as the network's lists
 pub held_size : (net : Net) (given : ConstraintsValue) → given ≡ nothing_held net → length given.held ≡ length net.activities
 held_size net given is = ap (λ (g : ConstraintsValue). length g.held) is ∙ length-replicate (length net.activities) false
@@ -86,20 +76,20 @@ floors_size net given is = ap (λ (g : ConstraintsValue). length g.floors) is �
 pub spans_size : (net : Net) (given : ConstraintsValue) → given ≡ nothing_held net → length given.spans ≡ length net.activities
 spans_size net given is = ap (λ (g : ConstraintsValue). length g.spans) is ∙ length-replicate (length net.activities) 0
 
--- filled in one list after the other, they are the rows'
-pub filled : (net : Net) (rows : RowsValue) (held_to : ℕ → Bool) (empty holding floored given : ConstraintsValue) → empty ≡ nothing_held net →
-    HoldsTo held_to (length net.activities) empty holding → FloorsTo net rows (length net.events) holding floored →
-    SpansTo net rows (length net.activities) floored given → AreConstraintsHolding net rows held_to given
-filled net rows held_to empty holding floored given is held floors spans =
+-- filled in from the activities and then from the events, they are the rows'
+pub filled : (net : Net) (rows : RowsValue) (held_to : ℕ → Bool) (empty holding given : ConstraintsValue) → empty ≡ nothing_held net →
+    ActivitiesTo net rows held_to (length net.activities) empty holding → FloorsTo net rows (length net.events) holding given →
+    AreConstraintsHolding net rows held_to given
+filled net rows held_to empty holding given is activities floors =
     record {
       sized = record {
-        held = ap length (spans.held ∙ floors.held) ∙ held.size ∙ held_size net empty is;
-        floors = ap length spans.floors ∙ floors.size ∙ ap length held.floors ∙ floors_size net empty is;
-        spans = spans.size ∙ ap length (floors.spans ∙ held.spans) ∙ spans_size net empty is;
+        held = ap length floors.held ∙ activities.flags ∙ held_size net empty is;
+        floors = floors.size ∙ ap length activities.floors ∙ floors_size net empty is;
+        spans = ap length floors.spans ∙ activities.as_many_spans ∙ spans_size net empty is;
       };
-      held = λ a below. ap (λ flags. is_held flags a) (spans.held ∙ floors.held) ∙ held.each a below;
-      floors = λ i below. ap (λ xs. slice_index xs i) spans.floors ∙ floors.each i below;
-      spans = spans.each;
+      held = λ a below. ap (λ flags. is_held flags a) floors.held ∙ activities.held a below;
+      floors = floors.each;
+      spans = λ a below. ap (λ xs. slice_index xs a) floors.spans ∙ activities.spans a below;
     }
 
 -- the graph of the constraints is that of the rows

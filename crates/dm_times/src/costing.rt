@@ -6,8 +6,8 @@ ghost use Rattle.dm_rows.specs.Rows.{IsSized};
 ghost use Rattle.dm_rows.specs.Timetable.{IsLeast};
 ghost use Rattle.dm_rows.specs.Cost.{cost_of, cost_charging, event_cost, charged_weight, missed_weight, comes_too_early};
 
-use crate::charging::{Charging, DroppedChanges};
 use crate::filling::span_of;
+use crate::holding::{AsRowsSay, Charging};
 use dm_base::{ActKind, Cost, EventKind, Milli};
 use dm_network::Network;
 use dm_rows::Rows;
@@ -23,7 +23,7 @@ pub fn cost(net: &Network, rows: &Rows, times: &Times, penalty: u64) -> Cost
     ensures cost { result ≡ cost_of net.now rows.now times.now penalty }
     ensures limit { result < 2 ^ 100 }
 {
-    cost_charging(net, rows, &DroppedChanges { net, rows }, times, penalty)
+    cost_charging(net, rows, &AsRowsSay { net, rows }, times, penalty)
 }
 
 /// What a timetable costs where the penalty is charged for these activities, and for each change that its passed head has

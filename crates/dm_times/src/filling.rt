@@ -4,7 +4,7 @@ ghost use Rattle.dm_base.specs.declared.limits.TheConstants.{PASSED_TIME, BOUND,
 ghost use Rattle.dm_rows.specs.Rows.{IsSized};
 ghost use Rattle.dm_rows.specs.Timetable.{floor_of, span_of};
 ghost use Rattle.dm_times.specs.Constraints.{AreConstraintsHolding};
-ghost use Rattle.dm_times.specs.Inside.Filling.{HoldsTo, FloorsTo, SpansTo};
+ghost use Rattle.dm_times.specs.Inside.Filling.{ActivitiesTo, FloorsTo};
 
 use crate::holding::Holding;
 use dm_base::Secs;
@@ -26,20 +26,27 @@ pub fn constraints_holding<H: Holding>(
     ensures { IfOk result (AreConstraintsHolding net.now rows.now (H.held holding.now)) }
 {
     let mut constraints = Constraints::new(alloc, net)?;
-    hold_each(net, holding, &mut constraints);
+    set_activities(net, rows, holding, &mut constraints);
     set_floors(net, rows, &mut constraints);
-    set_spans(net, rows, &mut constraints);
     Ok(constraints)
 }
 
-/// Holds these activities.
-fn hold_each<H: Holding>(net: &Network, holding: &H, constraints: &mut Constraints)
+/// Holds these activities, and sets the span of each.
+fn set_activities<H: Holding>(
+    net: &Network,
+    rows: &Rows,
+    holding: &H,
+    constraints: &mut Constraints,
+)
+    requires sized { IsSized net.now rows.now }
     requires places { H.places holding.now ≡ length net.now.activities }
-    requires size { length constraints.old.held ≡ length net.now.activities }
-    ensures { HoldsTo (H.held holding.now) (length net.now.activities) constraints.old constraints.new }
+    requires flags { length constraints.old.held ≡ length net.now.activities }
+    requires spans { length constraints.old.spans ≡ length net.now.activities }
+    ensures { ActivitiesTo net.now rows.now (H.held holding.now) (length net.now.activities) constraints.old constraints.new }
 {
     for a in 0..net.activities() {
         constraints.hold(a, holding.is_held(a));
+        constraints.set_span(a, span_of(net, rows, a));
     }
 }
 
@@ -51,17 +58,6 @@ fn set_floors(net: &Network, rows: &Rows, constraints: &mut Constraints)
 {
     for i in 0..net.events() {
         constraints.set_floor(i, floor_of(net, rows, i));
-    }
-}
-
-/// Sets the span of each activity.
-fn set_spans(net: &Network, rows: &Rows, constraints: &mut Constraints)
-    requires sized { IsSized net.now rows.now }
-    requires size { length constraints.old.spans ≡ length net.now.activities }
-    ensures { SpansTo net.now rows.now (length net.now.activities) constraints.old constraints.new }
-{
-    for a in 0..net.activities() {
-        constraints.set_span(a, span_of(net, rows, a));
     }
 }
 

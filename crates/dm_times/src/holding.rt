@@ -1,8 +1,10 @@
-//! Which activities a timetable is held to.
+//! Which activities a timetable is held to, and which its cost charges for.
 ghost use Rattle.std.specs.Prelude.{◌≡◌, ◌<◌, length};
 ghost use Rattle.dm_rows.specs.Rows.{IsSized};
 ghost use Rattle.dm_rows.specs.Active.{is_active};
+ghost use Rattle.dm_rows.specs.Cost.{is_dropped_change};
 
+use dm_base::ActKind;
 use dm_network::Network;
 use dm_rows::{Rows, is_active};
 
@@ -22,23 +24,51 @@ pub trait Holding {
         ensures { result ≡ held self.now a };
 }
 
-/// The activities that are active under rows.
+/// And which of them a cost charges the penalty for.
+pub trait Charging: Holding {
+    ghost use Rattle.std.specs.Prelude.{ℕ, Bool};
+
+    /// Whether it charges for the activity at a place.
+    ghost charged: { Self → ℕ → Bool };
+
+    /// Whether the activity at this place is charged for.
+    fn is_charged(&self, a: usize) -> bool
+        requires { a < Self.places self.now }
+        ensures { result ≡ charged self.now a };
+}
+
+/// What rows say by themselves: the active activities are held, and the dropped changes whose head has not passed are charged
+/// for.
 #[derive(Clone, Copy)]
-pub struct ActiveActivities<'a> {
+pub struct AsRowsSay<'a> {
     pub net: &'a Network,
     pub rows: &'a Rows,
     ghost sized: { IsSized net.now rows.now },
 }
 
-impl Holding for ActiveActivities<'_> {
+impl Holding for AsRowsSay<'_> {
     ghost use Rattle.std.specs.Prelude.{length};
     ghost use Rattle.dm_rows.specs.Active.{is_active};
 
-    ghost places = { λ h. length h.net.now.activities };
+    ghost places = { λ d. length d.net.now.activities };
 
-    ghost held = { λ h. is_active h.net.now h.rows.now };
+    ghost held = { λ d. is_active d.net.now d.rows.now };
 
     fn is_held(&self, a: usize) -> bool {
         is_active(self.net, self.rows, a)
+    }
+}
+
+impl Charging for AsRowsSay<'_> {
+    ghost use Rattle.dm_rows.specs.Cost.{is_dropped_change};
+
+    ghost charged = { λ d. is_dropped_change d.net.now d.rows.now };
+
+    fn is_charged(&self, a: usize) -> bool {
+        self.net.sound();
+        let activity = self.net.activity(a);
+        matches!(activity.kind, ActKind::Change)
+            && !self.rows.kept(a)
+            && self.rows.passed(activity.head).is_none()
     }
 }

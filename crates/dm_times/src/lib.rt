@@ -14,16 +14,14 @@
 //! relaxed by a path can be met exactly where they have no cycle; a delay, a pass, a drop and a clock never make one.
 #![tactic(auto)]
 
-mod charging;
 mod costing;
 mod filling;
 mod holding;
 pub mod laws;
 mod scratch;
 
-pub use charging::Charging;
 pub use costing::{comes_too_early, cost, cost_charging};
 pub use dm_settle::{NoTimes, Times};
 pub use filling::{constraints_holding, floor_of, span_of};
-pub use holding::{ActiveActivities, Holding};
+pub use holding::{AsRowsSay, Charging, Holding};
 pub use scratch::{least, least_holding};

@@ -8,7 +8,7 @@ ghost use Rattle.dm_rows.specs.Laws.{EntersNoPassed};
 ghost use Rattle.dm_times.specs.Faults.{RefusesTimes, RefusesHolding};
 
 use crate::filling::constraints_holding;
-use crate::holding::{ActiveActivities, Holding};
+use crate::holding::{AsRowsSay, Holding};
 use dm_network::Network;
 use dm_rows::Rows;
 use dm_settle::{NoTimes, Times, least_times};
@@ -22,7 +22,7 @@ pub fn least(alloc: Global, net: &Network, rows: &Rows) -> Result<Times, NoTimes
     ensures no_cycle { OnOk result (HasNoCycle net.now rows.now) }
     ensures refused { IfErr result (RefusesTimes net.now rows.now) }
 {
-    least_holding(alloc, net, rows, &ActiveActivities { net, rows })
+    least_holding(alloc, net, rows, &AsRowsSay { net, rows })
 }
 
 /// The least timetable of the rows holding some activities, of which none enters a passed event, in time that is linear in

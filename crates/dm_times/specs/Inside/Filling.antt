@@ -6,12 +6,13 @@ use Rattle.dm_rows.specs.Rows.{RowsValue}
 use Rattle.dm_rows.specs.Timetable.{floor_of, span_of}
 use Rattle.dm_settle.specs.Constraints.{ConstraintsValue}
 
--- of the first n activities these are held, and all else is as before
-pub record HoldsTo (held_to : ℕ → Bool) (n : ℕ) (before after : ConstraintsValue) : Type 0 where
-  pub size : length after.held ≡ length before.held
-  pub each : (a : ℕ) → a < n → is_held after.held a ≡ held_to a
+-- of the first n activities these are held, and each has its span; all else is as before
+pub record ActivitiesTo (net : Net) (rows : RowsValue) (held_to : ℕ → Bool) (n : ℕ) (before after : ConstraintsValue) : Type 0 where
+  pub flags : length after.held ≡ length before.held
+  pub as_many_spans : length after.spans ≡ length before.spans
+  pub held : (a : ℕ) → a < n → is_held after.held a ≡ held_to a
+  pub spans : (a : ℕ) → a < n → slice_index after.spans a ≡ span_of net rows a
   pub floors : after.floors ≡ before.floors
-  pub spans : after.spans ≡ before.spans
 
 -- the first n events have their floors, and all else is as before
 pub record FloorsTo (net : Net) (rows : RowsValue) (n : ℕ) (before after : ConstraintsValue) : Type 0 where
@@ -19,10 +20,3 @@ pub record FloorsTo (net : Net) (rows : RowsValue) (n : ℕ) (before after : Con
   pub each : (i : ℕ) → i < n → slice_index after.floors i ≡ floor_of net rows i
   pub held : after.held ≡ before.held
   pub spans : after.spans ≡ before.spans
-
--- the first n activities have their spans, and all else is as before
-pub record SpansTo (net : Net) (rows : RowsValue) (n : ℕ) (before after : ConstraintsValue) : Type 0 where
-  pub size : length after.spans ≡ length before.spans
-  pub each : (a : ℕ) → a < n → slice_index after.spans a ≡ span_of net rows a
-  pub held : after.held ≡ before.held
-  pub floors : after.floors ≡ before.floors

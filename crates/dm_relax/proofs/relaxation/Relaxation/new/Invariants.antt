@@ -1,7 +1,7 @@
 use Rattle.std.proofs.Common.{length, take}
 use Rattle.dm_rows.specs.Relax.{is_undecided_change, is_undecided_pair}
 use Rattle.dm_paths.specs.Flags.{AreFlags}
-use Rattle.dm_relax.proofs.undecided.undecided_by.Given as goal
+use Rattle.dm_relax.proofs.relaxation.Relaxation.new.Given as goal
 
 abbrev pub invariant-loop-decision : goal.invariant-loop-decision
 invariant-loop-decision l =

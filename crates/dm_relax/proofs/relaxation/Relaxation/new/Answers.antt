@@ -3,7 +3,7 @@ use Rattle.dm_rows.specs.Relax.{is_undecided_change, is_undecided_pair}
 use Rattle.dm_paths.specs.Flags.{AreFlags}
 use Rattle.dm_paths.proofs.Decided.{room_for}
 use Rattle.dm_paths.proofs.Fronts.{next_changes, next_pairs}
-use Rattle.dm_relax.proofs.undecided.undecided_by.Goals as goal
+use Rattle.dm_relax.proofs.relaxation.Relaxation.new.Goals as goal
 
 pub flip_of-requires : goal.flip_of-requires
 flip_of-requires c = c.requires.list.free c.loop-decision.decision-index _ c.loop-decision-test.true
