@@ -45,8 +45,9 @@ module _ (n : ℕ) (order rank : List ℕ) (placed top : ℕ) (m : AreMarks n or
       omega arith
 
   -- how many events are not met, after an event got a rank that is a place
-  unmet_after : (e r : ℕ) → e < n → r < n → placed + count_by (λ r. r == n) (set rank e r) + one_at n (slice_index rank e) ≡ top
-  unmet_after e r lt is_place =
+  unmet_after : (e r before : ℕ) → e < n → r < n → one_at n (slice_index rank e) ≡ before →
+      placed + count_by (λ r. r == n) (set rank e r) + before ≡ top
+  unmet_after e r before lt is_place was =
       let c = m.rank_count in
       let count = count-set n rank e r (omega arith) in
       let now = one_at-other n r (omega arith) in
@@ -82,8 +83,7 @@ module _ (n : ℕ) (order rank : List ℕ) (placed top : ℕ) (m : AreMarks n or
         let rc = m.rank_count in
         let t = m.top_within in
         let r = room u lt unmet in
-        let was = one_at-same n (slice_index rank u) unmet in
-        let now = unmet_after u above lt (omega arith) in
+        let now = unmet_after u above 1 lt (omega arith) (one_at-same n (slice_index rank u) unmet) in
         record {
           order_count = length-set order above u ∙ m.order_count;
           rank_count = length-set rank u above ∙ m.rank_count;
@@ -223,8 +223,7 @@ module _ (n : ℕ) (order rank : List ℕ) (placed top : ℕ) (m : AreMarks n or
         let p = placed_below in
         let ve = v_is_event in
         let vr = v_rank in
-        let was = one_at-other n (slice_index rank v) (omega arith) in
-        let now = unmet_after v placed ve (omega arith) in
+        let now = unmet_after v placed 0 ve (omega arith) (one_at-other n (slice_index rank v) (omega arith)) in
         record {
           order_count = length-set order placed v ∙ m.order_count;
           rank_count = length-set rank v placed ∙ m.rank_count;
