@@ -17,7 +17,7 @@ use dm_graph::search::Cyclic;
 use dm_marks::Marks;
 use dm_network::Network;
 use dm_order::{Order, OrderFault};
-use dm_settle::{Constraints, Times, Unwatched, Watcher, settle_watched};
+use dm_settle::{Constraints, Times, Watcher, settle_watched};
 use std::alloc::Global;
 use std::marker::Model;
 use std::sync::ledger::Ledger;
@@ -58,7 +58,7 @@ impl Model for LiveTimetable {
 
 impl LiveTimetable {
     /// The timetable of these constraints, with the room of an order of the same network, which may hold other activities:
-    /// those that go forward in it cost a look each. Every event is marked: [`LiveTimetable::settle`] computes the times.
+    /// those that go forward in it cost a look each. Every event is marked: [`LiveTimetable::settle_watched`] computes the times.
     ///
     /// [`OrderFault::Cyclic`] comes exactly where the activities that the constraints hold have a cycle, unless memory is
     /// short: then [`OrderFault::OutOfMemory`].
@@ -93,20 +93,8 @@ impl LiveTimetable {
     }
 
     /// Computes the marked events anew, and goes on along the held activities out of every event whose time changes. What
-    /// comes out is the least timetable of the constraints, and no mark is left.
-    pub fn settle<L: Ledger>(&mut self, net: &Network, steps: &mut Steps<L>)
-        requires { IsLive net.now self.old }
-        ensures least { AreLeast (graph_given net.now self.new.given) self.new.times }
-        ensures early { AreEarly self.new.times }
-        ensures live { IsLive net.now self.new }
-        ensures at_rest { IsAtRest self.new }
-        ensures unchanged { self.new ≡ record self.old { times = self.new.times; marks = self.new.marks } }
-        ensures few_reads { ReadsFew (arcs_given net.now self.old.given) self.old self.new steps.old steps.new }
-    {
-        self.settle_watched(net, &mut Unwatched, &mut Unwatched, steps);
-    }
-
-    /// The same, with two watchers that are told of each time that changes.
+    /// comes out is the least timetable of the constraints, and no mark is left. Two watchers are told of each time that
+    /// changes.
     pub fn settle_watched<L: Ledger, W: Watcher, V: Watcher>(
         &mut self,
         net: &Network,

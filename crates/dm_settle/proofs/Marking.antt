@@ -1,5 +1,5 @@
 -- Marks at the heads of the activities out of an event, set along its row. A mark has the place that its event is given.
-use Rattle.std.proofs.Common.{◌≡◌, ℕ, ◌+◌, ◌<◌, Bool, true, false, IsTrue, List, length, sym, ap, subst, ◌∙◌, inl, inr, arith, slice_index, length-set}
+use Rattle.std.proofs.Common.{◌≡◌, ℕ, ◌+◌, ◌<◌, Bool, true, false, IsTrue, List, length, sym, subst, ◌∙◌, inl, inr, arith, slice_index, length-set}
 use Rattle.std.specs.Prelude.{slice_set}
 use Rattle.std.proofs.lemmas.Bool.{cases_lt}
 use Rattle.dm_network.specs.Net.{Net, activity_at, places_out_of, EndsAreKnown}

@@ -1,5 +1,5 @@
 //! The least timetable from scratch.
-ghost use Rattle.std.specs.Prelude.{ℕ, ◌≡◌, ◌<◌, length, slice_index, IfOk, IfErr, OnOk};
+ghost use Rattle.std.specs.Prelude.{ℕ, ◌≡◌, ◌<◌, true, length, replicate, slice_index, IfOk, IfErr, OnOk};
 ghost use Rattle.dm_graph.specs.Arcs.{IsOrder};
 ghost use Rattle.dm_graph.specs.Arrays.{AreRanks};
 ghost use Rattle.dm_network.specs.Held.{is_held, ids_of, HasNoCycleOf};
@@ -8,8 +8,9 @@ ghost use Rattle.dm_settle.specs.Settling.{AreLeast, AreEarly};
 
 use crate::constraints::Constraints;
 use crate::faults::NoTimes;
-use crate::sweep::settle;
+use crate::sweep::settle_watched;
 use crate::times::Times;
+use crate::watching::Unwatched;
 use dm_base::{ActId, Items, Steps};
 use dm_graph::search::{Cyclic, Search};
 use dm_marks::Marks;
@@ -32,39 +33,53 @@ pub fn least_times(
     ensures no_cycle { OnOk result (HasNoCycleOf net.now (is_held constraints.now.held)) }
     ensures refused { IfErr result (RefusesTimes net.now constraints.now) }
 {
-    least_times_with::<Brand>(alloc, net, constraints, Blank::new(1))
-}
-
-/// The same, for a ledger that nothing reads.
-fn least_times_with<L: Ledger>(
-    alloc: Global,
-    net: &Network,
-    constraints: &Constraints,
-    blank: Blank,
-) -> Result<Times, NoTimes>
-    requires sized { IsSizedFor net.now constraints.now }
-    requires name { blank.name ≡ L.name }
-    requires parts { blank.parts ≡ L.parts }
-    requires has_a_part { 0 < blank.parts }
-    ensures least { IfOk result (λ times. AreLeast (graph_given net.now constraints.now) times) }
-    ensures early { IfOk result (λ times. AreEarly times) }
-    ensures no_cycle { OnOk result (HasNoCycleOf net.now (is_held constraints.now.held)) }
-    ensures refused { IfErr result (RefusesTimes net.now constraints.now) }
-{
-    let mut steps = Steps::<L>::new(blank);
     let search = search_order(alloc, net, constraints)?;
     let mut times = Times::room(alloc, net)?;
     let mut marks = Marks::all(alloc, net.events())?;
-    settle(
+    // Nothing reads the ledger.
+    settle_all::<Brand>(
         &mut marks,
+        net,
+        constraints,
+        &search,
+        &mut times,
+        Blank::new(1),
+    );
+    Ok(times)
+}
+
+/// Computes every time, along the order that a search has found.
+fn settle_all<L: Ledger>(
+    marks: &mut Marks,
+    net: &Network,
+    constraints: &Constraints,
+    search: &Search,
+    times: &mut Times,
+    blank: Blank,
+)
+    requires sized { IsSizedFor net.now constraints.now }
+    requires order { IsOrder (arcs_given net.now constraints.now) search.now.order }
+    requires ranks { AreRanks (length net.now.events) search.now.order search.now.ranks }
+    requires all { marks.old ≡ replicate (length net.now.events) true }
+    requires as_many { length times.old ≡ length net.now.events }
+    requires name { blank.name ≡ L.name }
+    requires parts { blank.parts ≡ L.parts }
+    requires has_a_part { 0 < blank.parts }
+    ensures least { AreLeast (graph_given net.now constraints.now) times.new }
+    ensures early { AreEarly times.new }
+{
+    let mut steps = Steps::<L>::new(blank);
+    settle_watched(
+        marks,
         net,
         constraints,
         search.order(),
         search.ranks(),
-        &mut times,
+        times,
+        &mut Unwatched,
+        &mut Unwatched,
         &mut steps,
     );
-    Ok(times)
 }
 
 /// A search that has found an order of the held activities, or a cycle of them.
@@ -81,8 +96,8 @@ fn search_order(alloc: Global, net: &Network, constraints: &Constraints) -> Resu
     }
 }
 
-/// The ids of activities.
-fn ids_of(alloc: Global, net: &Network, places: &[usize]) -> Result<Items<ActId>, AllocError>
+/// The ids of the activities at these places.
+pub fn ids_of(alloc: Global, net: &Network, places: &[usize]) -> Result<Items<ActId>, AllocError>
     requires { (k : ℕ) → k < length places.now → slice_index places.now k < length net.now.activities }
     ensures { IfOk result (λ ids. ids ≡ ids_of net.now places.now) }
 {

@@ -11,7 +11,7 @@ use crate::constraints::Constraints;
 use crate::moving::Move;
 use crate::time::time_of;
 use crate::times::Times;
-use crate::watching::{Unwatched, Watcher};
+use crate::watching::Watcher;
 use dm_base::Steps;
 use dm_marks::Marks;
 use dm_network::Network;
@@ -21,42 +21,8 @@ use std::sync::ledger::Ledger;
 /// has changed. What comes out is the least timetable of the constraints, and no mark is left.
 ///
 /// Every event that is not marked has its time already. Each held activity goes forward in the order if it leaves an
-/// event that is marked or that a held activity enters; the others leave events whose times stay. It takes no memory.
-pub fn settle<L: Ledger>(
-    marks: &mut Marks,
-    net: &Network,
-    constraints: &Constraints,
-    order: &[usize],
-    ranks: &[usize],
-    times: &mut Times,
-    steps: &mut Steps<L>,
-)
-    requires sized { IsSizedFor net.now constraints.now }
-    requires ranks { AreRanks (length net.now.events) order.now ranks.now }
-    requires forward { GoesForward (arcs_given net.now constraints.now) ranks.now marks.old }
-    requires marks { MarksUnsettled (graph_given net.now constraints.now) ranks.now marks.old times.old }
-    ensures least { AreLeast (graph_given net.now constraints.now) times.new }
-    ensures early { AreEarly times.new }
-    ensures room { length marks.new ≡ length marks.old }
-    ensures none_left { NoneFrom marks.new 0 }
-    ensures few_reads { ReadsFew (arcs_given net.now constraints.now) ranks.now
-        (record { marks = marks.old; times = times.old; steps = steps.old })
-        (record { marks = marks.new; times = times.new; steps = steps.new }) }
-{
-    settle_watched(
-        marks,
-        net,
-        constraints,
-        order,
-        ranks,
-        times,
-        &mut Unwatched,
-        &mut Unwatched,
-        steps,
-    );
-}
-
-/// The same, with two watchers that are told of each time that changes.
+/// event that is marked or that a held activity enters; the others leave events whose times stay. Two watchers are told of each
+/// time that changes. It takes no memory.
 pub fn settle_watched<L: Ledger, W: Watcher, V: Watcher>(
     marks: &mut Marks,
     net: &Network,
@@ -156,6 +122,7 @@ fn renew<L: Ledger, W: Watcher, V: Watcher>(
 }
 
 /// Marks the heads of the held activities out of an event, whose row this is.
+#[tactic(auto, using(crate::proofs::Held::out_may_be_held))]
 fn mark_heads(
     marks: &mut Marks,
     net: &Network,

@@ -2,15 +2,10 @@ use Rattle.std.proofs.Common.{sym, ◌∙◌, arith, subst, ◌+◌, Bool, List,
 use Rattle.dm_network.specs.Held.{is_held}
 use Rattle.dm_settle.specs.Constraints.{arcs_given}
 use Rattle.dm_settle.specs.Inside.Sweep.{HasMarked}
-use Rattle.dm_settle.proofs.Held.{out_may_be_held}
 use Rattle.dm_settle.proofs.Marking.{marked_with, marked_without, marked_whole}
 use Rattle.dm_network.proofs.EventRows.{leads_out}
 use Rattle.dm_settle.proofs.sweep.mark_heads.Goals as goal
 use Rattle.dm_settle.proofs.sweep.mark_heads.Goals.{then-is_held, else-is_held}
-
-pub is_held-requires : goal.is_held-requires
-is_held-requires c =
-    out_may_be_held c.args.net.now c.args.constraints.now c.requires.sized c.args.event c.loop-a.a-index c.args.out_of.now c.requires.row (omega arith)
 
 pub mark_head-requires-clause-is_activity : goal.mark_head-requires-clause-is_activity
 mark_head-requires-clause-is_activity c =
