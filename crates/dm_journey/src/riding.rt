@@ -2,7 +2,7 @@
 ghost use Rattle.std.specs.Prelude.{◌≡◌, ◌<◌, length, map, IfOk};
 ghost use Rattle.std.specs.List.{range_with_len};
 ghost use Rattle.dm_rows.specs.Rows.{IsSized};
-ghost use Rattle.dm_journey.specs.Walks.{is_caught, is_usable};
+ghost use Rattle.dm_journey.specs.Walks.{is_usable};
 
 use dm_base::ActKind;
 use dm_network::Network;
@@ -29,7 +29,8 @@ pub fn usable_activities(
 }
 
 /// Whether the activity at a place is usable: a drive, a wait or a change whose head is not before its tail and, if it is a
-/// change, one that is caught.
+/// change, one that is caught: its head is at least its lower bound and delay after its tail, and it is kept or its head has
+/// passed.
 fn is_usable(net: &Network, rows: &Rows, times: &Times, a: usize) -> bool
     requires sized { IsSized net.now rows.now }
     requires as_many { length times.now ≡ length net.now.events }
@@ -43,21 +44,11 @@ fn is_usable(net: &Network, rows: &Rows, times: &Times, a: usize) -> bool
     }
     match activity.kind {
         ActKind::Drive | ActKind::Wait => true,
-        ActKind::Change => is_caught(net, rows, times, a),
+        ActKind::Change => {
+            let ready = times.time(activity.tail) + span_of(net, rows, a);
+            ready <= times.time(activity.head)
+                && (rows.kept(a) || rows.passed(activity.head).is_some())
+        }
         ActKind::Turnaround | ActKind::Headway => false,
     }
-}
-
-/// Whether the change at a place is caught: its head is at least its lower bound and delay after its tail, and it is kept or
-/// its head has passed.
-fn is_caught(net: &Network, rows: &Rows, times: &Times, a: usize) -> bool
-    requires sized { IsSized net.now rows.now }
-    requires as_many { length times.now ≡ length net.now.events }
-    requires is_activity { a < length net.now.activities }
-    ensures { result ≡ is_caught net.now rows.now times.now a }
-{
-    net.sound();
-    let activity = net.activity(a);
-    let ready = times.time(activity.tail) + span_of(net, rows, a);
-    ready <= times.time(activity.head) && (rows.kept(a) || rows.passed(activity.head).is_some())
 }
