@@ -1,14 +1,13 @@
 -- What every printer rests on: how the texts of its parts make the text of the whole.
-use Rattle.std.proofs.Common.{◌≡◌, ℕ, ◌+◌, ◌<◌, ◌≤◌, List, [], ◌∷◌, ◌++◌, length, take, drop, Option, Result, Ok, Err, refl, sym, ap, ◌∙◌, append_assoc, append-nil, get_or, suc, arith, inl, inr, length-append, subst, take-append-drop, ◌-◌, map}
+use Rattle.std.proofs.Common.{◌≡◌, ℕ, ◌+◌, ◌<◌, ◌≤◌, List, [], ◌∷◌, ◌++◌, length, take, drop, Option, Result, Ok, Err, refl, sym, ap, ◌∙◌, append_assoc, append-nil, get_or, suc, arith, inl, inr, length-append, subst, take-append-drop, ◌-◌}
 use Rattle.std.proofs.lemmas.List.{length-drop, take_all, take_more}
 use Rattle.std.proofs.Math.Seq.{drop-cons}
 use Rattle.std.proofs.lemmas.Grind.{flat_map-append}
-use Rattle.std.specs.Fmt.{decimal}
 use Rattle.std.specs.List.{flat_map}
 use Rattle.std.specs.Io.KnownBytes.{Appends, Keeps}
 use Rattle.std.proofs.KnownBytes.{Appends-nil, Appends-trans, Appends-kept}
 use Rattle.dm_outside.specs.Faults.{HasRisen}
-use Rattle.dm_outside.specs.Printing.{field_text, fields_texts, joined, TakesAll, TakesFront, Puts, Gathers, Breaks, Prints}
+use Rattle.dm_outside.specs.Printing.{TakesAll, TakesFront, Puts, Gathers, Breaks, Prints}
 
 -- a count that rose later has risen since before
 pub risen_since : (a b c : ℕ) → a ≤ b → HasRisen b c → HasRisen a c
@@ -45,11 +44,6 @@ texts_at f xs i x d lt is =
     ∙ (flat_map-append f (take i xs) (drop i xs)
     ∙ (ap (λ l. flat_map f (take i xs) ++ flat_map f l) (drop-cons xs i d lt)
     ∙ ap (λ y. flat_map f (take i xs) ++ (f y ++ flat_map f (drop (suc i) xs))) (sym is)))
-
--- the fields one after another, and then the end
-pub fields_are : {X : Type 0} (f : X → List ℕ × ℕ) (xs : List X) (end : List ℕ) → flat_map (λ x. field_text (f x)) xs ++ end ≡ joined (fields_texts (map f xs) end)
-fields_are f [] end = sym (append-nil end)
-fields_are f (x ∷ xs) end = simp (append_assoc, append-nil) (ap (λ l. (f x).0 ++ (decimal (f x).1 ++ l)) (fields_are f xs end))
 
 module _ {K : Type 0} {taken : K → Option (List ℕ)} {faults : K → ℕ} where
   -- nothing was put

@@ -24,15 +24,6 @@ piece_text (Number number) = decimal number
 abbrev pub pieces_text : List Piece → List ℕ
 pieces_text pieces = flat_map piece_text pieces
 
--- the bytes of a field: its words, and its number behind them
-abbrev pub field_text : List ℕ × ℕ → List ℕ
-field_text field = joined (field.0 ∷ decimal field.1 ∷ [])
-
--- the words and the numbers of fields, one after another, and then the end
-abbrev pub fields_texts : List (List ℕ × ℕ) → List ℕ → List (List ℕ)
-fields_texts [] end = end ∷ []
-fields_texts (field ∷ fields) end = field.0 ∷ decimal field.1 ∷ fields_texts fields end
-
 -- the sink took the whole text
 pub record TakesAll {K : Type 0} (taken : K → Option (List ℕ)) (faults : K → ℕ) (before now : K) (text : List ℕ) : Type 0 where
   pub appended : Appends (taken before) (taken now) text

@@ -1,8 +1,7 @@
 //! Pieces of text, and the page that gathers them.
-ghost use Rattle.std.specs.Prelude.{◌≡◌, ◌+◌, ◌≤◌, List, [], ◌∷◌, ◌++◌, codes, length, map, take, OnOk};
+ghost use Rattle.std.specs.Prelude.{◌≡◌, ◌+◌, ◌≤◌, List, [], ◌∷◌, ◌++◌, codes, length, take, OnOk};
 ghost use Rattle.std.specs.Fmt.{decimal};
-ghost use Rattle.std.specs.List.{flat_map};
-ghost use Rattle.dm_outside.specs.Printing.{Puts, Prints, field_text, fields_texts, joined, pieces_text, piece_text};
+ghost use Rattle.dm_outside.specs.Printing.{Puts, Prints, joined, pieces_text, piece_text};
 
 use crate::{Sink, WriteFault, put_all};
 use itoa::Buffer;
@@ -166,40 +165,6 @@ impl Page {
             Piece::Number(pair.1),
         ];
         self.put(sink, &pieces)
-    }
-
-    /// Prints the words and the numbers of all fields, one after another.
-    fn put_each_field<K: Sink>(
-        &mut self,
-        sink: &mut K,
-        fields: &[(&str, u128)],
-    ) -> Result<(), WriteFault>
-        ensures { Prints K.taken K.faults sink.old sink.new self.old self.new result
-            (flat_map (λ field. field_text (field.0.now, field.1)) fields.now) }
-    {
-        for field in fields {
-            let Ok(()) = self.put_number(sink, field.0, field.1) else {
-                return Err(WriteFault);
-            };
-        }
-        Ok(())
-    }
-
-    /// Prints fields, of which each is words and a number behind them, and then the end, behind all
-    /// that was printed before. A write fault comes only where a write failed.
-    pub fn put_fields<K: Sink>(
-        &mut self,
-        sink: &mut K,
-        fields: &[(&str, u128)],
-        end: &str,
-    ) -> Result<(), WriteFault>
-        ensures { Prints K.taken K.faults sink.old sink.new self.old self.new result
-            (joined (fields_texts (map (λ field. (field.0.now, field.1)) fields.now) end.now)) }
-    {
-        let Ok(()) = self.put_each_field(sink, fields) else {
-            return Err(WriteFault);
-        };
-        self.put_piece(sink, Piece::Text(end))
     }
 
     /// Hands the rest of the text to the sink: the end of a text. A write fault comes only where a
