@@ -4,7 +4,9 @@ use Rattle.std.specs.List.{flat_map, range_with_len}
 use Rattle.std.proofs.Math.Seq.{drop-cons}
 use Rattle.std.specs.Prelude.{codes, Result, Ok, Err}
 use Rattle.dm_cert.specs.RunTexts.{Run, entries_text, logs_text, note_text, timetable_text, header_text, boards_text, heading_text, ending_text, run_text}
+use Rattle.std.specs.Fmt.{decimal}
 use Rattle.dm_outside.specs.Printing.{joined, Gathers, Breaks, Prints}
+use Rattle.dm_report.specs.Printed.{labelled}
 use Rattle.dm_outside.proofs.Printing.{prints_none, prints_then, prints_then_fault, prints_fault_at}
 
 -- a front of the whole is printed, and this is still to come
@@ -41,6 +43,17 @@ module _ {K : Type 0} {taken : K → Option (List ℕ)} {faults : K → ℕ} whe
   pub prints_last_as : {E : Type 0} {a b : K} {p q x : List ℕ} (c : K) (r y z : List ℕ) (result : Result (Unit {0}) E) → z ≡ x ++ y → Gathers taken faults a b p q x → Prints taken faults b c q r result y → Prints taken faults a c p r result z
   prints_last_as {E} {a} {b} {p} {q} {x} c r y z (Ok v) e f g = subst (Gathers taken faults a c p r) (sym e) (prints_then f g)
   prints_last_as {E} {a} {b} {p} {q} {x} c r y z (Err v) e f g = subst (Breaks taken faults a c p) (sym e) (prints_then_fault f g)
+
+-- ---- numbers behind their words
+
+-- the words and the number of one
+abbrev pub with_label : {X : Type 0} → (X → List ℕ) → (X → ℕ) → X → List ℕ
+with_label words number one = joined (words one ∷ decimal (number one) ∷ [])
+
+pub labelled_is : {X : Type 0} (words : X → List ℕ) (number : X → ℕ) (xs : List X) (last : List ℕ) →
+    labelled words number xs last ≡ flat_map (with_label words number) xs ++ last
+labelled_is words number [] last = refl
+labelled_is words number (x ∷ xs) last = rw (labelled_is words number xs last) (simp (append_assoc, append-nil))
 
 -- ---- how parts make a whole
 

@@ -4,14 +4,14 @@ ghost use Rattle.std.specs.Fmt.{decimal};
 ghost use Rattle.std.specs.List.{flat_map};
 ghost use Rattle.dm_outside.specs.Printing.{Prints, joined};
 ghost use Rattle.dm_cert.specs.PlanTexts.{line_end, spelling_of_plan};
-ghost use Rattle.dm_cert.specs.RunTexts.{spaced_id, reason_text, reply_text, item_text, feed_text, stop_text, log_text, logs_text, IsSpelledReason, IsSpelledReply, IsSpelledItem, IsSpelledLog};
+ghost use Rattle.dm_cert.specs.RunTexts.{spaced_id, reason_text, reply_text, item_text, stop_text, log_text, logs_text, IsSpelledReason, IsSpelledReply, IsSpelledItem, IsSpelledLog};
 
-use crate::words::{put_number, put_numbers};
+use crate::words::{put_labelled, put_number};
 use dm_base::ActId;
 use dm_cert::{FeedLog, LogItem, Reply, put_plan};
-use dm_feed::{FeedStop, Line, put_line};
+use dm_feed::{FeedStop, put_line};
 use dm_outside::{Page, Piece, Sink, WriteFault};
-use dm_rows::Refusal;
+use dm_rows::{At, Refusal};
 use dm_tree::Plan;
 
 /// Prints an activity's id with a space in front.
@@ -75,20 +75,15 @@ fn put_reason<K: Sink>(sink: &mut K, page: &mut Page, why: &Refusal) -> Result<(
 }
 
 /// Prints a refusal and its line end.
-fn put_refusal<K: Sink>(
-    sink: &mut K,
-    page: &mut Page,
-    entry: u32,
-    why: &Refusal,
-) -> Result<(), WriteFault>
-    requires { IsSpelledReason why.now }
+fn put_refusal<K: Sink>(sink: &mut K, page: &mut Page, at: &At<Refusal>) -> Result<(), WriteFault>
+    requires { IsSpelledReason at.now.why }
     ensures { Prints K.taken K.faults sink.old sink.new page.old page.new result
-        (joined (decimal entry ∷ codes " refused " ∷ reason_text why.now ∷ line_end ∷ [])) }
+        (joined (decimal at.now.entry ∷ codes " refused " ∷ reason_text at.now.why ∷ line_end ∷ [])) }
 {
-    let Ok(()) = put_number(sink, page, "", entry as u128, " refused ") else {
+    let Ok(()) = put_number(sink, page, "", at.entry as u128, " refused ") else {
         return Err(WriteFault);
     };
-    let Ok(()) = put_reason(sink, page, why) else {
+    let Ok(()) = put_reason(sink, page, &at.why) else {
         return Err(WriteFault);
     };
     page.put_bytes(sink, b"\n")
@@ -113,9 +108,15 @@ fn put_reply<K: Sink>(sink: &mut K, page: &mut Page, reply: &Reply) -> Result<()
 {
     match reply {
         Reply::Ok(n) => put_number(sink, page, "", *n as u128, " ok\n"),
-        Reply::Refused(at) => put_refusal(sink, page, at.entry, &at.why),
-        Reply::Time(n, time) => put_numbers(sink, page, *n as u128, " time ", *time as u128, "\n"),
-        Reply::Cost(n, cost) => put_numbers(sink, page, *n as u128, " cost ", *cost, "\n"),
+        Reply::Refused(at) => put_refusal(sink, page, at),
+        Reply::Time(n, time) => {
+            let numbers = [("", *n as u128), (" time ", *time as u128)];
+            put_labelled(sink, page, &numbers, "\n")
+        }
+        Reply::Cost(n, cost) => {
+            let numbers = [("", *n as u128), (" cost ", *cost)];
+            put_labelled(sink, page, &numbers, "\n")
+        }
         Reply::Read(n) => put_number(sink, page, "", *n as u128, " read\n"),
         Reply::Planned(plan) => put_planned(sink, page, plan),
         Reply::Old(n) => put_number(sink, page, "", *n as u128, " old\n"),
@@ -123,30 +124,6 @@ fn put_reply<K: Sink>(sink: &mut K, page: &mut Page, reply: &Reply) -> Result<()
         Reply::Plans => page.put_bytes(sink, b"plans\n"),
         Reply::Range(nodes) => put_number(sink, page, "range ", *nodes as u128, "\n"),
     }
-}
-
-/// Prints a line and its answer.
-#[tactic(auto, unfolding(dm_cert::specs::RunTexts::item_text))]
-fn put_answer<K: Sink>(
-    sink: &mut K,
-    page: &mut Page,
-    line: u32,
-    said: &Line,
-    reply: &Reply,
-) -> Result<(), WriteFault>
-    requires { IsSpelledItem (LogItem.Answered line said.now reply.now) }
-    ensures { Prints K.taken K.faults sink.old sink.new page.old page.new result (item_text 2 (LogItem.Answered line said.now reply.now)) }
-{
-    let Ok(()) = put_number(sink, page, "", line as u128, " ") else {
-        return Err(WriteFault);
-    };
-    let Ok(()) = put_line(sink, page, said) else {
-        return Err(WriteFault);
-    };
-    let Ok(()) = page.put_bytes(sink, b" -> ") else {
-        return Err(WriteFault);
-    };
-    put_reply(sink, page, reply)
 }
 
 /// Prints an item of a log.
@@ -157,7 +134,18 @@ fn put_item<K: Sink>(sink: &mut K, page: &mut Page, item: &LogItem) -> Result<()
 {
     match item {
         LogItem::Malformed { line } => put_number(sink, page, "", *line as u128, " malformed\n"),
-        LogItem::Answered { line, said, reply } => put_answer(sink, page, *line, said, reply),
+        LogItem::Answered { line, said, reply } => {
+            let Ok(()) = put_number(sink, page, "", *line as u128, " ") else {
+                return Err(WriteFault);
+            };
+            let Ok(()) = put_line(sink, page, said) else {
+                return Err(WriteFault);
+            };
+            let Ok(()) = page.put_bytes(sink, b" -> ") else {
+                return Err(WriteFault);
+            };
+            put_reply(sink, page, reply)
+        }
     }
 }
 
@@ -172,26 +160,6 @@ fn put_items<K: Sink>(sink: &mut K, page: &mut Page, items: &[LogItem]) -> Resul
         };
     }
     Ok(())
-}
-
-/// Prints the number of a feed and of its items.
-#[tactic(auto, unfolding(dm_cert::specs::RunTexts::feed_text))]
-fn put_feed<K: Sink>(
-    sink: &mut K,
-    page: &mut Page,
-    number: usize,
-    items: usize,
-) -> Result<(), WriteFault>
-    ensures { Prints K.taken K.faults sink.old sink.new page.old page.new result (feed_text number items) }
-{
-    let pieces = [
-        Piece::Text("feed "),
-        Piece::Number(number as u128),
-        Piece::Text(" "),
-        Piece::Number(items as u128),
-        Piece::Text("\n"),
-    ];
-    page.put(sink, &pieces)
 }
 
 /// Prints why a feed was read no further.
@@ -217,7 +185,8 @@ fn put_log<K: Sink>(
     ensures { Prints K.taken K.faults sink.old sink.new page.old page.new result (log_text 2 number log.now) }
 {
     let items = log.items.as_slice();
-    let Ok(()) = put_feed(sink, page, number, items.len()) else {
+    let numbers = [("feed ", number as u128), (" ", items.len() as u128)];
+    let Ok(()) = put_labelled(sink, page, &numbers, "\n") else {
         return Err(WriteFault);
     };
     let Ok(()) = put_items(sink, page, items) else {

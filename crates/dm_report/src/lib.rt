@@ -11,7 +11,8 @@
 //! `print_run`: exactly the run's spelling in version 2, or a proper front of it where a write failed. Its condition is
 //! that the run has a spelling. `Run::fits` reads all numbers of a run and so gives that each is one of its type
 //! (`FitsRun`). `write_timetable`: exactly the lines `id; time` of all events in ascending id. `write_summary`: exactly the
-//! seven lines of a generated day. `put_ids`: exactly the ids, each behind a space. None takes memory. `dispatch` calls
+//! seven lines of a generated day. `put_ids`: exactly the ids, each behind a space. `put_labelled`: exactly the numbers, each behind
+//! its words, and the last text. None takes memory. `dispatch` calls
 //! `write_timetable` for the command `follow`.
 #![tactic(auto)]
 
@@ -25,3 +26,4 @@ mod words;
 pub use answers::put_ids;
 pub use runs::{Run, print_run, write_timetable};
 pub use summaries::{Summary, write_summary};
+pub use words::put_labelled;

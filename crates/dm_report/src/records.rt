@@ -4,12 +4,12 @@ ghost use Rattle.std.specs.List.{flat_map};
 ghost use Rattle.dm_outside.specs.Printing.{Prints};
 ghost use Rattle.dm_cert.specs.RunTexts.{entry_text, entries_text, note_text, time_text, timetable_text, header_text, boards_text, heading_text, ending_text};
 
-use crate::words::{put_number, put_numbers};
+use crate::words::{put_labelled, put_number};
 use dm_base::Cost;
 use dm_cert::Note;
 use dm_feed::put_message;
 use dm_network::Network;
-use dm_outside::{Page, Piece, Sink, WriteFault};
+use dm_outside::{Page, Sink, WriteFault};
 use dm_rows::Entry;
 use dm_times::Times;
 
@@ -24,18 +24,13 @@ pub fn put_header<K: Sink>(
 ) -> Result<(), WriteFault>
     ensures { Prints K.taken K.faults sink.old sink.new page.old page.new result (header_text 2 penalty feeds entries) }
 {
-    let pieces = [
-        Piece::Text("dm-run "),
-        Piece::Number(2),
-        Piece::Text("\npenalty "),
-        Piece::Number(penalty as u128),
-        Piece::Text("\nfeeds "),
-        Piece::Number(feeds as u128),
-        Piece::Text("\nentries "),
-        Piece::Number(entries as u128),
-        Piece::Text("\n"),
+    let numbers = [
+        ("dm-run ", 2),
+        ("\npenalty ", penalty as u128),
+        ("\nfeeds ", feeds as u128),
+        ("\nentries ", entries as u128),
     ];
-    page.put(sink, &pieces)
+    put_labelled(sink, page, &numbers, "\n")
 }
 
 /// Prints an entry.
@@ -47,16 +42,12 @@ fn put_entry<K: Sink>(
 ) -> Result<(), WriteFault>
     ensures { Prints K.taken K.faults sink.old sink.new page.old page.new result (entry_text number entry.now) }
 {
-    let pieces = [
-        Piece::Text("entry "),
-        Piece::Number(number as u128),
-        Piece::Text(" feed "),
-        Piece::Number(entry.feed as u128),
-        Piece::Text(" line "),
-        Piece::Number(entry.line as u128),
-        Piece::Text(" "),
+    let numbers = [
+        ("entry ", number as u128),
+        (" feed ", entry.feed as u128),
+        (" line ", entry.line as u128),
     ];
-    let Ok(()) = page.put(sink, &pieces) else {
+    let Ok(()) = put_labelled(sink, page, &numbers, " ") else {
         return Err(WriteFault);
     };
     let Ok(()) = put_message(sink, page, &entry.message) else {
@@ -86,16 +77,12 @@ pub fn put_entries<K: Sink>(
 fn put_note<K: Sink>(sink: &mut K, page: &mut Page, note: Note) -> Result<(), WriteFault>
     ensures { Prints K.taken K.faults sink.old sink.new page.old page.new result (note_text note) }
 {
-    let pieces = [
-        Piece::Text("board "),
-        Piece::Number(note.board as u128),
-        Piece::Text(" stop "),
-        Piece::Number(note.stop as u128),
-        Piece::Text(" dropped "),
-        Piece::Number(note.entry as u128),
-        Piece::Text("\n"),
+    let numbers = [
+        ("board ", note.board as u128),
+        (" stop ", note.stop as u128),
+        (" dropped ", note.entry as u128),
     ];
-    page.put(sink, &pieces)
+    put_labelled(sink, page, &numbers, "\n")
 }
 
 /// Prints the dropped boards.
@@ -139,14 +126,11 @@ fn put_time<K: Sink>(
     requires has_time { i < length times.now }
     ensures { Prints K.taken K.faults sink.old sink.new page.old page.new result (time_text net.now times.now i) }
 {
-    put_numbers(
-        sink,
-        page,
-        net.event(i).id.0 as u128,
-        "; ",
-        times.time(i) as u128,
-        "\n",
-    )
+    let numbers = [
+        ("", net.event(i).id.0 as u128),
+        ("; ", times.time(i) as u128),
+    ];
+    put_labelled(sink, page, &numbers, "\n")
 }
 
 /// Prints the times of all events.

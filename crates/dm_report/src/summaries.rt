@@ -3,8 +3,9 @@ ghost use Rattle.std.specs.Prelude.{◌≡◌};
 ghost use Rattle.dm_outside.specs.Printing.{Prints, Puts};
 ghost use Rattle.dm_report.specs.Summaries.{summary_text};
 
+use crate::words::put_labelled;
 use dm_base::Cost;
-use dm_outside::{Page, Piece, Sink, WriteFault};
+use dm_outside::{Page, Sink, WriteFault};
 
 /// What a generated day comes to after its feed.
 #[derive(Clone, Copy, PartialEq, Eq, Debug)]
@@ -33,22 +34,15 @@ pub struct Summary {
 fn put_summary<K: Sink>(sink: &mut K, page: &mut Page, summary: &Summary) -> Result<(), WriteFault>
     ensures { Prints K.taken K.faults sink.old sink.new page.old page.new result (summary_text summary.now) }
 {
-    let pieces = [
-        Piece::Text("dm-gen 1\nevents "),
-        Piece::Number(summary.events as u128),
-        Piece::Text("\nactivities "),
-        Piece::Number(summary.activities as u128),
-        Piece::Text("\nchoices "),
-        Piece::Number(summary.choices as u128),
-        Piece::Text("\nentries "),
-        Piece::Number(summary.entries as u128),
-        Piece::Text("\ncost "),
-        Piece::Number(summary.cost),
-        Piece::Text("\nsum "),
-        Piece::Number(summary.sum),
-        Piece::Text("\n"),
+    let numbers = [
+        ("dm-gen 1\nevents ", summary.events as u128),
+        ("\nactivities ", summary.activities as u128),
+        ("\nchoices ", summary.choices as u128),
+        ("\nentries ", summary.entries as u128),
+        ("\ncost ", summary.cost),
+        ("\nsum ", summary.sum),
     ];
-    page.put(sink, &pieces)
+    put_labelled(sink, page, &numbers, "\n")
 }
 
 /// Writes the seven lines of the summary. It takes no memory. A write fault comes only where a write failed; the sink has

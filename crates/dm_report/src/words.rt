@@ -2,6 +2,7 @@
 ghost use Rattle.std.specs.Prelude.{◌≡◌, ◌∷◌, ◌++◌, []};
 ghost use Rattle.std.specs.Fmt.{decimal};
 ghost use Rattle.dm_outside.specs.Printing.{Prints, joined};
+ghost use Rattle.dm_report.specs.Printed.{labelled};
 
 use dm_outside::{Page, Piece, Sink, WriteFault};
 
@@ -23,23 +24,20 @@ pub fn put_number<'w, K: Sink>(
     page.put(sink, &pieces)
 }
 
-/// Prints a number, words, another number, and more words.
-pub fn put_numbers<'w, K: Sink>(
+/// Prints numbers, each behind its words, and then a last text, behind all that was printed through the page before. A write fault
+/// comes only where a write failed.
+pub fn put_labelled<'w, K: Sink>(
     sink: &mut K,
     page: &mut Page,
-    first: u128,
-    between: &'w str,
-    second: u128,
-    after: &'w str,
+    numbers: &[(&'w str, u128)],
+    last: &'w str,
 ) -> Result<(), WriteFault>
-    ensures { Prints K.taken K.faults sink.old sink.new page.old page.new result
-        (joined (decimal first ∷ between.now ∷ decimal second ∷ after.now ∷ [])) }
+    ensures { Prints K.taken K.faults sink.old sink.new page.old page.new result (labelled (λ one. one.0.now) (λ one. one.1) numbers.now last.now) }
 {
-    let pieces = [
-        Piece::Number(first),
-        Piece::Text(between),
-        Piece::Number(second),
-        Piece::Text(after),
-    ];
-    page.put(sink, &pieces)
+    for one in numbers {
+        let Ok(()) = page.put_number(sink, one.0, one.1) else {
+            return Err(WriteFault);
+        };
+    }
+    page.put_bytes(sink, last.as_bytes())
 }

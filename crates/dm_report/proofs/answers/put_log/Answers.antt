@@ -6,14 +6,14 @@ use Rattle.dm_report.proofs.Printed.{breaks_as, prints_last_as, log_parts}
 use Rattle.dm_report.proofs.answers.put_log.Goals as goal
 
 pub returns-in_default : goal.returns-in_default
-unfolding log_text
+unfolding log_text feed_text
 returns-in_default g c =
     let feed = rw c.as_slice-items.ensures at c.in_default.ensures in
     breaks_as (log_parts (feed_text c.args.number (length c.args.log.now.items)) (flat_map (item_text 2) c.args.log.now.items) (stop_text c.args.log.now.stop))
     (prints_fault (flat_map (item_text 2) c.args.log.now.items ++ stop_text c.args.log.now.stop) feed)
 
 pub returns-in_default-put_items : goal.returns-in_default-put_items
-unfolding log_text
+unfolding log_text feed_text
 returns-in_default-put_items g c =
     let feed = rw c.as_slice-items.ensures at c.in-Ok.ensures in
     let items = rw c.as_slice-items.ensures at c.in_default-put_items.ensures in
@@ -21,7 +21,7 @@ returns-in_default-put_items g c =
     (prints_fault_at (stop_text c.args.log.now.stop) feed items)
 
 pub returns : goal.returns
-unfolding log_text
+unfolding log_text feed_text
 returns g c =
     let feed = rw c.as_slice-items.ensures at c.in-Ok.ensures in
     let items = rw c.as_slice-items.ensures at c.in-Ok-put_items.ensures in
