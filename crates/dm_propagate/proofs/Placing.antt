@@ -1,5 +1,5 @@
 -- Events that are given their floors, and fixed where they have passed, where nothing is held.
-use Rattle.std.proofs.Common.{◌≡◌, ℕ, ◌+◌, ◌<◌, Bool, true, false, List, length, None, sym, ap, ◌∙◌, inl, inr, arith, slice_index, get_or-set_same, get_or-set_other}
+use Rattle.std.proofs.Common.{◌≡◌, ℕ, ◌+◌, ◌<◌, Bool, false, List, length, None, sym, ap, ◌∙◌, inl, inr, arith, slice_index, get_or-set_same, get_or-set_other}
 use Rattle.std.specs.Prelude.{slice_set, is_some}
 use Rattle.std.proofs.lemmas.Bool.{cases_eq, cases_lt}
 use Rattle.std.proofs.lemmas.List.{get_or_past}
@@ -7,7 +7,7 @@ use Rattle.dm_network.specs.Net.{Net}
 use Rattle.dm_network.specs.Held.{is_held}
 use Rattle.dm_live.specs.Live.{LiveValue, is_fixed, IsEnteredByNone}
 use Rattle.dm_live.proofs.Standing.{flag_here, flag_there}
-use Rattle.dm_rows.specs.Active.{has_passed, is_active}
+use Rattle.dm_rows.specs.Active.{has_passed}
 use Rattle.dm_rows.specs.Rows.{RowsValue}
 use Rattle.dm_rows.specs.Timetable.{floor_of}
 use Rattle.dm_propagate.specs.Inside.Changing.{HasPlace}
@@ -48,5 +48,7 @@ all_fixed net rows n now has many size i = elim (cases_lt i n) [
 ]
 
 -- where nothing is held, nothing is let go
-pub none_gone : (net : Net) (rows : RowsValue) (n : ℕ) (live : LiveValue) → ((a : ℕ) → is_held live.given.held a ≡ false) → LetsGo net rows (IsBelow n) live live
-none_gone net rows n live none = let_go_none net rows (IsBelow n) live (λ b lt h. let off = none b in absurd cc)
+pub none_gone : (net : Net) (rows : RowsValue) (n : ℕ) (before live : LiveValue) → live.given.held ≡ before.given.held →
+    ((a : ℕ) → is_held before.given.held a ≡ false) → LetsGo net rows (IsBelow n) live live
+none_gone net rows n before live same none =
+    let_go_none net rows (IsBelow n) live (λ b lt h. let off = ap (λ (f : List Bool). is_held f b) same ∙ none b in absurd cc)

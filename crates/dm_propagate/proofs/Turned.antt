@@ -1,6 +1,8 @@
 -- What is held, and which events are marked, after activities were let go and taken up.
 use Rattle.std.proofs.Common.{◌≡◌, ◌≢◌, ℕ, ◌+◌, ◌<◌, Bool, true, false, List, length, Some, None, refl, sym, ap, subst, ◌∙◌, ◌⊎◌, inl, inr, arith, slice_index, get_or-set_same, get_or-set_other}
-use Rattle.std.specs.Prelude.{slice_set}
+use Rattle.std.specs.Prelude.{slice_set, Result, Ok, Err}
+use Rattle.std.proofs.lemmas.Result.{on_ok_weaker, on_err_weaker}
+use Rattle.std.specs.Result.{OnOk, OnErr}
 use Rattle.std.proofs.lemmas.Bool.{cases_eq, cases_Bool}
 use Rattle.dm_graph.proofs.Transfers.{cycle_carries}
 use Rattle.dm_network.specs.Net.{Net, activity_at}
@@ -19,6 +21,17 @@ use Rattle.dm_propagate.specs.Inside.Changing.{HasPlace, HasPassed, Turns, IsTur
 pub gone_from : (net : Net) (rows : RowsValue) (among : ℕ → Type 0) (first before after : LiveValue) → before ≡ first → LetsGo net rows among before after →
     LetsGo net rows among first after
 gone_from net rows among first before after is gone = subst (λ (live : LiveValue). LetsGo net rows among live after) is gone
+
+-- what follows from either outcome
+pub either_way : {T E : Type 0} (r : Result T E) (P Q R : Type 0) → OnOk r P → OnErr r Q → (P → R) → (Q → R) → R
+either_way (Ok x) P Q R ok err on_ok on_err = on_ok ok
+either_way (Err e) P Q R ok err on_ok on_err = on_err err
+
+-- activities are turned as the rows have them or one is refused, and floors stay, and times where none is refused
+abbrev pub IsOutcome : {T E : Type 0} → Result T E → Net → RowsValue → (ℕ → Type 0) → LiveValue → LiveValue → LiveValue → Type 0
+IsOutcome r net rows some before placed after =
+    OnOk r (Turns net rows some before after) × OnErr r (IsTurnRefused net rows some before after) × (after.given.floors ≡ placed.given.floors)
+    × OnOk r (after.times ≡ placed.times)
 
 -- some activities are let go, and then some are taken up
 module _ (net : Net) (rows : RowsValue) (some : ℕ → Type 0) (before middle placed after : LiveValue)
@@ -93,6 +106,16 @@ module _ (net : Net) (rows : RowsValue) (some : ℕ → Type 0) (before middle p
           same_head = refl;
         }) after.order.cycle refused.is_cycle;
   }
+
+  -- either outcome of taking up
+  pub outcome : {T E : Type 0} (r : Result T E) → OnOk r (TakesUp net rows (Within net some) placed after) → OnErr r (IsRefused net rows placed after) →
+      IsOutcome r net rows some before placed after
+  outcome r ok err = (
+    on_ok_weaker r turned ok,
+    on_err_weaker r turn_refused err,
+    either_way r _ _ _ ok err (λ taken. taken.held.numbers.floors) (λ refused. refused.held.numbers.floors),
+    on_ok_weaker r (λ taken. taken.held.numbers.times) ok,
+  )
 
 -- all activities are let go and taken up as the rows have them
 module _ (net : Net) (rows : RowsValue) (before middle after : LiveValue) (gone : LetsGo net rows (IsBelow (length net.activities)) before middle) where

@@ -26,7 +26,7 @@ use std::sync::ledger::Ledger;
 
 /// Brings a timetable to follow rows at an event that has passed or that is recalled. An activity that would make a cycle
 /// is refused.
-#[tactic(auto, using(crate::proofs::Turned::enters_none, crate::proofs::Turned::turned, crate::proofs::Turned::turn_refused, crate::proofs::Turned::has_passed))]
+#[tactic(auto, using(crate::proofs::Turned::enters_none))]
 fn turn_event<L: Ledger>(
     priced: &mut PricedTimetable,
     day: &Day<'_>,
@@ -53,10 +53,7 @@ fn turn_event<L: Ledger>(
     set_flags_at(priced, day, event, into);
     let_go_around(priced, day, event, into, out);
     set_place(priced, day, event, into, out, steps);
-    match take_up_around(priced, day, event, into, out) {
-        Ok(()) => Ok(()),
-        Err(Cyclic) => Err(Cyclic),
-    }
+    take_up_around(priced, day, event, into, out)
 }
 
 /// Brings a timetable to follow rows at the activities that flips decide about. One that would make a cycle is refused.
@@ -82,10 +79,7 @@ fn turn_by_flips<L: Ledger>(
 {
     charge_by_flips(priced, day, flips);
     let_go_by_flips(priced, day, flips, steps);
-    match take_up_by_flips(priced, day, flips, steps) {
-        Ok(()) => Ok(()),
-        Err(Cyclic) => Err(Cyclic),
-    }
+    take_up_by_flips(priced, day, flips, steps)
 }
 
 /// Brings a timetable that follows rows, but for what decisions adopted as one concern, to follow them altogether, as

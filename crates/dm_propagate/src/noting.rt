@@ -1,13 +1,10 @@
 //! The events whose times a change moves, noted.
 ghost use Rattle.std.specs.Prelude.{ℕ, ◌≡◌, ◌<◌, length};
-ghost use Rattle.dm_live.specs.Live.{IsAtRest, ReadsFew};
 ghost use Rattle.dm_priced.specs.Priced.{IsPriced};
-ghost use Rattle.dm_settle.specs.Constraints.{arcs_given, graph_given};
-ghost use Rattle.dm_settle.specs.Settling.{AreLeast};
 ghost use Rattle.dm_propagate.specs.Moved.{TakesInMoved};
 ghost use Rattle.dm_propagate.specs.Inside.Altering.{change_in};
 ghost use Rattle.dm_propagate.specs.Inside.Flags.{MovesPass};
-ghost use Rattle.dm_propagate.specs.Inside.Noting.{NotesEach};
+ghost use Rattle.dm_propagate.specs.Inside.Noting.{NotesEach, IsSettled};
 
 use crate::moving::Alteration;
 use dm_base::Steps;
@@ -97,15 +94,7 @@ pub fn settle_noted<L: Ledger>(
 )
     requires priced { IsPriced net.now priced.old }
     requires noted { length moved.old.flags ≡ length net.now.events }
-    ensures priced { IsPriced net.now priced.new }
-    ensures least { AreLeast (graph_given net.now priced.new.live.given) priced.new.live.times }
-    ensures at_rest { IsAtRest priced.new.live }
-    ensures unchanged { priced.new ≡ record priced.old {
-      live = record priced.old.live
-          { times = priced.new.live.times; marks = priced.new.live.marks };
-      sums = priced.new.sums;
-    } }
-    ensures few_reads { ReadsFew (arcs_given net.now priced.old.live.given) priced.old.live priced.new.live steps.old steps.new }
+    ensures settled { IsSettled net.now priced.old priced.new steps.old steps.new }
     ensures moved { TakesInMoved moved.old.flags moved.new.flags priced.old.live.times priced.new.live.times }
 {
     let mut noting: Noting<'_, Brand> = Noting {
@@ -127,15 +116,7 @@ fn settle_from<L: Ledger, P: Opening>(
     requires name { noting.old.moved.ghost_name ≡ P.name }
     requires noted { noting.old.moved.now.flags ≡ P.noted }
     requires times { priced.old.live.times ≡ P.times }
-    ensures priced { IsPriced net.now priced.new }
-    ensures least { AreLeast (graph_given net.now priced.new.live.given) priced.new.live.times }
-    ensures at_rest { IsAtRest priced.new.live }
-    ensures unchanged { priced.new ≡ record priced.old {
-      live = record priced.old.live
-          { times = priced.new.live.times; marks = priced.new.live.marks };
-      sums = priced.new.sums;
-    } }
-    ensures few_reads { ReadsFew (arcs_given net.now priced.old.live.given) priced.old.live priced.new.live steps.old steps.new }
+    ensures settled { IsSettled net.now priced.old priced.new steps.old steps.new }
     ensures same { noting.new.moved.ghost_name ≡ noting.old.moved.ghost_name }
     ensures moved { TakesInMoved noting.old.moved.now.flags noting.new.moved.now.flags priced.old.live.times priced.new.live.times }
 {

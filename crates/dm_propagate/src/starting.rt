@@ -90,10 +90,7 @@ fn hold<L: Ledger>(priced: &mut PricedTimetable, day: &Day<'_>, blank: Blank) ->
     ensures cycle { OnErr result (IsCycle day.now.net.now day.now.rows.now priced.new.live.order.cycle) }
 {
     let mut steps = Steps::<L>::new(blank);
-    match follow(priced, day, &mut steps) {
-        Ok(()) => Ok(()),
-        Err(Cyclic) => Err(Cyclic),
-    }
+    follow(priced, day, &mut steps)
 }
 
 /// The cycle of rows that have one.

@@ -31,10 +31,7 @@ pub fn follow<L: Ledger>(
 {
     set_places(priced, day, steps);
     set_spans(priced, day);
-    match take_up_all(priced, day) {
-        Ok(()) => Ok(()),
-        Err(Cyclic) => Err(Cyclic),
-    }
+    take_up_all(priced, day)
 }
 
 /// Gives each event its floor by the rows, and fixes those that have passed, where nothing is held.

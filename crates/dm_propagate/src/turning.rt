@@ -1,6 +1,6 @@
 //! A timetable that is brought to follow rows at what a change concerns.
 ghost use Rattle.std.specs.Prelude.{ℕ, ◌≡◌, ◌<◌, ◌⊎◌, Some, true, false, length, slice_set, All, OnOk, OnErr};
-ghost use Rattle.dm_network.specs.Net.{places_into, places_out_of};
+ghost use Rattle.dm_network.specs.Net.{pair_at, places_into, places_out_of};
 ghost use Rattle.dm_rows.specs.Rows.{passed_at};
 ghost use Rattle.dm_rows.specs.Active.{has_passed};
 ghost use Rattle.dm_rows.specs.Reach.{Reaches, ReachesFlip};
@@ -155,10 +155,26 @@ fn let_go_pair<L: Ledger>(
     ensures gone { LetsGo day.now.net.now day.now.rows.now (Within day.now.net.now (IsDecided day.now.net.now (Flip.First pair true)))
         priced.old.live priced.new.live }
 {
+    let (small, large) = rows_of_pair(day, pair, steps);
+    let_go(priced, day, small);
+    let_go(priced, day, large);
+}
+
+/// The activities out of the two events of a pair.
+fn rows_of_pair<'d, L: Ledger>(
+    day: &Day<'d>,
+    pair: usize,
+    steps: &mut Steps<L>,
+) -> (&'d [usize], &'d [usize])
+    requires { pair < length day.now.net.now.pairs }
+    ensures small { result.0.now ≡ places_out_of day.now.net.now (pair_at day.now.net.now pair).small }
+    ensures large { result.1.now ≡ places_out_of day.now.net.now (pair_at day.now.net.now pair).large }
+    ensures of_small { All (λ a. a < length day.now.net.now.activities) result.0.now }
+    ensures of_large { All (λ a. a < length day.now.net.now.activities) result.1.now }
+{
     day.net.sound();
     let Pair { small, large } = *day.net.pair(pair);
-    let_go(priced, day, day.net.out_row(small, steps));
-    let_go(priced, day, day.net.out_row(large, steps));
+    (day.net.out_row(small, steps), day.net.out_row(large, steps))
 }
 
 /// Holds the active activities that a flip decides about. One that would make a cycle is refused.
@@ -200,13 +216,12 @@ fn take_up_pair<L: Ledger>(
         priced.new.live) }
     ensures refused { OnErr result (IsRefused day.now.net.now day.now.rows.now priced.old.live priced.new.live) }
 {
-    day.net.sound();
-    let Pair { small, large } = *day.net.pair(pair);
-    match take_up(priced, day, day.net.out_row(small, steps)) {
+    let (small, large) = rows_of_pair(day, pair, steps);
+    match take_up(priced, day, small) {
         Ok(()) => {}
         Err(Cyclic) => return Err(Cyclic),
     }
-    match take_up(priced, day, day.net.out_row(large, steps)) {
+    match take_up(priced, day, large) {
         Ok(()) => Ok(()),
         Err(Cyclic) => Err(Cyclic),
     }

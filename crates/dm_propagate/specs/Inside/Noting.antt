@@ -2,6 +2,10 @@
 use Rattle.std.specs.Prelude.{ℕ, ◌≡◌, ◌⊎◌, Bool, true, false, List, length, slice_index}
 use Rattle.dm_network.specs.Net.{Net}
 use Rattle.dm_marks.specs.Marked.{is_marked}
+use Rattle.dm_settle.specs.Constraints.{arcs_given, graph_given}
+use Rattle.dm_settle.specs.Settling.{AreLeast}
+use Rattle.dm_live.specs.Live.{IsAtRest, ReadsFew}
+use Rattle.dm_priced.specs.Priced.{PricedValue, IsPriced}
 use Rattle.dm_propagate.specs.Moved.{TakesInMoved}
 
 -- each event, but for some of these, has the time that it had
@@ -13,6 +17,17 @@ pub record NotesEach (some : ℕ → Type 0) (noted noted_now : List Bool) : Typ
   pub as_many : length noted_now ≡ length noted
   pub kept : (i : ℕ) → is_marked noted_now i ≡ false → is_marked noted i ≡ false
   pub each : (i : ℕ) → some i → is_marked noted_now i ≡ true
+
+-- A timetable is settled: times, marks and sums are new, and few rows were read.
+pub record IsSettled (net : Net) (before after : PricedValue) (first last : ℕ) : Type 0 where
+  pub priced : IsPriced net after
+  pub least : AreLeast (graph_given net after.live.given) after.live.times
+  pub at_rest : IsAtRest after.live
+  pub unchanged : after ≡ record before {
+    live = record before.live { times = after.live.times; marks = after.live.marks };
+    sums = after.sums;
+  }
+  pub few_reads : ReadsFew (arcs_given net before.live.given) before.live after.live first last
 
 -- What is lent by this name are the notes of a sweep: since it began, with this noted and with these times, it notes each event
 -- that moves.

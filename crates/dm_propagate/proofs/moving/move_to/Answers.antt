@@ -6,7 +6,6 @@ use Rattle.dm_rows.specs.Rows.{RowsValue}
 use Rattle.dm_propagate.specs.Engine.{FollowsRows}
 use Rattle.dm_propagate.specs.Inside.Altering.{change_in}
 use Rattle.dm_propagate.specs.Inside.Concern.{FollowsBut}
-use Rattle.dm_propagate.specs.Inside.Changing.{FollowsAt}
 use Rattle.dm_propagate.proofs.AtClock.{other_at_clock, rows_at_clock}
 use Rattle.dm_propagate.proofs.Concerning.{follows_but_after, follows_but_before}
 use Rattle.dm_propagate.proofs.FewRows.{few_read_for}
@@ -46,14 +45,14 @@ returns-in-Ok-clause-few_reads g c = λ kind on.
     let net = c.args.net.now in
     let known = c.sound.ensures.network.formed.ends_are_known in
     let settled : FollowsRows net c.args.other.now c.settle_noted.new.priced.live.given =
-    subst (λ (given : ConstraintsValue). FollowsRows net c.args.other.now given) (sym (ap (λ (p : PricedValue). p.live.given) c.settle_noted.ensures.unchanged)) c.in-Ok.ensures.follows in
+    subst (λ (given : ConstraintsValue). FollowsRows net c.args.other.now given) (sym (ap (λ (p : PricedValue). p.live.given) c.settle_noted.ensures.settled.unchanged)) c.in-Ok.ensures.follows in
     few_read_for net c.args.rows.now c.args.priced.now.live c.turn_to.new.priced.live c.settle_noted.new.priced.live c.args.steps.now c.turn_to.new.steps c.settle_noted.new.steps
     c.requires.at_rest c.requires.follows
     (follows_least net c.args.rows.now c.args.priced.now.live known c.requires.priced.live c.requires.at_rest c.requires.follows)
     (change_in c.args.what.now) c.args.other.now c.requires.other c.requires.sized.passed
     (event_is_reached c.args.rows.now (change_in c.args.what.now) c.requires.reaches)
-    c.requires.priced.live.marked.as_many_times c.in-Ok.ensures.follows c.settle_noted.ensures.few_reads
-    (follows_least net c.args.other.now c.settle_noted.new.priced.live known c.settle_noted.ensures.priced.live c.settle_noted.ensures.at_rest settled)
+    c.requires.priced.live.marked.as_many_times c.in-Ok.ensures.follows c.settle_noted.ensures.settled.few_reads
+    (follows_least net c.args.other.now c.settle_noted.new.priced.live known c.settle_noted.ensures.settled.priced.live c.settle_noted.ensures.settled.at_rest settled)
     c.in-Ok.ensures.marks kind on
 
 pub returns-in-Err-clause-few_reads : goal.returns-in-Err-clause-few_reads
@@ -77,7 +76,7 @@ come_back-requires-clause-flags g c =
 
 pub returns-in-Ok-clause-flags : goal.returns-in-Ok-clause-flags
 returns-in-Ok-clause-flags g c =
-    subst (AreFlagsOf c.args.net.now c.args.other.now) (sym (ap flags_of c.settle_noted.ensures.unchanged)) c.turn_to.ensures.flags
+    subst (AreFlagsOf c.args.net.now c.args.other.now) (sym (ap flags_of c.settle_noted.ensures.settled.unchanged)) c.turn_to.ensures.flags
 
 pub turn_to-requires-clause-clock : goal.turn_to-requires-clause-clock
 turn_to-requires-clause-clock g c =
