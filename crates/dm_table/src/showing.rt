@@ -1,17 +1,16 @@
 //! Why rows were refused.
-ghost use Rattle.std.specs.Prelude.{ℕ, ◌≡◌, ◌<◌, ◌≤◌, OnOk, OnErr, IfErr, IfOk, IsOk, length, slice_index};
+ghost use Rattle.std.specs.Prelude.{ℕ, ◌≡◌, ◌<◌, ◌≤◌, OnOk, OnErr, IfErr, IsOk, length, slice_index};
 ghost use Rattle.dm_base.specs.declared.limits.TheConstants.{ENTRIES as MOST};
-ghost use Rattle.dm_network.specs.Held.{ids_of};
 ghost use Rattle.dm_rows.specs.Rows.{RowsValue};
 ghost use Rattle.dm_rows.specs.declared.messages.Message.{Message as MessageValue};
 ghost use Rattle.dm_table.specs.Answers.{RefusesPost};
 ghost use Rattle.dm_table.specs.Inside.Trying.{IsTried, IsAccepted, ShowsPlaces};
 
 use dm_base::limits::ENTRIES;
-use dm_base::{ActId, Items};
 use dm_graph::search::Cyclic;
 use dm_network::Network;
 use dm_rows::Refusal;
+use dm_settle::ids_of;
 use std::alloc::{AllocError, Global};
 
 /// The answer to a message whose rows were tried at a history of so many entries: a cycle of these goes before a full
@@ -53,16 +52,4 @@ fn cycle_refusal(alloc: Global, net: &Network, cycle: &[usize]) -> Refusal
         Ok(ids) => Refusal::Cycle(ids),
         Err(AllocError) => Refusal::OutOfMemory,
     }
-}
-
-/// The ids of activities.
-fn ids_of(alloc: Global, net: &Network, places: &[usize]) -> Result<Items<ActId>, AllocError>
-    requires { (k : ℕ) → k < length places.now → slice_index places.now k < length net.now.activities }
-    ensures { IfOk result (λ ids. ids ≡ ids_of net.now places.now) }
-{
-    let mut ids = Vec::with_capacity(alloc, places.len())?;
-    for place in places {
-        ids.push(net.activity(*place).id)?;
-    }
-    Ok(Items::from_vec(ids))
 }
