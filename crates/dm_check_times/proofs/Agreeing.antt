@@ -18,7 +18,7 @@ use Rattle.dm_schedule.specs.Schedule.{IsScheduleOf}
 use Rattle.dm_schedule.specs.declared.schedule.Scheduled.{Scheduled}
 use Rattle.dm_schedule.proofs.Standing.{in_front_or_late, front_next}
 use Rattle.dm_check_times.specs.Timetables.{KeptTimetableValue, AgreesWith, RenewsEvent, RenewsActivity, TakesClock, ChangesNet}
-use Rattle.dm_check_times.specs.Inside.Agreeing.{FloorAgrees, ActivityAgrees, Renews, MovesAt, MovesAmong, Nowhere, Here, Below, IsMoved, MovedAmong, InRow, IsInto, IsOutOf, LeadsAt, IsDecided}
+use Rattle.dm_check_times.specs.Inside.Agreeing.{FloorAgrees, ActivityAgrees, Renews, MovesAt, MovesAmong, Nowhere, Here, Below, IsMoved, MovedAmong, InRow, IsInto, IsOutOf, LeadsAt, IsDecided, RenewsFor, is_adopted}
 use Rattle.dm_network.proofs.EventRows.{stands_out}
 use Rattle.dm_network.proofs.EventRows.{stands_into}
 use Rattle.dm_check_times.proofs.OfTimetables.{agrees_same}
@@ -410,6 +410,27 @@ module _ (net : Net) (before rows : RowsValue) (old new : KeptTimetableValue) (a
               | inr late ↦ inl (late_floor_stays net before rows e t is (omega arith) (omega arith))
             ]
           ]
+
+-- ---- after any change
+
+pub times_for : (net : Net) (rows : RowsValue) (change : Change) (old new : KeptTimetableValue) → RenewsFor net rows change old new → new.times ≡ old.times
+times_for net rows (EventDelay i d) old new renews = renews.keeps.times
+times_for net rows (ActDelay a d) old new renews = renews.keeps.times
+times_for net rows (Passed i t) old new renews = renews.keeps.times
+times_for net rows (Recalled i) old new renews = renews.keeps.times
+times_for net rows (Flipped flip) old new renews = renews.keeps.times
+times_for net rows (Adopted flips) old new same = ap (λ (t : KeptTimetableValue). t.times) same
+times_for net rows (Clock t) old new moves = moves.takes.times ∙ moves.renews.keeps.times
+
+pub agrees_for : (net : Net) → IsPaired net → (before rows : RowsValue) (old new : KeptTimetableValue) → AgreesWith net before old → (change : Change) → is_adopted change ≡ false → rows ≡ after_change before change →
+    RenewsFor net rows change old new → AgreesWith net rows new
+agrees_for net paired before rows old new agrees (EventDelay i d) other is renews = agrees_delayed net before rows old new agrees i d is renews
+agrees_for net paired before rows old new agrees (ActDelay a d) other is renews = agrees_lengthened net before rows old new agrees a d is renews
+agrees_for net paired before rows old new agrees (Passed i t) other is renews = agrees_passed net before rows old new agrees i t is renews
+agrees_for net paired before rows old new agrees (Recalled i) other is renews = agrees_recalled net before rows old new agrees i is renews
+agrees_for net paired before rows old new agrees (Flipped flip) other is renews = agrees_flipped net before rows old new agrees paired flip is renews
+agrees_for net paired before rows old new agrees (Adopted flips) other is renews = absurd (let both : true ≡ false = other in cc)
+agrees_for net paired before rows old new agrees (Clock t) other is moves = agrees_timed net before rows old moves.mid agrees new t is moves.renews moves.takes
 
 pub changes_net : (net : Net) (rows : RowsValue) (change : Change) → IsSized net rows → Reaches rows change → ChangesNet net change
 changes_net net rows (EventDelay i d) sized reaches = let s = sized.event_delays in let r = reaches.0 in omega arith

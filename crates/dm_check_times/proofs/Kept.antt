@@ -10,11 +10,10 @@ use native.Mathlib.Nat.{mul-le-mul}
 use Rattle.std.proofs.Math.Nat.{mul-add}
 use Rattle.dm_base.specs.declared.limits.TheConstants.{EVENTS, WEIGHT}
 use Rattle.dm_network.specs.Net.{Net, event_at, activity_at, is_change, IsWithinLimits}
-use Rattle.dm_rows.specs.Rows.{RowsValue, kept_at}
-use Rattle.dm_rows.specs.Active.{has_passed}
-use Rattle.dm_rows.specs.Cost.{event_cost, charged_weight, dropped_weight, missed_weight, comes_too_early, cost_of, cost_charging, is_arrival}
+use Rattle.dm_rows.specs.Rows.{RowsValue}
+use Rattle.dm_rows.specs.Cost.{event_cost, charged_weight, missed_weight, cost_charging, is_arrival}
 use Rattle.dm_check_times.specs.Binding.{AreBelowLimit}
-use Rattle.dm_check_times.specs.KeptCosts.{KeptCostValue, IsKeptCostOf, IsPricedFor, priced_weight, penalized_weight}
+use Rattle.dm_check_times.specs.KeptCosts.{KeptCostValue, IsKeptCostOf, IsPricedFor, priced_weight}
 use Rattle.dm_rows.proofs.Totals.{sum_alike, sum_moves, sum_within}
 use Rattle.dm_check_times.proofs.Renewing.{at_most_set}
 
@@ -42,23 +41,12 @@ sum_parts f g h (x ∷ xs) each =
     let right : sum_by h (x ∷ xs) ≡ h x + sum_by h xs = sum_by-cons h x xs in
     omega (arith, one, rest, all, left, right)
 
--- a change costs the penalty where it is dropped or missed, and it is not both
-in_parts : (change kept passed early : Bool) (w : ℕ) →
-    cond (change && (if passed then early else not kept)) w 0 ≡ cond (change && not kept && not passed) w 0 + cond (change && passed && early) w 0
-in_parts false kept passed early w = refl
-in_parts true true true true w = let e : w ≡ 0 + w = omega arith in e
-in_parts true true true false w = refl
-in_parts true true false early w = refl
-in_parts true false true true w = let e : w ≡ 0 + w = omega arith in e
-in_parts true false true false w = refl
-in_parts true false false early w = let e : w ≡ w + 0 = omega arith in e
-
-pub cost_in_parts : (net : Net) (rows : RowsValue) (times : List ℕ) (penalty late total cost : ℕ) → late ≡ sum_by (event_cost net times) (range_with_len 0 (length net.events)) →
-    total ≡ sum_by (penalized_weight net rows times) (range_with_len 0 (length net.activities)) → cost ≡ late + penalty * total → cost ≡ cost_of net rows times penalty
-cost_in_parts net rows times penalty late total cost late_is total_is is =
-    let parts = sum_parts (penalized_weight net rows times) (dropped_weight net rows) (missed_weight net rows times) (range_with_len 0 (length net.activities))
-    (λ a. in_parts (is_change (activity_at net a).kind) (kept_at rows a) (has_passed rows (activity_at net a).head) (comes_too_early net rows times a) (activity_at net a).weight) in
-    let each = mul-add penalty (sum_by (dropped_weight net rows) (range_with_len 0 (length net.activities))) (sum_by (missed_weight net rows times) (range_with_len 0 (length net.activities))) in
+-- what the times cost, by the lateness and the weights of which the penalty is taken
+pub cost_in_parts : (net : Net) (rows : RowsValue) (charges : ℕ → Bool) (times : List ℕ) (penalty late total cost : ℕ) → late ≡ sum_by (event_cost net times) (range_with_len 0 (length net.events)) →
+    total ≡ sum_by (priced_weight net rows charges times) (range_with_len 0 (length net.activities)) → cost ≡ late + penalty * total → cost ≡ cost_charging net rows charges times penalty
+cost_in_parts net rows charges times penalty late total cost late_is total_is is =
+    let parts = sum_parts (priced_weight net rows charges times) (charged_weight net charges) (missed_weight net rows times) (range_with_len 0 (length net.activities)) (λ a. refl) in
+    let each = mul-add penalty (sum_by (charged_weight net charges) (range_with_len 0 (length net.activities))) (sum_by (missed_weight net rows times) (range_with_len 0 (length net.activities))) in
     let product = ap (λ (n : ℕ). penalty * n) (total_is ∙ parts) in
     omega (arith, is, late_is, product, each)
 
@@ -67,11 +55,7 @@ pub kept_cost : (net : Net) (rows : RowsValue) (charges : ℕ → Bool) (kept : 
     cost ≡ kept.lateness + penalty * kept.penalized → cost ≡ cost_charging net rows charges kept.times penalty
 kept_cost net rows charges kept is_kept priced penalty cost is =
     let same = sum_alike (slice_index kept.weights) (priced_weight net rows charges kept.times) 0 (length net.activities) (λ a from below. priced a (omega arith)) in
-    let parts = sum_parts (priced_weight net rows charges kept.times) (charged_weight net charges) (missed_weight net rows kept.times) (range_with_len 0 (length net.activities)) (λ a. refl) in
-    let each = mul-add penalty (sum_by (charged_weight net charges) (range_with_len 0 (length net.activities))) (sum_by (missed_weight net rows kept.times) (range_with_len 0 (length net.activities))) in
-    let product = ap (λ (n : ℕ). penalty * n) (is_kept.weighed.sum ∙ (same ∙ parts)) in
-    let late = is_kept.late.cost in
-    omega (arith, is, late, product, each)
+    cost_in_parts net rows charges kept.times penalty kept.lateness kept.penalized cost is_kept.late.cost (is_kept.weighed.sum ∙ same) is
 
 -- ---- a time that changes
 

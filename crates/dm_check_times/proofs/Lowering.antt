@@ -11,7 +11,7 @@ use Rattle.dm_marks.specs.Marked.{is_marked}
 use Rattle.dm_check_times.specs.Following.{Follows}
 use Rattle.dm_check_times.specs.Inside.Rising.{AreWithin}
 use Rattle.dm_check_times.specs.Inside.Spreading.{IsClosed, HasReset}
-use Rattle.dm_check_times.proofs.Spreading.{true_false}
+use Rattle.dm_check_times.proofs.Spreading.{true_false, not_before}
 
 -- a second less where the event is not stale and the other time is earlier
 lowered : Bool → ℕ → ℕ → ℕ
@@ -121,10 +121,7 @@ follows_more net held spans floors times stale more grows follows = record {
 }
   where
     was : (e : ℕ) → is_marked more e ≡ false → is_marked stale e ≡ false
-    was e fresh = elim (cases_Bool (is_marked stale e)) [
-      | inl is ↦ true_false (grows e is) fresh
-      | inr is ↦ is
-    ]
+    was e fresh = not_before (grows e) fresh
 
 module _ (net : Net) (held : List Bool) (spans floors times new : List ℕ) (stale due : List Bool) (follows : Follows net held spans floors times stale) (closed : IsClosed net held spans times stale)
     (reset : HasReset net held floors (length net.events) stale times new due) where

@@ -11,7 +11,7 @@ use Rattle.dm_rows.specs.Rows.{RowsValue, RowsAreWithinLimits}
 use Rattle.dm_rows.specs.Timetable.{IsLeast, floor_of}
 use Rattle.dm_rows.proofs.AsGraph.{active_enter_no_passed}
 use Rattle.dm_check_times.specs.Binding.{graph_with, AreBindings, AreFlags, AreSpansOf, AreFloorsOf, AreBelowLimit}
-use Rattle.dm_check_times.specs.Timetables.{KeptTimetableValue, IsRoomOf, IsTimetableOf, IsSettledFor, IsLeastNow, AgreesWith, AreAtMost}
+use Rattle.dm_check_times.specs.Timetables.{KeptTimetableValue, IsRoomOf, IsTimetableOf, IsSettledFor, IsLeastNow, AgreesWith, AreAtMost, KeepsSpans}
 use Rattle.dm_marks.specs.Marked.{is_marked}
 use Rattle.dm_check_times.proofs.Renewing.{least_follows}
 use Rattle.dm_check_times.proofs.Spreading.{true_false}
@@ -100,3 +100,24 @@ module _ {A B : Type 0} (result : Result A B) (net : Net) (rows : RowsValue) (ne
       by : (r : Result A B) → OnErr r (HasNoCycleOfArcs (arcs_of net (is_held given)) → ⊥) → OnErr r (HasNoCycle net rows → ⊥)
       by (Ok a) s = tt
       by (Err b) s = rows_cyclic net rows (value held spans floors times stale due clock) agrees (subst (λ (h : List Bool). HasNoCycleOfArcs (arcs_of net (is_held h)) → ⊥) same s)
+
+-- ---- times that have followed what is held
+
+module _ {A B : Type 0} (result : Result A B) (net : Net) (rows : RowsValue) where
+  pub followed_ok : IsNetwork net → IsWithinLimits net → RowsAreWithinLimits rows → (old new : KeptTimetableValue) → IsTimetableOf net old → AgreesWith net rows old → IsRoomOf net new → new.held ≡ old.held → KeepsSpans old new →
+      ((e : ℕ) → is_marked new.stale e ≡ false) → OnOk result (IsLeastNow net new) → OnOk result (IsSettledFor net rows new)
+  followed_ok network few within old new was agrees room held keeps none least = by result least
+    where
+      bindings : AreBindings net new.held new.spans
+      bindings = subst (λ (h : List Bool). AreBindings net h new.spans) (sym held) (subst (λ (s : List ℕ). AreBindings net old.held s) (sym keeps.spans) was.bindings)
+
+      by : (r : Result A B) → OnOk r (IsLeastNow net new) → OnOk r (IsSettledFor net rows new)
+      by (Ok a) now = settled net rows new network few within room bindings (subst (λ (f : List ℕ). AreAtMost f (2 ^ 38)) (sym keeps.floors) was.early_floors) (agrees_same net rows old new held keeps.spans keeps.floors keeps.clock agrees) none now
+      by (Err b) now = tt
+
+  pub followed_err : (old : KeptTimetableValue) → AgreesWith net rows old → OnErr result (HasNoCycleOfArcs (arcs_of net (is_held old.held)) → ⊥) → OnErr result (HasNoCycle net rows → ⊥)
+  followed_err old agrees some = by result some
+    where
+      by : (r : Result A B) → OnErr r (HasNoCycleOfArcs (arcs_of net (is_held old.held)) → ⊥) → OnErr r (HasNoCycle net rows → ⊥)
+      by (Ok a) s = tt
+      by (Err b) s = rows_cyclic net rows old agrees s

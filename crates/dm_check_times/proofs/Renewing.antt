@@ -13,7 +13,7 @@ use Rattle.dm_check_times.specs.Following.{Follows}
 use Rattle.dm_check_times.specs.Inside.Spreading.{Spreads}
 use Rattle.dm_check_times.specs.Inside.Renewing.{IsKeptAt, IsMetAt}
 use Rattle.dm_check_times.specs.Timetables.{AreAtMost}
-use Rattle.dm_check_times.proofs.Spreading.{true_false, not_before}
+use Rattle.dm_check_times.proofs.Spreading.{true_false}
 
 -- numbers at most so large still are with one more such
 pub at_most_set : (xs : List ℕ) (i n most : ℕ) → AreAtMost xs most → n ≤ most → AreAtMost (slice_set xs i n) most
@@ -42,13 +42,10 @@ still_due stale more due due_more spreads all e is = elim (spreads.cause e is) [
   | inr now ↦ now
 ]
 
-module _ (net : Net) (held : List Bool) (spans floors times : List ℕ) (stale more : List Bool) (grows : (e : ℕ) → is_marked stale e ≡ true → is_marked more e ≡ true)
-    (follows : Follows net held spans floors times stale) where
-  was : (e : ℕ) → is_marked more e ≡ false → is_marked stale e ≡ false
-  was e fresh = not_before (grows e) fresh
-
-  pub event_renewed : (event floor : ℕ) → event < length floors → (is_marked more event ≡ false → IsKeptAt (slice_index floors event) floor (slice_index times event)) →
-      Follows net held spans (slice_set floors event floor) times more
+-- one place changes, where an event is stale that may not keep its time
+module _ (net : Net) (held : List Bool) (spans floors times : List ℕ) (stale : List Bool) (follows : Follows net held spans floors times stale) where
+  pub event_renewed : (event floor : ℕ) → event < length floors → (is_marked stale event ≡ false → IsKeptAt (slice_index floors event) floor (slice_index times event)) →
+      Follows net held spans (slice_set floors event floor) times stale
   event_renewed event floor inside kept = record {
     held_before = follows.held_before;
     spans_before = follows.spans_before;
@@ -56,31 +53,31 @@ module _ (net : Net) (held : List Bool) (spans floors times : List ℕ) (stale m
     least = follows.least;
     floors_kept = λ e below fresh. elim (cases_eq e event) [
       | inl here ↦ subst (λ (i : ℕ). (follows.floor_before i ≤ slice_index (slice_set floors event floor) i) ⊎ (follows.floor_before i < slice_index times i)) (sym here)
-          (here_kept (subst (λ (i : ℕ). i < length net.events) here below) (subst (λ (i : ℕ). is_marked more i ≡ false) here fresh))
+          (here_kept (subst (λ (i : ℕ). i < length net.events) here below) (subst (λ (i : ℕ). is_marked stale i ≡ false) here fresh))
       | inr ne ↦
           let same = get_or-set_other floors event e floor 0 ne in
-          elim (follows.floors_kept e below (was e fresh)) [
+          elim (follows.floors_kept e below fresh) [
             | inl less ↦ inl (omega arith)
             | inr loose ↦ inr loose
           ]
     ];
     above = λ e below fresh. elim (cases_eq e event) [
       | inl here ↦
-          let k = (kept (subst (λ (i : ℕ). is_marked more i ≡ false) here fresh)).1 in
+          let k = (kept (subst (λ (i : ℕ). is_marked stale i ≡ false) here fresh)).1 in
           subst (λ (i : ℕ). slice_index (slice_set floors event floor) i ≤ slice_index times i) (sym here) (let s = set_here in omega arith)
-      | inr ne ↦ let same = get_or-set_other floors event e floor 0 ne in let a = follows.above e below (was e fresh) in omega arith
+      | inr ne ↦ let same = get_or-set_other floors event e floor 0 ne in let a = follows.above e below fresh in omega arith
     ];
-    held_kept = λ a binds fresh tight. follows.held_kept a binds (was _ fresh) tight;
-    met = λ a binds fresh. follows.met a binds (was _ fresh);
+    held_kept = follows.held_kept;
+    met = follows.met;
   }
     where
       set_here : slice_index (slice_set floors event floor) event ≡ floor
       set_here = get_or-set_same floors event floor 0 inside
 
-      here_kept : event < length net.events → is_marked more event ≡ false → (follows.floor_before event ≤ slice_index (slice_set floors event floor) event) ⊎ (follows.floor_before event < slice_index times event)
+      here_kept : event < length net.events → is_marked stale event ≡ false → (follows.floor_before event ≤ slice_index (slice_set floors event floor) event) ⊎ (follows.floor_before event < slice_index times event)
       here_kept below fresh =
           let s = set_here in
-          elim (follows.floors_kept event below (was event fresh)) [
+          elim (follows.floors_kept event below fresh) [
             | inr loose ↦ inr loose
             | inl less ↦ elim (kept fresh).0 [
               | inl up ↦ inl (omega arith)
@@ -89,7 +86,7 @@ module _ (net : Net) (held : List Bool) (spans floors times : List ℕ) (stale m
           ]
 
   abbrev Fresh : ℕ → Type 0
-  Fresh c = is_marked more (activity_at net c).head ≡ false
+  Fresh c = is_marked stale (activity_at net c).head ≡ false
 
   abbrev Old : ℕ → Type 0
   Old c = IsTrue (is_held held c) × (slice_index follows.spans_before c ≤ slice_index spans c)
@@ -104,17 +101,17 @@ module _ (net : Net) (held : List Bool) (spans floors times : List ℕ) (stale m
   Met a span c = slice_index times (activity_at net c).tail + slice_index (slice_set spans a span) c ≤ slice_index times (activity_at net c).head
 
   pub activity_renewed : (a span : ℕ) (b : Bool) → a < length held → a < length spans →
-      (is_marked more (activity_at net a).head ≡ false → IsMetAt (is_held held a) (slice_index spans a) b span (slice_index times (activity_at net a).tail) (slice_index times (activity_at net a).head)) →
-      Follows net (slice_set held a b) (slice_set spans a span) floors times more
+      (is_marked stale (activity_at net a).head ≡ false → IsMetAt (is_held held a) (slice_index spans a) b span (slice_index times (activity_at net a).tail) (slice_index times (activity_at net a).head)) →
+      Follows net (slice_set held a b) (slice_set spans a span) floors times stale
   activity_renewed a span b inside inside_spans kept = record {
     held_before = follows.held_before;
     spans_before = follows.spans_before;
     floor_before = follows.floor_before;
     least = follows.least;
-    floors_kept = λ e below fresh. follows.floors_kept e below (was e fresh);
-    above = λ e below fresh. follows.above e below (was e fresh);
+    floors_kept = follows.floors_kept;
+    above = follows.above;
     held_kept = λ c binds fresh tight.
-        let old = follows.held_kept c binds (was _ fresh) tight in
+        let old = follows.held_kept c binds fresh tight in
         elim (cases_eq c a) [
           | inl here ↦ subst (Kept a span b) (sym here) (kept_here (subst Fresh here fresh) (subst Old here old) (subst Tight here tight))
           | inr ne ↦ (get_or-set_other held a c b false ne ∙ old.0, (let s = get_or-set_other spans a c span 0 ne in let o = old.1 in omega arith))
@@ -123,7 +120,7 @@ module _ (net : Net) (held : List Bool) (spans floors times : List ℕ) (stale m
       | inl here ↦ subst (Met a span) (sym here) (let s = span_here in let m = (kept (subst Fresh here fresh)).1 (sym held_here ∙ subst (λ (i : ℕ). IsTrue (is_held (slice_set held a b) i)) here binds.is_held) in omega arith)
       | inr ne ↦
           let s = get_or-set_other spans a c span 0 ne in
-          let m = follows.met c (record { is_arc = binds.is_arc; is_held = sym (get_or-set_other held a c b false ne) ∙ binds.is_held; from_event = binds.from_event; to_event = binds.to_event }) (was _ fresh) in
+          let m = follows.met c (record { is_arc = binds.is_arc; is_held = sym (get_or-set_other held a c b false ne) ∙ binds.is_held; from_event = binds.from_event; to_event = binds.to_event }) fresh in
           omega arith
     ];
   }

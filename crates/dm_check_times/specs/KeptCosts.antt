@@ -1,12 +1,11 @@
 -- What a timetable costs, kept while its times and the rows change.
-use Rattle.std.specs.Prelude.{ℕ, ◌≡◌, ◌+◌, ◌*◌, ◌^◌, ◌<◌, ◌≤◌, ◌&&◌, Bool, not, List, length, slice_index, if◌then◌else◌, sum_by}
+use Rattle.std.specs.Prelude.{ℕ, ◌≡◌, ◌+◌, ◌*◌, ◌^◌, ◌<◌, ◌≤◌, Bool, List, length, slice_index, sum_by}
 use Rattle.std.specs.List.{range_with_len}
 use Rattle.dm_base.specs.declared.limits.TheConstants.{EVENTS, ACTIVITIES, WEIGHT}
-use Rattle.dm_network.specs.Net.{Net, activity_at, is_change}
+use Rattle.dm_network.specs.Net.{Net}
 use Rattle.dm_network.specs.Held.{is_held}
-use Rattle.dm_rows.specs.Active.{has_passed}
-use Rattle.dm_rows.specs.Cost.{event_cost, charged_weight, missed_weight, comes_too_early, is_dropped_change}
-use Rattle.dm_rows.specs.Rows.{RowsValue, kept_at}
+use Rattle.dm_rows.specs.Cost.{event_cost, charged_weight, missed_weight, is_dropped_change}
+use Rattle.dm_rows.specs.Rows.{RowsValue}
 use Rattle.dm_check_times.specs.Binding.{AreBelowLimit}
 use Rattle.dm_check_times.specs.declared.charges.Charges.{Charges}
 use Rattle.dm_check_times.specs.declared.charges.Charges.TheVariants.{Dropped, Flagged}
@@ -68,14 +67,3 @@ pub record RenewsWeight (net : Net) (rows : RowsValue) (charges : ℕ → Bool) 
   pub times : new.times ≡ old.times
   pub there : IsPricedAt net rows charges new a
   pub kept : (b : ℕ) → IsPricedAt net rows charges old b → IsPricedAt net rows charges new b
-
--- ---- the weights of rows that are not kept
-
--- a change that its passed head has missed, or that is dropped and whose head has not passed
-abbrev pub is_penalized : Net → RowsValue → List ℕ → ℕ → Bool
-is_penalized net rows x a =
-    is_change (activity_at net a).kind && (if has_passed rows (activity_at net a).head then comes_too_early net rows x a else not (kept_at rows a))
-
--- the weight of such a change
-abbrev pub penalized_weight : Net → RowsValue → List ℕ → ℕ → ℕ
-penalized_weight net rows x a = if is_penalized net rows x a then (activity_at net a).weight else 0

@@ -64,6 +64,24 @@ pub record IsSettledFor (net : Net) (rows : RowsValue) (t : KeptTimetableValue) 
   pub early : AreBelowLimit t.times
   pub no_cycle : HasNoCycle net rows
 
+-- the spans and the floors are those of the rows
+pub record AreOfRows (net : Net) (rows : RowsValue) (t : KeptTimetableValue) : Type 0 where
+  pub spans : AreSpansOf net rows t.spans
+  pub floors : AreFloorsOf net rows t.floors
+
+-- the times are the least where these activities are held, with these spans over these floors
+pub record AreLeastFor (net : Net) (spans floors : List ℕ) (held : List Bool) (times : List ℕ) : Type 0 where
+  pub flags : length held ≡ length net.activities
+  pub as_many : length times ≡ length net.events
+  pub least : IsLeastOfGraph (graph_with net held spans (slice_index floors)) (slice_index times)
+  pub early : AreAtMost times (2 ^ 38)
+
+-- the spans, the floors and the clock are those of before
+pub record KeepsSpans (old new : KeptTimetableValue) : Type 0 where
+  pub spans : new.spans ≡ old.spans
+  pub floors : new.floors ≡ old.floors
+  pub clock : new.clock ≡ old.clock
+
 -- the floor of one event is that of the rows now, and nothing else that binds has changed, and no time
 pub record RenewsEvent (net : Net) (rows : RowsValue) (event : ℕ) (old new : KeptTimetableValue) : Type 0 where
   pub floors : new.floors ≡ slice_set old.floors event (floor_of net rows event)
@@ -72,13 +90,17 @@ pub record RenewsEvent (net : Net) (rows : RowsValue) (event : ℕ) (old new : K
   pub clock : new.clock ≡ old.clock
   pub times : new.times ≡ old.times
 
--- one activity binds as under the rows now, and nothing else that binds has changed, and no time
-pub record RenewsActivity (net : Net) (rows : RowsValue) (a : ℕ) (old new : KeptTimetableValue) : Type 0 where
-  pub held : new.held ≡ slice_set old.held a (is_active net rows a)
-  pub spans : new.spans ≡ slice_set old.spans a (span_of net rows a)
+-- one activity is held or not, with this span, and nothing else that binds has changed, and no time
+pub record BindsActivity (a : ℕ) (binds : Bool) (span : ℕ) (old new : KeptTimetableValue) : Type 0 where
+  pub held : new.held ≡ slice_set old.held a binds
+  pub spans : new.spans ≡ slice_set old.spans a span
   pub floors : new.floors ≡ old.floors
   pub clock : new.clock ≡ old.clock
   pub times : new.times ≡ old.times
+
+-- one activity binds as under the rows now
+abbrev pub RenewsActivity : Net → RowsValue → ℕ → KeptTimetableValue → KeptTimetableValue → Type 0
+RenewsActivity net rows a old new = BindsActivity a (is_active net rows a) (span_of net rows a) old new
 
 -- the clock is that of the rows now, and nothing else has changed
 pub record TakesClock (rows : RowsValue) (old new : KeptTimetableValue) : Type 0 where

@@ -3,10 +3,11 @@ ghost use Rattle.std.specs.Prelude.{ℕ, ◌≡◌, ◌+◌, ◌*◌, ◌^◌, �
 ghost use Rattle.std.specs.List.{range_with_len};
 ghost use Rattle.dm_base.specs.declared.limits.TheConstants.{EVENTS, ACTIVITIES, WEIGHT, PENALTY};
 ghost use Rattle.dm_rows.specs.Rows.{IsSized};
-ghost use Rattle.dm_rows.specs.Cost.{cost_of, event_cost, missed_weight, comes_too_early};
+ghost use Rattle.dm_rows.specs.Cost.{cost_of, event_cost, missed_weight, comes_too_early, is_dropped_change};
 ghost use Rattle.dm_check_times.specs.Binding.{AreBelowLimit};
-ghost use Rattle.dm_check_times.specs.KeptCosts.{is_penalized, penalized_weight};
+ghost use Rattle.dm_check_times.specs.KeptCosts.{priced_weight};
 
+use crate::charges::{Charges, priced_weight};
 use crate::rows::span_of;
 use dm_base::{ActKind, Cost, EventKind, Milli, Secs};
 use dm_network::Network;
@@ -21,7 +22,7 @@ pub fn cost_of(net: &Network, rows: &Rows, times: &[Secs], penalty: u64) -> Cost
     ensures { result ≡ cost_of net.now rows.now times.now penalty }
 {
     let penalty = penalty as u128;
-    lateness_cost(net, times) + penalty * penalized_weights(net, rows, times)
+    lateness_cost(net, times) + penalty * priced_weights(net, rows, times)
 }
 
 /// What the lateness of the arrivals costs.
@@ -38,17 +39,18 @@ pub(crate) fn lateness_cost(net: &Network, times: &[Secs]) -> Cost
     total
 }
 
-/// The weight of the changes that cost the penalty.
-fn penalized_weights(net: &Network, rows: &Rows, times: &[Secs]) -> Cost
+/// The weights of which the penalty is taken, where the rows' dropped changes are charged for.
+fn priced_weights(net: &Network, rows: &Rows, times: &[Secs]) -> Cost
     requires sized { IsSized net.now rows.now }
     requires as_many { length times.now ≡ length net.now.events }
     requires early { AreBelowLimit times.now }
-    ensures weight { result ≡ sum_by (penalized_weight net.now rows.now times.now) (range_with_len 0 (length net.now.activities)) }
-    ensures limit { result ≤ ACTIVITIES * WEIGHT }
+    ensures weights { result ≡ sum_by (priced_weight net.now rows.now (is_dropped_change net.now rows.now) times.now)
+        (range_with_len 0 (length net.now.activities)) }
+    ensures limit { result ≤ ACTIVITIES * (2 * WEIGHT) }
 {
     let mut total = 0;
     for a in 0..net.activities() {
-        total += penalized_weight(net, rows, times, a) as u128;
+        total += priced_weight(net, rows, &Charges::Dropped, times, a) as u128;
     }
     total
 }
@@ -90,43 +92,6 @@ pub(crate) fn missed_weight(net: &Network, rows: &Rows, times: &[Secs], a: usize
         activity.weight
     } else {
         0
-    }
-}
-
-/// The weight of a change that costs the penalty.
-fn penalized_weight(net: &Network, rows: &Rows, times: &[Secs], a: usize) -> Milli
-    requires sized { IsSized net.now rows.now }
-    requires as_many { length times.now ≡ length net.now.events }
-    requires early { AreBelowLimit times.now }
-    requires is_activity { a < length net.now.activities }
-    ensures weight { result ≡ penalized_weight net.now rows.now times.now a }
-    ensures limit { result ≤ WEIGHT }
-{
-    net.sound();
-    if is_penalized(net, rows, times, a) {
-        net.activity(a).weight
-    } else {
-        0
-    }
-}
-
-/// Whether an activity is a change that its passed head has missed, or one that is dropped and whose head has not passed.
-fn is_penalized(net: &Network, rows: &Rows, times: &[Secs], a: usize) -> bool
-    requires sized { IsSized net.now rows.now }
-    requires as_many { length times.now ≡ length net.now.events }
-    requires early { AreBelowLimit times.now }
-    requires is_activity { a < length net.now.activities }
-    ensures { result ≡ is_penalized net.now rows.now times.now a }
-{
-    net.sound();
-    let activity = net.activity(a);
-    if !matches!(activity.kind, ActKind::Change) {
-        return false;
-    }
-    if rows.passed(activity.head).is_some() {
-        comes_too_early(net, rows, times, a)
-    } else {
-        !rows.kept(a)
     }
 }
 

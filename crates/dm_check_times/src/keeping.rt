@@ -5,7 +5,7 @@ ghost use Rattle.dm_rows.specs.Resolve.{after_change};
 ghost use Rattle.dm_rows.specs.declared.messages.Flip.TheVariants.{First};
 ghost use Rattle.dm_schedule.specs.Schedule.{IsScheduleOf};
 ghost use Rattle.dm_check_times.specs.Timetables.{IsTimetableOf, AgreesWith, ChangesNet, FlipsNet};
-ghost use Rattle.dm_check_times.specs.Inside.Agreeing.{Renews, MovesAt, MovesAmong, MovesClock, Nowhere, Here, Below, IsMoved, InRow, LeadsAt, IsDecided};
+ghost use Rattle.dm_check_times.specs.Inside.Agreeing.{is_adopted, RenewsFor, Renews, MovesAt, MovesAmong, MovesClock, Nowhere, Here, Below, IsMoved, InRow, LeadsAt, IsDecided};
 
 use crate::kept_timetable::KeptTimetable;
 use crate::row::{row_into, row_out_of};
@@ -33,32 +33,43 @@ pub fn keep_up(
     ensures times { timetable.new.times ≡ timetable.old.times }
 {
     net.sound();
+    if is_adopted(change) {
+        return false;
+    }
+    renew_for(timetable, net, schedule, rows, change);
+    true
+}
+
+/// Whether the change is of an adopted list.
+fn is_adopted(change: &Change) -> bool
+    ensures { result ≡ is_adopted change.now }
+{
+    matches!(change, Change::Adopted(_))
+}
+
+/// Renews what a change is about, and nothing for an adopted list.
+fn renew_for(
+    timetable: &mut KeptTimetable,
+    net: &Network,
+    schedule: &[Scheduled],
+    rows: &Rows,
+    change: &Change,
+)
+    requires sized { IsSized net.now rows.now }
+    requires schedule { IsScheduleOf net.now schedule.now }
+    requires timetable { IsTimetableOf net.now timetable.old }
+    requires within { ChangesNet net.now change.now }
+    ensures timetable { IsTimetableOf net.now timetable.new }
+    ensures renews { RenewsFor net.now rows.now change.now timetable.old timetable.new }
+{
     match change {
-        Change::EventDelay { event, .. } => {
-            timetable.renew_event(net, rows, *event);
-            true
-        }
-        Change::ActDelay { act, .. } => {
-            timetable.renew_activity(net, rows, *act);
-            true
-        }
-        Change::Passed { event, .. } => {
-            renew_around(timetable, net, rows, *event);
-            true
-        }
-        Change::Recalled { event } => {
-            renew_around(timetable, net, rows, *event);
-            true
-        }
-        Change::Flipped(flip) => {
-            renew_flipped(timetable, net, rows, *flip);
-            true
-        }
-        Change::Adopted(_) => false,
-        Change::Clock { .. } => {
-            renew_clock(timetable, net, schedule, rows);
-            true
-        }
+        Change::EventDelay { event, .. } => timetable.renew_event(net, rows, *event),
+        Change::ActDelay { act, .. } => timetable.renew_activity(net, rows, *act),
+        Change::Passed { event, .. } => renew_around(timetable, net, rows, *event),
+        Change::Recalled { event } => renew_around(timetable, net, rows, *event),
+        Change::Flipped(flip) => renew_flipped(timetable, net, rows, *flip),
+        Change::Adopted(_) => {}
+        Change::Clock { .. } => renew_clock(timetable, net, schedule, rows),
     }
 }
 

@@ -1,17 +1,22 @@
 //! The least timetable of rows, as these change.
-ghost use Rattle.std.specs.Prelude.{ℕ, ◌≡◌, ◌+◌, ◌^◌, ◌<◌, ◌≤◌, true, false, length, slice_index, IfOk, OnOk, OnErr};
+ghost use Rattle.std.specs.Prelude.{ℕ, ◌≡◌, ◌+◌, ◌^◌, ◌<◌, ◌≤◌, true, false, length, slice_index, slice_set, IfOk, OnOk, OnErr};
 ghost use Rattle.dm_base.specs.declared.limits.TheConstants.{BOUND, DELAY};
-ghost use Rattle.dm_network.specs.Held.{is_held};
+ghost use Rattle.dm_graph.specs.Arcs.{HasNoCycle as HasNoCycleOfArcs};
+ghost use Rattle.dm_network.specs.Held.{is_held, arcs_of};
 ghost use Rattle.dm_rows.specs.Rows.{IsSized};
 ghost use Rattle.dm_rows.specs.Active.{HasNoCycle};
-ghost use Rattle.dm_check_times.specs.Timetables.{IsRoomOf, IsTimetableOf, IsSettledFor, AgreesWith, RenewsEvent, RenewsActivity, TakesClock};
+ghost use Rattle.dm_check_times.specs.Binding.{AreBindings};
+ghost use Rattle.dm_check_times.specs.Timetables.{IsRoomOf, IsTimetableOf, IsSettledFor, IsLeastNow, AreAtMost, AreOfRows, AreLeastFor, AgreesWith};
+ghost use Rattle.dm_check_times.specs.Timetables.{KeepsSpans, RenewsEvent, BindsActivity, RenewsActivity, TakesClock};
 ghost use Rattle.dm_check_times.specs.Inside.Renewing.{IsKeptAt, IsMetAt};
 ghost use Rattle.dm_check_times.specs.Inside.Spreading.{Spreads};
 ghost use Rattle.dm_marks.specs.Marked.{is_marked};
 ghost use Rattle.dm_check_times.specs.Noting.{NotesMoves};
 
-use crate::following::{follow, make_stale};
-use crate::rounds::{HeldCycle, raise};
+use crate::beginning::mark_changed;
+use crate::bindings::Bindings;
+use crate::following::make_stale;
+use crate::rounds::HeldCycle;
 use crate::rows::{fill_floors, fill_spans, flag_active, floor_of, span_of};
 use dm_base::Secs;
 use dm_marks::{Marks, PlaceSet};
@@ -67,6 +72,49 @@ impl KeptTimetable {
             due: Marks::new(alloc, net.events())?,
             clock: 0,
         })
+    }
+
+    /// Room where these activities are held, with the spans and the floors of rows. Nothing is known of its times yet.
+    pub fn holding(
+        alloc: Global,
+        net: &Network,
+        rows: &Rows,
+        held: Vec<bool>,
+    ) -> Result<KeptTimetable, AllocError>
+        requires sized { IsSized net.now rows.now }
+        requires flags { length held.items ≡ length net.now.activities }
+        ensures room { IfOk result (IsRoomOf net.now) }
+        ensures rows { IfOk result (AreOfRows net.now rows.now) }
+        ensures held { IfOk result (λ t. t.held ≡ held.items) }
+    {
+        net.sound();
+        let mut spans = vec![in alloc; 0; net.activities()]?;
+        fill_spans(net, rows, &mut spans);
+        let mut floors = vec![in alloc; 0; net.events()]?;
+        fill_floors(net, rows, &mut floors);
+        Ok(KeptTimetable {
+            held,
+            spans,
+            floors,
+            times: vec![in alloc; 0; net.events()]?,
+            stale: Marks::new(alloc, net.events())?,
+            due: Marks::new(alloc, net.events())?,
+            clock: rows.clock(),
+        })
+    }
+
+    /// The flags of the activities that are held.
+    pub fn held(&self) -> &[bool]
+        ensures { result.now ≡ self.now.held }
+    {
+        &self.held
+    }
+
+    /// The floors of the events, in seconds.
+    pub fn floors(&self) -> &[Secs]
+        ensures { result.now ≡ self.now.floors }
+    {
+        &self.floors
     }
 
     /// The times that were computed last, in seconds.
@@ -140,14 +188,12 @@ impl KeptTimetable {
         self.times.copy_from_slice(&self.floors);
         self.stale.clear_all();
         self.due.mark_all();
-        raise(
+        let bindings = Bindings {
             net,
-            &self.held,
-            &self.spans,
-            &mut self.times,
-            &mut self.due,
-            moved,
-        )
+            held: &self.held,
+            spans: &self.spans,
+        };
+        bindings.raise(&mut self.times, &mut self.due, moved)
     }
 
     /// Computes the least timetable of the rows that it was kept with. `Err` comes exactly where they have a cycle; nothing is
@@ -169,16 +215,50 @@ impl KeptTimetable {
     {
         net.sound();
         rows.is_within_limits();
-        follow(
+        self.follow(net, moved)
+    }
+
+    /// Makes the times the least ones for what is held. `Err` comes exactly where it has a cycle; nothing is known of the times
+    /// then. Events whose times it writes are noted as moved. It takes no memory, and costs what has changed since the last ones.
+    pub fn follow(&mut self, net: &Network, moved: &mut PlaceSet) -> Result<(), HeldCycle>
+        requires timetable { IsTimetableOf net.now self.old }
+        requires as_many_moved { length moved.old.flags ≡ length net.now.events }
+        ensures notes { NotesMoves self.old.times self.new.times moved.old.flags moved.new.flags }
+        ensures room { IsRoomOf net.now self.new }
+        ensures held { self.new.held ≡ self.old.held }
+        ensures keeps { KeepsSpans self.old self.new }
+        ensures least { OnOk result (IsLeastNow net.now self.new) }
+        ensures cyclic { OnErr result (HasNoCycleOfArcs (arcs_of net.now (is_held self.old.held)) → ⊥) }
+        ensures none_stale { (e : ℕ) → is_marked self.new.stale e ≡ false }
+    {
+        let bindings = Bindings {
             net,
-            &self.held,
-            &self.spans,
+            held: &self.held,
+            spans: &self.spans,
+        };
+        bindings.follow(
             &self.floors,
             &mut self.times,
             &mut self.stale,
             &mut self.due,
             moved,
         )
+    }
+
+    /// Takes times that are least where other activities are held. They are to follow what is held. It takes no memory.
+    pub fn begin_from(&mut self, net: &Network, held: &[bool], times: &[Secs])
+        requires room { IsRoomOf net.now self.old }
+        requires bindings { AreBindings net.now self.old.held self.old.spans }
+        requires early_floors { AreAtMost self.old.floors (2 ^ 38) }
+        requires least { AreLeastFor net.now self.old.spans self.old.floors held.now times.now }
+        ensures timetable { IsTimetableOf net.now self.new }
+        ensures held { self.new.held ≡ self.old.held }
+        ensures keeps { KeepsSpans self.old self.new }
+    {
+        self.times.copy_from_slice(times);
+        self.stale.clear_all();
+        self.due.clear_all();
+        mark_changed(net, held, &self.held, &mut self.stale, &mut self.due);
     }
 
     /// Takes the clock from rows, and no floor.
@@ -216,9 +296,33 @@ impl KeptTimetable {
         ensures timetable { IsTimetableOf net.now self.new }
         ensures renews { RenewsActivity net.now rows.now a self.old self.new }
     {
-        net.sound();
         rows.is_within_limits();
         let (held, span) = (is_active(net, rows, a), span_of(net, rows, a));
+        self.bind(net, a, held, span);
+    }
+
+    /// Makes an activity held, or no longer. It takes no memory.
+    pub fn hold(&mut self, net: &Network, a: usize, value: bool)
+        requires timetable { IsTimetableOf net.now self.old }
+        requires is_activity { a < length net.now.activities }
+        ensures timetable { IsTimetableOf net.now self.new }
+        ensures held { self.new.held ≡ slice_set self.old.held a value }
+        ensures times { self.new.times ≡ self.old.times }
+        ensures keeps { KeepsSpans self.old self.new }
+    {
+        let span = self.span(a);
+        self.bind(net, a, value, span);
+    }
+
+    /// Makes an activity held, or no longer, with this span. Its head is stale and due then, unless it may keep its time.
+    fn bind(&mut self, net: &Network, a: usize, held: bool, span: Secs)
+        requires timetable { IsTimetableOf net.now self.old }
+        requires is_activity { a < length net.now.activities }
+        requires short { span ≤ BOUND + DELAY }
+        ensures timetable { IsTimetableOf net.now self.new }
+        ensures binds { BindsActivity a held span self.old self.new }
+    {
+        net.sound();
         let activity = net.activity(a);
         let was_held = self.is_held(a);
         let was = self.span(a);
@@ -232,7 +336,7 @@ impl KeptTimetable {
 }
 
 /// Makes an event stale and due, unless it may keep its time.
-pub(crate) fn make_stale_unless(stays: bool, event: usize, stale: &mut Marks, due: &mut Marks)
+fn make_stale_unless(stays: bool, event: usize, stale: &mut Marks, due: &mut Marks)
     requires stale { event < length stale.old }
     requires due { event < length due.old }
     ensures spreads { Spreads stale.old stale.new due.old due.new }
@@ -255,14 +359,7 @@ fn stays_at(was: Secs, floor: Secs, time: Secs) -> bool
 }
 
 /// Whether the head of an activity may keep its time when this comes to bind or no longer does, or its span changes.
-pub(crate) fn stays_along(
-    was_held: bool,
-    was: Secs,
-    held: bool,
-    span: Secs,
-    from: Secs,
-    to: Secs,
-) -> bool
+fn stays_along(was_held: bool, was: Secs, held: bool, span: Secs, from: Secs, to: Secs) -> bool
     requires short { span ≤ BOUND + DELAY }
     requires was_short { was ≤ BOUND + DELAY }
     requires early { from ≤ 2 ^ 38 }

@@ -1,5 +1,5 @@
 -- A timetable kept with rows, place by place.
-use Rattle.std.specs.Prelude.{ℕ, ◌≡◌, ◌<◌, ◌⊎◌, List, length, slice_index}
+use Rattle.std.specs.Prelude.{ℕ, ◌≡◌, ◌<◌, ◌⊎◌, Bool, true, false, List, length, slice_index}
 use Rattle.dm_network.specs.Net.{Net, event_at, activity_at, pair_at}
 use Rattle.dm_network.specs.Held.{is_held}
 use Rattle.dm_rows.specs.Active.{is_active}
@@ -7,6 +7,8 @@ use Rattle.dm_rows.specs.Rows.{RowsValue}
 use Rattle.dm_rows.specs.Timetable.{floor_of, span_of}
 use Rattle.dm_rows.specs.declared.messages.Flip.{Flip}
 use Rattle.dm_rows.specs.declared.messages.Flip.TheVariants.{Keep, Drop, First}
+use Rattle.dm_rows.specs.declared.messages.Change.{Change}
+use Rattle.dm_rows.specs.declared.messages.Change.TheVariants.{EventDelay, ActDelay, Passed, Recalled, Flipped, Adopted, Clock}
 use Rattle.dm_schedule.specs.Schedule.{IsInFront}
 use Rattle.dm_schedule.specs.declared.schedule.Scheduled.{Scheduled}
 use Rattle.dm_check_times.specs.Timetables.{KeptTimetableValue, TakesClock}
@@ -89,3 +91,17 @@ pub record MovesClock (net : Net) (rows : RowsValue) (old new : KeptTimetableVal
   pub mid : KeptTimetableValue
   pub renews : Renews net rows (IsMoved net old rows.clock) Nowhere old mid
   pub takes : TakesClock rows mid new
+
+abbrev pub is_adopted : Change → Bool
+is_adopted (Adopted flips) = true
+is_adopted _ = false
+
+-- what a change is about agrees with the rows now, and nothing has changed for an adopted list
+abbrev pub RenewsFor : Net → RowsValue → Change → KeptTimetableValue → KeptTimetableValue → Type 0
+RenewsFor net rows (EventDelay i d) old new = Renews net rows (Here i) Nowhere old new
+RenewsFor net rows (ActDelay a d) old new = Renews net rows Nowhere (Here a) old new
+RenewsFor net rows (Passed i t) old new = Renews net rows (Here i) (LeadsAt net i) old new
+RenewsFor net rows (Recalled i) old new = Renews net rows (Here i) (LeadsAt net i) old new
+RenewsFor net rows (Flipped flip) old new = Renews net rows Nowhere (IsDecided net flip) old new
+RenewsFor net rows (Adopted flips) old new = new ≡ old
+RenewsFor net rows (Clock t) old new = MovesClock net rows old new

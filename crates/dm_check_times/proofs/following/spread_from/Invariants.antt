@@ -1,5 +1,0 @@
-use Rattle.dm_check_times.specs.Inside.Spreading.{HasSpreadTo}
-use Rattle.dm_check_times.proofs.following.spread_from.Given as goal
-
-abbrev pub invariant-loop-a : goal.invariant-loop-a
-invariant-loop-a l = HasSpreadTo l.net l.held l.spans l.times l.from l.row l.a-index l.initial.stale l.stale l.initial.due l.due
