@@ -14,11 +14,13 @@ rule_word Never = codes "never"
 rule_word Always = codes "always"
 rule_word (AtMost seconds) = decimal seconds
 
--- the rule, what the rows cost with its choices, and how many these are
-unfoldable pub rule_text : WaitRule → Comparison → List ℕ
-rule_text rule compared =
-    joined (codes "rule " ∷ rule_word rule ∷ codes " cost " ∷ decimal compared.cost ∷ codes " choices "
-    ∷ decimal (length compared.choices) ∷ line_end ∷ [])
+unfoldable pub rule_text : WaitRule → List ℕ
+rule_text rule = joined (codes "rule " ∷ rule_word rule ∷ [])
+
+-- what the rows cost with its choices, and how many these are
+unfoldable pub cost_text : Comparison → List ℕ
+cost_text compared =
+    joined (codes " cost " ∷ decimal compared.cost ∷ codes " choices " ∷ decimal (length compared.choices) ∷ line_end ∷ [])
 
 -- the plan, and by how much the rule's cost is above its bound
 unfoldable pub gap_text : Comparison → List ℕ
@@ -26,5 +28,9 @@ gap_text compared =
     joined (codes "plan " ∷ mark_text compared.plan.mark ∷ codes " cost " ∷ decimal compared.plan.cost ∷ codes " bound "
     ∷ decimal compared.plan.bound ∷ codes "\ngap " ∷ decimal (compared.cost - compared.plan.bound) ∷ line_end ∷ [])
 
+-- all that is told beside the rule
+unfoldable pub compared_text : Comparison → List ℕ
+compared_text compared = cost_text compared ++ (flat_map choice_text compared.choices ++ gap_text compared)
+
 unfoldable pub comparison_text : WaitRule → Comparison → List ℕ
-comparison_text rule compared = rule_text rule compared ++ (flat_map choice_text compared.choices ++ gap_text compared)
+comparison_text rule compared = rule_text rule ++ compared_text compared

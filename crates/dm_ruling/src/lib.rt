@@ -1,6 +1,7 @@
 //! A waiting rule beside a plan, in print.
 //!
-//! It stands on dm_waitrule for the comparison, on dm_cert for the lines of choices, and on dm_outside for sinks.
+//! It stands on dm_waitrule for the comparison, on dm_cert for the lines of choices, on dm_report for numbers behind their
+//! words, and on dm_outside for sinks.
 //!
 //! # What is promised
 //!

@@ -1,12 +1,11 @@
 //! A comparison in print.
-ghost use Rattle.std.specs.Prelude.{◌≤◌, ◌∷◌, [], codes, length};
-ghost use Rattle.std.specs.Fmt.{decimal};
-ghost use Rattle.dm_outside.specs.Printing.{Prints, Puts, joined};
-ghost use Rattle.dm_cert.specs.PlanTexts.{line_end};
-ghost use Rattle.dm_ruling.specs.Texts.{comparison_text, gap_text, rule_text};
+ghost use Rattle.std.specs.Prelude.{◌≤◌};
+ghost use Rattle.dm_outside.specs.Printing.{Prints, Puts};
+ghost use Rattle.dm_ruling.specs.Texts.{comparison_text, compared_text, cost_text, gap_text, rule_text};
 
 use dm_cert::put_choices;
 use dm_outside::{Page, Piece, Sink, WriteFault};
+use dm_report::put_labelled;
 use dm_tree::Mark;
 use dm_waitrule::{Comparison, WaitRule};
 
@@ -21,22 +20,37 @@ pub fn print_comparison<K: Sink>(
     ensures { Puts K.taken K.faults sink.old sink.new result (comparison_text rule compared.now) }
 {
     let mut page = Page::new();
-    let Ok(()) = put_comparison(sink, &mut page, rule, compared) else {
+    let Ok(()) = put_rule(sink, &mut page, rule) else {
+        return Err(WriteFault);
+    };
+    let Ok(()) = put_compared(sink, &mut page, compared) else {
         return Err(WriteFault);
     };
     page.finish(sink)
 }
 
-fn put_comparison<K: Sink>(
+#[tactic(auto, unfolding(crate::specs::Texts::rule_text))]
+fn put_rule<K: Sink>(sink: &mut K, page: &mut Page, rule: WaitRule) -> Result<(), WriteFault>
+    ensures { Prints K.taken K.faults sink.old sink.new page.old page.new result (rule_text rule) }
+{
+    let word = match rule {
+        WaitRule::Never => Piece::Text("never"),
+        WaitRule::Always => Piece::Text("always"),
+        WaitRule::AtMost(seconds) => Piece::Number(seconds as u128),
+    };
+    page.put(sink, &[Piece::Text("rule "), word])
+}
+
+// Prints all that is told beside the rule.
+fn put_compared<K: Sink>(
     sink: &mut K,
     page: &mut Page,
-    rule: WaitRule,
     compared: &Comparison,
 ) -> Result<(), WriteFault>
     requires { compared.now.plan.bound ≤ compared.now.cost }
-    ensures { Prints K.taken K.faults sink.old sink.new page.old page.new result (comparison_text rule compared.now) }
+    ensures { Prints K.taken K.faults sink.old sink.new page.old page.new result (compared_text compared.now) }
 {
-    let Ok(()) = put_rule(sink, page, rule, compared) else {
+    let Ok(()) = put_cost(sink, page, compared) else {
         return Err(WriteFault);
     };
     let Ok(()) = put_choices(sink, page, compared.choices.as_slice()) else {
@@ -45,65 +59,16 @@ fn put_comparison<K: Sink>(
     put_gap(sink, page, compared)
 }
 
-// Prints the rule, what the rows cost by it, and how many choices follow.
-#[tactic(auto, unfolding(crate::specs::Texts::rule_text))]
-fn put_rule<K: Sink>(
-    sink: &mut K,
-    page: &mut Page,
-    rule: WaitRule,
-    compared: &Comparison,
-) -> Result<(), WriteFault>
-    ensures { Prints K.taken K.faults sink.old sink.new page.old page.new result (rule_text rule compared.now) }
+// Prints what the rows cost by the rule, and how many choices follow.
+#[tactic(auto, unfolding(crate::specs::Texts::cost_text))]
+fn put_cost<K: Sink>(sink: &mut K, page: &mut Page, compared: &Comparison) -> Result<(), WriteFault>
+    ensures { Prints K.taken K.faults sink.old sink.new page.old page.new result (cost_text compared.now) }
 {
-    match rule {
-        WaitRule::Never => put_named_rule(sink, page, "rule never cost ", compared),
-        WaitRule::Always => put_named_rule(sink, page, "rule always cost ", compared),
-        WaitRule::AtMost(seconds) => put_limit(sink, page, seconds, compared),
-    }
-}
-
-fn put_named_rule<K: Sink>(
-    sink: &mut K,
-    page: &mut Page,
-    words: &str,
-    compared: &Comparison,
-) -> Result<(), WriteFault>
-    ensures { Prints K.taken K.faults sink.old sink.new page.old page.new result
-        (joined (words.now ∷ decimal compared.now.cost ∷ codes " choices " ∷ decimal (length compared.now.choices) ∷ line_end ∷ [])) }
-{
-    page.put(
-        sink,
-        &[
-            Piece::Text(words),
-            Piece::Number(compared.cost),
-            Piece::Text(" choices "),
-            Piece::Number(compared.choices.as_slice().len() as u128),
-            Piece::Text("\n"),
-        ],
-    )
-}
-
-#[tactic(auto, unfolding(crate::specs::Texts::rule_text))]
-fn put_limit<K: Sink>(
-    sink: &mut K,
-    page: &mut Page,
-    seconds: u64,
-    compared: &Comparison,
-) -> Result<(), WriteFault>
-    ensures { Prints K.taken K.faults sink.old sink.new page.old page.new result (rule_text (WaitRule.AtMost seconds) compared.now) }
-{
-    page.put(
-        sink,
-        &[
-            Piece::Text("rule "),
-            Piece::Number(seconds as u128),
-            Piece::Text(" cost "),
-            Piece::Number(compared.cost),
-            Piece::Text(" choices "),
-            Piece::Number(compared.choices.as_slice().len() as u128),
-            Piece::Text("\n"),
-        ],
-    )
+    let numbers = [
+        (" cost ", compared.cost),
+        (" choices ", compared.choices.as_slice().len() as u128),
+    ];
+    put_labelled(sink, page, &numbers, "\n")
 }
 
 // Prints the plan, and by how much the rule's cost is above its bound.
@@ -117,14 +82,10 @@ fn put_gap<K: Sink>(sink: &mut K, page: &mut Page, compared: &Comparison) -> Res
         Mark::Optimal => "plan optimal cost ",
         Mark::Open => "plan open cost ",
     };
-    let pieces = [
-        Piece::Text(mark),
-        Piece::Number(cost),
-        Piece::Text(" bound "),
-        Piece::Number(bound),
-        Piece::Text("\ngap "),
-        Piece::Number(compared.cost - bound),
-        Piece::Text("\n"),
+    let numbers = [
+        (mark, cost),
+        (" bound ", bound),
+        ("\ngap ", compared.cost - bound),
     ];
-    page.put(sink, &pieces)
+    put_labelled(sink, page, &numbers, "\n")
 }
