@@ -82,7 +82,7 @@ impl PricedTimetable {
         })
     }
 
-    /// Computes the marked events anew, as [`LiveTimetable::settle`] does.
+    /// Computes the marked events anew, as [`LiveTimetable::settle_watched`] does.
     pub fn settle<L: Ledger>(&mut self, net: &Network, steps: &mut Steps<L>)
         requires { IsPriced net.now self.old }
         ensures priced { IsPriced net.now self.new }
@@ -322,6 +322,14 @@ impl PricedTimetable {
         self.charged[a] = charged;
     }
 
+    /// Whether the activity at a place is charged for.
+    fn is_charged(&self, a: usize) -> bool
+        requires { a < length self.now.charged }
+        ensures { result ≡ is_flagged self.now.charged a }
+    {
+        self.charged[a]
+    }
+
     /// What the timetable costs, in thousandths of passenger seconds, for a penalty in seconds for each passenger, at most
     /// 1,000,000. It is a sum of three numbers that are kept.
     pub fn cost(&self, penalty: u64) -> Cost
@@ -338,21 +346,5 @@ impl PricedTimetable {
         ensures { result.now ≡ self.now.live }
     {
         &self.live
-    }
-
-    /// Whether the event at a place has passed.
-    pub fn is_passed(&self, i: usize) -> bool
-        requires { i < length self.now.passed }
-        ensures { result ≡ is_flagged self.now.passed i }
-    {
-        self.passed[i]
-    }
-
-    /// Whether the activity at a place is charged for.
-    pub fn is_charged(&self, a: usize) -> bool
-        requires { a < length self.now.charged }
-        ensures { result ≡ is_flagged self.now.charged a }
-    {
-        self.charged[a]
     }
 }
