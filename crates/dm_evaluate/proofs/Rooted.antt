@@ -1,12 +1,12 @@
 -- The timetable of the path without a decision.
-use Rattle.std.proofs.Common.{◌≡◌, ℕ, Bool, true, false, not, ◌&&◌, List, [], length, refl, sym, ap, subst, ◌∙◌, arith}
-use Rattle.std.specs.Prelude.{replicate}
+use Rattle.std.proofs.Common.{◌≡◌, ℕ, ◌+◌, ◌<◌, Bool, true, false, not, ◌&&◌, List, [], length, refl, sym, ap, subst, ◌∙◌, inl, inr, arith, get_or-set_same, get_or-set_other}
+use Rattle.std.specs.Prelude.{replicate, slice_set}
+use Rattle.std.proofs.lemmas.Bool.{cases_lt}
 use Rattle.std.proofs.lemmas.List.{get_or-replicate}
 use Rattle.dm_network.specs.Net.{Net, activity_at, is_change}
 use Rattle.dm_network.specs.Held.{is_held}
 use Rattle.dm_live.specs.Live.{RefusesLive, IsAtRest, NoneFixed}
-use Rattle.dm_order.specs.declared.faults.OrderFault.{OrderFault}
-use Rattle.dm_order.specs.declared.faults.OrderFault.TheVariants.{Cyclic, OutOfMemory}
+use Rattle.dm_order.specs.declared.faults.OrderFault.TheVariants.{Cyclic}
 use Rattle.dm_priced.specs.Priced.{PricedValue, IsPriced, is_flagged}
 use Rattle.dm_rows.specs.Active.{has_passed}
 use Rattle.dm_rows.specs.declared.messages.Decision.{Decision}
@@ -18,7 +18,7 @@ use Rattle.dm_evaluate.specs.Evaluating.{Evaluates}
 use Rattle.dm_evaluate.specs.Evaluator.{IsEvaluatorOf}
 use Rattle.dm_paths.specs.Flags.{AreFlags}
 use Rattle.dm_evaluate.specs.Marks.{MarksValue, MarksUnkept}
-use Rattle.dm_evaluate.specs.Inside.Starting.{RefusesRoot, HasPassedTo}
+use Rattle.dm_evaluate.specs.Inside.Starting.{HasRootCycle, HasPassedTo, HasPassedOnlyTo}
 use Rattle.dm_network.proofs.Holding.{cycle_with}
 
 -- nothing is charged for
@@ -47,13 +47,39 @@ root_evaluates net rows priced is holds none_fixed passed charged = record {
   };
 }
 
-module _ (net : Net) (rows : RowsValue) (given : ConstraintsValue) (holds : AreConstraintsHolding net rows (is_relaxed_active net rows []) given) where
-  pub refuses_root : (fault : OrderFault) → RefusesLive net given fault → RefusesRoot net rows fault
-  refuses_root Cyclic h = record {
-    cycle = h.cycle;
-    is_cycle = cycle_with net (is_held given.held) (is_relaxed_active net rows []) (λ a lt on. sym (holds.held a lt) ∙ on) h.cycle h.is_cycle;
+-- constraints that hold what binds and have a cycle
+pub has_root_cycle : (net : Net) (rows : RowsValue) (given : ConstraintsValue) → AreConstraintsHolding net rows (is_relaxed_active net rows []) given →
+    RefusesLive net given Cyclic → HasRootCycle net rows
+has_root_cycle net rows given holds h = record {
+  cycle = h.cycle;
+  is_cycle = cycle_with net (is_held given.held) (is_relaxed_active net rows []) (λ a lt on. sym (holds.held a lt) ∙ on) h.cycle h.is_cycle;
+}
+
+-- the events that have passed, one after the other
+module _ (rows : RowsValue) where
+  pub none_passed : (passed : List Bool) → ((i : ℕ) → is_flagged passed i ≡ false) → HasPassedOnlyTo rows 0 passed
+  none_passed passed none = record { before = λ i lt. absurd (omega (arith, lt)); none = λ i past. none i }
+
+  pub open_next : (n : ℕ) (passed : List Bool) → has_passed rows n ≡ false → HasPassedOnlyTo rows n passed → HasPassedOnlyTo rows (n + 1) passed
+  open_next n passed off was = record {
+    before = λ i lt. elim (cases_lt i n) [
+      | inl earlier ↦ was.before i earlier
+      | inr past ↦ let here : i ≡ n = omega arith in was.none i past ∙ sym off ∙ ap (has_passed rows) (sym here)
+    ];
+    none = λ i past. was.none i (omega arith);
   }
-  refuses_root OutOfMemory h = tt
+
+  pub passed_next : (n : ℕ) (before after : List Bool) → after ≡ slice_set before n true → n < length before → has_passed rows n ≡ true →
+      HasPassedOnlyTo rows n before → HasPassedOnlyTo rows (n + 1) after
+  passed_next n before after is below passes was = record {
+    before = λ i lt. ap (λ (f : List Bool). is_flagged f i) is ∙ (elim (cases_lt i n) [
+      | inl earlier ↦ get_or-set_other before n i true false (omega arith) ∙ was.before i earlier
+      | inr past ↦
+          let here : i ≡ n = omega arith in
+          ap (is_flagged (slice_set before n true)) here ∙ get_or-set_same before n true false below ∙ sym passes ∙ ap (has_passed rows) (sym here)
+    ]);
+    none = λ i past. ap (λ (f : List Bool). is_flagged f i) is ∙ get_or-set_other before n i true false (omega arith) ∙ was.none i (omega arith);
+  }
 
 -- what evaluates the path without a decision
 pub root_evaluator : (net : Net) (rows : RowsValue) (path : List Decision) (changes pairs : List Bool) (priced : PricedValue) (marks : MarksValue) → IsSized net rows → path ≡ [] →

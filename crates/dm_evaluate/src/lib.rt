@@ -28,7 +28,6 @@ pub mod laws;
 mod marking;
 mod marks;
 mod places;
-mod root;
 mod starting;
 mod turning;
 mod violations;

@@ -1,22 +1,22 @@
 //! The timetable of the relaxed problem where nothing is decided.
-ghost use Rattle.std.specs.Prelude.{◌≡◌, ◌<◌, [], length, slice_set, IfOk, IfErr};
+ghost use Rattle.std.specs.Prelude.{ℕ, ◌≡◌, ◌<◌, false, [], length, IfOk, IfErr};
 ghost use Rattle.dm_live.specs.Live.{IsAtRest};
 ghost use Rattle.dm_order.specs.Orders.{IsOrderOf};
-ghost use Rattle.dm_priced.specs.Priced.{IsPriced};
-ghost use Rattle.dm_rows.specs.Active.{has_passed};
+ghost use Rattle.dm_priced.specs.Priced.{IsPriced, is_flagged};
 ghost use Rattle.dm_rows.specs.Relax.{is_relaxed_active};
 ghost use Rattle.dm_rows.specs.Rows.{IsSized};
 ghost use Rattle.dm_times.specs.Faults.{RefusesHolding};
-ghost use Rattle.dm_evaluate.specs.Inside.Starting.{IsHeldToRoot, HasRootCycle, RefusesRoot, IsRoot, HasPassedTo};
+ghost use Rattle.dm_evaluate.specs.Inside.Starting.{IsHeldToRoot, HasRootCycle, IsRoot, HasPassedTo};
 
-use crate::root::root_constraints;
 use dm_base::Steps;
 use dm_live::LiveTimetable;
 use dm_network::Network;
 use dm_order::{Order, OrderFault};
+use dm_paths::binds;
 use dm_priced::PricedTimetable;
 use dm_rows::{Rows, start_rows};
 use dm_settle::{NoTimes, least_times};
+use dm_times::{Holding, constraints_holding};
 use std::alloc::{AllocError, Global};
 use std::marker::Brand;
 use std::sync::ledger::{Blank, Ledger};
@@ -27,29 +27,28 @@ pub fn root_timetable(alloc: Global, net: &Network, rows: &Rows) -> Result<Price
     ensures root { IfOk result (IsRoot net.now rows.now) }
     ensures refused { IfErr result (RefusesHolding net.now (is_relaxed_active net.now rows.now [])) }
 {
-    match live_for(alloc, net, rows) {
-        Ok(live) => {
-            let mut priced = PricedTimetable::new(alloc, net, live)?;
-            // Nothing reads the ledger.
-            settle::<Brand>(&mut priced, net, rows, Blank::new(1));
-            Ok(priced)
-        }
-        Err(OrderFault::Cyclic) => Err(root_cycle(alloc, net, rows)),
-        Err(OrderFault::OutOfMemory) => Err(NoTimes::OutOfMemory),
-    }
+    let live = match live_for(alloc, net, rows) {
+        Ok(live) => live,
+        Err(no_times) => return Err(no_times),
+    };
+    let mut priced = PricedTimetable::new(alloc, net, live)?;
+    // Nothing reads the ledger.
+    settle::<Brand>(&mut priced, net, rows, Blank::new(1));
+    Ok(priced)
 }
 
-/// A timetable that is held to what binds, and not settled.
-fn live_for(alloc: Global, net: &Network, rows: &Rows) -> Result<LiveTimetable, OrderFault>
+/// A timetable that is held to what binds, and not settled, or a cycle of that.
+fn live_for(alloc: Global, net: &Network, rows: &Rows) -> Result<LiveTimetable, NoTimes>
     requires { IsSized net.now rows.now }
     ensures live { IfOk result (IsHeldToRoot net.now rows.now) }
-    ensures refused { IfErr result (RefusesRoot net.now rows.now) }
+    ensures refused { IfErr result (RefusesHolding net.now (is_relaxed_active net.now rows.now [])) }
 {
-    let constraints = root_constraints(alloc, net, rows)?;
+    let constraints = constraints_holding(alloc, net, rows, &RootActivities { net, rows })?;
     let order = start_order(alloc, net)?;
     match LiveTimetable::new(alloc, net, constraints, order) {
         Ok(live) => Ok(live),
-        Err(fault) => Err(fault),
+        Err(OrderFault::Cyclic) => Err(root_cycle(alloc, net, rows)),
+        Err(OrderFault::OutOfMemory) => Err(NoTimes::OutOfMemory),
     }
 }
 
@@ -75,7 +74,8 @@ fn root_cycle(alloc: Global, net: &Network, rows: &Rows) -> NoTimes
     requires cyclic { HasRootCycle net.now rows.now }
     ensures { RefusesHolding net.now (is_relaxed_active net.now rows.now []) result }
 {
-    let Ok(constraints) = root_constraints(alloc, net, rows) else {
+    let Ok(constraints) = constraints_holding(alloc, net, rows, &RootActivities { net, rows })
+    else {
         return NoTimes::OutOfMemory;
     };
     match least_times(alloc, net, &constraints) {
@@ -88,6 +88,7 @@ fn root_cycle(alloc: Global, net: &Network, rows: &Rows) -> NoTimes
 fn settle<L: Ledger>(priced: &mut PricedTimetable, net: &Network, rows: &Rows, blank: Blank)
     requires priced { IsPriced net.now priced.old }
     requires sized { IsSized net.now rows.now }
+    requires none { (i : ℕ) → is_flagged priced.old.passed i ≡ false }
     requires name { blank.name ≡ L.name }
     requires parts { blank.parts ≡ L.parts }
     requires has_a_part { 0 < blank.parts }
@@ -103,7 +104,8 @@ fn settle<L: Ledger>(priced: &mut PricedTimetable, net: &Network, rows: &Rows, b
     priced.settle(net, &mut steps);
 }
 
-/// Takes each event as passed or not, as the rows have it.
+/// Takes each event as passed that has, where none is taken so before.
+#[tactic(auto, using(crate::proofs::Rooted::none_passed, crate::proofs::Rooted::open_next, crate::proofs::Rooted::passed_next))]
 fn set_passed<L: Ledger>(
     priced: &mut PricedTimetable,
     net: &Network,
@@ -112,41 +114,38 @@ fn set_passed<L: Ledger>(
 )
     requires priced { IsPriced net.now priced.old }
     requires sized { IsSized net.now rows.now }
+    requires none { (i : ℕ) → is_flagged priced.old.passed i ≡ false }
     ensures priced { IsPriced net.now priced.new }
     ensures live { priced.new.live ≡ priced.old.live }
     ensures passed { HasPassedTo rows.now (length net.now.events) priced.new.passed }
     ensures charged { priced.new.charged ≡ priced.old.charged }
 {
     for i in 0..net.events() {
-        set_passed_at(priced, net, rows, i, steps);
+        if rows.passed(i).is_none() {
+            continue;
+        }
+        let into = net.in_row(i, steps);
+        priced.pass(net, i, into);
     }
 }
 
-/// Takes an event as passed or not, as the rows have it.
-fn set_passed_at<L: Ledger>(
-    priced: &mut PricedTimetable,
-    net: &Network,
-    rows: &Rows,
-    i: usize,
-    steps: &mut Steps<L>,
-)
-    requires priced { IsPriced net.now priced.old }
-    requires sized { IsSized net.now rows.now }
-    requires is_event { i < length net.now.events }
-    ensures priced { IsPriced net.now priced.new }
-    ensures passed { priced.new ≡ record priced.old {
-      passed = slice_set priced.old.passed i (has_passed rows.now i);
-      sums = priced.new.sums;
-    } }
-{
-    let is_passed = rows.passed(i).is_some();
-    if priced.is_passed(i) == is_passed {
-        return;
-    }
-    let into = net.in_row(i, steps);
-    if is_passed {
-        priced.pass(net, i, into);
-    } else {
-        priced.recall(net, i, into);
+/// The activities that bind where every free choice is undecided.
+#[derive(Clone, Copy)]
+struct RootActivities<'a> {
+    net: &'a Network,
+    rows: &'a Rows,
+    ghost sized: { IsSized net.now rows.now },
+}
+
+impl Holding for RootActivities<'_> {
+    ghost use Rattle.std.specs.Prelude.{[], length};
+    ghost use Rattle.dm_rows.specs.Relax.{is_relaxed_active};
+
+    ghost places = { λ h. length h.net.now.activities };
+
+    ghost held = { λ h. is_relaxed_active h.net.now h.rows.now [] };
+
+    fn is_held(&self, a: usize) -> bool {
+        binds(self.net, self.rows, a)
     }
 }

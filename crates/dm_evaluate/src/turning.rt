@@ -44,7 +44,13 @@ pub fn turn_on<L: Ledger>(
 {
     net.sound();
     match flip {
-        Flip::Keep { act } => keep(priced, marks, net, act, steps),
+        Flip::Keep { act } => match priced.hold(net, act) {
+            Ok(()) => {
+                priced.settle_watched(net, marks, steps);
+                Ok(())
+            }
+            Err(Cyclic) => Err(Cyclic),
+        },
         Flip::Drop { act } => {
             priced.charge(net, act, true);
             Ok(())
@@ -86,38 +92,6 @@ pub fn turn_off<L: Ledger>(
             let first = first_event(net, pair, small);
             release_direction(priced, marks, net, pair, first, steps);
         }
-    }
-}
-
-/// Holds a change, and settles the timetable, unless it makes a cycle.
-fn keep<L: Ledger>(
-    priced: &mut PricedTimetable,
-    marks: &mut ViolationMarks,
-    net: &Network,
-    act: usize,
-    steps: &mut Steps<L>,
-) -> Result<(), Cyclic>
-    requires priced { IsPriced net.now priced.old }
-    requires at_rest { IsAtRest priced.old.live }
-    requires marks { MarksUnkept net.now priced.old.live.given.spans priced.old.live.times
-        (record { changes = marks.old.changes; pairs = marks.old.pairs }) }
-    requires is_activity { act < length net.now.activities }
-    requires open { NoneFixed priced.old.live.fixed }
-    ensures priced { IsPriced net.now priced.new }
-    ensures at_rest { IsAtRest priced.new.live }
-    ensures marks { MarksUnkept net.now priced.new.live.given.spans priced.new.live.times
-        (record { changes = marks.new.changes; pairs = marks.new.pairs }) }
-    ensures turns { OnOk result (Turns net.now (Flip.Keep act) true priced.old priced.new) }
-    ensures stays { OnErr result (Stays net.now priced.old priced.new) }
-    ensures cycle { OnErr result (IsCycleOf net.now (set_where (is_held_by net.now (Flip.Keep act)) true
-        (is_held priced.old.live.given.held)) priced.new.live.order.cycle) }
-{
-    match priced.hold(net, act) {
-        Ok(()) => {
-            priced.settle_watched(net, marks, steps);
-            Ok(())
-        }
-        Err(Cyclic) => Err(Cyclic),
     }
 }
 

@@ -1,10 +1,8 @@
 -- A timetable that is made for the relaxed problem in which nothing is decided.
-use Rattle.std.specs.Prelude.{ℕ, ◌≡◌, ◌<◌, Bool, List, []}
+use Rattle.std.specs.Prelude.{ℕ, ◌≡◌, ◌<◌, ◌≤◌, Bool, false, List, []}
 use Rattle.dm_network.specs.Net.{Net}
 use Rattle.dm_network.specs.Held.{IsCycleOf}
 use Rattle.dm_live.specs.Live.{LiveValue, IsLive, IsAtRest, NoneFixed}
-use Rattle.dm_order.specs.declared.faults.OrderFault.{OrderFault}
-use Rattle.dm_order.specs.declared.faults.OrderFault.TheVariants.{Cyclic, OutOfMemory}
 use Rattle.dm_priced.specs.Priced.{PricedValue, is_flagged}
 use Rattle.dm_rows.specs.Active.{has_passed}
 use Rattle.dm_rows.specs.Relax.{is_relaxed_active}
@@ -23,13 +21,14 @@ pub record HasRootCycle (net : Net) (rows : RowsValue) : Type 0 where
   pub cycle : List ℕ
   pub is_cycle : IsCycleOf net (is_relaxed_active net rows []) cycle
 
-abbrev pub RefusesRoot : Net → RowsValue → OrderFault → Type 0
-RefusesRoot net rows Cyclic = HasRootCycle net rows
-RefusesRoot net rows OutOfMemory = Unit {0}
-
 -- the first n events are flagged where they have passed
 abbrev pub HasPassedTo : RowsValue → ℕ → List Bool → Type 0
 HasPassedTo rows n passed = (i : ℕ) → i < n → is_flagged passed i ≡ has_passed rows i
+
+-- they are, and no other event is flagged
+pub record HasPassedOnlyTo (rows : RowsValue) (n : ℕ) (passed : List Bool) : Type 0 where
+  pub before : HasPassedTo rows n passed
+  pub none : (i : ℕ) → n ≤ i → is_flagged passed i ≡ false
 
 -- a timetable evaluates the path without a decision, and is at rest
 pub record IsRoot (net : Net) (rows : RowsValue) (priced : PricedValue) : Type 0 where

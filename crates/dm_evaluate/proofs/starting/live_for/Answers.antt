@@ -1,10 +1,10 @@
 use Rattle.std.proofs.Common.{Bool, List, [], length, sym, ap, subst, ◌∙◌}
-use Rattle.dm_live.specs.Live.{is_fixed}
+use Rattle.dm_live.specs.Live.{is_fixed, RefusesLive}
 use Rattle.dm_live.proofs.Resting.{none_of}
 use Rattle.dm_rows.specs.Relax.{is_relaxed_active}
 use Rattle.dm_settle.specs.Constraints.{ConstraintsValue}
 use Rattle.dm_times.specs.Constraints.{AreConstraintsHolding}
-use Rattle.dm_evaluate.proofs.Rooted.{refuses_root}
+use Rattle.dm_evaluate.proofs.Rooted.{has_root_cycle}
 use Rattle.dm_evaluate.proofs.starting.live_for.Goals as goal
 
 pub returns-in-Ok-clause-live : goal.returns-in-Ok-clause-live
@@ -15,6 +15,7 @@ returns-in-Ok-clause-live c = record {
       (sym c.in-Ok.ensures.given) c.in_ok-constraints.ensures;
 }
 
-pub returns-in-Err-clause-refused : goal.returns-in-Err-clause-refused
-returns-in-Err-clause-refused c =
-    refuses_root c.args.net.now c.args.rows.now c.in_ok-constraints.constraints c.in_ok-constraints.ensures c.in-Err.fault c.in-Err.ensures.refused
+pub root_cycle-requires-clause-cyclic : goal.root_cycle-requires-clause-cyclic
+root_cycle-requires-clause-cyclic c =
+    has_root_cycle c.args.net.now c.args.rows.now c.in_ok-constraints.constraints c.in_ok-constraints.ensures
+    (subst (RefusesLive c.args.net.now c.in_ok-constraints.constraints) c.in-Err-Cyclic.field-0-is c.in-Err-Cyclic.ensures.refused)

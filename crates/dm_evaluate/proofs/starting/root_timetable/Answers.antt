@@ -1,16 +1,22 @@
-use Rattle.std.proofs.Common.{◌≡◌, [], sym, ap, subst, ◌∙◌}
+use Rattle.std.proofs.Common.{◌≡◌, Bool, List, [], length, sym, ap, subst, ◌∙◌}
 use Rattle.dm_live.specs.Live.{LiveValue, NoneFixed}
+use Rattle.dm_live.proofs.Resting.{none_of}
+use Rattle.dm_priced.specs.Priced.{is_flagged}
 use Rattle.dm_rows.specs.Relax.{is_relaxed_active}
 use Rattle.dm_settle.specs.Constraints.{ConstraintsValue}
 use Rattle.dm_times.specs.Constraints.{AreConstraintsHolding}
 use Rattle.dm_evaluate.proofs.Rooted.{root_evaluates}
 use Rattle.dm_evaluate.proofs.starting.root_timetable.Goals as goal
 
-pub returns-in_ok-priced-in-Ok-clause-root : goal.returns-in_ok-priced-in-Ok-clause-root
-returns-in_ok-priced-in-Ok-clause-root c =
+pub settle-requires-clause-none : goal.settle-requires-clause-none
+settle-requires-clause-none c = λ i.
+    ap (λ (f : List Bool). is_flagged f i) c.in_ok-priced.ensures.passed ∙ none_of (length c.args.net.now.events) i
+
+pub returns-clause-root : goal.returns-clause-root
+returns-clause-root c =
     let net = c.args.net.now in
     let rows = c.args.rows.now in
-    let made = c.in_ok-priced-in-Ok.ensures in
+    let made = c.in_ok-priced.ensures in
     let given : c.settle.new.priced.live.given ≡ c.in-Ok.live.given = c.settle.ensures.given ∙ ap (λ (l : LiveValue). l.given) made.live in
     record {
       evaluates = root_evaluates net rows c.settle.new.priced c.settle.ensures.priced

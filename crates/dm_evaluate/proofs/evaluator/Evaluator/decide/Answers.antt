@@ -34,15 +34,12 @@ returns-in-Ok-clause-evaluator g c =
     (record { changes = c.turn_on.new.marks.changes; pairs = c.turn_on.new.marks.pairs }) c.in-Ok.ensures.marks
 
 pub returns-in-Ok-clause-least : goal.returns-in-Ok-clause-least
-returns-in-Ok-clause-least g c =
-    let now : EvaluatorValue = record { rows = c.self.inside.rows; path = c.push_reserved.new.self.items; changes = c.set.new.self.changes.items; pairs = c.set.new.self.pairs.items; priced = c.turn_on.new.priced; marks = record { changes = c.turn_on.new.marks.changes; pairs = c.turn_on.new.marks.pairs } } in
-    evaluator_least c.args.net.now now c.sound.ensures.network.formed.ends_are_known (returns-in-Ok-clause-evaluator g c)
+returns-in-Ok-clause-least g c = evaluator_least c.args.net.now _ c.sound.ensures.network.formed.ends_are_known (returns-in-Ok-clause-evaluator g c)
 
 pub returns-in-Ok-clause-no_cycle : goal.returns-in-Ok-clause-no_cycle
 returns-in-Ok-clause-no_cycle g c =
-    let now : EvaluatorValue = record { rows = c.self.inside.rows; path = c.push_reserved.new.self.items; changes = c.set.new.self.changes.items; pairs = c.set.new.self.pairs.items; priced = c.turn_on.new.priced; marks = record { changes = c.turn_on.new.marks.changes; pairs = c.turn_on.new.marks.pairs } } in
     subst (λ (e : EvaluatorValue). HasNoRelaxedCycle c.args.net.now e.rows (e.path ++ c.args.decision ∷ [])) c.self.view_is
-    (rw (← c.push_reserved.ensures.items) (evaluator_no_cycle c.args.net.now now (returns-in-Ok-clause-evaluator g c)))
+    (rw (← c.push_reserved.ensures.items) (evaluator_no_cycle c.args.net.now _ (returns-in-Ok-clause-evaluator g c)))
 
 pub returns-in-Err-clause-evaluator : goal.returns-in-Err-clause-evaluator
 returns-in-Err-clause-evaluator g c =
@@ -51,9 +48,7 @@ returns-in-Err-clause-evaluator g c =
     (record { changes = c.turn_on.new.marks.changes; pairs = c.turn_on.new.marks.pairs }) c.in-Err.ensures.marks
 
 pub returns-in-Err-clause-least : goal.returns-in-Err-clause-least
-returns-in-Err-clause-least g c =
-    let now : EvaluatorValue = record { rows = c.self.inside.rows; path = c.self.inside.path.items; changes = c.self.inside.undecided.changes.items; pairs = c.self.inside.undecided.pairs.items; priced = c.turn_on.new.priced; marks = record { changes = c.turn_on.new.marks.changes; pairs = c.turn_on.new.marks.pairs } } in
-    evaluator_least c.args.net.now now c.sound.ensures.network.formed.ends_are_known (returns-in-Err-clause-evaluator g c)
+returns-in-Err-clause-least g c = evaluator_least c.args.net.now _ c.sound.ensures.network.formed.ends_are_known (returns-in-Err-clause-evaluator g c)
 
 pub returns-in-Err-clause-unchanged : goal.returns-in-Err-clause-unchanged
 returns-in-Err-clause-unchanged g c =

@@ -28,6 +28,4 @@ returns-clause-path g c =
     ∙ ap (λ (e : EvaluatorValue). path_without c.args.choice e.path) c.self.view_is
 
 pub returns-clause-least : goal.returns-clause-least
-returns-clause-least g c =
-    let now : EvaluatorValue = record { rows = c.self.inside.rows; path = c.remove-decision.new.self.items; changes = c.set.new.self.changes.items; pairs = c.set.new.self.pairs.items; priced = c.turn_off.new.priced; marks = record { changes = c.turn_off.new.marks.changes; pairs = c.turn_off.new.marks.pairs } } in
-    evaluator_least c.args.net.now now c.sound.ensures.network.formed.ends_are_known (returns-clause-evaluator g c)
+returns-clause-least g c = evaluator_least c.args.net.now _ c.sound.ensures.network.formed.ends_are_known (returns-clause-evaluator g c)
