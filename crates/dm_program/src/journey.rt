@@ -1,6 +1,5 @@
 //! Journeys of passengers, in print.
 ghost use Rattle.std.specs.Prelude.{◌≡◌, ◌<◌, ◌≤◌, length};
-ghost use Rattle.std.specs.List.{flat_map};
 ghost use Rattle.dm_outside.specs.Printing.{Prints, Puts};
 ghost use Rattle.dm_program.specs.Ends.{EndsAs};
 ghost use Rattle.dm_program.specs.Travelled.{journey_text, journeys_text, step_text};
@@ -91,18 +90,6 @@ fn print_journeys<K: Sink>(
     ) else {
         return Err(WriteFault);
     };
-    print_each(sink, page, net, journeys)
-}
-
-fn print_each<K: Sink>(
-    sink: &mut K,
-    page: &mut Page,
-    net: &Network,
-    journeys: &[Journey],
-) -> Result<(), WriteFault>
-    requires { AreWalksIn net.now journeys.now }
-    ensures { Prints K.taken K.faults sink.old sink.new page.old page.new result (flat_map (journey_text net.now) journeys.now) }
-{
     for journey in journeys {
         let Ok(()) = print_journey(sink, page, net, journey) else {
             return Err(WriteFault);
@@ -111,6 +98,7 @@ fn print_each<K: Sink>(
     Ok(())
 }
 
+/// Prints a journey, with the ids of its activities.
 #[tactic(auto, unfolding(crate::specs::Travelled::journey_text))]
 fn print_journey<K: Sink>(
     sink: &mut K,
@@ -121,6 +109,7 @@ fn print_journey<K: Sink>(
     requires { IsWalkIn net.now journey.now.walk }
     ensures { Prints K.taken K.faults sink.old sink.new page.old page.new result (journey_text net.now journey.now) }
 {
+    let walk = journey.walk.as_slice();
     let Ok(()) = page.put(
         sink,
         &[
@@ -133,28 +122,12 @@ fn print_journey<K: Sink>(
     ) else {
         return Err(WriteFault);
     };
-    let Ok(()) = print_walk(sink, page, net, journey.walk.as_slice()) else {
-        return Err(WriteFault);
-    };
-    page.put(sink, &[Piece::Text("\n")])
-}
-
-/// Prints the ids of the activities at these places.
-fn print_walk<K: Sink>(
-    sink: &mut K,
-    page: &mut Page,
-    net: &Network,
-    walk: &[usize],
-) -> Result<(), WriteFault>
-    requires { IsWalkIn net.now walk.now }
-    ensures { Prints K.taken K.faults sink.old sink.new page.old page.new result (flat_map (step_text net.now) walk.now) }
-{
     for a in walk {
         let Ok(()) = print_step(sink, page, net, *a) else {
             return Err(WriteFault);
         };
     }
-    Ok(())
+    page.put(sink, &[Piece::Text("\n")])
 }
 
 #[tactic(auto, unfolding(crate::specs::Travelled::step_text))]

@@ -68,6 +68,21 @@ pub fn put_two_numbers<K: Sink>(
     )
 }
 
+/// Puts a line with a name in it.
+fn put_named<'w, K: Sink>(
+    sink: &mut K,
+    before: &'w str,
+    name: &'w str,
+    after: &'w str,
+) -> Result<(), WriteFault>
+    ensures { Puts K.taken K.faults sink.old sink.new result (joined (before.now ∷ name.now ∷ after.now ∷ [])) }
+{
+    put_pieces(
+        sink,
+        &[Piece::Text(before), Piece::Text(name), Piece::Text(after)],
+    )
+}
+
 /// Puts the line of a verdict.
 pub fn put_verdict<K: Sink>(sink: &mut K, verdict: Verdict) -> Result<(), WriteFault>
     ensures { Puts K.taken K.faults sink.old sink.new result (verdict_line verdict) }
@@ -93,27 +108,12 @@ pub fn put_verdict<K: Sink>(sink: &mut K, verdict: Verdict) -> Result<(), WriteF
 pub fn put_long_text<K: Sink>(sink: &mut K, name: &str) -> Result<(), WriteFault>
     ensures { Puts K.taken K.faults sink.old sink.new result (long_text_line name.now) }
 {
-    put_pieces(
-        sink,
-        &[
-            Piece::Text("refused "),
-            Piece::Text(name),
-            Piece::Text(" too-long"),
-            Piece::Text("\n"),
-        ],
-    )
+    put_named(sink, "refused ", name, " too-long\n")
 }
 
 /// Puts the line of a text that could not be read.
 pub fn put_unread_text<K: Sink>(sink: &mut K, name: &str) -> Result<(), WriteFault>
     ensures { Puts K.taken K.faults sink.old sink.new result (unread_text_line name.now) }
 {
-    put_pieces(
-        sink,
-        &[
-            Piece::Text("read fault "),
-            Piece::Text(name),
-            Piece::Text("\n"),
-        ],
-    )
+    put_named(sink, "read fault ", name, "\n")
 }
