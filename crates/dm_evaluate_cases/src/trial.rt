@@ -1,4 +1,4 @@
-//! An evaluator whose every move is compared.
+//! Moves that are compared with the relaxed problem from scratch.
 ghost use Rattle.std.specs.Prelude.{◌≡◌, ◌++◌, ◌<◌, [], ◌∷◌, true, IfOk};
 ghost use Rattle.dm_rows.specs.Decide.{choice_of};
 ghost use Rattle.dm_rows.specs.Rows.{IsSized};
@@ -10,44 +10,17 @@ use dm_evaluate::Evaluator;
 use dm_network::Network;
 use dm_relax::{Relaxed, relax};
 use dm_rows::{Choice, Decision, Rows};
-use dm_samples::{Failure, decide, undecide, violated};
+use dm_samples::{Decided, EvaluatorOn, Failure};
 use dm_settle::{NoTimes, Times};
 use std::alloc::{AllocError, Global};
-use std::marker::Model;
 
 /// Seconds for each passenger.
 const PENALTY: u64 = 10;
 
-/// What came of a decision.
-#[derive(Clone, Copy, PartialEq, Eq)]
-pub enum Decided {
-    Made,
-
-    /// What then binds has a cycle, and so says the relaxed problem from scratch.
-    Cyclic,
-
-    /// One of both says that there is a cycle.
-    Differs,
-
-    /// The choice is not open.
-    NotOpen,
-}
-
-/// An evaluator with its network.
+/// An evaluator whose every move is compared.
 #[derive(Drop)]
 pub struct Trial<'n> {
-    net: &'n Network,
-    evaluator: Evaluator,
-}
-
-impl<'n> Model for Trial<'n> {
-    ghost use Rattle.dm_evaluate.specs.Evaluator.{EvaluatorValue, IsEvaluatorOf};
-
-    ghost Value = { EvaluatorValue };
-
-    ghost view = { λ trial. trial.evaluator };
-
-    ghost invariant = { λ trial. IsEvaluatorOf trial.net.now trial.evaluator };
+    evaluator: EvaluatorOn<'n>,
 }
 
 impl<'n> Trial<'n> {
@@ -55,51 +28,39 @@ impl<'n> Trial<'n> {
     pub fn new(alloc: Global, net: &'n Network, rows: Rows) -> Result<Trial<'n>, Failure>
         requires { IsSized net.now rows }
     {
-        match Evaluator::new(alloc, net, rows) {
-            Ok(evaluator) => Ok(Trial { net, evaluator }),
-            Err(NoTimes::OutOfMemory) => Err(Failure::OutOfMemory),
-            Err(NoTimes::Cycle(_)) => Err(Failure::NoDay),
-        }
+        let evaluator = EvaluatorOn::new(alloc, net, rows)?;
+        Ok(Trial { evaluator })
     }
 
-    /// Decides a choice, and says whether the longer path has a cycle.
-    pub fn decide(&mut self, alloc: Global, decision: Decision) -> Result<Decided, Failure> {
-        if !self.evaluator.is_open(self.net, decision.choice()) {
-            return Ok(Decided::NotOpen);
-        }
-        let due = closes_cycle(alloc, self.net, &self.evaluator, decision)?;
-        let made = decide(&mut self.evaluator, self.net, decision).is_ok();
-        Ok(match (made, due) {
-            (true, false) => Decided::Made,
-            (false, true) => Decided::Cyclic,
-            _ => Decided::Differs,
-        })
+    /// Decides a choice, and says what came of it, or None where it came out otherwise than is due from scratch.
+    pub fn decide(
+        &mut self,
+        alloc: Global,
+        decision: Decision,
+    ) -> Result<Option<Decided>, Failure> {
+        let due = due_for(alloc, &self.evaluator, decision)?;
+        let decided = self.evaluator.decide(decision);
+        Ok(if decided == due { Some(decided) } else { None })
     }
 
     /// Takes the decision of a choice back, and says whether there was one.
     pub fn take_back(&mut self, choice: Choice) -> bool {
-        if !self.evaluator.has_decided(choice) {
-            return false;
-        }
-        undecide(&mut self.evaluator, self.net, choice);
-        true
+        self.evaluator.take_back(choice)
     }
 
     /// What the path costs, and the first choice that it leaves undecided and violates.
     pub fn found(&mut self) -> (Cost, Option<Choice>) {
-        let cost = self.evaluator.cost(self.net, PENALTY);
-        let violated = violated(&mut self.evaluator, self.net);
-        (cost, violated)
+        (self.evaluator.cost(PENALTY), self.evaluator.violated())
     }
 
     /// How many activities the cycle has for which a decision was refused last.
     pub fn cycle_size(&self) -> usize {
-        self.evaluator.last_cycle().len()
+        self.evaluator.evaluator().last_cycle().len()
     }
 
     /// Whether times, cost and the first violated choice are those of the path's relaxed problem, computed from scratch.
     pub fn agrees(&mut self, alloc: Global) -> Result<bool, Failure> {
-        match due(alloc, self.net, &self.evaluator) {
+        match due(alloc, self.evaluator.net(), self.evaluator.evaluator()) {
             Ok(Some(due)) => Ok(self.is(due)),
             Ok(None) => Ok(false),
             Err(failure) => Err(failure),
@@ -143,20 +104,18 @@ fn found_at(relaxed: &Relaxed, times: &Times) -> Option<Found> {
     }
 }
 
-/// Whether the path with one more decision has a cycle, computed from scratch.
-fn closes_cycle(
-    alloc: Global,
-    net: &Network,
-    evaluator: &Evaluator,
-    decision: Decision,
-) -> Result<bool, Failure>
-    requires evaluator { IsEvaluatorOf net.now evaluator.now }
-    requires open { IsOpen net.now evaluator.now.rows evaluator.now.path (choice_of decision) }
-{
-    match longer(alloc, evaluator, decision) {
-        Ok(path) => has_cycle(alloc, net, evaluator, decision, &path),
-        Err(AllocError) => Err(Failure::OutOfMemory),
+/// What is to come of a decision, computed from scratch.
+fn due_for(alloc: Global, on: &EvaluatorOn<'_>, decision: Decision) -> Result<Decided, Failure> {
+    let (net, evaluator) = (on.net(), on.evaluator());
+    if !evaluator.is_open(net, decision.choice()) {
+        return Ok(Decided::NotOpen);
     }
+    let path = longer(alloc, evaluator, decision)?;
+    Ok(if has_cycle(alloc, net, evaluator, decision, &path)? {
+        Decided::Cyclic
+    } else {
+        Decided::Made
+    })
 }
 
 /// The path with one more decision.

@@ -1,10 +1,10 @@
 //! Walks of decisions that are made and taken back.
 ghost use Rattle.dm_rows.specs.Rows.{IsSized};
 
-use crate::trial::{Decided, Trial};
+use crate::trial::Trial;
 use dm_network::Network;
 use dm_rows::{Choice, Decision, Rows, free_choices};
-use dm_samples::{Draws, Failure, drawn_rows, turning_day};
+use dm_samples::{Decided, Draws, Failure, drawn_rows, turning_day};
 use std::alloc::Global;
 
 /// How a move came out.
@@ -122,7 +122,7 @@ fn compared(
         return Err(Failure::NoDay);
     };
     let first = draws.below(2) == 0;
-    let moved = make_move(alloc, trial, choice, first)?;
+    let moved = make_move(alloc, trial, decision_of(choice, first))?;
     let agrees = trial.agrees(alloc)?;
     Ok(if agrees { moved } else { Moved::Wrongly })
 }
@@ -135,27 +135,22 @@ fn drawn_choice(free: &[Choice], draws: &mut Draws) -> Option<Choice> {
 }
 
 /// Takes the decision of a choice back, or else decides it.
-fn make_move(
-    alloc: Global,
-    trial: &mut Trial<'_>,
-    choice: Choice,
-    first: bool,
-) -> Result<Moved, Failure> {
-    if trial.take_back(choice) {
+fn make_move(alloc: Global, trial: &mut Trial<'_>, decision: Decision) -> Result<Moved, Failure> {
+    if trial.take_back(decision.choice()) {
         return Ok(Moved::TakenBack);
     }
-    match trial.decide(alloc, decision_of(choice, first)) {
+    match trial.decide(alloc, decision) {
         Ok(decided) => Ok(came_out(decided)),
         Err(failure) => Err(failure),
     }
 }
 
 /// How a move came out that decides.
-fn came_out(decided: Decided) -> Moved {
+fn came_out(decided: Option<Decided>) -> Moved {
     match decided {
-        Decided::Made => Moved::Decided,
-        Decided::Cyclic => Moved::Cyclic,
-        Decided::Differs | Decided::NotOpen => Moved::Wrongly,
+        Some(Decided::Made) => Moved::Decided,
+        Some(Decided::Cyclic) => Moved::Cyclic,
+        Some(Decided::NotOpen) | None => Moved::Wrongly,
     }
 }
 

@@ -2,11 +2,11 @@
 ghost use Rattle.std.specs.Prelude.{IfOk};
 ghost use Rattle.dm_rows.specs.Rows.{IsSized};
 
-use crate::trial::{Decided, Trial};
+use crate::trial::Trial;
 use dm_base::{ActId, Cost, EventId};
 use dm_network::Network;
 use dm_rows::{Choice, Decision, Message, Rows, admit};
-use dm_samples::{Failure, Sample, rows_on_time};
+use dm_samples::{Decided, Failure, Sample, rows_on_time};
 use std::alloc::Global;
 
 const CHANGE: Choice = Choice::Change(ActId(5));
@@ -74,7 +74,7 @@ fn make_moves(alloc: Global, trial: &mut Trial<'_>) -> Result<(), Failure> {
 fn make(alloc: Global, trial: &mut Trial<'_>, one: Move) -> Result<bool, Failure> {
     Ok(match one {
         Move::Stay => true,
-        Move::Decide(decision) => trial.decide(alloc, decision)? == Decided::Made,
+        Move::Decide(decision) => trial.decide(alloc, decision)? == Some(Decided::Made),
         Move::TakeBack(choice) => trial.take_back(choice),
     })
 }
@@ -96,7 +96,7 @@ fn is_refused(alloc: Global, trial: &mut Trial<'_>) -> Result<(), Failure> {
     let before = trial.found();
     let decided = trial.decide(alloc, Decision::First(EventId(5), EventId(3)))?;
     let same = trial.found() == before && trial.cycle_size() == 3;
-    if decided == Decided::Cyclic && same && trial.agrees(alloc)? {
+    if decided == Some(Decided::Cyclic) && same && trial.agrees(alloc)? {
         Ok(())
     } else {
         Err(Failure::Differs(1))

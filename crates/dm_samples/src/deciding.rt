@@ -1,105 +1,148 @@
-//! Decisions that an evaluator makes and takes back, for programs that count no steps. Each call is the evaluator's own, with a
-//! ledger that nothing reads.
-ghost use Rattle.std.specs.Prelude.{◌≡◌, ◌<◌, ◌++◌, [], ◌∷◌, true, OnOk, OnErr};
-ghost use Rattle.dm_rows.specs.Decide.{choice_of};
-ghost use Rattle.dm_rows.specs.Relax.{is_decided};
-ghost use Rattle.dm_tree.specs.Relaxed.{IsRelaxedCycle};
-ghost use Rattle.dm_relax.specs.Relaxed.{first_violated};
-ghost use Rattle.dm_evaluate.specs.Evaluator.{IsEvaluatorOf, times_of, cycle_of, path_without};
-ghost use Rattle.dm_paths.specs.Decisions.{IsOpen};
+//! An evaluator that decides and takes back, for programs that count no steps. Each move is the evaluator's own, with a ledger
+//! that nothing reads.
+ghost use Rattle.std.specs.Prelude.{◌≡◌, ◌≤◌, ◌<◌, [], if◌then◌else◌, IfOk};
+ghost use Rattle.dm_base.specs.declared.limits.TheConstants.{PENALTY};
+ghost use Rattle.dm_rows.specs.Rows.{IsSized};
+ghost use Rattle.dm_evaluate.specs.Evaluator.{IsEvaluatorOf, path_without};
+ghost use Rattle.dm_samples.specs.Deciding.{path_after};
 
-use dm_base::Steps;
+use crate::failure::Failure;
+use dm_base::{Cost, Steps};
 use dm_evaluate::Evaluator;
 use dm_graph::search::Cyclic;
 use dm_network::Network;
-use dm_rows::{Choice, Decision};
-use std::marker::Brand;
+use dm_rows::{Choice, Decision, Rows};
+use dm_settle::NoTimes;
+use std::alloc::Global;
+use std::marker::{Brand, Model};
 use std::sync::ledger::{Blank, Ledger};
 
-/// Decides an open choice, or shows a cycle of what then binds: then the path is as before.
-pub fn decide(evaluator: &mut Evaluator, net: &Network, decision: Decision) -> Result<(), Cyclic>
-    requires evaluator { IsEvaluatorOf net.now evaluator.old }
-    requires open { IsOpen net.now evaluator.old.rows evaluator.old.path (choice_of decision) }
-    ensures evaluator { IsEvaluatorOf net.now evaluator.new }
-    ensures rows { evaluator.new.rows ≡ evaluator.old.rows }
-    ensures path { OnOk result (evaluator.new.path ≡ evaluator.old.path ++ decision ∷ []) }
-    ensures unchanged { OnErr result (evaluator.new.path ≡ evaluator.old.path) }
-    ensures cycle { OnErr result (IsRelaxedCycle net.now evaluator.old.rows (evaluator.old.path ++ decision ∷ [])
-        (cycle_of evaluator.new)) }
-{
-    decide_with::<Brand>(evaluator, net, decision, Blank::new(1))
+/// What came of a decision.
+#[derive(Clone, Copy, PartialEq, Eq, Debug)]
+pub enum Decided {
+    Made,
+
+    /// What then binds has a cycle.
+    Cyclic,
+
+    /// The choice is not open.
+    NotOpen,
 }
 
-fn decide_with<L: Ledger>(
-    evaluator: &mut Evaluator,
-    net: &Network,
-    decision: Decision,
-    blank: Blank,
-) -> Result<(), Cyclic>
-    requires evaluator { IsEvaluatorOf net.now evaluator.old }
-    requires open { IsOpen net.now evaluator.old.rows evaluator.old.path (choice_of decision) }
-    requires name { blank.name ≡ L.name }
-    requires parts { blank.parts ≡ L.parts }
-    requires has_a_part { 0 < blank.parts }
-    ensures evaluator { IsEvaluatorOf net.now evaluator.new }
-    ensures rows { evaluator.new.rows ≡ evaluator.old.rows }
-    ensures path { OnOk result (evaluator.new.path ≡ evaluator.old.path ++ decision ∷ []) }
-    ensures unchanged { OnErr result (evaluator.new.path ≡ evaluator.old.path) }
-    ensures cycle { OnErr result (IsRelaxedCycle net.now evaluator.old.rows (evaluator.old.path ++ decision ∷ [])
-        (cycle_of evaluator.new)) }
-{
-    let mut steps = Steps::<L>::new(blank);
-    evaluator.decide(net, decision, &mut steps)
+/// An evaluator with its network.
+#[derive(Drop)]
+pub struct EvaluatorOn<'n> {
+    net: &'n Network,
+    evaluator: Evaluator,
 }
 
-/// Takes the decision of a choice back.
-pub fn undecide(evaluator: &mut Evaluator, net: &Network, choice: Choice)
-    requires evaluator { IsEvaluatorOf net.now evaluator.old }
-    requires decided { is_decided evaluator.old.path choice ≡ true }
-    ensures evaluator { IsEvaluatorOf net.now evaluator.new }
-    ensures rows { evaluator.new.rows ≡ evaluator.old.rows }
-    ensures path { evaluator.new.path ≡ path_without choice evaluator.old.path }
-{
-    undecide_with::<Brand>(evaluator, net, choice, Blank::new(1));
+impl<'n> Model for EvaluatorOn<'n> {
+    ghost use Rattle.dm_evaluate.specs.Evaluator.{EvaluatorValue, IsEvaluatorOf};
+
+    ghost Value = { EvaluatorValue };
+
+    ghost view = { λ on. on.evaluator };
+
+    ghost invariant = { λ on. IsEvaluatorOf on.net.now on.evaluator };
 }
 
-fn undecide_with<L: Ledger>(evaluator: &mut Evaluator, net: &Network, choice: Choice, blank: Blank)
-    requires evaluator { IsEvaluatorOf net.now evaluator.old }
-    requires decided { is_decided evaluator.old.path choice ≡ true }
-    requires name { blank.name ≡ L.name }
-    requires parts { blank.parts ≡ L.parts }
-    requires has_a_part { 0 < blank.parts }
-    ensures evaluator { IsEvaluatorOf net.now evaluator.new }
-    ensures rows { evaluator.new.rows ≡ evaluator.old.rows }
-    ensures path { evaluator.new.path ≡ path_without choice evaluator.old.path }
-{
-    let mut steps = Steps::<L>::new(blank);
-    evaluator.undecide(net, choice, &mut steps);
-}
+impl<'n> EvaluatorOn<'n> {
+    /// The evaluator of these rows, with nothing decided.
+    pub fn new(alloc: Global, net: &'n Network, rows: Rows) -> Result<EvaluatorOn<'n>, Failure>
+        requires { IsSized net.now rows }
+        ensures rows { IfOk result (λ on. on.rows ≡ rows) }
+        ensures path { IfOk result (λ on. on.path ≡ []) }
+    {
+        match Evaluator::new(alloc, net, rows) {
+            Ok(evaluator) => Ok(EvaluatorOn { net, evaluator }),
+            Err(NoTimes::OutOfMemory) => Err(Failure::OutOfMemory),
+            Err(NoTimes::Cycle(_)) => Err(Failure::NoDay),
+        }
+    }
 
-/// The first choice that is violated and left undecided.
-pub fn violated(evaluator: &mut Evaluator, net: &Network) -> Option<Choice>
-    requires { IsEvaluatorOf net.now evaluator.old }
-    ensures evaluator { IsEvaluatorOf net.now evaluator.new }
-    ensures others { evaluator.new ≡ record evaluator.old { marks = evaluator.new.marks } }
-    ensures first { result ≡ first_violated net.now evaluator.old.rows evaluator.old.path (times_of evaluator.old) }
-{
-    violated_with::<Brand>(evaluator, net, Blank::new(1))
-}
+    /// The network, of which it is an evaluator.
+    pub fn net(&self) -> &'n Network
+        ensures { IsEvaluatorOf result.now self.now }
+    {
+        self.net
+    }
 
-fn violated_with<L: Ledger>(
-    evaluator: &mut Evaluator,
-    net: &Network,
-    blank: Blank,
-) -> Option<Choice>
-    requires evaluator { IsEvaluatorOf net.now evaluator.old }
-    requires name { blank.name ≡ L.name }
-    requires parts { blank.parts ≡ L.parts }
-    requires has_a_part { 0 < blank.parts }
-    ensures evaluator { IsEvaluatorOf net.now evaluator.new }
-    ensures others { evaluator.new ≡ record evaluator.old { marks = evaluator.new.marks } }
-    ensures first { result ≡ first_violated net.now evaluator.old.rows evaluator.old.path (times_of evaluator.old) }
-{
-    let mut steps = Steps::<L>::new(blank);
-    evaluator.violated(net, &mut steps)
+    /// The evaluator itself.
+    pub fn evaluator(&self) -> &Evaluator
+        ensures { result.now ≡ self.now }
+    {
+        &self.evaluator
+    }
+
+    /// Decides a choice, where it is open and makes no cycle.
+    pub fn decide(&mut self, decision: Decision) -> Decided
+        ensures rows { self.new.rows ≡ self.old.rows }
+        ensures path { self.new.path ≡ path_after self.old.path decision result }
+    {
+        self.decide_with::<Brand>(decision, Blank::new(1))
+    }
+
+    fn decide_with<L: Ledger>(&mut self, decision: Decision, blank: Blank) -> Decided
+        requires name { blank.name ≡ L.name }
+        requires parts { blank.parts ≡ L.parts }
+        requires has_a_part { 0 < blank.parts }
+        ensures rows { self.new.rows ≡ self.old.rows }
+        ensures path { self.new.path ≡ path_after self.old.path decision result }
+    {
+        if !self.evaluator.is_open(self.net, decision.choice()) {
+            return Decided::NotOpen;
+        }
+        let mut steps = Steps::<L>::new(blank);
+        match self.evaluator.decide(self.net, decision, &mut steps) {
+            Ok(()) => Decided::Made,
+            Err(Cyclic) => Decided::Cyclic,
+        }
+    }
+
+    /// Takes the decision of a choice back, and says whether there was one.
+    pub fn take_back(&mut self, choice: Choice) -> bool
+        ensures rows { self.new.rows ≡ self.old.rows }
+        ensures path { self.new.path ≡ (if result then path_without choice self.old.path else self.old.path) }
+    {
+        self.take_back_with::<Brand>(choice, Blank::new(1))
+    }
+
+    fn take_back_with<L: Ledger>(&mut self, choice: Choice, blank: Blank) -> bool
+        requires name { blank.name ≡ L.name }
+        requires parts { blank.parts ≡ L.parts }
+        requires has_a_part { 0 < blank.parts }
+        ensures rows { self.new.rows ≡ self.old.rows }
+        ensures path { self.new.path ≡ (if result then path_without choice self.old.path else self.old.path) }
+    {
+        if !self.evaluator.has_decided(choice) {
+            return false;
+        }
+        let mut steps = Steps::<L>::new(blank);
+        self.evaluator.undecide(self.net, choice, &mut steps);
+        true
+    }
+
+    /// What the path costs, at a penalty in seconds for each passenger.
+    pub fn cost(&self, penalty: u64) -> Cost
+        requires { penalty ≤ PENALTY }
+    {
+        self.evaluator.cost(self.net, penalty)
+    }
+
+    /// The first choice that is violated and left undecided.
+    pub fn violated(&mut self) -> Option<Choice>
+        ensures { self.new ≡ record self.old { marks = self.new.marks } }
+    {
+        self.violated_with::<Brand>(Blank::new(1))
+    }
+
+    fn violated_with<L: Ledger>(&mut self, blank: Blank) -> Option<Choice>
+        requires name { blank.name ≡ L.name }
+        requires parts { blank.parts ≡ L.parts }
+        requires has_a_part { 0 < blank.parts }
+        ensures { self.new ≡ record self.old { marks = self.new.marks } }
+    {
+        let mut steps = Steps::<L>::new(blank);
+        self.evaluator.violated(self.net, &mut steps)
+    }
 }

@@ -5,10 +5,33 @@ ghost use Rattle.dm_samples.specs.Records.{AreSmallEvents, AreSmallActivities};
 
 use crate::failure::Failure;
 use dm_base::limits::{BOUND, TIME, WEIGHT};
-use dm_base::{ActRow, EventRow};
+use dm_base::{ActId, ActKind, ActRow, EventId, EventKind, EventRow, Secs, StopId};
 use dm_network::{NetFault, Network};
 use dm_rows::{Rows, start_rows};
 use std::alloc::Global;
+
+/// The record of an event, with ids as numbers.
+pub fn event(id: u32, kind: EventKind, time: Secs, weight: u64, stop: u32) -> EventRow {
+    EventRow {
+        id: EventId(id),
+        kind,
+        time,
+        weight,
+        stop: StopId(stop),
+    }
+}
+
+/// The record of an activity, with ids as numbers.
+pub fn activity(id: u32, kind: ActKind, tail: u32, head: u32, lower: Secs, weight: u64) -> ActRow {
+    ActRow {
+        id: ActId(id),
+        kind,
+        tail: EventId(tail),
+        head: EventId(head),
+        lower,
+        weight,
+    }
+}
 
 /// The network of these records. [`Failure::NoDay`] comes where they make none.
 pub fn network_of(

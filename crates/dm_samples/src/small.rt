@@ -1,8 +1,8 @@
 //! Networks of a few events.
 
 use crate::failure::Failure;
-use crate::networks::network_of;
-use dm_base::{ActId, ActKind, ActRow, EventId, EventKind, EventRow, Secs, StopId};
+use crate::networks::{activity, event, network_of};
+use dm_base::{ActKind, ActRow, EventKind, EventRow, Secs};
 use dm_network::Network;
 use std::alloc::{AllocError, Global};
 
@@ -68,61 +68,46 @@ impl Sample {
     pub fn network(self, alloc: Global) -> Result<Network, Failure> {
         let (events, activities) = match self {
             Sample::TwoLegs => (
-                event_rows(alloc, &CONNECTION[..4], &[])?,
-                activity_rows(alloc, &ACTIVITIES[..3], &[])?,
+                numbered(alloc, &CONNECTION[..4], &[], event_of)?,
+                numbered(alloc, &ACTIVITIES[..3], &[], activity_of)?,
             ),
             Sample::Connection => (
-                event_rows(alloc, &CONNECTION, &[])?,
-                activity_rows(alloc, &ACTIVITIES, &[])?,
+                numbered(alloc, &CONNECTION, &[], event_of)?,
+                numbered(alloc, &ACTIVITIES, &[], activity_of)?,
             ),
             Sample::Turnaround => (
-                event_rows(alloc, &CONNECTION[..4], &LATER)?,
-                activity_rows(alloc, &ACTIVITIES, &[TURNED])?,
+                numbered(alloc, &CONNECTION[..4], &LATER, event_of)?,
+                numbered(alloc, &ACTIVITIES, &[TURNED], activity_of)?,
             ),
             Sample::Direct => (
-                event_rows(alloc, &CONNECTION, &DIRECT)?,
-                activity_rows(alloc, &ACTIVITIES, &[DIRECT_DRIVE])?,
+                numbered(alloc, &CONNECTION, &DIRECT, event_of)?,
+                numbered(alloc, &ACTIVITIES, &[DIRECT_DRIVE], activity_of)?,
             ),
         };
         network_of(alloc, events, activities)
     }
 }
 
-/// The records of these events, and of more behind them.
-fn event_rows(
+/// What is made of each of these cases, and of more behind them, with its number from 1 on.
+fn numbered<C: Copy, T: Drop, F: Fn(u32, C) -> T>(
     alloc: Global,
-    cases: &[EventCase],
-    more: &[EventCase],
-) -> Result<Vec<EventRow>, AllocError> {
-    let mut rows = Vec::new(alloc);
-    for ((kind, time, weight, stop), id) in cases.iter().chain(more.iter()).zip(1u32..) {
-        rows.push(EventRow {
-            id: EventId(id),
-            kind: *kind,
-            time: *time,
-            weight: *weight,
-            stop: StopId(*stop),
-        })?;
+    cases: &[C],
+    more: &[C],
+    made: F,
+) -> Result<Vec<T>, AllocError>
+    requires { F.IsAlwaysCallable made }
+{
+    let mut all = Vec::new(alloc);
+    for (case, number) in cases.iter().chain(more.iter()).zip(1u32..) {
+        all.push(made(number, *case))?;
     }
-    Ok(rows)
+    Ok(all)
 }
 
-/// The records of these activities, and of more behind them.
-fn activity_rows(
-    alloc: Global,
-    cases: &[ActivityCase],
-    more: &[ActivityCase],
-) -> Result<Vec<ActRow>, AllocError> {
-    let mut rows = Vec::new(alloc);
-    for ((kind, tail, head, lower, weight), id) in cases.iter().chain(more.iter()).zip(1u32..) {
-        rows.push(ActRow {
-            id: ActId(id),
-            kind: *kind,
-            tail: EventId(*tail),
-            head: EventId(*head),
-            lower: *lower,
-            weight: *weight,
-        })?;
-    }
-    Ok(rows)
+fn event_of(id: u32, (kind, time, weight, stop): EventCase) -> EventRow {
+    event(id, kind, time, weight, stop)
+}
+
+fn activity_of(id: u32, (kind, tail, head, lower, weight): ActivityCase) -> ActRow {
+    activity(id, kind, tail, head, lower, weight)
 }

@@ -1,8 +1,8 @@
 //! A day with a pair whose two events stand far apart in an engine's order.
 
-use dm_base::{ActId, ActKind, ActRow, EventId, EventKind, EventRow, Secs, StopId};
+use dm_base::{ActKind, ActRow, EventId, EventKind, EventRow, Secs};
 use dm_network::Network;
-use dm_samples::{Failure, network_of};
+use dm_samples::{Failure, activity, event, network_of};
 use std::alloc::{AllocError, Global};
 
 /// How many events stand between the two of the pair.
@@ -20,6 +20,9 @@ pub const LATER: EventId = EventId(LAST);
 
 pub const LATER_TIME: Secs = LAST as Secs;
 
+/// The time of the arrival.
+const END_TIME: Secs = LATER_TIME + 20;
+
 /// Departures a second apart, of which the first and the last have a pair of headways, and an arrival 20 seconds after them,
 /// which the last reaches in 10.
 pub fn day_apart(alloc: Global) -> Result<Network, Failure> {
@@ -31,38 +34,16 @@ pub fn day_apart(alloc: Global) -> Result<Network, Failure> {
 fn events(alloc: Global) -> Result<Vec<EventRow>, AllocError> {
     let mut events = Vec::new(alloc);
     for id in FIRST..END {
-        events.push(event(EventKind::Departure, id, 0, 0))?;
+        events.push(event(id, EventKind::Departure, Secs::from(id), 0, 1))?;
     }
-    events.push(event(EventKind::Arrival, END, 19, 1_000))?;
+    events.push(event(END, EventKind::Arrival, END_TIME, 1_000, 1))?;
     Ok(events)
 }
 
 fn activities(alloc: Global) -> Result<Vec<ActRow>, AllocError> {
     let mut activities = Vec::new(alloc);
-    activities.push(activity(1, ActKind::Headway, FIRST, LAST, 120))?;
-    activities.push(activity(2, ActKind::Headway, LAST, FIRST, 120))?;
-    activities.push(activity(3, ActKind::Drive, LAST, END, 10))?;
+    activities.push(activity(1, ActKind::Headway, FIRST, LAST, 120, 0))?;
+    activities.push(activity(2, ActKind::Headway, LAST, FIRST, 120, 0))?;
+    activities.push(activity(3, ActKind::Drive, LAST, END, 10, 0))?;
     Ok(activities)
-}
-
-/// An event whose time is so long after its id in seconds.
-fn event(kind: EventKind, id: u32, after: u32, weight: u64) -> EventRow {
-    EventRow {
-        id: EventId(id),
-        kind,
-        time: Secs::from(id) + Secs::from(after),
-        weight,
-        stop: StopId(1),
-    }
-}
-
-fn activity(id: u32, kind: ActKind, tail: u32, head: u32, lower: Secs) -> ActRow {
-    ActRow {
-        id: ActId(id),
-        kind,
-        tail: EventId(tail),
-        head: EventId(head),
-        lower,
-        weight: 0,
-    }
 }

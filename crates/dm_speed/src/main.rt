@@ -3,7 +3,7 @@
 //! `dm_speed [COUNT [KIND]]` makes so many changes of a kind, or of each kind in turn, and then two more that stay, and prints
 //! what the day costs then. The kind `decision` moves an evaluator in place of an engine, and `apart` passes and recalls an event
 //! of a pair between whose events 20,000 others stand. The time is taken from outside. At the end the times are compared with
-//! those from scratch. It stands on dm_propagate and dm_evaluate for what it times and on dm_samples for the day, and promises
+//! those from scratch. It stands on dm_propagate for the engine and on dm_samples for the evaluator and the day, and promises
 //! nothing.
 //!
 //! The costs in `stdout` are worked out by hand, from what the generator makes. The last train starts 600 seconds late. Each leg
