@@ -1,5 +1,5 @@
 //! Rows that have heard drawn messages, and what is decided over rows.
-ghost use Rattle.std.specs.Prelude.{IsTrue, Contains, IfOk, IfSome};
+ghost use Rattle.std.specs.Prelude.{IsTrue, Contains, IfOk};
 ghost use Rattle.dm_rows.specs.Decide.{choice_of};
 ghost use Rattle.dm_rows.specs.Rows.{IsSized};
 
@@ -7,7 +7,7 @@ use crate::draws::Draws;
 use crate::failure::Failure;
 use crate::networks::rows_on_time;
 use dm_network::Network;
-use dm_rows::{Choice, Decision, Message, Refusal, Rows, admit};
+use dm_rows::{Choice, Decision, Message, Rows, admit};
 use std::alloc::Global;
 
 /// How many messages drawn rows have heard.
@@ -33,26 +33,6 @@ pub fn hear(alloc: Global, net: &Network, rows: &mut Rows, message: &Message)
     if let Ok(change) = admit(alloc, net, rows, message) {
         rows.apply(&change);
     }
-}
-
-/// The rows after a message, or None where something refuses it.
-pub fn rows_after(
-    alloc: Global,
-    net: &Network,
-    rows: &Rows,
-    message: &Message,
-) -> Result<Option<Rows>, Failure>
-    requires { IsSized net.now rows.now }
-    ensures { IfOk result (λ after. IfSome after (IsSized net.now)) }
-{
-    let change = match admit(alloc, net, rows, message) {
-        Ok(change) => change,
-        Err(Refusal::OutOfMemory) => return Err(Failure::OutOfMemory),
-        Err(_) => return Ok(None),
-    };
-    let mut after = rows.copy()?;
-    after.apply(&change);
-    Ok(Some(after))
 }
 
 /// Whether a decision decides one of these choices.

@@ -2,15 +2,15 @@
 //!
 //! [`Sample`] names the small networks, [`generated_day`] and [`turning_day`] make days of many trains, of which the second can
 //! have cycles, and [`network_of`] makes a network of records, as [`event`] and [`activity`] make them. [`Draws`] draws messages
-//! and decisions over days from a seed; [`drawn_rows`] have heard some of them, and [`rows_after`] one. [`decides_one_of`] tells
-//! whether a decision decides a choice of a list. [`update`] of an engine and the moves of [`EvaluatorOn`], an evaluator with its network, are for
+//! and decisions over days from a seed; [`drawn_rows`] have heard some of them. [`decides_one_of`] tells whether a decision
+//! decides a choice of a list. [`update`] of an engine and the moves of [`EvaluatorOn`], an evaluator with its network, are for
 //! programs that count no steps. [`report`] prints how a case came out, and [`report_case`] tries it first. It stands on
 //! dm_network for networks, on dm_gen for days, on dm_rows for messages, on dm_propagate for changes and on dm_evaluate for
 //! decisions.
 //!
 //! # What is promised
 //!
-//! `drawn_rows`, `hear` and `rows_after`: rows of the network come of rows of the network. `decides_one_of` says yes only where the choice is
+//! `drawn_rows` and `hear`: rows of the network come of rows of the network. `decides_one_of` says yes only where the choice is
 //! listed. `update` of an engine leaves an engine of its network, and promises no more. An `EvaluatorOn` is an evaluator of its
 //! network at all times, over the rows with which it was made; a decision that is made stands at the path's end, one that is not
 //! leaves the path as it was, and what is taken back is gone from the path.
@@ -30,6 +30,6 @@ pub use days::{generated_day, turning_day};
 pub use deciding::{Decided, EvaluatorOn};
 pub use draws::Draws;
 pub use failure::{Failure, report, report_case};
-pub use hearing::{decides_one_of, drawn_rows, hear, rows_after};
+pub use hearing::{decides_one_of, drawn_rows, hear};
 pub use networks::{activity, event, network_of, rows_on_time};
 pub use small::Sample;
