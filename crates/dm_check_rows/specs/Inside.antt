@@ -1,2 +1,3 @@
 -- States of loops.
 pub mod Walking
+pub mod Claimed

@@ -23,6 +23,7 @@
 #![tactic(auto)]
 
 mod checked_rows;
+mod claimed;
 mod costs;
 mod cycles;
 mod reasons;

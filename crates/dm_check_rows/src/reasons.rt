@@ -12,38 +12,18 @@ pub(crate) fn is_said_by(refusal: &Refusal, why: &Reason) -> bool
     ensures { Tells (refusal.now ≡ reason_of why.now) result }
 {
     match refusal {
-        Refusal::Range(v) => match why {
-            Reason::Range(w) => *v as u128 == *w,
-            _ => false,
-        },
-        Refusal::UnknownEvent(v) => match why {
-            Reason::UnknownEvent(w) => v.0 == w.0,
-            _ => false,
-        },
-        Refusal::UnknownActivity(v) => match why {
-            Reason::UnknownActivity(w) => v.0 == w.0,
-            _ => false,
-        },
-        Refusal::UnknownChange(v) => match why {
-            Reason::UnknownChange(w) => v.0 == w.0,
-            _ => false,
-        },
-        Refusal::NotPassed(v) => match why {
-            Reason::NotPassed(w) => v.0 == w.0,
-            _ => false,
-        },
-        Refusal::Back(v) => match why {
-            Reason::Back(w) => *v as u128 == *w,
-            _ => false,
-        },
-        Refusal::UnknownPair(i, j) => match why {
-            Reason::UnknownPair(k, l) => i.0 == k.0 && j.0 == l.0,
-            _ => false,
-        },
-        Refusal::Passed(e, t) => match why {
-            Reason::Passed(f, u) => e.0 == f.0 && *t as u128 == *u,
-            _ => false,
-        },
+        Refusal::Range(v) => matches!(why, Reason::Range(w) if *v as u128 == *w),
+        Refusal::UnknownEvent(v) => matches!(why, Reason::UnknownEvent(w) if v.0 == w.0),
+        Refusal::UnknownActivity(v) => matches!(why, Reason::UnknownActivity(w) if v.0 == w.0),
+        Refusal::UnknownChange(v) => matches!(why, Reason::UnknownChange(w) if v.0 == w.0),
+        Refusal::NotPassed(v) => matches!(why, Reason::NotPassed(w) if v.0 == w.0),
+        Refusal::Back(v) => matches!(why, Reason::Back(w) if *v as u128 == *w),
+        Refusal::UnknownPair(i, j) => {
+            matches!(why, Reason::UnknownPair(k, l) if i.0 == k.0 && j.0 == l.0)
+        }
+        Refusal::Passed(e, t) => {
+            matches!(why, Reason::Passed(f, u) if e.0 == f.0 && *t as u128 == *u)
+        }
         Refusal::Cycle(_) | Refusal::Full(_) | Refusal::OutOfMemory => false,
     }
 }

@@ -8,9 +8,11 @@ ghost use Rattle.dm_rows.specs.Resolve.{change_named, after, after_change};
 ghost use Rattle.dm_rows.specs.Refuse.{Refuses, PassesAtOnce};
 ghost use Rattle.dm_feed.specs.Lines.{IsSaid};
 ghost use Rattle.dm_records.specs.Readings.{reason_of};
-ghost use Rattle.dm_check_rows.specs.Claims.{AreCheckedRowsOf, IsKnownFree, Tells};
+ghost use Rattle.dm_check_rows.specs.Claims.{AreCheckedRowsOf, Tells};
+ghost use Rattle.dm_check_rows.specs.Inside.Claimed.{IsRefused};
 
 use crate::checked_rows::{CheckedRows, is_now, stays_free};
+use crate::claimed::ClaimedRefusal;
 use crate::cycles::shows_cycle;
 use crate::reasons::is_said_by;
 use dm_base::limits::ENTRIES;
@@ -35,103 +37,72 @@ pub fn is_refused(
     requires said { IsSaid message.now }
     ensures { IfOk result (Tells (Refuses net.now checked.now.rows entries message.now (reason_of why.now))) }
 {
-    is_refused_by(
-        alloc,
+    let claimed = ClaimedRefusal {
         net,
-        checked.rows(),
-        checked.is_free(),
+        rows: checked.rows(),
+        is_free: checked.is_free(),
         entries,
         message,
         why,
-    )
+    };
+    claimed.is_true(alloc)
 }
 
-/// Whether these rows, which may be known to have no cycle, refuse a message at so many entries for this reason.
-fn is_refused_by(
-    alloc: Global,
-    net: &Network,
-    rows: &Rows,
-    is_free: bool,
-    entries: u32,
-    message: &Message,
-    why: &Reason,
-) -> Result<bool, AllocError>
-    requires sized { IsSized net.now rows.now }
-    requires free { IsKnownFree net.now rows.now is_free }
-    requires said { IsSaid message.now }
-    ensures { IfOk result (Tells (Refuses net.now rows.now entries message.now (reason_of why.now))) }
-{
-    match admit(alloc, net, rows, message) {
-        Ok(change) => {
-            is_refused_after(alloc, net, rows, is_free, &change, entries, message, why)
+impl ClaimedRefusal<'_> {
+    /// Whether it is true.
+    fn is_true(&self, alloc: Global) -> Result<bool, AllocError>
+        requires said { IsSaid self.now.message.now }
+        ensures { IfOk result (Tells (IsRefused self.now)) }
+    {
+        match admit(alloc, self.net, self.rows, self.message) {
+            Ok(change) => self.is_true_after(alloc, &change),
+            Err(refusal) => Ok(is_said_by(&refusal, self.why)),
         }
-        Err(refusal) => Ok(is_said_by(&refusal, why)),
     }
-}
 
-/// The same of a message that nothing refuses at once, and which comes to this change of rows that may be known to have no
-/// cycle.
-fn is_refused_after(
-    alloc: Global,
-    net: &Network,
-    rows: &Rows,
-    is_free: bool,
-    change: &Change,
-    entries: u32,
-    message: &Message,
-    why: &Reason,
-) -> Result<bool, AllocError>
-    requires sized { IsSized net.now rows.now }
-    requires free { IsKnownFree net.now rows.now is_free }
-    requires named { change_named net.now message.now ≡ Some change.now }
-    requires reaches { Reaches rows.now change.now }
-    requires passes { PassesAtOnce net.now rows.now message.now }
-    ensures { IfOk result (Tells (Refuses net.now rows.now entries message.now (reason_of why.now))) }
-{
-    match why {
-        Reason::Cycle(ids) => {
-            if is_now(message) {
-                return Ok(false);
+    /// The same where nothing refuses the message at once, and it comes to this change.
+    fn is_true_after(&self, alloc: Global, change: &Change) -> Result<bool, AllocError>
+        requires named { change_named self.now.net.now self.now.message.now ≡ Some change.now }
+        requires reaches { Reaches self.now.rows.now change.now }
+        requires passes { PassesAtOnce self.now.net.now self.now.rows.now self.now.message.now }
+        ensures { IfOk result (Tells (IsRefused self.now)) }
+    {
+        match self.why {
+            Reason::Cycle(ids) => {
+                if is_now(self.message) {
+                    return Ok(false);
+                }
+                match rows_after(self.rows, change) {
+                    Ok(after) => Ok(shows_cycle(self.net, &after, ids.as_slice())),
+                    Err(AllocError) => Err(AllocError),
+                }
             }
-            match rows_after(rows, change) {
-                Ok(after) => Ok(shows_cycle(net, &after, ids.as_slice())),
-                Err(AllocError) => Err(AllocError),
+            Reason::Full => {
+                if self.entries != ENTRIES {
+                    return Ok(false);
+                }
+                if is_now(self.message) {
+                    return Ok(true);
+                }
+                self.has_no_cycle_after(alloc, change)
             }
+            _ => Ok(false),
         }
-        Reason::Full => {
-            if entries != ENTRIES {
-                return Ok(false);
-            }
-            if is_now(message) {
-                return Ok(true);
-            }
-            has_no_cycle_after(alloc, net, rows, is_free, change, message)
-        }
-        _ => Ok(false),
     }
-}
 
-/// Whether the rows have no cycle after a message, which comes to this change.
-fn has_no_cycle_after(
-    alloc: Global,
-    net: &Network,
-    rows: &Rows,
-    is_free: bool,
-    change: &Change,
-    message: &Message,
-) -> Result<bool, AllocError>
-    requires sized { IsSized net.now rows.now }
-    requires free { IsKnownFree net.now rows.now is_free }
-    requires named { change_named net.now message.now ≡ Some change.now }
-    requires reaches { Reaches rows.now change.now }
-    ensures { IfOk result (Tells (HasNoCycle net.now (after net.now rows.now message.now))) }
-{
-    if stays_free(is_free, message) {
-        return Ok(true);
-    }
-    match rows_after(rows, change) {
-        Ok(after) => has_no_cycle(alloc, net, &after),
-        Err(AllocError) => Err(AllocError),
+    /// Whether the rows have no cycle after the message, which comes to this change.
+    fn has_no_cycle_after(&self, alloc: Global, change: &Change) -> Result<bool, AllocError>
+        requires named { change_named self.now.net.now self.now.message.now ≡ Some change.now }
+        requires reaches { Reaches self.now.rows.now change.now }
+        ensures { IfOk result (Tells (HasNoCycle self.now.net.now (after self.now.net.now self.now.rows.now self.now.message.now))) }
+    {
+        if stays_free(self.is_free, self.message) {
+            return Ok(true);
+        }
+        match rows_after(self.rows, change) {
+            Ok(after) => has_no_cycle(alloc, self.net, &after),
+            Err(AllocError) => Err(AllocError),
+        }
     }
 }
 
