@@ -6,7 +6,7 @@ ghost use Rattle.dm_window.specs.Inside.Standing.{standing_change, standing_pair
 
 use dm_base::Secs;
 use dm_network::Network;
-use dm_paths::{change_decision, pair_decision};
+use dm_paths::{change_decision, pair_decision, push_some};
 use dm_rows::{Decision, Rows, is_free_change, is_free_pair};
 use std::alloc::{AllocError, Global};
 
@@ -43,9 +43,7 @@ fn standing_changes(
 {
     let mut decisions = Vec::new(alloc);
     for a in 0..net.activities() {
-        if let Some(decision) = standing_change(net, rows, window, a) {
-            decisions.push(decision)?;
-        }
+        push_some(&mut decisions, standing_change(net, rows, window, a))?;
     }
     Ok(decisions)
 }
@@ -63,9 +61,7 @@ fn with_standing_pairs(
 {
     let mut decisions = changes;
     for p in 0..net.pairs() {
-        if let Some(decision) = standing_pair(net, rows, window, p) {
-            decisions.push(decision)?;
-        }
+        push_some(&mut decisions, standing_pair(net, rows, window, p))?;
     }
     Ok(decisions)
 }
