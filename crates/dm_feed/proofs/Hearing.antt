@@ -200,18 +200,7 @@ shows_delay first what texts said (Some Event) is named e =
     made (λ p. line.Say (message.DelayEvent (event p.0) p.1)) (two id_in value_in texts) said (first ∷ what ∷ texts) (λ p q. record { spelled = tt; parts = (is, (word_found what Event named, id_value_texts p texts q)) }) e
 shows_delay first what texts said (Some Activity) is named e =
     made (λ p. line.Say (message.DelayActivity (act p.0) p.1)) (two id_in value_in texts) said (first ∷ what ∷ texts) (λ p q. record { spelled = tt; parts = (is, (word_found what Activity named, id_value_texts p texts q)) }) e
-shows_delay first what texts said (Some Delay) is named e = absurd cc
-shows_delay first what texts said (Some Pass) is named e = absurd cc
-shows_delay first what texts said (Some Recall) is named e = absurd cc
-shows_delay first what texts said (Some Keep) is named e = absurd cc
-shows_delay first what texts said (Some Drop) is named e = absurd cc
-shows_delay first what texts said (Some First) is named e = absurd cc
-shows_delay first what texts said (Some Now) is named e = absurd cc
-shows_delay first what texts said (Some Time) is named e = absurd cc
-shows_delay first what texts said (Some Cost) is named e = absurd cc
-shows_delay first what texts said (Some Read) is named e = absurd cc
-shows_delay first what texts said (Some Plan) is named e = absurd cc
-shows_delay first what texts said (Some Adopt) is named e = absurd cc
+shows_delay first what texts said (Some other) is named e = absurd cc
 
 shows_delays : (first : List ℕ) (texts : List (List ℕ)) (said : Line) → first ≡ spelling_of_word Delay → delay_behind texts ≡ Some said → Shows said (first ∷ texts)
 shows_delays first [] said is e = absurd cc

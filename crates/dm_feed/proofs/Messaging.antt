@@ -67,19 +67,7 @@ decimal_plain n small = digits_plain (decimal n) (IsDigits-decimal n (omega arit
 
 part_plain : (p : Part) → Fits p → is_plain_word (spelling_of_part p) ≡ true
 part_plain (word Delay) fits = refl
-part_plain (word Event) fits = refl
-part_plain (word Activity) fits = refl
-part_plain (word Pass) fits = refl
-part_plain (word Recall) fits = refl
-part_plain (word Keep) fits = refl
-part_plain (word Drop) fits = refl
-part_plain (word First) fits = refl
-part_plain (word Now) fits = refl
-part_plain (word Time) fits = refl
-part_plain (word Cost) fits = refl
-part_plain (word Read) fits = refl
-part_plain (word Plan) fits = refl
-part_plain (word Adopt) fits = refl
+part_plain (word w) fits = refl
 part_plain (id n) fits = decimal_plain n (omega (arith, fits))
 part_plain (value n) fits = decimal_plain n (omega (arith, fits))
 

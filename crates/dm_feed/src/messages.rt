@@ -54,25 +54,16 @@ fn is_plain(bytes: &[u8]) -> bool
 fn next_id(words: &[u8]) -> Option<(u32, &[u8])>
     ensures { option_map (λ p. (p.0, words_of p.1.now)) result ≡ next_id (words_of words.now) }
 {
-    let Some((text, rest)) = next_word(words) else {
-        return None;
-    };
-    let Some(id) = id_of(text) else {
-        return None;
-    };
-    Some((id, rest))
+    let (text, rest) = next_word(words)?;
+    Some((id_of(text)?, rest))
 }
 
 // The order of a pair, behind its word.
 fn next_first(words: &[u8]) -> Option<(Decision, &[u8])>
     ensures { option_map (λ p. (p.0, words_of p.1.now)) result ≡ first_behind (next_id (words_of words.now)) }
 {
-    let Some((first, rest)) = next_id(words) else {
-        return None;
-    };
-    let Some((second, rest)) = next_id(rest) else {
-        return None;
-    };
+    let (first, rest) = next_id(words)?;
+    let (second, rest) = next_id(rest)?;
     Some((Decision::First(EventId(first), EventId(second)), rest))
 }
 
@@ -82,15 +73,11 @@ fn next_change(word: Word, words: &[u8]) -> Option<(Decision, &[u8])>
 {
     match word {
         Word::Keep => {
-            let Some((act, rest)) = next_id(words) else {
-                return None;
-            };
+            let (act, rest) = next_id(words)?;
             Some((Decision::Keep(ActId(act)), rest))
         }
         Word::Drop => {
-            let Some((act, rest)) = next_id(words) else {
-                return None;
-            };
+            let (act, rest) = next_id(words)?;
             Some((Decision::Drop(ActId(act)), rest))
         }
         Word::First => next_first(words),
@@ -102,13 +89,8 @@ fn next_change(word: Word, words: &[u8]) -> Option<(Decision, &[u8])>
 fn next_decision(words: &[u8]) -> Option<(Decision, &[u8])>
     ensures { option_map (λ p. (p.0, words_of p.1.now)) result ≡ next_decision (words_of words.now) }
 {
-    let Some((text, rest)) = next_word(words) else {
-        return None;
-    };
-    let Some(word) = word_of(text) else {
-        return None;
-    };
-    next_change(word, rest)
+    let (text, rest) = next_word(words)?;
+    next_change(word_of(text)?, rest)
 }
 
 // The decisions of an adopted list, behind its word.

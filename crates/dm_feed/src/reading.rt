@@ -23,9 +23,7 @@ pub(crate) fn are_none(words: &[u8]) -> bool
 fn one_id(words: &[u8]) -> Option<u32>
     ensures { result ≡ only id_in (words_of words.now) }
 {
-    let Some((id, rest)) = next_word(words) else {
-        return None;
-    };
+    let (id, rest) = next_word(words)?;
     if !are_none(rest) {
         return None;
     }
@@ -36,9 +34,7 @@ fn one_id(words: &[u8]) -> Option<u32>
 fn one_value(words: &[u8]) -> Option<u64>
     ensures { result ≡ only value_in (words_of words.now) }
 {
-    let Some((value, rest)) = next_word(words) else {
-        return None;
-    };
+    let (value, rest) = next_word(words)?;
     if !are_none(rest) {
         return None;
     }
@@ -49,32 +45,16 @@ fn one_value(words: &[u8]) -> Option<u64>
 fn id_and_value(words: &[u8]) -> Option<(u32, u64)>
     ensures { result ≡ two id_in value_in (words_of words.now) }
 {
-    let Some((id, rest)) = next_word(words) else {
-        return None;
-    };
-    let Some(id) = id_of(id) else {
-        return None;
-    };
-    let Some(value) = one_value(rest) else {
-        return None;
-    };
-    Some((id, value))
+    let (id, rest) = next_word(words)?;
+    Some((id_of(id)?, one_value(rest)?))
 }
 
 // The words are two ids.
 fn two_ids(words: &[u8]) -> Option<(u32, u32)>
     ensures { result ≡ two id_in id_in (words_of words.now) }
 {
-    let Some((id, rest)) = next_word(words) else {
-        return None;
-    };
-    let Some(id) = id_of(id) else {
-        return None;
-    };
-    let Some(other) = one_id(rest) else {
-        return None;
-    };
-    Some((id, other))
+    let (id, rest) = next_word(words)?;
+    Some((id_of(id)?, one_id(rest)?))
 }
 
 // The line whose first word is `delay` and whose other words are these.
@@ -133,10 +113,7 @@ pub(crate) fn line_behind(word: Word, words: &[u8]) -> Option<Line>
 fn line_with(first: &[u8], words: &[u8]) -> Option<Line>
     ensures { result ≡ line_in first.now (words_of words.now) }
 {
-    let Some(word) = word_of(first) else {
-        return None;
-    };
-    line_behind(word, words)
+    line_behind(word_of(first)?, words)
 }
 
 // What is heard in a line of any bytes.
