@@ -122,17 +122,13 @@ impl Choices {
         let start = self.acts.len();
         self.add_act(a)?;
         let end = self.acts.len();
-        self.sides.push(Sides {
-            choice,
-            own: side_for(evaluator.rows().kept(a)),
-            start: Place::of(start),
-            middle: Place::of(end),
-            end: Place::of(end),
-            tail: Place::of(activity.tail),
-            head: Place::of(activity.head),
+        let own = side_for(evaluator.rows().kept(a));
+        let ends = Ends {
+            tail: activity.tail,
+            head: activity.head,
             when: when_of(net, activity.tail),
-        })?;
-        Ok(())
+        };
+        self.add_sides(choice, own, [start, end, end], ends)
     }
 
     fn add_pair(&mut self, net: &Network, evaluator: &Evaluator, p: usize) -> Result<(), AllocError>
@@ -152,15 +148,33 @@ impl Choices {
         let middle = self.acts.len();
         self.add_headways(net, p, large)?;
         let end = self.acts.len();
+        let own = side_for(evaluator.rows().small_first(p));
+        let ends = Ends {
+            tail: small,
+            head: large,
+            when: when_of(net, small),
+        };
+        self.add_sides(choice, own, [start, middle, end], ends)
+    }
+
+    /// Adds a choice, whose activities begin, part and end at these places of the list.
+    fn add_sides(
+        &mut self,
+        choice: Choice,
+        own: Side,
+        bounds: [usize; 3],
+        ends: Ends,
+    ) -> Result<(), AllocError> {
+        let [start, middle, end] = bounds;
         self.sides.push(Sides {
             choice,
-            own: side_for(evaluator.rows().small_first(p)),
+            own,
             start: Place::of(start),
             middle: Place::of(middle),
             end: Place::of(end),
-            tail: Place::of(small),
-            head: Place::of(large),
-            when: when_of(net, small),
+            tail: Place::of(ends.tail),
+            head: Place::of(ends.head),
+            when: ends.when,
         })?;
         Ok(())
     }

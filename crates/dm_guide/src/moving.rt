@@ -1,5 +1,5 @@
 //! A timetable that holds what decisions hold.
-ghost use Rattle.std.specs.Prelude.{◌≡◌, ◌<◌, ◌≤◌, length};
+ghost use Rattle.std.specs.Prelude.{◌≡◌, ◌<◌, ◌≤◌};
 ghost use Rattle.dm_base.specs.declared.limits.TheConstants.{PENALTY};
 ghost use Rattle.dm_live.specs.Live.{NoneFixed};
 ghost use Rattle.dm_priced.specs.Priced.{IsPriced};
@@ -136,20 +136,12 @@ impl<'a> Mover<'a> {
 
 /// The activities out of an event, and none where there is no such event.
 pub fn leaving(net: &Network, event: usize) -> &[usize] {
-    if event < net.events() {
-        out_row::<Brand>(net, event, Blank::new(1))
-    } else {
-        &[]
-    }
+    row_at::<Brand>(net, event, End::Tail, Blank::new(1))
 }
 
 /// The activities into an event, and none where there is no such event.
 pub fn entering(net: &Network, event: usize) -> &[usize] {
-    if event < net.events() {
-        in_row::<Brand>(net, event, Blank::new(1))
-    } else {
-        &[]
-    }
+    row_at::<Brand>(net, event, End::Head, Blank::new(1))
 }
 
 /// Settles a timetable. Nobody asks how many steps it takes.
@@ -166,22 +158,25 @@ fn settle<L: Ledger>(priced: &mut PricedTimetable, net: &Network, blank: Blank)
     priced.settle(net, &mut steps);
 }
 
-fn out_row<L: Ledger>(net: &Network, event: usize, blank: Blank) -> &[usize]
-    requires name { blank.name ≡ L.name }
-    requires parts { blank.parts ≡ L.parts }
-    requires has_a_part { 0 < blank.parts }
-    requires is_event { event < length net.now.events }
-{
-    let mut steps = Steps::<L>::new(blank);
-    net.out_row(event, &mut steps)
+/// The end of an activity at which an event stands.
+#[derive(Clone, Copy)]
+enum End {
+    Tail,
+    Head,
 }
 
-fn in_row<L: Ledger>(net: &Network, event: usize, blank: Blank) -> &[usize]
+/// The activities of which this end is at an event. Nobody asks how many steps it takes.
+fn row_at<L: Ledger>(net: &Network, event: usize, end: End, blank: Blank) -> &[usize]
     requires name { blank.name ≡ L.name }
     requires parts { blank.parts ≡ L.parts }
     requires has_a_part { 0 < blank.parts }
-    requires is_event { event < length net.now.events }
 {
+    if event >= net.events() {
+        return &[];
+    }
     let mut steps = Steps::<L>::new(blank);
-    net.in_row(event, &mut steps)
+    match end {
+        End::Tail => net.out_row(event, &mut steps),
+        End::Head => net.in_row(event, &mut steps),
+    }
 }

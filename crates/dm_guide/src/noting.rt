@@ -49,87 +49,63 @@ pub struct Moved {
     pub before: Secs,
 }
 
-/// The events that have moved, each with its first time.
+/// What is noted of places: one item of each, in the order in which they were noted.
 #[derive(Drop)]
-pub struct Moves {
+pub struct Noted<T: Drop> {
     once: Once,
-    list: Vec<Moved>,
+    list: Vec<T>,
 }
 
-impl Moves {
-    /// None of no events.
-    pub fn new(alloc: Global) -> Moves {
-        Moves {
+impl<T: Drop> Noted<T> {
+    /// Nothing of no places.
+    pub fn new(alloc: Global) -> Noted<T> {
+        Noted {
             once: Once::new(alloc),
             list: Vec::new(alloc),
         }
     }
 
-    /// Makes room for so many events.
-    pub fn extend(&mut self, events: usize) -> Result<(), AllocError> {
-        self.once.extend(events)
+    /// Makes room for so many places.
+    pub fn extend(&mut self, places: usize) -> Result<(), AllocError> {
+        self.once.extend(places)
     }
 
+    /// Forgets all that is noted.
     pub fn forget(&mut self) {
         self.once.forget();
         self.list.clear();
     }
 
-    pub fn note(&mut self, event: usize, before: Secs) -> Result<(), AllocError> {
-        if self.once.is_new(event) {
-            self.list.push(Moved { event, before })?;
-        }
-        Ok(())
-    }
-
-    pub fn list(&self) -> &[Moved] {
-        &self.list
-    }
-}
-
-/// Choices, each once.
-#[derive(Drop)]
-pub struct Numbers {
-    once: Once,
-    list: Vec<usize>,
-}
-
-impl Numbers {
-    /// None of no choices.
-    pub fn new(alloc: Global) -> Numbers {
-        Numbers {
-            once: Once::new(alloc),
-            list: Vec::new(alloc),
-        }
-    }
-
-    /// Makes room for so many choices.
-    pub fn extend(&mut self, choices: usize) -> Result<(), AllocError> {
-        self.once.extend(choices)
-    }
-
-    pub fn forget(&mut self) {
-        self.once.forget();
-        self.list.clear();
-    }
-
-    /// Adds a choice, and says whether it is new.
-    pub fn add(&mut self, i: usize) -> Result<bool, AllocError> {
-        let is_new = self.once.is_new(i);
+    /// Notes an item of a place of which there is none yet, and says whether there was none.
+    pub fn note(&mut self, place: usize, item: T) -> Result<bool, AllocError> {
+        let is_new = self.once.is_new(place);
         if is_new {
-            self.list.push(i)?;
+            self.list.push(item)?;
         }
         Ok(is_new)
     }
 
-    pub fn add_all(&mut self, numbers: &[usize]) -> Result<(), AllocError> {
-        for i in numbers {
-            let _new = self.add(*i)?;
-        }
-        Ok(())
+    pub fn list(&self) -> &[T] {
+        &self.list
+    }
+}
+
+/// The events that have moved, each with its first time.
+pub type Moves = Noted<Moved>;
+
+/// Choices or events, each once.
+pub type Numbers = Noted<usize>;
+
+impl Noted<usize> {
+    /// Adds a number, and says whether it is new.
+    pub fn add(&mut self, number: usize) -> Result<bool, AllocError> {
+        self.note(number, number)
     }
 
-    pub fn list(&self) -> &[usize] {
-        &self.list
+    pub fn add_all(&mut self, numbers: &[usize]) -> Result<(), AllocError> {
+        for number in numbers {
+            let _new = self.add(*number)?;
+        }
+        Ok(())
     }
 }

@@ -352,8 +352,9 @@ impl<'a> Scout<'a> {
             return Ok(());
         }
         *seen = time;
-        self.near.note(event, before)?;
-        self.far.note(event, before)?;
+        let moved = Moved { event, before };
+        let _new = self.near.note(event, moved)?;
+        let _new = self.far.note(event, moved)?;
         self.judge_entering(event)?;
         self.judge_leaving(event)
     }

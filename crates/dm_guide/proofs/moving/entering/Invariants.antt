@@ -1,4 +1,4 @@
 use Rattle.dm_guide.proofs.moving.entering.Given as goal
 
-abbrev pub ghosts-in_row : goal.ghosts-in_row
-ghosts-in_row a = record { name = a.blank.name; parts = a.blank.parts }
+abbrev pub ghosts-row_at : goal.ghosts-row_at
+ghosts-row_at a = record { name = a.blank.name; parts = a.blank.parts }
