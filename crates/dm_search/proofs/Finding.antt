@@ -117,6 +117,24 @@ module _ (net : Net) (network : IsNetwork net) (rows : RowsValue) (penalty : ℕ
       }
 
 -- where an evaluator stands, behind the base
+-- the same of a task that is seen as such a one
+module _ (t : Task) (net : Net) (network : IsNetwork net) (rows : RowsValue) (penalty : ℕ) (base : List Decision) (budget : ℕ)
+    (posed : IsPosed net rows penalty base budget) (is : task_beside net rows penalty base budget ≡ t) (path : List Decision)
+    (list : IsChoiceList t.net t.rows (t.base ++ path)) (best ceiling : ℕ) where
+  pub better_of : (c : ℕ) (choices old : List Decision) → IsSolved t.net t.rows (t.base ++ path) t.penalty best c choices → AreBest t old best →
+      IsBetter t path best (record { choices = choices; cost = c })
+  better_of c choices old solved are =
+      subst (λ (u : Task). IsChoiceList u.net u.rows (u.base ++ path) → IsSolved u.net u.rows (u.base ++ path) u.penalty best c choices → AreBest u old best →
+      IsBetter u path best (record { choices = choices; cost = c })) is
+      (λ l s a. found_better net network rows penalty base budget posed path l best ceiling c choices old s a) list solved are
+
+  pub split_of : (c : ℕ) (choice : Choice) (old : List Decision) → IsBranchThere t.net t.rows (t.base ++ path) t.penalty best c choice →
+      AreBest t old best → c < ceiling → IsSplit t path ceiling choice
+  split_of c choice old there are below =
+      subst (λ (u : Task). IsChoiceList u.net u.rows (u.base ++ path) → IsBranchThere u.net u.rows (u.base ++ path) u.penalty best c choice → AreBest u old best →
+      IsSplit u path ceiling choice) is
+      (λ l b a. found_split net network rows penalty base budget posed path l best ceiling c choice old b a below) list there are
+
 pub better_here : (net : Net) → IsNetwork net → (rows : RowsValue) (penalty : ℕ) (base : List Decision) (budget : ℕ) →
     IsPosed net rows penalty base budget → (e : EvaluatorValue) → (over : IsOver (task_beside net rows penalty base budget) e) →
     (best c : ℕ) (choices old : List Decision) → IsSolved net rows e.path penalty best c choices → AreBest (task_beside net rows penalty base budget) old best →

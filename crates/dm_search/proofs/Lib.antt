@@ -4,7 +4,6 @@ pub mod Optimal
 pub mod Beside
 pub mod Advancing
 pub mod Exits
-pub mod Spliced
 pub mod Finding
 pub mod Ended
 pub mod Started

@@ -98,21 +98,33 @@ some_left task path c among none =
     omega (arith, fewer)
 
 module _ (task : Task) (network : IsNetwork task.net) where
+  -- below either side of a choice less is left
+  less_below : (path : List Decision) (m : ℕ) (ch : Choice) (a b : Shape) → Facts task path (branch ch a b) → left_of task path ≤ suc m →
+      (left_of task (path ++ first_decision ch ∷ []) ≤ m) × (left_of task (path ++ second_decision ch ∷ []) ≤ m)
+  less_below path m ch a b facts le =
+      let here = fact_here task path (Inner ch) (facts [] (Inner ch) refl) in
+      let decides = decides_it task.net network task.rows ch here.0.free in
+      let first = fewer_left task path (first_decision ch) ch decides.first here.1 here.0.undecided in
+      let second = fewer_left task path (second_decision ch) ch decides.second here.1 here.0.undecided in (
+        omega (arith, first),
+        omega (arith, second),
+      )
+
+  -- where nothing is left there is no choice
+  none_below : (path : List Decision) (ch : Choice) (a b : Shape) → Facts task path (branch ch a b) → 1 ≤ left_of task path
+  none_below path ch a b facts =
+      let here = fact_here task path (Inner ch) (facts [] (Inner ch) refl) in
+      some_left task path ch here.1 here.0.undecided
+
   pub few_nodes : (shape : Shape) (path : List Decision) (m : ℕ) → IsProper shape → Facts task path shape → left_of task path ≤ m →
       length (preorder shape) + 1 ≤ doubled (suc m)
   few_nodes (leaf n) path m proper facts le =
       let h = doubled_grows 1 (suc m) (omega arith) in omega (arith, h)
-  few_nodes (branch ch a b) path zero proper facts le =
-      let here = fact_here task path (Inner ch) (facts [] (Inner ch) refl) in
-      let some = some_left task path ch here.1 here.0.undecided in
-      absurd (omega arith)
+  few_nodes (branch ch a b) path zero proper facts le = let some = none_below path ch a b facts in absurd (omega (arith, some))
   few_nodes (branch ch a b) path (suc m) proper facts le =
-      let here = fact_here task path (Inner ch) (facts [] (Inner ch) refl) in
-      let decides = decides_it task.net network task.rows ch here.0.free in
-      let fewer = fewer_left task path (first_decision ch) ch decides.first here.1 here.0.undecided in
-      let fewer' = fewer_left task path (second_decision ch) ch decides.second here.1 here.0.undecided in
-      let first = few_nodes a (path ++ first_decision ch ∷ []) m proper.1 (facts_first task path ch a b facts) (omega arith) in
-      let second = few_nodes b (path ++ second_decision ch ∷ []) m proper.2 (facts_second task path ch a b facts) (omega arith) in
+      let less = less_below path m ch a b facts le in
+      let first = few_nodes a (path ++ first_decision ch ∷ []) m proper.1 (facts_first task path ch a b facts) less.0 in
+      let second = few_nodes b (path ++ second_decision ch ∷ []) m proper.2 (facts_second task path ch a b facts) less.1 in
       let size = length-append (preorder a) (preorder b) in
       let e : doubled (suc (suc m)) ≡ doubled (suc m) + doubled (suc m) = refl in
       omega (arith, first, second, size, e)
@@ -127,24 +139,18 @@ module _ (task : Task) (network : IsNetwork task.net) where
       omega (arith, h)
   fewer_nodes (leaf n) path m proper facts le (d ∷ q) k stands = elim stands [ ]
   fewer_nodes (branch ch a b) path m proper facts le [] k stands = cc
-  fewer_nodes (branch ch a b) path zero proper facts le (d ∷ q) k stands =
-      let here = fact_here task path (Inner ch) (facts [] (Inner ch) refl) in
-      let some = some_left task path ch here.1 here.0.undecided in
-      absurd (omega arith)
+  fewer_nodes (branch ch a b) path zero proper facts le (d ∷ q) k stands = let some = none_below path ch a b facts in absurd (omega (arith, some))
   fewer_nodes (branch ch a b) path (suc m) proper facts le (d ∷ q) k stands =
-      let here = fact_here task path (Inner ch) (facts [] (Inner ch) refl) in
-      let decides = decides_it task.net network task.rows ch here.0.free in
-      let fewer = fewer_left task path (first_decision ch) ch decides.first here.1 here.0.undecided in
-      let fewer' = fewer_left task path (second_decision ch) ch decides.second here.1 here.0.undecided in
-      let first = few_nodes a (path ++ first_decision ch ∷ []) m proper.1 (facts_first task path ch a b facts) (omega arith) in
-      let second = few_nodes b (path ++ second_decision ch ∷ []) m proper.2 (facts_second task path ch a b facts) (omega arith) in
+      let less = less_below path m ch a b facts le in
       let size = length-append (preorder a) (preorder b) in
       let e : doubled (suc (suc m)) ≡ doubled (suc m) + doubled (suc m) = refl in
       elim stands [
         | inl s ↦
-            let less = fewer_nodes a (path ++ first_decision ch ∷ []) m proper.1 (facts_first task path ch a b facts) (omega arith) q k s.1 in
-            omega (arith, less, second, size, e)
+            let first = fewer_nodes a (path ++ first_decision ch ∷ []) m proper.1 (facts_first task path ch a b facts) less.0 q k s.1 in
+            let second = few_nodes b (path ++ second_decision ch ∷ []) m proper.2 (facts_second task path ch a b facts) less.1 in
+            omega (arith, first, second, size, e)
         | inr s ↦
-            let less = fewer_nodes b (path ++ second_decision ch ∷ []) m proper.2 (facts_second task path ch a b facts) (omega arith) q k s.1 in
-            omega (arith, first, less, size, e)
+            let first = few_nodes a (path ++ first_decision ch ∷ []) m proper.1 (facts_first task path ch a b facts) less.0 in
+            let second = fewer_nodes b (path ++ second_decision ch ∷ []) m proper.2 (facts_second task path ch a b facts) less.1 q k s.1 in
+            omega (arith, first, second, size, e)
       ]

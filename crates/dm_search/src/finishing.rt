@@ -10,14 +10,13 @@ ghost use Rattle.dm_rows.specs.Cost.{Costs};
 ghost use Rattle.dm_rows.specs.Decide.{IsChoiceList, with_decisions};
 ghost use Rattle.dm_tree.specs.Plans.{whole_task, IsTruePlan};
 ghost use Rattle.dm_search.specs.Finish.{IsStart};
-ghost use Rattle.dm_search.specs.Inside.Searching.{AreBest, AreUsedUp, Stands};
+ghost use Rattle.dm_search.specs.Inside.Searching.{AreBest, AreUsedUp, IsStanding};
 ghost use Rattle.dm_search.specs.Moving.{IsOver};
 ghost use Rattle.dm_search.specs.Inside.Ending.{closed, carried, least_with, bound_of, is_open, mark_of, IsPlanOf};
 
 use crate::Outcome;
 use crate::moving::{evaluator_at_base, searcher_at};
-use crate::parts::Hints;
-use crate::searching::{Best, Standing, traverse};
+use crate::searching::{Best, Standing, Walker};
 use crate::walking::{behind, make, outcome_here};
 use dm_base::{Cost, Items};
 use dm_evaluate::Evaluator;
@@ -74,9 +73,7 @@ pub fn finish(
     let rows = &snapshot.rows;
     let task = whole(alloc, net, rows, penalty, budget);
     let standing = standing_at(&task, partial, best)?;
-    let guide = guide_alone(&task, &standing)?;
-    let mut evaluator = evaluator_at_base(&task)?;
-    finish_standing(&task, snapshot.entry, standing, &mut evaluator, &guide)
+    finish_alone(&task, snapshot.entry, standing)
 }
 
 /// The task of a whole network: no choice stands before the search.
@@ -114,9 +111,7 @@ pub fn plan_task(task: &Task<'_>, entry: u32) -> Result<Plan, AllocError>
 {
     let own = cost_with(task, &[])?;
     let standing = standing_at_hole(task, own)?;
-    let guide = guide_alone(task, &standing)?;
-    let mut evaluator = evaluator_at_base(task)?;
-    finish_standing(task, entry, standing, &mut evaluator, &guide)
+    finish_alone(task, entry, standing)
 }
 
 /// The same where the rows cost so much by themselves, by an evaluator of the task and by what a guide says.
@@ -124,14 +119,14 @@ pub fn plan_with(
     task: &Task<'_>,
     entry: u32,
     own: Cost,
-    evaluator: &mut Evaluator,
+    evaluator: Evaluator,
     guide: &Guide,
 ) -> Result<Plan, AllocError>
     requires posed { IsPosedTask task.now }
     requires no_cycle { HasNoCycle task.now.net.now task.now.rows.now }
     requires some { 1 ≤ task.now.budget }
     requires own { Costs task.now.net.now task.now.rows.now task.now.penalty own }
-    requires evaluator { IsOver (task_of task.now) evaluator.old }
+    requires evaluator { IsOver (task_of task.now) evaluator }
     ensures plan { IfOk result (IsTruePlan (task_of task.now)) }
     ensures entry { IfOk result (λ plan. plan.entry ≡ entry) }
 {
@@ -140,12 +135,12 @@ pub fn plan_with(
 }
 
 /// The tree of one hole and no choices, with which the rows cost so much.
-pub(crate) fn standing_at_hole(task: &Task<'_>, own: Cost) -> Result<Standing, AllocError>
+fn standing_at_hole(task: &Task<'_>, own: Cost) -> Result<Standing, AllocError>
     requires posed { IsPosedTask task.now }
     requires no_cycle { HasNoCycle task.now.net.now task.now.rows.now }
     requires some { 1 ≤ task.now.budget }
     requires own { Costs task.now.net.now task.now.rows.now task.now.penalty own }
-    ensures { IfOk result (λ s. Stands (task_of task.now) s.nodes.items s.best.choices s.best.cost) }
+    ensures { IfOk result (IsStanding (task_of task.now)) }
 {
     task.net.sound();
     // No leaves are those of a tree, so that only memory may be missing.
@@ -166,12 +161,12 @@ pub fn finish_with(
     entry: u32,
     partial: Partial,
     best: Vec<Decision>,
-    evaluator: &mut Evaluator,
+    evaluator: Evaluator,
     guide: &Guide,
 ) -> Result<Plan, AllocError>
     requires posed { IsPosedTask task.now }
     requires start { IsStart (task_of task.now) partial best.items }
-    requires evaluator { IsOver (task_of task.now) evaluator.old }
+    requires evaluator { IsOver (task_of task.now) evaluator }
     ensures plan { IfOk result (IsTruePlan (task_of task.now)) }
     ensures entry { IfOk result (λ plan. plan.entry ≡ entry) }
 {
@@ -187,7 +182,7 @@ fn standing_at(
 ) -> Result<Standing, AllocError>
     requires posed { IsPosedTask task.now }
     requires start { IsStart (task_of task.now) partial best.items }
-    ensures { IfOk result (λ s. Stands (task_of task.now) s.nodes.items s.best.choices s.best.cost) }
+    ensures { IfOk result (IsStanding (task_of task.now)) }
 {
     task.net.sound();
     let cost = cost_with(task, &best)?;
@@ -197,41 +192,38 @@ fn standing_at(
     Ok(Standing { nodes, best })
 }
 
+/// The plan of a tree and choices that stand, by an evaluator and a guide of its own.
+fn finish_alone(task: &Task<'_>, entry: u32, standing: Standing) -> Result<Plan, AllocError>
+    requires posed { IsPosedTask task.now }
+    requires stands { IsStanding (task_of task.now) standing }
+    ensures plan { IfOk result (IsTruePlan (task_of task.now)) }
+    ensures entry { IfOk result (λ plan. plan.entry ≡ entry) }
+{
+    let guide = guide_alone(task, &standing)?;
+    let evaluator = evaluator_at_base(task)?;
+    finish_standing(task, entry, standing, evaluator, &guide)
+}
+
 /// The plan of a tree and choices that stand, when all has been searched.
 fn finish_standing(
     task: &Task<'_>,
     entry: u32,
     standing: Standing,
-    evaluator: &mut Evaluator,
+    evaluator: Evaluator,
     guide: &Guide,
 ) -> Result<Plan, AllocError>
     requires posed { IsPosedTask task.now }
-    requires stands { Stands (task_of task.now) standing.nodes.items standing.best.choices standing.best.cost }
-    requires evaluator { IsOver (task_of task.now) evaluator.old }
-    ensures plan { IfOk result (IsTruePlan (task_of task.now)) }
-    ensures entry { IfOk result (λ plan. plan.entry ≡ entry) }
-{
-    let improved = improved(task, evaluator, standing, guide)?;
-    let hints = Hints::whole(task.alloc, guide)?;
-    let judged = traverse(task, evaluator, improved, 0, hints)?;
-    finished(task, entry, judged, evaluator)
-}
-
-/// The plan of a tree and choices that stand, when it has been searched with nothing that guides.
-pub(crate) fn finished(
-    task: &Task<'_>,
-    entry: u32,
-    standing: Standing,
-    evaluator: &mut Evaluator,
-) -> Result<Plan, AllocError>
-    requires posed { IsPosedTask task.now }
-    requires stands { Stands (task_of task.now) standing.nodes.items standing.best.choices standing.best.cost }
-    requires evaluator { IsOver (task_of task.now) evaluator.old }
+    requires stands { IsStanding (task_of task.now) standing }
+    requires evaluator { IsOver (task_of task.now) evaluator }
     ensures plan { IfOk result (IsTruePlan (task_of task.now)) }
     ensures entry { IfOk result (λ plan. plan.entry ≡ entry) }
 {
     task.net.sound();
-    let searched = search_on(task, evaluator, standing)?;
+    let mut walker = Walker {
+        task: *task,
+        evaluator,
+    };
+    let searched = walker.search_with(standing, guide)?;
     plan_of(task.alloc, entry, searched)
 }
 
@@ -258,77 +250,86 @@ fn guide_alone(task: &Task<'_>, standing: &Standing) -> Result<Guide, AllocError
     )
 }
 
-/// The tree with the choices of a guide, where they cost less.
-pub(crate) fn improved(
-    task: &Task<'_>,
-    evaluator: &mut Evaluator,
-    standing: Standing,
-    guide: &Guide,
-) -> Result<Standing, AllocError>
-    requires posed { IsPosedTask task.now }
-    requires evaluator { IsOver (task_of task.now) evaluator.old }
-    requires stands { Stands (task_of task.now) standing.nodes.items standing.best.choices standing.best.cost }
-    ensures stands { IfOk result (λ s. Stands (task_of task.now) s.nodes.items s.best.choices s.best.cost) }
-    ensures evaluator { IsOver (task_of task.now) evaluator.new }
-{
-    let path = behind(guide.path.as_slice(), task.base.len());
-    improve(task, evaluator, standing, path)
-}
+impl Walker<'_> {
+    /// Searches a tree until each open leaf that costs less than the best choices is one for which there is no room.
+    fn search_with(&mut self, standing: Standing, guide: &Guide) -> Result<Standing, AllocError>
+        requires { IsStanding self.old standing }
+        ensures stands { IfOk result (IsStanding self.old) }
+        ensures used { IfOk result (λ s. AreUsedUp self.old.budget s.best.cost s.nodes.items) }
+    {
+        let path = behind(guide.path.as_slice(), self.task.base.len());
+        let improved = self.improve(standing, path)?;
+        let guided = self.traverse(improved, 0, guide)?;
+        let spread = self.traverse_all(guided)?;
+        self.last_traversal(spread)
+    }
 
-/// Searches a tree until each open leaf that costs less than the best choices is one for which there is no room.
-fn search_on(
-    task: &Task<'_>,
-    evaluator: &mut Evaluator,
-    standing: Standing,
-) -> Result<Standing, AllocError>
-    requires posed { IsPosedTask task.now }
-    requires evaluator { IsOver (task_of task.now) evaluator.old }
-    requires stands { Stands (task_of task.now) standing.nodes.items standing.best.choices standing.best.cost }
-    ensures stands { IfOk result (λ s. Stands (task_of task.now) s.nodes.items s.best.choices s.best.cost) }
-    ensures used { IfOk result (λ s. AreUsedUp task.now.budget s.best.cost s.nodes.items) }
-{
-    let spread = traverse_all(task, evaluator, standing)?;
-    last_traversal(task, evaluator, spread)
-}
+    /// The tree with the choices to which a path leads, where they cost less.
+    fn improve(&mut self, standing: Standing, path: &[Decision]) -> Result<Standing, AllocError>
+        requires { IsStanding self.old standing }
+        ensures stands { IfOk result (IsStanding self.old) }
+        ensures same { self.new ≡ self.old }
+    {
+        let Standing { nodes, best } = standing;
+        let better = self.better(path, best)?;
+        Ok(Standing {
+            nodes,
+            best: better,
+        })
+    }
 
-/// The tree with the choices to which a path leads, where they cost less.
-fn improve(
-    task: &Task<'_>,
-    evaluator: &mut Evaluator,
-    standing: Standing,
-    path: &[Decision],
-) -> Result<Standing, AllocError>
-    requires posed { IsPosedTask task.now }
-    requires evaluator { IsOver (task_of task.now) evaluator.old }
-    requires stands { Stands (task_of task.now) standing.nodes.items standing.best.choices standing.best.cost }
-    ensures stands { IfOk result (λ s. Stands (task_of task.now) s.nodes.items s.best.choices s.best.cost) }
-    ensures evaluator { IsOver (task_of task.now) evaluator.new }
-{
-    let Standing { nodes, best } = standing;
-    let better = better(task, evaluator, path, best)?;
-    Ok(Standing {
-        nodes,
-        best: better,
-    })
-}
+    /// The choices to which a path leads, where they cost less.
+    fn better(&mut self, path: &[Decision], best: Best) -> Result<Best, AllocError>
+        requires best { AreBest self.old best.choices best.cost }
+        ensures best { IfOk result (λ b. AreBest self.old b.choices b.cost) }
+        ensures no_dearer { IfOk result (λ b. b.cost ≤ best.cost) }
+        ensures same { self.new ≡ self.old }
+    {
+        for decision in path {
+            if !self.make(*decision) {
+                return Ok(best);
+            }
+        }
+        solved_at(&self.task, &self.evaluator, best)
+    }
 
-/// Goes through the tree with no limit but the cost of the best choices.
-fn last_traversal(
-    task: &Task<'_>,
-    evaluator: &mut Evaluator,
-    standing: Standing,
-) -> Result<Standing, AllocError>
-    requires posed { IsPosedTask task.now }
-    requires evaluator { IsOver (task_of task.now) evaluator.old }
-    requires stands { Stands (task_of task.now) standing.nodes.items standing.best.choices standing.best.cost }
-    ensures stands { IfOk result (λ s. Stands (task_of task.now) s.nodes.items s.best.choices s.best.cost) }
-    ensures used { IfOk result (λ s. AreUsedUp task.now.budget s.best.cost s.nodes.items) }
-{
-    let limit = standing.best.cost;
-    let guide = Guide::new(task.alloc);
-    let hints = Hints::whole(task.alloc, &guide)?;
-    let searched = traverse(task, evaluator, standing, limit, hints)?;
-    Ok(searched)
+    /// Makes a decision more, where its choice is open and it makes no cycle.
+    fn make(&mut self, decision: Decision) -> bool
+        ensures { self.new ≡ self.old }
+    {
+        make(self.task.net, &mut self.evaluator, decision)
+    }
+
+    /// Goes through the tree with a limit that rises from the least cost of an open leaf, so that the budget is spent where least
+    /// is known.
+    fn traverse_all(&mut self, standing: Standing) -> Result<Standing, AllocError>
+        requires { IsStanding self.old standing }
+        ensures stands { IfOk result (IsStanding self.old) }
+        ensures same { self.new ≡ self.old }
+    {
+        let guide = Guide::new(self.task.alloc);
+        let mut standing = standing;
+        for _ in 0..TRAVERSALS {
+            let best = standing.best.cost;
+            let Some(limit) = next_limit(&standing.nodes, best, self.task.budget) else {
+                return Ok(standing);
+            };
+            standing = self.traverse(standing, limit, &guide)?;
+        }
+        Ok(standing)
+    }
+
+    /// Goes through the tree with no limit but the cost of the best choices.
+    fn last_traversal(&mut self, standing: Standing) -> Result<Standing, AllocError>
+        requires { IsStanding self.old standing }
+        ensures stands { IfOk result (IsStanding self.old) }
+        ensures used { IfOk result (λ s. AreUsedUp self.old.budget s.best.cost s.nodes.items) }
+    {
+        let limit = standing.best.cost;
+        let guide = Guide::new(self.task.alloc);
+        let searched = self.traverse(standing, limit, &guide)?;
+        Ok(searched)
+    }
 }
 
 /// The evaluator of a task's rows, which have no cycle.
@@ -346,28 +347,6 @@ pub(crate) fn evaluator_of(task: &Task<'_>) -> Result<Evaluator, AllocError>
     }
 }
 
-/// The choices to which a path leads, where they cost less.
-fn better(
-    task: &Task<'_>,
-    evaluator: &mut Evaluator,
-    path: &[Decision],
-    best: Best,
-) -> Result<Best, AllocError>
-    requires posed { IsPosedTask task.now }
-    requires evaluator { IsOver (task_of task.now) evaluator.old }
-    requires best { AreBest (task_of task.now) best.choices best.cost }
-    ensures best { IfOk result (λ b. AreBest (task_of task.now) b.choices b.cost) }
-    ensures no_dearer { IfOk result (λ b. b.cost ≤ best.cost) }
-    ensures evaluator { IsOver (task_of task.now) evaluator.new }
-{
-    for decision in path {
-        if !make(task.net, evaluator, *decision) {
-            return Ok(best);
-        }
-    }
-    solved_at(task, evaluator, best)
-}
-
 /// The choices of the completion where the evaluator stands, if nothing is violated there and they cost less than the best.
 fn solved_at(task: &Task<'_>, evaluator: &Evaluator, best: Best) -> Result<Best, AllocError>
     requires posed { IsPosedTask task.now }
@@ -382,32 +361,6 @@ fn solved_at(task: &Task<'_>, evaluator: &Evaluator, best: Best) -> Result<Best,
         Outcome::Solved(cost, choices) => Ok(Best { choices, cost }),
         Outcome::Cycle | Outcome::Pruned(_) | Outcome::Branch(_, _) => Ok(best),
     }
-}
-
-/// Goes through the tree with a limit that rises from the least cost of an open leaf, so that the budget is spent where least
-/// is known.
-fn traverse_all(
-    task: &Task<'_>,
-    evaluator: &mut Evaluator,
-    standing: Standing,
-) -> Result<Standing, AllocError>
-    requires posed { IsPosedTask task.now }
-    requires evaluator { IsOver (task_of task.now) evaluator.old }
-    requires stands { Stands (task_of task.now) standing.nodes.items standing.best.choices standing.best.cost }
-    ensures stands { IfOk result (λ s. Stands (task_of task.now) s.nodes.items s.best.choices s.best.cost) }
-    ensures evaluator { IsOver (task_of task.now) evaluator.new }
-{
-    let guide = Guide::new(task.alloc);
-    let mut standing = standing;
-    for _ in 0..TRAVERSALS {
-        let best = standing.best.cost;
-        let Some(limit) = next_limit(&standing.nodes, best, task.budget) else {
-            return Ok(standing);
-        };
-        let hints = Hints::whole(task.alloc, &guide)?;
-        standing = traverse(task, evaluator, standing, limit, hints)?;
-    }
-    Ok(standing)
 }
 
 /// The limit of the next traversal: a sixteenth of the way from the least cost of an open leaf up to the best cost; 0 where there

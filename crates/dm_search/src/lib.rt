@@ -22,10 +22,6 @@
 //! where it stands; `evaluator_at_base` makes one, and `searcher_at` makes of one a guide's searcher, of which nothing is
 //! promised. `BoundWord` and `Hand` are those of dm_bound: a word that several searches lower.
 //!
-//! A [`Judge`] is one of several who judge what a guide says, and is seen as its task. `new` gives one that has judged nothing;
-//! `judge_choices` and `judge_part` give what was judged for the same task, `join` puts together what two have judged of one,
-//! and `plan` searches on and gives a true plan of it. Which parts are judged is outside their clauses.
-//!
 //! A guide finds good choices and a tree that tells much; the tree is then gone through in preorder, each node judged anew
 //! by an evaluator that is brought from path to path; what is left of the budget goes, in traversals whose cost limit rises, to
 //! the leaves that cost least.
@@ -36,18 +32,14 @@
 #![tactic(auto)]
 
 mod finishing;
-mod judging;
 pub mod laws;
 mod moving;
-mod parts;
 mod searching;
-mod splicing;
 mod steps;
 mod walking;
 
 pub use dm_bound::{BoundWord, Hand};
 pub use dm_guide::Task;
 pub use finishing::{finish, finish_with, plan, plan_task, plan_with, whole};
-pub use judging::{Judge, Judged};
 pub use moving::{evaluator_at_base, searcher_at, step_to};
 pub use steps::{Outcome, step};

@@ -8,7 +8,7 @@ ghost use Rattle.dm_search.specs.Steps.{IsOutcome};
 
 use crate::Outcome;
 use crate::finishing::evaluator_of;
-use crate::walking::{make_all, outcome_here, violated_in, walk};
+use crate::walking::{make_all, step_there};
 use dm_base::Cost;
 use dm_evaluate::Evaluator;
 use dm_guide::{Searcher, Task};
@@ -64,17 +64,5 @@ pub fn step_to(
     ensures outcome { IfOk result (IsOutcome task.now.net.now task.now.rows.now (task.now.base.now ++ path.now) task.now.penalty best) }
     ensures evaluator { IsOver (task_of task.now) evaluator.new }
 {
-    let net = task.net;
-    net.sound();
-    let Ok(()) = walk(task, evaluator, path) else {
-        return Ok(Outcome::Cycle);
-    };
-    let cost = evaluator.cost(net, task.penalty);
-    if best <= cost {
-        return Ok(Outcome::Pruned(cost));
-    }
-    match violated_in(net, evaluator) {
-        Some(choice) => Ok(Outcome::Branch(cost, choice)),
-        None => outcome_here(task, evaluator, best),
-    }
+    step_there(task, evaluator, path, best, None)
 }

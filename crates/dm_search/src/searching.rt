@@ -1,26 +1,26 @@
 //! A tree that is searched node by node in preorder.
 ghost use Rattle.std.specs.Prelude.{◌≡◌, ◌∷◌, ◌++◌, ◌+◌, ◌⊎◌, ◌≤◌, [], length, reverse, List, IfOk, OnOk, MatchBool, None};
 ghost use Rattle.dm_base.specs.declared.limits.TheConstants.{BUDGET};
+ghost use Rattle.dm_network.specs.Start.{IsNetwork};
 ghost use Rattle.dm_rows.specs.declared.messages.Decision.{Decision as DecisionValue};
 ghost use Rattle.dm_rows.specs.Decide.{IsChoiceList};
 ghost use Rattle.dm_tree.specs.declared.forms.Node.TheVariants.{Inner as InnerNode, Hole as HoleNode};
 ghost use Rattle.dm_tree.specs.Trees.{choice_in};
 ghost use Rattle.dm_rows.specs.Sides.{first_decision};
-ghost use Rattle.dm_guide.specs.Tasks.{IsPosedTask, task_of};
 ghost use Rattle.dm_tree.specs.Pending.{pending};
 ghost use Rattle.dm_search.specs.Finish.{IsKnown};
-ghost use Rattle.dm_search.specs.Moving.{IsOver};
-ghost use Rattle.dm_search.specs.Inside.Searching.{AreBest, AreUsedUp, IsSearched, Stands, IsCeiling, IsFound, IsAdvanced};
+ghost use Rattle.dm_search.specs.Inside.Walking.{IsFoundThere};
+ghost use Rattle.dm_search.specs.Inside.Searching.{AreBest, AreUsedUp, IsSearched, IsStanding, IsCeiling, IsFound, IsAdvanced};
 
 use crate::Outcome;
-use crate::parts::{Advice, Hints, Sight};
 use crate::walking::step_there;
 use dm_base::{Cost, Items};
 use dm_evaluate::Evaluator;
-use dm_guide::Task;
+use dm_guide::{Guide, Hint, Task};
 use dm_rows::{Choice, Decision};
 use dm_tree::{Node, turn_back};
 use std::alloc::{AllocError, Global};
+use std::marker::Model;
 
 /// Choices that differ from the rows, and what the rows cost with them.
 #[derive(Drop)]
@@ -39,10 +39,36 @@ pub(crate) struct Standing {
 /// The first nodes of a tree in preorder, the path to the next one, and the nodes from there on, of which the next one stands
 /// last.
 #[derive(Drop)]
-pub(crate) struct Search {
-    pub(crate) nodes: Vec<Node>,
-    pub(crate) path: Vec<Decision>,
-    pub(crate) due: Vec<Node>,
+struct Search {
+    nodes: Vec<Node>,
+    path: Vec<Decision>,
+    due: Vec<Node>,
+}
+
+/// A guide, and its nodes for the last of the nodes that are due.
+#[derive(Drop)]
+struct Hints<'g> {
+    guide: &'g Guide,
+    due: Vec<Option<usize>>,
+}
+
+/// An evaluator that is brought from path to path, each behind the base of a task. It is seen as the task.
+#[derive(Drop)]
+pub(crate) struct Walker<'t> {
+    pub(crate) task: Task<'t>,
+    pub(crate) evaluator: Evaluator,
+}
+
+impl<'t> Model for Walker<'t> {
+    ghost use Rattle.dm_guide.specs.Tasks.{IsPosedTask, task_of};
+    ghost use Rattle.dm_tree.specs.Plans.{Task as PlanTask};
+    ghost use Rattle.dm_search.specs.Moving.{IsOver};
+
+    ghost Value = { PlanTask };
+
+    ghost view = { λ w. task_of w.task };
+
+    ghost invariant = { λ w. IsPosedTask w.task × IsOver (task_of w.task) w.evaluator };
 }
 
 /// What is found at a leaf.
@@ -60,7 +86,7 @@ pub(crate) enum Found {
 
 impl Search {
     /// Nothing is settled: the root is the next node.
-    pub(crate) fn new(alloc: Global, nodes: Vec<Node>) -> Search
+    fn new(alloc: Global, nodes: Vec<Node>) -> Search
         ensures nodes { result.nodes.items ≡ [] }
         ensures path { result.path.items ≡ [] }
         ensures due { result.due.items ≡ reverse nodes.items }
@@ -75,7 +101,7 @@ impl Search {
     }
 
     /// Settles a choice and goes on to its first child.
-    pub(crate) fn descend(&mut self, choice: Choice) -> Result<(), AllocError>
+    fn descend(&mut self, choice: Choice) -> Result<(), AllocError>
         ensures nodes { OnOk result (self.new.nodes.items ≡ self.old.nodes.items ++ InnerNode choice ∷ []) }
         ensures path { OnOk result (self.new.path.items ≡ self.old.path.items ++ first_decision choice ∷ []) }
         ensures due { self.new.due.items ≡ self.old.due.items }
@@ -97,7 +123,7 @@ impl Search {
     }
 
     /// Settles a leaf and goes on to the next node in preorder, if there is one.
-    pub(crate) fn leave(&mut self, leaf: Node) -> Result<(), AllocError>
+    fn leave(&mut self, leaf: Node) -> Result<(), AllocError>
         ensures nodes { OnOk result (self.new.nodes.items ≡ self.old.nodes.items ++ leaf ∷ []) }
         ensures path { OnOk result ((pending self.old.path.items ≡ self.new.path.items ∷ pending self.new.path.items)
             ⊎ (pending self.old.path.items ≡ [])) }
@@ -111,149 +137,232 @@ impl Search {
     }
 }
 
-/// Goes through a tree in preorder: each hole is searched, and each leaf below the limit while there is room for two nodes
-/// more.
-pub(crate) fn traverse(
-    task: &Task<'_>,
-    evaluator: &mut Evaluator,
-    standing: Standing,
-    limit: Cost,
-    hints: Hints<'_>,
-) -> Result<Standing, AllocError>
-    requires posed { IsPosedTask task.now }
-    requires evaluator { IsOver (task_of task.now) evaluator.old }
-    requires stands { Stands (task_of task.now) standing.nodes.items standing.best.choices standing.best.cost }
-    ensures stands { IfOk result (λ s. Stands (task_of task.now) s.nodes.items s.best.choices s.best.cost) }
-    ensures used { IfOk result (λ s. AreUsedUp task.now.budget limit s.nodes.items) }
-    ensures no_dearer { IfOk result (λ s. s.best.cost ≤ standing.best.cost) }
-    ensures evaluator { IsOver (task_of task.now) evaluator.new }
-{
-    task.net.sound();
-    let mut hints = hints;
-    let mut search = Search::new(task.alloc, standing.nodes);
-    let best = standing.best;
-    let best = search_all(task, evaluator, &mut search, best, limit, &mut hints)?;
-    Ok(Standing {
-        nodes: search.nodes,
-        best,
-    })
-}
-
-/// Settles each node that is due, and gives the best choices that are found on the way.
-fn search_all(
-    task: &Task<'_>,
-    evaluator: &mut Evaluator,
-    search: &mut Search,
-    best: Best,
-    limit: Cost,
-    hints: &mut Hints<'_>,
-) -> Result<Best, AllocError>
-    requires posed { IsPosedTask task.now }
-    requires evaluator { IsOver (task_of task.now) evaluator.old }
-    requires best { AreBest (task_of task.now) best.choices best.cost }
-    requires search { IsSearched (task_of task.now) limit best.cost
-        search.old.nodes.items (reverse search.old.due.items) search.old.path.items }
-    ensures best { IfOk result (λ b. AreBest (task_of task.now) b.choices b.cost) }
-    ensures search { IfOk result (λ b. IsSearched (task_of task.now) limit b.cost
-        search.new.nodes.items [] search.new.path.items) }
-    ensures no_dearer { IfOk result (λ b. b.cost ≤ best.cost) }
-    ensures evaluator { IsOver (task_of task.now) evaluator.new }
-{
-    let mut now = best;
-    while let Some(node) = search.due.pop() {
-        now = advance(task, evaluator, search, node, now, limit, hints)?;
-    }
-    Ok(now)
-}
-
-/// Settles the node that stands next.
-fn advance(
-    task: &Task<'_>,
-    evaluator: &mut Evaluator,
-    search: &mut Search,
-    node: Node,
-    best: Best,
-    limit: Cost,
-    hints: &mut Hints<'_>,
-) -> Result<Best, AllocError>
-    requires posed { IsPosedTask task.now }
-    requires evaluator { IsOver (task_of task.now) evaluator.old }
-    requires best { AreBest (task_of task.now) best.choices best.cost }
-    requires search { IsSearched (task_of task.now) limit best.cost
-        search.old.nodes.items (node ∷ reverse search.old.due.items) search.old.path.items }
-    ensures advanced { IfOk result (IsAdvanced (task_of task.now) limit (length search.old.nodes.items) best.cost
-        search.new.nodes.items (reverse search.new.due.items) search.new.path.items) }
-    ensures evaluator { IsOver (task_of task.now) evaluator.new }
-{
-    task.net.sound();
-    let hint = hints.next();
-    if let Some(choice) = node.choice() {
-        hints.branch(hint, choice)?;
-        search.descend(choice)?;
-        return Ok(best);
-    }
-    let wanted = wanted_at(hint, limit, best.cost);
-    let ceiling = ceiling_of(search, task.budget, limit, wanted);
-    let path = search.path.as_slice();
-    let found = found_at(
-        task,
-        evaluator,
-        path,
-        node,
-        best.cost,
-        ceiling,
-        hints.advice(hint),
-    )?;
-    if let Found::Split(choice) = &found {
-        hints.branch(hint, *choice)?;
-    }
-    place(task, search, node, best, limit, ceiling, found)
-}
-
-/// Settles what was found at the leaf that stands next.
-fn place(
-    task: &Task<'_>,
-    search: &mut Search,
-    leaf: Node,
-    best: Best,
-    limit: Cost,
-    ceiling: Cost,
-    found: Found,
-) -> Result<Best, AllocError>
-    requires posed { IsPosedTask task.now }
-    requires ceiling { IsCeiling task.now.budget (length search.old.nodes.items + 1 + length search.old.due.items) limit ceiling }
-    requires leaf { None ≡ choice_in leaf }
-    requires found { IsFound (task_of task.now) search.old.path.items best.cost ceiling found }
-    requires best { AreBest (task_of task.now) best.choices best.cost }
-    requires search { IsSearched (task_of task.now) limit best.cost
-        search.old.nodes.items (leaf ∷ reverse search.old.due.items) search.old.path.items }
-    ensures advanced { IfOk result (IsAdvanced (task_of task.now) limit (length search.old.nodes.items) best.cost
-        search.new.nodes.items (reverse search.new.due.items) search.new.path.items) }
-{
-    task.net.sound();
-    match found {
-        Found::Settled(leaf) => {
-            search.leave(leaf)?;
-            Ok(best)
+impl Hints<'_> {
+    /// What the guide says of the node that stands next.
+    fn next(&mut self) -> Option<Hint> {
+        match self.due.pop() {
+            Some(Some(node)) => self.guide.hint(node),
+            _ => None,
         }
-        Found::Better(better) => {
-            search.leave(Node::Bound(better.cost))?;
-            Ok(better)
+    }
+
+    /// Goes on to the guide's children, where the search branches as it does, and else to none.
+    fn branch(&mut self, hint: Option<Hint>, choice: Choice) -> Result<(), AllocError> {
+        let below = match hint {
+            Some(hint) if hint.choice == Some(choice) => hint.below,
+            _ => None,
+        };
+        self.due.push(beside(below))?;
+        self.due.push(below)?;
+        Ok(())
+    }
+}
+
+/// The guide's second child.
+fn beside(below: Option<usize>) -> Option<usize> {
+    match below {
+        Some(node) => node.checked_add(1),
+        None => None,
+    }
+}
+
+impl Walker<'_> {
+    /// Goes through a tree in preorder: each hole is searched, and each leaf below the limit while there is room for two nodes
+    /// more.
+    pub(crate) fn traverse(
+        &mut self,
+        standing: Standing,
+        limit: Cost,
+        guide: &Guide,
+    ) -> Result<Standing, AllocError>
+        requires stands { IsStanding self.old standing }
+        ensures stands { IfOk result (IsStanding self.old) }
+        ensures used { IfOk result (λ s. AreUsedUp self.old.budget limit s.nodes.items) }
+        ensures no_dearer { IfOk result (λ s. s.best.cost ≤ standing.best.cost) }
+        ensures same { self.new ≡ self.old }
+    {
+        self.sound();
+        let alloc = self.task.alloc;
+        let mut hints = Hints {
+            guide,
+            due: vec![in alloc; Some(0)]?,
+        };
+        let mut search = Search::new(alloc, standing.nodes);
+        let best = self.search_all(&mut search, standing.best, limit, &mut hints)?;
+        Ok(Standing {
+            nodes: search.nodes,
+            best,
+        })
+    }
+
+    /// Settles each node that is due, and gives the best choices that are found on the way.
+    fn search_all(
+        &mut self,
+        search: &mut Search,
+        best: Best,
+        limit: Cost,
+        hints: &mut Hints<'_>,
+    ) -> Result<Best, AllocError>
+        requires best { AreBest self.old best.choices best.cost }
+        requires search { IsSearched self.old limit best.cost
+            search.old.nodes.items (reverse search.old.due.items) search.old.path.items }
+        ensures best { IfOk result (λ b. AreBest self.old b.choices b.cost) }
+        ensures search { IfOk result (λ b. IsSearched self.old limit b.cost search.new.nodes.items [] search.new.path.items) }
+        ensures no_dearer { IfOk result (λ b. b.cost ≤ best.cost) }
+        ensures same { self.new ≡ self.old }
+    {
+        let mut now = best;
+        while let Some(node) = search.due.pop() {
+            now = self.advance(search, node, now, limit, hints)?;
         }
-        Found::Split(choice) => {
-            search.split(choice)?;
-            Ok(best)
+        Ok(now)
+    }
+
+    /// Settles the node that stands next.
+    fn advance(
+        &mut self,
+        search: &mut Search,
+        node: Node,
+        best: Best,
+        limit: Cost,
+        hints: &mut Hints<'_>,
+    ) -> Result<Best, AllocError>
+        requires best { AreBest self.old best.choices best.cost }
+        requires search { IsSearched self.old limit best.cost
+            search.old.nodes.items (node ∷ reverse search.old.due.items) search.old.path.items }
+        ensures advanced { IfOk result (IsAdvanced self.old limit (length search.old.nodes.items) best.cost
+            search.new.nodes.items (reverse search.new.due.items) search.new.path.items) }
+        ensures same { self.new ≡ self.old }
+    {
+        self.sound();
+        let hint = hints.next();
+        if let Some(choice) = node.choice() {
+            hints.branch(hint, choice)?;
+            search.descend(choice)?;
+            return Ok(best);
+        }
+        let wanted = wanted_at(hint, limit, best.cost);
+        let ceiling = ceiling_of(search, self.task.budget, limit, wanted);
+        let path = search.path.as_slice();
+        let found = self.found_at(path, node, best.cost, ceiling, hinted(hint))?;
+        if let Found::Split(choice) = &found {
+            hints.branch(hint, *choice)?;
+        }
+        self.place(search, node, best, limit, ceiling, found)
+    }
+
+    /// Settles what was found at the leaf that stands next.
+    fn place(
+        &self,
+        search: &mut Search,
+        leaf: Node,
+        best: Best,
+        limit: Cost,
+        ceiling: Cost,
+        found: Found,
+    ) -> Result<Best, AllocError>
+        requires ceiling { IsCeiling self.now.budget (length search.old.nodes.items + 1 + length search.old.due.items) limit ceiling }
+        requires leaf { None ≡ choice_in leaf }
+        requires found { IsFound self.now search.old.path.items best.cost ceiling found }
+        requires best { AreBest self.now best.choices best.cost }
+        requires search { IsSearched self.now limit best.cost
+            search.old.nodes.items (leaf ∷ reverse search.old.due.items) search.old.path.items }
+        ensures advanced { IfOk result (IsAdvanced self.now limit (length search.old.nodes.items) best.cost
+            search.new.nodes.items (reverse search.new.due.items) search.new.path.items) }
+    {
+        self.sound();
+        match found {
+            Found::Settled(leaf) => {
+                search.leave(leaf)?;
+                Ok(best)
+            }
+            Found::Better(better) => {
+                search.leave(Node::Bound(better.cost))?;
+                Ok(better)
+            }
+            Found::Split(choice) => {
+                search.split(choice)?;
+                Ok(best)
+            }
+        }
+    }
+
+    /// What is true of every walker's task.
+    fn sound(&self)
+        ensures network { IsNetwork self.now.net }
+        ensures base { IsChoiceList self.now.net self.now.rows self.now.base }
+    {
+        self.task.net.sound();
+    }
+
+    /// What a search does with a path, branching on the choice that it is hinted at where that one is violated.
+    fn step_there(
+        &mut self,
+        path: &[Decision],
+        best: Cost,
+        hint: Option<Choice>,
+    ) -> Result<Outcome, AllocError>
+        requires { IsChoiceList self.old.net self.old.rows (self.old.base ++ path.now) }
+        ensures outcome { IfOk result (IsFoundThere self.old.net self.old.rows (self.old.base ++ path.now) self.old.penalty best) }
+        ensures same { self.new ≡ self.old }
+    {
+        step_there(&self.task, &mut self.evaluator, path, best, hint)
+    }
+
+    /// What is found at a leaf: at a hole, and at an open leaf below the ceiling, what one step finds.
+    fn found_at(
+        &mut self,
+        path: &[Decision],
+        leaf: Node,
+        best: Cost,
+        ceiling: Cost,
+        hint: Option<Choice>,
+    ) -> Result<Found, AllocError>
+        requires list { IsChoiceList self.old.net self.old.rows (self.old.base ++ path.now) }
+        requires leaf { choice_in leaf ≡ None }
+        requires best { (choices : List DecisionValue) × AreBest self.old choices best }
+        requires known { IsKnown self.old best path.now leaf }
+        ensures found { IfOk result (IsFound self.old path.now best ceiling) }
+        ensures same { self.new ≡ self.old }
+    {
+        self.task.net.sound();
+        match leaf {
+            Node::Hole => {}
+            Node::Open(cost) if cost < ceiling => {}
+            Node::Inner(_) | Node::Cycle | Node::Bound(_) | Node::Open(_) => {
+                return Ok(Found::Settled(leaf));
+            }
+        }
+        match self.step_there(path, best, hint)? {
+            Outcome::Cycle => Ok(Found::Settled(Node::Cycle)),
+            Outcome::Pruned(cost) => Ok(Found::Settled(Node::Bound(cost))),
+            Outcome::Solved(cost, choices) => Ok(Found::Better(Best { choices, cost })),
+            Outcome::Branch(cost, choice) => {
+                if cost < ceiling {
+                    Ok(Found::Split(choice))
+                } else {
+                    Ok(Found::Settled(Node::Open(cost)))
+                }
+            }
         }
     }
 }
 
 /// How little a leaf costs that is searched: where the guide has a choice there, each one that costs less than the best.
-fn wanted_at(hint: Option<Sight>, limit: Cost, best: Cost) -> Cost
+fn wanted_at(hint: Option<Hint>, limit: Cost, best: Cost) -> Cost
     ensures { limit ≤ result }
 {
     match hint {
-        Some(sight) if sight.hint.below.is_some() => limit.max(best),
+        Some(Hint { below: Some(_), .. }) => limit.max(best),
         _ => limit,
+    }
+}
+
+/// The choice that the guide branches on, or knows to be violated.
+fn hinted(hint: Option<Hint>) -> Option<Choice> {
+    match hint {
+        Some(hint) => hint.choice,
+        None => None,
     }
 }
 
@@ -265,46 +374,4 @@ fn ceiling_of(search: &Search, budget: u64, limit: Cost, wanted: Cost) -> Cost
 {
     let total = (search.nodes.len() + 1 + search.due.len()) as u64;
     if total + 2 <= budget { wanted } else { 0 }
-}
-
-/// What is found at a leaf: at a hole, and at an open leaf below the ceiling, what one step finds.
-fn found_at(
-    task: &Task<'_>,
-    evaluator: &mut Evaluator,
-    path: &[Decision],
-    leaf: Node,
-    best: Cost,
-    ceiling: Cost,
-    advice: Advice,
-) -> Result<Found, AllocError>
-    requires posed { IsPosedTask task.now }
-    requires evaluator { IsOver (task_of task.now) evaluator.old }
-    requires list { IsChoiceList task.now.net.now task.now.rows.now (task.now.base.now ++ path.now) }
-    requires leaf { choice_in leaf ≡ None }
-    requires best { (choices : List DecisionValue) × AreBest (task_of task.now) choices best }
-    requires known { IsKnown (task_of task.now) best path.now leaf }
-    ensures found { IfOk result (IsFound (task_of task.now) path.now best ceiling) }
-    ensures evaluator { IsOver (task_of task.now) evaluator.new }
-{
-    task.net.sound();
-    match leaf {
-        Node::Hole if advice.is_elsewhere => return Ok(Found::Settled(Node::Hole)),
-        Node::Hole => {}
-        Node::Open(cost) if cost < ceiling => {}
-        Node::Inner(_) | Node::Cycle | Node::Bound(_) | Node::Open(_) => {
-            return Ok(Found::Settled(leaf));
-        }
-    }
-    match step_there(task, evaluator, path, best, advice.choice)? {
-        Outcome::Cycle => Ok(Found::Settled(Node::Cycle)),
-        Outcome::Pruned(cost) => Ok(Found::Settled(Node::Bound(cost))),
-        Outcome::Solved(cost, choices) => Ok(Found::Better(Best { choices, cost })),
-        Outcome::Branch(cost, choice) => {
-            if cost < ceiling {
-                Ok(Found::Split(choice))
-            } else {
-                Ok(Found::Settled(Node::Open(cost)))
-            }
-        }
-    }
 }

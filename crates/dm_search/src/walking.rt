@@ -1,5 +1,5 @@
 //! One step of a search by an evaluator that is brought to the path.
-ghost use Rattle.std.specs.Prelude.{◌≡◌, ◌<◌, ◌≤◌, ◌+◌, ◌-◌, ◌++◌, ◌∷◌, [], length, take, drop, IfOk, OnOk, OnErr, MatchBool, IsTrue, ◌↔◌, IfSome};
+ghost use Rattle.std.specs.Prelude.{◌≡◌, ◌<◌, ◌≤◌, ◌+◌, ◌-◌, ◌++◌, ◌∷◌, [], length, take, drop, IfOk, OnOk, OnErr, MatchBool, IsTrue, ◌↔◌, IfSome, None};
 ghost use Rattle.dm_rows.specs.Decide.{IsChoiceList, choice_of};
 ghost use Rattle.dm_evaluate.specs.Evaluator.{IsEvaluatorOf, times_of};
 ghost use Rattle.dm_paths.specs.Decisions.{IsOpen};
@@ -24,7 +24,7 @@ use std::marker::Brand;
 use std::sync::ledger::{Blank, Ledger};
 
 /// What a search does with a path behind the base of a task, in the time that the task's evaluator takes to go there. It branches
-/// on the choice that it is hinted at, where that one is violated.
+/// on the choice that it is hinted at, where that one is violated, and else on the first.
 pub(crate) fn step_there(
     task: &Task<'_>,
     evaluator: &mut Evaluator,
@@ -36,6 +36,8 @@ pub(crate) fn step_there(
     requires evaluator { IsOver (task_of task.now) evaluator.old }
     requires list { IsChoiceList task.now.net.now task.now.rows.now (task.now.base.now ++ path.now) }
     ensures outcome { IfOk result (IsFoundThere task.now.net.now task.now.rows.now (task.now.base.now ++ path.now) task.now.penalty best) }
+    ensures first { hint ≡ None → IfOk result (IsOutcome task.now.net.now task.now.rows.now
+        (task.now.base.now ++ path.now) task.now.penalty best) }
     ensures evaluator { IsOver (task_of task.now) evaluator.new }
 {
     let net = task.net;
@@ -82,6 +84,7 @@ fn violated_there(net: &Network, evaluator: &mut Evaluator, hint: Option<Choice>
     ensures rows { evaluator.new.rows ≡ evaluator.old.rows }
     ensures path { evaluator.new.path ≡ evaluator.old.path }
     ensures violated { IfSome result (IsViolated net.now evaluator.old.rows evaluator.old.path (times_of evaluator.old)) }
+    ensures first { hint ≡ None → result ≡ first_violated net.now evaluator.old.rows evaluator.old.path (times_of evaluator.old) }
 {
     match hint {
         Some(choice) if is_violated_in(net, evaluator, choice) => Some(choice),
@@ -114,7 +117,7 @@ fn is_violated_with<L: Ledger>(
 }
 
 /// The first choice that the evaluator's times violate.
-pub(crate) fn violated_in(net: &Network, evaluator: &mut Evaluator) -> Option<Choice>
+fn violated_in(net: &Network, evaluator: &mut Evaluator) -> Option<Choice>
     requires { IsEvaluatorOf net.now evaluator.old }
     ensures evaluator { IsEvaluatorOf net.now evaluator.new }
     ensures rows { evaluator.new.rows ≡ evaluator.old.rows }
@@ -144,11 +147,7 @@ fn violated_with<L: Ledger>(
 
 /// Brings a task's evaluator to a path behind the base: decisions are taken back from the end of its own path down to what both
 /// have in front, and the others of the path are made. It is refused where the relaxed problem of the path has a cycle.
-pub(crate) fn walk(
-    task: &Task<'_>,
-    evaluator: &mut Evaluator,
-    path: &[Decision],
-) -> Result<(), Cyclic>
+fn walk(task: &Task<'_>, evaluator: &mut Evaluator, path: &[Decision]) -> Result<(), Cyclic>
     requires posed { IsPosedTask task.now }
     requires evaluator { IsOver (task_of task.now) evaluator.old }
     requires list { IsChoiceList task.now.net.now task.now.rows.now (task.now.base.now ++ path.now) }
@@ -175,7 +174,7 @@ pub(crate) fn behind(path: &[Decision], many: usize) -> &[Decision]
 }
 
 /// How many decisions the two have in common at the front.
-pub(crate) fn common_front(one: &[Decision], other: &[Decision]) -> usize
+fn common_front(one: &[Decision], other: &[Decision]) -> usize
     ensures { AreFronts one.now other.now result }
 {
     for (i, decision) in one.iter().enumerate() {

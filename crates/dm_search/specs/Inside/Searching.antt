@@ -14,6 +14,7 @@ use Rattle.dm_tree.specs.Pending.{pending}
 use Rattle.dm_rows.specs.Sides.{is_ordered}
 use Rattle.dm_tree.specs.Inside.Assembling.{seen, GoesOn}
 use Rattle.dm_search.specs.declared.searching.Best.{Best}
+use Rattle.dm_search.specs.declared.searching.Standing.{Standing}
 use Rattle.dm_search.specs.declared.searching.Found.{Found}
 use Rattle.dm_search.specs.declared.searching.Found.TheVariants.{Settled, Better, Split}
 use Rattle.dm_search.specs.Finish.{IsKnown}
@@ -56,6 +57,9 @@ pub record Stands (task : Task) (nodes : List Node) (best : List Decision) (cost
   pub whole : fills true 0 nodes ≡ true
   pub few : length nodes ≤ task.budget
   pub are_best : AreBest task best cost
+
+abbrev pub IsStanding : Task → Standing → Type 0
+IsStanding task s = Stands task s.nodes.items s.best.choices s.best.cost
 
 -- a leaf is searched where it costs less: at least up to the limit where two further nodes keep to the budget, and else not
 pub record IsCeiling (budget total limit ceiling : ℕ) : Type 0 where

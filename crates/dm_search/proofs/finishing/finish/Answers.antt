@@ -10,4 +10,4 @@ standing_at-requires-clause-start c =
 
 pub returns-clause-plan : goal.returns-clause-plan
 returns-clause-plan c =
-    IfOk-weaker _ _ _ (λ p is. subst (λ (t : Task). IsTruePlan t p) c.whole-task.ensures.task is) c.finish_standing.ensures.plan
+    IfOk-weaker _ _ _ (λ p is. subst (λ (t : Task). IsTruePlan t p) c.whole-task.ensures.task is) c.finish_alone.ensures.plan

@@ -1,0 +1,14 @@
+use Rattle.std.proofs.lemmas.Result.{IfOk-weaker}
+use Rattle.dm_search.proofs.Beside.{beside_is_task}
+use Rattle.dm_search.proofs.Limits.{at_most_itself}
+use Rattle.dm_search.proofs.Ended.{plan_is_true}
+use Rattle.dm_search.specs.Inside.Ending.{IsPlanOf}
+use Rattle.dm_search.proofs.finishing.finish_standing.Goals as goal
+
+pub returns-clause-plan : goal.returns-clause-plan
+returns-clause-plan c =
+    IfOk-weaker _ _ _ (λ p of. plan_is_true _ (beside_is_task _ _ _ _ _ c.sound.ensures.network c.requires.posed) _ _ _ _ _ p
+    c.in_ok-searched.ensures.stands c.in_ok-searched.ensures.used (at_most_itself _) of) c.plan_of.ensures
+
+pub returns-clause-entry : goal.returns-clause-entry
+returns-clause-entry c = IfOk-weaker _ _ _ (λ p (of : IsPlanOf c.args.entry _ _ _ p). of.of_entry) c.plan_of.ensures

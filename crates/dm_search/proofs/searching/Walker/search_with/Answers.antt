@@ -1,0 +1,10 @@
+use Rattle.std.proofs.Common.{subst, ◌∙◌}
+use Rattle.std.specs.Prelude.{IfOk}
+use Rattle.dm_tree.specs.Plans.{Task}
+use Rattle.dm_search.specs.Inside.Searching.{AreUsedUp}
+use Rattle.dm_search.proofs.searching.Walker.search_with.Goals as goal
+
+pub returns-clause-used : goal.returns-clause-used
+returns-clause-used c =
+    subst (λ (t : Task). IfOk c.last_traversal.result (λ s. AreUsedUp t.budget s.best.cost s.nodes.items))
+    (c.traverse_all.ensures.same ∙ (c.traverse.ensures.same ∙ c.improve.ensures.same)) c.last_traversal.ensures.used

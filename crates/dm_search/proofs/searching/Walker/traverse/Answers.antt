@@ -1,0 +1,15 @@
+use Rattle.std.proofs.Common.{ap, ◌∙◌, reverse}
+use Rattle.std.proofs.lemmas.List.{reverse-reverse}
+use Rattle.dm_search.proofs.Advancing.{search_anew, used_in_all, stands_searched}
+use Rattle.dm_search.proofs.searching.Walker.traverse.Goals as goal
+
+pub search_all-requires-clause-search : goal.search_all-requires-clause-search
+search_all-requires-clause-search c =
+    search_anew _ c.sound.ensures.base _ _ _ _ _ _ _
+    c.new-search.ensures.nodes c.new-search.ensures.path (ap reverse c.new-search.ensures.due ∙ reverse-reverse _) c.requires.stands
+
+pub returns-clause-stands : goal.returns-clause-stands
+returns-clause-stands c = stands_searched _ _ _ _ _ _ c.in_ok-best.ensures.search c.in_ok-best.ensures.best
+
+pub returns-clause-used : goal.returns-clause-used
+returns-clause-used c = used_in_all _ _ _ _ _ c.in_ok-best.ensures.search
