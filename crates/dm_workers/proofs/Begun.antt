@@ -21,7 +21,7 @@ use Rattle.dm_deques.specs.Sharing.{new_tally, deque_of}
 use Rattle.dm_ways.specs.Ways.{paths_on, leaves_on}
 use Rattle.dm_workers.specs.declared.working.Worker.{Worker}
 use Rattle.dm_workers.specs.Inside.Workers.{IsWorking, IsSameWorker, IsNewWorker, IsDone}
-use Rattle.dm_workers.specs.Inside.Working.{Path, taken_on, IsHandedIn, AreKept, AreListed, IsAtWork, nothing}
+use Rattle.dm_workers.specs.Inside.Working.{Path, taken_on, IsHandedIn, AreKept, AreListed, AreFindings, IsAtWork, nothing}
 
 some_of_none : (xs : List Choice) → AreSomeOf xs []
 some_of_none [] = refl
@@ -34,6 +34,19 @@ taken_none s (d ∷ ds) = let one : TallyValue Path = new_tally d in omega (arit
 pub tally_deques : (ds : List RowsId) → map deque_of (map (new_tally {T = Path}) ds) ≡ ds
 tally_deques [] = refl
 tally_deques (d ∷ ds) = ap (λ es. d ∷ es) (tally_deques ds)
+
+-- nothing is found yet
+pub none_found : (task : Task) (own : ℕ) (word : TableId) (start seats : ℕ) (hand : HandValue) (leaves : List Leaf) (choices : List Decision) (cost : ℕ)
+    → AreKept task own [] own → leaves ≡ [] → hand.word ≡ word → hand.start ≡ start → hand.room ≡ seats → hand.lowered ≡ [] → choices ≡ [] → cost ≡ own
+    → AreFindings task own word start seats hand leaves choices cost
+none_found task own word start seats hand leaves choices cost kept l w s r low ch c = record {
+  ends = subst (All (IsHandedIn task cost hand.looked)) (sym l) (All-nil (IsHandedIn task cost hand.looked));
+  kept = subst (λ (ds : List Decision). AreKept task own ds cost) (sym ch) (subst (AreKept task own []) (sym c) kept);
+  listed = subst (AreListed cost) (sym low) (All-nil (λ k. (cost ≤ k) ⊎ (k ≡ nothing_looked)));
+  word_is = w;
+  start_is = s;
+  room = r;
+}
 
 module _ (net : Net) (rows : RowsValue) (penalty : ℕ) (base : List Decision) (budget own : ℕ) (no_cycle : HasNoCycle net rows) (of_rows : Costs net rows penalty own) where
   abbrev task : Task
@@ -53,12 +66,7 @@ module _ (net : Net) (rows : RowsValue) (penalty : ℕ) (base : List Decision) (
       → IsAtWork task own word hand.start (λ s. paths_on s owner.account.put) nothing owner tallies hand leaves choices cost
   begun word owner tallies ds hand leaves choices cost t l w r low ch c = record {
     fair = λ s. omega (arith, ap (leaves_on s) l);
-    ends = subst (All (IsHandedIn task cost hand.looked)) (sym l) (All-nil (IsHandedIn task cost hand.looked));
-    kept = subst (λ (ds : List Decision). AreKept task own ds cost) (sym ch) (subst (AreKept task own []) (sym c) own_kept);
-    listed = subst (AreListed cost) (sym low) (All-nil (λ k. (cost ≤ k) ⊎ (k ≡ nothing_looked)));
-    word_is = w;
-    start_is = refl;
-    room = r;
+    found = none_found task own word hand.start 1 hand leaves choices cost own_kept l w refl r low ch c;
   }
 
   -- a worker that began so and has done its work

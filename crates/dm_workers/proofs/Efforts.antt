@@ -48,12 +48,14 @@ module _ (task : Task) (own : ℕ) (word : TableId) (start : ℕ) (given : List 
         → Works in_hand owner tallies (having_looked hand seen) leaves choices cost
     looked_on in_hand seen w = record {
       fair = w.fair;
-      ends = ends_lower task cost cost hand.looked (min hand.looked seen) leaves (omega arith) (omega arith) w.ends;
-      kept = w.kept;
-      listed = w.listed;
-      word_is = w.word_is;
-      start_is = w.start_is;
-      room = w.room;
+      found = record {
+        ends = ends_lower task cost cost hand.looked (min hand.looked seen) leaves (omega arith) (omega arith) w.found.ends;
+        kept = w.found.kept;
+        listed = w.found.listed;
+        word_is = w.found.word_is;
+        start_is = w.found.start_is;
+        room = w.found.room;
+      };
     }
 
     -- the path that is in hand is handed in as a leaf
@@ -61,25 +63,22 @@ module _ (task : Task) (own : ℕ) (word : TableId) (start : ℕ) (given : List 
         → IsEnd task cost hand.looked path n → now ≡ leaves ++ record { path = path; node = n } ∷ [] → Works nothing owner tallies hand now choices cost
     handed path n now w way end is = record {
       fair = λ s. omega (arith, w.fair s, ap (leaves_on s) is, sum_by_push (λ (l : Leaf). on_way s l.path) leaves (record { path = path; node = n }));
-      ends = subst (All (IsHandedIn task cost hand.looked)) (sym is)
-          (All-push (IsHandedIn task cost hand.looked) leaves (record { path = path; node = n }) w.ends (record { way = way; end = end }));
-      kept = w.kept;
-      listed = w.listed;
-      word_is = w.word_is;
-      start_is = w.start_is;
-      room = w.room;
+      found = record {
+        ends = subst (All (IsHandedIn task cost hand.looked)) (sym is)
+            (All-push (IsHandedIn task cost hand.looked) leaves (record { path = path; node = n }) w.found.ends (record { way = way; end = end }));
+        kept = w.found.kept;
+        listed = w.found.listed;
+        word_is = w.found.word_is;
+        start_is = w.found.start_is;
+        room = w.found.room;
+      };
     }
 
     -- or given up
     pub dropped : (in_hand : List Bool → ℕ) → Works in_hand owner tallies hand leaves choices cost → Works nothing owner tallies hand leaves choices cost
     dropped in_hand w = record {
       fair = λ s. omega (arith, w.fair s);
-      ends = w.ends;
-      kept = w.kept;
-      listed = w.listed;
-      word_is = w.word_is;
-      start_is = w.start_is;
-      room = w.room;
+      found = w.found;
     }
 
     -- the two paths below it are put
@@ -94,12 +93,7 @@ module _ (task : Task) (own : ℕ) (word : TableId) (start : ℕ) (given : List 
         sum_by_push (on_way s) owner.account.put (path ++ second_decision c ∷ []),
         sum_by_push (on_way s) (owner.account.put ++ (path ++ second_decision c ∷ []) ∷ []) (path ++ first_decision c ∷ []),
       );
-      ends = w.ends;
-      kept = w.kept;
-      listed = w.listed;
-      word_is = w.word_is;
-      start_is = w.start_is;
-      room = w.room;
+      found = w.found;
     })
 
     -- choices that cost no more are kept
@@ -107,12 +101,14 @@ module _ (task : Task) (own : ℕ) (word : TableId) (start : ℕ) (given : List 
         → cost' ≤ cost → Works in_hand owner tallies hand leaves choices' cost'
     bettered in_hand choices' cost' w kept less = record {
       fair = w.fair;
-      ends = ends_lower task cost cost' hand.looked hand.looked leaves less (omega arith) w.ends;
-      kept = kept;
-      listed = listed_lower task cost cost' hand.lowered less w.listed;
-      word_is = w.word_is;
-      start_is = w.start_is;
-      room = w.room;
+      found = record {
+        ends = ends_lower task cost cost' hand.looked hand.looked leaves less (omega arith) w.found.ends;
+        kept = kept;
+        listed = listed_lower task cost cost' hand.lowered less w.found.listed;
+        word_is = w.found.word_is;
+        start_is = w.found.start_is;
+        room = w.found.room;
+      };
     }
 
     -- the word is lowered by a cost that the kept choices do not exceed, or that prunes nothing
@@ -120,12 +116,14 @@ module _ (task : Task) (own : ℕ) (word : TableId) (start : ℕ) (given : List 
         → Works in_hand owner tallies (record hand { lowered = hand.lowered ++ c ∷ [] }) leaves choices cost
     told in_hand c w low = record {
       fair = w.fair;
-      ends = w.ends;
-      kept = w.kept;
-      listed = All-push (λ k. (cost ≤ k) ⊎ (k ≡ nothing_looked)) hand.lowered c w.listed low;
-      word_is = w.word_is;
-      start_is = w.start_is;
-      room = w.room;
+      found = record {
+        ends = w.found.ends;
+        kept = w.found.kept;
+        listed = All-push (λ k. (cost ≤ k) ⊎ (k ≡ nothing_looked)) hand.lowered c w.found.listed low;
+        word_is = w.found.word_is;
+        start_is = w.found.start_is;
+        room = w.found.room;
+      };
     }
 
     -- a path is taken from some deque
@@ -135,10 +133,5 @@ module _ (task : Task) (own : ℕ) (word : TableId) (start : ℕ) (given : List 
         → Works (λ s. on_way s path) owner' tallies' hand leaves choices cost
     taken path owner' tallies' w put weighs = record {
       fair = λ s. omega (arith, w.fair s, weighs s, ap (paths_on s) put);
-      ends = w.ends;
-      kept = w.kept;
-      listed = w.listed;
-      word_is = w.word_is;
-      start_is = w.start_is;
-      room = w.room;
+      found = w.found;
     }

@@ -36,9 +36,9 @@ module _ {F : Type 0} (task : Task) (own : ℕ) (word : TableId) (start rooms : 
         looked = g.hand.looked;
         apart = apart_at_end task own word start (rooms + length jobs) (λ s. given_to s jobs) (λ s. all_taken s g.tallies.items) g.owners.items owners g.hand g.leaves.items g.best.choices g.best.cost
             h one put took within;
-        ends = h.ends;
-        shown = λ c s. shown_at_end g.best.cost own g.hand c end (h.start_is ∙ starts) h.kept.no_dearer h.listed is looked s;
-        kept = h.kept;
+        ends = h.found.ends;
+        shown = λ c s. shown_at_end g.best.cost own g.hand c end (h.found.start_is ∙ starts) h.found.kept.no_dearer h.found.listed is looked s;
+        kept = h.found.kept;
       }
 
   -- each worker's tallies are of the owners' deques

@@ -12,7 +12,7 @@ use Rattle.dm_bound.specs.Words.{HandValue, lowest, nothing_looked}
 use Rattle.dm_deques.specs.Deques.{TallyValue, settled}
 use Rattle.dm_deques.specs.Sharing.{deque_of, settling, settling_each}
 use Rattle.dm_ways.specs.Ways.{paths_on, leaves_on, on_way, StandApart}
-use Rattle.dm_workers.specs.Inside.Working.{Path, taken_on, IsHandedIn, IsEnd, AreKept, AreListed, IsAtWork, nothing}
+use Rattle.dm_workers.specs.Inside.Working.{Path, taken_on, IsHandedIn, IsEnd, AreKept, AreListed, AreFindings, IsAtWork, nothing}
 use Rattle.dm_workers.specs.declared.working.Best.{Best}
 use Rattle.dm_workers.specs.Inside.Gathering.{owners_put, owners_taken, all_taken, AreGathered}
 use Rattle.dm_workers.proofs.Efforts.{ends_lower, listed_lower}
@@ -42,18 +42,20 @@ module _ (task : Task) (own : ℕ) (word : TableId) (start rooms : ℕ) (given t
           sum_by_push (λ (o : TallyValue Path). paths_on s o.account.taken) owners owner,
           sum_by-append (λ (l : Leaf). on_way s l.path) leaves leaves',
         );
-        ends = All-append (IsHandedIn task least (min hand.looked hand'.looked)) leaves leaves'
-            (ends_lower task cost least hand.looked (min hand.looked hand'.looked) leaves low.0 (omega arith) g.ends)
-            (ends_lower task cost' least hand'.looked (min hand.looked hand'.looked) leaves' low.1 (omega arith) w.ends);
-        kept = ⊎_elim
-            (λ (h : (kept ≡ choices') × (least ≡ cost') × (cost' < cost)). subst (λ (k : List Decision). AreKept task own k least) (sym h.0) (subst (λ (c : ℕ). AreKept task own choices' c) (sym h.1) w.kept))
-            (λ (h : (kept ≡ choices) × (least ≡ cost) × (cost ≤ cost')). subst (λ (k : List Decision). AreKept task own k least) (sym h.0) (subst (λ (c : ℕ). AreKept task own choices c) (sym h.1) g.kept))
-            which;
-        listed = All-append (λ c. (least ≤ c) ⊎ (c ≡ nothing_looked)) hand.lowered hand'.lowered
-            (listed_lower task cost least hand.lowered low.0 g.listed) (listed_lower task cost' least hand'.lowered low.1 w.listed);
-        word_is = g.word_is;
-        start_is = g.start_is;
-        room = omega (arith, g.room, w.room);
+        found = record {
+          ends = All-append (IsHandedIn task least (min hand.looked hand'.looked)) leaves leaves'
+              (ends_lower task cost least hand.looked (min hand.looked hand'.looked) leaves low.0 (omega arith) g.found.ends)
+              (ends_lower task cost' least hand'.looked (min hand.looked hand'.looked) leaves' low.1 (omega arith) w.found.ends);
+          kept = ⊎_elim
+              (λ (h : (kept ≡ choices') × (least ≡ cost') × (cost' < cost)). subst (λ (k : List Decision). AreKept task own k least) (sym h.0) (subst (λ (c : ℕ). AreKept task own choices' c) (sym h.1) w.found.kept))
+              (λ (h : (kept ≡ choices) × (least ≡ cost) × (cost ≤ cost')). subst (λ (k : List Decision). AreKept task own k least) (sym h.0) (subst (λ (c : ℕ). AreKept task own choices c) (sym h.1) g.found.kept))
+              which;
+          listed = All-append (λ c. (least ≤ c) ⊎ (c ≡ nothing_looked)) hand.lowered hand'.lowered
+              (listed_lower task cost least hand.lowered low.0 g.found.listed) (listed_lower task cost' least hand'.lowered low.1 w.found.listed);
+          word_is = g.found.word_is;
+          start_is = g.found.start_is;
+          room = omega (arith, g.found.room, w.found.room);
+        };
       }
 
 -- what owners have put and taken where each takes a tally in
@@ -129,12 +131,7 @@ module _ (task : Task) (own : ℕ) (word : TableId) (start rooms : ℕ) (given t
       subst (λ o. P o hand_now leaves_now) (sym p) (subst (λ h. P (owners ++ owner ∷ []) h leaves_now) (sym q) (subst (λ l. P (owners ++ owner ∷ []) (both hand hand') l) (sym r) done)) in
       record {
         fair = λ s. omega (arith, here.fair s, t s);
-        ends = here.ends;
-        kept = here.kept;
-        listed = here.listed;
-        word_is = here.word_is;
-        start_is = here.start_is;
-        room = here.room;
+        found = here.found;
       }
 
 -- the cheaper of two lists of choices, by its parts

@@ -21,6 +21,7 @@ use Rattle.dm_workers.specs.Inside.Gathering.{owners_put}
 use Rattle.dm_workers.specs.Inside.Together.{IsGatheredFrom, HandsIn, AreHandedIn}
 use Rattle.dm_workers.specs.Inside.Workers.{IsDone}
 use Rattle.dm_workers.specs.Inside.Working.{Path, IsHandedIn, AreKept, AreListed}
+use Rattle.dm_workers.proofs.Begun.{none_found}
 use Rattle.dm_workers.proofs.Ends.{pairs}
 
 module _ {F : Type 0} (task : Task) (own : ℕ) (word : TableId) (start : ℕ) (theirs : List RowsId) where
@@ -32,7 +33,7 @@ module _ {F : Type 0} (task : Task) (own : ℕ) (word : TableId) (start : ℕ) (
   handed_words (w ∷ ws) [] h = absurd h
   handed_words {E} (w ∷ ws) (r ∷ rs) h =
       All-cons (λ (r : Result (Worker F) E). IfOk r (λ w. w.hand.word ≡ word)) r rs
-      (IfOk-weaker r (HandsIn task own word start theirs w) (λ v. v.hand.word ≡ word) (λ v d. d.works.word_is) h.0) (handed_words ws rs h.1)
+      (IfOk-weaker r (HandsIn task own word start theirs w) (λ v. v.hand.word ≡ word) (λ v d. d.works.found.word_is) h.0) (handed_words ws rs h.1)
 
   -- nothing is gathered yet
   pub none_gathered : (g : Gathered F) (hand : HandValue)
@@ -41,12 +42,9 @@ module _ {F : Type 0} (task : Task) (own : ℕ) (word : TableId) (start : ℕ) (
   none_gathered g hand e w s low kept = record {
     gathered = record {
       fair = λ s. omega (arith, ap (owners_put s) e.0, ap (leaves_on s) e.3);
-      ends = subst (All (IsHandedIn task g.best.cost g.hand.looked)) (sym e.3) (All-nil (IsHandedIn task g.best.cost g.hand.looked));
-      kept = subst (λ (ds : List Decision). AreKept task own ds g.best.cost) (sym e.4) (subst (AreKept task own []) (sym e.5) kept);
-      listed = subst (AreListed g.best.cost) (sym (ap (λ (k : HandValue). k.lowered) e.2 ∙ low)) (All-nil (λ k. (g.best.cost ≤ k) ⊎ (k ≡ nothing_looked)));
-      word_is = ap (λ (k : HandValue). k.word) e.2 ∙ w;
-      start_is = ap (λ (k : HandValue). k.start) e.2 ∙ s;
-      room = omega (arith, ap (λ (k : HandValue). k.room) e.2);
+      found = none_found task own word start hand.room g.hand g.leaves.items g.best.choices g.best.cost kept e.3
+          (ap (λ (k : HandValue). k.word) e.2 ∙ w) (ap (λ (k : HandValue). k.start) e.2 ∙ s) (ap (λ (k : HandValue). k.room) e.2)
+          (ap (λ (k : HandValue). k.lowered) e.2 ∙ low) e.4 e.5;
     };
     deques = ap (map deque_of) e.0;
     of_all = subst (All (λ ts. map deque_of ts ≡ theirs)) (sym e.1) (All-nil (λ (ts : List (TallyValue Path)). map deque_of ts ≡ theirs));

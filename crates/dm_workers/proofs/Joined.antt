@@ -12,7 +12,7 @@ use Rattle.dm_deques.specs.Sharing.{deque_of}
 use Rattle.dm_ways.specs.Ways.{paths_on}
 use Rattle.dm_workers.specs.declared.working.Worker.{Worker}
 use Rattle.dm_workers.specs.declared.gathering.Gathered.{Gathered}
-use Rattle.dm_workers.specs.Inside.Working.{Path, taken_on, nothing}
+use Rattle.dm_workers.specs.Inside.Working.{Path, taken_on, AreFindings, nothing}
 use Rattle.dm_workers.specs.Inside.Workers.{IsWorking, owner_of}
 use Rattle.dm_workers.specs.Inside.Gathering.{owners_put, AreGathered}
 use Rattle.dm_workers.specs.Inside.Together.{given_to, deque_of_worker, IsGathered, IsGatheredFrom, HandsIn, AreHandedIn}
@@ -37,12 +37,8 @@ module _ {F : Type 0} where
     one_more done job w old new g h made owners tallies = record {
       gathered = record {
         fair = λ s. omega (arith, made.fair s, sum_by_push (λ (x : Worker F). paths_on s x.owner.account.put) done job);
-        ends = made.ends;
-        kept = made.kept;
-        listed = made.listed;
-        word_is = made.word_is;
-        start_is = made.start_is;
-        room = omega (arith, made.room, length-append done (job ∷ []));
+        found = subst (λ (n : ℕ). AreFindings task own word start n new.hand new.leaves.items new.best.choices new.best.cost)
+            (omega (arith, length-append done (job ∷ []))) made.found;
       };
       deques = ap (map deque_of) owners ∙ (map-append deque_of old.owners.items (w.owner ∷ [])
           ∙ (ap (λ (ds : List RowsId). ds ++ w.owner.deque ∷ []) g.deques

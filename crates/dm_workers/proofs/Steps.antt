@@ -85,14 +85,14 @@ module _ {F : Type 0} (net : Net) (network : IsNetwork net) (rows : RowsValue) (
       let looked : h.looked ≡ min old.hand.looked seen = ap (λ (k : HandValue). k.looked) found.hand in
       let shown : IsShown old.best.cost h.looked c = ⊎_elim
       (λ (lt : seen < nothing_looked). let low = found.is.no_less in let limit = limit_below seen lt in inr (omega (arith, looked, low, limit), omega (arith, looked, lt)))
-      (λ (le : own ≤ c). let low = at.kept.no_dearer in inl (omega (arith, low, le))) why in
+      (λ (le : own ≤ c). let low = at.found.kept.no_dearer in inl (omega (arith, low, le))) why in
       leaf_in task own word start given old new h path (Bound c) at node (pruned_costs net network rows penalty base budget posed path (limit_of seen) c found.is, shown) put
 
   pub dear_in : (c : ℕ) (choice : Choice) → IsSeen net rows (base ++ path) penalty old.hand h seen (Branch c choice) → own ≤ c → IsHandedTo (record old { hand = h }) new path (Bound c)
       → (given : List Bool → ℕ) (start : ℕ) → IsWorking task own word start given (λ s. on_way s path) old → IsWorking task own word start given nothing new
   dear_in c choice found dear put given start w =
       let at = looking task own word start given old h path seen found.hand w in
-      let low = at.kept.no_dearer in
+      let low = at.found.kept.no_dearer in
       leaf_in task own word start given old new h path (Bound c) at node (branch_costs net network rows penalty base budget posed path (limit_of seen) c choice found.is, inl (omega (arith, low, dear))) put
 
   pub branch_in : (c : ℕ) (choice : Choice) → IsSeen net rows (base ++ path) penalty old.hand h seen (Branch c choice) → c < own → HasBranched (record old { hand = h }) new path choice
@@ -109,7 +109,7 @@ module _ {F : Type 0} (net : Net) (network : IsNetwork net) (rows : RowsValue) (
       → (given : List Bool → ℕ) (start : ℕ) → IsWorking task own word start given (λ s. on_way s path) old → IsWorking task own word start given nothing new
   solved_in c choices mid found better put given start w =
       let at = looked_on task own word start given old.owner old.tallies.items old.hand old.leaves.items old.best.choices old.best.cost (λ s. on_way s path) seen w in
-      let low = at.kept.no_dearer in
+      let low = at.found.kept.no_dearer in
       let kept : IsAtWork task own word start given (λ s. on_way s path) old.owner old.tallies.items (having_looked old.hand seen) old.leaves.items mid.best.choices mid.best.cost = ⊎_elim
       (λ (e : (mid.best ≡ old.best) × (old.best.cost ≤ c)). subst (λ (b : _). IsAtWork task own word start given (λ s. on_way s path) old.owner old.tallies.items (having_looked old.hand seen) old.leaves.items b.choices b.cost) (sym e.0) at)
       (λ (e : (mid.best.choices ≡ choices) × (mid.best.cost ≡ c) × (c < old.best.cost)).

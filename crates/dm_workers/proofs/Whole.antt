@@ -85,10 +85,10 @@ module _ {F E : Type 0} (net : Net) (rows : RowsValue) (penalty : ℕ) (base : L
   all_agree = deques_agree task own word hand.start hand.room theirs done.jobs all gathered refl
 
   pub word_there : all.hand.word ≡ word
-  word_there = gathered.gathered.word_is
+  word_there = gathered.gathered.found.word_is
 
   pub all_rooms : (seats : ℕ) → hand.room + length worked ≡ seats → all.hand.room ≡ seats
-  all_rooms seats is = omega (arith, is, gathered.gathered.room, handed_many task own word hand.start theirs done.jobs worked done.handed)
+  all_rooms seats is = omega (arith, is, gathered.gathered.found.room, handed_many task own word hand.start theirs done.jobs worked done.handed)
 
   pub all_found : (owners : List (TallyValue Path)) → ((s : List Bool) → owners_put s owners ≡ owners_put s all.owners.items)
       → ((s : List Bool) → owners_taken s owners ≡ owners_taken s all.owners.items + all_taken s all.tallies.items) → ((s : List Bool) → owners_taken s owners ≤ owners_put s owners)

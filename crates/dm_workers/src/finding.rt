@@ -19,7 +19,6 @@ use dm_desk::Hold;
 use dm_search::{BoundWord, Hand, Task};
 use dm_tree::Leaf;
 use std::alloc::AllocError;
-use std::marker::Brand;
 use std::sync::Wait;
 use std::thread;
 use std::thread::Threads;
@@ -31,26 +30,8 @@ pub(crate) struct Found {
     pub(crate) best: Best,
 }
 
-/// What workers find whose deques hold nodes of the task.
-pub(crate) fn find_nodes<R: Threads + Wait + Sync, H: Hold + Sync>(
-    rt: &R,
-    task: &Task<'_>,
-    own: Cost,
-    workers: u32,
-    pace: &Pace,
-    gate: &H,
-) -> Result<Found, AllocError>
-    requires posed { IsPosedTask task.now }
-    requires no_cycle { HasNoCycle task.now.net.now task.now.rows.now }
-    requires workers { (1 ≤ workers) × (workers ≤ WORKERS) }
-    requires own { IsOwnCost (task_of task.now) own }
-    ensures { IfOk result (λ found. IsFound (task_of task.now) own found.leaves.items found.best.choices found.best.cost) }
-{
-    find::<Brand, R, H>(rt, task, own, workers, pace, gate)
-}
-
-/// What workers find, each on a deque of its own and on those of the others.
-fn find<F: Grown<Path> + Send + Sync, R: Threads + Wait + Sync, H: Hold + Sync>(
+/// What workers find, each on a deque of its own and on those of the others, which hold nodes of the task.
+pub(crate) fn find<F: Grown<Path> + Send + Sync, R: Threads + Wait + Sync, H: Hold + Sync>(
     rt: &R,
     task: &Task<'_>,
     own: Cost,

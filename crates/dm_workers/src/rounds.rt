@@ -103,8 +103,7 @@ pub(crate) fn plan_at_once<'t, R: Threads + Sync>(
     ensures entry { IfOk result (λ plan. plan.entry ≡ entry) }
 {
     let (evaluator, guide) = judge_and_guide(rt, task, own, searchers)?;
-    let mut evaluator = evaluator;
-    plan_with(task, entry, own, &mut evaluator, &guide)
+    plan_with(task, entry, own, evaluator, &guide)
 }
 
 /// An evaluator at the base, and a guide, at once where there are several searchers.

@@ -11,7 +11,7 @@ ghost use Rattle.dm_rows.specs.Rows.{IsSized};
 ghost use Rattle.dm_workers.specs.Inside.Workers.{IsOwnCost};
 ghost use Rattle.dm_workers.specs.Inside.Found.{IsFound};
 
-use crate::finding::{Found, find_nodes};
+use crate::finding::{Found, find};
 use crate::pace::Pace;
 use crate::rounds::{begin, plan_at_once};
 use crate::working::Best;
@@ -23,6 +23,7 @@ use dm_rows::Snapshot;
 use dm_search::{Task, evaluator_at_base, finish_with, whole};
 use dm_tree::{AssembleFault, Leaf, Node, Partial, Plan, assemble};
 use std::alloc::{AllocError, Global};
+use std::marker::Brand;
 use std::sync::Wait;
 use std::thread::Threads;
 
@@ -77,7 +78,7 @@ pub fn search_task<R: Threads + Wait + Sync, H: Hold + Sync>(
     if !is_small(searchers.as_mut_slice())? {
         pace.stop();
     }
-    let found = find_nodes(rt, task, own, workers, &pace, gate)?;
+    let found = find::<Brand, R, H>(rt, task, own, workers, &pace, gate)?;
     let (partial, best) = begun(task, own, found)?;
     if is_whole(&partial) {
         return finish_alone(task, entry, partial, best);
@@ -125,10 +126,10 @@ fn finish_alone(
     ensures plan { IfOk result (IsTruePlan (task_of task.now)) }
     ensures entry { IfOk result (λ plan. plan.entry ≡ entry) }
 {
-    let mut evaluator = evaluator_at_base(task)?;
+    let evaluator = evaluator_at_base(task)?;
     let guide = Guide::new(task.alloc);
     let choices = best.choices.into_vec();
-    finish_with(task, entry, partial, choices, &mut evaluator, &guide)
+    finish_with(task, entry, partial, choices, evaluator, &guide)
 }
 
 /// The tree of the leaves that the workers have handed in.

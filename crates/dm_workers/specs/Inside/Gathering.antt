@@ -9,7 +9,7 @@ use Rattle.dm_bound.specs.Words.{HandValue}
 use Rattle.dm_deques.specs.Deques.{TallyValue}
 use Rattle.dm_deques.specs.Sharing.{deque_of}
 use Rattle.dm_ways.specs.Ways.{paths_on, leaves_on}
-use Rattle.dm_workers.specs.Inside.Working.{Path, taken_on, IsHandedIn, AreKept, AreListed}
+use Rattle.dm_workers.specs.Inside.Working.{Path, taken_on, AreFindings}
 
 -- how many paths lie on the way: of those that owners have put and taken, and of those that the workers' tallies have taken
 abbrev pub owners_put : List Bool → List (TallyValue Path) → ℕ
@@ -27,9 +27,4 @@ HasTakenNothing o = o.account.taken ≡ []
 -- The leaves of some workers: on each way no more paths were put and leaves handed in than were given and taken.
 pub record AreGathered (task : Task) (own : ℕ) (word : TableId) (start rooms : ℕ) (given taken_by_tallies : List Bool → ℕ) (owners : List (TallyValue Path)) (hand : HandValue) (leaves : List Leaf) (choices : List Decision) (cost : ℕ) : Type 0 where
   pub fair : (sides : List Bool) → owners_put sides owners + leaves_on sides leaves ≤ given sides + owners_taken sides owners + taken_by_tallies sides
-  pub ends : All (IsHandedIn task cost hand.looked) leaves
-  pub kept : AreKept task own choices cost
-  pub listed : AreListed cost hand.lowered
-  pub word_is : hand.word ≡ word
-  pub start_is : hand.start ≡ start
-  pub room : hand.room ≡ rooms
+  pub found : AreFindings task own word start rooms hand leaves choices cost
