@@ -11,7 +11,7 @@ mod orders;
 mod published;
 mod written;
 
-use dm_samples::report;
+use dm_samples::report_case;
 use entries::entries_are_kept;
 use orders::{orders_go_forward, turned_pair_has_no_order};
 use published::boards_are_called_for_what_differs;
@@ -19,14 +19,9 @@ use std::io;
 use written::timetable_is_written;
 
 fn main(rt: HostRuntime) -> io::Result<()> {
-    let alloc = rt.alloc();
-    report(&rt, "order", orders_go_forward(alloc))?;
-    report(&rt, "no-order", turned_pair_has_no_order(alloc))?;
-    report(&rt, "entries", entries_are_kept(alloc))?;
-    report(
-        &rt,
-        "published-times",
-        boards_are_called_for_what_differs(alloc),
-    )?;
-    report(&rt, "written-timetable", timetable_is_written(alloc))
+    report_case(&rt, "order", orders_go_forward)?;
+    report_case(&rt, "no-order", turned_pair_has_no_order)?;
+    report_case(&rt, "entries", entries_are_kept)?;
+    report_case(&rt, "published-times", boards_are_called_for_what_differs)?;
+    report_case(&rt, "written-timetable", timetable_is_written)
 }
