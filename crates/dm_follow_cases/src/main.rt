@@ -8,16 +8,15 @@ mod following;
 mod fronts;
 mod texts;
 
-use dm_samples::{Sample, report};
+use dm_samples::{Sample, report_case};
 use fronts::{broken, cut_anywhere, cut_by_drawing, given_again, nothing_entered, whole};
 use std::io;
 
 fn main(rt: HostRuntime) -> io::Result<()> {
-    let alloc = rt.alloc();
-    report(&rt, "whole-journals", whole(alloc))?;
-    report(&rt, "nothing-entered", nothing_entered(alloc))?;
-    report(&rt, "journals-cut-anywhere", cut_anywhere(alloc))?;
-    report(&rt, "journals-cut-by-drawing", cut_by_drawing(alloc))?;
-    report(&rt, "broken-journals", broken(alloc))?;
-    report(&rt, "nothing-behind-a-broken-line", given_again(alloc))
+    report_case(&rt, "whole-journals", whole)?;
+    report_case(&rt, "nothing-entered", nothing_entered)?;
+    report_case(&rt, "journals-cut-anywhere", cut_anywhere)?;
+    report_case(&rt, "journals-cut-by-drawing", cut_by_drawing)?;
+    report_case(&rt, "broken-journals", broken)?;
+    report_case(&rt, "nothing-behind-a-broken-line", given_again)
 }
