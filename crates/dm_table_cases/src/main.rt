@@ -9,16 +9,15 @@ mod entering;
 mod millions;
 mod replays;
 
-use dm_samples::report;
+use dm_samples::report_case;
 use millions::{million_delays, million_drops};
 use replays::{copied, refused, replayed};
 use std::io;
 
 fn main(rt: HostRuntime) -> io::Result<()> {
-    let alloc = rt.alloc();
-    report(&rt, "full-table", million_drops(alloc))?;
-    report(&rt, "million-delays", million_delays(alloc))?;
-    report(&rt, "delay-and-adopted-plan-replayed", replayed(alloc))?;
-    report(&rt, "refused-replay", refused(alloc))?;
-    report(&rt, "copied-table", copied(alloc))
+    report_case(&rt, "full-table", million_drops)?;
+    report_case(&rt, "million-delays", million_delays)?;
+    report_case(&rt, "delay-and-adopted-plan-replayed", replayed)?;
+    report_case(&rt, "refused-replay", refused)?;
+    report_case(&rt, "copied-table", copied)
 }
