@@ -6,11 +6,11 @@ ghost use Rattle.dm_rows.specs.Rows.{IsSized};
 use crate::late::late_rows;
 use crate::passing::Passing;
 use crate::plans::{DAY_BUDGET, is_good_plan, own_cost, planned};
-use dm_base::{ActId, ActKind, ActRow, Cost, EventId, EventKind, EventRow, StopId};
+use dm_base::{ActKind, ActRow, Cost, EventId, EventKind, EventRow};
 use dm_network::Network;
 use dm_outside::OpenGate;
 use dm_rows::{Message, Snapshot};
-use dm_samples::{Failure, generated_day, hear, network_of, rows_on_time};
+use dm_samples::{Failure, activity, event, generated_day, hear, network_of, rows_on_time};
 use dm_tree::{Mark, Plan};
 use std::alloc::{AllocError, Global};
 use std::sync::Wait;
@@ -99,42 +99,22 @@ fn late_day(alloc: Global, net: &Network) -> Result<Snapshot, Failure>
     })
 }
 
-/// The records of a train from stop 1 to stop 2, and of those that leave stop 2 half a minute after it has come.
+/// The records of a train from stop 1 to stop 2, and of those that leave stop 2 half a minute after it has come. One passenger in
+/// a thousand is on each activity.
 fn crowd(alloc: Global) -> Result<(Vec<EventRow>, Vec<ActRow>), AllocError> {
     let mut events = Vec::new(alloc);
     let mut activities = Vec::new(alloc);
     events.push(event(1, EventKind::Departure, 100, 10_000, 1))?;
     events.push(event(2, EventKind::Arrival, 200, 10_000, 2))?;
-    activities.push(activity(1, ActKind::Drive, 1, 2, 90))?;
+    activities.push(activity(1, ActKind::Drive, 1, 2, 90, 1))?;
     for train in 0..WAITING {
         let departure = 2 * train + 3;
         events.push(event(departure, EventKind::Departure, 230, 5_000, 2))?;
         events.push(event(departure + 1, EventKind::Arrival, 330, 5_000, 3))?;
-        let drive = activity(departure, ActKind::Drive, departure, departure + 1, 100);
+        let drive = activity(departure, ActKind::Drive, departure, departure + 1, 100, 1);
         activities.push(drive)?;
-        activities.push(activity(departure + 1, ActKind::Change, 2, departure, 20))?;
+        let change = activity(departure + 1, ActKind::Change, 2, departure, 20, 1);
+        activities.push(change)?;
     }
     Ok((events, activities))
-}
-
-fn event(id: u32, kind: EventKind, time: u64, weight: u64, stop: u32) -> EventRow {
-    EventRow {
-        id: EventId(id),
-        kind,
-        time,
-        weight,
-        stop: StopId(stop),
-    }
-}
-
-/// One passenger in a thousand is on each.
-fn activity(id: u32, kind: ActKind, tail: u32, head: u32, lower: u64) -> ActRow {
-    ActRow {
-        id: ActId(id),
-        kind,
-        tail: EventId(tail),
-        head: EventId(head),
-        lower,
-        weight: 1,
-    }
 }

@@ -16,17 +16,16 @@ mod plans;
 mod stealing;
 
 use crowded::{crowd_is_planned, late_day_is_planned};
-use dm_samples::report;
+use dm_samples::{report, report_case};
 use nodes::{best_prunes_another, nothing_prunes};
 use plans::{connection_is_planned, day_is_planned};
 use std::io;
 use stealing::first_is_stolen;
 
 fn main(rt: HostRuntime) -> io::Result<()> {
-    let alloc = rt.alloc();
-    report(&rt, "first-is-stolen", first_is_stolen(alloc))?;
-    report(&rt, "node-that-nothing-prunes", nothing_prunes(alloc))?;
-    report(&rt, "node-that-another-prunes", best_prunes_another(alloc))?;
+    report_case(&rt, "first-is-stolen", first_is_stolen)?;
+    report_case(&rt, "node-that-nothing-prunes", nothing_prunes)?;
+    report_case(&rt, "node-that-another-prunes", best_prunes_another)?;
     for (name, workers) in [
         ("plan-by-1-worker", 1u32),
         ("plan-by-2-workers", 2),
