@@ -4,12 +4,4 @@
 #![tactic(auto)]
 
 #[cfg(test)]
-mod generated;
-#[cfg(test)]
-mod plan_texts;
-#[cfg(test)]
-mod relaxed;
-#[cfg(test)]
-mod searches;
-#[cfg(test)]
-mod trees;
+mod tests;

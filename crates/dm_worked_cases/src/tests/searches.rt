@@ -3,7 +3,7 @@ ghost use Rattle.std.specs.Prelude.{◌≤◌};
 ghost use Rattle.dm_base.specs.declared.limits.TheConstants.{PENALTY, BUDGET};
 ghost use Rattle.dm_rows.specs.Rows.{IsSized};
 
-use crate::relaxed::{CHANGE, DROP, TURNED, connection, late_rows};
+use super::relaxed::{CHANGE, DROP, TURNED, connection, late_rows};
 use dm_base::{Cost, Items};
 use dm_network::Network;
 use dm_rows::{Decision, Snapshot, free_choices};

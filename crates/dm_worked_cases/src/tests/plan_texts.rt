@@ -1,6 +1,6 @@
 //! Plans read from their texts.
 
-use crate::trees::long_nodes;
+use super::trees::long_nodes;
 use dm_base::limits::TEXT;
 use dm_base::{ActId, EventId, Items};
 use dm_cert::{CertFault, CertKind, print_plan, read_plan};

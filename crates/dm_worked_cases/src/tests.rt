@@ -1,0 +1,7 @@
+//! The tests.
+
+mod generated;
+mod plan_texts;
+mod relaxed;
+mod searches;
+mod trees;
