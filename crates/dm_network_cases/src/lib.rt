@@ -4,18 +4,4 @@
 #![tactic(auto)]
 
 #[cfg(test)]
-mod agreement;
-#[cfg(test)]
-mod dice;
-#[cfg(test)]
-mod graph;
-#[cfg(test)]
-mod network;
-#[cfg(test)]
-mod plain;
-#[cfg(test)]
-mod rows;
-#[cfg(test)]
-mod said;
-#[cfg(test)]
-mod times;
+mod tests;

@@ -5,9 +5,9 @@
 //! dm_times.
 ghost use Rattle.dm_rows.specs.Rows.{IsSized};
 
-use crate::dice::Dice;
-use crate::network::built;
-use crate::plain::Plain;
+use super::dice::Dice;
+use super::network::built;
+use super::plain::Plain;
 use dm_base::{ActRow, EventRow};
 use dm_network::{NetFault, Network};
 use dm_rows::{Message, Rows, admit, start_rows};

@@ -3,7 +3,7 @@ ghost use Rattle.std.specs.Prelude.{IsTrue, IfOk};
 ghost use Rattle.dm_rows.specs.Rows.{IsSized};
 ghost use Rattle.dm_rows.specs.StartFaults.{DelaysAreWithin};
 
-use crate::network::connection;
+use super::network::connection;
 use dm_base::limits::DELAY;
 use dm_base::{ActId, DelayRow, EventId, Items};
 use dm_network::Network;

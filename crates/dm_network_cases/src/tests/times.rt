@@ -3,7 +3,7 @@
 ghost use Rattle.std.specs.Prelude.{IfOk};
 ghost use Rattle.dm_rows.specs.Rows.{IsSized};
 
-use crate::network::{activity, built, connection, connection_activities, connection_events};
+use super::network::{activity, built, connection, connection_activities, connection_events};
 use dm_base::{ActId, ActKind, EventId, EventKind, EventRow, StopId};
 use dm_network::Network;
 use dm_rows::{Choice, Message, Refusal, Rows, admit, free_choices, start_rows};

@@ -1,6 +1,6 @@
 //! Which timetable is least and what it costs, by the inequalities alone.
 
-use crate::said::{activity_delay, clock, event_delay, goes_first, is_kept, passed};
+use super::said::{activity_delay, clock, event_delay, goes_first, is_kept, passed};
 use dm_base::{ActKind, ActRow, Cost, EventId, EventKind, EventRow, Secs};
 use dm_rows::Message;
 use std::alloc::{AllocError, Global};
