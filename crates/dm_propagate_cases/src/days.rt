@@ -32,22 +32,17 @@ fn on_network(alloc: Global, net: &Network, trains: u32, walks: u32) -> Result<(
 /// Makes the walk of a number, and says how many of its messages are refused for a cycle.
 fn cycles_of_walk(alloc: Global, net: &Network, trains: u32, walk: u32) -> Result<u32, Failure> {
     let mut trial = Trial::new(alloc, net)?;
-    hear_drawn(alloc, &mut trial, trains, walk)
-}
-
-fn hear_drawn(
-    alloc: Global,
-    trial: &mut Trial<'_>,
-    trains: u32,
-    walk: u32,
-) -> Result<u32, Failure> {
     let mut draws = Draws {
         state: u64::from(walk),
         trains,
     };
+    hear_drawn(alloc, &mut trial, &mut draws)
+}
+
+fn hear_drawn(alloc: Global, trial: &mut Trial<'_>, draws: &mut Draws) -> Result<u32, Failure> {
     let mut cycles: u32 = 0;
     for turn in 0..MESSAGES {
-        let cyclic = is_cyclic(alloc, trial, &mut draws, turn)?;
+        let cyclic = is_cyclic(alloc, trial, draws, turn)?;
         cycles = cycles.saturating_add(u32::from(cyclic));
     }
     Ok(cycles)
