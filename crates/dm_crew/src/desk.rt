@@ -34,14 +34,20 @@ impl Seat for Brand {
     ghost pass = { no_pass };
 }
 
+/// A server, for a pass that waits until it is served.
+#[derive(Drop)]
+pub struct Caller<'a, 's, 'n, R: Wait> {
+    pub rt: &'a R,
+    pub server: &'s Server<'n>,
+}
+
 /// A server with an idle pass of its own, as a desk.
 #[derive(Drop)]
 pub struct ServerDesk<'a, 's, 'n, R: Wait, P: Seat> {
-    pub rt: &'a R,
-    pub server: &'s Server<'n>,
+    pub caller: Caller<'a, 's, 'n, R>,
     pub pass: Pass<Kept<'n>>,
     pub of: PhantomData<P>,
-    pub ghost here: { pass.turn ≡ server.now.id },
+    pub ghost here: { pass.turn ≡ caller.server.now.id },
     pub ghost idle: { pass.holds ≡ false },
     pub ghost base: { pass.base ≡ Some P.base },
     pub ghost same: { IsSamePass P.pass pass },
@@ -53,109 +59,96 @@ impl<R: Wait, P: Seat> Desk for ServerDesk<'_, '_, '_, R, P> {
     ghost value = { λ d. desk_of P.base d.pass };
 
     fn post(&mut self, entry: Entry) -> Result<u32, At<Refusal>> {
-        post(self.rt, self.server, &mut self.pass, entry)
+        self.caller.post(&mut self.pass, entry)
     }
 
     fn time(&mut self, event: EventId) -> Result<(Secs, u32), At<Refusal>> {
-        time(self.rt, self.server, &mut self.pass, event)
+        self.caller.time(&mut self.pass, event)
     }
 
     fn cost(&mut self) -> (Cost, u32) {
-        cost(self.rt, self.server, &mut self.pass)
+        self.caller.cost(&mut self.pass)
     }
 
     fn length(&mut self) -> u32 {
-        length(self.rt, self.server, &mut self.pass)
+        self.caller.length(&mut self.pass)
     }
 
     fn snapshot(&mut self) -> Result<Snapshot, AllocError> {
-        snapshot(self.rt, self.server, &mut self.pass)
+        self.caller.snapshot(&mut self.pass)
     }
 
     fn adopt(&mut self, plan: &Plan, feed: u32, line: u32) -> Result<u32, AdoptRefusal> {
-        adopt(self.rt, self.server, &mut self.pass, plan, feed, line)
+        self.caller.adopt(&mut self.pass, plan, feed, line)
     }
 }
 
-// Enters a message.
-fn post<'n, R: Wait>(
-    rt: &R,
-    server: &Server<'n>,
-    pass: &mut Pass<Kept<'n>>,
-    entry: Entry,
-) -> Result<u32, At<Refusal>>
-    requires turn { pass.old.turn ≡ server.now.id }
-    requires idle { pass.old.holds ≡ false }
-    ensures same { IsSamePass pass.old pass.new }
-    ensures posts { (base : ABase) → pass.old.base ≡ Some base → Posts (desk_of base pass.old) (desk_of base pass.new) entry result }
-{
-    server.post(rt, pass, entry)
-}
+impl<'n, R: Wait> Caller<'_, '_, 'n, R> {
+    /// Enters a message.
+    fn post(&self, pass: &mut Pass<Kept<'n>>, entry: Entry) -> Result<u32, At<Refusal>>
+        requires turn { pass.old.turn ≡ self.now.server.now.id }
+        requires idle { pass.old.holds ≡ false }
+        ensures same { IsSamePass pass.old pass.new }
+        ensures posts { (base : ABase) → pass.old.base ≡ Some base → Posts (desk_of base pass.old) (desk_of base pass.new) entry result }
+    {
+        self.server.post(self.rt, pass, entry)
+    }
 
-// The time of an event.
-fn time<'n, R: Wait>(
-    rt: &R,
-    server: &Server<'n>,
-    pass: &mut Pass<Kept<'n>>,
-    event: EventId,
-) -> Result<(Secs, u32), At<Refusal>>
-    requires turn { pass.old.turn ≡ server.now.id }
-    requires idle { pass.old.holds ≡ false }
-    ensures same { IsSamePass pass.old pass.new }
-    ensures tells { (base : ABase) → pass.old.base ≡ Some base → TellsTime (desk_of base pass.old) (desk_of base pass.new) event result }
-{
-    server.time(rt, pass, event)
-}
+    /// The time of an event.
+    fn time(&self, pass: &mut Pass<Kept<'n>>, event: EventId) -> Result<(Secs, u32), At<Refusal>>
+        requires turn { pass.old.turn ≡ self.now.server.now.id }
+        requires idle { pass.old.holds ≡ false }
+        ensures same { IsSamePass pass.old pass.new }
+        ensures tells { (base : ABase) → pass.old.base ≡ Some base → TellsTime (desk_of base pass.old) (desk_of base pass.new) event result }
+    {
+        self.server.time(self.rt, pass, event)
+    }
 
-// What the rows cost.
-fn cost<'n, R: Wait>(rt: &R, server: &Server<'n>, pass: &mut Pass<Kept<'n>>) -> (Cost, u32)
-    requires turn { pass.old.turn ≡ server.now.id }
-    requires idle { pass.old.holds ≡ false }
-    ensures same { IsSamePass pass.old pass.new }
-    ensures tells { (base : ABase) → pass.old.base ≡ Some base → TellsCost (desk_of base pass.old) (desk_of base pass.new) result }
-{
-    server.cost(rt, pass)
-}
+    /// What the rows cost.
+    fn cost(&self, pass: &mut Pass<Kept<'n>>) -> (Cost, u32)
+        requires turn { pass.old.turn ≡ self.now.server.now.id }
+        requires idle { pass.old.holds ≡ false }
+        ensures same { IsSamePass pass.old pass.new }
+        ensures tells { (base : ABase) → pass.old.base ≡ Some base → TellsCost (desk_of base pass.old) (desk_of base pass.new) result }
+    {
+        self.server.cost(self.rt, pass)
+    }
 
-// How many entries there are.
-fn length<'n, R: Wait>(rt: &R, server: &Server<'n>, pass: &mut Pass<Kept<'n>>) -> u32
-    requires turn { pass.old.turn ≡ server.now.id }
-    requires idle { pass.old.holds ≡ false }
-    ensures same { IsSamePass pass.old pass.new }
-    ensures tells { (base : ABase) → pass.old.base ≡ Some base → TellsLength (desk_of base pass.old) (desk_of base pass.new) result }
-{
-    server.length(rt, pass)
-}
+    /// How many entries there are.
+    fn length(&self, pass: &mut Pass<Kept<'n>>) -> u32
+        requires turn { pass.old.turn ≡ self.now.server.now.id }
+        requires idle { pass.old.holds ≡ false }
+        ensures same { IsSamePass pass.old pass.new }
+        ensures tells { (base : ABase) → pass.old.base ≡ Some base → TellsLength (desk_of base pass.old) (desk_of base pass.new) result }
+    {
+        self.server.length(self.rt, pass)
+    }
 
-// How many entries there are, and rows equal to those after them.
-fn snapshot<'n, R: Wait>(
-    rt: &R,
-    server: &Server<'n>,
-    pass: &mut Pass<Kept<'n>>,
-) -> Result<Snapshot, AllocError>
-    requires turn { pass.old.turn ≡ server.now.id }
-    requires idle { pass.old.holds ≡ false }
-    ensures same { IsSamePass pass.old pass.new }
-    ensures copied { (base : ABase) → pass.old.base ≡ Some base → IfOk result (IsCopied (desk_of base pass.old) (desk_of base pass.new)) }
-{
-    server.snapshot(rt, pass)
-}
+    /// How many entries there are, and rows equal to those after them.
+    fn snapshot(&self, pass: &mut Pass<Kept<'n>>) -> Result<Snapshot, AllocError>
+        requires turn { pass.old.turn ≡ self.now.server.now.id }
+        requires idle { pass.old.holds ≡ false }
+        ensures same { IsSamePass pass.old pass.new }
+        ensures copied { (base : ABase) → pass.old.base ≡ Some base → IfOk result (IsCopied (desk_of base pass.old) (desk_of base pass.new)) }
+    {
+        self.server.snapshot(self.rt, pass)
+    }
 
-// Adopts a plan that is true of rows that were seen.
-fn adopt<'n, R: Wait>(
-    rt: &R,
-    server: &Server<'n>,
-    pass: &mut Pass<Kept<'n>>,
-    plan: &Plan,
-    feed: u32,
-    line: u32,
-) -> Result<u32, AdoptRefusal>
-    requires turn { pass.old.turn ≡ server.now.id }
-    requires idle { pass.old.holds ≡ false }
-    requires plan { ForSome pass.old.base (λ base. IsTrueOf (desk_of base pass.old) plan.now) }
-    ensures same { IsSamePass pass.old pass.new }
-    ensures adopts { (base : ABase) → pass.old.base ≡ Some base
-        → AdoptsPlan (desk_of base pass.old) (desk_of base pass.new) plan.now feed line result }
-{
-    server.adopt(rt, pass, plan, feed, line)
+    /// Adopts a plan that is true of rows that were seen.
+    fn adopt(
+        &self,
+        pass: &mut Pass<Kept<'n>>,
+        plan: &Plan,
+        feed: u32,
+        line: u32,
+    ) -> Result<u32, AdoptRefusal>
+        requires turn { pass.old.turn ≡ self.now.server.now.id }
+        requires idle { pass.old.holds ≡ false }
+        requires plan { ForSome pass.old.base (λ base. IsTrueOf (desk_of base pass.old) plan.now) }
+        ensures same { IsSamePass pass.old pass.new }
+        ensures adopts { (base : ABase) → pass.old.base ≡ Some base
+            → AdoptsPlan (desk_of base pass.old) (desk_of base pass.new) plan.now feed line result }
+    {
+        self.server.adopt(self.rt, pass, plan, feed, line)
+    }
 }

@@ -30,4 +30,4 @@ mod rounds;
 mod work;
 
 pub use day::{AnsweredDay, answer_at_once};
-pub use desk::{Seat, ServerDesk};
+pub use desk::{Caller, Seat, ServerDesk};

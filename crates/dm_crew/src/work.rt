@@ -5,7 +5,7 @@ ghost use Rattle.dm_desk.specs.Planning.{PlansUnder};
 ghost use Rattle.dm_crew.specs.Passes.{setting_of, desk_of};
 ghost use Rattle.dm_crew.specs.Inside.Works.{IsReady, IsWorked, is_read};
 
-use crate::desk::{Seat, ServerDesk};
+use crate::desk::{Caller, Seat, ServerDesk};
 use crate::rounds::Crew;
 use dm_desk::Hold;
 use dm_outside::Source;
@@ -79,8 +79,10 @@ fn answer_seated<
     ensures { IsWorked S.left S.is_sound P.base crew.now.batch feed pass.entry job.old result.0 job.new result.1 }
 {
     let mut desk: ServerDesk<'_, '_, 'n, R, P> = ServerDesk {
-        rt: crew.rt,
-        server: crew.server,
+        caller: Caller {
+            rt: crew.rt,
+            server: crew.server,
+        },
         pass,
         of: PhantomData,
     };

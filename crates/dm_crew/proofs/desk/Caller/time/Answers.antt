@@ -1,5 +1,5 @@
 use Rattle.dm_crew.proofs.Desks.{tells_time, same_looked}
-use Rattle.dm_crew.proofs.desk.time.Goals as goal
+use Rattle.dm_crew.proofs.desk.Caller.time.Goals as goal
 
 pub returns-clause-same : goal.returns-clause-same
 returns-clause-same g c = same_looked c.args.pass.now c.time.new.pass c.time.ensures.looked

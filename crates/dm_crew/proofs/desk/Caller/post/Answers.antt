@@ -1,5 +1,5 @@
 use Rattle.dm_crew.proofs.Desks.{posts, same_posted}
-use Rattle.dm_crew.proofs.desk.post.Goals as goal
+use Rattle.dm_crew.proofs.desk.Caller.post.Goals as goal
 
 pub returns-clause-same : goal.returns-clause-same
 returns-clause-same g c = same_posted c.args.pass.now c.post.new.pass c.args.entry c.post.result c.post.ensures.entered c.post.ensures.looked

@@ -1,5 +1,5 @@
 use Rattle.dm_crew.proofs.Desks.{tells_cost, same_looked}
-use Rattle.dm_crew.proofs.desk.cost.Goals as goal
+use Rattle.dm_crew.proofs.desk.Caller.cost.Goals as goal
 
 pub returns-clause-same : goal.returns-clause-same
 returns-clause-same g c = same_looked c.args.pass.now c.cost.new.pass c.cost.ensures.looked

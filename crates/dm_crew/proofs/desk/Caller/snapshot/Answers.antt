@@ -1,5 +1,5 @@
 use Rattle.dm_crew.proofs.Desks.{copied, same_looked}
-use Rattle.dm_crew.proofs.desk.snapshot.Goals as goal
+use Rattle.dm_crew.proofs.desk.Caller.snapshot.Goals as goal
 
 pub returns-clause-same : goal.returns-clause-same
 returns-clause-same g c = same_looked c.args.pass.now c.snapshot.new.pass c.snapshot.ensures.looked

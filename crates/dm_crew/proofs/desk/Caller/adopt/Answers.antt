@@ -1,6 +1,6 @@
 use Rattle.dm_server.specs.Answers.{adopts}
 use Rattle.dm_crew.proofs.Desks.{adopts_plan, same_posted, true_of}
-use Rattle.dm_crew.proofs.desk.adopt.Goals as goal
+use Rattle.dm_crew.proofs.desk.Caller.adopt.Goals as goal
 
 pub adopt-requires-clause-plan : goal.adopt-requires-clause-plan
 adopt-requires-clause-plan g c = true_of c.args.pass.now c.args.plan.now c.requires.plan

@@ -1,5 +1,5 @@
 use Rattle.dm_crew.proofs.Desks.{tells_length, same_looked}
-use Rattle.dm_crew.proofs.desk.length.Goals as goal
+use Rattle.dm_crew.proofs.desk.Caller.length.Goals as goal
 
 pub returns-clause-same : goal.returns-clause-same
 returns-clause-same g c = same_looked c.args.pass.now c.length.new.pass c.length.ensures.looked
