@@ -60,8 +60,8 @@ last_is_open net rows path d list = record { free = decides_free net rows path d
 module _ (net : Net) (network : IsNetwork net) (rows : RowsValue) (sized : IsSized net rows) (old : RelaxedProblemValue) (was : IsRelaxedProblemOf net rows old)
     (d : Decision) (flip : Flip) (named : IsFlipOf net rows d flip) (timetable : HeldTimetableValue) (is_timetable : IsTimetableOf net timetable) (keeps : KeepsSpans old.timetable timetable)
     (charged : List Bool) (cost : KeptCostValue) (is_cost : IsKeptCostOf net cost) (priced : IsPricedFor net rows (is_flagged charged) cost) (cost_times : cost.times ≡ old.kept_cost.times)
-    (times : timetable.times ≡ old.timetable.times) where
-  noted_still : IsTrue old.is_noted → AreAlikeBut old.moved.flags cost.times timetable.times
+    (times : timetable.kept.times ≡ old.timetable.kept.times) where
+  noted_still : IsTrue old.is_noted → AreAlikeBut old.moved.flags cost.times timetable.kept.times
   noted_still so e unmarked = ap (λ (x : List ℕ). slice_index x e) cost_times ∙ (was.costed.noted so e unmarked ∙ ap (λ (x : List ℕ). slice_index x e) (sym times))
 
   costed : IsCosted net rows charged timetable cost old.moved old.is_noted
@@ -75,7 +75,7 @@ module _ (net : Net) (network : IsNetwork net) (rows : RowsValue) (sized : IsSiz
   }
 
   pub decided : IsOpen net rows old.path (choice_of d) →
-      AreSetWhere (is_held_by net flip) true (length net.activities) old.timetable.held timetable.held → AreSetWhere (is_charged_by flip) true (length net.activities) old.charged charged →
+      AreSetWhere (is_held_by net flip) true (length net.activities) old.timetable.kept.held timetable.kept.held → AreSetWhere (is_charged_by flip) true (length net.activities) old.charged charged →
       IsRelaxedProblemOf net rows (record { path = old.path ++ d ∷ []; changes = with_change flip false old.changes; pairs = with_pair flip false old.pairs; charged = charged; timetable = timetable; kept_cost = cost; moved = old.moved; is_noted = old.is_noted; places = old.places })
   decided opened holds charges =
       let other : List Decision = old.path ++ d ∷ [] in
@@ -85,7 +85,7 @@ module _ (net : Net) (network : IsNetwork net) (rows : RowsValue) (sized : IsSiz
         is_path = list;
         changes = changes_decided net network rows sized old.path other was.is_path list d adds flip named old.changes was.changes;
         pairs = pairs_decided net network rows sized old.path other was.is_path list d adds flip named old.pairs was.pairs;
-        held = flags_on (is_held_by net flip) (is_relaxed_active net rows old.path) (is_relaxed_active net rows other) (length net.activities) old.timetable.held timetable.held was.held holds
+        held = flags_on (is_held_by net flip) (is_relaxed_active net rows old.path) (is_relaxed_active net rows other) (length net.activities) old.timetable.kept.held timetable.kept.held was.held holds
             (held_differs net network rows sized old.path other was.is_path list d adds flip named);
         charged = flags_on (is_charged_by flip) (is_relaxed_dropped net rows old.path) (is_relaxed_dropped net rows other) (length net.activities) old.charged charged was.charged charges
             (charge_differs net network rows sized old.path other was.is_path list d adds flip named);
@@ -94,7 +94,7 @@ module _ (net : Net) (network : IsNetwork net) (rows : RowsValue) (sized : IsSiz
       }
 
   pub taken_back : (path : List Decision) → old.path ≡ path ++ d ∷ [] →
-      AreSetWhere (is_held_by net flip) false (length net.activities) old.timetable.held timetable.held → AreSetWhere (is_charged_by flip) false (length net.activities) old.charged charged →
+      AreSetWhere (is_held_by net flip) false (length net.activities) old.timetable.kept.held timetable.kept.held → AreSetWhere (is_charged_by flip) false (length net.activities) old.charged charged →
       IsRelaxedProblemOf net rows (record { path = path; changes = with_change flip true old.changes; pairs = with_pair flip true old.pairs; charged = charged; timetable = timetable; kept_cost = cost; moved = old.moved; is_noted = old.is_noted; places = old.places })
   taken_back path is holds charges =
       let other : List Decision = path ++ d ∷ [] in
@@ -107,8 +107,8 @@ module _ (net : Net) (network : IsNetwork net) (rows : RowsValue) (sized : IsSiz
             (subst (λ (p : List Decision). AreFlags (is_undecided_change net rows p) (length net.activities) old.changes) is was.changes);
         pairs = pairs_undecided net network rows sized path other less list d adds flip named old.pairs
             (subst (λ (p : List Decision). AreFlags (is_undecided_pair net rows p) (length net.pairs) old.pairs) is was.pairs);
-        held = flags_off (is_held_by net flip) (is_relaxed_active net rows path) (is_relaxed_active net rows other) (length net.activities) old.timetable.held timetable.held
-            (subst (λ (p : List Decision). AreFlags (is_relaxed_active net rows p) (length net.activities) old.timetable.held) is was.held) holds
+        held = flags_off (is_held_by net flip) (is_relaxed_active net rows path) (is_relaxed_active net rows other) (length net.activities) old.timetable.kept.held timetable.kept.held
+            (subst (λ (p : List Decision). AreFlags (is_relaxed_active net rows p) (length net.activities) old.timetable.kept.held) is was.held) holds
             (held_differs net network rows sized path other less list d adds flip named);
         charged = flags_off (is_charged_by flip) (is_relaxed_dropped net rows path) (is_relaxed_dropped net rows other) (length net.activities) old.charged charged
             (subst (λ (p : List Decision). AreFlags (is_relaxed_dropped net rows p) (length net.activities) old.charged) is was.charged) charges
@@ -119,8 +119,8 @@ module _ (net : Net) (network : IsNetwork net) (rows : RowsValue) (sized : IsSiz
 
 -- the same with a timetable that holds as much, and another kept cost
 pub settled_again : (net : Net) (rows : RowsValue) (old : RelaxedProblemValue) → IsRelaxedProblemOf net rows old → (timetable : HeldTimetableValue) (cost : KeptCostValue) (moved : PlaceSetValue) (is_noted : Bool) →
-    IsTimetableOf net timetable → timetable.held ≡ old.timetable.held → KeepsSpans old.timetable timetable → IsKeptCostOf net cost → IsPricedFor net rows (is_flagged old.charged) cost →
-    length moved.flags ≡ length net.events → (IsTrue is_noted → AreAlikeBut moved.flags cost.times timetable.times) →
+    IsTimetableOf net timetable → timetable.kept.held ≡ old.timetable.kept.held → KeepsSpans old.timetable timetable → IsKeptCostOf net cost → IsPricedFor net rows (is_flagged old.charged) cost →
+    length moved.flags ≡ length net.events → (IsTrue is_noted → AreAlikeBut moved.flags cost.times timetable.kept.times) →
     IsRelaxedProblemOf net rows (record { path = old.path; changes = old.changes; pairs = old.pairs; charged = old.charged; timetable = timetable; kept_cost = cost; moved = moved; is_noted = is_noted; places = old.places })
 settled_again net rows old was timetable cost moved is_noted is held keeps kept priced as_many noted = record {
   is_path = was.is_path;
@@ -134,10 +134,10 @@ settled_again net rows old was timetable cost moved is_noted is held keeps kept 
 
 -- the same with its times taken into the cost
 pub taken : (net : Net) (rows : RowsValue) (old : RelaxedProblemValue) → IsRelaxedProblemOf net rows old → (cost : KeptCostValue) (moved : PlaceSetValue) → IsKeptCostOf net cost →
-    IsPricedFor net rows (is_flagged old.charged) cost → length moved.flags ≡ length net.events → cost.times ≡ old.timetable.times →
+    IsPricedFor net rows (is_flagged old.charged) cost → length moved.flags ≡ length net.events → cost.times ≡ old.timetable.kept.times →
     IsRelaxedProblemOf net rows (record { path = old.path; changes = old.changes; pairs = old.pairs; charged = old.charged; timetable = old.timetable; kept_cost = cost; moved = moved; is_noted = true; places = old.places })
 taken net rows old was cost moved kept priced as_many same =
-    settled_again net rows old was old.timetable cost moved true was.costed.timetable refl (record { spans = refl; floors = refl }) kept priced as_many (λ so e unmarked. ap (λ (x : List ℕ). slice_index x e) same)
+    settled_again net rows old was old.timetable cost moved true was.costed.timetable refl (record { spans = refl; floors = refl; clock = refl }) kept priced as_many (λ so e unmarked. ap (λ (x : List ℕ). slice_index x e) same)
 
 -- where nothing is decided nothing is charged for
 none_dropped : (change kept passed : Bool) → ((change && not kept && not passed) && not ((change && not passed) && true)) ≡ false
@@ -157,7 +157,7 @@ no_change_charged net rows path a other =
 -- where nothing is decided
 pub begins : (net : Net) (rows : RowsValue) (changes pairs charged : List Bool) (timetable : HeldTimetableValue) (cost : KeptCostValue) (moved : PlaceSetValue) (places : List ℕ) (path : List Decision) → path ≡ [] →
     AreFlags (is_undecided_change net rows []) (length net.activities) changes → AreFlags (is_undecided_pair net rows []) (length net.pairs) pairs →
-    charged ≡ replicate (length net.activities) false → IsTimetableOf net timetable → AreOfRows net rows timetable → AreFlags (is_relaxed_active net rows []) (length net.activities) timetable.held → IsKeptCostOf net cost →
+    charged ≡ replicate (length net.activities) false → IsTimetableOf net timetable → AreOfRows net rows timetable → AreFlags (is_relaxed_active net rows []) (length net.activities) timetable.kept.held → IsKeptCostOf net cost →
     IsPricedFor net rows (is_flagged charged) cost → AreChangesTo net (length net.activities) places →
     length moved.flags ≡ length net.events →
     IsRelaxedProblemOf net rows (record { path = path; changes = changes; pairs = pairs; charged = charged; timetable = timetable; kept_cost = cost; moved = moved; is_noted = false; places = places })

@@ -6,3 +6,4 @@ pub mod Timetables
 pub mod RelaxedProblems
 pub mod Visiting
 pub mod Leaves
+pub mod Judged

@@ -1,47 +1,45 @@
 //! What the leaves of a tree carry.
 ghost use Rattle.std.specs.Prelude.{◌≡◌, true, false, length};
-ghost use Rattle.dm_check_plans.specs.Inside.Leaves.{is_open, is_at, is_below, SomeNode, NoneNode};
+ghost use Rattle.dm_check_plans.specs.Inside.Leaves.{is_open, is_at, is_below, meets, SomeNode, NoneNode};
 
 use dm_base::Cost;
 use dm_tree::Node;
 
-/// Whether some leaf is open.
-pub fn is_any_open(nodes: &[Node]) -> bool
-    ensures some { result ≡ true → SomeNode is_open nodes.now }
-    ensures none { result ≡ false → NoneNode is_open nodes.now (length nodes.now) }
+/// What is looked for among leaves.
+#[derive(Clone, Copy)]
+pub enum Wanted {
+    /// An open leaf.
+    Open,
+
+    /// One that carries this cost.
+    At(Cost),
+
+    /// One that carries a smaller cost.
+    Below(Cost),
+}
+
+/// Whether some leaf is what is wanted.
+pub fn is_any(nodes: &[Node], wanted: Wanted) -> bool
+    ensures some { result ≡ true → SomeNode (meets wanted) nodes.now }
+    ensures none { result ≡ false → NoneNode (meets wanted) nodes.now (length nodes.now) }
 {
     for node in nodes {
-        if is_open(*node) {
+        if meets(*node, wanted) {
             return true;
         }
     }
     false
 }
 
-/// Whether some leaf carries this cost.
-pub fn is_any_at(nodes: &[Node], cost: Cost) -> bool
-    ensures some { result ≡ true → SomeNode (is_at cost) nodes.now }
-    ensures none { result ≡ false → NoneNode (is_at cost) nodes.now (length nodes.now) }
+/// Whether the node is what is wanted.
+fn meets(node: Node, wanted: Wanted) -> bool
+    ensures { result ≡ meets wanted node }
 {
-    for node in nodes {
-        if is_at(*node, cost) {
-            return true;
-        }
+    match wanted {
+        Wanted::Open => is_open(node),
+        Wanted::At(cost) => is_at(node, cost),
+        Wanted::Below(cost) => is_below(node, cost),
     }
-    false
-}
-
-/// Whether some leaf carries a smaller cost.
-pub fn is_any_below(nodes: &[Node], cost: Cost) -> bool
-    ensures some { result ≡ true → SomeNode (is_below cost) nodes.now }
-    ensures none { result ≡ false → NoneNode (is_below cost) nodes.now (length nodes.now) }
-{
-    for node in nodes {
-        if is_below(*node, cost) {
-            return true;
-        }
-    }
-    false
 }
 
 /// Whether the node is an open leaf.

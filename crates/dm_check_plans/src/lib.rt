@@ -17,14 +17,15 @@
 //! time. It stands on nothing that searches plans.
 #![tactic(auto)]
 
-mod beginning;
 mod choices;
+mod grounds;
 mod held_timetable;
 mod known;
 mod leaves;
 mod nodes;
 mod plans;
 mod relaxed_problem;
+mod timed;
 mod turning;
 mod violations;
 

@@ -9,8 +9,8 @@ ghost use Rattle.dm_check_plans.specs.Inside.Visiting.{IsOwnCost, IsMarked, IsTo
 ghost use Rattle.dm_check_plans.specs.Inside.Paths.{AreTrueChoices};
 
 use crate::choices::{are_all_different, are_some_of, cost_with};
-use crate::leaves::{is_any_at, is_any_below, is_any_open};
-use crate::nodes::{Costs, are_all_true};
+use crate::grounds::Grounds;
+use crate::leaves::{Wanted, is_any};
 use dm_base::Cost;
 use dm_check_times::{HeldCycle, KeptTimetable, cost_of};
 use dm_marks::PlaceSet;
@@ -62,11 +62,14 @@ pub fn is_true_plan(
         Err(full) => return Err(full),
     }
     let own = own_cost(net, penalty, &mut timetable, &mut moved, rows);
-    let costs = Costs {
+    let grounds = Grounds {
+        net,
+        rows,
+        penalty,
         own,
         plan: plan.cost,
     };
-    match are_all_true(alloc, net, penalty, rows, costs, nodes) {
+    match grounds.are_all_true(alloc, nodes) {
         Ok(all) => Ok(all),
         Err(full) => Err(full),
     }
@@ -82,17 +85,17 @@ fn is_told_of(nodes: &[Node], bound: Cost, mark: Mark, budget: u64) -> bool
     if !is_marked(nodes, mark, budget) {
         return false;
     }
-    if is_any_below(nodes, bound) {
+    if is_any(nodes, Wanted::Below(bound)) {
         return false;
     }
-    is_any_at(nodes, bound)
+    is_any(nodes, Wanted::At(bound))
 }
 
 /// Whether the mark is `Optimal` where no leaf is open, and `Open` where one is and two more nodes would be too many.
 fn is_marked(nodes: &[Node], mark: Mark, budget: u64) -> bool
     ensures { Tells (IsMarked nodes.now mark budget) result }
 {
-    let open = is_any_open(nodes);
+    let open = is_any(nodes, Wanted::Open);
     match mark {
         Mark::Optimal => !open,
         Mark::Open => open && budget < nodes.len() as u64 + 2,

@@ -13,8 +13,8 @@ ghost use Rattle.dm_check_plans.specs.Inside.RelaxedProblems.{IsRelaxedProblemOf
 ghost use Rattle.dm_check_plans.specs.Inside.Violations.{IsSomeViolated};
 
 use crate::held_timetable::HeldTimetable;
+use crate::timed::TimedRows;
 use crate::turning::{turn, weigh};
-use crate::violations::{is_any_violated, is_violated};
 use dm_base::Cost;
 use dm_check_times::{Charges, HeldCycle, KeptCost, changes_of};
 use dm_marks::PlaceSet;
@@ -194,7 +194,12 @@ impl RelaxedProblem {
         requires solved { IsSolved net.now rows.now self.now }
         ensures { IsTrue result ↔ IsViolated net.now rows.now self.now.path (times_of self.now) choice }
     {
-        is_violated(net, rows, &self.undecided, self.timetable.times(), choice)
+        let timed = TimedRows {
+            net,
+            rows,
+            times: self.timetable.times(),
+        };
+        timed.is_violated(&self.undecided, choice)
     }
 
     /// Whether some undecided choice is violated, where the times are the least ones.
@@ -204,13 +209,12 @@ impl RelaxedProblem {
         requires solved { IsSolved net.now rows.now self.now }
         ensures { Tells (IsSomeViolated net.now rows.now self.now.path (times_of self.now)) result }
     {
-        is_any_violated(
+        let timed = TimedRows {
             net,
             rows,
-            &self.undecided,
-            &self.places,
-            self.timetable.times(),
-        )
+            times: self.timetable.times(),
+        };
+        timed.is_any_violated(&self.undecided, &self.places)
     }
 }
 

@@ -28,8 +28,8 @@ pub fn turn(
     requires charged { length charged.old ≡ length net.now.activities }
     ensures timetable { IsTimetableOf net.now timetable.new }
     ensures keeps { KeepsSpans timetable.old timetable.new }
-    ensures times { timetable.new.times ≡ timetable.old.times }
-    ensures held { AreSetWhere (is_held_by net.now flip) value (length net.now.activities) timetable.old.held timetable.new.held }
+    ensures times { timetable.new.kept.times ≡ timetable.old.kept.times }
+    ensures held { AreSetWhere (is_held_by net.now flip) value (length net.now.activities) timetable.old.kept.held timetable.new.kept.held }
     ensures charged { AreSetWhere (is_charged_by flip) value (length net.now.activities) charged.old charged.new }
 {
     match flip {
@@ -73,8 +73,9 @@ fn turn_direction(
     requires timetable { IsTimetableOf net.now timetable.old }
     ensures timetable { IsTimetableOf net.now timetable.new }
     ensures keeps { KeepsSpans timetable.old timetable.new }
-    ensures times { timetable.new.times ≡ timetable.old.times }
-    ensures held { AreSetWhere (is_directed net.now pair tail) value (length net.now.activities) timetable.old.held timetable.new.held }
+    ensures times { timetable.new.kept.times ≡ timetable.old.kept.times }
+    ensures held { AreSetWhere (is_directed net.now pair tail) value (length net.now.activities)
+        timetable.old.kept.held timetable.new.kept.held }
 {
     let row = row_out_of(net, tail);
     for a in row {
@@ -88,9 +89,10 @@ fn turn_one(net: &Network, pair: usize, a: usize, value: bool, timetable: &mut H
     requires timetable { IsTimetableOf net.now timetable.old }
     ensures timetable { IsTimetableOf net.now timetable.new }
     ensures keeps { KeepsSpans timetable.old timetable.new }
-    ensures times { timetable.new.times ≡ timetable.old.times }
-    ensures held { MatchBool (is_of_pair pair (activity_at net.now a).pair) (timetable.new.held ≡ slice_set timetable.old.held a value)
-        (timetable.new.held ≡ timetable.old.held) }
+    ensures times { timetable.new.kept.times ≡ timetable.old.kept.times }
+    ensures held { MatchBool (is_of_pair pair (activity_at net.now a).pair)
+        (timetable.new.kept.held ≡ slice_set timetable.old.kept.held a value)
+        (timetable.new.kept.held ≡ timetable.old.kept.held) }
 {
     if is_headway_of(net, a, pair) {
         timetable.hold(net, a, value);

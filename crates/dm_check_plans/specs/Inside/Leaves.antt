@@ -2,6 +2,8 @@
 use Rattle.std.specs.Prelude.{ℕ, ◌≡◌, ◌==◌, ◌<◌, nat_lt, Bool, true, false, List, length, slice_index_or}
 use Rattle.dm_tree.specs.declared.forms.Node.{Node}
 use Rattle.dm_tree.specs.declared.forms.Node.TheVariants.{Bound, Open, Hole}
+use Rattle.dm_check_plans.specs.declared.leaves.Wanted.{Wanted}
+use Rattle.dm_check_plans.specs.declared.leaves.Wanted.TheVariants.{Open as OpenLeaf, At, Below}
 
 abbrev pub is_open : Node → Bool
 is_open (Open c) = true
@@ -17,6 +19,12 @@ abbrev pub is_below : ℕ → Node → Bool
 is_below cost (Bound c) = nat_lt c cost
 is_below cost (Open c) = nat_lt c cost
 is_below cost _ = false
+
+-- the node is what is wanted
+abbrev pub meets : Wanted → Node → Bool
+meets OpenLeaf = is_open
+meets (At cost) = is_at cost
+meets (Below cost) = is_below cost
 
 abbrev pub node_at : List Node → ℕ → Node
 node_at nodes k = slice_index_or nodes k Hole

@@ -29,7 +29,7 @@ pub record RelaxedProblemValue : Type 0 where
   pub places : List ℕ
 
 abbrev pub times_of : RelaxedProblemValue → List ℕ
-times_of problem = problem.timetable.times
+times_of problem = problem.timetable.kept.times
 
 -- the timetable has the spans and the floors of the rows, the cost its weights for what is flagged, and the times of the cost are
 -- those of the timetable but at the places of the set, where these are all that may have moved
@@ -39,14 +39,14 @@ pub record IsCosted (net : Net) (rows : RowsValue) (flags : List Bool) (t : Held
   pub cost : IsKeptCostOf net kept
   pub priced : IsPricedFor net rows (is_flagged flags) kept
   pub as_many_moved : length set.flags ≡ length net.events
-  pub noted : IsTrue are_all → AreAlikeBut set.flags kept.times t.times
+  pub noted : IsTrue are_all → AreAlikeBut set.flags kept.times t.kept.times
 
 -- the path decides free choices, none twice, and the flags are those of its relaxed problem
 pub record IsRelaxedProblemOf (net : Net) (rows : RowsValue) (problem : RelaxedProblemValue) : Type 0 where
   pub is_path : IsChoiceList net rows problem.path
   pub changes : AreFlags (is_undecided_change net rows problem.path) (length net.activities) problem.changes
   pub pairs : AreFlags (is_undecided_pair net rows problem.path) (length net.pairs) problem.pairs
-  pub held : AreFlags (is_relaxed_active net rows problem.path) (length net.activities) problem.timetable.held
+  pub held : AreFlags (is_relaxed_active net rows problem.path) (length net.activities) problem.timetable.kept.held
   pub charged : AreFlags (is_relaxed_dropped net rows problem.path) (length net.activities) problem.charged
   pub costed : IsCosted net rows problem.charged problem.timetable problem.kept_cost problem.moved problem.is_noted
   pub places : AreChangesTo net (length net.activities) problem.places

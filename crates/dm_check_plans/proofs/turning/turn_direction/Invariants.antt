@@ -5,8 +5,8 @@ use Rattle.dm_check_plans.proofs.turning.turn_direction.Given as goal
 
 abbrev pub invariant-loop-a : goal.invariant-loop-a
 invariant-loop-a l = record {
-  turned : HasTurned l.net l.pair l.row l.a-index l.value l.initial.timetable.held l.timetable.held;
+  turned : HasTurned l.net l.pair l.row l.a-index l.value l.initial.timetable.kept.held l.timetable.kept.held;
   timetable : IsTimetableOf l.net l.timetable;
   keeps : KeepsSpans l.initial.timetable l.timetable;
-  times : l.timetable.times ≡ l.initial.timetable.times;
+  times : l.timetable.kept.times ≡ l.initial.timetable.kept.times;
 }

@@ -17,7 +17,7 @@ returns c =
     let was = subst (IsRelaxedProblemOf net rows) (sym c.self.view_is) c.requires.problem in
     let solved = subst (IsSolved net rows) (sym c.self.view_is) c.requires.solved in
     let path = c.self.inside.path.items in
-    let times = c.self.inside.timetable.times in
+    let times = c.self.inside.timetable.kept.times in
     let priced : IsPricedFor net rows (is_relaxed_dropped net rows path) c.self.inside.kept_cost =
     charged_alike net rows (is_flagged c.self.inside.charged.items) (is_relaxed_dropped net rows path) c.self.inside.kept_cost was.charged.each was.costed.priced in
     subst (λ (r : RelaxedProblemValue). c.cost.result ≡ relaxed_cost_of net rows r.path (times_of r) penalty) c.self.view_is

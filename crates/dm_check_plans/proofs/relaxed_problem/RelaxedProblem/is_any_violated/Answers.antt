@@ -9,4 +9,4 @@ pub returns : goal.returns
 returns c =
     let was = subst (IsRelaxedProblemOf c.args.net.now c.args.rows.now) (sym c.self.view_is) c.requires.problem in
     of_problem (λ path x. Tells (IsSomeViolated c.args.net.now c.args.rows.now path x) c.is_any_violated.result) _ _ _ c.self.view_is c.times.ensures
-    (c.is_any_violated.ensures c.self.inside.path.items was.changes was.pairs)
+    (c.is_any_violated.ensures c.self.inside.path.items (was.changes, was.pairs))

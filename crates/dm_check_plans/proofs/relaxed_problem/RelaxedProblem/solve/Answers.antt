@@ -23,7 +23,7 @@ returns-in-Ok-clause-solved c =
     let path = c.self.inside.path.items in
     record {
       least = subst (λ (p : List Decision). IsRelaxedLeast net rows p (times_of c.take_cost.new.self)) (sym c.take_cost.ensures.path) (subst (λ (x : List ℕ). IsRelaxedLeast net rows path x) (sym c.take_cost.ensures.times)
-          (relaxed_least net rows path c.settle.new.self.times (c.in-Ok.ensures.least (is_relaxed_active net rows path) was.held.each (enters_no_passed net rows path))));
+          (relaxed_least net rows path c.settle.new.self.kept.times (c.in-Ok.ensures.least (is_relaxed_active net rows path) was.held.each (enters_no_passed net rows path))));
       no_cycle = subst (λ (p : List Decision). HasNoRelaxedCycle net rows p) (sym c.take_cost.ensures.path) (c.in-Ok.ensures.none (is_relaxed_active net rows path) was.held.each);
       below = subst (λ (x : List ℕ). AreBelowLimit x) (sym c.take_cost.ensures.times) c.in-Ok.ensures.early;
       kept = c.take_cost.ensures.kept ∙ sym c.take_cost.ensures.times;
