@@ -17,35 +17,29 @@ unfoldable pub window_line : ℕ → ℕ → ℕ → List ℕ
 window_line from to entry =
     joined (codes "window " ∷ decimal from ∷ codes " " ∷ decimal to ∷ codes " entry " ∷ decimal entry ∷ line_end ∷ [])
 
--- the choices that are carried over to the last entry, and what its rows cost with them
-unfoldable pub rebased_line : ℕ → ℕ → ℕ → List ℕ
-rebased_line last cost choices =
-    joined (codes "rebased " ∷ decimal last ∷ codes " cost " ∷ decimal cost ∷ codes " choices " ∷ decimal choices ∷ line_end ∷ [])
+-- what the rows cost with the choices that are carried over, and these choices
+unfoldable pub rebased_line : ℕ → ℕ → List ℕ
+rebased_line cost choices = joined (codes " cost " ∷ decimal cost ∷ codes " choices " ∷ decimal choices ∷ line_end ∷ [])
 
-unfoldable pub rebased_text : ℕ → ℕ → List Decision → List ℕ
-rebased_text last cost choices = rebased_line last cost (length choices) ++ flat_map choice_text choices
+unfoldable pub rebased_text : ℕ → List Decision → List ℕ
+rebased_text cost choices = rebased_line cost (length choices) ++ flat_map choice_text choices
 
--- why they are not
-unfoldable pub refused_front : ℕ → List ℕ
-refused_front last = joined (codes "rebased " ∷ decimal last ∷ codes " refused " ∷ [])
-
+-- why they are not carried over
 unfoldable pub barred_text : Decision → List ℕ
-barred_text decision = joined (codes "not-free" ∷ spelling_of_decision decision ∷ line_end ∷ [])
+barred_text decision = joined (codes " refused not-free" ∷ spelling_of_decision decision ∷ line_end ∷ [])
 
-unfoldable pub barred_line : ℕ → Decision → List ℕ
-barred_line last decision = refused_front last ++ barred_text decision
+unfoldable pub cycle_text : List ActId → List ℕ
+cycle_text ids = codes " refused cycle" ++ (flat_map spaced_id ids ++ line_end)
 
-unfoldable pub cycle_front : ℕ → List ℕ
-cycle_front last = joined (codes "rebased " ∷ decimal last ∷ codes " refused cycle" ∷ [])
+abbrev pub end_text : Carried → List ℕ
+end_text (Rebased rebased) = rebased_text rebased.cost rebased.choices
+end_text (NotFree decision) = barred_text decision
+end_text (Cycle ids) = cycle_text ids
 
-unfoldable pub cycle_line : ℕ → List ActId → List ℕ
-cycle_line last ids = cycle_front last ++ (flat_map spaced_id ids ++ line_end)
-
+-- what becomes of a plan at the last entry, if that is told
 abbrev pub carried_text : ℕ → Option Carried → List ℕ
 carried_text last None = []
-carried_text last (Some (Rebased rebased)) = rebased_text last rebased.cost rebased.choices
-carried_text last (Some (NotFree decision)) = barred_line last decision
-carried_text last (Some (Cycle ids)) = cycle_line last ids
+carried_text last (Some carried) = joined (codes "rebased " ∷ decimal last ∷ []) ++ end_text carried
 
 -- a plan of the window from one time to another, and what becomes of it after so many entries
 unfoldable pub outlook_text : ℕ → ℕ → ℕ → Outlook → List ℕ

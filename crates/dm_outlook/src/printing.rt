@@ -1,14 +1,12 @@
 //! A plan of a window in print.
-ghost use Rattle.std.specs.Prelude.{◌∷◌, [], codes};
-ghost use Rattle.std.specs.Fmt.{decimal};
-ghost use Rattle.dm_outside.specs.Printing.{Prints, Puts, joined};
-ghost use Rattle.dm_outlook.specs.Texts.{barred_line, barred_text, carried_text, cycle_front, cycle_line, outlook_text, rebased_line, rebased_text, refused_front, window_line};
+ghost use Rattle.dm_outside.specs.Printing.{Prints, Puts};
+ghost use Rattle.dm_outlook.specs.Texts.{barred_text, carried_text, cycle_text, end_text, outlook_text, rebased_text};
 
 use crate::outlook::{Carried, Outlook};
-use dm_base::{ActId, Cost, Secs};
+use dm_base::{ActId, Secs};
 use dm_cert::{put_choices, put_number, put_numbers, put_plan};
-use dm_outside::{Page, Piece, Sink, WriteFault};
-use dm_report::put_ids;
+use dm_outside::{Page, Sink, WriteFault};
+use dm_report::{put_ids, put_labelled};
 use dm_rows::Decision;
 use dm_window::Rebased;
 
@@ -40,7 +38,12 @@ fn put_outlook<K: Sink>(
 ) -> Result<(), WriteFault>
     ensures { Prints K.taken K.faults sink.old sink.new page.old page.new result (outlook_text from to last outlook.now) }
 {
-    let Ok(()) = put_window(sink, page, from, to, outlook.entry) else {
+    let numbers = [
+        ("window ", from as u128),
+        (" ", to as u128),
+        (" entry ", outlook.entry as u128),
+    ];
+    let Ok(()) = put_labelled(sink, page, &numbers, "\n") else {
         return Err(WriteFault);
     };
     let Ok(()) = put_plan(sink, page, &outlook.plan) else {
@@ -49,30 +52,7 @@ fn put_outlook<K: Sink>(
     put_carried(sink, page, last, &outlook.carried)
 }
 
-// Prints the window, and at which entry the plan is.
-#[tactic(auto, unfolding(crate::specs::Texts::window_line))]
-fn put_window<K: Sink>(
-    sink: &mut K,
-    page: &mut Page,
-    from: Secs,
-    to: Secs,
-    entry: u32,
-) -> Result<(), WriteFault>
-    ensures { Prints K.taken K.faults sink.old sink.new page.old page.new result (window_line from to entry) }
-{
-    let pieces = [
-        Piece::Text("window "),
-        Piece::Number(from as u128),
-        Piece::Text(" "),
-        Piece::Number(to as u128),
-        Piece::Text(" entry "),
-        Piece::Number(entry as u128),
-        Piece::Text("\n"),
-    ];
-    page.put(sink, &pieces)
-}
-
-// Prints what becomes of a plan, if that is told.
+// Prints what becomes of a plan at the last entry, if that is told.
 fn put_carried<K: Sink>(
     sink: &mut K,
     page: &mut Page,
@@ -83,93 +63,52 @@ fn put_carried<K: Sink>(
 {
     match carried {
         None => page.put(sink, &[]),
-        Some(Carried::Rebased(rebased)) => put_rebased(sink, page, last, rebased),
-        Some(Carried::NotFree(decision)) => put_barred(sink, page, last, *decision),
-        Some(Carried::Cycle(ids)) => put_cycle(sink, page, last, ids.as_slice()),
+        Some(carried) => {
+            let Ok(()) = page.put_number(sink, "rebased ", last as u128) else {
+                return Err(WriteFault);
+            };
+            put_end(sink, page, carried)
+        }
     }
 }
 
-fn put_rebased<K: Sink>(
-    sink: &mut K,
-    page: &mut Page,
-    last: u32,
-    rebased: &Rebased,
-) -> Result<(), WriteFault>
-    ensures { Prints K.taken K.faults sink.old sink.new page.old page.new result (rebased_text last rebased.now.cost rebased.now.choices) }
+fn put_end<K: Sink>(sink: &mut K, page: &mut Page, carried: &Carried) -> Result<(), WriteFault>
+    ensures { Prints K.taken K.faults sink.old sink.new page.old page.new result (end_text carried.now) }
+{
+    match carried {
+        Carried::Rebased(rebased) => put_rebased(sink, page, rebased),
+        Carried::NotFree(decision) => put_barred(sink, page, *decision),
+        Carried::Cycle(ids) => put_cycle(sink, page, ids.as_slice()),
+    }
+}
+
+fn put_rebased<K: Sink>(sink: &mut K, page: &mut Page, rebased: &Rebased) -> Result<(), WriteFault>
+    ensures { Prints K.taken K.faults sink.old sink.new page.old page.new result (rebased_text rebased.now.cost rebased.now.choices) }
 {
     let choices = rebased.choices.as_slice();
-    let Ok(()) = put_rebased_line(sink, page, last, rebased.cost, choices.len()) else {
+    let numbers = [
+        (" cost ", rebased.cost),
+        (" choices ", choices.len() as u128),
+    ];
+    let Ok(()) = put_labelled(sink, page, &numbers, "\n") else {
         return Err(WriteFault);
     };
     put_choices(sink, page, choices)
 }
 
-// Prints how many choices follow, and what the rows cost with them.
-#[tactic(auto, unfolding(crate::specs::Texts::rebased_line))]
-fn put_rebased_line<K: Sink>(
-    sink: &mut K,
-    page: &mut Page,
-    last: u32,
-    cost: Cost,
-    choices: usize,
-) -> Result<(), WriteFault>
-    ensures { Prints K.taken K.faults sink.old sink.new page.old page.new result (rebased_line last cost choices) }
-{
-    let pieces = [
-        Piece::Text("rebased "),
-        Piece::Number(last as u128),
-        Piece::Text(" cost "),
-        Piece::Number(cost),
-        Piece::Text(" choices "),
-        Piece::Number(choices as u128),
-        Piece::Text("\n"),
-    ];
-    page.put(sink, &pieces)
-}
-
 // Prints the first choice that is not free any more.
-fn put_barred<K: Sink>(
-    sink: &mut K,
-    page: &mut Page,
-    last: u32,
-    decision: Decision,
-) -> Result<(), WriteFault>
-    ensures { Prints K.taken K.faults sink.old sink.new page.old page.new result (barred_line last decision) }
-{
-    let Ok(()) = put_refused(sink, page, last) else {
-        return Err(WriteFault);
-    };
-    put_barred_choice(sink, page, decision)
-}
-
-#[tactic(auto, unfolding(crate::specs::Texts::refused_front))]
-fn put_refused<K: Sink>(sink: &mut K, page: &mut Page, last: u32) -> Result<(), WriteFault>
-    ensures { Prints K.taken K.faults sink.old sink.new page.old page.new result (refused_front last) }
-{
-    let pieces = [
-        Piece::Text("rebased "),
-        Piece::Number(last as u128),
-        Piece::Text(" refused "),
-    ];
-    page.put(sink, &pieces)
-}
-
 #[tactic(auto, unfolding(crate::specs::Texts::barred_text))]
-fn put_barred_choice<K: Sink>(
-    sink: &mut K,
-    page: &mut Page,
-    decision: Decision,
-) -> Result<(), WriteFault>
+fn put_barred<K: Sink>(sink: &mut K, page: &mut Page, decision: Decision) -> Result<(), WriteFault>
     ensures { Prints K.taken K.faults sink.old sink.new page.old page.new result (barred_text decision) }
 {
     match decision {
-        Decision::Keep(act) => put_number(sink, page, "not-free keep ", act.0 as u128),
-        Decision::Drop(act) => put_number(sink, page, "not-free drop ", act.0 as u128),
+        Decision::Keep(act) => put_number(sink, page, " refused not-free keep ", act.0 as u128),
+        Decision::Drop(act) => put_number(sink, page, " refused not-free drop ", act.0 as u128),
         Decision::First(first, second) => {
             put_numbers(
                 sink,
                 page,
-                "not-free first ",
+                " refused not-free first ",
                 first.0 as u128,
                 second.0 as u128,
             )
@@ -178,31 +117,14 @@ fn put_barred_choice<K: Sink>(
 }
 
 // Prints the activities of a cycle.
-fn put_cycle<K: Sink>(
-    sink: &mut K,
-    page: &mut Page,
-    last: u32,
-    ids: &[ActId],
-) -> Result<(), WriteFault>
-    ensures { Prints K.taken K.faults sink.old sink.new page.old page.new result (cycle_line last ids.now) }
+fn put_cycle<K: Sink>(sink: &mut K, page: &mut Page, ids: &[ActId]) -> Result<(), WriteFault>
+    ensures { Prints K.taken K.faults sink.old sink.new page.old page.new result (cycle_text ids.now) }
 {
-    let Ok(()) = put_cycle_front(sink, page, last) else {
+    let Ok(()) = page.put_bytes(sink, b" refused cycle") else {
         return Err(WriteFault);
     };
     let Ok(()) = put_ids(sink, page, ids) else {
         return Err(WriteFault);
     };
     page.put_bytes(sink, b"\n")
-}
-
-#[tactic(auto, unfolding(crate::specs::Texts::cycle_front))]
-fn put_cycle_front<K: Sink>(sink: &mut K, page: &mut Page, last: u32) -> Result<(), WriteFault>
-    ensures { Prints K.taken K.faults sink.old sink.new page.old page.new result (cycle_front last) }
-{
-    let pieces = [
-        Piece::Text("rebased "),
-        Piece::Number(last as u128),
-        Piece::Text(" refused cycle"),
-    ];
-    page.put(sink, &pieces)
 }

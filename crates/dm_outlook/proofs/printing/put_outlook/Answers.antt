@@ -1,21 +1,21 @@
 use Rattle.std.proofs.Common.{◌++◌}
 use Rattle.dm_cert.specs.PlanTexts.{spelling_of_plan}
 use Rattle.dm_outside.proofs.Printing.{prints_fault, prints_fault_at, prints_last}
-use Rattle.dm_outlook.specs.Texts.{carried_text, outlook_text}
+use Rattle.dm_outlook.specs.Texts.{carried_text, outlook_text, window_line}
 use Rattle.dm_outlook.proofs.printing.put_outlook.Goals as goal
 
 pub returns-in_default : goal.returns-in_default
-unfolding outlook_text
+unfolding outlook_text window_line
 returns-in_default g c =
     prints_fault (spelling_of_plan 2 c.args.outlook.now.plan ++ carried_text c.args.last c.args.outlook.now.carried) c.in_default.ensures
 
 pub returns-in_default-put_plan : goal.returns-in_default-put_plan
-unfolding outlook_text
+unfolding outlook_text window_line
 returns-in_default-put_plan g c =
     prints_fault_at (carried_text c.args.last c.args.outlook.now.carried) c.in-Ok.ensures c.in_default-put_plan.ensures.text
 
 pub returns : goal.returns
-unfolding outlook_text
+unfolding outlook_text window_line
 returns g c =
     let carried = carried_text c.args.last c.args.outlook.now.carried in
     prints_last c.put_carried.new.sink c.put_carried.new.page (spelling_of_plan 2 c.args.outlook.now.plan ++ carried) c.put_carried.result c.in-Ok.ensures
