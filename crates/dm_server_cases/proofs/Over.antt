@@ -1,5 +1,5 @@
 -- What is known of a pass over a server of a network, and of plans that are adopted by it.
-use Rattle.std.proofs.Common.{◌≡◌, ℕ, ◌≤◌, List, [], ◌∷◌, ◌++◌, length, sym, ap, subst, ◌∙◌, arith, append_assoc}
+use Rattle.std.proofs.Common.{◌≡◌, ℕ, ◌≤◌, false, List, [], ◌∷◌, ◌++◌, length, sym, ap, subst, ◌∙◌, arith, append_assoc}
 use Rattle.std.specs.Prelude.{Option, Some, Result, Ok, Err, IfOk, OnErr}
 use Rattle.std.specs.Option.{ForSome, IsSomeAnd}
 use mathlib.Core.List.{IsPrefix}
@@ -11,14 +11,50 @@ use Rattle.dm_rows.specs.Rows.{RowsValue, IsSized}
 use Rattle.dm_server.specs.declared.kept.Base.{Base}
 use Rattle.dm_server.specs.Answers.{rows_after, IsTrueOf, HasLooked, HasEntered}
 use Rattle.dm_server.proofs.After.{true_of_longer}
-use Rattle.dm_server_cases.specs.Passes.{IsOver, IsSame}
+use Rattle.dm_server_cases.specs.Passes.{IsOver, IsSame, IsServed}
+use Rattle.dm_server_cases.specs.declared.served.TheConstants.{PENALTY, SEATS}
 use Rattle.dm_tree.specs.declared.adopting.AdoptRefusal.{AdoptRefusal}
 use Rattle.dm_tree.specs.declared.plans.Plan.{Plan}
 use Rattle.dm_tree.specs.Plans.{whole_task, IsTruePlan}
-use Rattle.dm_turn.specs.Passes.{PassValue}
+use Rattle.dm_turn.specs.Passes.{PassValue, TurnValue}
 
 pub over_still : (net : Net) (price : ℕ) (before now : PassValue Base) → IsSame before now → IsOver net price before → IsOver net price now
 over_still net price before now same o = record { rows = o.rows; is = ap (λ (p : PassValue Base). p.base) same ∙ o.is }
+
+-- so a server is opened
+pub served_opened : (net : Net) (rows : RowsValue) (server : TurnValue) (pass : PassValue Base) → server.seats ≡ SEATS →
+    pass ≡ record { turn = server.id; base = Some (record { network = net; start = rows; penalty = PENALTY }); opening = 0; holds = false; room = SEATS; seen = []; mine = [] } →
+    IsServed net server pass
+served_opened net rows server pass seats is =
+    record {
+      turn = ap (λ (p : PassValue Base). p.turn) is;
+      idle = ap (λ (p : PassValue Base). p.holds) is;
+      seats = seats;
+      room = ap (λ (p : PassValue Base). p.room) is;
+      over = record { rows = rows; is = ap (λ (p : PassValue Base). p.base) is };
+    }
+
+pub served_same : (net : Net) (server : TurnValue) (before now : PassValue Base) → IsServed net server before → IsSame before now →
+    IsServed net server now
+served_same net server before now s same =
+    record {
+      turn = ap (λ (p : PassValue Base). p.turn) same ∙ s.turn;
+      idle = ap (λ (p : PassValue Base). p.holds) same ∙ s.idle;
+      seats = s.seats;
+      room = ap (λ (p : PassValue Base). p.room) same ∙ s.room;
+      over = over_still net PENALTY before now same s.over;
+    }
+
+pub served_looked : (net : Net) (server : TurnValue) (before now : PassValue Base) → IsServed net server before → HasLooked before now →
+    IsServed net server now
+served_looked net server before now s looked =
+    record {
+      turn = ap (λ (p : PassValue Base). p.turn) looked.same ∙ s.turn;
+      idle = ap (λ (p : PassValue Base). p.holds) looked.same ∙ s.idle;
+      seats = s.seats;
+      room = ap (λ (p : PassValue Base). p.room) looked.same ∙ s.room;
+      over = record { rows = s.over.rows; is = ap (λ (p : PassValue Base). p.base) looked.same ∙ s.over.is };
+    }
 
 pub sized_over : (net : Net) (price : ℕ) (pass : PassValue Base) (rows : RowsValue) → IsOver net price pass →
     IsSomeAnd pass.base (λ base. IsSized base.network rows) → IsSized net rows

@@ -5,8 +5,9 @@ ghost use Rattle.dm_rows.specs.Rows.{IsSized};
 ghost use Rattle.dm_server.specs.Answers.{IsTrueOf};
 ghost use Rattle.dm_server_cases.specs.Passes.{IsOver, IsSame};
 
-use crate::calls::{LATE, PENALTY, copied, post};
+use crate::calls::{LATE, copied};
 use crate::case::Case;
+use crate::served::{PENALTY, Served};
 use crate::standing::{Decided, stands};
 use dm_base::ActId;
 use dm_base::limits::ENTRIES;
@@ -31,38 +32,23 @@ pub struct AdoptsPlan;
 impl Case for AdoptsPlan {
     const ENTRIES: u32 = 2;
 
-    fn comes_out<'n, R: Wait + AllocGlobal>(
-        rt: &R,
-        net: &'n Network,
-        server: &Server<'n>,
-        pass: &mut Pass<Kept<'n>>,
-    ) -> Result<bool, Failure> {
-        let entered = post(rt, server, pass, LATE) == Ok(1);
-        let before = stands_after(rt, net, server, pass, 1, Decided::Kept);
-        let answers = adopt_twice(rt, net, server, pass);
-        let after = stands_after(rt, net, server, pass, 2, Decided::Dropped);
+    fn comes_out<R: Wait + AllocGlobal>(rt: &R, served: &mut Served<'_>) -> Result<bool, Failure> {
+        let entered = served.post(rt, LATE) == Ok(1);
+        let before = stands_after(rt, served, 1, Decided::Kept);
+        let answers = adopt_twice(rt, served);
+        let after = stands_after(rt, served, 2, Decided::Dropped);
         let due = answers == Some([Ok(2), Err(AdoptRefusal::Old { now: 2 })]);
         Ok(entered && before && due && after)
     }
 }
 
 /// Whether a copy of the rows is after so many entries, and has these decisions.
-fn stands_after<'n, R: Wait>(
-    rt: &R,
-    net: &'n Network,
-    server: &Server<'n>,
-    pass: &mut Pass<Kept<'n>>,
-    entries: u32,
-    decided: Decided,
-) -> bool
-    requires turn { pass.old.turn ≡ server.now.id }
-    requires idle { pass.old.holds ≡ false }
-    requires over { IsOver net.now PENALTY pass.old }
-    ensures same { IsSame pass.old pass.new }
-    ensures over { IsOver net.now PENALTY pass.new }
-{
-    match copied(rt, net, server, pass) {
-        Some(snapshot) => snapshot.entry == entries && stands(net, &snapshot.rows, decided),
+#[tactic(auto, using(crate::proofs::Over::served_looked, crate::proofs::Over::served_same))]
+fn stands_after<R: Wait>(rt: &R, served: &mut Served<'_>, entries: u32, decided: Decided) -> bool {
+    match copied(rt, served.net, &served.server, &mut served.pass) {
+        Some(snapshot) => {
+            snapshot.entry == entries && stands(served.net, &snapshot.rows, decided)
+        }
         None => false,
     }
 }
@@ -73,49 +59,27 @@ pub struct FullServerAdoptsNothing;
 impl Case for FullServerAdoptsNothing {
     const ENTRIES: u32 = ENTRIES;
 
-    fn comes_out<'n, R: Wait + AllocGlobal>(
-        rt: &R,
-        net: &'n Network,
-        server: &Server<'n>,
-        pass: &mut Pass<Kept<'n>>,
-    ) -> Result<bool, Failure> {
-        fill(rt, net, server, pass);
+    fn comes_out<R: Wait + AllocGlobal>(rt: &R, served: &mut Served<'_>) -> Result<bool, Failure> {
+        fill(rt, served);
         let full = AdoptRefusal::Full { now: ENTRIES };
-        Ok(adopt_twice(rt, net, server, pass) == Some([Err(full), Err(full)]))
+        Ok(adopt_twice(rt, served) == Some([Err(full), Err(full)]))
     }
 }
 
 /// Drops the change again and again.
-#[tactic(auto, using(crate::proofs::Over::over_still))]
-fn fill<'n, R: Wait>(rt: &R, net: &'n Network, server: &Server<'n>, pass: &mut Pass<Kept<'n>>)
-    requires turn { pass.old.turn ≡ server.now.id }
-    requires idle { pass.old.holds ≡ false }
-    requires over { IsOver net.now PENALTY pass.old }
-    ensures same { IsSame pass.old pass.new }
-    ensures over { IsOver net.now PENALTY pass.new }
-{
+fn fill<R: Wait>(rt: &R, served: &mut Served<'_>) {
     for _entry in 0..ENTRIES {
-        let _answer = post(rt, server, pass, Message::Drop(ActId(5)));
+        let _answer = served.post(rt, Message::Drop(ActId(5)));
     }
 }
 
 /// Makes a plan of the rows, and adopts it twice.
-fn adopt_twice<'n, R: Wait + AllocGlobal>(
-    rt: &R,
-    net: &'n Network,
-    server: &Server<'n>,
-    pass: &mut Pass<Kept<'n>>,
-) -> Option<Answers>
-    requires turn { pass.old.turn ≡ server.now.id }
-    requires idle { pass.old.holds ≡ false }
-    requires over { IsOver net.now PENALTY pass.old }
-    ensures same { IsSame pass.old pass.new }
-    ensures over { IsOver net.now PENALTY pass.new }
-{
-    match planned(rt, net, server, pass) {
+#[tactic(auto, using(crate::proofs::Over::served_looked, crate::proofs::Over::served_same))]
+fn adopt_twice<R: Wait + AllocGlobal>(rt: &R, served: &mut Served<'_>) -> Option<Answers> {
+    match planned(rt, served.net, &served.server, &mut served.pass) {
         Some(plan) => {
-            let first = adopt(rt, server, pass, &plan, 2);
-            let second = adopt(rt, server, pass, &plan, 3);
+            let first = adopt(rt, &served.server, &mut served.pass, &plan, 2);
+            let second = adopt(rt, &served.server, &mut served.pass, &plan, 3);
             Some([first, second])
         }
         None => None,

@@ -1,15 +1,10 @@
 //! Questions after a delay.
-ghost use Rattle.std.specs.Prelude.{◌≡◌, false};
-ghost use Rattle.std.specs.Option.{ForSome};
-ghost use Rattle.dm_server_cases.specs.Passes.{IsSame};
 
-use crate::calls::{LATE, post, time};
+use crate::calls::LATE;
 use crate::case::Case;
-use dm_network::Network;
+use crate::served::Served;
 use dm_samples::Failure;
-use dm_server::{Kept, Server};
 use dm_settle::Times;
-use dm_turn::Pass;
 use std::sync::Wait;
 
 /// The times of the late connection.
@@ -21,69 +16,45 @@ pub struct AnswersAfterDelay;
 impl Case for AnswersAfterDelay {
     const ENTRIES: u32 = 1;
 
-    fn comes_out<'n, R: Wait + AllocGlobal>(
-        rt: &R,
-        net: &'n Network,
-        server: &Server<'n>,
-        pass: &mut Pass<Kept<'n>>,
-    ) -> Result<bool, Failure> {
-        let entered = post(rt, server, pass, LATE) == Ok(1);
-        let told = tells_times(rt, server, pass);
-        let counted = counts(rt, server, pass);
-        let copied = copies_times(rt, net, server, pass);
-        let taken = takes_snapshot(rt, server, pass);
+    fn comes_out<R: Wait + AllocGlobal>(rt: &R, served: &mut Served<'_>) -> Result<bool, Failure> {
+        let entered = served.post(rt, LATE) == Ok(1);
+        let told = tells_times(rt, served);
+        let counted = counts(rt, served);
+        let copied = copies_times(rt, served);
+        let taken = takes_snapshot(rt, served);
         Ok(entered && told && counted && copied && taken)
     }
 }
 
 /// Whether the last arrival is told, and an event that is none refused.
-fn tells_times<'n, R: Wait>(rt: &R, server: &Server<'n>, pass: &mut Pass<Kept<'n>>) -> bool
-    requires turn { pass.old.turn ≡ server.now.id }
-    requires idle { pass.old.holds ≡ false }
-    ensures { IsSame pass.old pass.new }
-{
-    let last = time(rt, server, pass, 6);
-    let none = time(rt, server, pass, 9);
+fn tells_times<R: Wait>(rt: &R, served: &mut Served<'_>) -> bool {
+    let last = served.time(rt, 6);
+    let none = served.time(rt, 9);
     last == Some((365, 1)) && none.is_none()
 }
 
 /// Whether cost and length are those after the delay.
-fn counts<'n, R: Wait>(rt: &R, server: &Server<'n>, pass: &mut Pass<Kept<'n>>) -> bool
-    requires turn { pass.old.turn ≡ server.now.id }
-    requires idle { pass.old.holds ≡ false }
-    ensures { IsSame pass.old pass.new }
-{
-    let cost = server.cost(rt, pass);
-    let length = server.length(rt, pass);
+#[tactic(auto, using(crate::proofs::Over::served_looked, crate::proofs::Over::served_same))]
+fn counts<R: Wait>(rt: &R, served: &mut Served<'_>) -> bool {
+    let cost = served.server.cost(rt, &mut served.pass);
+    let length = served.server.length(rt, &mut served.pass);
     cost == (1_075_000, 1) && length == 1
 }
 
 /// Whether the times are those after the delay.
-fn copies_times<'n, R: Wait + AllocGlobal>(
-    rt: &R,
-    net: &'n Network,
-    server: &Server<'n>,
-    pass: &mut Pass<Kept<'n>>,
-) -> bool
-    requires turn { pass.old.turn ≡ server.now.id }
-    requires idle { pass.old.holds ≡ false }
-    requires network { ForSome pass.old.base (λ base. base.network ≡ net.now) }
-    ensures { IsSame pass.old pass.new }
-{
-    let Ok(mut times) = Times::room(rt.alloc(), net) else {
+#[tactic(auto, using(crate::proofs::Over::served_looked, crate::proofs::Over::served_same))]
+fn copies_times<R: Wait + AllocGlobal>(rt: &R, served: &mut Served<'_>) -> bool {
+    let Ok(mut times) = Times::room(rt.alloc(), served.net) else {
         return false;
     };
-    let entries = server.copy_times(rt, pass, &mut times);
+    let entries = served.server.copy_times(rt, &mut served.pass, &mut times);
     entries == 1 && times.as_slice() == TIMES.as_slice()
 }
 
 /// Whether a snapshot is taken after the delay.
-fn takes_snapshot<'n, R: Wait>(rt: &R, server: &Server<'n>, pass: &mut Pass<Kept<'n>>) -> bool
-    requires turn { pass.old.turn ≡ server.now.id }
-    requires idle { pass.old.holds ≡ false }
-    ensures { IsSame pass.old pass.new }
-{
-    let Ok(snapshot) = server.snapshot(rt, pass) else {
+#[tactic(auto, using(crate::proofs::Over::served_looked, crate::proofs::Over::served_same))]
+fn takes_snapshot<R: Wait>(rt: &R, served: &mut Served<'_>) -> bool {
+    let Ok(snapshot) = served.server.snapshot(rt, &mut served.pass) else {
         return false;
     };
     snapshot.entry == 1

@@ -1,12 +1,8 @@
 //! Cases over a server of the connection.
-ghost use Rattle.std.specs.Prelude.{◌≡◌, false};
-ghost use Rattle.dm_server_cases.specs.Passes.{IsOpened, IsOver};
 
-use crate::calls::{PENALTY, SEATS, opened};
+use crate::served::Served;
 use dm_network::Network;
 use dm_samples::{Failure, Sample};
-use dm_server::{Kept, Server};
-use dm_turn::Pass;
 use std::sync::Wait;
 
 /// What is tried on a server that has just been opened, with its first pass.
@@ -15,18 +11,7 @@ pub trait Case {
     const ENTRIES: u32;
 
     /// Calls the server, and says whether each call comes out as is due.
-    fn comes_out<'n, R: Wait + AllocGlobal>(
-        rt: &R,
-        net: &'n Network,
-        server: &Server<'n>,
-        pass: &mut Pass<Kept<'n>>,
-    ) -> Result<bool, Failure>
-        requires seats { server.now.seats ≡ SEATS }
-        requires pass { IsOpened server.now.id net.now SEATS pass.old }
-        requires over { IsOver net.now PENALTY pass.old }
-        ensures turn { pass.new.turn ≡ server.now.id }
-        ensures idle { pass.new.holds ≡ false }
-        ensures alone { pass.new.room ≡ server.now.seats };
+    fn comes_out<R: Wait + AllocGlobal>(rt: &R, served: &mut Served<'_>) -> Result<bool, Failure>;
 }
 
 /// Opens a server of the connection at one station for a case, and closes it.
@@ -36,9 +21,9 @@ pub fn on_connection<C: Case, R: Wait + AllocGlobal>(rt: &R) -> Result<(), Failu
 }
 
 fn on_network<C: Case, R: Wait + AllocGlobal>(rt: &R, net: &Network) -> Result<(), Failure> {
-    let (server, mut pass) = opened(rt.alloc(), net)?;
-    let due = C::comes_out(rt, net, &server, &mut pass)?;
-    let entries = server.close(pass).len();
+    let mut served = Served::new(rt.alloc(), net)?;
+    let due = C::comes_out(rt, &mut served)?;
+    let entries = served.close();
     if due && entries == C::ENTRIES {
         Ok(())
     } else {

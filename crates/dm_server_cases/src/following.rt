@@ -5,8 +5,8 @@ ghost use Rattle.dm_server_cases.specs.Passes.{IsSame};
 
 use crate::calls::{LATE, post};
 use crate::case::Case;
+use crate::served::Served;
 use dm_base::Secs;
-use dm_network::Network;
 use dm_samples::Failure;
 use dm_server::{Kept, Server};
 use dm_settle::Times;
@@ -22,15 +22,16 @@ pub struct FollowsDelay;
 impl Case for FollowsDelay {
     const ENTRIES: u32 = 1;
 
-    fn comes_out<'n, R: Wait + AllocGlobal>(
-        rt: &R,
-        net: &'n Network,
-        server: &Server<'n>,
-        pass: &mut Pass<Kept<'n>>,
-    ) -> Result<bool, Failure> {
-        let mut times = Times::room(rt.alloc(), net)?;
-        let mut listed = Vec::with_capacity(rt.alloc(), net.events())?;
-        Ok(moves_all(rt, server, pass, &mut times, &mut listed))
+    fn comes_out<R: Wait + AllocGlobal>(rt: &R, served: &mut Served<'_>) -> Result<bool, Failure> {
+        let mut times = Times::room(rt.alloc(), served.net)?;
+        let mut listed = Vec::with_capacity(rt.alloc(), served.net.events())?;
+        Ok(moves_all(
+            rt,
+            &served.server,
+            &mut served.pass,
+            &mut times,
+            &mut listed,
+        ))
     }
 }
 

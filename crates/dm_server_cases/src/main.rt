@@ -13,6 +13,7 @@ mod case;
 mod following;
 mod joined;
 mod refusals;
+mod served;
 mod standing;
 
 use adopting::{AdoptsPlan, FullServerAdoptsNothing};

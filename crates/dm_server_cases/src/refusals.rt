@@ -1,15 +1,10 @@
 //! Messages that are refused.
-ghost use Rattle.std.specs.Prelude.{◌≡◌, false};
-ghost use Rattle.dm_server_cases.specs.Passes.{IsSame};
 
-use crate::calls::post;
 use crate::case::Case;
+use crate::served::Served;
 use dm_base::{ActId, EventId};
-use dm_network::Network;
 use dm_rows::{At, Message, Refusal};
 use dm_samples::Failure;
-use dm_server::{Kept, Server};
-use dm_turn::Pass;
 use std::sync::Wait;
 
 /// How many messages there are.
@@ -21,26 +16,17 @@ pub struct RefusalsEnterNothing;
 impl Case for RefusalsEnterNothing {
     const ENTRIES: u32 = 0;
 
-    fn comes_out<'n, R: Wait + AllocGlobal>(
-        rt: &R,
-        _net: &'n Network,
-        server: &Server<'n>,
-        pass: &mut Pass<Kept<'n>>,
-    ) -> Result<bool, Failure> {
-        Ok(refused(rt, server, pass) == CASES)
+    fn comes_out<R: Wait + AllocGlobal>(rt: &R, served: &mut Served<'_>) -> Result<bool, Failure> {
+        Ok(refused(rt, served) == CASES)
     }
 }
 
 /// How many messages are refused as is due.
-fn refused<'n, R: Wait>(rt: &R, server: &Server<'n>, pass: &mut Pass<Kept<'n>>) -> u32
-    requires turn { pass.old.turn ≡ server.now.id }
-    requires idle { pass.old.holds ≡ false }
-    ensures { IsSame pass.old pass.new }
-{
+fn refused<R: Wait>(rt: &R, served: &mut Served<'_>) -> u32 {
     let mut refused: u32 = 0;
     for number in 0..CASES {
         let (message, why) = case(number);
-        if post(rt, server, pass, message) == Err(At { entry: 0, why }) {
+        if served.post(rt, message) == Err(At { entry: 0, why }) {
             refused = refused.saturating_add(1);
         }
     }
