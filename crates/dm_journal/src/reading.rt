@@ -6,7 +6,7 @@ ghost use Rattle.dm_rows.specs.Rows.{IsSized};
 ghost use Rattle.dm_follow.specs.Follower.{Follows};
 ghost use Rattle.dm_input.specs.Stops.{IsKept};
 ghost use Rattle.dm_journal.specs.Journals.{ReadsJournal};
-ghost use Rattle.dm_journal.specs.Inside.Giving.{FollowsPiece, IsNewFollower, ReadsFollowing, ReadsSource};
+ghost use Rattle.dm_journal.specs.Inside.Giving.{FollowsPiece, ReadsFollowing, ReadsSource};
 
 use crate::giving::{BrokenLine, Journal, followed, give};
 use dm_base::limits::TEXT;
@@ -25,25 +25,6 @@ fn make_piece(alloc: Global, size: usize) -> Result<Vec<u8>, AllocError>
     ensures { IfOk result (λ piece. vec_len piece ≡ size) }
 {
     vec![in alloc; 0u8; size]
-}
-
-/// A follower of a day whose rows have no cycle.
-fn new_follower<'n>(
-    alloc: Global,
-    net: &'n Network,
-    rows: Rows,
-    penalty: u64,
-) -> Result<Follower<'n>, AllocError>
-    requires sized { IsSized net.now rows }
-    requires free { HasNoCycle net.now rows }
-    requires within { penalty ≤ PENALTY }
-    ensures { IfOk result (IsNewFollower net.now rows penalty) }
-{
-    match Follower::new(alloc, net, rows, penalty) {
-        Ok(follower) => Ok(follower),
-        Err(NoTimes::OutOfMemory) => Err(AllocError),
-        Err(NoTimes::Cycle(_)) => unreachable!(),
-    }
 }
 
 /// Takes what one read gives, and gives it to the follower. A fault or want of memory loses what the read gave.
@@ -131,8 +112,10 @@ pub fn read_journal<'n, H: Shelf>(
     ensures kept { IsKept H.files H.is_sound shelf.old shelf.new }
     ensures reads { ReadsJournal (H.files shelf.old) (H.is_sound shelf.old) name.now net.now rows penalty result }
 {
-    let Ok(follower) = new_follower(alloc, net, rows, penalty) else {
-        return Err(TakeFault::OutOfMemory);
+    let follower = match Follower::new(alloc, net, rows, penalty) {
+        Ok(follower) => follower,
+        Err(NoTimes::OutOfMemory) => return Err(TakeFault::OutOfMemory),
+        Err(NoTimes::Cycle(_)) => unreachable!(),
     };
     let Ok(mut source) = shelf.open(name) else {
         return Err(TakeFault::ReadFault);
