@@ -12,9 +12,10 @@ use Rattle.dm_cert.specs.declared.replies.Reply.TheVariants.{Planned}
 use Rattle.dm_cert.specs.declared.replies.FeedLog.{FeedLog}
 use Rattle.dm_cert.specs.Answers.{is_plan}
 use Rattle.dm_cert.specs.Logs.{names, all_items}
-use Rattle.dm_base.specs.declared.limits.TheConstants.{PLANS, FEEDS}
+use Rattle.dm_base.specs.declared.limits.TheConstants.{PLANS, FEEDS, ENTRIES}
 use Rattle.dm_cert.specs.RunTexts.{Run}
 use Rattle.dm_check.specs.declared.checking.Counts.{Counts}
+use Rattle.dm_check.specs.declared.checking.Header.{Header}
 use Rattle.dm_tree.specs.declared.plans.Plan.{Plan}
 use Rattle.dm_check_answers.specs.declared.past.Past.{Past}
 use Rattle.dm_check_answers.specs.Judging.{IsPast}
@@ -199,6 +200,11 @@ EndingOn s history logs notes rows old new = JudgedThat (TellsEnding s history l
 
 abbrev pub RestOn : Setting → List Entry → List FeedLog → Place → Place → Result (Unit {0}) Stop → Type 0
 RestOn s history logs old new = JudgedThat (TellsRest s history logs) (λ done run. HasLogs history logs run) old new
+
+-- there are no more feeds and no more entries than a run may have
+pub record IsHeader (h : Header) : Type 0 where
+  pub few : h.feeds ≤ FEEDS
+  pub few_entries : h.entries ≤ ENTRIES
 
 -- the run has these entries, and so many plans
 pub record HasPlans (history : List Entry) (plans : ℕ) (run : Run) : Type 0 where

@@ -1,26 +1,25 @@
 //! A whole text.
-ghost use Rattle.std.specs.Prelude.{ℕ, ◌≡◌, ◌≤◌, List, [], length, IfOk};
-ghost use Rattle.dm_base.specs.declared.limits.TheConstants.{TEXT, PENALTY, ENTRIES, FEEDS};
+ghost use Rattle.std.specs.Prelude.{◌≡◌, ◌≤◌, [], length, IfOk};
+ghost use Rattle.dm_base.specs.declared.limits.TheConstants.{TEXT, PENALTY};
 ghost use Rattle.dm_rows.specs.Rows.{IsSized};
 ghost use Rattle.dm_cert.specs.Answers.{rows_after};
-ghost use Rattle.dm_cert.specs.PlanTexts.{IsVersion};
 ghost use Rattle.dm_check_rows.specs.Claims.{AreCheckedRowsOf};
-ghost use Rattle.dm_check_answers.specs.Judging.{IsJournal, IsReplay, setting_of, history_of};
+ghost use Rattle.dm_check_answers.specs.Judging.{IsDay, setting_of, history_of, value_of};
 ghost use Rattle.dm_check.specs.FalseRecords.{IsVerdict};
-ghost use Rattle.dm_check.specs.Judged.{AreFlagged, BodyOn, LogsAndRestOn, HistoryOn, RunOn};
+ghost use Rattle.dm_check.specs.Judged.{AreFlagged, IsHeader, BodyOn, LogsAndRestOn, HistoryOn, RunOn};
 
 use crate::faults::{Fault, Stop};
 use crate::gathering::replay_for;
 use crate::told_entries::all_entries;
+use crate::told_items::Logs;
 use crate::told_lines::version_told;
-use crate::told_logs::all_logs;
 use crate::told_records::{entries_told, feeds_told, penalty_told};
 use crate::told_rest::rest_told;
 use crate::verdicts::Verdict;
-use dm_check_answers::{Journal, Replay};
+use dm_check_answers::{Day, Journal};
 use dm_check_rows::CheckedRows;
 use dm_network::Network;
-use dm_rows::{Entry, Rows};
+use dm_rows::Rows;
 use dm_text::Lines;
 use std::alloc::{AllocError, Global};
 
@@ -31,33 +30,37 @@ pub(crate) struct Counts {
     pub(crate) plans: u32,
 }
 
+/// What the head of a run says: how many feeds there are, and how many entries.
+#[derive(Clone, Copy)]
+pub(crate) struct Header {
+    pub(crate) feeds: usize,
+    pub(crate) entries: u32,
+}
+
 /// The logs and what stands behind them, where the rows are those after all entries, and no entry is flagged as named yet. The
 /// answer is how many plans there are.
 fn logs_then_rest_told(
-    alloc: Global,
     lines: &mut Lines,
     journal: &Journal<'_>,
+    logs: &mut Logs<'_>,
     checked: &mut CheckedRows,
-    replay: &mut Replay,
-    named: &mut [bool],
-    feeds: usize,
-    entries: u32,
+    header: Header,
 ) -> Result<usize, Stop>
-    requires journal { IsJournal journal.now }
-    requires stands_after { AreCheckedRowsOf journal.now.net.now checked.old }
-    requires rows_are { checked.old.rows ≡ rows_after (setting_of journal.now) (history_of journal.now) (length (history_of journal.now)) }
-    requires stands { IsReplay journal.now replay.old }
-    requires few { feeds ≤ FEEDS }
-    requires none { AreFlagged [] named.old }
-    requires each { length named.old ≡ length (history_of journal.now) }
-    requires counted { length (history_of journal.now) ≡ entries }
-    ensures { LogsAndRestOn (setting_of journal.now) (history_of journal.now) feeds lines.old lines.new result }
+    requires day { IsDay journal.now.day }
+    requires goes_over { logs.old.replay.journal ≡ value_of journal.now }
+    requires stands { AreCheckedRowsOf journal.now.day.net.now checked.old }
+    requires rows_are { checked.old.rows ≡ rows_after (setting_of journal.now.day) (history_of journal.now) (length (history_of journal.now)) }
+    requires header { IsHeader header }
+    requires none { AreFlagged [] logs.old.named.items }
+    requires each { length logs.old.named.items ≡ length (history_of journal.now) }
+    requires counted { length (history_of journal.now) ≡ header.entries }
+    ensures { LogsAndRestOn (setting_of journal.now.day) (history_of journal.now) header.feeds lines.old lines.new result }
 {
-    let plans = match all_logs(alloc, lines, journal, replay, named, feeds) {
+    let plans = match logs.all_logs(lines, header.feeds) {
         Ok(plans) => plans,
         Err(stop) => return Err(stop),
     };
-    match rest_told(alloc, lines, journal, checked, named, entries) {
+    match rest_told(lines, journal, checked, &logs.named, header.entries) {
         Ok(()) => Ok(plans),
         Err(stop) => Err(stop),
     }
@@ -65,104 +68,54 @@ fn logs_then_rest_told(
 
 /// The logs and what stands behind them, where the rows are those after all entries.
 fn logs_and_rest_told(
-    alloc: Global,
     lines: &mut Lines,
     journal: &Journal<'_>,
-    checked: CheckedRows,
-    feeds: usize,
-    entries: u32,
+    checked: &mut CheckedRows,
+    header: Header,
 ) -> Result<usize, Stop>
-    requires journal { IsJournal journal.now }
-    requires stands { AreCheckedRowsOf journal.now.net.now checked }
-    requires rows_are { checked.rows ≡ rows_after (setting_of journal.now) (history_of journal.now) (length (history_of journal.now)) }
-    requires few { feeds ≤ FEEDS }
-    requires counted { length (history_of journal.now) ≡ entries }
-    ensures { LogsAndRestOn (setting_of journal.now) (history_of journal.now) feeds lines.old lines.new result }
+    requires day { IsDay journal.now.day }
+    requires stands { AreCheckedRowsOf journal.now.day.net.now checked.old }
+    requires rows_are { checked.old.rows ≡ rows_after (setting_of journal.now.day) (history_of journal.now) (length (history_of journal.now)) }
+    requires header { IsHeader header }
+    requires counted { length (history_of journal.now) ≡ header.entries }
+    ensures { LogsAndRestOn (setting_of journal.now.day) (history_of journal.now) header.feeds lines.old lines.new result }
 {
-    let Ok(mut named) = vec![in alloc; false; journal.entries.len()] else {
+    let alloc = journal.day.alloc;
+    let Ok(named) = vec![in alloc; false; journal.entries.len()] else {
         return Err(Stop::OutOfMemory);
     };
-    let mut checked = checked;
-    let mut replay = match replay_for(alloc, lines, journal, feeds) {
+    let replay = match replay_for(lines, *journal, header.feeds) {
         Ok(replay) => replay,
         Err(AllocError) => return Err(Stop::OutOfMemory),
     };
-    logs_then_rest_told(
-        alloc,
-        lines,
-        journal,
-        &mut checked,
-        &mut replay,
-        &mut named,
-        feeds,
-        entries,
-    )
-}
-
-/// The logs and what stands behind them, where these are the entries, and the rows are those after them.
-fn journal_told(
-    alloc: Global,
-    lines: &mut Lines,
-    net: &Network,
-    start: &Rows,
-    penalty: u64,
-    version: u32,
-    feeds: usize,
-    entries: u32,
-    checked: CheckedRows,
-    history: &[Entry],
-) -> Result<usize, Stop>
-    requires sized { IsSized net.now start.now }
-    requires penalty { penalty ≤ PENALTY }
-    requires version { IsVersion version }
-    requires few { feeds ≤ FEEDS }
-    requires stands { AreCheckedRowsOf net.now checked }
-    requires rows_are { checked.rows ≡ rows_after (record { net = net.now; start = start.now; penalty = penalty; version = version })
-        history.now (length history.now) }
-    requires counted { length history.now ≡ entries }
-    ensures { LogsAndRestOn (record { net = net.now; start = start.now; penalty = penalty; version = version }) history.now feeds lines.old
-        lines.new result }
-{
-    let journal = Journal {
-        net,
-        start,
-        entries: history,
-        penalty,
-        version,
-    };
-    logs_and_rest_told(alloc, lines, &journal, checked, feeds, entries)
+    let mut logs = Logs { replay, named };
+    logs_then_rest_told(lines, journal, &mut logs, checked, header)
 }
 
 /// The entries and what stands behind them, from the rows at the start.
 fn entries_then_logs_told(
-    alloc: Global,
     lines: &mut Lines,
-    net: &Network,
-    start: &Rows,
-    penalty: u64,
-    version: u32,
-    feeds: usize,
-    entries: u32,
+    day: &Day<'_>,
+    header: Header,
     checked: CheckedRows,
 ) -> Result<Counts, Stop>
-    requires sized { IsSized net.now start.now }
-    requires penalty { penalty ≤ PENALTY }
-    requires version { IsVersion version }
-    requires few { feeds ≤ FEEDS }
-    requires few_entries { entries ≤ ENTRIES }
-    requires stands { AreCheckedRowsOf net.now checked }
-    requires copied { checked.rows ≡ start.now }
-    ensures { HistoryOn (record { net = net.now; start = start.now; penalty = penalty; version = version }) feeds entries lines.old
-        lines.new result }
+    requires day { IsDay day.now }
+    requires header { IsHeader header }
+    requires stands { AreCheckedRowsOf day.now.net.now checked }
+    requires copied { checked.rows ≡ day.now.start.now }
+    ensures { HistoryOn (setting_of day.now) header.feeds header.entries lines.old lines.new result }
 {
+    let (feeds, entries) = (header.feeds, header.entries);
     let mut checked = checked;
-    let history = match all_entries(alloc, lines, net, &mut checked, feeds, entries) {
+    let history = match all_entries(day.alloc, lines, day.net, &mut checked, feeds, entries) {
         Ok(history) => history,
         Err(stop) => return Err(stop),
     };
-    match journal_told(
-        alloc, lines, net, start, penalty, version, feeds, entries, checked, &history,
-    ) {
+    let journal = Journal {
+        day: *day,
+        entries: &history,
+    };
+    match logs_and_rest_told(lines, &journal, &mut checked, header) {
         Ok(plans) => Ok(Counts {
             entries,
             plans: plans as u32,
@@ -172,50 +125,23 @@ fn entries_then_logs_told(
 }
 
 /// The entries and what stands behind them.
-fn history_told(
-    alloc: Global,
-    lines: &mut Lines,
-    net: &Network,
-    start: &Rows,
-    penalty: u64,
-    version: u32,
-    feeds: usize,
-    entries: u32,
-) -> Result<Counts, Stop>
-    requires sized { IsSized net.now start.now }
-    requires penalty { penalty ≤ PENALTY }
-    requires version { IsVersion version }
-    requires few { feeds ≤ FEEDS }
-    requires few_entries { entries ≤ ENTRIES }
-    ensures { HistoryOn (record { net = net.now; start = start.now; penalty = penalty; version = version }) feeds entries lines.old
-        lines.new result }
+fn history_told(lines: &mut Lines, day: &Day<'_>, header: Header) -> Result<Counts, Stop>
+    requires day { IsDay day.now }
+    requires header { IsHeader header }
+    ensures { HistoryOn (setting_of day.now) header.feeds header.entries lines.old lines.new result }
 {
-    let Ok(rows) = start.copy() else {
-        return Err(Stop::OutOfMemory);
-    };
-    let Ok(checked) = CheckedRows::new(alloc, net, rows) else {
-        return Err(Stop::OutOfMemory);
-    };
-    entries_then_logs_told(
-        alloc, lines, net, start, penalty, version, feeds, entries, checked,
-    )
+    match day.rows() {
+        Ok(checked) => entries_then_logs_told(lines, day, header, checked),
+        Err(AllocError) => Err(Stop::OutOfMemory),
+    }
 }
 
 /// What stands behind the version.
-fn body_told(
-    alloc: Global,
-    lines: &mut Lines,
-    net: &Network,
-    start: &Rows,
-    penalty: u64,
-    version: u32,
-) -> Result<Counts, Stop>
-    requires sized { IsSized net.now start.now }
-    requires penalty { penalty ≤ PENALTY }
-    requires version { IsVersion version }
-    ensures { BodyOn (record { net = net.now; start = start.now; penalty = penalty; version = version }) lines.old lines.new result }
+fn body_told(lines: &mut Lines, day: &Day<'_>) -> Result<Counts, Stop>
+    requires { IsDay day.now }
+    ensures { BodyOn (setting_of day.now) lines.old lines.new result }
 {
-    match penalty_told(lines, penalty) {
+    match penalty_told(lines, day.penalty) {
         Ok(_penalty) => (),
         Err(fault) => return Err(Stop::Fault(fault)),
     }
@@ -227,7 +153,7 @@ fn body_told(
         Ok(entries) => entries,
         Err(fault) => return Err(Stop::Fault(fault)),
     };
-    history_told(alloc, lines, net, start, penalty, version, feeds, entries)
+    history_told(lines, day, Header { feeds, entries })
 }
 
 /// The whole run.
@@ -247,7 +173,14 @@ fn run_told(
         Ok(version) => version,
         Err(fault) => return Err(Stop::Fault(fault)),
     };
-    body_told(alloc, lines, net, start, penalty, version)
+    let day = Day {
+        alloc,
+        net,
+        start,
+        penalty,
+        version,
+    };
+    body_told(lines, &day)
 }
 
 /// What is told of the text of a run of this network, from these rows at the start and at this penalty: that it is good, or

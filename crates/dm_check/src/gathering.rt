@@ -1,45 +1,44 @@
 //! What the answers of a text claim of rows, found before they are judged.
-ghost use Rattle.std.specs.Prelude.{All, IfOk, IfSome};
-ghost use Rattle.dm_check_answers.specs.Claims.{IsSaidClaim};
-ghost use Rattle.dm_check_answers.specs.Judging.{IsJournal, IsReplay};
+ghost use Rattle.std.specs.Prelude.{◌≡◌, All, IfOk, IfSome};
+ghost use Rattle.dm_check_answers.specs.Claims.{IsSpelledAnswer};
+ghost use Rattle.dm_check_answers.specs.Judging.{IsDay, value_of};
 ghost use Rattle.dm_check.specs.Inside.Gathering.{IsSpelled};
 
-use dm_check_answers::{Claim, Journal, Replay, learn};
+use dm_check_answers::{Answered, Journal, Replay};
 use dm_records::{LogLine, item_line};
 use dm_text::Lines;
 use std::alloc::{AllocError, Global};
 
 /// The rows before the first entry. Where there are several logs, what their answers claim of rows is judged first, all claims in
 /// the order of their entries: so the journal is gone over once for all logs, and not once for each.
-pub(crate) fn replay_for(
-    alloc: Global,
+pub(crate) fn replay_for<'j>(
     lines: &Lines,
-    journal: &Journal<'_>,
+    journal: Journal<'j>,
     feeds: usize,
-) -> Result<Replay, AllocError>
-    requires { IsJournal journal.now }
-    ensures { IfOk result (IsReplay journal.now) }
+) -> Result<Replay<'j>, AllocError>
+    requires { IsDay journal.day }
+    ensures { IfOk result (λ r. r.journal ≡ value_of journal.entry) }
 {
-    let mut replay = match Replay::new(alloc, journal) {
+    let mut replay = match Replay::new(journal) {
         Ok(replay) => replay,
         Err(AllocError) => return Err(AllocError),
     };
     if feeds < 2 {
         return Ok(replay);
     }
-    let claims = match claims_in(alloc, journal.version, lines.left()) {
+    let claims = match claims_in(journal.day.alloc, journal.day.version, lines.left()) {
         Ok(claims) => claims,
         Err(AllocError) => return Err(AllocError),
     };
-    match learn(alloc, journal, &mut replay, claims) {
+    match replay.learn(claims) {
         Ok(()) => Ok(replay),
         Err(AllocError) => Err(AllocError),
     }
 }
 
 /// What the lines of a text claim of rows, in order, where they are answers. Nothing is promised of how many are found.
-fn claims_in(alloc: Global, version: u32, text: &[u8]) -> Result<Vec<Claim>, AllocError>
-    ensures { IfOk result (λ claims. All IsSaidClaim claims.items) }
+fn claims_in(alloc: Global, version: u32, text: &[u8]) -> Result<Vec<Answered>, AllocError>
+    ensures { IfOk result (λ claims. All IsSpelledAnswer claims.items) }
 {
     let mut claims = Vec::new(alloc);
     for line in text.split(|byte| *byte == b'\n') {
@@ -56,10 +55,10 @@ fn with_claim(
     alloc: Global,
     version: u32,
     line: &[u8],
-    claims: Vec<Claim>,
-) -> Result<Vec<Claim>, AllocError>
-    requires { All IsSaidClaim claims.items }
-    ensures { IfOk result (λ more. All IsSaidClaim more.items) }
+    claims: Vec<Answered>,
+) -> Result<Vec<Answered>, AllocError>
+    requires { All IsSpelledAnswer claims.items }
+    ensures { IfOk result (λ more. All IsSpelledAnswer more.items) }
 {
     match claim_in(alloc, version, line) {
         Ok(Some(claim)) => pushed(claims, claim),
@@ -70,8 +69,8 @@ fn with_claim(
 
 /// What a line claims of rows, where it is an answer.
 #[tactic(auto, using(crate::proofs::Gathered::spelled_item))]
-fn claim_in(alloc: Global, version: u32, line: &[u8]) -> Result<Option<Claim>, AllocError>
-    ensures { IfOk result (λ found. IfSome found IsSaidClaim) }
+fn claim_in(alloc: Global, version: u32, line: &[u8]) -> Result<Option<Answered>, AllocError>
+    ensures { IfOk result (λ found. IfSome found IsSpelledAnswer) }
 {
     match item_line(alloc, version, line) {
         Ok(Some(item)) => Ok(claimed(item)),
@@ -80,22 +79,33 @@ fn claim_in(alloc: Global, version: u32, line: &[u8]) -> Result<Option<Claim>, A
     }
 }
 
-/// What the first line of an item claims of rows.
-fn claimed(item: LogLine) -> Option<Claim>
+/// The first line of an item, where it is an answer that claims something of rows.
+fn claimed(item: LogLine) -> Option<Answered>
     requires { IsSpelled item }
-    ensures { IfSome result IsSaidClaim }
+    ensures { IfSome result IsSpelledAnswer }
 {
     match item {
-        LogLine::Answered { said, answer, .. } => Claim::of(said, answer),
+        LogLine::Answered { said, answer, .. } => claiming(Answered { said, answer }),
         LogLine::Malformed(_) | LogLine::Planned(_) => None,
     }
 }
 
+/// The answer, where it claims something of rows.
+fn claiming(answered: Answered) -> Option<Answered>
+    requires { IsSpelledAnswer answered }
+    ensures { IfSome result IsSpelledAnswer }
+{
+    match answered.claims_at() {
+        Some(_number) => Some(answered),
+        None => None,
+    }
+}
+
 /// Claims with one more.
-fn pushed(claims: Vec<Claim>, claim: Claim) -> Result<Vec<Claim>, AllocError>
-    requires claims { All IsSaidClaim claims.items }
-    requires said { IsSaidClaim claim }
-    ensures { IfOk result (λ more. All IsSaidClaim more.items) }
+fn pushed(claims: Vec<Answered>, claim: Answered) -> Result<Vec<Answered>, AllocError>
+    requires claims { All IsSpelledAnswer claims.items }
+    requires said { IsSpelledAnswer claim }
+    ensures { IfOk result (λ more. All IsSpelledAnswer more.items) }
 {
     let mut claims = claims;
     let Ok(()) = claims.push(claim) else {

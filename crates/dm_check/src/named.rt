@@ -19,10 +19,10 @@ use dm_records::Answer;
 use dm_text::Lines;
 
 /// Flags the entry that an answer names as accepted.
-pub(crate) fn flag_named(named: &mut [bool], answer: &Answer)
-    ensures flagged { (items : List LogItem) (line : ℕ) (said : Said) → AreFlagged items named.old
-        → AreFlagged (items ++ Answered line said (reply_of answer.now) ∷ []) named.new }
-    ensures size { length named.new ≡ length named.old }
+pub(crate) fn flag_named(named: &mut Vec<bool>, answer: &Answer)
+    ensures flagged { (items : List LogItem) (line : ℕ) (said : Said) → AreFlagged items named.old.items
+        → AreFlagged (items ++ Answered line said (reply_of answer.now) ∷ []) named.new.items }
+    ensures size { length named.new.items ≡ length named.old.items }
 {
     match answer {
         Answer::Ok(n) => flag(named, *n),
@@ -32,8 +32,8 @@ pub(crate) fn flag_named(named: &mut [bool], answer: &Answer)
 }
 
 /// Flags the entry of a number, from 1.
-fn flag(named: &mut [bool], number: u32)
-    ensures { IsFlaggedAt number named.old named.new }
+fn flag(named: &mut Vec<bool>, number: u32)
+    ensures { IsFlaggedAt number named.old.items named.new.items }
 {
     if 0 < number && number as usize <= named.len() {
         named[number as usize - 1] = true;

@@ -1,57 +1,64 @@
 //! Plans as answers.
-ghost use Rattle.std.specs.Prelude.{◌≡◌, ◌<◌, List, length, true, Ok, IfOk};
+ghost use Rattle.std.specs.Prelude.{◌≡◌, ◌<◌, ◌≤◌, List, length, true, false, Ok, IfOk};
 ghost use Rattle.dm_base.specs.declared.limits.TheConstants.{PLANS};
 ghost use Rattle.dm_cert.specs.declared.replies.LogItem.{LogItem};
 ghost use Rattle.dm_cert.specs.declared.replies.Reply.TheVariants.{Planned as PlanReply};
-ghost use Rattle.dm_cert.specs.Answers.{IsTrueReply};
+ghost use Rattle.dm_cert.specs.Answers.{IsBudget, IsPlanFor, IsTrueReply};
 ghost use Rattle.dm_check_rows.specs.Claims.{Tells};
-ghost use Rattle.dm_check_answers.specs.Judging.{IsJournal, IsReplay, IsPast, setting_of, history_of};
+ghost use Rattle.dm_check_answers.specs.Judging.{IsPast, setting_of, history_of};
 
 use dm_base::limits::PLANS;
-use dm_check_answers::{Journal, Past, Replay, is_budget};
+use dm_check_answers::{Asked, Journal, Past, Replay, is_budget};
 use dm_check_plans::is_true_plan;
 use dm_feed::Line;
 use dm_tree::Plan;
-use std::alloc::{AllocError, Global};
+use std::alloc::AllocError;
+
+/// Whether a plan may be an answer: as many nodes may be asked for, the feed has not had all its plans, and there are as many
+/// entries.
+fn may_be(journal: &Journal<'_>, past: &Past, budget: u64, plan: &Plan) -> bool
+    ensures in_range { result ≡ true → IsBudget (setting_of journal.now.day) budget }
+    ensures fewer { result ≡ true → past.now.plans < PLANS }
+    ensures within { result ≡ true → plan.now.entry ≤ length (history_of journal.now) }
+    ensures never { result ≡ false → (before : List LogItem) → IsPast before past.now
+        → IsPlanFor (setting_of journal.now.day) (history_of journal.now) before budget plan.now → ⊥ }
+{
+    if !is_budget(journal, budget) {
+        return false;
+    }
+    past.plans < PLANS && plan.entry as usize <= journal.entries.len()
+}
 
 /// Whether a plan is a true answer to a feed's line, behind what stands before it in the feed's log. It is asked of each node of
 /// the plan's tree.
 pub(crate) fn is_true_plan_answer(
-    alloc: Global,
-    journal: &Journal<'_>,
-    replay: &mut Replay,
-    past: &Past,
-    feed: u32,
-    line: u32,
-    said: &Line,
+    replay: &mut Replay<'_>,
+    asked: &Asked<'_>,
     plan: &Plan,
 ) -> Result<bool, AllocError>
-    requires journal { IsJournal journal.now }
-    requires stands { IsReplay journal.now replay.old }
-    ensures tells { (before : List LogItem) → IsPast before past.now
-        → IfOk result (Tells (IsTrueReply (setting_of journal.now) (history_of journal.now) feed before line said.now
-        (PlanReply plan.now))) }
-    ensures fewer { result ≡ Ok true → past.now.plans < PLANS }
-    ensures stands { IsReplay journal.now replay.new }
+    ensures tells { (before : List LogItem) → IsPast before asked.now.past.now
+        → IfOk result (Tells (IsTrueReply replay.old.journal.setting replay.old.journal.history asked.now.feed before asked.now.line
+        asked.now.said.now (PlanReply plan.now))) }
+    ensures fewer { result ≡ Ok true → asked.now.past.now.plans < PLANS }
+    ensures same { replay.new.journal ≡ replay.old.journal }
 {
-    let Line::Plan(budget) = said else {
+    let Line::Plan(budget) = asked.said else {
         return Ok(false);
     };
-    if !is_budget(journal, *budget) {
+    let journal = replay.journal();
+    if !may_be(&journal, asked.past, *budget, plan) {
         return Ok(false);
     }
-    if past.plans >= PLANS || plan.entry as usize > journal.entries.len() {
-        return Ok(false);
-    }
-    match replay.go_to(alloc, journal, plan.entry as usize) {
+    match replay.go_to(plan.entry as usize) {
         Ok(()) => (),
         Err(AllocError) => return Err(AllocError),
     }
+    let day = journal.day;
     is_true_plan(
-        alloc,
-        journal.net,
-        journal.penalty,
-        replay.checked.rows(),
+        day.alloc,
+        day.net,
+        day.penalty,
+        replay.rows(),
         *budget,
         plan,
     )

@@ -11,7 +11,7 @@ ghost use Rattle.dm_cert.specs.declared.replies.Reply.TheVariants.{Planned as Pl
 ghost use Rattle.dm_records.specs.RunLines.{lone, planned};
 ghost use Rattle.dm_records.specs.Readings.{reply_of, opening_of};
 ghost use Rattle.dm_check_rows.specs.Claims.{Tells};
-ghost use Rattle.dm_check_answers.specs.Judging.{IsJournal, IsReplay, IsPast, setting_of, history_of};
+ghost use Rattle.dm_check_answers.specs.Judging.{IsPast};
 ghost use Rattle.dm_check.specs.FalseRecords.{IsNextItem};
 ghost use Rattle.dm_check.specs.Judged.{BehindOn, ItemOn, ItemsOn, ShowsPlan};
 
@@ -21,67 +21,56 @@ use crate::planning::is_true_plan_answer;
 use crate::told_lines::item_told;
 use crate::told_plans::block_told;
 use crate::verdicts::BadKind;
-use dm_check_answers::{Journal, Past, Replay, is_true_answer};
+use dm_check_answers::{Asked, Past, Replay};
 use dm_feed::Line;
 use dm_records::{Answer, LogLine, PlanLine};
 use dm_text::Lines;
 use dm_tree::Plan;
-use std::alloc::{AllocError, Global};
+use std::alloc::AllocError;
+
+/// What judges the logs of a text: the rows at the entries, and a flag for each entry, whether an item names it.
+#[derive(Drop)]
+pub(crate) struct Logs<'j> {
+    pub(crate) replay: Replay<'j>,
+    pub(crate) named: Vec<bool>,
+}
 
 /// Whether an answer of one line is the next item of a feed's log.
 fn is_next_answer(
-    alloc: Global,
-    journal: &Journal<'_>,
-    replay: &mut Replay,
-    past: &Past,
-    feed: u32,
-    line: u32,
-    said: &Line,
+    replay: &mut Replay<'_>,
+    asked: &Asked<'_>,
     answer: &Answer,
 ) -> Result<bool, AllocError>
-    requires journal { IsJournal journal.now }
-    requires stands { IsReplay journal.now replay.old }
-    requires said { IsSpelledLine said.now }
-    ensures tells { (before : List LogItem) → IsPast before past.now
-        → IfOk result (Tells (IsNextItem (setting_of journal.now) (history_of journal.now) feed before
-        (Answered line said.now (reply_of answer.now)))) }
-    ensures stands { IsReplay journal.now replay.new }
+    requires { IsSpelledLine asked.now.said.now }
+    ensures tells { (before : List LogItem) → IsPast before asked.now.past.now
+        → IfOk result (Tells (IsNextItem replay.old.journal.setting replay.old.journal.history asked.now.feed before
+        (Answered asked.now.line asked.now.said.now (reply_of answer.now)))) }
+    ensures same { replay.new.journal ≡ replay.old.journal }
 {
-    if !past.is_next_line(line) {
+    if !asked.past.is_next_line(asked.line) {
         return Ok(false);
     }
-    if !past.is_in_order(answer) {
+    if !asked.past.is_in_order(answer) {
         return Ok(false);
     }
-    is_true_answer(alloc, journal, replay, past, feed, line, said, answer)
+    replay.is_true_answer(asked, answer)
 }
 
 /// Whether a plan is the next item of a feed's log.
-fn is_next_plan(
-    alloc: Global,
-    journal: &Journal<'_>,
-    replay: &mut Replay,
-    past: &Past,
-    feed: u32,
-    line: u32,
-    said: &Line,
-    plan: &Plan,
-) -> Result<bool, AllocError>
-    requires journal { IsJournal journal.now }
-    requires stands { IsReplay journal.now replay.old }
-    ensures tells { (before : List LogItem) → IsPast before past.now
-        → IfOk result (Tells (IsNextItem (setting_of journal.now) (history_of journal.now) feed before
-        (Answered line said.now (PlanReply plan.now)))) }
-    ensures fewer { result ≡ Ok true → past.now.plans < PLANS }
-    ensures stands { IsReplay journal.now replay.new }
+fn is_next_plan(replay: &mut Replay<'_>, asked: &Asked<'_>, plan: &Plan) -> Result<bool, AllocError>
+    ensures tells { (before : List LogItem) → IsPast before asked.now.past.now
+        → IfOk result (Tells (IsNextItem replay.old.journal.setting replay.old.journal.history asked.now.feed before
+        (Answered asked.now.line asked.now.said.now (PlanReply plan.now)))) }
+    ensures fewer { result ≡ Ok true → asked.now.past.now.plans < PLANS }
+    ensures same { replay.new.journal ≡ replay.old.journal }
 {
-    if !past.is_next_line(line) {
+    if !asked.past.is_next_line(asked.line) {
         return Ok(false);
     }
-    if past.number > plan.entry {
+    if asked.past.number > plan.entry {
         return Ok(false);
     }
-    is_true_plan_answer(alloc, journal, replay, past, feed, line, said, plan)
+    is_true_plan_answer(replay, asked, plan)
 }
 
 /// A malformed line, as the next item.
@@ -99,168 +88,147 @@ fn malformed_told(past: &mut Past, first: u32, number: u32) -> Result<(), Stop>
     Ok(())
 }
 
-/// An answer of one line, as the next item of the log of this feed.
-fn answer_told(
-    alloc: Global,
-    journal: &Journal<'_>,
-    replay: &mut Replay,
-    past: &mut Past,
-    named: &mut [bool],
-    feed: u32,
-    first: u32,
-    number: u32,
-    said: &Line,
-    answer: &Answer,
-) -> Result<(), Stop>
-    requires journal { IsJournal journal.now }
-    requires stands { IsReplay journal.now replay.old }
-    requires said { IsSpelledLine said.now }
-    ensures tells { (before : List LogItem) (place : Place) → IsPast before past.old
-        → BehindOn (setting_of journal.now) (history_of journal.now) feed before first
-        (lone (Answered number said.now (reply_of answer.now))) place place past.new named.old named.new result }
-    ensures stands { IsReplay journal.now replay.new }
-{
-    match is_next_answer(alloc, journal, replay, past, feed, number, said, answer) {
-        Ok(true) => {
-            past.add_answer(number, answer);
-            flag_named(named, answer);
-            Ok(())
-        }
-        Ok(false) => Err(Stop::Fault(Fault {
-            line: first,
-            kind: BadKind::Reply,
-        })),
-        Err(AllocError) => Err(Stop::OutOfMemory),
-    }
-}
-
-/// The plan that an item's lines show, as the next item of the log of this feed.
-fn shown_told(
-    alloc: Global,
-    journal: &Journal<'_>,
-    replay: &mut Replay,
-    past: &mut Past,
-    feed: u32,
-    first: u32,
-    opening: &PlanLine,
-    plan: Plan,
-) -> Result<(), Stop>
-    requires journal { IsJournal journal.now }
-    requires stands { IsReplay journal.now replay.old }
-    ensures tells { (before : List LogItem) (old new : Place) (named : List Bool)
-        → ShowsPlan (setting_of journal.now).version (opening_of opening.now) old new plan → IsPast before past.old
-        → BehindOn (setting_of journal.now) (history_of journal.now) feed before first (planned (opening_of opening.now)) old new past.new
-        named named result }
-    ensures stands { IsReplay journal.now replay.new }
-{
-    let line = opening.line;
-    match is_next_plan(
-        alloc,
-        journal,
-        replay,
-        past,
-        feed,
-        line,
-        &opening.said,
-        &plan,
-    ) {
-        Ok(true) => {
-            past.add_plan(line, plan);
-            Ok(())
-        }
-        Ok(false) => Err(Stop::Fault(Fault {
-            line: first,
-            kind: BadKind::Plan,
-        })),
-        Err(AllocError) => Err(Stop::OutOfMemory),
-    }
-}
-
-/// A plan with its block, as the next item of the log of this feed.
-fn plan_told(
-    alloc: Global,
-    lines: &mut Lines,
-    journal: &Journal<'_>,
-    replay: &mut Replay,
-    past: &mut Past,
-    feed: u32,
-    first: u32,
-    opening: &PlanLine,
-) -> Result<(), Stop>
-    requires journal { IsJournal journal.now }
-    requires stands { IsReplay journal.now replay.old }
-    requires behind { 1 ≤ lines.old.line }
-    ensures tells { (before : List LogItem) (named : List Bool) → IsPast before past.old
-        → BehindOn (setting_of journal.now) (history_of journal.now) feed before first (planned (opening_of opening.now)) lines.old
-        lines.new past.new named named result }
-    ensures stands { IsReplay journal.now replay.new }
-{
-    let shown = match block_told(alloc, lines, journal.version, opening) {
-        Ok(shown) => shown,
-        Err(stop) => return Err(stop),
-    };
-    match shown {
-        Some(plan) => shown_told(alloc, journal, replay, past, feed, first, opening, plan),
-        None => Err(Stop::Fault(Fault {
-            line: first,
-            kind: BadKind::Plan,
-        })),
-    }
-}
-
-/// The next item of the log of this feed.
-fn next_item(
-    alloc: Global,
-    lines: &mut Lines,
-    journal: &Journal<'_>,
-    replay: &mut Replay,
-    past: &mut Past,
-    named: &mut [bool],
-    feed: u32,
-) -> Result<(), Stop>
-    requires journal { IsJournal journal.now }
-    requires stands { IsReplay journal.now replay.old }
-    ensures tells { (before : List LogItem) → IsPast before past.old
-        → ItemOn (setting_of journal.now) (history_of journal.now) feed before lines.old lines.new past.new named.old named.new result }
-    ensures stands { IsReplay journal.now replay.new }
-{
-    let first = lines.line();
-    let said = match item_told(alloc, lines, journal.version) {
-        Ok(said) => said,
-        Err(stop) => return Err(stop),
-    };
-    match &said {
-        LogLine::Malformed(number) => malformed_told(past, first, *number),
-        LogLine::Answered { line, said, answer } => answer_told(
-            alloc, journal, replay, past, named, feed, first, *line, said, answer,
-        ),
-        LogLine::Planned(opening) => {
-            plan_told(alloc, lines, journal, replay, past, feed, first, opening)
+impl<'j> Logs<'j> {
+    /// An answer of one line, as the next item of the log of this feed.
+    fn answer_told(
+        &mut self,
+        past: &mut Past,
+        feed: u32,
+        first: u32,
+        line: u32,
+        said: &Line,
+        answer: &Answer,
+    ) -> Result<(), Stop>
+        requires { IsSpelledLine said.now }
+        ensures tells { (before : List LogItem) (place : Place) → IsPast before past.old
+            → BehindOn self.old.replay.journal.setting self.old.replay.journal.history feed before first
+            (lone (Answered line said.now (reply_of answer.now))) place place past.new self.old.named.items self.new.named.items result }
+        ensures same { self.new.replay.journal ≡ self.old.replay.journal }
+    {
+        let asked = Asked {
+            past: &*past,
+            feed,
+            line,
+            said,
+        };
+        match is_next_answer(&mut self.replay, &asked, answer) {
+            Ok(true) => {
+                past.add_answer(line, answer);
+                flag_named(&mut self.named, answer);
+                Ok(())
+            }
+            Ok(false) => Err(Stop::Fault(Fault {
+                line: first,
+                kind: BadKind::Reply,
+            })),
+            Err(AllocError) => Err(Stop::OutOfMemory),
         }
     }
-}
 
-/// As many items of the log of this feed as are counted, and how many of them are plans.
-pub(crate) fn all_items(
-    alloc: Global,
-    lines: &mut Lines,
-    journal: &Journal<'_>,
-    replay: &mut Replay,
-    named: &mut [bool],
-    feed: u32,
-    count: u128,
-) -> Result<usize, Stop>
-    requires journal { IsJournal journal.now }
-    requires stands { IsReplay journal.now replay.old }
-    ensures tells { ItemsOn (setting_of journal.now) (history_of journal.now) feed count lines.old lines.new named.old named.new result }
-    ensures stands { IsReplay journal.now replay.new }
-{
-    let mut past = Past::new();
-    for _item in 0..count {
-        match next_item(alloc, lines, journal, replay, &mut past, named, feed) {
-            Ok(()) => (),
+    /// The plan that an item's lines show, as the next item of the log of this feed.
+    fn shown_told(
+        &mut self,
+        past: &mut Past,
+        feed: u32,
+        first: u32,
+        opening: &PlanLine,
+        plan: Plan,
+    ) -> Result<(), Stop>
+        ensures tells { (before : List LogItem) (old new : Place)
+            → ShowsPlan self.old.replay.journal.setting.version (opening_of opening.now) old new plan → IsPast before past.old
+            → BehindOn self.old.replay.journal.setting self.old.replay.journal.history feed before first (planned (opening_of opening.now))
+            old new past.new self.old.named.items self.new.named.items result }
+        ensures same { self.new.replay.journal ≡ self.old.replay.journal }
+    {
+        let line = opening.line;
+        let asked = Asked {
+            past: &*past,
+            feed,
+            line,
+            said: &opening.said,
+        };
+        match is_next_plan(&mut self.replay, &asked, &plan) {
+            Ok(true) => {
+                past.add_plan(line, plan);
+                Ok(())
+            }
+            Ok(false) => Err(Stop::Fault(Fault {
+                line: first,
+                kind: BadKind::Plan,
+            })),
+            Err(AllocError) => Err(Stop::OutOfMemory),
+        }
+    }
+
+    /// A plan with its block, as the next item of the log of this feed.
+    fn plan_told(
+        &mut self,
+        lines: &mut Lines,
+        past: &mut Past,
+        feed: u32,
+        first: u32,
+        opening: &PlanLine,
+    ) -> Result<(), Stop>
+        requires { 1 ≤ lines.old.line }
+        ensures tells { (before : List LogItem) → IsPast before past.old
+            → BehindOn self.old.replay.journal.setting self.old.replay.journal.history feed before first (planned (opening_of opening.now))
+            lines.old lines.new past.new self.old.named.items self.new.named.items result }
+        ensures same { self.new.replay.journal ≡ self.old.replay.journal }
+    {
+        let journal = self.replay.journal();
+        let shown = match block_told(journal.day.alloc, lines, journal.day.version, opening) {
+            Ok(shown) => shown,
             Err(stop) => return Err(stop),
+        };
+        match shown {
+            Some(plan) => self.shown_told(past, feed, first, opening, plan),
+            None => Err(Stop::Fault(Fault {
+                line: first,
+                kind: BadKind::Plan,
+            })),
         }
     }
-    Ok(past.plans)
+
+    /// The next item of the log of this feed.
+    fn next_item(&mut self, lines: &mut Lines, past: &mut Past, feed: u32) -> Result<(), Stop>
+        ensures tells { (before : List LogItem) → IsPast before past.old
+            → ItemOn self.old.replay.journal.setting self.old.replay.journal.history feed before lines.old lines.new past.new
+            self.old.named.items self.new.named.items result }
+        ensures same { self.new.replay.journal ≡ self.old.replay.journal }
+    {
+        let first = lines.line();
+        let journal = self.replay.journal();
+        let said = match item_told(journal.day.alloc, lines, journal.day.version) {
+            Ok(said) => said,
+            Err(stop) => return Err(stop),
+        };
+        match &said {
+            LogLine::Malformed(number) => malformed_told(past, first, *number),
+            LogLine::Answered { line, said, answer } => {
+                self.answer_told(past, feed, first, *line, said, answer)
+            }
+            LogLine::Planned(opening) => self.plan_told(lines, past, feed, first, opening),
+        }
+    }
+
+    /// As many items of the log of this feed as are counted, and how many of them are plans.
+    pub(crate) fn all_items(
+        &mut self,
+        lines: &mut Lines,
+        feed: u32,
+        count: u128,
+    ) -> Result<usize, Stop>
+        ensures tells { ItemsOn self.old.replay.journal.setting self.old.replay.journal.history feed count lines.old lines.new
+            self.old.named.items self.new.named.items result }
+        ensures same { self.new.replay.journal ≡ self.old.replay.journal }
+    {
+        let mut past = Past::new();
+        for _item in 0..count {
+            match self.next_item(lines, &mut past, feed) {
+                Ok(()) => (),
+                Err(stop) => return Err(stop),
+            }
+        }
+        Ok(past.plans)
+    }
 }

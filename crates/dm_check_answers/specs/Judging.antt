@@ -11,32 +11,47 @@ use Rattle.dm_cert.specs.declared.replies.Reply.TheVariants.{Ok, Refused, Old}
 use Rattle.dm_cert.specs.Answers.{Setting, rows_after, is_plan, latest_plan, IsEntry, IsAdopted, IsOld, HasNoRoom}
 use Rattle.dm_cert.specs.Logs.{kind_of, line_of, number_after}
 use Rattle.dm_cert.specs.PlanTexts.{IsVersion}
-use Rattle.dm_check_rows.specs.Claims.{AreCheckedRowsOf, Tells}
+use Rattle.dm_check_rows.specs.Claims.{AreCheckedRowsOf, CheckedRowsValue, Tells}
 use Rattle.dm_check_answers.specs.Claims.{IsKnown}
+use Rattle.dm_check_answers.specs.declared.journal.Day.{Day}
 use Rattle.dm_check_answers.specs.declared.journal.Journal.{Journal}
-use Rattle.dm_check_answers.specs.declared.replay.Replay.{Replay}
+use Rattle.dm_check_answers.specs.declared.known.Known.{Known}
 use Rattle.dm_check_answers.specs.declared.past.Past.{Past}
 
 -- ---- what answers are judged by
 
-abbrev pub setting_of : Journal → Setting
-setting_of j = record { net = j.net.now; start = j.start.now; penalty = j.penalty; version = j.version }
+abbrev pub setting_of : Day → Setting
+setting_of d = record { net = d.net.now; start = d.start.now; penalty = d.penalty; version = d.version }
 
 abbrev pub history_of : Journal → List Entry
 history_of j = j.entries.now
 
 -- the rows at the start are of the network, the penalty is not too large, and there is such a version
-pub record IsJournal (j : Journal) : Type 0 where
-  pub sized : IsSized j.net.now j.start.now
-  pub penalty : j.penalty ≤ PENALTY
-  pub version : IsVersion j.version
+pub record IsDay (d : Day) : Type 0 where
+  pub sized : IsSized d.net.now d.start.now
+  pub penalty : d.penalty ≤ PENALTY
+  pub version : IsVersion d.version
 
--- these are the rows after so many entries, and what is known of claims is right
-pub record IsReplay (j : Journal) (r : Replay) : Type 0 where
-  pub rows_are : r.checked.rows ≡ rows_after (setting_of j) (history_of j) r.entry
-  pub within : r.entry ≤ length (history_of j)
-  pub stands : AreCheckedRowsOf j.net.now r.checked
-  pub known : IsKnown (setting_of j) (history_of j) r.known
+-- a journal is seen as the setting and the entries
+pub record JournalValue : Type 0 where
+  pub setting : Setting
+  pub history : List Entry
+
+abbrev pub value_of : Journal → JournalValue
+value_of j = record { setting = setting_of j.day; history = history_of j }
+
+-- a replay is seen as its journal, and after how many entries its rows are
+pub record ReplayValue : Type 0 where
+  pub journal : JournalValue
+  pub entry : ℕ
+
+-- these are the rows after so many entries of a journal, and what is known of claims is right
+pub record IsReplay (j : Journal) (checked : CheckedRowsValue) (entry : ℕ) (known : Known) : Type 0 where
+  pub day : IsDay j.day
+  pub rows_are : checked.rows ≡ rows_after (setting_of j.day) (history_of j) entry
+  pub within : entry ≤ length (history_of j)
+  pub stands : AreCheckedRowsOf j.day.net.now checked
+  pub knows : IsKnown (setting_of j.day) (history_of j) known
 
 -- ---- what stands before an item of a log
 

@@ -7,9 +7,9 @@ ghost use Rattle.dm_records.specs.Readings.{reply_of, reason_of};
 ghost use Rattle.dm_check_rows.specs.Claims.{Tells};
 ghost use Rattle.dm_check_answers.specs.Judging.{IsPast, AdoptsTruly, setting_of, history_of};
 
+use crate::asked::Asked;
 use crate::journal::Journal;
 use crate::matching::is_adopted;
-use crate::past::Past;
 use dm_base::limits::ENTRIES;
 use dm_records::{Answer, Reason};
 use dm_rows::Entry;
@@ -35,18 +35,13 @@ fn has_no_room(entries: &[Entry], number: u32, why: &Reason, plan: &Plan) -> boo
 }
 
 /// Whether the answer to an adoption is true.
-pub(crate) fn is_true_of_adopt(
-    journal: &Journal<'_>,
-    past: &Past,
-    feed: u32,
-    line: u32,
-    answer: &Answer,
-) -> bool
-    ensures { (before : List LogItem) → IsPast before past.now
-        → Tells (IsTrueReply (setting_of journal.now) (history_of journal.now) feed before line AskAdopt (reply_of answer.now)) result }
+pub(crate) fn is_true_of_adopt(journal: &Journal<'_>, asked: &Asked<'_>, answer: &Answer) -> bool
+    ensures { (before : List LogItem) → IsPast before asked.now.past.now
+        → Tells (IsTrueReply (setting_of journal.now.day) (history_of journal.now) asked.now.feed before asked.now.line AskAdopt
+        (reply_of answer.now)) result }
 {
-    match &past.latest {
-        Some(plan) => is_true_of_adopted(journal.entries, feed, line, plan, answer),
+    match &asked.past.latest {
+        Some(plan) => is_true_of_adopted(journal.entries, asked.feed, asked.line, plan, answer),
         None => matches!(answer, Answer::NoPlan),
     }
 }

@@ -1,14 +1,10 @@
 //! Claims that are judged in the order of their entries, before the answers are.
-ghost use Rattle.std.specs.Prelude.{◌≡◌, length, replicate, None, All, IfOk};
-ghost use Rattle.dm_check_rows.specs.Claims.{Tells};
-ghost use Rattle.dm_check_answers.specs.Judging.{IsJournal, IsReplay, setting_of, history_of};
-ghost use Rattle.dm_check_answers.specs.Claims.{AreRightly, IsSaidClaim, IsTrueClaim};
+ghost use Rattle.std.specs.Prelude.{◌≡◌, replicate, None, All, IfOk};
+ghost use Rattle.dm_check_answers.specs.Claims.{IsKnown, IsSpelledAnswer};
 
-use crate::claims::Claim;
-use crate::journal::Journal;
+use crate::claims::Answered;
 use crate::known::Known;
 use crate::replay::Replay;
-use crate::timing::{is_cost_there, is_refused_there, is_time_there};
 use std::alloc::{AllocError, Global};
 
 /// The place of a claim, with the number of its entry.
@@ -18,31 +14,28 @@ struct Turn {
     place: usize,
 }
 
-/// Judges claims in the order of their entries, so that one walk over the journal serves all. The answers that claim so are
-/// told by these verdicts, where they come in the order of the claims. `Err` is want of memory alone.
-pub fn learn(
-    alloc: Global,
-    journal: &Journal<'_>,
-    replay: &mut Replay,
-    claims: Vec<Claim>,
-) -> Result<(), AllocError>
-    requires journal { IsJournal journal.now }
-    requires stands { IsReplay journal.now replay.old }
-    requires said { All IsSaidClaim claims.items }
-    ensures stands { IsReplay journal.now replay.new }
-{
-    let turns = turns_of(alloc, &claims)?;
-    let mut verdicts = no_verdicts(alloc, claims.len())?;
-    match judge_all(alloc, journal, replay, &claims, &turns, &mut verdicts) {
-        Ok(()) => (),
-        Err(AllocError) => return Err(AllocError),
+impl<'a> Replay<'a> {
+    /// Judges what answers claim in the order of their entries, so that one walk over the journal serves all. The answers that
+    /// claim so are told by these verdicts, where they come in the order of the claims. `Err` is want of memory alone.
+    pub fn learn(&mut self, claims: Vec<Answered>) -> Result<(), AllocError>
+        requires { All IsSpelledAnswer claims.items }
+        ensures same { self.new.journal ≡ self.old.journal }
+    {
+        let alloc = self.journal.day.alloc;
+        let turns = turns_of(alloc, &claims)?;
+        let verdicts = no_verdicts(alloc, claims.len())?;
+        let mut known = Known {
+            claims,
+            verdicts,
+            next: 0,
+        };
+        match judge_all(self, &mut known, &turns) {
+            Ok(()) => (),
+            Err(AllocError) => return Err(AllocError),
+        }
+        self.known = known;
+        Ok(())
     }
-    replay.known = Known {
-        claims,
-        verdicts,
-        next: 0,
-    };
-    Ok(())
 }
 
 /// No verdicts on so many claims.
@@ -53,37 +46,25 @@ fn no_verdicts(alloc: Global, claims: usize) -> Result<Vec<Option<bool>>, AllocE
 }
 
 /// The places of claims in the order of their entries.
-fn turns_of(alloc: Global, claims: &[Claim]) -> Result<Vec<Turn>, AllocError> {
+fn turns_of(alloc: Global, claims: &[Answered]) -> Result<Vec<Turn>, AllocError> {
     let mut turns = Vec::with_capacity(alloc, claims.len())?;
     for place in 0..claims.len() {
-        turns.push(Turn {
-            number: claims[place].number(),
-            place,
-        })?;
+        if let Some(number) = claims[place].claims_at() {
+            turns.push(Turn { number, place })?;
+        }
     }
     turns.sort_by_key(|turn| turn.number)?;
     Ok(turns)
 }
 
 /// Judges the claims whose turns these are.
-fn judge_all(
-    alloc: Global,
-    journal: &Journal<'_>,
-    replay: &mut Replay,
-    claims: &[Claim],
-    turns: &[Turn],
-    verdicts: &mut [Option<bool>],
-) -> Result<(), AllocError>
-    requires journal { IsJournal journal.now }
-    requires stands { IsReplay journal.now replay.old }
-    requires said { All IsSaidClaim claims.now }
-    requires rightly { AreRightly (setting_of journal.now) (history_of journal.now) claims.now verdicts.old }
-    ensures stands { IsReplay journal.now replay.new }
-    ensures rightly { AreRightly (setting_of journal.now) (history_of journal.now) claims.now verdicts.new }
-    ensures as_many { length verdicts.new ≡ length verdicts.old }
+fn judge_all(replay: &mut Replay<'_>, known: &mut Known, turns: &[Turn]) -> Result<(), AllocError>
+    requires { IsKnown replay.old.journal.setting replay.old.journal.history known.old }
+    ensures known { IsKnown replay.old.journal.setting replay.old.journal.history known.new }
+    ensures same { replay.new.journal ≡ replay.old.journal }
 {
     for turn in turns {
-        match judge_at(alloc, journal, replay, claims, turn.place, verdicts) {
+        match judge_at(replay, known, turn.place) {
             Ok(()) => (),
             Err(AllocError) => return Err(AllocError),
         }
@@ -92,55 +73,20 @@ fn judge_all(
 }
 
 /// Judges the claim at a place.
-fn judge_at(
-    alloc: Global,
-    journal: &Journal<'_>,
-    replay: &mut Replay,
-    claims: &[Claim],
-    place: usize,
-    verdicts: &mut [Option<bool>],
-) -> Result<(), AllocError>
-    requires journal { IsJournal journal.now }
-    requires stands { IsReplay journal.now replay.old }
-    requires said { All IsSaidClaim claims.now }
-    requires rightly { AreRightly (setting_of journal.now) (history_of journal.now) claims.now verdicts.old }
-    ensures stands { IsReplay journal.now replay.new }
-    ensures rightly { AreRightly (setting_of journal.now) (history_of journal.now) claims.now verdicts.new }
-    ensures as_many { length verdicts.new ≡ length verdicts.old }
+fn judge_at(replay: &mut Replay<'_>, known: &mut Known, place: usize) -> Result<(), AllocError>
+    requires { IsKnown replay.old.journal.setting replay.old.journal.history known.old }
+    ensures known { IsKnown replay.old.journal.setting replay.old.journal.history known.new }
+    ensures same { replay.new.journal ≡ replay.old.journal }
 {
-    let Some(claim) = claims.get(place) else {
+    let Some(claim) = known.claims.get(place) else {
         return Ok(());
     };
-    let is_true = match is_true_claim(alloc, journal, replay, claim) {
+    let is_true = match replay.is_true_claim(&claim.said, &claim.answer) {
         Ok(is_true) => is_true,
         Err(AllocError) => return Err(AllocError),
     };
-    if place < verdicts.len() {
-        verdicts[place] = Some(is_true);
+    if place < known.verdicts.len() {
+        known.verdicts[place] = Some(is_true);
     }
     Ok(())
-}
-
-/// Whether a claim is true.
-fn is_true_claim(
-    alloc: Global,
-    journal: &Journal<'_>,
-    replay: &mut Replay,
-    claim: &Claim,
-) -> Result<bool, AllocError>
-    requires journal { IsJournal journal.now }
-    requires stands { IsReplay journal.now replay.old }
-    requires said { IsSaidClaim claim.now }
-    ensures tells { IfOk result (Tells (IsTrueClaim (setting_of journal.now) (history_of journal.now) claim.now)) }
-    ensures stands { IsReplay journal.now replay.new }
-{
-    match claim {
-        Claim::Time(number, event, time) => {
-            is_time_there(alloc, journal, replay, *number, *event, *time)
-        }
-        Claim::Cost(number, cost) => is_cost_there(alloc, journal, replay, *number, *cost),
-        Claim::Refused(number, message, why) => {
-            is_refused_there(alloc, journal, replay, *number, message, why)
-        }
-    }
 }

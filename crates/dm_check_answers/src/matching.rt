@@ -1,37 +1,31 @@
 //! Whether an entry is what an answer says that it is.
-ghost use Rattle.std.specs.Prelude.{◌≡◌};
+ghost use Rattle.std.specs.Prelude.{◌≡◌, true};
 ghost use Rattle.dm_rows.specs.declared.messages.Message.TheVariants.{Adopt};
 ghost use Rattle.dm_cert.specs.Answers.{IsEntry, IsAdopted};
 ghost use Rattle.dm_check_rows.specs.Claims.{Tells};
 ghost use Rattle.dm_check_answers.specs.Judging.{IsEntryAt};
 
+use crate::claims::Answered;
 use dm_base::ActId;
-use dm_records::Reason;
+use dm_feed::Line;
+use dm_records::{Answer, Reason};
 use dm_rows::{Decision, Entry, Message};
 use dm_tree::Plan;
 
 /// Whether two decisions are one.
-pub(crate) fn is_decision(one: Decision, other: Decision) -> bool
+fn is_decision(one: Decision, other: Decision) -> bool
     ensures { Tells (one ≡ other) result }
 {
-    match one {
-        Decision::Keep(a) => match other {
-            Decision::Keep(b) => a.0 == b.0,
-            _ => false,
-        },
-        Decision::Drop(a) => match other {
-            Decision::Drop(b) => a.0 == b.0,
-            _ => false,
-        },
-        Decision::First(i, j) => match other {
-            Decision::First(k, l) => i.0 == k.0 && j.0 == l.0,
-            _ => false,
-        },
+    match (one, other) {
+        (Decision::Keep(a), Decision::Keep(b)) => a.0 == b.0,
+        (Decision::Drop(a), Decision::Drop(b)) => a.0 == b.0,
+        (Decision::First(i, j), Decision::First(k, l)) => i.0 == k.0 && j.0 == l.0,
+        _ => false,
     }
 }
 
 /// Whether two lists of decisions are one.
-pub(crate) fn are_decisions(one: &[Decision], other: &[Decision]) -> bool
+fn are_decisions(one: &[Decision], other: &[Decision]) -> bool
     ensures { Tells (one.now ≡ other.now) result }
 {
     if one.len() != other.len() {
@@ -46,46 +40,22 @@ pub(crate) fn are_decisions(one: &[Decision], other: &[Decision]) -> bool
 }
 
 /// Whether two messages are one.
-pub(crate) fn is_message(one: &Message, other: &Message) -> bool
+fn is_message(one: &Message, other: &Message) -> bool
     ensures { Tells (one.now ≡ other.now) result }
 {
-    match one {
-        Message::DelayEvent(e, d) => match other {
-            Message::DelayEvent(f, c) => e.0 == f.0 && *d == *c,
-            _ => false,
-        },
-        Message::DelayActivity(a, d) => match other {
-            Message::DelayActivity(b, c) => a.0 == b.0 && *d == *c,
-            _ => false,
-        },
-        Message::Pass(e, t) => match other {
-            Message::Pass(f, u) => e.0 == f.0 && *t == *u,
-            _ => false,
-        },
-        Message::Recall(e) => match other {
-            Message::Recall(f) => e.0 == f.0,
-            _ => false,
-        },
-        Message::Keep(a) => match other {
-            Message::Keep(b) => a.0 == b.0,
-            _ => false,
-        },
-        Message::Drop(a) => match other {
-            Message::Drop(b) => a.0 == b.0,
-            _ => false,
-        },
-        Message::First(i, j) => match other {
-            Message::First(k, l) => i.0 == k.0 && j.0 == l.0,
-            _ => false,
-        },
-        Message::Adopt(decisions) => match other {
-            Message::Adopt(others) => are_decisions(decisions.as_slice(), others.as_slice()),
-            _ => false,
-        },
-        Message::Now(t) => match other {
-            Message::Now(u) => *t == *u,
-            _ => false,
-        },
+    match (one, other) {
+        (Message::DelayEvent(e, d), Message::DelayEvent(f, c)) => e.0 == f.0 && *d == *c,
+        (Message::DelayActivity(a, d), Message::DelayActivity(b, c)) => a.0 == b.0 && *d == *c,
+        (Message::Pass(e, t), Message::Pass(f, u)) => e.0 == f.0 && *t == *u,
+        (Message::Recall(e), Message::Recall(f)) => e.0 == f.0,
+        (Message::Keep(a), Message::Keep(b)) => a.0 == b.0,
+        (Message::Drop(a), Message::Drop(b)) => a.0 == b.0,
+        (Message::First(i, j), Message::First(k, l)) => i.0 == k.0 && j.0 == l.0,
+        (Message::Adopt(decisions), Message::Adopt(others)) => {
+            are_decisions(decisions.as_slice(), others.as_slice())
+        }
+        (Message::Now(t), Message::Now(u)) => *t == *u,
+        _ => false,
     }
 }
 
@@ -112,47 +82,52 @@ fn are_ids(one: &[ActId], other: &[ActId]) -> bool
 }
 
 /// Whether two reasons are one.
-pub(crate) fn is_reason(one: &Reason, other: &Reason) -> bool
+fn is_reason(one: &Reason, other: &Reason) -> bool
     ensures { Tells (one.now ≡ other.now) result }
 {
-    match one {
-        Reason::Range(v) => match other {
-            Reason::Range(w) => *v == *w,
-            _ => false,
-        },
-        Reason::UnknownEvent(e) => match other {
-            Reason::UnknownEvent(f) => e.0 == f.0,
-            _ => false,
-        },
-        Reason::UnknownActivity(a) => match other {
-            Reason::UnknownActivity(b) => a.0 == b.0,
-            _ => false,
-        },
-        Reason::UnknownChange(a) => match other {
-            Reason::UnknownChange(b) => a.0 == b.0,
-            _ => false,
-        },
-        Reason::UnknownPair(i, j) => match other {
-            Reason::UnknownPair(k, l) => i.0 == k.0 && j.0 == l.0,
-            _ => false,
-        },
-        Reason::Passed(e, t) => match other {
-            Reason::Passed(f, u) => e.0 == f.0 && *t == *u,
-            _ => false,
-        },
-        Reason::NotPassed(e) => match other {
-            Reason::NotPassed(f) => e.0 == f.0,
-            _ => false,
-        },
-        Reason::Back(v) => match other {
-            Reason::Back(w) => *v == *w,
-            _ => false,
-        },
-        Reason::Cycle(ids) => match other {
-            Reason::Cycle(others) => are_ids(ids.as_slice(), others.as_slice()),
-            _ => false,
-        },
-        Reason::Full => matches!(other, Reason::Full),
+    match (one, other) {
+        (Reason::Range(v), Reason::Range(w)) => *v == *w,
+        (Reason::UnknownEvent(e), Reason::UnknownEvent(f)) => e.0 == f.0,
+        (Reason::UnknownActivity(a), Reason::UnknownActivity(b)) => a.0 == b.0,
+        (Reason::UnknownChange(a), Reason::UnknownChange(b)) => a.0 == b.0,
+        (Reason::UnknownPair(i, j), Reason::UnknownPair(k, l)) => i.0 == k.0 && j.0 == l.0,
+        (Reason::Passed(e, t), Reason::Passed(f, u)) => e.0 == f.0 && *t == *u,
+        (Reason::NotPassed(e), Reason::NotPassed(f)) => e.0 == f.0,
+        (Reason::Back(v), Reason::Back(w)) => *v == *w,
+        (Reason::Cycle(ids), Reason::Cycle(others)) => are_ids(ids.as_slice(), others.as_slice()),
+        (Reason::Full, Reason::Full) => true,
+        _ => false,
+    }
+}
+
+/// Whether a claim is this answer to this line.
+pub(crate) fn is_claim(claim: &Answered, said: &Line, answer: &Answer) -> bool
+    ensures { result ≡ true → claim.now ≡ record { said = said.now; answer = answer.now } }
+{
+    is_claim_of(&claim.said, said) && is_claimed(&claim.answer, answer)
+}
+
+/// Whether two lines are one, where they say a message or ask for a time or the cost; no other is compared.
+fn is_claim_of(one: &Line, other: &Line) -> bool
+    ensures { result ≡ true → one.now ≡ other.now }
+{
+    match (one, other) {
+        (Line::Say(m), Line::Say(n)) => is_message(m, n),
+        (Line::Time(e), Line::Time(f)) => e.0 == f.0,
+        (Line::CostNow, Line::CostNow) => true,
+        _ => false,
+    }
+}
+
+/// Whether two answers are one, where they tell a refusal, a time or a cost; no other is compared.
+fn is_claimed(one: &Answer, other: &Answer) -> bool
+    ensures { result ≡ true → one.now ≡ other.now }
+{
+    match (one, other) {
+        (Answer::Refused(n, w), Answer::Refused(m, v)) => *n == *m && is_reason(w, v),
+        (Answer::Time(n, t), Answer::Time(m, u)) => *n == *m && *t == *u,
+        (Answer::Cost(n, c), Answer::Cost(m, d)) => *n == *m && *c == *d,
+        _ => false,
     }
 }
 

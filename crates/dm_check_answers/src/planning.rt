@@ -7,8 +7,8 @@ ghost use Rattle.dm_records.specs.Readings.{reply_of};
 ghost use Rattle.dm_check_rows.specs.Claims.{Tells};
 ghost use Rattle.dm_check_answers.specs.Judging.{IsPast, setting_of, history_of};
 
+use crate::asked::Asked;
 use crate::journal::Journal;
-use crate::past::Past;
 use dm_base::limits::{BUDGET, PLANS};
 use dm_records::Answer;
 
@@ -17,10 +17,10 @@ const FIRST_BUDGET: u64 = 4_096;
 
 /// Whether a plan may be asked to have so many nodes.
 pub fn is_budget(journal: &Journal<'_>, budget: u64) -> bool
-    ensures within { result ≡ true → IsBudget (setting_of journal.now) budget }
-    ensures beyond { result ≡ false → IsOutOfRange (setting_of journal.now) budget }
+    ensures within { result ≡ true → IsBudget (setting_of journal.now.day) budget }
+    ensures beyond { result ≡ false → IsOutOfRange (setting_of journal.now.day) budget }
 {
-    let most = if journal.version == 1 {
+    let most = if journal.day.version == 1 {
         FIRST_BUDGET
     } else {
         BUDGET
@@ -31,20 +31,18 @@ pub fn is_budget(journal: &Journal<'_>, budget: u64) -> bool
 /// Whether the answer to a question for a plan is true, where it is no plan.
 pub(crate) fn is_true_of_plan(
     journal: &Journal<'_>,
-    past: &Past,
-    feed: u32,
-    line: u32,
+    asked: &Asked<'_>,
     budget: u64,
     answer: &Answer,
 ) -> bool
-    ensures { (before : List LogItem) → IsPast before past.now
-        → Tells (IsTrueReply (setting_of journal.now) (history_of journal.now) feed before line (AskPlan budget) (reply_of answer.now))
-        result }
+    ensures { (before : List LogItem) → IsPast before asked.now.past.now
+        → Tells (IsTrueReply (setting_of journal.now.day) (history_of journal.now) asked.now.feed before asked.now.line (AskPlan budget)
+        (reply_of answer.now)) result }
 {
     let is_budget = is_budget(journal, budget);
     match answer {
         Answer::Range(said) => !is_budget && *said == budget as u128,
-        Answer::Plans => is_budget && past.plans == PLANS,
+        Answer::Plans => is_budget && asked.past.plans == PLANS,
         _ => false,
     }
 }

@@ -1,61 +1,83 @@
 //! The rows at the entries of a journal.
-ghost use Rattle.std.specs.Prelude.{◌≡◌, ◌+◌, ◌<◌, ◌≤◌, length, IfOk, OnOk, OnErr};
+ghost use Rattle.std.specs.Prelude.{◌≡◌, ◌+◌, ◌<◌, ◌≤◌, true, false, length, Ok, IfOk, OnOk, OnErr};
+ghost use Rattle.dm_rows.specs.Rows.{IsSized};
 ghost use Rattle.dm_cert.specs.Answers.{rows_after};
 ghost use Rattle.dm_check_rows.specs.Claims.{AreCheckedRowsOf};
-ghost use Rattle.dm_check_answers.specs.Judging.{IsJournal, IsReplay, setting_of, history_of};
+ghost use Rattle.dm_check_answers.specs.Judging.{IsDay, setting_of, history_of, value_of};
 
 use crate::journal::Journal;
 use crate::known::Known;
 use dm_check_rows::CheckedRows;
-use std::alloc::{AllocError, Global};
+use dm_rows::Rows;
+use std::alloc::AllocError;
+use std::marker::Model;
 
-/// The rows after so many entries, and their times, with the claims of such rows whose truth is known.
+/// The rows after so many entries of a journal, and their times, with the claims of such rows whose truth is known.
 #[derive(Drop)]
-pub struct Replay {
-    pub checked: CheckedRows,
-    pub entry: usize,
-    pub known: Known,
+pub struct Replay<'a> {
+    pub(crate) journal: Journal<'a>,
+    pub(crate) checked: CheckedRows,
+    entry: usize,
+    pub(crate) known: Known,
 }
 
-impl Replay {
+impl<'a> Model for Replay<'a> {
+    ghost use Rattle.dm_check_answers.specs.Judging.{ReplayValue, IsReplay, value_of};
+
+    ghost Value = { ReplayValue };
+
+    ghost view = { λ r. record { journal = value_of r.journal; entry = r.entry } };
+
+    ghost invariant = { λ r. IsReplay r.journal r.checked r.entry r.known };
+}
+
+impl<'a> Replay<'a> {
     /// The rows before the first entry. `Err` is want of memory alone.
-    pub fn new(alloc: Global, journal: &Journal<'_>) -> Result<Replay, AllocError>
-        requires { IsJournal journal.now }
-        ensures { IfOk result (IsReplay journal.now) }
+    pub fn new(journal: Journal<'a>) -> Result<Replay<'a>, AllocError>
+        requires { IsDay journal.day }
+        ensures { IfOk result (λ r. r.journal ≡ value_of journal.entry) }
     {
-        let Ok(rows) = journal.start.copy() else {
-            return Err(AllocError);
-        };
-        let Ok(checked) = CheckedRows::new(alloc, journal.net, rows) else {
-            return Err(AllocError);
+        let checked = match journal.day.rows() {
+            Ok(checked) => checked,
+            Err(AllocError) => return Err(AllocError),
         };
         Ok(Replay {
+            journal,
             checked,
             entry: 0,
-            known: Known::none(alloc),
+            known: Known::none(journal.day.alloc),
         })
+    }
+
+    /// The journal that it goes over.
+    pub fn journal(&self) -> Journal<'a>
+        ensures value { value_of result ≡ self.now.journal }
+        ensures version { result.day.version ≡ self.now.journal.setting.version }
+        ensures day { IsDay result.day }
+    {
+        self.journal
+    }
+
+    /// The rows where it stands.
+    pub fn rows(&self) -> &Rows
+        ensures rows { result.now ≡ rows_after self.now.journal.setting self.now.journal.history self.now.entry }
+        ensures sized { IsSized self.now.journal.setting.net result.now }
+    {
+        self.checked.rows()
     }
 
     /// Goes to the rows after so many entries. They are gone over from where it stands, and from the first one where that
     /// is behind. Only an `Adopt` takes memory.
-    pub fn go_to(
-        &mut self,
-        alloc: Global,
-        journal: &Journal<'_>,
-        entry: usize,
-    ) -> Result<(), AllocError>
-        requires journal { IsJournal journal.now }
-        requires stands { IsReplay journal.now self.old }
-        requires within { entry ≤ length (history_of journal.now) }
-        ensures stands { IsReplay journal.now self.new }
+    pub fn go_to(&mut self, entry: usize) -> Result<(), AllocError>
+        requires within { entry ≤ length self.old.journal.history }
+        ensures same { self.new.journal ≡ self.old.journal }
         ensures there { OnOk result (self.new.entry ≡ entry) }
     {
         if entry < self.entry {
-            self.checked.go_to(journal.net, journal.start);
-            self.entry = 0;
+            self.begin_again();
         }
         while self.entry < entry {
-            match self.step(alloc, journal) {
+            match self.step() {
                 Ok(()) => (),
                 Err(AllocError) => return Err(AllocError),
             }
@@ -63,15 +85,23 @@ impl Replay {
         Ok(())
     }
 
+    /// Goes to the rows before the first entry.
+    fn begin_again(&mut self)
+        ensures same { self.new.journal ≡ self.old.journal }
+        ensures there { self.new.entry ≡ 0 }
+    {
+        self.checked
+            .go_to(self.journal.day.net, self.journal.day.start);
+        self.entry = 0;
+    }
+
     /// Goes over one entry. `Err` is want of memory alone.
-    fn step(&mut self, alloc: Global, journal: &Journal<'_>) -> Result<(), AllocError>
-        requires journal { IsJournal journal.now }
-        requires stands { IsReplay journal.now self.old }
-        requires more { self.old.entry < length (history_of journal.now) }
-        ensures stands { IsReplay journal.now self.new }
+    fn step(&mut self) -> Result<(), AllocError>
+        requires more { self.old.entry < length self.old.journal.history }
+        ensures same { self.new.journal ≡ self.old.journal }
         ensures on { OnOk result (self.new.entry ≡ self.old.entry + 1) }
     {
-        match enter_next(alloc, journal, &mut self.checked, self.entry) {
+        match enter_next(&self.journal, &mut self.checked, self.entry) {
             Ok(()) => {
                 self.entry += 1;
                 Ok(())
@@ -79,23 +109,42 @@ impl Replay {
             Err(AllocError) => Err(AllocError),
         }
     }
+
+    /// Goes to the rows after so many entries, where there are so many. The answer is whether there are.
+    pub(crate) fn reach(&mut self, number: u32) -> Result<bool, AllocError>
+        ensures same { self.new.journal ≡ self.old.journal }
+        ensures there { result ≡ Ok true → self.new.entry ≡ number }
+        ensures past { result ≡ Ok false → length self.old.journal.history < number }
+    {
+        let number = number as usize;
+        if number > self.journal.entries.len() {
+            return Ok(false);
+        }
+        match self.go_to(number) {
+            Ok(()) => Ok(true),
+            Err(AllocError) => Err(AllocError),
+        }
+    }
 }
 
 /// Makes the rows those after the next entry. An accepted message is refused for want of memory alone.
 fn enter_next(
-    alloc: Global,
     journal: &Journal<'_>,
     checked: &mut CheckedRows,
     entry: usize,
 ) -> Result<(), AllocError>
-    requires stands { AreCheckedRowsOf journal.now.net.now checked.old }
-    requires rows_are { checked.old.rows ≡ rows_after (setting_of journal.now) (history_of journal.now) entry }
+    requires stands { AreCheckedRowsOf journal.now.day.net.now checked.old }
+    requires rows_are { checked.old.rows ≡ rows_after (setting_of journal.now.day) (history_of journal.now) entry }
     requires more { entry < length (history_of journal.now) }
-    ensures stands { AreCheckedRowsOf journal.now.net.now checked.new }
-    ensures on { OnOk result (checked.new.rows ≡ rows_after (setting_of journal.now) (history_of journal.now) (entry + 1)) }
+    ensures stands { AreCheckedRowsOf journal.now.day.net.now checked.new }
+    ensures on { OnOk result (checked.new.rows ≡ rows_after (setting_of journal.now.day) (history_of journal.now) (entry + 1)) }
     ensures same { OnErr result (checked.new.rows ≡ checked.old.rows) }
 {
-    match checked.enter(alloc, journal.net, &journal.entries[entry].message) {
+    match checked.enter(
+        journal.day.alloc,
+        journal.day.net,
+        &journal.entries[entry].message,
+    ) {
         Ok(()) => Ok(()),
         Err(_) => Err(AllocError),
     }

@@ -1,6 +1,6 @@
 use Rattle.std.specs.Prelude.{All}
-use Rattle.dm_check_answers.specs.Claims.{IsSaidClaim}
+use Rattle.dm_check_answers.specs.Claims.{IsSpelledAnswer}
 use Rattle.dm_check.proofs.gathering.claims_in.Given as goal
 
 abbrev pub invariant-loop-line : goal.invariant-loop-line
-invariant-loop-line l = All IsSaidClaim l.claims.items
+invariant-loop-line l = All IsSpelledAnswer l.claims.items
