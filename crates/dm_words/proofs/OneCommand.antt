@@ -4,11 +4,11 @@ use Rattle.std.specs.Char.{IsAsciiDigit}
 use Rattle.dm_lintim.specs.Columns.{FileColumns, ReadsFileColumns}
 use Rattle.dm_lintim.specs.declared.columns.ColumnFault.{ColumnFault}
 use Rattle.dm_lintim.proofs.WordLemmas.{columns_one}
-use Rattle.dm_words.specs.Options.{GivesOption}
+use Rattle.dm_words.specs.Options.{GivesOption, penalty_option, batch_option, boards_option, event_columns_option, activity_columns_option, event_delays_option, activity_delays_option, at_option}
 use Rattle.dm_words.specs.Stops.{AreBoards}
-use Rattle.dm_words.specs.Values.{HasNumber, IsNumber, IsNumberOr}
-use Rattle.dm_words.specs.Words.{Command, FilesAsked, RunAsked, CheckAsked, GenAsked, QueryAsked, RunOf, CheckOf, GenOf, QueryOf, Asks, AsksFiles, AsksRun, AsksCheck, AsksGen, AsksQuery, HasBoards, event_words, activity_words}
-use Rattle.dm_words.specs.Queries.{AsksJourney, AsksOwn, AsksRules, AsksWindow, HasEntry, IsEntryOrNone, IsRule, kind_of, word_of}
+use Rattle.dm_words.specs.Values.{IsNumber, IsNumberOr}
+use Rattle.dm_words.specs.Words.{Command, FilesAsked, RunAsked, CheckAsked, GenAsked, QueryAsked, RunOf, CheckOf, GenOf, QueryOf, Asks, AsksFiles, AsksRun, AsksCheck, AsksGen, AsksQuery, IsPenalty, IsBatch, HasBoards, event_words, activity_words}
+use Rattle.dm_words.specs.Queries.{AsksJourney, AsksOwn, AsksRules, AsksWindow, HasEntry, HasNumber, IsEntryOrNone, IsRule, kind_of, word_of}
 use Rattle.dm_words.specs.declared.options.QueryKind.{QueryKind}
 use Rattle.dm_words.specs.declared.options.QueryKind.TheVariants as kind
 use Rattle.dm_words.specs.declared.queries.JourneyWords.{JourneyWords}
@@ -19,7 +19,6 @@ use Rattle.dm_words.specs.declared.queries.RulesWords.{RulesWords}
 use Rattle.dm_words.specs.declared.queries.RuleWord.{RuleWord}
 use Rattle.dm_words.specs.declared.queries.RuleWord.TheVariants.{Never, Always, AtMost}
 use Rattle.dm_words.proofs.Stopping.{spell_one}
-use Rattle.dm_words.specs.declared.options.TheConstants.{ACTIVITY_COLUMNS, ACTIVITY_DELAYS, AT_OPTION, BOARDS_OPTION, EVENT_COLUMNS, EVENT_DELAYS}
 
 given_one : (option : List ℕ) (words : List (List ℕ)) (a b : Option (List ℕ)) → GivesOption option words a → GivesOption option words b → a ≡ b
 given_one option words None None p q = refl
@@ -34,6 +33,16 @@ number_or_one : (given : Option (List ℕ)) (least most standard a b : ℕ) → 
 number_or_one None least most standard a b p q = p ∙ sym q
 number_or_one (Some text) least most standard a b p q = number_one text least most a b p q
 
+penalty_one : (words : List (List ℕ)) (a b : ℕ) → IsPenalty words a → IsPenalty words b → a ≡ b
+penalty_one words a b p q =
+    let same = given_one penalty_option words p.value q.value p.given q.given in
+    number_or_one q.value _ _ _ a b (subst (λ (v : Option (List ℕ)). IsNumberOr v _ _ _ a) same p.is) q.is
+
+batch_one : (words : List (List ℕ)) (a b : ℕ) → IsBatch words a → IsBatch words b → a ≡ b
+batch_one words a b p q =
+    let same = given_one batch_option words p.value q.value p.given q.given in
+    number_or_one q.value _ _ _ a b (subst (λ (v : Option (List ℕ)). IsNumberOr v _ _ _ a) same p.is) q.is
+
 -- an option gives one number
 option_one : (option : List ℕ) (least most standard : ℕ) (words : List (List ℕ)) (a b : ℕ) → HasNumber option least most standard words a → HasNumber option least most standard words b → a ≡ b
 option_one option least most standard words a b p q =
@@ -46,7 +55,7 @@ stops_one (Some text) a b p q = spell_one _ a b p.spelled q.spelled
 
 boards_one : (words : List (List ℕ)) (a b : List ℕ) → HasBoards words a → HasBoards words b → a ≡ b
 boards_one words a b p q =
-    let same = given_one BOARDS_OPTION.now words p.value q.value p.given q.given in
+    let same = given_one boards_option words p.value q.value p.given q.given in
     stops_one q.value a b (subst (λ (v : Option (List ℕ)). AreBoards v a) same p.are) q.are
 
 abbrev columns_read : FileColumns → Result FileColumns ColumnFault
@@ -74,14 +83,14 @@ files_are x y folder penalty columns events activities =
 
 files_one : (words : List (List ℕ)) (x y : FilesAsked) → x.folder ≡ y.folder → AsksFiles words x → AsksFiles words y → x ≡ y
 files_one words x y folder p q =
-    let events = given_one EVENT_COLUMNS.now words p.events q.events p.gives_events q.gives_events in
-    let activities = given_one ACTIVITY_COLUMNS.now words p.activities q.activities p.gives_activities q.gives_activities in
+    let events = given_one event_columns_option words p.events q.events p.gives_events q.gives_events in
+    let activities = given_one activity_columns_option words p.activities q.activities p.gives_activities q.gives_activities in
     let columns = columns_one (event_words q.events) (activity_words q.activities) (Ok x.columns) (Ok y.columns)
     (subst (λ (a : Option (List ℕ)). ReadsFileColumns (event_words q.events) (activity_words a) (Ok x.columns)) activities
     (subst (λ (e : Option (List ℕ)). ReadsFileColumns (event_words e) (activity_words p.activities) (Ok x.columns)) events p.are_columns)) q.are_columns in
-    files_are x y folder (option_one _ _ _ _ words x.penalty y.penalty p.penalty q.penalty) (read_is x.columns y.columns columns)
-    (given_one EVENT_DELAYS.now words x.event_delays y.event_delays p.gives_event_delays q.gives_event_delays)
-    (given_one ACTIVITY_DELAYS.now words x.activity_delays y.activity_delays p.gives_activity_delays q.gives_activity_delays)
+    files_are x y folder (penalty_one words x.penalty y.penalty p.penalty q.penalty) (read_is x.columns y.columns columns)
+    (given_one event_delays_option words x.event_delays y.event_delays p.gives_event_delays q.gives_event_delays)
+    (given_one activity_delays_option words x.activity_delays y.activity_delays p.gives_activity_delays q.gives_activity_delays)
 
 run_is : (x y : RunAsked) → x.files ≡ y.files → x.feeds ≡ y.feeds → x.batch ≡ y.batch → x.workers ≡ y.workers → x.boards ≡ y.boards → x ≡ y
 run_is x y files feeds batch workers boards =
@@ -95,7 +104,7 @@ run_one : (words : List (List ℕ)) (x y : RunAsked) → AsksRun words x → Ask
 run_one words x y p q =
     let names = sym p.names ∙ q.names in
     run_is x y (files_one words x.files y.files (first_name x.files.folder y.files.folder x.feeds y.feeds names) p.files q.files)
-    (later_names x.files.folder y.files.folder x.feeds y.feeds names) (option_one _ _ _ _ words x.batch y.batch p.batch q.batch)
+    (later_names x.files.folder y.files.folder x.feeds y.feeds names) (batch_one words x.batch y.batch p.batch q.batch)
     (option_one _ _ _ _ words x.workers y.workers p.workers q.workers) (boards_one words x.boards y.boards p.boards q.boards)
 
 check_is : (x y : CheckAsked) → x.files ≡ y.files → x.text ≡ y.text → x ≡ y
@@ -119,7 +128,7 @@ gen_one words x y p q =
     let trains = second_name p.number p.trains q.number q.trains names in
     gen_is x y (number_one q.number _ _ x.number y.number (subst (λ (t : List ℕ). IsNumber t _ _ x.number) number p.is_number) q.is_number)
     (number_one q.trains _ _ x.trains y.trains (subst (λ (t : List ℕ). IsNumber t _ _ x.trains) trains p.are_trains) q.are_trains)
-    (option_one _ _ _ _ words x.penalty y.penalty p.penalty q.penalty)
+    (penalty_one words x.penalty y.penalty p.penalty q.penalty)
 
 -- words that begin otherwise are not one word
 pub differ : (a b word : List ℕ) → word ≡ a → word ≡ b → eqb (get_or a 0 0) (get_or b 0 0) ≡ false → ⊥
@@ -165,7 +174,7 @@ entry_or_one (Some text) (Some a) (Some b) p q = ap Some (number_one text _ _ a 
 
 entry_one : (words : List (List ℕ)) (a b : Option ℕ) → HasEntry words a → HasEntry words b → a ≡ b
 entry_one words a b p q =
-    let same = given_one AT_OPTION.now words p.value q.value p.given q.given in
+    let same = given_one at_option words p.value q.value p.given q.given in
     entry_or_one q.value a b (subst (λ (v : Option (List ℕ)). IsEntryOrNone v a) same p.is) q.is
 
 abbrev window_of : ℕ → ℕ → ℕ → Option ℕ → WindowWords

@@ -2,28 +2,58 @@
 --
 -- An option is a word `--NAME=VALUE`, wherever it stands after the command word. Each name stands at most once, and no
 -- value is empty.
-use Rattle.std.specs.Prelude.{ℕ, ◌≡◌, ◌≢◌, Bool, false, not, ◌==◌, if◌then◌else◌, List, [], ◌∷◌, take, drop, length, Option, Some, None, is_some}
+use Rattle.std.specs.Prelude.{ℕ, ◌≡◌, ◌≢◌, Bool, false, not, ◌==◌, if◌then◌else◌, List, [], ◌∷◌, take, drop, length, Option, Some, None, is_some, codes}
 use Rattle.std.specs.List.{filter_map, list_any}
 use Rattle.std.specs.Str.{bytes_eq}
 use Rattle.dm_words.specs.declared.options.Kind.{Kind}
 use Rattle.dm_words.specs.declared.options.Kind.TheVariants.{Run, Check, Gen, Query}
 use Rattle.dm_words.specs.declared.options.QueryKind.TheVariants.{Follow, Window, Rules, Journey}
-use Rattle.dm_words.specs.declared.options.TheConstants.{ACTIVITY_COLUMNS, ACTIVITY_DELAYS, AT_OPTION, BATCH_OPTION, BOARDS_OPTION, CHANGES_OPTION, EVENT_COLUMNS, EVENT_DELAYS, PENALTY_OPTION, WORKERS_OPTION}
+
+-- how the word of each option begins
+abbrev pub penalty_option : List ℕ
+penalty_option = codes "--penalty="
+
+abbrev pub batch_option : List ℕ
+batch_option = codes "--batch="
+
+abbrev pub event_columns_option : List ℕ
+event_columns_option = codes "--event-columns="
+
+abbrev pub activity_columns_option : List ℕ
+activity_columns_option = codes "--activity-columns="
+
+abbrev pub event_delays_option : List ℕ
+event_delays_option = codes "--event-delays="
+
+abbrev pub activity_delays_option : List ℕ
+activity_delays_option = codes "--activity-delays="
+
+abbrev pub boards_option : List ℕ
+boards_option = codes "--boards="
+
+abbrev pub at_option : List ℕ
+at_option = codes "--at="
+
+abbrev pub changes_option : List ℕ
+changes_option = codes "--changes="
+
+abbrev pub workers_option : List ℕ
+workers_option = codes "--workers="
 
 -- the options of the files of a folder
 abbrev pub file_options : List (List ℕ)
 file_options =
-    PENALTY_OPTION.now ∷ EVENT_COLUMNS.now ∷ ACTIVITY_COLUMNS.now ∷ EVENT_DELAYS.now ∷ ACTIVITY_DELAYS.now ∷ []
+    penalty_option ∷ event_columns_option ∷ activity_columns_option ∷ event_delays_option ∷ activity_delays_option ∷ []
 
 -- the options of a command
 abbrev pub options_of : Kind → List (List ℕ)
-options_of Run = BATCH_OPTION.now ∷ WORKERS_OPTION.now ∷ BOARDS_OPTION.now ∷ file_options
+options_of Run = batch_option ∷ workers_option ∷ boards_option ∷ file_options
 options_of Check = file_options
-options_of Gen = PENALTY_OPTION.now ∷ []
+options_of Gen = penalty_option ∷ []
 options_of (Query Follow) = file_options
-options_of (Query Window) = AT_OPTION.now ∷ file_options
-options_of (Query Rules) = WORKERS_OPTION.now ∷ file_options
-options_of (Query Journey) = CHANGES_OPTION.now ∷ file_options
+options_of (Query Window) = at_option ∷ file_options
+options_of (Query Rules) = workers_option ∷ file_options
+options_of (Query Journey) = changes_option ∷ file_options
 
 -- what stands behind the text, where the word begins with it
 abbrev pub behind : List ℕ → List ℕ → Option (List ℕ)

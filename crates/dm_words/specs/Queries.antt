@@ -2,8 +2,8 @@
 -- `rules DIR TEXT RULE BUDGET` or `journey DIR TEXT FROM TO AFTER`.
 use Rattle.std.specs.Prelude.{ℕ, ◌≡◌, List, [], ◌∷◌, Option, Some, None, codes}
 use Rattle.dm_base.specs.declared.limits.TheConstants.{BUDGET, PASSED_TIME, TIME, WORKERS}
-use Rattle.dm_words.specs.Options.{GivesOption}
-use Rattle.dm_words.specs.Values.{HasNumber, IsNumber}
+use Rattle.dm_words.specs.Options.{GivesOption, at_option, changes_option, workers_option}
+use Rattle.dm_words.specs.Values.{IsNumber, IsNumberOr}
 use Rattle.dm_words.specs.declared.options.QueryKind.{QueryKind}
 use Rattle.dm_words.specs.declared.options.QueryKind.TheVariants as kind
 use Rattle.dm_words.specs.declared.queries.JourneyWords.{JourneyWords}
@@ -14,7 +14,6 @@ use Rattle.dm_words.specs.declared.queries.RuleWord.{RuleWord}
 use Rattle.dm_words.specs.declared.queries.RuleWord.TheVariants.{Never, Always, AtMost}
 use Rattle.dm_words.specs.declared.queries.Query.TheVariants.{Follow, Window, Rules, Journey}
 use Rattle.dm_words.specs.declared.queries.TheConstants.{CHANGES, LARGEST_ENTRY, LARGEST_STOP, LONGEST_WAIT, STANDARD_CHANGES, STANDARD_WORKERS}
-use Rattle.dm_words.specs.declared.options.TheConstants.{AT_OPTION, CHANGES_OPTION, WORKERS_OPTION}
 
 abbrev pub kind_of : Query → QueryKind
 kind_of Follow = kind.Follow
@@ -39,7 +38,7 @@ IsEntryOrNone (Some text) (Some at) = IsNumber text 0 LARGEST_ENTRY at
 -- the entry that the words name, if they name one
 pub record HasEntry (words : List (List ℕ)) (at : Option ℕ) : Type 0 where
   pub value : Option (List ℕ)
-  pub given : GivesOption AT_OPTION.now words value
+  pub given : GivesOption at_option words value
   pub is : IsEntryOrNone value at
 
 -- the names are two times, the second no earlier than the first, and a budget, and the words may name an entry
@@ -59,9 +58,15 @@ IsRule word Never = word ≡ codes "never"
 IsRule word Always = word ≡ codes "always"
 IsRule word (AtMost seconds) = IsNumber word 0 LONGEST_WAIT seconds
 
+-- the number that the words give an option, or the standard one where they do not give it
+pub record HasNumber (option : List ℕ) (least most standard : ℕ) (words : List (List ℕ)) (number : ℕ) : Type 0 where
+  pub value : Option (List ℕ)
+  pub given : GivesOption option words value
+  pub is : IsNumberOr value least most standard number
+
 -- how many workers search
 abbrev pub HasWorkers : List (List ℕ) → ℕ → Type 0
-HasWorkers words workers = HasNumber WORKERS_OPTION.now 1 WORKERS STANDARD_WORKERS words workers
+HasWorkers words workers = HasNumber workers_option 1 WORKERS STANDARD_WORKERS words workers
 
 -- the names are a rule and a budget, and the words give the workers
 pub record AsksRules (rules : RulesWords) (names words : List (List ℕ)) : Type 0 where
@@ -74,7 +79,7 @@ pub record AsksRules (rules : RulesWords) (names words : List (List ℕ)) : Type
 
 -- the most changes of a journey
 abbrev pub HasChanges : List (List ℕ) → ℕ → Type 0
-HasChanges words changes = HasNumber CHANGES_OPTION.now 0 CHANGES STANDARD_CHANGES words changes
+HasChanges words changes = HasNumber changes_option 0 CHANGES STANDARD_CHANGES words changes
 
 -- the names are two stops and a time, and the words give the most changes
 pub record AsksJourney (journey : JourneyWords) (names words : List (List ℕ)) : Type 0 where

@@ -1,7 +1,6 @@
 -- Values of words.
 use Rattle.std.specs.Prelude.{ℕ, ◌≡◌, ◌≤◌, List, Option, Some, None}
 use Rattle.dm_base.specs.Numbers.{IsDigits, whole_value}
-use Rattle.dm_words.specs.Options.{GivesOption}
 
 -- the text is this number, in decimal digits, from least to most
 pub record IsNumber (text : List ℕ) (least most n : ℕ) : Type 0 where
@@ -14,9 +13,3 @@ pub record IsNumber (text : List ℕ) (least most n : ℕ) : Type 0 where
 abbrev pub IsNumberOr : Option (List ℕ) → ℕ → ℕ → ℕ → ℕ → Type 0
 IsNumberOr None least most standard n = n ≡ standard
 IsNumberOr (Some text) least most standard n = IsNumber text least most n
-
--- the number that the words give an option, or the standard one where they do not give it
-pub record HasNumber (option : List ℕ) (least most standard : ℕ) (words : List (List ℕ)) (number : ℕ) : Type 0 where
-  pub value : Option (List ℕ)
-  pub given : GivesOption option words value
-  pub is : IsNumberOr value least most standard number

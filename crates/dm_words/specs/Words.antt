@@ -4,16 +4,15 @@ use Rattle.std.specs.Prelude.{ℕ, ◌≡◌, ◌≤◌, true, ◌||◌, List, [
 use Rattle.std.specs.List.{list_all}
 use Rattle.dm_base.specs.declared.limits.TheConstants.{PENALTY, FEEDS}
 use Rattle.dm_lintim.specs.Columns.{FileColumns, ReadsFileColumns}
-use Rattle.dm_words.specs.Options.{GivesOption, is_name, is_option, options_of}
+use Rattle.dm_words.specs.Options.{GivesOption, activity_columns_option, activity_delays_option, batch_option, boards_option, event_columns_option, event_delays_option, is_name, is_option, options_of, penalty_option}
 use Rattle.dm_words.specs.Stops.{AreBoards}
-use Rattle.dm_words.specs.Values.{HasNumber, IsNumber}
+use Rattle.dm_words.specs.Values.{IsNumber, IsNumberOr}
 use Rattle.dm_words.specs.Queries.{AsksOwn, HasWorkers, kind_of, word_of}
 use Rattle.dm_words.specs.declared.files.TheConstants.{STANDARD_PENALTY}
 use Rattle.dm_words.specs.declared.command.TheConstants.{BATCH, STANDARD_BATCH, TRAINS, LARGEST_NUMBER}
 use Rattle.dm_words.specs.declared.options.Kind.{Kind}
 use Rattle.dm_words.specs.declared.options.Kind.TheVariants.{Run, Check, Gen, Query as Asking}
 use Rattle.dm_words.specs.declared.queries.Query.{Query}
-use Rattle.dm_words.specs.declared.options.TheConstants.{ACTIVITY_COLUMNS, ACTIVITY_DELAYS, BATCH_OPTION, BOARDS_OPTION, EVENT_COLUMNS, EVENT_DELAYS, PENALTY_OPTION}
 
 -- the files of a folder, and the options that go with them; the files of delays are named where there are any
 pub record FilesAsked : Type 0 where
@@ -57,17 +56,21 @@ pub data Command : Type 0 where
   QueryOf : QueryAsked → Command
 
 -- the penalty in seconds for each passenger
-abbrev pub IsPenalty : List (List ℕ) → ℕ → Type 0
-IsPenalty words penalty = HasNumber PENALTY_OPTION.now 0 PENALTY STANDARD_PENALTY words penalty
+pub record IsPenalty (words : List (List ℕ)) (penalty : ℕ) : Type 0 where
+  pub value : Option (List ℕ)
+  pub given : GivesOption penalty_option words value
+  pub is : IsNumberOr value 0 PENALTY STANDARD_PENALTY penalty
 
 -- how many lines of each feed are answered in a round
-abbrev pub IsBatch : List (List ℕ) → ℕ → Type 0
-IsBatch words batch = HasNumber BATCH_OPTION.now 1 BATCH STANDARD_BATCH words batch
+pub record IsBatch (words : List (List ℕ)) (batch : ℕ) : Type 0 where
+  pub value : Option (List ℕ)
+  pub given : GivesOption batch_option words value
+  pub is : IsNumberOr value 1 BATCH STANDARD_BATCH batch
 
 -- the stops of the boards
 pub record HasBoards (words : List (List ℕ)) (boards : List ℕ) : Type 0 where
   pub value : Option (List ℕ)
-  pub given : GivesOption BOARDS_OPTION.now words value
+  pub given : GivesOption boards_option words value
   pub are : AreBoards value boards
 
 -- the column words of a file, which stand in the standard order where none are given
@@ -88,10 +91,10 @@ pub record AsksFiles (words : List (List ℕ)) (asked : FilesAsked) : Type 0 whe
   pub events : Option (List ℕ)
   pub activities : Option (List ℕ)
   pub penalty : IsPenalty words asked.penalty
-  pub gives_events : GivesOption EVENT_COLUMNS.now words events
-  pub gives_activities : GivesOption ACTIVITY_COLUMNS.now words activities
-  pub gives_event_delays : GivesOption EVENT_DELAYS.now words asked.event_delays
-  pub gives_activity_delays : GivesOption ACTIVITY_DELAYS.now words asked.activity_delays
+  pub gives_events : GivesOption event_columns_option words events
+  pub gives_activities : GivesOption activity_columns_option words activities
+  pub gives_event_delays : GivesOption event_delays_option words asked.event_delays
+  pub gives_activity_delays : GivesOption activity_delays_option words asked.activity_delays
   pub are_columns : ReadsFileColumns (event_words events) (activity_words activities) (Ok asked.columns)
 
 -- each word is a name or an option of the command

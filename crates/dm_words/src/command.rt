@@ -1,9 +1,9 @@
 //! What the words of a command line ask for.
 ghost use Rattle.std.specs.Prelude.{ℕ, ◌≡◌, ◌∷◌, List, map, filter, string_bytes, MatchOption};
-ghost use Rattle.dm_words.specs.Words.{Asks, AsksCheck, AsksGen, AsksNothing, AsksRun, CheckAsked, GenAsked, HasBoards, QueryAsked, QueryOf, RunAsked};
+ghost use Rattle.dm_words.specs.Words.{Asks, AsksCheck, AsksGen, AsksNothing, AsksRun, CheckAsked, GenAsked, IsBatch, HasBoards, QueryAsked, QueryOf, RunAsked};
 ghost use Rattle.dm_words.specs.Asked.{check_of, command_of, gen_of, query_of, run_of};
 
-use crate::files::{FileWords, number_given, number_of, penalty_of, read_files};
+use crate::files::{FileWords, number_of, number_or, penalty_of, read_files};
 use crate::options::{
     BATCH_OPTION, BOARDS_OPTION, Kind, Names, are_known, count_names, given, next_name, two_names,
 };
@@ -70,12 +70,25 @@ pub enum CommandWords<'a> {
     Query(QueryWords<'a>),
 }
 
+/// How many lines of each feed are answered in a round.
+fn batch_of(words: &[String]) -> Option<u64>
+    ensures { MatchOption result ((n : ℕ) → IsBatch (map string_bytes words.now) n → ⊥) (λ n. IsBatch (map string_bytes words.now) n) }
+{
+    let Some(batch) = given(BATCH_OPTION, words) else {
+        return None;
+    };
+    number_or(batch, 1, BATCH, STANDARD_BATCH)
+}
+
 /// The stops of the boards.
 fn stops_of(words: &[String]) -> Option<Stops>
     ensures { MatchOption result ((stops : List ℕ) → HasBoards (map string_bytes words.now) stops → ⊥)
         (λ stops. HasBoards (map string_bytes words.now) stops) }
 {
-    boards_of(given(BOARDS_OPTION, words)?)
+    let Some(boards) = given(BOARDS_OPTION, words) else {
+        return None;
+    };
+    boards_of(boards)
 }
 
 /// What the words behind `run` ask for.
@@ -93,10 +106,18 @@ fn read_run(words: &[String]) -> Option<RunWords<'_>>
     if feeds == 0 || feeds > FEEDS {
         return None;
     }
-    let files = read_files(folder, words)?;
-    let batch = number_given(BATCH_OPTION, words, 1, BATCH, STANDARD_BATCH)?;
-    let workers = workers_of(words)?;
-    let boards = stops_of(words)?;
+    let Some(files) = read_files(folder, words) else {
+        return None;
+    };
+    let Some(batch) = batch_of(words) else {
+        return None;
+    };
+    let Some(workers) = workers_of(words) else {
+        return None;
+    };
+    let Some(boards) = stops_of(words) else {
+        return None;
+    };
     Some(RunWords {
         files,
         feeds: Names { words: rest },
@@ -117,7 +138,9 @@ fn read_check(words: &[String]) -> Option<CheckWords<'_>>
     let Some((folder, text)) = two_names(words) else {
         return None;
     };
-    let files = read_files(folder, words)?;
+    let Some(files) = read_files(folder, words) else {
+        return None;
+    };
     Some(CheckWords { files, text })
 }
 
@@ -129,10 +152,18 @@ fn read_gen(words: &[String]) -> Option<GenWords>
     if !are_known(Kind::Gen, words) {
         return None;
     }
-    let (number, trains) = two_names(words)?;
-    let number = number_of(number, 0, LARGEST_NUMBER)?;
-    let trains = number_of(trains, 1, TRAINS)?;
-    let penalty = penalty_of(words)?;
+    let Some((number, trains)) = two_names(words) else {
+        return None;
+    };
+    let Some(number) = number_of(number, 0, LARGEST_NUMBER) else {
+        return None;
+    };
+    let Some(trains) = number_of(trains, 1, TRAINS) else {
+        return None;
+    };
+    let Some(penalty) = penalty_of(words) else {
+        return None;
+    };
     Some(GenWords {
         number,
         trains,
@@ -171,7 +202,9 @@ fn read_other<'a>(command: &str, rest: &'a [String]) -> Option<CommandWords<'a>>
     ensures asks { MatchOption result ((asked : QueryAsked) → Asks (command.now ∷ map string_bytes rest.now) (QueryOf asked) → ⊥)
         (λ asked. Asks (command.now ∷ map string_bytes rest.now) (command_of asked)) }
 {
-    let kind = kind_of_word(command)?;
+    let Some(kind) = kind_of_word(command) else {
+        return None;
+    };
     match read_query(kind, rest) {
         Some(query) => Some(CommandWords::Query(query)),
         None => None,

@@ -2,7 +2,7 @@
 ghost use Rattle.std.specs.Prelude.{ℕ, ◌≡◌, ◌≤◌, Option, List, Some, None, Ok, map, string_bytes, MatchOption, unwrap_or};
 ghost use Rattle.std.specs.Option.{option_map};
 ghost use Rattle.dm_lintim.specs.Columns.{FileColumns, ReadsFileColumns};
-ghost use Rattle.dm_words.specs.Values.{HasNumber, IsNumber, IsNumberOr};
+ghost use Rattle.dm_words.specs.Values.{IsNumber, IsNumberOr};
 ghost use Rattle.dm_words.specs.Words.{AsksFiles, FilesAsked, IsPenalty, event_words, activity_words};
 ghost use Rattle.dm_words.specs.Asked.{files_of};
 
@@ -32,7 +32,7 @@ pub fn number_of(text: &str, least: u64, most: u64) -> Option<u64>
 }
 
 /// The number that a value spells, from `least` to `most`, or the standard one where no value is given.
-fn number_or(given: Option<&str>, least: u64, most: u64, standard: u64) -> Option<u64>
+pub fn number_or(given: Option<&str>, least: u64, most: u64, standard: u64) -> Option<u64>
     ensures { MatchOption result ((n : ℕ) → IsNumberOr (option_map (λ x. x.now) given.entry) least most standard n → ⊥)
         (λ n. IsNumberOr (option_map (λ x. x.now) given.entry) least most standard n) }
 {
@@ -42,25 +42,14 @@ fn number_or(given: Option<&str>, least: u64, most: u64, standard: u64) -> Optio
     }
 }
 
-/// The number that the words give an option, from `least` to `most`, or the standard one where they do not give it.
-pub fn number_given(
-    option: &str,
-    words: &[String],
-    least: u64,
-    most: u64,
-    standard: u64,
-) -> Option<u64>
-    ensures { MatchOption result ((n : ℕ) → HasNumber option.now least most standard (map string_bytes words.now) n → ⊥)
-        (λ n. HasNumber option.now least most standard (map string_bytes words.now) n) }
-{
-    number_or(given(option, words)?, least, most, standard)
-}
-
 /// The penalty that the words give.
 pub fn penalty_of(words: &[String]) -> Option<u64>
     ensures { MatchOption result ((n : ℕ) → IsPenalty (map string_bytes words.now) n → ⊥) (λ n. IsPenalty (map string_bytes words.now) n) }
 {
-    number_given(PENALTY_OPTION, words, 0, PENALTY, STANDARD_PENALTY)
+    let Some(penalty) = given(PENALTY_OPTION, words) else {
+        return None;
+    };
+    number_or(penalty, 0, PENALTY, STANDARD_PENALTY)
 }
 
 /// The text that is given, or else the standard one.
@@ -111,12 +100,24 @@ pub fn read_files<'a>(folder: &'a str, words: &'a [String]) -> Option<FileWords<
     ensures { MatchOption result ((asked : FilesAsked) → asked.folder ≡ folder.now → AsksFiles (map string_bytes words.now) asked → ⊥)
         (λ files. (folder.now ≡ files.folder.now) × AsksFiles (map string_bytes words.now) (files_of files)) }
 {
-    let penalty = penalty_of(words)?;
-    let events = given(EVENT_COLUMNS, words)?;
-    let activities = given(ACTIVITY_COLUMNS, words)?;
-    let columns = columns_of(events, activities)?;
-    let event_delays = given(EVENT_DELAYS, words)?;
-    let activity_delays = given(ACTIVITY_DELAYS, words)?;
+    let Some(penalty) = penalty_of(words) else {
+        return None;
+    };
+    let Some(events) = given(EVENT_COLUMNS, words) else {
+        return None;
+    };
+    let Some(activities) = given(ACTIVITY_COLUMNS, words) else {
+        return None;
+    };
+    let Some(columns) = columns_of(events, activities) else {
+        return None;
+    };
+    let Some(event_delays) = given(EVENT_DELAYS, words) else {
+        return None;
+    };
+    let Some(activity_delays) = given(ACTIVITY_DELAYS, words) else {
+        return None;
+    };
     Some(FileWords {
         folder,
         penalty,

@@ -2,10 +2,10 @@
 ghost use Rattle.std.specs.Prelude.{ℕ, ◌≡◌, List, map, filter, string_bytes, Option, MatchOption};
 ghost use Rattle.dm_words.specs.Asked.{query_of};
 ghost use Rattle.dm_words.specs.Options.{is_name};
-ghost use Rattle.dm_words.specs.Queries.{AsksJourney, AsksOwn, AsksRules, AsksWindow, HasEntry, HasWorkers, IsRule, kind_of, word_of};
+ghost use Rattle.dm_words.specs.Queries.{AsksJourney, AsksOwn, AsksRules, AsksWindow, HasChanges, HasEntry, HasWorkers, IsRule, kind_of, word_of};
 ghost use Rattle.dm_words.specs.Words.{AsksQuery, QueryAsked};
 
-use crate::files::{FileWords, number_given, number_of, read_files};
+use crate::files::{FileWords, number_of, number_or, read_files};
 use crate::options::{
     AT_OPTION, CHANGES_OPTION, Kind, QueryKind, WORKERS_OPTION, are_known, given, next_name,
     three_names, two_names,
@@ -146,7 +146,10 @@ pub fn workers_of(words: &[String]) -> Option<u64>
     ensures { MatchOption result ((n : ℕ) → HasWorkers (map string_bytes words.now) n → ⊥)
         (λ n. HasWorkers (map string_bytes words.now) n) }
 {
-    number_given(WORKERS_OPTION, words, 1, WORKERS as u64, STANDARD_WORKERS)
+    let Some(workers) = given(WORKERS_OPTION, words) else {
+        return None;
+    };
+    number_or(workers, 1, WORKERS as u64, STANDARD_WORKERS)
 }
 
 /// The rule and the plan that the names behind a text, and the options among the words, ask for.
@@ -155,15 +158,34 @@ fn read_rules(names: &[String], words: &[String]) -> Option<RulesWords>
         → ⊥)
         (λ rules. AsksRules rules (filter is_name (map string_bytes names.now)) (map string_bytes words.now)) }
 {
-    let (rule, budget) = two_names(names)?;
-    let rule = rule_of(rule)?;
-    let budget = number_of(budget, 1, BUDGET)?;
-    let workers = workers_of(words)?;
+    let Some((rule, budget)) = two_names(names) else {
+        return None;
+    };
+    let Some(rule) = rule_of(rule) else {
+        return None;
+    };
+    let Some(budget) = number_of(budget, 1, BUDGET) else {
+        return None;
+    };
+    let Some(workers) = workers_of(words) else {
+        return None;
+    };
     Some(RulesWords {
         rule,
         budget,
         workers: workers as u32,
     })
+}
+
+/// The most changes of a journey.
+fn changes_of(words: &[String]) -> Option<u64>
+    ensures { MatchOption result ((n : ℕ) → HasChanges (map string_bytes words.now) n → ⊥)
+        (λ n. HasChanges (map string_bytes words.now) n) }
+{
+    let Some(changes) = given(CHANGES_OPTION, words) else {
+        return None;
+    };
+    number_or(changes, 0, CHANGES, STANDARD_CHANGES)
 }
 
 /// The journey that the names behind a text, and the options among the words, ask for.
@@ -172,11 +194,21 @@ fn read_journey(names: &[String], words: &[String]) -> Option<JourneyWords>
         → AsksJourney journey (filter is_name (map string_bytes names.now)) (map string_bytes words.now) → ⊥)
         (λ journey. AsksJourney journey (filter is_name (map string_bytes names.now)) (map string_bytes words.now)) }
 {
-    let (from, to, after) = three_names(names)?;
-    let from = number_of(from, 0, LARGEST_STOP)?;
-    let to = number_of(to, 0, LARGEST_STOP)?;
-    let after = number_of(after, 0, PASSED_TIME)?;
-    let changes = number_given(CHANGES_OPTION, words, 0, CHANGES, STANDARD_CHANGES)?;
+    let Some((from, to, after)) = three_names(names) else {
+        return None;
+    };
+    let Some(from) = number_of(from, 0, LARGEST_STOP) else {
+        return None;
+    };
+    let Some(to) = number_of(to, 0, LARGEST_STOP) else {
+        return None;
+    };
+    let Some(after) = number_of(after, 0, PASSED_TIME) else {
+        return None;
+    };
+    let Some(changes) = changes_of(words) else {
+        return None;
+    };
     Some(JourneyWords {
         from: from as u32,
         to: to as u32,
@@ -190,8 +222,14 @@ fn at_of(words: &[String]) -> Option<Option<u32>>
     ensures { MatchOption result ((at : Option ℕ) → HasEntry (map string_bytes words.now) at → ⊥)
         (λ at. HasEntry (map string_bytes words.now) at) }
 {
-    match given(AT_OPTION, words)? {
-        Some(text) => Some(Some(number_of(text, 0, LARGEST_ENTRY)? as u32)),
+    let Some(at) = given(AT_OPTION, words) else {
+        return None;
+    };
+    match at {
+        Some(text) => match number_of(text, 0, LARGEST_ENTRY) {
+            Some(at) => Some(Some(at as u32)),
+            None => None,
+        },
         None => Some(None),
     }
 }
@@ -202,11 +240,21 @@ fn read_window(names: &[String], words: &[String]) -> Option<WindowWords>
         → AsksWindow window (filter is_name (map string_bytes names.now)) (map string_bytes words.now) → ⊥)
         (λ window. AsksWindow window (filter is_name (map string_bytes names.now)) (map string_bytes words.now)) }
 {
-    let (from, to, budget) = three_names(names)?;
-    let from = number_of(from, 0, TIME)?;
-    let to = number_of(to, from, TIME)?;
-    let budget = number_of(budget, 1, BUDGET)?;
-    let at = at_of(words)?;
+    let Some((from, to, budget)) = three_names(names) else {
+        return None;
+    };
+    let Some(from) = number_of(from, 0, TIME) else {
+        return None;
+    };
+    let Some(to) = number_of(to, from, TIME) else {
+        return None;
+    };
+    let Some(budget) = number_of(budget, 1, BUDGET) else {
+        return None;
+    };
+    let Some(at) = at_of(words) else {
+        return None;
+    };
     Some(WindowWords {
         from,
         to,
@@ -226,9 +274,18 @@ fn read_own(kind: QueryKind, names: &[String], words: &[String]) -> Option<Query
             Some(_) => None,
             None => Some(Query::Follow),
         },
-        QueryKind::Window => Some(Query::Window(read_window(names, words)?)),
-        QueryKind::Rules => Some(Query::Rules(read_rules(names, words)?)),
-        QueryKind::Journey => Some(Query::Journey(read_journey(names, words)?)),
+        QueryKind::Window => match read_window(names, words) {
+            Some(window) => Some(Query::Window(window)),
+            None => None,
+        },
+        QueryKind::Rules => match read_rules(names, words) {
+            Some(rules) => Some(Query::Rules(rules)),
+            None => None,
+        },
+        QueryKind::Journey => match read_journey(names, words) {
+            Some(journey) => Some(Query::Journey(journey)),
+            None => None,
+        },
     }
 }
 
