@@ -49,7 +49,8 @@ fn logs_then_rest_told(
     requires day { IsDay journal.now.day }
     requires goes_over { logs.old.replay.journal ≡ value_of journal.now }
     requires stands { AreCheckedRowsOf journal.now.day.net.now checked.old }
-    requires rows_are { checked.old.rows ≡ rows_after (setting_of journal.now.day) (history_of journal.now) (length (history_of journal.now)) }
+    requires rows_are { checked.old.rows ≡ rows_after (setting_of journal.now.day) (history_of journal.now)
+        (length (history_of journal.now)) }
     requires header { IsHeader header }
     requires none { AreFlagged [] logs.old.named.items }
     requires each { length logs.old.named.items ≡ length (history_of journal.now) }
@@ -75,7 +76,8 @@ fn logs_and_rest_told(
 ) -> Result<usize, Stop>
     requires day { IsDay journal.now.day }
     requires stands { AreCheckedRowsOf journal.now.day.net.now checked.old }
-    requires rows_are { checked.old.rows ≡ rows_after (setting_of journal.now.day) (history_of journal.now) (length (history_of journal.now)) }
+    requires rows_are { checked.old.rows ≡ rows_after (setting_of journal.now.day) (history_of journal.now)
+        (length (history_of journal.now)) }
     requires header { IsHeader header }
     requires counted { length (history_of journal.now) ≡ header.entries }
     ensures { LogsAndRestOn (setting_of journal.now.day) (history_of journal.now) header.feeds lines.old lines.new result }

@@ -90,7 +90,8 @@ pub(crate) fn rest_told(
 ) -> Result<(), Stop>
     requires day { IsDay journal.now.day }
     requires stands { AreCheckedRowsOf journal.now.day.net.now checked.old }
-    requires rows_are { checked.old.rows ≡ rows_after (setting_of journal.now.day) (history_of journal.now) (length (history_of journal.now)) }
+    requires rows_are { checked.old.rows ≡ rows_after (setting_of journal.now.day) (history_of journal.now)
+        (length (history_of journal.now)) }
     requires each { length named.now ≡ length (history_of journal.now) }
     requires counted { length (history_of journal.now) ≡ entries }
     ensures { (logs : List FeedLog) → AreFlagged (all_items logs) named.now

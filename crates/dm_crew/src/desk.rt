@@ -99,7 +99,8 @@ impl<'n, R: Wait> Caller<'_, '_, 'n, R> {
         requires turn { pass.old.turn ≡ self.now.server.now.id }
         requires idle { pass.old.holds ≡ false }
         ensures same { IsSamePass pass.old pass.new }
-        ensures tells { (base : ABase) → pass.old.base ≡ Some base → TellsTime (desk_of base pass.old) (desk_of base pass.new) event result }
+        ensures tells { (base : ABase) → pass.old.base ≡ Some base
+            → TellsTime (desk_of base pass.old) (desk_of base pass.new) event result }
     {
         self.server.time(self.rt, pass, event)
     }
@@ -129,7 +130,8 @@ impl<'n, R: Wait> Caller<'_, '_, 'n, R> {
         requires turn { pass.old.turn ≡ self.now.server.now.id }
         requires idle { pass.old.holds ≡ false }
         ensures same { IsSamePass pass.old pass.new }
-        ensures copied { (base : ABase) → pass.old.base ≡ Some base → IfOk result (IsCopied (desk_of base pass.old) (desk_of base pass.new)) }
+        ensures copied { (base : ABase) → pass.old.base ≡ Some base
+            → IfOk result (IsCopied (desk_of base pass.old) (desk_of base pass.new)) }
     {
         self.server.snapshot(self.rt, pass)
     }

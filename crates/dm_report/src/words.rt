@@ -32,7 +32,8 @@ pub fn put_labelled<'w, K: Sink>(
     numbers: &[(&'w str, u128)],
     last: &'w str,
 ) -> Result<(), WriteFault>
-    ensures { Prints K.taken K.faults sink.old sink.new page.old page.new result (labelled (λ one. one.0.now) (λ one. one.1) numbers.now last.now) }
+    ensures { Prints K.taken K.faults sink.old sink.new page.old page.new result
+        (labelled (λ one. one.0.now) (λ one. one.1) numbers.now last.now) }
 {
     for one in numbers {
         let Ok(()) = page.put_number(sink, one.0, one.1) else {
