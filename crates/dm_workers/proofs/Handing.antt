@@ -42,8 +42,8 @@ module _ {F : Type 0} (task : Task) (own : ℕ) (word : TableId) (start : ℕ) (
   none_gathered g hand e w s low kept = record {
     gathered = record {
       fair = λ s. omega (arith, ap (owners_put s) e.0, ap (leaves_on s) e.3);
-      found = none_found task own word start hand.room g.hand g.leaves.items g.best.choices g.best.cost kept e.3
-          (ap (λ (k : HandValue). k.word) e.2 ∙ w) (ap (λ (k : HandValue). k.start) e.2 ∙ s) (ap (λ (k : HandValue). k.room) e.2)
+      found = none_found task own word start _ g.hand g.leaves.items g.best.choices g.best.cost kept e.3
+          (ap (λ (k : HandValue). k.word) e.2 ∙ w) (ap (λ (k : HandValue). k.start) e.2 ∙ s) (omega (arith, ap (λ (k : HandValue). k.room) e.2))
           (ap (λ (k : HandValue). k.lowered) e.2 ∙ low) e.4 e.5;
     };
     deques = ap (map deque_of) e.0;
