@@ -12,7 +12,7 @@ use Rattle.dm_check_rows.specs.Claims.{Tells}
 use Rattle.dm_check_answers.specs.declared.claims.Answered.{Answered}
 use Rattle.dm_check_answers.specs.declared.known.Known.{Known}
 
--- what the reply to a line claims of the rows at an entry is true; no other reply claims anything of them
+-- what the reply to a line claims of the rows at an entry is true; of any other reply this is false
 abbrev pub IsTrueClaim : Setting → List Entry → Line → Reply → Type 0
 IsTrueClaim s history (Say message) (Refused at) = IsRefused s history at.entry message at.why
 IsTrueClaim s history (AskTime event) (Time n time) = IsTimeAt s history n event time

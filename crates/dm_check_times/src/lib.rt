@@ -6,8 +6,8 @@
 //! held activities have a cycle. Rounds may begin from any times that are not too late. Times that were least may also follow
 //! what binds as it changes: the events that this may concern begin anew from their floors, and rounds from there. So a
 //! [`KeptTimetable`] is filled from rows, or kept with them ([`keep_up`]), where a clock looks at the events that are scheduled
-//! before it; or it holds what its caller says ([`KeptTimetable::hold`]). What a timetable costs is added up place by place ([`cost_of`]), or kept while
-//! its times and the rows change ([`KeptCost`], [`keep_cost`]), as a sum of two numbers: what a change of rows is about is
+//! before it; or it holds what its caller says ([`KeptTimetable::hold`]). What a timetable costs is
+//! added up place by place ([`cost_of`]), or kept while its times and the rows change ([`KeptCost`], [`keep_cost`]), as a sum of two numbers: what a change of rows is about is
 //! weighed anew, and so are the activities at each event that has moved. Memory is taken once, for a timetable, for marks and for
 //! a kept cost. Every time is below 2^38 seconds, and every cost below 2^100 thousandths of passenger seconds.
 //!

@@ -9,8 +9,9 @@
 //!
 //! Choices by place and paths of decisions. `place_of_choice` answers exactly where a choice stands in the network, or that
 //! it is none of its choices; `flip_of` what a decision of a free choice names; `change_decision` and `pair_decision` give the
-//! decisions of the choice at a place, `push_some` pushes one if there is one, and `with_decisions` sets decisions of free choices; `all_undecided` and `binding_flags` are the flags of the path without decisions: what is
-//! undecided, and what binds then.
+//! decisions of the choice at a place, `push_some` pushes one if there is one, and `with_decisions` sets decisions of free
+//! choices; `all_undecided` and `binding_flags` are the flags of the path without decisions: what is undecided, and what binds
+//! then.
 //! `Undecided` sets one flag. The last four take memory. What search plans (`dm_relax`, `dm_evaluate`) and what judges them
 //! (`dm_check_plans`) stand on it.
 #![tactic(auto)]
