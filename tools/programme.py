@@ -14,11 +14,11 @@ from __future__ import annotations
 
 import heapq
 import math
-from dataclasses import dataclass, field
+from dataclasses import dataclass
 from typing import Iterable, NamedTuple, Optional
 
 from railway import (
-    Network, Rows, active_activities, cost_charging, cost_of, floor_of, free_choices, least_times, span_of, times_of,
+    Network, Problem, Rows, active_activities, cost_charging, floor_of, free_choices, least_times, span_of,
 )
 
 Choice = tuple
@@ -79,32 +79,26 @@ class Way(NamedTuple):
     span: int
 
 
-@dataclass
-class Problem:
-    """Rows with the choices that may be made: the activities held whatever is chosen, and the ways that choices may hold."""
-    network: Network
-    rows: Rows
-    penalty: int
-    window: Optional[Window] = None
-    held: list[bool] = field(default_factory=list)
-    changes: dict[int, Way] = field(default_factory=dict)
-    pairs: dict[tuple[int, int], tuple[Way, Way]] = field(default_factory=dict)
+class Posed(Problem):
+    """The problem of the choices in a window: the activities held whatever is chosen, and the ways that choices may hold."""
 
-    def __post_init__(self) -> None:
-        self.held = active_activities(self.network, self.rows)
-        self.charged = [not kept for kept in self.rows.kept]
-        for choice in choices_in(self.network, self.rows, self.window):
+    def __init__(self, network: Network, rows: Rows, penalty: int, window: Optional[Window] = None) -> None:
+        super().__init__(network, rows, penalty, choices_in(network, rows, window))
+        self.held = active_activities(network, rows)
+        self.charged = [not kept for kept in rows.kept]
+        self.changes: dict[int, Way] = {}
+        self.pairs: dict[tuple[int, int], tuple[Way, Way]] = {}
+        for choice in self.free:
             if choice[0] == 'change':
-                place = self.network.activity_place[choice[1]]
+                place = network.activity_place[choice[1]]
                 self.changes[place] = self.way([place])
                 self.held[place] = self.charged[place] = False
             else:
-                first, second = (self.network.event_place[event] for event in choice[1:])
-                ways = [self.network.headways[ends] for ends in ((first, second), (second, first))]
+                first, second = (network.event_place[event] for event in choice[1:])
+                ways = [network.headways[ends] for ends in ((first, second), (second, first))]
                 self.pairs[first, second] = (self.way(ways[0]), self.way(ways[1]))
                 for place in ways[0] + ways[1]:
                     self.held[place] = False
-        self.cost = cost_of(self.network, self.rows, times_of(self.network, self.rows), self.penalty)
 
     def way(self, places: list[int]) -> Way:
         span = max(span_of(self.network, self.rows, place) for place in places)
@@ -117,7 +111,7 @@ class Problem:
 @dataclass
 class Times:
     """The least and the most time of each event, the arcs that hold whatever is chosen, and the choices that are open or settled."""
-    problem: Problem
+    problem: Posed
     low: list[int]
     high: list[int]
     arcs: list[Way]
@@ -127,7 +121,7 @@ class Times:
     first: dict[tuple[int, int], bool]
 
 
-def times_between(problem: Problem) -> Times:
+def times_between(problem: Posed) -> Times:
     """Between which times events lie in choices that cost at most what the rows do."""
     network, rows = problem.network, problem.rows
     low = least_times(network, rows, problem.held)
@@ -392,7 +386,7 @@ class Maker:
                 self.hold(f'missed_{activity.id}', way, (-1, f'miss_{activity.id}'))
 
 
-def programme_of(problem: Problem) -> Programme:
+def programme_of(problem: Posed) -> Programme:
     """The programme of a problem."""
     maker = Maker(times_between(problem))
     maker.add_events()

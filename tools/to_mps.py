@@ -14,7 +14,7 @@ import argparse
 import sys
 from typing import Optional, Sequence
 
-from programme import Problem, Window, lp_text, mps_text, programme_of
+from programme import Posed, Window, lp_text, mps_text, programme_of
 from railway import BadFile, Network, Rows, read_delays, read_network
 from scene import read_text, rows_of
 from words import whole_between
@@ -66,7 +66,7 @@ def main(asked: Optional[Sequence[str]] = None) -> None:
     except BadFile as fault:
         print(f'to_mps.py: {fault}', file=sys.stderr)
         sys.exit(2)
-    programme = programme_of(Problem(network, rows, penalty, window))
+    programme = programme_of(Posed(network, rows, penalty, window))
     print((lp_text if given.lp else mps_text)(programme), end='')
 
 

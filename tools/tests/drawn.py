@@ -42,12 +42,14 @@ def drawn_network(draws: Random, trains: int = 4, legs: int = 2) -> Network:
 def drawn_rows(draws: Random, network: Network, messages: int = 8) -> Rows:
     """Rows after messages of all kinds, of which those that are refused are left out."""
     rows = Rows(network)
+    heads = [network.events[head] for place, head in enumerate(network.heads) if network.activities[place].kind == 'change']
     for _ in range(messages):
         event, activity = draws.choice(network.events), draws.choice(network.activities)
         message = draws.choice((
             ('delay event', event.id, draws.randrange(0, 120)), ('delay event', event.id, draws.randrange(0, 120)),
             ('delay activity', activity.id, draws.randrange(0, 40)), ('pass', event.id, event.time + draws.randrange(-20, 90)),
             ('now', draws.randrange(0, 120)), ('drop', activity.id), ('keep', activity.id),
+            *(('pass', head.id, head.time + draws.randrange(-10, 60)) for head in heads[:1]),
             *(('first', network.events[later].id, network.events[sooner].id) for sooner, later in network.pairs[:2]),
         ))
         if message[0] == 'pass' and message[2] < 0:

@@ -15,7 +15,7 @@ from samples import network, text
 import from_sol
 import to_mps
 from decide import in_turn
-from programme import Problem, Window, choices_in, lp_text, mps_text, programme_of
+from programme import Posed, Window, lp_text, mps_text, programme_of
 from railway import BadFile, admit, cost_of, free_choices, times_of, ways_of, with_decisions
 from solution import decisions_of, read_solution
 
@@ -82,7 +82,7 @@ def value_at(programme, decisions):
 def all_costs(problem):
     """What each list of choices costs, or None where it has a cycle."""
     net, rows = problem.network, problem.rows
-    for decisions in product(*map(ways_of, choices_in(net, rows, problem.window))):
+    for decisions in product(*map(ways_of, problem.free)):
         after = with_decisions(net, rows, decisions)
         times = times_of(net, after)
         yield decisions, None if times is None else cost_of(net, after, times, problem.penalty)
@@ -115,13 +115,13 @@ class Exact(unittest.TestCase):
             net = drawn_network(draws)
             rows = drawn_rows(draws, net)
             if len(free_choices(net, rows)) <= 9:
-                self.is_exact(Problem(net, rows, draws.choice((0, 7, 100))))
+                self.is_exact(Posed(net, rows, draws.choice((0, 7, 100))))
 
     def test_windows(self):
         for number in range(20):
             draws = Random(number)
             net = drawn_network(draws)
-            self.is_exact(Problem(net, drawn_rows(draws, net), 20, Window(draws.randrange(0, 60), draws.randrange(60, 200))))
+            self.is_exact(Posed(net, drawn_rows(draws, net), 20, Window(draws.randrange(0, 60), draws.randrange(60, 200))))
 
 
 class Turns(unittest.TestCase):
@@ -206,7 +206,7 @@ class Solvers(InFolder):
         for number in range(4):
             draws = Random(number)
             net = drawn_network(draws)
-            problem = Problem(net, drawn_rows(draws, net, 5), 20)
+            problem = Posed(net, drawn_rows(draws, net, 5), 20)
             programme = programme_of(problem)
             least = min(cost for _, cost in all_costs(problem) if cost is not None)
             for form in ('mps', 'lp'):
