@@ -6,8 +6,6 @@ are in seconds from the beginning of the service day, and go on past midnight. W
 """
 from __future__ import annotations
 
-import csv
-import io
 import os
 import re
 import zipfile
@@ -19,6 +17,7 @@ from datetime import date
 from functools import lru_cache
 from typing import BinaryIO, Collection, Iterable, Iterator, Optional
 
+from quoted import is_text, quoted_records
 from railway import BadFile
 
 WEEKDAYS = ('monday', 'tuesday', 'wednesday', 'thursday', 'friday', 'saturday', 'sunday')
@@ -67,7 +66,7 @@ class Row:
     def name(self, column: str) -> str:
         """The field of a column, which has to be in UTF-8, in one line."""
         text = self[column]
-        if not text.isascii() and any('\ud800' <= character <= '\udfff' for character in text):
+        if not is_text(text):
             raise self.fault(column, 'this is not in UTF-8')
         return ' '.join(text.splitlines())
 
@@ -103,18 +102,15 @@ class Row:
 
 def read_rows(name: str, file: BinaryIO, required: Iterable[str]) -> Iterator[Row]:
     """The rows of a file, whose first one names the columns."""
-    with io.TextIOWrapper(file, encoding='utf-8-sig', errors='surrogateescape', newline='') as lines:
-        reader = csv.reader(lines)
-        try:
-            columns = [column.strip() for column in next(reader, [])]
-            check_columns(name, columns, required)
-            for fields in reader:
-                if len(fields) > len(columns) and any(fields[len(columns):]):
-                    raise BadFile(name, reader.line_num, f'{len(fields)} fields, and {len(columns)} columns')
-                if any(fields):
-                    yield Row(name, reader.line_num, dict(zip(columns, map(str.strip, fields))))
-        except csv.Error as error:
-            raise BadFile(name, reader.line_num, str(error)) from error
+    records = quoted_records(name, file)
+    _, heading = next(records, (1, []))
+    columns = [column.strip() for column in heading]
+    check_columns(name, columns, required)
+    for line, fields in records:
+        if len(fields) > len(columns) and any(fields[len(columns):]):
+            raise BadFile(name, line, f'{len(fields)} fields, and {len(columns)} columns')
+        if any(fields):
+            yield Row(name, line, dict(zip(columns, map(str.strip, fields))))
 
 
 def check_columns(name: str, columns: list[str], required: Iterable[str]) -> None:

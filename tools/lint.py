@@ -18,6 +18,7 @@ import sys
 from collections import Counter
 from typing import NamedTuple
 
+from files import speak_utf8
 from names import numbered
 from railway import (
     LARGEST_DELAY, LARGEST_PASSED, BadFile, Network, activity_row, event_row, rows_of_file, text_of,
@@ -226,6 +227,7 @@ def main():
     words.add_argument('net', metavar='NET', help='folder with Events-expanded.giv and Activities-expanded.giv')
     words.add_argument('feeds', metavar='FEED', nargs='*', help='a file of feed lines')
     given = words.parse_args()
+    speak_utf8()
     try:
         count = tell(list(oddities(read_files(given.net), given.feeds)))
     except BadFile as fault:

@@ -17,7 +17,7 @@ import os
 import sys
 from typing import NamedTuple
 
-from files import write_all
+from files import speak_utf8, write_all
 from railway import BadFile, Network, network_files, read_network
 from words import stops_of
 
@@ -146,6 +146,7 @@ def main():
     words.add_argument('stops', metavar='STOPS', type=stops_of, help='ids of the boundary stops, as 6,17')
     words.add_argument('dir', metavar='DIR', help='where the regions go')
     words.add_argument('--regions', type=int, metavar='N', help='how many regions; by default each part is one')
+    speak_utf8()
     try:
         make_all(words.parse_args())
     except BadFile as fault:
