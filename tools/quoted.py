@@ -12,7 +12,7 @@ LONGEST_RECORD = 1_000_000
 
 
 class Lines:
-    """The lines of a file for a reader of records. It knows where the record begins that is read, and what it may still have."""
+    """The lines of a file for a reader of records. It knows where the record begins that is read, and its lines so far."""
 
     def __init__(self, name: str, file: io.TextIOBase, comment: str | None):
         self.name, self.file, self.comment = name, file, comment
@@ -21,7 +21,7 @@ class Lines:
         self.begin()
 
     def begin(self) -> None:
-        self.first, self.left = self.number + 1, LONGEST_RECORD
+        self.first, self.left, self.record = self.number + 1, LONGEST_RECORD, []
 
     def __iter__(self) -> Lines:
         return self
@@ -39,13 +39,15 @@ class Lines:
             raise StopIteration
         self.number += 1
         self.left -= len(line)
+        self.record.append(line)
         return line
 
 
 def quoted_records(name: str, file: BinaryIO, delimiter: str = ',', comment: str | None = None) -> Iterator[tuple[int, list[str]]]:
     """The line and the fields of each record of a file in UTF-8; a byte that is none is a lone half of a pair.
 
-    Lines that begin with the comment sign are none of a record. BadFile where a quote does not close, or a record is too long.
+    Lines that begin with the comment sign are none of a record. BadFile where a quote does not close, or a record is too long. In a
+    record of one line a quote may close before its field ends; over several lines it would be one that was forgotten.
     """
     with io.TextIOWrapper(file, encoding='utf-8-sig', errors='surrogateescape', newline='') as text:
         lines = Lines(name, text, comment)
@@ -55,6 +57,8 @@ def quoted_records(name: str, file: BinaryIO, delimiter: str = ',', comment: str
                 # A reader that is inside of quotes takes what there is when the lines end.
                 if lines.has_ended:
                     raise BadFile(name, lines.first, 'a quote opens in this record and does not close')
+                if len(lines.record) > 1:
+                    next(csv.reader(lines.record, delimiter=delimiter, strict=True))
                 yield lines.first, fields
                 lines.begin()
         except csv.Error as error:
