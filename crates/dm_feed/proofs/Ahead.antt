@@ -25,13 +25,13 @@ use Rattle.dm_feed.proofs.Spelling.{one_meaning}
 feedless : (bytes : List ℕ) → IsUnended bytes → All (λ b. eqb b 10 ≡ false) bytes
 feedless bytes h = λ k d low. ne_eqb (get_or bytes k d) 10 (h k d low)
 
-some_piece : (bytes : List ℕ) → 0 < length (pieces_of bytes)
+pub some_piece : (bytes : List ℕ) → 0 < length (pieces_of bytes)
 some_piece bytes = omega (arith, length-slice_split (λ b. eqb b 10) bytes)
 
 first_piece : (bytes rest : List ℕ) → IsUnended bytes → pieces_of (ended bytes ++ rest) ≡ bytes ∷ pieces_of rest
 first_piece bytes rest h = ap pieces_of (append_assoc bytes (10 ∷ []) rest) ∙ slice_split_at (λ b. eqb b 10) bytes 10 rest (feedless bytes h) refl
 
-line_among : (bytes : List ℕ) (pieces : List (List ℕ)) → 0 < length pieces → lines_among (bytes ∷ pieces) ≡ without_return bytes ∷ lines_among pieces
+pub line_among : (bytes : List ℕ) (pieces : List (List ℕ)) → 0 < length pieces → lines_among (bytes ∷ pieces) ≡ without_return bytes ∷ lines_among pieces
 line_among bytes [] some = absurd (omega arith)
 line_among bytes (p ∷ ps) some = refl
 
@@ -39,7 +39,7 @@ end_among : (bytes : List ℕ) (pieces : List (List ℕ)) → 0 < length pieces 
 end_among bytes [] some = absurd (omega arith)
 end_among bytes (p ∷ ps) some = refl
 
-line_more : (bytes rest : List ℕ) → IsUnended bytes → lines_of (ended bytes ++ rest) ≡ without_return bytes ∷ lines_of rest
+pub line_more : (bytes rest : List ℕ) → IsUnended bytes → lines_of (ended bytes ++ rest) ≡ without_return bytes ∷ lines_of rest
 line_more bytes rest h = ap lines_among (first_piece bytes rest h) ∙ line_among bytes (pieces_of rest) (some_piece rest)
 
 end_more : (bytes rest : List ℕ) → IsUnended bytes → ended_lines_of (ended bytes ++ rest) ≡ without_return bytes ∷ ended_lines_of rest
@@ -133,7 +133,7 @@ same_items passed (t ∷ ts) (item m g ∷ xs) (item n h ∷ ys) (inr p) (inr q)
 due_first : (passed : ℕ) (text : List ℕ) (texts : List (List ℕ)) (h : Heard) (others : List DueItem) (line : ℕ) → (IsQuiet text → ⊥) → Hears text h → line ≡ passed + 1 → AreDueItems line texts others → AreDueItems passed (text ∷ texts) (item line h ∷ others)
 due_first passed text texts h others line is_due hears number due = inr (is_due, hears, number, subst (λ (n : ℕ). AreDueItems n texts others) number due)
 
-quiet_first : (passed : ℕ) (text : List ℕ) (texts : List (List ℕ)) (items : List DueItem) → IsQuiet text → AreDueItems (passed + 1) texts items → AreDueItems passed (text ∷ texts) items
+pub quiet_first : (passed : ℕ) (text : List ℕ) (texts : List (List ℕ)) (items : List DueItem) → IsQuiet text → AreDueItems (passed + 1) texts items → AreDueItems passed (text ∷ texts) items
 quiet_first passed text texts [] quiet due = (quiet, due)
 quiet_first passed text texts (item n h ∷ items) quiet due = inl (quiet, due)
 

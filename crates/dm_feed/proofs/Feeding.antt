@@ -60,7 +60,7 @@ no_place : (b : Bool) (p : ℕ) → None ≡ cond b (Some p) None → b ≡ fals
 no_place true p e = absurd cc
 no_place false p e = refl
 
-rest_of : (from : ℕ) (bytes : List ℕ) → take (length bytes - from) (drop from bytes) ≡ drop from bytes
+pub rest_of : (from : ℕ) (bytes : List ℕ) → take (length bytes - from) (drop from bytes) ≡ drop from bytes
 rest_of from bytes = take_all (length bytes - from) (drop from bytes) (omega (arith, length-drop from bytes))
 
 pub no_feed : (bytes : List ℕ) (from : ℕ) → IsUnended (take from bytes) → None ≡ position (λ b. eqb b 10) (take (length bytes - from) (drop from bytes)) → IsUnended bytes
@@ -132,7 +132,7 @@ one_more quiet bytes rest =
     ∙ (sym (append_assoc (flat_map ended quiet) (ended bytes) rest)
     ∙ ap (λ (l : List ℕ). l ++ rest) (ap (λ (l : List ℕ). flat_map ended quiet ++ l) (sym (append-nil (ended bytes))) ∙ sym (flat_map-append ended quiet (bytes ∷ []))))
 
-not_quiet : (text : List ℕ) (h : Heard) → Hears text h → h ≢ heard.Blank → IsQuiet text → ⊥
+pub not_quiet : (text : List ℕ) (h : Heard) → Hears text h → h ≢ heard.Blank → IsQuiet text → ⊥
 not_quiet text heard.Blank hears due q = due refl
 not_quiet text (heard.Line said) hears due q = quiet_or_line text said q hears
 not_quiet text heard.Malformed hears due q = hears.not_quiet q

@@ -6,5 +6,6 @@ pub mod Digits
 pub mod Feeding
 pub mod Hearing
 pub mod Imagined
+pub mod Joining
 pub mod Messaging
 pub mod Spelling

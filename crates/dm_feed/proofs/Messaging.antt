@@ -14,7 +14,7 @@ use Rattle.dm_rows.specs.declared.messages.Message.TheVariants as message
 use Rattle.dm_feed.specs.declared.messages.MessageFault.{MessageFault}
 use Rattle.dm_feed.specs.declared.messages.MessageFault.TheVariants.{Form, OutOfMemory}
 use Rattle.dm_feed.specs.declared.vocabulary.Word.{Word}
-use Rattle.dm_feed.specs.declared.vocabulary.Word.TheVariants.{Delay, Event, Activity, Pass, Recall, Keep, Drop, First, Now, Time, Cost, Read, Plan, Adopt}
+use Rattle.dm_feed.specs.declared.vocabulary.Word.TheVariants.{Delay, Pass, Recall, Keep, Drop, First, Now, Adopt}
 use Rattle.dm_feed.specs.declared.grammar.Line.{Line}
 use Rattle.dm_feed.specs.declared.grammar.Line.TheVariants as line
 use Rattle.dm_feed.specs.Words.{spelling_of_word, words_of}

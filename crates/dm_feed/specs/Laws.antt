@@ -1,13 +1,15 @@
 -- What follows from what lines say and how they are spelled.
-use Rattle.std.specs.Prelude.{ℕ, ◌≡◌, List, [], ◌∷◌, ◌++◌, All, Option, None, Some}
+use Rattle.std.specs.Prelude.{ℕ, ◌≡◌, ◌↔◌, List, [], ◌∷◌, ◌++◌, All, Option, None, Some}
+use Rattle.std.specs.List.{concat}
 use Rattle.dm_rows.specs.declared.messages.Message.{Message}
 use Rattle.dm_feed.specs.declared.grammar.Line.{Line}
 use Rattle.dm_feed.specs.declared.grammar.Heard.{Heard}
 use Rattle.dm_feed.specs.declared.grammar.Heard.TheVariants.{Line as Spoken}
 use Rattle.dm_feed.specs.Parts.{Fits}
 use Rattle.dm_feed.specs.declared.feed.FeedStop.{FeedStop}
-use Rattle.dm_feed.specs.DueItems.{DueItem, AreDueItems, lines_ahead, lines_of_feed, GivesInTurn, AreFirstOf, StopsNext, EndsWith, item, GivesLines, StopsSo, HasFeed}
+use Rattle.dm_feed.specs.DueItems.{DueItem, AreDueItems, lines_of, lines_ahead, lines_of_feed, GivesInTurn, AreFirstOf, StopsNext, EndsWith, item, GivesLines, StopsSo, HasFeed}
 use Rattle.dm_feed.specs.Feeds.{ReaderValue, GivesDue}
+use Rattle.dm_feed.specs.Joined.{AreWhole, AreItemsOfParts}
 use Rattle.dm_feed.specs.Lines.{parts_of_line, IsSpelledLine, Hears, spelling_of_line, IsMessageOf}
 
 -- a line in print is heard as itself, if its numbers are not too large
@@ -59,3 +61,9 @@ abbrev pub HaveFeeds : Type 0 → Type 0
 HaveFeeds S =
     (left : S → Option (List ℕ)) (before now later : ReaderValue S) (items : List DueItem) (stop : FeedStop) → before.pending ≡ [] → before.taken ≡ 0 → before.lines ≡ 0
     → before.stop ≡ None → GivesLines left before items now → StopsSo left now later stop → HasFeed left before items stop
+
+-- the due items of parts, each cut behind a line feed, are those of all bytes in one
+abbrev pub AreJoined : Type 0
+AreJoined =
+    (passed : ℕ) (parts : List (List ℕ)) (rest : List ℕ) (items : List DueItem) → All AreWhole parts
+    → (AreItemsOfParts passed parts rest items ↔ AreDueItems passed (lines_of (concat parts ++ rest)) items)

@@ -4,6 +4,7 @@ pub mod Parts
 pub mod Lines
 pub mod Feeds
 pub mod DueItems
+pub mod Joined
 pub mod Laws
 -- What the readers do between bytes and lines: checked, and not to be believed.
 pub mod Inside

@@ -1,5 +1,5 @@
 //! What follows from the definitions alone: each function here does nothing, and its clause is the law.
-ghost use Rattle.dm_feed.specs.Laws.{AreHeardAsPrinted, HaveOneMeaning, HaveDueItems, AreOneMessage, HaveAllAhead, GiveItemsOfFeed, EndAsStopped, GoOnGiving, HaveFeeds};
+ghost use Rattle.dm_feed.specs.Laws.{AreHeardAsPrinted, HaveOneMeaning, HaveDueItems, AreOneMessage, HaveAllAhead, GiveItemsOfFeed, EndAsStopped, GoOnGiving, HaveFeeds, AreJoined};
 
 /// A line that is printed is heard as itself.
 #[tactic(auto, using(crate::proofs::Spelling::printed_is_heard))]
@@ -47,4 +47,10 @@ pub fn lines_are_given_in_turn<S>()
 /// What a new reader gives up to its stop are the due items of some bytes, also where its source tells nothing.
 pub fn given_lines_have_a_feed<S>()
     ensures { HaveFeeds S }
+{}
+
+/// The due lines of bytes that come in parts, each cut behind a line feed, are those of the whole, numbered on from the parts
+/// before.
+pub fn lines_are_joined()
+    ensures { AreJoined }
 {}

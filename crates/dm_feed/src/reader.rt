@@ -62,8 +62,8 @@ fn is_due(heard: &Heard) -> bool
     !matches!(heard, Heard::Blank)
 }
 
-// The place of the first line feed, if none is before this place.
-fn line_feed(bytes: &[u8], from: usize) -> Option<usize>
+/// The place of the first line feed, if none is before this place.
+pub(crate) fn line_feed(bytes: &[u8], from: usize) -> Option<usize>
     requires within { from ≤ length bytes.now }
     requires unended { IsUnended (take from bytes.now) }
     ensures { MatchOption result (IsUnended bytes.now) (EndsAt bytes.now) }
@@ -84,8 +84,8 @@ fn without_return(bytes: &[u8]) -> &[u8]
     if *last == b'\r' { front } else { bytes }
 }
 
-// What is heard in a line that ended with a line feed.
-fn hear_ended(bytes: &[u8]) -> Heard
+/// What is heard in a line that ended with a line feed.
+pub(crate) fn hear_ended(bytes: &[u8]) -> Heard
     ensures { Hears (without_return bytes.now) result }
 {
     read_line(without_return(bytes))
