@@ -1,4 +1,6 @@
 """The index of names: where each is defined, and what is told of names that are not."""
+import contextlib
+import io
 import os
 
 from folders import InFolder, read
@@ -37,7 +39,10 @@ class Index(InFolder):
             file.write(text)
 
     def made(self, *words):
-        return self.call(lambda asked: exit_with(model_index.main(asked)), *words, '--repository', self.folder)
+        """The status of the script, and what it says on standard error."""
+        said = io.StringIO()
+        with contextlib.redirect_stderr(said):
+            return model_index.main([*words, '--repository', self.folder]), said.getvalue()
 
     def test_index(self):
         self.assertEqual(self.made('--check')[0], 1)
@@ -55,7 +60,3 @@ class Index(InFolder):
         self.assertEqual(status, 1)
         self.assertIn('misses is defined nowhere', said)
         self.assertIn('Arcs stands in dm_graph/Arcs', said)
-
-
-def exit_with(status):
-    raise SystemExit(status)
