@@ -1,0 +1,262 @@
+#!/usr/bin/env python3
+"""Sets plans of the server beside solutions of CBC and GLPK: python3 bench/against.py DISPATCHER [DAY ..] [--limit=S] [--csv=FILE]
+
+A DAY is TRAINS:NUMBER, a day of bench/day.py after its 500 delays, or TRAINS:NUMBER:FROM:TO, the choices of a window of it, or
+SHAPE:NUMBER, a network of tools/shapes.py with delays of tools/scenarios.py. By default they are days of 20 to 2,000 trains with the
+numbers 1 to 9, and windows of 10, 20 and 40 minutes on days of 2,000 trains. The penalty is 3600 and a plan has 16,384 nodes. CBC and
+GLPK (Debian's coinor-cbc and glpk-utils) solve the programme of tools/to_mps.py, each for --limit seconds at most (60); GLPK with all
+of its cuts. Where one of them is not there its column says so.
+
+Each line of the table printed has the cost in millions, the bound and the gap where it is not proved to be the least, the seconds of
+processor (of a run with the plan less one without; of a window the whole command; of a solver without to_mps.py) and the most memory.
+What a solver or a window chose is said to the server by tools/from_sol.py's order of lines, so that each cost is the server's, and
+`check` judges each text.
+
+The status is 1 where two that prove the least cost differ, or a bound is above what another found; a line tells it.
+"""
+from __future__ import annotations
+
+import argparse
+import csv
+import math
+import os
+import re
+import shutil
+import sys
+import tempfile
+from typing import NamedTuple, Optional, Sequence
+
+TOP = os.path.join(os.path.dirname(os.path.abspath(__file__)), '..')
+sys.path[:0] = [os.path.join(TOP, 'tools'), os.path.join(TOP, 'bench')]
+
+from day import write_day  # noqa: E402
+from decide import in_turn, spoken  # noqa: E402
+from measured import Measured, measured  # noqa: E402
+from programme import Posed, Programme, Window, mps_text, programme_of  # noqa: E402
+from railway import BadFile, Network, Rows, read_network  # noqa: E402
+from runtext import DECISIONS, read_form  # noqa: E402
+from scene import read_text, rows_of  # noqa: E402
+from solution import Solution, decisions_of, read_solution  # noqa: E402
+
+PENALTY = 3600
+BUDGET = 16_384
+SIZES = [20, 40, 100, 200, 500, 2000]
+WINDOWS = [(start, start + 60 * minutes) for minutes in (10, 20, 40) for start in (30_000, 50_000, 70_000)]
+USUAL = [f'{trains}:{number}' for trains in SIZES for number in range(1, 10)]
+USUAL += [f'2000:{number}:{start}:{end}' for start, end in WINDOWS for number in (1, 7)]
+SOLVERS = ('CBC', 'GLPK')
+
+
+class Found(NamedTuple):
+    """What one of the three found: a cost, where it found one, and a bound, in thousandths, and whether it calls the cost the least."""
+    cost: Optional[int]
+    bound: Optional[int]
+    is_least: bool
+    seconds: float
+    megabytes: float
+
+    def in_print(self) -> str:
+        took = f'{self.seconds:.2f} s, {self.megabytes:.0f} MB'
+        bound = '' if self.bound is None else f'bound {self.bound / 1e6:.2f}'
+        if self.cost is None:
+            return ', '.join(filter(None, ['nothing', bound, took]))
+        if self.is_least:
+            return f'{self.cost / 1e6:.2f} least, {took}'
+        gap = '' if self.bound is None else f' ({100 * (self.cost - self.bound) / self.cost:.2f} %)'
+        return f'{self.cost / 1e6:.2f}, {bound}{gap}, {took}'
+
+
+class Fault(Exception):
+    """Something is not as it has to be."""
+
+
+# ---- The server
+
+
+class Server:
+    """The program over the network of a folder."""
+
+    def __init__(self, program: str, net: str, folder: str) -> None:
+        self.program, self.net, self.folder = program, net, folder
+
+    def run(self, lines: Sequence[str], name: str) -> Measured:
+        """A run of a feed of lines; its text is left under a name, and judged."""
+        feed = self.written(name + '.feed', lines)
+        done = measured([self.program, 'run', self.net, f'--penalty={PENALTY}', feed])
+        if done.status != 0:
+            raise Fault(f'a run ends with {done.status}')
+        with open(self.path(name), 'w', encoding='ascii') as file:
+            file.write(done.printed)
+        verdict = measured([self.program, 'check', self.net, f'--penalty={PENALTY}', self.path(name)])
+        if not verdict.printed.startswith('good '):
+            raise Fault(f'check says of a run: {verdict.printed.strip()}')
+        return done
+
+    def path(self, name: str) -> str:
+        return os.path.join(self.folder, name)
+
+    def written(self, name: str, lines: Sequence[str]) -> str:
+        with open(self.path(name), 'w', encoding='ascii') as file:
+            file.writelines(f'{line}\n' for line in lines)
+        return self.path(name)
+
+    def cost(self, lines: Sequence[str]) -> int:
+        """What the rows after lines cost, none of which may be refused."""
+        text = self.run(lines, 'costs').printed
+        if ' refused ' in text:
+            raise Fault('a choice is refused')
+        return int(text.splitlines()[-2].split()[1])
+
+
+def plan_of(text: str) -> tuple[str, int, int]:
+    """The mark, cost and bound of the plan in a text."""
+    found = re.search(r'plan (optimal|open) cost (\d+) bound (\d+) ', text)
+    if found is None:
+        raise Fault('there is no plan')
+    return found[1], int(found[2]), int(found[3])
+
+
+def planned(server: Server, delays: Sequence[str]) -> Found:
+    """The plan of a whole day."""
+    without = server.run(delays, 'text')
+    done = server.run([*delays, f'plan {BUDGET}'], 'plan')
+    mark, cost, bound = plan_of(done.printed)
+    return Found(cost, bound, mark == 'optimal', max(0, done.seconds - without.seconds), done.megabytes)
+
+
+def windowed(server: Server, delays: Sequence[str], window: Window, network: Network, rows: Rows) -> Found:
+    """The plan of a window, its cost told by a run in which its choices are entered."""
+    words = [server.program, 'window', server.net, server.path('text'), str(window.start), str(window.end), str(BUDGET)]
+    done = measured([*words, f'--penalty={PENALTY}'])
+    mark, cost, bound = plan_of(done.printed)
+    choices = [read_form(DECISIONS, line.split()[1:]) for line in done.printed.splitlines() if line.startswith('choice ')]
+    if server.cost([*delays, *spoken(in_turn(network, rows, choices))]) != cost:
+        raise Fault('the choices of a window do not cost what its plan says')
+    return Found(cost, bound, mark == 'optimal', done.seconds, done.megabytes)
+
+
+# ---- The solvers
+
+
+def cbc_bound(log: str) -> Optional[float]:
+    found = re.findall(r'^Lower bound: +(\S+)|best possible (\S+) \(', log, re.M)
+    return float(next(filter(None, found[-1]))) if found else None
+
+
+def glpk_bound(log: str) -> Optional[float]:
+    found = re.findall(r'>= +(\S+e[-+]\d+)', log)
+    return float(found[-1]) if found else None
+
+
+def command_of(solver: str, problem: str, solution: str, limit: int) -> Optional[list[str]]:
+    """The words of a solver, or None where it is not there."""
+    program = shutil.which({'CBC': 'cbc', 'GLPK': 'glpsol'}[solver])
+    if program is None:
+        return None
+    if solver == 'CBC':
+        return [program, problem, '-sec', str(limit), '-solve', '-solu', solution]
+    return [program, '--freemps', problem, '--cuts', '--pcost', '--tmlim', str(limit), '-o', solution]
+
+
+def solved(server: Server, delays: Sequence[str], solver: str, limit: int, posed: Posed, programme: Programme) -> Optional[Found]:
+    """What a solver found, its cost told by a run in which its choices are entered."""
+    name = server.path('solution')
+    if os.path.exists(name):
+        os.remove(name)
+    command = command_of(solver, server.path('programme.mps'), name, limit)
+    if command is None:
+        return None
+    done = measured(command, 2 * limit + 60)
+    bound = (cbc_bound if solver == 'CBC' else glpk_bound)(done.printed)
+    least = None if bound is None or not math.isfinite(bound) else math.ceil(bound - 1e-6 * max(1, abs(bound))) * programme.unit
+    try:
+        solution = read_solution(name)
+        cost = cost_of_solution(server, delays, name, solution, posed)
+    except BadFile:
+        return Found(None, least, False, done.seconds, done.megabytes)
+    is_least = 'optimal' in solution.status.lower() and 'non-optimal' not in solution.status.lower()
+    if is_least and round(float(solution.objective or 'nan')) * programme.unit != cost:
+        raise Fault(f'{solver} calls {solution.objective} units of {programme.unit} the least, and its choices cost {cost}')
+    return Found(cost, cost if is_least else least, is_least, done.seconds, done.megabytes)
+
+
+def cost_of_solution(server: Server, delays: Sequence[str], name: str, solution: Solution, posed: Posed) -> int:
+    decisions = decisions_of(name, solution, posed.free)
+    return server.cost([*delays, *spoken(in_turn(posed.network, posed.rows, decisions))])
+
+
+# ---- Days
+
+
+def prepared(day: str, folder: str) -> tuple[str, list[str], Optional[Window]]:
+    """The folder of the network of a day, the lines of its delays, and the window, where the day names one."""
+    kind, *numbers = day.split(':')
+    window = Window(*map(int, numbers[1:])) if len(numbers) == 3 else None
+    if kind.isdecimal():
+        write_day(int(numbers[0]), int(kind), folder)
+        with open(os.path.join(folder, 'delays'), encoding='ascii') as file:
+            return os.path.join(folder, 'net'), file.read().splitlines(), window
+    from scenarios import delays_of_shape
+    return (*delays_of_shape(kind, int(numbers[0]), folder), window)
+
+
+def compared(program: str, day: str, limit: int) -> dict[str, Optional[Found]]:
+    """What the three find of a day."""
+    with tempfile.TemporaryDirectory() as folder:
+        net, delays, window = prepared(day, folder)
+        server = Server(program, net, folder)
+        server.run(delays, 'text')
+        network = read_network(net)
+        rows = rows_of(network, Rows(network), read_text(server.path('text'), network), 'text')
+        posed = Posed(network, rows, PENALTY, window)
+        programme = programme_of(posed)
+        server.written('programme.mps', mps_text(programme).splitlines())
+        ours = planned(server, delays) if window is None else windowed(server, delays, window, network, rows)
+        return {'dispatch': ours} | {solver: solved(server, delays, solver, limit, posed, programme) for solver in SOLVERS}
+
+
+def contradictions(found: dict[str, Optional[Found]]) -> list[str]:
+    """What two of them say that cannot both be."""
+    told = []
+    for one, first in found.items():
+        for other, second in found.items():
+            if first and second and first.bound is not None and second.cost is not None and first.bound > second.cost:
+                told.append(f'{one} says that nothing costs less than {first.bound}, {other} found {second.cost}')
+    return told
+
+
+def table_line(day: str, found: dict[str, Optional[Found]]) -> str:
+    cells = ['is not there' if one is None else one.in_print() for one in found.values()]
+    return f'| {day} | {" | ".join(cells)} |'
+
+
+def main() -> int:
+    words = argparse.ArgumentParser(description=__doc__, formatter_class=argparse.RawDescriptionHelpFormatter)
+    words.add_argument('dispatcher', metavar='DISPATCHER', help='the built program')
+    words.add_argument('days', nargs='*', metavar='DAY', help='TRAINS:NUMBER, TRAINS:NUMBER:FROM:TO or SHAPE:NUMBER')
+    words.add_argument('--limit', type=int, default=60, metavar='S', help='seconds for each solver and day')
+    words.add_argument('--csv', metavar='FILE', help='where the numbers go, too')
+    given = words.parse_args()
+    rows = [('day', 'program', *Found._fields)]
+    faults = 0
+    print('| Day | dispatch | CBC | GLPK |\n|---|---|---|---|')
+    for day in given.days or USUAL:
+        try:
+            found = compared(os.path.abspath(given.dispatcher), day, given.limit)
+        except Fault as fault:
+            print(f'{day}: {fault}', flush=True)
+            faults += 1
+            continue
+        print(table_line(day, found), flush=True)
+        rows += [(day, name, *one) for name, one in found.items() if one is not None]
+        for told in contradictions(found):
+            print(f'{day}: {told}', flush=True)
+            faults += 1
+        if given.csv:
+            with open(given.csv, 'w', encoding='utf-8', newline='') as file:
+                csv.writer(file, lineterminator='\n').writerows(rows)
+    return 1 if faults else 0
+
+
+if __name__ == '__main__':
+    sys.exit(main())
