@@ -1,0 +1,107 @@
+#!/usr/bin/env python3
+"""Prints the choices of a plan as lines of a feed, such as `drop 5` and `first 5 3`: choices.py TEXT [--feed=K]
+
+TEXT is the text of a run or what `dispatcher window` printed; `-` is standard input. Of a run the plan for the most entries is
+taken, the last one where several are for as many, of all feeds or of feed K. Of a window that was carried over to the last entry
+the choices are printed that still differ from the rows there. The journal has such lines as a dispatcher's own.
+
+Status 0 where there is a plan, 1 where there is none or it could not be carried over, 2 where the text is none of these.
+"""
+from __future__ import annotations
+
+import argparse
+import sys
+from typing import Iterator
+
+from railway import MOST_ENTRIES, Plan
+from runtext import (
+    DECISIONS, MOST_FEEDS, NUMBER, VALUE, Answer, Bad, Text, fits, read_form, read_journal, read_log, read_plan, read_plan_head,
+)
+from words import whole_between
+
+Decision = tuple[str | int, ...]
+
+
+class NoPlan(Exception):
+    """The text has no plan whose choices could be said; the argument says why."""
+
+
+def plans_of_run(text: Text, feed: int | None) -> Iterator[Plan]:
+    """The plans in the logs of a run, of all feeds or of one."""
+    version, _, feeds, _ = read_journal(text)
+    for number in range(1, feeds + 1):
+        for item in read_log(text, version, number).items:
+            if item.answer is not None and item.answer.kind == 'plan' and feed in (None, number):
+                yield item.answer.value
+
+
+def choices_of_run(text: Text, feed: int | None) -> tuple[Decision, ...]:
+    """The choices of the plan for the most entries, the last where several are for as many."""
+    latest = None
+    for plan in plans_of_run(text, feed):
+        if latest is None or plan.entry >= latest.entry:
+            latest = plan
+    if latest is None:
+        raise NoPlan('no plan was asked for' if feed is None else f'feed {feed} asked for no plan')
+    return latest.choices
+
+
+def choices_carried(text: Text) -> tuple[Decision, ...]:
+    """The choices of a plan that still differ from the rows at the last entry."""
+    words = text.words()
+    numbers = fits(words, ['rebased', MOST_ENTRIES, 'cost', NUMBER, 'choices', NUMBER])
+    if numbers is None:
+        text.demand(words[0] == 'rebased' and words[2:3] == ['refused'], 'form')
+        raise NoPlan(f'the plan could not be carried over: {" ".join(words[3:])}')
+    choices = []
+    for _ in range(numbers[2]):
+        words = text.words()
+        decision = read_form(DECISIONS, words[1:])
+        text.demand(words[0] == 'choice' and decision is not None, 'form')
+        choices.append(decision)
+    return tuple(choices)
+
+
+def choices_of_window(text: Text) -> tuple[Decision, ...]:
+    """The choices of the plan of a window, or what is left of them at the last entry."""
+    entry, = text.read('window', VALUE, VALUE, 'entry', MOST_ENTRIES)[2:]
+    head = read_plan_head(text.words(), 2)
+    text.demand(head is not None, 'form')
+    plan = read_plan(text, 2, Answer('plan', entry, head))
+    return choices_carried(text) if text.has_more() else plan.choices
+
+
+def choices_in(data: bytes, feed: int | None) -> tuple[Decision, ...]:
+    """The choices that the bytes of a text tell; Bad at the first line of another form."""
+    text = Text(data)
+    return choices_of_window(text) if data.startswith(b'window ') else choices_of_run(text, feed)
+
+
+def lines_of(choices: tuple[Decision, ...]) -> str:
+    return ''.join(' '.join(map(str, decision)) + '\n' for decision in choices)
+
+
+def bytes_of(name: str) -> bytes:
+    if name == '-':
+        return sys.stdin.buffer.read()
+    with open(name, 'rb') as file:
+        return file.read()
+
+
+def main() -> None:
+    words = argparse.ArgumentParser(description='Prints the choices of a plan as lines of a feed.', allow_abbrev=False)
+    words.add_argument('text', metavar='TEXT')
+    words.add_argument('--feed', type=whole_between(1, MOST_FEEDS), metavar='K', help='the plans of this feed alone')
+    given = words.parse_args()
+    try:
+        print(lines_of(choices_in(bytes_of(given.text), given.feed)), end='')
+    except NoPlan as why:
+        sys.exit(f'{given.text}: {why}')
+    except (Bad, OSError) as fault:
+        line = f' line {fault.args[0]} has not its form' if isinstance(fault, Bad) else f': {fault.strerror}'
+        print(f'{given.text}{line}', file=sys.stderr)
+        sys.exit(2)
+
+
+if __name__ == '__main__':
+    main()

@@ -1,0 +1,75 @@
+"""Choices of plans as lines of a feed."""
+import os
+import subprocess
+import sys
+import unittest
+
+from samples import text
+
+from choices import NoPlan, choices_in, lines_of
+from runtext import Bad
+
+TOOL = os.path.join(os.path.dirname(os.path.dirname(os.path.abspath(__file__))), 'choices.py')
+
+
+def bytes_of(name):
+    with open(text(name), 'rb') as file:
+        return file.read()
+
+
+def lines(data, feed=None):
+    return lines_of(choices_in(data, feed)).splitlines()
+
+
+class OfRuns(unittest.TestCase):
+    def test_plan(self):
+        self.assertEqual(lines(bytes_of('plan_that_costs_less')), ['drop 5', 'first 5 3'])
+
+    def test_plan_of_one_feed(self):
+        self.assertEqual(lines(bytes_of('plan_that_is_old'), 1), ['drop 5', 'first 5 3'])
+        with self.assertRaises(NoPlan):
+            choices_in(bytes_of('plan_that_is_old'), 2)
+
+    def test_plan_of_the_first_version(self):
+        with open(os.path.join(os.path.dirname(text('good_text_with_a_plan')), 't'), 'rb') as file:
+            self.assertEqual(lines(file.read()), ['drop 5', 'first 5 3'])
+
+    def test_no_plan(self):
+        with self.assertRaises(NoPlan):
+            choices_in(bytes_of('late_first_train'), None)
+
+    def test_text_that_is_cut(self):
+        whole = bytes_of('plan_that_costs_less')
+        with self.assertRaises(Bad) as caught:
+            choices_in(whole[:whole.index(b'inner')], None)
+        self.assertEqual(caught.exception.args, (11, 'truncated'))
+
+
+class OfWindows(unittest.TestCase):
+    def test_window(self):
+        self.assertEqual(lines(bytes_of('window_of_each_choice')), ['drop 5', 'first 5 3'])
+        self.assertEqual(lines(bytes_of('window_of_one_change')), [])
+
+    def test_what_is_left_at_the_last_entry(self):
+        data = b'\n'.join([
+            b'window 200 235 entry 1', b'plan optimal cost 9 bound 9 choices 2 nodes 1', b'choice drop 5', b'choice first 5 3',
+            b'bound 9', b'rebased 2 cost 7 choices 1', b'choice first 5 3', b'',
+        ])
+        self.assertEqual(lines(data), ['first 5 3'])
+
+    def test_what_could_not_be_carried_over(self):
+        with self.assertRaises(NoPlan) as caught:
+            choices_in(bytes_of('window_carried_to_a_passed_event'), None)
+        self.assertIn('not-free', str(caught.exception))
+
+
+class Called(unittest.TestCase):
+    def call(self, *words):
+        done = subprocess.run([sys.executable, TOOL, *words], capture_output=True, text=True, check=False)
+        return done.returncode, done.stdout
+
+    def test_statuses(self):
+        self.assertEqual(self.call(text('plan_that_costs_less')), (0, 'drop 5\nfirst 5 3\n'))
+        self.assertEqual(self.call(text('late_first_train')), (1, ''))
+        self.assertEqual(self.call(TOOL), (2, ''))
+        self.assertEqual(self.call('no_such_text'), (2, ''))
