@@ -1,0 +1,174 @@
+#!/usr/bin/env python3
+"""Tells what proving costs: python3 bench/gate.py run [--anew] [CRATE..], or python3 bench/gate.py functions [--most N] [CRATE..]
+
+Both run at the top of a clone. `run` runs `rt ci` with these words, passes on what it prints, and ends with its status. Meanwhile
+it looks at the prover's processes each second, and adds up the processor time of each crate: of its own proof, of its tests and of
+its edits. What an earlier run on the machine has kept costs nothing and has no row; with --anew all is proved.
+
+`functions` tells where a first check's time went. Such a check, as `rt check` in a crate's folder that has no out/, or
+`rt all check --jobs 4` for all below one, writes a file of out/incremental as each part of a proof ends. The step from one file to
+the next is the time of the part, a little blurred where several jobs ran. A row gives a crate's seconds and those of its dearest
+kinds of parts: `Lts` are the states that a function can be in (many owned values with a derived `Drop` make many), `Proof`, `Goals`
+and `Tie` what is proved of them. A later check writes files anew and tells nothing.
+"""
+import argparse
+import os
+import subprocess
+import sys
+import time
+from collections import Counter
+from collections.abc import Iterable, Mapping
+from dataclasses import dataclass
+from pathlib import Path
+
+# How often processes are looked at, in seconds.
+PERIOD = 1.0
+
+# What a crate's processor time goes to.
+KINDS = ('proof', 'tests', 'edits')
+
+
+@dataclass(frozen=True)
+class Process:
+    """A process of the prover, with the processor seconds that it and its ended children have had."""
+    parent: int
+    begun: int
+    seconds: float
+    crate: str
+    kind: str
+
+
+@dataclass(frozen=True)
+class Part:
+    """A part of a crate's proof, with the seconds that it took."""
+    seconds: float
+    crate: str
+    name: str
+
+    @property
+    def kind(self) -> str:
+        return self.name.rsplit('.', 1)[-1]
+
+
+def kind_of(words: list[str], folder: str) -> str:
+    """What a process of the prover works on, by its words and its folder."""
+    if Path(folder).name.startswith('rt-edit'):
+        return 'edits'
+    return 'tests' if '--test' in words else 'proof'
+
+
+def read_process(folder: Path, ticks: int) -> Process | None:
+    """The process of a folder of /proc, where it is one of the prover that names a crate."""
+    try:
+        words = folder.joinpath('cmdline').read_bytes().decode(errors='replace').split('\0')
+        if Path(words[0]).name != 'rattle' or '--crate-name' not in words:
+            return None
+        crate = words[words.index('--crate-name') + 1]
+        kind = kind_of(words, os.readlink(folder / 'cwd'))
+        numbers = folder.joinpath('stat').read_text(errors='replace').rpartition(')')[2].split()
+    except OSError:
+        # It has ended.
+        return None
+    return Process(int(numbers[1]), int(numbers[19]), sum(map(int, numbers[11:15])) / ticks, crate, kind)
+
+
+def read_processes(proc: Path, ticks: int) -> dict[int, Process]:
+    """The prover's processes, by number."""
+    found = {int(it.name): read_process(it, ticks) for it in proc.iterdir() if it.name.isdigit()}
+    return {pid: process for pid, process in found.items() if process}
+
+
+class Meter:
+    """The processor time of crates, from looks at the processes."""
+
+    def __init__(self) -> None:
+        self.seen: dict[tuple[int, int], tuple[Process, float]] = {}
+
+    def look(self, processes: Mapping[int, Process]) -> None:
+        """Notes what processes have cost so far; what a job of another one costs counts to that one."""
+        sums: Counter[int] = Counter()
+        for pid, process in processes.items():
+            top = pid
+            while processes[top].parent in processes:
+                top = processes[top].parent
+            sums[top] += process.seconds
+        for top, seconds in sums.items():
+            process = processes[top]
+            before = self.seen.get((top, process.begun), (process, 0.0))[1]
+            self.seen[top, process.begun] = process, max(before, seconds)
+
+    def costs(self) -> dict[str, Counter[str]]:
+        """The seconds of each crate, by kind."""
+        found: dict[str, Counter[str]] = {}
+        for process, seconds in self.seen.values():
+            found.setdefault(process.crate, Counter())[process.kind] += seconds
+        return found
+
+
+def cost_rows(costs: Mapping[str, Mapping[str, float]]) -> list[str]:
+    """The table of crates, the dearest first, with the sum in its last row."""
+    rows = sorted(costs.items(), key=lambda it: (-sum(it[1].values()), it[0]))
+    whole = {kind: sum(it.get(kind, 0) for it in costs.values()) for kind in KINDS}
+    lines = [f'{"crate":22}{"seconds":>9}' + ''.join(f'{kind:>9}' for kind in KINDS)]
+    for name, cost in [*rows, ('all', whole)]:
+        lines.append(f'{name:22}{sum(cost.values()):9.0f}' + ''.join(f'{cost.get(kind, 0):9.0f}' for kind in KINDS))
+    return lines
+
+
+def run(words: list[str]) -> int:
+    """Runs rt ci and prints what the crates have cost."""
+    meter, ticks, begun = Meter(), os.sysconf('SC_CLK_TCK'), time.monotonic()
+    with subprocess.Popen(['rt', 'ci', *words]) as gate:
+        while gate.poll() is None:
+            meter.look(read_processes(Path('/proc'), ticks))
+            time.sleep(PERIOD)
+    print(*cost_rows(meter.costs()), f'minutes by the clock: {(time.monotonic() - begun) / 60:.1f}', sep='\n')
+    return gate.returncode
+
+
+def read_parts(top: Path, names: Iterable[str]) -> list[Part]:
+    """The parts of the proofs of crates, all where none is named, by the times at which their files were written."""
+    parts, wanted = [], set(names)
+    for folder in sorted(top.glob('crates/*/out/incremental/*/')):
+        crate = folder.parts[len(top.parts) + 1]
+        if wanted and crate not in wanted:
+            continue
+        files = sorted((it.stat().st_mtime, it.stem) for it in folder.glob('*.oantt'))
+        parts += [Part(now - before, crate, name) for (before, _), (now, name) in zip(files, files[1:])]
+    return parts
+
+
+def part_rows(parts: Iterable[Part], most: int) -> list[str]:
+    """The table of crates, the dearest first, and of the dearest parts."""
+    crates: dict[str, Counter[str]] = {}
+    for part in parts:
+        crates.setdefault(part.crate, Counter())[part.kind] += part.seconds
+    rows = sorted(crates.items(), key=lambda it: (-it[1].total(), it[0]))
+    lines = [f'{name:22}{kinds.total():7.0f} s  ' + '  '.join(f'{kind} {seconds:.0f}' for kind, seconds in kinds.most_common(4))
+             for name, kinds in rows]
+    dearest = sorted(parts, key=lambda it: (-it.seconds, it.crate, it.name))[:most]
+    return [*lines, '', *(f'{it.seconds:7.1f} s  {it.crate:22}{it.name}' for it in dearest)]
+
+
+def main() -> int:
+    parser = argparse.ArgumentParser(description=__doc__, formatter_class=argparse.RawDescriptionHelpFormatter)
+    verbs = parser.add_subparsers(dest='verb', required=True)
+    whole = verbs.add_parser('run', help='runs rt ci and tells what each crate has cost')
+    whole.add_argument('--anew', action='store_true', help='proves what earlier runs have kept, too')
+    whole.add_argument('crates', nargs='*', metavar='CRATE')
+    kept = verbs.add_parser('functions', help='tells which parts of first checks took long')
+    kept.add_argument('--most', type=int, default=30, metavar='N', help='how many parts are told')
+    kept.add_argument('crates', nargs='*', metavar='CRATE')
+    asked = parser.parse_args()
+    if asked.verb == 'run':
+        return run(['--anew'] * asked.anew + asked.crates)
+    parts = read_parts(Path('.'), asked.crates)
+    if not parts:
+        print('no crate here has kept the parts of a first check', file=sys.stderr)
+        return 1
+    print(*part_rows(parts, asked.most), sep='\n')
+    return 0
+
+
+if __name__ == '__main__':
+    sys.exit(main())
