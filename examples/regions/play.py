@@ -1,18 +1,22 @@
 #!/usr/bin/env python3
 """Plays a day over regions that tell each other their boundary times: play.py DISPATCHER FOLDER [--regions N] [--port P]
 
-It cuts the day of ../day at the middle stops of its lines into N regions (2, or 4), starts a Mosquitto broker and a dispatcher for
-each region on this machine, tells the control rooms' delays, waits until nothing is told any more, ends the feeds, and compares: the
-times of all regions together with those of one dispatcher over the whole network. Then the text of region 1 goes to a second site,
-which follows its journal: when half of it has come, and when all has, the times there are compared with those after the same entries
-of the region. It needs `mosquitto` and `mosquitto-clients`.
+It cuts the day of ../day at the middle stops of its lines into N regions (2, or 4), starts a Mosquitto broker (mosquitto.conf, with
+a password for each user of `access`) and a dispatcher for each region on this machine, tells the control rooms' delays, waits until
+nothing is told any more, ends the feeds, and compares: the times of all regions together with those of one dispatcher over the whole
+network. In the middle of the day region 1 hears nothing for a while. Then the text of region 1 goes to a second site, which follows
+its journal: when half of it has come, and when all has, the times there are compared with those after the same entries of the region.
+It needs `mosquitto` and `mosquitto-clients`.
 
-Topics: `feed/N` are the lines of region N's feed, `board/N/S` those of its board of stop S, with the last one retained, and
-`text/N` those of the text of its run.
+Topics: `feed/N` are the lines of control room N, `board/N/S` the boards of region N, all times of stop S in one line, of which the
+last is retained, and `text/N` are the lines of the text of its run.
 """
 import argparse
 import os
+import re
+import secrets
 import shutil
+import socket
 import subprocess
 import sys
 import tempfile
@@ -25,6 +29,7 @@ TOOLS = os.path.join(HERE, '..', '..', 'tools')
 sys.path.insert(0, TOOLS)
 
 from railway import Rows, read_network, times_of  # noqa: E402
+from relay import read_boundary  # noqa: E402
 from runtext import read_run  # noqa: E402
 from scene import rows_of  # noqa: E402
 
@@ -44,11 +49,57 @@ PATIENCE = 120.0
 HEADER = 4
 
 
+class Broker:
+    """A Mosquitto with the users and the access list that ship, and a password for each that nobody else has."""
+
+    def __init__(self, folder, port):
+        self.folder, self.port = folder, port
+        with open(os.path.join(HERE, 'mosquitto.conf'), encoding='ascii') as file:
+            config = file.read().replace('listener 18830 ', f'listener {port} ')
+        with open(os.path.join(HERE, 'access'), encoding='ascii') as file:
+            access = file.read()
+        # Started by root it would become the user `mosquitto`, who may not read the folder.
+        self.write('mosquitto.conf', config + ('user root\n' if os.geteuid() == 0 else ''))
+        self.write('access', access)
+        passwords = {user: secrets.token_urlsafe() for user in re.findall('^user (.+)$', access, re.MULTILINE)}
+        self.write('passwords', ''.join(f'{user}:{password}\n' for user, password in passwords.items()))
+        subprocess.run(['mosquitto_passwd', '-U', os.path.join(folder, 'passwords')], check=True)
+        for user, password in passwords.items():
+            words = f'-h 127.0.0.1\n-p {port}\n-u {user}\n-P {password}\n'
+            for program in ('mosquitto_pub', 'mosquitto_sub'):
+                self.write(os.path.join(f'of-{user}', program), words)
+
+    def write(self, name, text):
+        """Writes a file that its owner alone may read."""
+        name = os.path.join(self.folder, name)
+        os.makedirs(os.path.dirname(name), exist_ok=True)
+        with open(os.open(name, os.O_WRONLY | os.O_CREAT | os.O_TRUNC, 0o600), 'w', encoding='ascii') as file:
+            file.write(text)
+
+    def client(self, user, program, *words):
+        """A command of a user's client, who finds his name and password in a file, and not in the list of processes."""
+        return ['env', f'XDG_CONFIG_HOME={os.path.join(self.folder, f"of-{user}")}', program, *words]
+
+    def start(self):
+        """Starts the broker, and waits until it hears."""
+        with open(os.path.join(self.folder, 'broker-said'), 'ab') as said:
+            process = subprocess.Popen(['mosquitto', '-c', 'mosquitto.conf'], cwd=self.folder, stdout=said, stderr=said)
+        for _ in range(200):
+            try:
+                socket.create_connection(('127.0.0.1', self.port)).close()
+                return process
+            except OSError:
+                time.sleep(0.05)
+        process.kill()
+        raise SystemExit('the broker does not start')
+
+
 class Play:
     """The processes of a play, which all end with it."""
 
     def __init__(self, folder, port):
-        self.folder, self.port = folder, port
+        self.folder = folder
+        self.broker = Broker(folder, port)
         self.running = []
         self.last = time.monotonic()
 
@@ -57,34 +108,21 @@ class Play:
         self.running.append(process)
         return process
 
-    def client(self, name, *words):
-        return [name, '-h', '127.0.0.1', '-p', str(self.port), *words]
-
-    def broker(self):
-        config = os.path.join(self.folder, 'mosquitto.conf')
-        with open(config, 'w', encoding='ascii') as file:
-            file.write(f'listener {self.port} 127.0.0.1\nallow_anonymous true\npersistence false\nmax_queued_messages 0\n')
-        self.start(['mosquitto', '-c', config], stderr=subprocess.DEVNULL)
-        for _ in range(100):
-            if subprocess.run(self.client('mosquitto_pub', '-t', 'begin', '-m', 'x'), stderr=subprocess.DEVNULL).returncode == 0:
-                return
-            time.sleep(0.1)
-        raise SystemExit('the broker does not start')
-
-    def pipe(self, *commands, last=None):
-        """Commands each of which reads what the one before it writes."""
-        source = None
+    def pipe(self, *commands, said=subprocess.DEVNULL):
+        """Processes each of which reads what the one before it writes; the last says what it has to say to a file."""
+        source, processes = None, []
         for command in commands:
             is_last = command is commands[-1]
-            process = self.start(command, stdin=source, stdout=last if is_last else subprocess.PIPE, stderr=subprocess.DEVNULL)
+            files = {'stdout': None if is_last else subprocess.PIPE, 'stderr': said if is_last else subprocess.DEVNULL}
+            processes.append(self.start(command, stdin=source, **files))
             if source is not None:
                 source.close()
-            source = process.stdout
-        return process
+            source = processes[-1].stdout
+        return processes
 
     def listen(self):
         """Notes when the last line was told on any topic."""
-        listener = self.start(self.client('mosquitto_sub', '-q', '1', '-t', '#'), stdout=subprocess.PIPE)
+        listener = self.start(self.broker.client('watch', 'mosquitto_sub', '-q', '1', '-t', '#'), stdout=subprocess.PIPE)
 
         def note():
             for _ in listener.stdout:
@@ -100,48 +138,75 @@ class Play:
             time.sleep(0.05)
 
     def end(self):
-        for process in self.running:
-            process.terminate()
-        for process in self.running:
-            process.wait()
+        stop(self.running)
+
+
+def stop(processes):
+    for process in processes:
+        process.terminate()
+    for process in processes:
+        process.wait()
 
 
 class Region:
-    """A region's folder, its dispatcher, and the subscriber that is its feed."""
+    """A region's folder, its dispatcher, the file of lines that feeds it, and what puts lines there: its control room and its relay."""
 
     def __init__(self, play, number, boundaries):
         self.play, self.number, self.boundaries = play, number, boundaries
         self.folder = os.path.join(play.folder, f'region-{number}')
         self.network = read_network(os.path.join(self.folder, 'net'))
+        # Its own boards lead to no event of its own, so that they are heard in vain where it has no neighbour.
+        self.neighbours = [
+            other for other, name in enumerate(boundaries, 1) if any(cut.region == number for cut in read_boundary(name))
+        ] or [number]
         self.stops = sorted({event.stop for event in self.network.events} & set(MIDDLES))
-        self.text = os.path.join(self.folder, 'text')
+        self.text, self.lines, self.said = (os.path.join(self.folder, name) for name in ('text', 'lines', 'relay-said'))
+
+    def client(self, program, name, *words):
+        """A client of the region with a name, of quality 1."""
+        return self.play.broker.client(f'region-{self.number}', program, '-i', f'{name}-{self.number}', '-q', '1', *words)
 
     def begin(self, program):
-        """Starts the dispatcher over a pipe, its boards on the broker, and the relay that tells it its neighbours' times."""
+        """Starts the dispatcher over a pipe, its boards on the broker, and what feeds it."""
         feed = os.path.join(self.folder, 'feed')
         os.mkfifo(feed)
+        open(self.lines, 'ab').close()
         boards = ','.join(map(str, self.stops))
         with open(self.text, 'wb') as out:
             self.dispatcher = self.play.start([program, 'run', 'net', 'feed', '--batch=1', f'--boards={boards}'], cwd=self.folder, stdout=out)
-        into = open(feed, 'wb', buffering=0)
-        self.subscriber = self.play.start(self.play.client('mosquitto_sub', '-q', '1', '-t', f'feed/{self.number}'), stdout=into)
-        into.close()
-        for stop in self.stops:
-            board = os.path.join(self.folder, 'net', f'board-{stop}.txt')
+        with open(feed, 'wb', buffering=0) as into:
+            self.tail = self.play.start(['tail', '-n', '+1', '-f', self.lines], stdout=into)
+        for at in self.stops:
+            board = os.path.join(self.folder, 'net', f'board-{at}.txt')
             open(board, 'ab').close()
-            self.play.pipe(['tail', '-n', '+1', '-f', board],
-                           self.play.client('mosquitto_pub', '-q', '1', '-l', '-r', '-t', f'board/{self.number}/{stop}'))
-        self.play.pipe(self.play.client('mosquitto_sub', '-q', '1', '-t', 'board/#'),
-                       [sys.executable, '-u', os.path.join(TOOLS, 'relay.py'), *self.boundaries, '--region', str(self.number)],
-                       self.play.client('mosquitto_pub', '-q', '1', '-l', '-t', f'feed/{self.number}'))
+            self.play.pipe(['tail', '-n', '+1', '-f', board], [sys.executable, os.path.join(TOOLS, 'board.py')],
+                           self.client('mosquitto_pub', f'board-{at}', '-l', '-r', '-t', f'board/{self.number}/{at}'))
+        self.hear()
+
+    def hear(self):
+        """Starts what puts lines into the feed: those of the control room, and the relay that tells the neighbours' times."""
+        with open(self.lines, 'ab', buffering=0) as lines:
+            room = self.play.start(self.client('mosquitto_sub', 'feed', '-c', '-t', f'feed/{self.number}'), stdout=lines)
+        words = [sys.executable, os.path.join(TOOLS, 'relay.py'), *self.boundaries, '--region', str(self.number), '--feed', self.lines]
+        boards = [word for other in self.neighbours for word in ('-t', f'board/{other}/+')]
+        with open(self.said, 'ab') as said:
+            self.hearing = [room, *self.play.pipe(self.client('mosquitto_sub', 'relay', '-c', *boards), words, said=said)]
+
+    def hear_no_more(self):
+        stop(self.hearing)
 
     def say(self, line):
-        subprocess.run(self.play.client('mosquitto_pub', '-q', '1', '-t', f'feed/{self.number}', '-m', line), check=True)
+        """Says a line of the control room."""
+        room = self.play.broker.client(f'room-{self.number}', 'mosquitto_pub', '-q', '1', '-t', f'feed/{self.number}', '-m', line)
+        subprocess.run(room, check=True)
 
     def end(self):
-        """Ends the feed, and reads the text of the run."""
-        self.subscriber.terminate()
+        """Ends the feed, reads the text of the run, and passes on what the relay has to say."""
+        self.hear_no_more()
+        stop([self.tail])
         self.dispatcher.wait()
+        with open(self.said, encoding='utf-8') as file:
+            sys.stderr.write(file.read())
         with open(self.text, 'rb') as file:
             self.run = read_run(file.read(), len(self.network.events))
 
@@ -173,12 +238,12 @@ class SecondSite:
         self.topic = f'text/{region.number}'
         self.text = os.path.join(play.folder, f'text-of-region-{region.number}')
         with open(self.text, 'wb') as into:
-            play.start(play.client('mosquitto_sub', '-q', '1', '-t', self.topic), stdout=into)
+            play.start(play.broker.client('site', 'mosquitto_sub', '-i', 'site', '-c', '-q', '1', '-t', self.topic), stdout=into)
         play.settle()
 
     def hear(self, lines):
         """Sends lines of the text to the site, and waits until they are there."""
-        words = self.play.client('mosquitto_pub', '-q', '1', '-l', '-t', self.topic)
+        words = self.region.client('mosquitto_pub', 'text', '-l', '-t', self.topic)
         subprocess.run(words, input=b''.join(lines), check=True)
         self.play.settle()
 
@@ -220,14 +285,18 @@ def played(play, program, count):
     subprocess.run([sys.executable, os.path.join(TOOLS, 'split.py'), NET, middles, play.folder, '--regions', str(count)], check=True)
     boundaries = [os.path.join(play.folder, f'region-{number}', 'Boundary.csv') for number in range(1, count + 1)]
     regions = [Region(play, number, boundaries) for number in range(1, count + 1)]
-    play.broker()
+    play.running.append(play.broker.start())
     play.listen()
     for region in regions:
         region.begin(program)
     play.settle()
-    for event, delay in DELAYS:
+    for number, (event, delay) in enumerate(DELAYS):
+        if number == len(DELAYS) // 3:
+            regions[0].hear_no_more()
         owner = next(region for region in regions if event in region.network.event_place)
         owner.say(f'delay event {event} {delay}')
+    play.settle()
+    regions[0].hear()
     play.settle()
     for region in regions:
         region.end()

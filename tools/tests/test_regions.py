@@ -9,8 +9,8 @@ import unittest
 from samples import CASES, TOOLS, network
 
 from railway import BadFile, Network, Rows, apply, read_network, times_of
-from relay import Relay, read_boundary, relay
-from split import Cut, parts_of, refuse_parted_pairs, regions_of, split
+from relay import Relay, read_boundary
+from split import Cut, boundary_text, parts_of, refuse_parted_pairs, regions_of, split
 
 MIDDLES = {11 * line + 6 for line in range(8)}
 
@@ -40,9 +40,9 @@ class Server:
 
     def told(self, lines):
         """Whether lines of boards move anything here."""
-        answers = [answer.split() for line in lines for answer in self.relay.tell(*line)]
-        for _, _, event, delay in answers:
-            self.hear(('delay event', int(event), int(delay)))
+        answers = [answer for line in lines for answer in self.relay.tell([line])]
+        for event, delay in answers:
+            self.hear(('delay event', event, delay))
         return bool(answers)
 
 
@@ -123,16 +123,97 @@ class Relays(unittest.TestCase):
                 came.update(zip((event.id for event in server.network.events), times_of(server.network, server.rows)))
             self.assertEqual(came, due)
 
-    def test_lines(self):
-        cuts = [Cut(1, 2, 9, 60, 1000), Cut(2, 2, 9, 30, 1000)]
-        out = []
-        relay(cuts, ['1; 950\n', '1; 950\n', '2; 1000\n', '1; 900\n', '2; 900\n', '3; 5\n', '1; 99'], out.append)
-        self.assertEqual(out, ['delay event 9 10', 'delay event 9 30', 'delay event 9 0'])
 
-    def test_line_of_another_form(self):
-        with self.assertRaises(BadFile) as caught:
-            relay([], ['1; 2\n', 'x\n'], print)
-        self.assertEqual(caught.exception.line, 2)
+CUTS = [Cut(1, 2, 9, 60, 1000), Cut(2, 2, 9, 30, 1000), Cut(3, 2, 10, 0, 1000)]
+
+
+class Lines(unittest.TestCase):
+    def setUp(self):
+        folder = tempfile.TemporaryDirectory()
+        self.addCleanup(folder.cleanup)
+        self.table = os.path.join(folder.name, 'Boundary.csv')
+        self.feed = os.path.join(folder.name, 'lines')
+        with open(self.table, 'w', encoding='ascii') as file:
+            file.write(boundary_text(CUTS))
+
+    def run_tool(self, lines, *words):
+        """What a tool writes and says that reads these lines."""
+        done = subprocess.run([sys.executable, *words], input=lines, capture_output=True)
+        self.assertEqual(done.returncode, 0, done.stderr)
+        return done.stdout.decode(), done.stderr.decode()
+
+    def relayed(self, lines, *words):
+        return self.run_tool(lines, os.path.join(TOOLS, 'relay.py'), self.table, '--region=2', *words)
+
+    def fed(self, lines):
+        """What stands in the feed after a relay has heard these lines and ended."""
+        self.assertEqual(self.relayed(lines, f'--feed={self.feed}'), ('', ''))
+        with open(self.feed, encoding='ascii') as file:
+            return file.read()
+
+    def test_lines(self):
+        out, said = self.relayed(b'1; 950\n1; 950\n2; 1000\n1; 900\n2; 900\n7; 5\n1; 990')
+        self.assertEqual((out, said), ('delay event 9 10\ndelay event 9 30\ndelay event 9 0\n', ''))
+
+    def test_lines_of_whole_boards(self):
+        out, said = self.relayed(b'1; 950, 2; 1000, 3; 1001\n1; 950, 2; 900, 3; 1001\n1; 900, 2; 900, 3; 1001\n')
+        self.assertEqual((out, said), ('delay event 9 30\ndelay event 10 1\ndelay event 9 10\ndelay event 9 0\n', ''))
+
+    def test_lines_of_another_form_are_skipped_and_counted(self):
+        bad = [b'', b'x', b'1;900', b'1; 2; 3', b'1; 950,2; 5', '\u00b2; 950'.encode('latin-1'), b'1; ' + b'9' * 5000, b'\xff', b'1; 950\r']
+        out, said = self.relayed(b'\n'.join([*bad, b'1; 950', b'1; ' + b'9' * 5_000_000, b'2; 99999999999', b'2; 1000', b'']))
+        self.assertEqual(out, 'delay event 9 10\ndelay event 9 30\n')
+        lines = said.splitlines()
+        self.assertEqual((lines[0], lines[5:]), ('relay.py: line 1 is skipped: it is no line `event; time`', ['relay.py: lines skipped: 11']))
+
+    def test_delay_that_is_too_long_is_skipped(self):
+        out, said = self.relayed(b'1; 99999999999\n1; 950\n')
+        self.assertEqual(out, 'delay event 9 10\n')
+        self.assertIn('line 1 is skipped: the delay of event 9 would be 99999999059 seconds, and may be 1000000', said)
+
+    def test_table_of_another_form(self):
+        for field in '\u00b2', '9' * 5000, '-1', '':
+            with open(self.table, 'w', encoding='latin-1') as file:
+                file.write(f'{boundary_text(CUTS)}1;2;{field};4;5\n')
+            with self.assertRaises(BadFile) as caught:
+                read_boundary(self.table)
+            self.assertEqual(caught.exception.line, 5)
+
+    def test_relay_that_starts_again_knows_what_the_region_keeps(self):
+        self.assertEqual(self.fed(b'1; 1240, 2; 900\n'), 'delay event 9 300\n')
+        self.assertEqual(self.fed(b'1; 1240, 2; 900\n'), 'delay event 9 300\n')
+        self.assertEqual(self.fed(b'1; 900, 2; 900\n'), 'delay event 9 300\ndelay event 9 0\n')
+
+    def test_relay_that_starts_again_takes_nothing_back_before_it_has_heard_of_all(self):
+        self.fed(b'2; 1270\n')
+        self.assertEqual(self.fed(b'1; 900\n'), 'delay event 9 300\n')
+        self.assertEqual(self.fed(b'1; 1250\n'), 'delay event 9 300\ndelay event 9 310\n')
+        self.assertTrue(self.fed(b'1; 900\n2; 1200\n').endswith('310\ndelay event 9 230\n'))
+
+    def test_feed_of_which_the_last_line_is_torn(self):
+        with open(self.feed, 'w', encoding='ascii') as file:
+            file.write('delay event 9 300\nnow 5\r\n delay event 10  007\ndelay event 9 30')
+        self.assertEqual(self.fed(b'1; 1240, 2; 900, 3; 1007\n').splitlines()[2:], [' delay event 10  007', 'delay event 9 30', 'delay event 9 300'])
+
+    def test_feed_that_is_no_file(self):
+        for name in os.path.dirname(self.feed), os.path.join(self.feed, 'x'):
+            done = subprocess.run([sys.executable, os.path.join(TOOLS, 'relay.py'), self.table, '--region=2', '--feed', name], input=b'', capture_output=True)
+            self.assertEqual((done.returncode, done.stderr.count(b'\n')), (2, 1), done.stderr)
+
+    def test_whole_boards(self):
+        out, said = self.run_tool(b'1; 950\n2; 7\n\n1; 960\n3; 8', os.path.join(TOOLS, 'board.py'))
+        self.assertEqual(out, '1; 960, 2; 7\n')
+        self.assertEqual(said, 'board.py: line 3 is skipped: it is no line `event; time`\nboard.py: lines skipped: 1\n')
+
+    def test_whole_boards_are_written_as_lines_come(self):
+        words = [sys.executable, os.path.join(TOOLS, 'board.py')]
+        with subprocess.Popen(words, stdin=subprocess.PIPE, stdout=subprocess.PIPE, bufsize=0) as board:
+            for line, due in (b'1; 950\n', b'1; 950\n'), (b'1; 950\n2; 7', None), (b'0\n', b'1; 950, 2; 70\n'):
+                board.stdin.write(line)
+                if due:
+                    self.assertEqual(board.stdout.readline(), due)
+            board.stdin.close()
+            self.assertEqual(board.stdout.read(), b'')
 
 
 if __name__ == '__main__':

@@ -1,0 +1,93 @@
+#!/usr/bin/env python3
+"""Says all times of a board in one line, each time that one has changed: tail -n +1 -f BOARD | board.py | mosquitto_pub -l -r ..
+
+From standard input it reads lines `event; time`, as boards in files have them, and writes one line `event; time, event; time, ..` of
+all events so far, each with its last time. So a broker that retains the last line of a topic retains the whole board, and whoever
+has one line of it has lost nothing. Lines that come together are answered by one.
+
+A line of another form is skipped; the first few are told on standard error, and at the end how many there were.
+"""
+from __future__ import annotations
+
+import argparse
+import re
+import sys
+from typing import BinaryIO, Iterator, Optional
+
+# A number has so many digits at most, a line so many bytes: enough for all events of a network.
+NUMBER = b'[0-9]{1,20}'
+LONGEST_LINE = 4_000_000
+
+TIME = re.compile(b'(%b); (%b)' % (NUMBER, NUMBER))
+TIMES = re.compile(b'%b; %b(?:, %b; %b)*' % (NUMBER, NUMBER, NUMBER, NUMBER))
+
+# So many of the lines that are skipped are told one by one.
+TOLD = 5
+
+
+class Skipped:
+    """Lines that were skipped."""
+
+    def __init__(self, script: str):
+        self.script, self.count = script, 0
+
+    def skip(self, number: int, why: str) -> None:
+        self.count += 1
+        if self.count <= TOLD:
+            print(f'{self.script}: line {number} is skipped: {why}', file=sys.stderr, flush=True)
+
+    def end(self) -> None:
+        if self.count:
+            print(f'{self.script}: lines skipped: {self.count}', file=sys.stderr, flush=True)
+
+
+def whole_lines(file: BinaryIO) -> Iterator[list[Optional[bytes]]]:
+    """The lines of a file that have come together, without their ends; None for one that is too long. What is broken off is no line."""
+    rest, is_long = b'', False
+    while chunk := file.read1(1 << 16):
+        *ended, rest = (rest + chunk).split(b'\n')
+        lines = [line if len(line) <= LONGEST_LINE else None for line in ended]
+        if is_long and lines:
+            lines[0], is_long = None, False
+        if len(rest) > LONGEST_LINE:
+            rest, is_long = b'', True
+        yield lines
+
+
+def times_of(line: Optional[bytes]) -> Optional[list[tuple[int, int]]]:
+    """The events of a line with their times, or None where it is none of a board."""
+    if line is None or not TIMES.fullmatch(line):
+        return None
+    return [(int(event), int(time)) for event, time in TIME.findall(line)]
+
+
+def whole_boards(file: BinaryIO, skipped: Skipped) -> Iterator[str]:
+    """A line of all times whenever some have changed."""
+    times: dict[int, int] = {}
+    number = 0
+    for lines in whole_lines(file):
+        before = dict(times)
+        for number, line in enumerate(lines, number + 1):
+            heard = times_of(line)
+            if heard is None:
+                skipped.skip(number, 'it is no line `event; time`')
+            else:
+                times.update(heard)
+        if times != before:
+            yield ', '.join(f'{event}; {time}' for event, time in times.items())
+
+
+def main() -> None:
+    argparse.ArgumentParser(description=__doc__, formatter_class=argparse.RawDescriptionHelpFormatter).parse_args()
+    skipped = Skipped('board.py')
+    try:
+        for line in whole_boards(sys.stdin.buffer, skipped):
+            print(line, flush=True)
+    except BrokenPipeError:
+        sys.exit(1)
+    finally:
+        skipped.end()
+
+
+if __name__ == '__main__':
+    main()

@@ -1,0 +1,154 @@
+"""Regions over the broker that ships: relays and feeds that are away lose nothing, and nobody says what is not his."""
+import os
+import shutil
+import socket
+import subprocess
+import sys
+import tempfile
+import time
+import unittest
+
+from samples import TOOLS, TOP
+
+from split import Cut, boundary_text
+
+sys.path.insert(0, os.path.join(TOP, 'examples', 'regions'))
+from play import Broker, stop  # noqa: E402
+
+IS_THERE = all(map(shutil.which, ('mosquitto', 'mosquitto_passwd', 'mosquitto_pub', 'mosquitto_sub')))
+CUTS = [Cut(1, 2, 9, 60, 1000), Cut(2, 2, 9, 30, 1000), Cut(3, 2, 10, 0, 1000)]
+
+
+def free_port():
+    with socket.socket() as one:
+        one.bind(('127.0.0.1', 0))
+        return one.getsockname()[1]
+
+
+@unittest.skipUnless(IS_THERE, 'mosquitto and mosquitto-clients are not installed')
+class OverBroker(unittest.TestCase):
+    def setUp(self):
+        folder = tempfile.TemporaryDirectory()
+        self.addCleanup(folder.cleanup)
+        self.folder = folder.name
+        self.broker = Broker(self.folder, free_port())
+        self.running = [self.broker.start()]
+        self.addCleanup(lambda: stop(self.running))
+
+    def name(self, name):
+        return os.path.join(self.folder, name)
+
+    def read(self, name):
+        if not os.path.exists(self.name(name)):
+            return ''
+        with open(self.name(name), encoding='ascii') as file:
+            return file.read()
+
+    def start(self, command, **files):
+        self.running.append(subprocess.Popen(command, stderr=subprocess.DEVNULL, **files))
+        return self.running[-1]
+
+    def say(self, user, topic, *lines, words=('-r',)):
+        """Says lines on a topic, of which the last is retained, and waits until the broker has them."""
+        command = self.broker.client(user, 'mosquitto_pub', '-q', '1', '-l', '-t', topic, *words)
+        return subprocess.run(command, input=''.join(f'{line}\n' for line in lines), text=True, capture_output=True).returncode
+
+    def hear(self, user, topic, into, client, is_known=False):
+        """Starts a client with a name that puts what it hears into a file."""
+        command = self.broker.client(user, 'mosquitto_sub', '-i', client, '-c', '-q', '1', '-t', topic)
+        if not is_known:
+            # This one ends as soon as the broker knows what it wants to hear.
+            subprocess.run([*command, '-E'], check=True, capture_output=True)
+        with open(self.name(into), 'ab') as file:
+            return [self.start(command, stdout=file)]
+
+    def relay(self):
+        """Starts the relay of region 2."""
+        with open(self.name('Boundary.csv'), 'w', encoding='ascii') as file:
+            file.write(boundary_text(CUTS))
+        heard = self.start(self.broker.client('region-2', 'mosquitto_sub', '-i', 'relay-2', '-c', '-q', '1', '-t', 'board/1/+'), stdout=subprocess.PIPE)
+        words = [sys.executable, os.path.join(TOOLS, 'relay.py'), self.name('Boundary.csv'), '--region=2', '--feed', self.name('lines')]
+        relay = self.start(words, stdin=heard.stdout)
+        heard.stdout.close()
+        return [heard, relay]
+
+    def until(self, name, lines):
+        """Waits until these lines stand in a file."""
+        due = ''.join(f'{line}\n' for line in lines)
+        end = time.monotonic() + 20
+        while self.read(name) != due:
+            self.assertLess(time.monotonic(), end, f'{self.read(name)!r} and not {due!r}')
+            time.sleep(0.02)
+
+
+class Away(OverBroker):
+    def test_relay_that_is_away_loses_nothing(self):
+        relay = self.relay()
+        self.say('region-1', 'board/1/6', '1; 950, 2; 1270')
+        self.until('lines', ['delay event 9 300'])
+        stop(relay)
+        # One board goes on and comes back, another is told for the first time; of one nothing is retained.
+        self.say('region-1', 'board/1/6', '1; 1400, 2; 1270', '1; 900, 2; 900')
+        self.say('region-1', 'board/1/7', '3; 1005', words=())
+        relay = self.relay()
+        self.until_last({9: 0, 10: 5})
+        stop(relay)
+        # A relay that has never been there has the retained lines alone, and what the region was told.
+        with open(self.name('lines'), 'w', encoding='ascii') as file:
+            file.write('delay event 9 300\n')
+        command = self.broker.client('region-2', 'mosquitto_sub', '-q', '1', '-t', 'board/+/+', '-C', '1')
+        retained = subprocess.run(command, capture_output=True).stdout
+        self.assertEqual(retained, b'1; 900, 2; 900\n')
+        words = [sys.executable, os.path.join(TOOLS, 'relay.py'), self.name('Boundary.csv'), '--region=2', '--feed', self.name('lines')]
+        subprocess.run(words, input=retained, check=True)
+        self.assertEqual(self.read('lines'), 'delay event 9 300\ndelay event 9 0\n')
+
+    def until_last(self, due):
+        """Waits until these delays of events are the last of the feed."""
+        end, last = time.monotonic() + 20, None
+        while last != due:
+            self.assertLess(time.monotonic(), end, last)
+            last = {int(line.split()[2]): int(line.split()[3]) for line in self.read('lines').splitlines()}
+            time.sleep(0.02)
+
+    def test_feed_that_is_away_loses_nothing_even_where_the_broker_starts_again(self):
+        feed = self.hear('region-1', 'feed/1', 'lines', 'feed-1')
+        self.say('room-1', 'feed/1', 'delay event 1 60', words=())
+        self.until('lines', ['delay event 1 60'])
+        stop(feed)
+        self.say('room-1', 'feed/1', 'delay event 1 70', 'drop 5', words=())
+        stop(self.running[:1])
+        self.running[0] = self.broker.start()
+        self.say('room-1', 'feed/1', 'keep 5', words=())
+        self.hear('region-1', 'feed/1', 'lines', 'feed-1', is_known=True)
+        self.until('lines', ['delay event 1 60', 'delay event 1 70', 'drop 5', 'keep 5'])
+
+
+class Access(OverBroker):
+    def test_nobody_gets_in_without_a_password(self):
+        where = ['-h', '127.0.0.1', '-p', str(self.broker.port), '-t', 'feed/1', '-m', 'drop 5']
+        for user in [], ['-u', 'room-1'], ['-u', 'room-1', '-P', 'room-1'], ['-u', 'nobody', '-P', 'x']:
+            environment = {**os.environ, 'XDG_CONFIG_HOME': self.folder, 'HOME': self.folder}
+            done = subprocess.run(['mosquitto_pub', *where, *user], env=environment, capture_output=True, text=True)
+            self.assertNotEqual(done.returncode, 0, user)
+            self.assertIn('not authorised', done.stderr)
+
+    def test_each_says_and_hears_its_own_topics_alone(self):
+        said = [
+            ('region-1', 'board/1/6'), ('region-1', 'board/2/6'), ('region-1', 'feed/1'), ('region-1', 'feed/2'), ('region-1', 'text/1'),
+            ('region-1', 'text/2'), ('region-2', 'board/2/6'), ('room-1', 'feed/1'), ('room-1', 'feed/2'), ('room-1', 'board/1/7'),
+            ('site', 'text/3'), ('site', 'feed/1'), ('watch', 'feed/1'), ('region-1', 'other'), ('region-1', '$SYS/x'),
+        ]
+        self.hear('watch', '#', 'all', 'watch')
+        self.hear('site', '#', 'site', 'site')
+        self.hear('region-2', '#', 'region-2', 'two')
+        for user, topic in said:
+            self.say(user, topic, f'{user} {topic}', words=())
+        own = [('region-1', 'board/1/6'), ('region-1', 'text/1'), ('region-2', 'board/2/6'), ('room-1', 'feed/1')]
+        self.until('all', [f'{user} {topic}' for user, topic in own])
+        self.until('site', ['region-1 text/1'])
+        self.until('region-2', ['region-1 board/1/6', 'region-2 board/2/6'])
+
+
+if __name__ == '__main__':
+    unittest.main()
