@@ -1,15 +1,15 @@
 #!/usr/bin/env python3
 """Tells what proving costs: python3 bench/gate.py run [--anew] [CRATE..], or python3 bench/gate.py functions [--most N] [CRATE..]
 
-Both run at the top of a clone. `run` runs `rt ci` with these words, passes on what it prints, and ends with its status. Meanwhile
-it looks at the prover's processes each second, and adds up the processor time of each crate: of its own proof, of its tests and of
-its edits. What an earlier run on the machine has kept costs nothing and has no row; with --anew all is proved.
+Both run at the top of a clone. `run` runs `rt ci` with these words, passes on what it prints, and ends with its status.
+Meanwhile it looks at the prover's processes each second, and adds up the processor time of each crate: of its own proof, of its
+tests and of its edits. What an earlier run on the machine has kept costs nothing and has no row; with --anew all is proved.
 
-`functions` tells where a first check's time went. Such a check, as `rt check` in a crate's folder that has no out/, or
-`rt all check --jobs 4` for all below one, writes a file of out/incremental as each part of a proof ends. The step from one file to
-the next is the time of the part, a little blurred where several jobs ran. A row gives a crate's seconds and those of its dearest
-kinds of parts: `Lts` are the states that a function can be in (many owned values with a derived `Drop` make many), `Proof`, `Goals`
-and `Tie` what is proved of them. A later check writes files anew and tells nothing.
+`functions` tells where a first check's time went. Such a check, as `rt check` in a crate's folder that has no out/, or `rt all
+check --jobs 4` for all below one, writes a file of out/incremental as each part of a proof ends. The step from one file to the
+next is the time of the part, a little blurred where several jobs ran. A row gives a crate's seconds and those of its dearest
+kinds of parts: `Lts` are the states that a function can be in (many owned values with a derived `Drop` make many), `Proof`,
+`Goals` and `Tie` what is proved of them. A later check writes files anew and tells nothing.
 """
 import argparse
 import os
@@ -18,6 +18,7 @@ import sys
 import time
 from collections import Counter
 from collections.abc import Iterable, Mapping
+from contextlib import suppress
 from dataclasses import dataclass
 from pathlib import Path
 
@@ -57,6 +58,11 @@ def kind_of(words: list[str], folder: str) -> str:
     return 'tests' if '--test' in words else 'proof'
 
 
+def read_stat(folder: Path) -> list[str]:
+    """What stands behind a process's name in its `stat`: its state, its parent and so on."""
+    return folder.joinpath('stat').read_text(errors='replace').rpartition(')')[2].split()
+
+
 def read_process(folder: Path, ticks: int) -> Process | None:
     """The process of a folder of /proc, where it is one of the prover that names a crate."""
     try:
@@ -65,16 +71,30 @@ def read_process(folder: Path, ticks: int) -> Process | None:
             return None
         crate = words[words.index('--crate-name') + 1]
         kind = kind_of(words, os.readlink(folder / 'cwd'))
-        numbers = folder.joinpath('stat').read_text(errors='replace').rpartition(')')[2].split()
+        numbers = read_stat(folder)
     except OSError:
         # It has ended.
         return None
     return Process(int(numbers[1]), int(numbers[19]), sum(map(int, numbers[11:15])) / ticks, crate, kind)
 
 
-def read_processes(proc: Path, ticks: int) -> dict[int, Process]:
-    """The prover's processes, by number."""
-    found = {int(it.name): read_process(it, ticks) for it in proc.iterdir() if it.name.isdigit()}
+def read_below(proc: Path, top: int) -> Iterable[Path]:
+    """The folders of the processes that this one has begun, and of those that they have."""
+    children: dict[int, list[int]] = {}
+    for folder in proc.iterdir():
+        if folder.name.isdigit():
+            with suppress(OSError):
+                children.setdefault(int(read_stat(folder)[1]), []).append(int(folder.name))
+    left = [top]
+    while left:
+        for pid in children.get(left.pop(), []):
+            yield proc / str(pid)
+            left.append(pid)
+
+
+def read_processes(proc: Path, top: int, ticks: int) -> dict[int, Process]:
+    """The prover's processes among those that this one has begun, by number."""
+    found = {int(it.name): read_process(it, ticks) for it in read_below(proc, top)}
     return {pid: process for pid, process in found.items() if process}
 
 
@@ -120,7 +140,7 @@ def run(words: list[str]) -> int:
     meter, ticks, begun = Meter(), os.sysconf('SC_CLK_TCK'), time.monotonic()
     with subprocess.Popen(['rt', 'ci', *words]) as gate:
         while gate.poll() is None:
-            meter.look(read_processes(Path('/proc'), ticks))
+            meter.look(read_processes(Path('/proc'), gate.pid, ticks))
             time.sleep(PERIOD)
     print(*cost_rows(meter.costs()), f'minutes by the clock: {(time.monotonic() - begun) / 60:.1f}', sep='\n')
     return gate.returncode

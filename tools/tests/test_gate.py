@@ -31,7 +31,7 @@ class Processes(unittest.TestCase):
             Path(proc, 'self').mkdir()
             for it in processes:
                 make_process(proc, *it)
-            meter.look(read_processes(Path(proc), TICKS))
+            meter.look(read_processes(Path(proc), 1, TICKS))
 
     def test_own_proof_with_its_jobs_and_ended_children(self):
         meter, words = Meter(), ['/kit/bin/rattle', 'build', '--crate-name', 'low', 'src/lib.rt']
@@ -48,10 +48,11 @@ class Processes(unittest.TestCase):
                   (6, 1, (200, 0, 0, 0), words, '/tmp/rt-edit-4-abc'), (7, 1, (300, 0, 0, 0), words, '/tmp/rt-edit-4-def'))
         self.assertEqual(meter.costs(), {'high': {'tests': 1.0, 'edits': 5.0}})
 
-    def test_other_programs_cost_nothing(self):
-        meter = Meter()
+    def test_other_programs_and_other_runs_cost_nothing(self):
+        meter, words = Meter(), ['rattle', 'build', '--crate-name', 'low', 'src/lib.rt']
         self.look(meter, (5, 1, (100, 0, 0, 0), ['/kit/bin/rattle', 'fmt'], '/copy'),
-                  (6, 1, (9, 0, 0, 0), ['clang', '--crate-name', 'low'], '/copy'))
+                  (6, 1, (9, 0, 0, 0), ['clang', '--crate-name', 'low'], '/copy'),
+                  (7, 2, (9, 0, 0, 0), words, '/other/crates/low'))
         self.assertEqual(meter.costs(), {})
 
     def test_table_begins_with_the_dearest(self):
