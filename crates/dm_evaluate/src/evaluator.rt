@@ -31,7 +31,6 @@ use std::sync::ledger::Ledger;
 /// The relaxed problem of a path of decisions over the rows of one network, with its least times and their cost.
 ///
 /// Its calls take the network with which it was made, of which contracts say that it is an evaluator of it.
-#[derive(Drop)]
 pub struct Evaluator {
     rows: Rows,
 
@@ -40,6 +39,18 @@ pub struct Evaluator {
     undecided: Undecided,
     priced: PricedTimetable,
     marks: ViolationMarks,
+}
+
+impl Drop for Evaluator {
+    fn drop(self) {
+        let Evaluator {
+            rows: _,
+            path: _,
+            undecided: _,
+            priced: _,
+            marks: _,
+        } = self;
+    }
 }
 
 impl Model for Evaluator {
@@ -269,7 +280,13 @@ impl Evaluator {
     pub fn into_priced(self) -> PricedTimetable
         ensures { result ≡ self.priced }
     {
-        let Evaluator { priced, .. } = self;
+        let Evaluator {
+            rows: _,
+            path: _,
+            undecided: _,
+            priced,
+            marks: _,
+        } = self;
         priced
     }
 
