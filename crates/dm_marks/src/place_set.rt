@@ -7,7 +7,6 @@ use std::alloc::{AllocError, Global};
 use std::marker::Model;
 
 /// Some of so many places, listed in the order in which they came.
-#[derive(Debug)]
 pub struct PlaceSet {
     flags: Vec<bool>,
 

@@ -20,7 +20,6 @@ use std::marker::Model;
 use std::sync::ledger::Ledger;
 
 /// Events, activities and pairs, each list in ascending order of ids. Places count from 0.
-#[derive(Debug)]
 pub struct Network {
     events: Vec<Event>,
     activities: Vec<Activity>,

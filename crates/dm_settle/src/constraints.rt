@@ -11,7 +11,6 @@ use std::marker::Model;
 
 /// Which activities of a network are held, the floor of each event and the span of each activity, by place. The head of a
 /// held activity is at least its span after its tail, and no event is before its floor. Floors and spans are seconds.
-#[derive(Debug)]
 pub struct Constraints {
     held: Vec<bool>,
     floors: Vec<Secs>,

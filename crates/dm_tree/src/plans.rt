@@ -5,7 +5,6 @@ use dm_base::{Cost, Items};
 use dm_rows::Decision;
 
 /// Choices for the rows at an entry, with a tree that shows how good they are.
-#[derive(Debug)]
 pub struct Plan {
     /// How many entries the history has whose rows the plan is for.
     pub entry: u32,

@@ -9,7 +9,6 @@ use std::alloc::{AllocError, Global};
 use std::marker::Model;
 
 /// A whole tree of choices, seen as its nodes in preorder.
-#[derive(Debug)]
 pub struct Tree {
     nodes: Vec<Node>,
 

@@ -19,7 +19,7 @@ use dm_tree::Plan;
 use std::alloc::{AllocError, Global};
 
 /// A plan's choices over newer rows.
-#[derive(Debug, Drop)]
+#[derive(Drop)]
 pub struct Rebased {
     /// How many entries the history has whose rows the choices are for.
     pub entry: u32,
@@ -32,7 +32,7 @@ pub struct Rebased {
 }
 
 /// Why a plan is not carried over.
-#[derive(PartialEq, Eq, Debug, Drop)]
+#[derive(Drop)]
 pub enum RebaseFault {
     /// The first choice of the plan that is no free choice of the newer rows.
     NotFree(Decision),
