@@ -12,9 +12,10 @@ Without --line the line is the one whose stretches most trains run over; the oth
 """
 import argparse
 import sys
-from html import escape
 from typing import NamedTuple
 
+from files import speak_utf8
+from markup import escaped
 from railway import BadFile
 from scene import CLASSES, Scene, clock_time, counted, distances, lateness_class, lines_of, links_of, read_scene, span_of_times, turned_pairs
 from words import stops_of
@@ -39,6 +40,9 @@ DARK_STYLE = '''
 '''
 
 LEFT, RIGHT, TOP, BOTTOM = 130, 20, 64, 112
+
+# At most so many lines are told.
+MOST_LINES = 12
 
 
 class Frame(NamedTuple):
@@ -161,7 +165,7 @@ def train_marks(frame, scene, trains):
             yield f'<path class="plan" d="{data}"/>'
     for number, stretches in trains:
         late = max(scene.lateness(place) for stretch in stretches for place in stretch)
-        title = f'{escape(scene.train_label(number))}: at most {clock_time(late, True)} late'
+        title = f'{escaped(scene.train_label(number))}: at most {clock_time(late, True)} late'
         paths = ''.join(
             f'<path class="run l{kind}" d="{data}"/>'
             for kind, data in enumerate(coloured_paths(frame, scene, stretches)) if data
@@ -183,7 +187,7 @@ def train_names(frame, scene, trains):
         across = f'x="{x + 3}"' if y == TOP else f'x="{x - 5}" text-anchor="end"'
         # Below the last stop stand the hours.
         down = y - 4 if y in (TOP, TOP + frame.height) else y + 13
-        yield f'<text class="small" {across} y="{down}">{escape(name)}</text>'
+        yield f'<text class="small" {across} y="{down}">{escaped(name)}</text>'
 
 
 # ---- Marks
@@ -253,7 +257,7 @@ def grid(frame, scene):
     """The lines of stops and of times with their labels."""
     for stop, y in frame.rows.items():
         yield f'<line class="stop" x1="{LEFT}" x2="{LEFT + frame.width}" y1="{y}" y2="{y}"/>'
-        yield f'<text x="{LEFT - 8}" y="{y + 4}" text-anchor="end">{escape(scene.stop_name(stop)[:22])}</text>'
+        yield f'<text x="{LEFT - 8}" y="{y + 4}" text-anchor="end">{escaped(scene.stop_name(stop)[:22])}</text>'
     thin, strong = time_steps(frame)
     for time in range(-(-frame.begin // thin) * thin, frame.end + 1, thin):
         x, kind = frame.x(time), 'hour' if time % strong == 0 else 'ten'
@@ -302,7 +306,7 @@ def drawing(scene, line, begin=None, end=None):
     frame, trains = frame_of(scene, line, begin, end)
     width = max(LEFT + frame.width + RIGHT, 820)
     height = TOP + frame.height + BOTTOM
-    title = escape(title_of(scene, line))
+    title = escaped(title_of(scene, line))
     yield (f'<svg xmlns="http://www.w3.org/2000/svg" viewBox="0 0 {width} {height}" width="{width}" height="{height}" role="img" '
            f'aria-label="{title}"><style>{style()}</style><rect class="page" width="{width}" height="{height}"/>')
     yield f'<text class="title" x="{LEFT}" y="26">{title}</text>'
@@ -335,14 +339,17 @@ def chosen_line(scene, line):
             if stop not in known:
                 raise BadFile('--line', None, f'no event is at stop {stop}')
         return list(dict.fromkeys(line))
-    lines = lines_of(scene.network, scene.trains) or [sorted(known)]
-    for other in lines[1:]:
+    lines = lines_of(scene.network, scene.trains, MOST_LINES + 1) or [sorted(known)]
+    for other in lines[1:MOST_LINES]:
         print(f'another line: --line={",".join(map(str, other))}', file=sys.stderr)
+    if len(lines) > MOST_LINES:
+        print('there are more lines', file=sys.stderr)
     return lines[0]
 
 
 def main():
     given = arguments().parse_args()
+    speak_utf8()
     try:
         scene = read_scene(given.net, given.text, given.event_delays, given.activity_delays)
         line = chosen_line(scene, given.line)

@@ -13,7 +13,7 @@ from fractions import Fraction
 from itertools import islice
 from typing import Iterable, Iterator, NamedTuple, Optional
 
-from gtfs import Call, Day, Transfers, Trip, clock
+from gtfs import Call, Day, Told, Transfers, Trip, clock
 from railway import Activity, Event
 
 MOST_EVENTS = 100_000
@@ -49,14 +49,12 @@ class Window:
 @dataclass
 class Notes:
     """How often what was found while a network was made: what was left out, and what else a planner should know."""
-    left_out: Counter[str] = field(default_factory=Counter)
-    besides: Counter[str] = field(default_factory=Counter)
+    left_out: Told = field(default_factory=Told)
+    besides: Told = field(default_factory=Told)
 
     def in_print(self) -> Iterator[str]:
-        for title, counts in ('left out', self.left_out), ('besides', self.besides):
-            for what, count in sorted(counts.items()):
-                if count:
-                    yield f'{title}: {what}: {count}'
+        for title, told in ('left out', self.left_out), ('besides', self.besides):
+            yield from (f'{title}: {line}' for line in told.in_print())
 
 
 # ---- Trains and their events
@@ -64,11 +62,12 @@ class Notes:
 
 @dataclass
 class Train:
-    """A trip that runs once, so many seconds after the times of its calls; it repeats where a frequency made it."""
+    """A trip that runs once, so many seconds after the times of its calls; it repeats where a frequency made it, at exact times or not."""
     name: str
     trip: Trip
     shift: int
     repeats: bool
+    is_exact: bool = True
     moments: list[Moment] = field(default_factory=list)
 
     @property
@@ -110,6 +109,7 @@ def trains_of(day: Day, window: Window, notes: Notes) -> list[Train]:
             events[train.trip.route.id] += train.events
             if events.total() <= MOST_EVENTS:
                 trains.append(train)
+                notes.besides['trains of frequencies without exact times, which leave about so often'] += not train.is_exact
         else:
             notes.left_out['trains outside of --from and --to'] += 1
     if events.total() > MOST_EVENTS:
@@ -128,24 +128,38 @@ def all_trains(day: Day, notes: Notes) -> Iterator[Train]:
         if frequencies is None:
             yield Train(trip.id, trip, 0, False)
             continue
-        starts = Counter(start for one in frequencies for start in range(one.start, one.end, one.every))
+        starts = Counter(start for one in frequencies for start in one.departures)
+        exact = {start for one in frequencies if one.is_exact for start in one.departures}
+        notes.left_out['trips of frequencies.txt that never leave'] += not starts
         for start, count in starts.items():
             notes.left_out['trains that two frequencies make at the same time'] += count - 1
-            yield Train(f'{trip.id}@{clock(start)}', trip, start - trip.calls[0].departure, True)
+            name = f'{trip.id}@{clock(start)}'
+            if name in day.trips:
+                notes.left_out['trains of frequencies that are trips of the feed, too'] += 1
+            else:
+                yield Train(name, trip, start - trip.calls[0].departure, True, start in exact)
 
 
 @dataclass
 class Passengers:
-    """How many passengers leave a trip at a stop, in thousandths; one each where nothing is told."""
+    """How many passengers leave a trip at a stop, in thousandths; one at each arrival where nothing is told."""
     numbers: Optional[dict[tuple[str, str], int]] = None
     used: set[tuple[str, str]] = field(default_factory=set)
 
-    def leaving(self, train: Train, stop: str, notes: Notes) -> int:
+    def leaving(self, train: Train, call: Call, left: set[str], notes: Notes) -> int:
+        """How many leave at a call, where passengers have left the train at some stops before."""
+        if not call.leaves:
+            notes.besides['arrivals where nobody may leave the train, which count as none'] += 1
+            return 0
         if self.numbers is None:
             return ONE_PASSENGER
-        for key in (train.name, stop), (train.trip.id, stop):
+        for key in (train.name, call.stop), (train.trip.id, call.stop):
+            if key in self.numbers and call.stop in left:
+                notes.besides['arrivals at a stop where the trip has its number of passengers already, which count as none'] += 1
+                return 0
             if key in self.numbers:
                 self.used.add(key)
+                left.add(call.stop)
                 return self.numbers[key]
         notes.besides['arrivals without a number of passengers, which count as none'] += 1
         return 0
@@ -161,10 +175,11 @@ def give_moments(trains: list[Train], stations: dict[str, str], passengers: Pass
     event = 0
     for train in trains:
         calls = train.trip.calls
+        left: set[str] = set()
         for tail, head in zip(calls, calls[1:]):
             ends = stations[tail.stop], stations[head.stop]
             departure = Event(event + 1, 'departure', tail.departure + train.shift, 0, numbers[ends[0]])
-            weight = passengers.leaving(train, head.stop, notes)
+            weight = passengers.leaving(train, head, left, notes)
             arrival = Event(event + 2, 'arrival', head.arrival + train.shift, weight, numbers[ends[1]])
             train.moments += [Moment(departure, train, tail, ends[1]), Moment(arrival, train, head, ends[0])]
             event += 2
@@ -271,11 +286,11 @@ def leads_back(arrival: Moment, departure: Moment) -> bool:
 
 
 def headways(trains: list[Train], headway: int, notes: Notes) -> Iterator[Link]:
-    """Both ways between departures that follow each other from one station to the next."""
-    legs: dict[tuple[int, str], list[Moment]] = defaultdict(list)
+    """Both ways between departures of one kind of vehicle that follow each other from one station to the next."""
+    legs: dict[tuple[int, str, str], list[Moment]] = defaultdict(list)
     for moment in sorted(moments(trains), key=time_of):
         if moment.event.kind == 'departure':
-            legs[moment.event.stop, moment.beyond].append(moment)
+            legs[moment.event.stop, moment.beyond, moment.train.trip.route.kind].append(moment)
     for leg in legs.values():
         for first, second in zip(leg, leg[1:]):
             if first.train is second.train or first.train.shares_vehicle(second.train):

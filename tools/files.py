@@ -1,10 +1,18 @@
-"""Files that are written all or not at all."""
+"""Files that are written all or not at all, and standard output in UTF-8."""
 from __future__ import annotations
 
+import io
 import os
+import sys
 from typing import Iterable
 
 from railway import BadFile
+
+
+def speak_utf8() -> None:
+    """Lets standard output take UTF-8, whatever the locale says, and names of files as they are."""
+    if isinstance(sys.stdout, io.TextIOWrapper):
+        sys.stdout.reconfigure(encoding='utf-8', errors='surrogateescape', newline='\n')
 
 
 def write_all(folder: str, texts: dict[str, str]) -> None:

@@ -16,8 +16,8 @@ TRIP@06:30:00.
                --longest-change seconds later and not before the change is made, which takes the min_transfer_time of
                transfers.txt or else --change seconds; never to a train of the same route or vehicle, nor to one that goes next to
                the station from which the arriving train has come
-  headways     both ways between departures that follow each other from one station to the next, --headway seconds, or the
-               scheduled ones where these are fewer
+  headways     both ways between departures of one kind of vehicle (rail, bus ..) that follow each other from one station to the
+               next, --headway seconds, or the scheduled ones where these are fewer
 
 What a feed has and a network cannot hold is told on standard error, with how many there are of everything. The status is 0; or 2,
 and no file is written, where the words or the feed are not as they should be, or where the network would be too large.
@@ -40,12 +40,15 @@ from gtfs import (
     read_transfers, told_as,
 )
 from names import EventName, StopName, TrainName, in_print
-from railway import KINDS, BadFile, network_files
+from railway import KINDS, BadFile, in_one_line, network_files
 from words import time_of_day, whole_between
 
 LONGEST_BOUND = 1_000_000
 MOST_PASSENGERS = 1_000_000
 STATIONS_SHOWN = 20
+
+# The longest line that is told.
+LONGEST_LINE = 1000
 
 # Later than all times of a day.
 EVER = 10 ** 9
@@ -185,7 +188,7 @@ def make(feed: Feed, words: argparse.Namespace) -> Made:
     passengers = read_passengers(words.passengers, feed, stops)
     transfers = read_transfers(feed, stops, words.change)
     expanded = expand(trains, stops.stations, passengers, transfers, rules_of(words), notes)
-    notes.left_out += transfers.left_out
+    notes.left_out.take(transfers.left_out)
     notes.left_out['numbers of passengers of which no arrival is there'] += len(passengers.numbers or ()) - len(passengers.used)
     notes.besides['times between two stops with times, spread evenly'] += day.timed_between
     return Made(stops, expanded, notes)
@@ -255,10 +258,10 @@ def main(given: Optional[Sequence[str]] = None) -> int:
             made = make(feed, words)
         write_all(words.folder, texts_of(made))
     except (BadFile, Refused) as error:
-        print(f'from_gtfs: {error}', file=sys.stderr)
+        print(f'from_gtfs: {in_one_line(str(error), LONGEST_LINE)}', file=sys.stderr)
         return 2
     for line in summary(made, words):
-        print(line, file=sys.stderr)
+        print(in_one_line(line, LONGEST_LINE), file=sys.stderr)
     return 0
 
 

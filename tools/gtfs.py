@@ -6,8 +6,6 @@ are in seconds from the beginning of the service day, and go on past midnight. W
 """
 from __future__ import annotations
 
-import csv
-import io
 import os
 import re
 import zipfile
@@ -19,6 +17,7 @@ from datetime import date
 from functools import lru_cache
 from typing import BinaryIO, Collection, Iterable, Iterator, Optional
 
+from quoted import is_text, quoted_records
 from railway import BadFile
 
 WEEKDAYS = ('monday', 'tuesday', 'wednesday', 'thursday', 'friday', 'saturday', 'sunday')
@@ -67,7 +66,7 @@ class Row:
     def name(self, column: str) -> str:
         """The field of a column, which has to be in UTF-8, in one line."""
         text = self[column]
-        if not text.isascii() and any('\ud800' <= character <= '\udfff' for character in text):
+        if not is_text(text):
             raise self.fault(column, 'this is not in UTF-8')
         return ' '.join(text.splitlines())
 
@@ -103,18 +102,15 @@ class Row:
 
 def read_rows(name: str, file: BinaryIO, required: Iterable[str]) -> Iterator[Row]:
     """The rows of a file, whose first one names the columns."""
-    with io.TextIOWrapper(file, encoding='utf-8-sig', errors='surrogateescape', newline='') as lines:
-        reader = csv.reader(lines)
-        try:
-            columns = [column.strip() for column in next(reader, [])]
-            check_columns(name, columns, required)
-            for fields in reader:
-                if len(fields) > len(columns) and any(fields[len(columns):]):
-                    raise BadFile(name, reader.line_num, f'{len(fields)} fields, and {len(columns)} columns')
-                if any(fields):
-                    yield Row(name, reader.line_num, dict(zip(columns, map(str.strip, fields))))
-        except csv.Error as error:
-            raise BadFile(name, reader.line_num, str(error)) from error
+    records = quoted_records(name, file)
+    _, heading = next(records, (1, []))
+    columns = [column.strip() for column in heading]
+    check_columns(name, columns, required)
+    for line, fields in records:
+        if len(fields) > len(columns) and any(fields[len(columns):]):
+            raise BadFile(name, line, f'{len(fields)} fields, and {len(columns)} columns')
+        if any(fields):
+            yield Row(name, line, dict(zip(columns, map(str.strip, fields))))
 
 
 def check_columns(name: str, columns: list[str], required: Iterable[str]) -> None:
@@ -213,6 +209,32 @@ def date_of(text: str) -> Optional[date]:
         return None
 
 
+# ---- What is told of a feed
+
+
+class Told(Counter[str]):
+    """How often what was found, and the row at which first, where it is one."""
+
+    def __init__(self) -> None:
+        super().__init__()
+        self.first: dict[str, Row] = {}
+
+    def row(self, what: str, row: Row) -> None:
+        self[what] += 1
+        self.first.setdefault(what, row)
+
+    def take(self, other: Told) -> None:
+        """Takes in what another one tells."""
+        self.update(other)
+        self.first = other.first | self.first
+
+    def in_print(self) -> Iterator[str]:
+        for what, count in sorted(self.items()):
+            row = self.first.get(what)
+            if count:
+                yield f'{what}: {count}' + (f' (first: {os.path.basename(row.file)}, line {row.line})' if row else '')
+
+
 # ---- Stops
 
 
@@ -301,6 +323,11 @@ class Route:
     name: str
     type: int
 
+    @property
+    def kind(self) -> str:
+        """The kind of vehicle, as trains and buses are two, or the number of the type where it is of none."""
+        return next((kind for kind, types in TYPES.items() if self.type in types), str(self.type))
+
 
 @dataclass(slots=True)
 class Call:
@@ -330,10 +357,15 @@ class Trip:
 
 @dataclass(frozen=True)
 class Frequency:
-    """From a first departure on, before an end, a trip leaves again and again."""
+    """From a first departure on, before an end, a trip leaves again and again; if not at exact times, then about so often."""
     start: int
     end: int
     every: int
+    is_exact: bool
+
+    @property
+    def departures(self) -> range:
+        return range(self.start, self.end, self.every)
 
 
 @dataclass
@@ -341,7 +373,7 @@ class Day:
     """What a feed has on a day: its trips, how some of them repeat, and what was left out and why."""
     trips: dict[str, Trip]
     frequencies: dict[str, list[Frequency]]
-    left_out: Counter[str]
+    left_out: Told
     timed_between: int = 0
 
 
@@ -358,7 +390,7 @@ def read_routes(feed: Feed) -> dict[str, Route]:
 
 def read_day(feed: Feed, stops: Stops, services: Services, routes: dict[str, Route], chosen: Collection[str]) -> Day:
     """The trips of the chosen routes on the day of the services."""
-    day = Day({}, {}, Counter())
+    day = Day({}, {}, Told())
     others: set[str] = set()
     for row in feed.rows('trips.txt', ['route_id', 'service_id', 'trip_id']):
         trip = row.text('trip_id')
@@ -391,7 +423,9 @@ def read_calls(feed: Feed, stops: Stops, day: Day, others: set[str]) -> None:
     columns = ['trip_id', 'arrival_time', 'departure_time', 'stop_id', 'stop_sequence']
     for row in feed.rows('stop_times.txt', columns):
         trip = row['trip_id']
-        if trip in day.trips:
+        if trip in day.trips and (not row['stop_id'] or row['start_pickup_drop_off_window']):
+            day.left_out.row('calls of flexible services, without a stop or with a window of time', row)
+        elif trip in day.trips:
             day.trips[trip].calls.append(call_of(row, stops))
         elif trip not in others:
             raise row.fault('trip_id', f'there is no trip {trip}')
@@ -401,8 +435,8 @@ def read_calls(feed: Feed, stops: Stops, day: Day, others: set[str]) -> None:
             del day.trips[trip.id]
         else:
             trip.calls.sort(key=lambda call: call.sequence)
-            day.timed_between += fill_times(feed, trip.calls)
             check_calls(feed, trip.calls)
+            day.timed_between += fill_times(feed, trip.calls)
 
 
 def call_of(row: Row, stops: Stops) -> Call:
@@ -417,7 +451,7 @@ def call_of(row: Row, stops: Stops) -> Call:
 
 
 def fill_times(feed: Feed, calls: list[Call]) -> int:
-    """Spreads the calls without times evenly between those with times; how many they are."""
+    """Spreads the calls without times evenly between those with times, which do not fall; how many they are."""
     for end in calls[0], calls[-1]:
         if end.arrival is None:
             raise feed.fault('stop_times.txt', end.line, 'arrival_time', 'the first and the last stop of a trip need a time')
@@ -432,16 +466,18 @@ def fill_times(feed: Feed, calls: list[Call]) -> int:
 
 def check_calls(feed: Feed, calls: list[Call]) -> None:
     """That the calls of a trip stand at different places in its order, and that it does not run back in time."""
-    time, sequence = 0, -1
-    for call in calls:
-        if call.sequence == sequence:
-            raise feed.fault('stop_times.txt', call.line, 'stop_sequence', f'{sequence} stands twice in the trip')
-        if call.arrival < time:
-            raise feed.fault('stop_times.txt', call.line, 'arrival_time', f'{clock(call.arrival)} is before {clock(time)}')
+    for before, call in zip(calls, calls[1:]):
+        if call.sequence == before.sequence:
+            raise feed.fault('stop_times.txt', call.line, 'stop_sequence', f'{call.sequence} stands twice in the trip')
+    timed = [call for call in calls if call.arrival is not None]
+    for call in timed:
         if call.departure < call.arrival:
             what = f'{clock(call.departure)} is before the arrival at {clock(call.arrival)}'
             raise feed.fault('stop_times.txt', call.line, 'departure_time', what)
-        time, sequence = call.departure, call.sequence
+    for before, call in zip(timed, timed[1:]):
+        if call.arrival < before.departure:
+            what = f'{clock(call.arrival)} is before {clock(before.departure)} of line {before.line}'
+            raise feed.fault('stop_times.txt', call.line, 'arrival_time', what)
 
 
 def read_frequencies(feed: Feed, day: Day, others: set[str]) -> None:
@@ -456,7 +492,10 @@ def read_frequencies(feed: Feed, day: Day, others: set[str]) -> None:
             every = row.number('headway_secs', LATEST)
             if every == 0:
                 raise row.fault('headway_secs', '0 is no time between two trips')
-            day.frequencies.setdefault(trip, []).append(Frequency(start, end, every))
+            frequency = Frequency(start, end, every, row.number('exact_times', 1, 0) == 1)
+            day.frequencies.setdefault(trip, []).append(frequency)
+            if not frequency.departures:
+                day.left_out.row('rows of frequencies.txt whose end is not behind their start', row)
         elif trip not in others:
             raise row.fault('trip_id', f'there is no trip {trip}')
 
@@ -473,7 +512,7 @@ class Transfers:
     usual: int
     stations: dict[str, str]
     said: dict[tuple[str, str], Optional[int]]
-    left_out: Counter[str]
+    left_out: Told
 
     def between(self, stop: str, other: str) -> Optional[int]:
         station = self.stations[stop]
@@ -484,18 +523,20 @@ class Transfers:
 
 
 def read_transfers(feed: Feed, stops: Stops, usual: int) -> Transfers:
-    transfers = Transfers(usual, stops.stations, {}, Counter())
+    transfers = Transfers(usual, stops.stations, {}, Told())
     for row in feed.rows_if_any('transfers.txt', ['transfer_type']):
         kind = row.number('transfer_type', 5, 0)
         if kind > 3 or any(row[f'{end}_{of}_id'] for end in ('from', 'to') for of in ('trip', 'route')):
-            transfers.left_out['rows of transfers.txt that are for single trips or routes'] += 1
+            transfers.left_out.row('rows of transfers.txt that are for single trips or routes', row)
             continue
         ends = tuple(row.text(column) for column in ('from_stop_id', 'to_stop_id'))
         for column, stop in zip(('from_stop_id', 'to_stop_id'), ends):
             if stop not in stops.stations:
                 raise row.fault(column, f'there is no stop {stop}')
         if stops.stations[ends[0]] != stops.stations[ends[1]]:
-            transfers.left_out['rows of transfers.txt between two stations'] += 1
+            transfers.left_out.row('rows of transfers.txt between two stations', row)
+        elif kind == 2 and not row['min_transfer_time']:
+            transfers.left_out.row('rows of transfers.txt of type 2 without a min_transfer_time', row)
         else:
             transfers.said[ends] = least_change(row, kind, usual)
     return transfers

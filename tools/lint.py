@@ -18,9 +18,10 @@ import sys
 from collections import Counter
 from typing import NamedTuple
 
+from files import speak_utf8
 from names import numbered
 from railway import (
-    LARGEST_DELAY, LARGEST_PASSED, BadFile, Network, activity_row, event_row, rows_of_file, text_of,
+    LARGEST_DELAY, LARGEST_PASSED, BadFile, Network, activity_row, event_row, in_one_line, rows_of_file, text_of,
 )
 from runtext import due_items
 
@@ -214,7 +215,7 @@ def tell(found):
     for odd in found:
         told[odd.kind, odd.name] += 1
         if told[odd.kind, odd.name] <= MOST:
-            print(f'{odd.name}, line {odd.line}: {odd.what}')
+            print(in_one_line(f'{odd.name}, line {odd.line}: {odd.what}'))
     for (kind, name), count in told.items():
         if count > MOST:
             print(f'{name}: {count - MOST} more of the kind `{kind}`')
@@ -226,6 +227,7 @@ def main():
     words.add_argument('net', metavar='NET', help='folder with Events-expanded.giv and Activities-expanded.giv')
     words.add_argument('feeds', metavar='FEED', nargs='*', help='a file of feed lines')
     given = words.parse_args()
+    speak_utf8()
     try:
         count = tell(list(oddities(read_files(given.net), given.feeds)))
     except BadFile as fault:

@@ -11,7 +11,8 @@ import io
 import os
 from typing import Callable, Iterable, NamedTuple, TypeVar
 
-from railway import BadFile
+from quoted import is_text, quoted_records
+from railway import BadFile, whole
 
 Named = TypeVar('Named')
 
@@ -54,26 +55,28 @@ def in_print(columns: Iterable[str], rows: Iterable[Iterable[object]]) -> str:
 def records(folder: str, name: str, row: Callable[..., Named]) -> list[tuple[int, Named]]:
     """The line of each record, and what `row` makes of its fields; BadFile where it makes nothing."""
     path = os.path.join(folder, name)
-    found = []
     try:
-        with open(path, encoding='utf-8', newline='') as file:
-            reader = csv.reader(file, delimiter=';')
-            try:
-                for fields in reader:
-                    if any(fields) and not fields[0].startswith('#'):
-                        found.append((reader.line_num, row(*map(str.strip, fields))))
-            except (TypeError, ValueError, csv.Error) as error:
-                raise BadFile(path, reader.line_num, 'this is no record of the file') from error
+        with open(path, 'rb') as file:
+            return [(line, made(path, line, fields, row)) for line, fields in quoted_records(path, file, ';', '#') if any(fields)]
     except OSError as error:
         raise BadFile(path, None, error.strerror or 'cannot be read') from error
-    return found
+
+
+def made(path: str, line: int, fields: list[str], row: Callable[..., Named]) -> Named:
+    """What `row` makes of the fields of a record."""
+    if not all(map(is_text, fields)):
+        raise BadFile(path, line, 'this is not in UTF-8')
+    try:
+        return row(*map(str.strip, fields))
+    except (TypeError, ValueError) as error:
+        raise BadFile(path, line, 'this is no record of the file') from error
 
 
 def numbered(folder: str, name: str) -> list[tuple[int, int, str]]:
     """The line, the number and the name in the first two fields of each record; none where there is no such file."""
     if not os.path.exists(os.path.join(folder, name)):
         return []
-    rows = records(folder, name, lambda number, label, *_: (int(number), label))
+    rows = records(folder, name, lambda number, label, *_: (whole(number), label))
     return [(line, *row) for line, row in rows]
 
 
@@ -87,12 +90,19 @@ def read_labels(folder: str) -> dict[int, str]:
     return {number: name for _, number, name in numbered(folder, 'Trains.csv')}
 
 
+def read_trips(folder: str) -> dict[int, str]:
+    """The trips of trains by the ids of their first events, where Trains.csv is there and has them."""
+    if not os.path.exists(os.path.join(folder, 'Trains.csv')):
+        return {}
+    return dict(row for _, row in records(folder, 'Trains.csv', lambda number, _, trip='', *__: (whole(number), trip)))
+
+
 def read_events(folder: str) -> list[EventName]:
     def event(number: str, train: str, trip: str, sequence: str, stop: str, kind: str, time: str) -> EventName:
-        return EventName(int(number), int(train), trip, int(sequence), stop, kind, time)
+        return EventName(whole(number), whole(train), trip, whole(sequence), stop, kind, time)
     return [row for _, row in records(folder, 'Events.csv', event)]
 
 
 def read_trains(folder: str) -> list[TrainName]:
-    rows = records(folder, 'Trains.csv', lambda event, *names: TrainName(int(event), *names))
+    rows = records(folder, 'Trains.csv', lambda event, *names: TrainName(whole(event), *names))
     return [row for _, row in rows]

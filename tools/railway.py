@@ -117,6 +117,13 @@ class Rows:
 # ---- Files
 
 
+def in_one_line(text, most=300):
+    """Text of a file as it is told to people: what cannot be printed as its number, and of a long one its ends."""
+    if len(text) > most:
+        text = f'{text[:most - 100]} .. {text[-90:]}'
+    return ''.join(one if one.isprintable() else one.encode('unicode_escape').decode() for one in text)
+
+
 class BadFile(Exception):
     """A file is not what it should be: its name, the number of the line, from 1, or None, and what is wrong there."""
 
@@ -125,7 +132,8 @@ class BadFile(Exception):
         self.name, self.line, self.what = name, line, what
 
     def __str__(self):
-        return f'{self.name}: {self.what}' if self.line is None else f'{self.name}, line {self.line}: {self.what}'
+        where = self.name if self.line is None else f'{self.name}, line {self.line}'
+        return f'{in_one_line(where)}: {in_one_line(self.what)}'
 
 
 def text_of(name):

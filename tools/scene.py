@@ -6,7 +6,7 @@ apart as the trains are scheduled to drive between them. Times are in seconds.
 from collections import Counter, defaultdict
 from typing import NamedTuple
 
-from names import read_labels, read_stops
+from names import read_labels, read_stops, read_trips
 from railway import BadFile, Network, Rows, apply, cost_of, is_met, read_delays, read_network, refusal_at_once, text_of
 from runtext import Bad, Run, read_run
 
@@ -28,6 +28,7 @@ class Scene(NamedTuple):
     trains: list
     names: dict
     labels: dict
+    trips: dict
 
     def stop(self, place):
         return self.network.events[place].stop
@@ -39,11 +40,15 @@ class Scene(NamedTuple):
         return max(0, self.times[place] - self.scheduled(place))
 
     def stop_name(self, stop):
-        return self.names.get(stop, f'Stop {stop}')
+        return self.names.get(stop) or f'Stop {stop}'
+
+    def first_event(self, train):
+        """The id of a train's first event."""
+        return self.network.events[self.trains[train][0]].id
 
     def train_label(self, train):
-        first = self.network.events[self.trains[train][0]].id
-        return self.labels.get(first, f'Train {first}')
+        first = self.first_event(train)
+        return self.labels.get(first) or f'Train {first}'
 
 
 def lateness_class(seconds):
@@ -83,7 +88,8 @@ def read_scene(folder, text, event_delays=None, activity_delays=None):
     if any(event.id not in run.times for event in network.events):
         raise BadFile(text, None, 'its times are those of another network')
     times = [run.times[event.id] for event in network.events]
-    return Scene(network, run, start, rows, times, trains_of(network), read_stops(folder), read_labels(folder))
+    names = read_stops(folder), read_labels(folder), read_trips(folder)
+    return Scene(network, run, start, rows, times, trains_of(network), *names)
 
 
 # ---- Trains and lines
@@ -122,7 +128,7 @@ def edges_of(path):
     return [frozenset(edge) for edge in zip(path, path[1:])]
 
 
-def lines_of(network, trains, most=12):
+def lines_of(network, trains, most):
     """The lines that the trains run on, the busiest first: the path whose stretches most trains run over, then of those left.
 
     The stops of a network that has few are one line.

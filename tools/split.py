@@ -17,9 +17,12 @@ import os
 import sys
 from typing import NamedTuple
 
-from files import write_all
+from files import speak_utf8, write_all
 from railway import BadFile, Network, network_files, read_network
-from words import stops_of
+from words import stops_of, whole_between
+
+
+MOST_REGIONS = 100_000
 
 
 class Cut(NamedTuple):
@@ -88,10 +91,14 @@ def regions_of(network, parts, count):
     order = sorted(sizes, key=lambda part: (stops[part], part))
     if count is None:
         region = {part: number for number, part in enumerate(order, 1)}
+    elif count > len(order):
+        raise BadFile('--regions', None, f'{count} is above {len(order)}, the number of parts')
     else:
-        region, before = {}, 0
-        for part in order:
-            region[part] = 1 + min(count - 1, before * count // len(parts))
+        region, before, number = {}, 0, 0
+        for place, part in enumerate(order):
+            # A region begins where its share does, and none is left without a part.
+            share = 1 + before * count // len(parts)
+            region[part] = number = min(max(share, number, count - len(order) + place + 1), number + 1)
             before += sizes[part]
     return [region[part] for part in parts]
 
@@ -145,7 +152,8 @@ def main():
     words.add_argument('net', metavar='NET', help='folder with Events-expanded.giv and Activities-expanded.giv')
     words.add_argument('stops', metavar='STOPS', type=stops_of, help='ids of the boundary stops, as 6,17')
     words.add_argument('dir', metavar='DIR', help='where the regions go')
-    words.add_argument('--regions', type=int, metavar='N', help='how many regions; by default each part is one')
+    words.add_argument('--regions', type=whole_between(1, MOST_REGIONS), metavar='N', help='how many regions; by default each part is one')
+    speak_utf8()
     try:
         make_all(words.parse_args())
     except BadFile as fault:

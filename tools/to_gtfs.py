@@ -1,7 +1,7 @@
 #!/usr/bin/env python3
 """Writes the disposition timetable of a run in the form of GTFS:
 
-    python3 tools/to_gtfs.py NET TEXT DIR
+    python3 tools/to_gtfs.py NET TEXT DIR [--feed FEED]
 
 NET is a network that from_gtfs.py made, with Events.csv and Trains.csv, and TEXT the text of a run over it. DIR gets
 
@@ -10,7 +10,11 @@ NET is a network that from_gtfs.py made, with Events.csv and Trains.csv, and TEX
                   seconds against the timetable
 
 A train that a frequency made is named as TRIP@06:30:00: a feed that takes these lines needs such a trip in trips.txt, and no
-frequency of TRIP. At the first stop of a train the arrival is the departure, and at the last one the departure is the arrival.
+frequency of TRIP. A network has no arrival at the first stop of a train and no departure from the last one. With --feed, the feed
+that the network was made of, a train stands there as long as the feed says; without, the two times of such a call are the same.
+
+Times of GTFS do not fall within a trip. Where a train has passed a stop before it should have left an earlier one, by what was told,
+it has left by then: the earlier times are written as the time at which it passed, and the trip is told on standard error.
 
 The status is 0; or 2, and no file is written, where a file is not as it should be.
 """
@@ -25,9 +29,9 @@ from dataclasses import dataclass
 from typing import Iterable, Optional, Sequence
 
 from files import write_all
-from gtfs import clock
+from gtfs import Feed, clock
 from names import EventName, TrainName, read_events, read_trains
-from railway import BadFile, Event, read_network
+from railway import BadFile, Event, in_one_line, read_network
 from runtext import Bad, read_run
 
 STOP_TIMES = ('trip_id', 'arrival_time', 'departure_time', 'stop_id', 'stop_sequence')
@@ -44,6 +48,16 @@ class Happening:
     @property
     def delay(self) -> int:
         return self.time - self.scheduled
+
+    def __str__(self) -> str:
+        return f'the {self.name.kind} at {self.name.stop}, call {self.name.sequence}'
+
+
+@dataclass(frozen=True)
+class Stay:
+    """For how many seconds a trip stands at its first stop before it leaves, and at its last stop behind its arrival."""
+    before: int = 0
+    behind: int = 0
 
 
 def read_times(name: str, events: int) -> dict[int, int]:
@@ -71,15 +85,47 @@ def happenings_by_train(net: str, text: str) -> dict[int, list[Happening]]:
     return trains
 
 
-def calls_of(happenings: list[Happening]) -> Iterable[tuple[object, ...]]:
+def without_falls(happenings: list[Happening]) -> Optional[str]:
+    """Puts each time of a train that is above one behind it down to that; what is to be said of it, if there are any.
+
+    Only an event that has passed is not held back by those before it, so it is the later one that is known.
+    """
+    count, first, least = 0, '', happenings[-1].time
+    for one in reversed(happenings):
+        if one.time > least:
+            count, first = count + 1, f'{one}, {clock(one.time)} as {clock(least)}'
+            one.time = least
+        least = one.time
+    trip = happenings[0].name.trip
+    return f'trip {trip}: its times fall, so some are written as one that follows: {count}, first {first}' if count else None
+
+
+def stays_of(name: Optional[str], trips: Iterable[str]) -> dict[str, Stay]:
+    """How long trips of a feed stand at their ends; those that frequencies made as the trip that repeats."""
+    if name is None:
+        return {}
+    ends: dict[str, list[tuple[int, int]]] = {}
+    with Feed(name) as feed:
+        for row in feed.rows('stop_times.txt', ['trip_id', 'arrival_time', 'departure_time', 'stop_sequence']):
+            arrival, departure = row.time('arrival_time'), row.time('departure_time')
+            if arrival is not None and departure is not None:
+                call = row.number('stop_sequence', 10 ** 9), max(0, departure - arrival)
+                known = ends.setdefault(row['trip_id'], [call, call])
+                ends[row['trip_id']] = [min(known[0], call), max(known[1], call)]
+    stays = {trip: Stay(first[1], last[1]) for trip, (first, last) in ends.items()}
+    return {trip: stays.get(trip) or stays.get(trip.rpartition('@')[0], Stay()) for trip in trips}
+
+
+def calls_of(happenings: list[Happening], stay: Stay) -> Iterable[tuple[object, ...]]:
     """The rows of a train in stop_times.txt."""
     by_call: dict[int, dict[str, Happening]] = {}
     for one in happenings:
         by_call.setdefault(one.name.sequence, {})[one.name.kind] = one
     for sequence, ends in sorted(by_call.items()):
         some = next(iter(ends.values()))
-        arrival, departure = ends.get('arrival', some), ends.get('departure', some)
-        yield some.name.trip, clock(arrival.time), clock(departure.time), some.name.stop, sequence
+        arrival = ends['arrival'].time if 'arrival' in ends else max(0, some.time - stay.before)
+        departure = ends['departure'].time if 'departure' in ends else some.time + stay.behind
+        yield some.name.trip, clock(arrival), clock(departure), some.name.stop, sequence
 
 
 def delays_of(train: TrainName, happenings: list[Happening]) -> tuple[object, ...]:
@@ -99,14 +145,15 @@ def in_print(columns: Iterable[str], rows: Iterable[Iterable[object]]) -> str:
     return text.getvalue()
 
 
-def texts_of(net: str, text: str) -> dict[str, str]:
-    """The files of a run, by name."""
+def texts_of(net: str, text: str, feed: Optional[str]) -> tuple[dict[str, str], list[str]]:
+    """The files of a run, by name, and what is to be said of its times."""
     trains = happenings_by_train(net, text)
     names = [train for train in read_trains(net) if train.event in trains]
-    return {
-        'stop_times.txt': in_print(STOP_TIMES, (call for train in names for call in calls_of(trains[train.event]))),
-        'delays.csv': in_print(DELAYS, (delays_of(train, trains[train.event]) for train in names)),
-    }
+    said = [line for train in names if (line := without_falls(trains[train.event]))]
+    stays = stays_of(feed, {train.trip for train in names})
+    calls = (call for train in names for call in calls_of(trains[train.event], stays.get(train.trip, Stay())))
+    delays = (delays_of(train, trains[train.event]) for train in names)
+    return {'stop_times.txt': in_print(STOP_TIMES, calls), 'delays.csv': in_print(DELAYS, delays)}, said
 
 
 def main(given: Optional[Sequence[str]] = None) -> int:
@@ -116,12 +163,16 @@ def main(given: Optional[Sequence[str]] = None) -> int:
     words.add_argument('net', metavar='NET', help='the folder of a network, with its names')
     words.add_argument('text', metavar='TEXT', help='the text of a run over it')
     words.add_argument('folder', metavar='DIR', help='where the files are written')
+    words.add_argument('--feed', metavar='FEED', help='the feed that the network was made of, which says how long trains stand at their ends')
     read = words.parse_args(given)
     try:
-        write_all(read.folder, texts_of(read.net, read.text))
+        texts, said = texts_of(read.net, read.text, read.feed)
+        write_all(read.folder, texts)
     except BadFile as error:
         print(f'to_gtfs: {error}', file=sys.stderr)
         return 2
+    for line in said:
+        print(f'to_gtfs: {in_one_line(line)}', file=sys.stderr)
     return 0
 
 

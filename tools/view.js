@@ -1,4 +1,5 @@
 'use strict';
+const DAY = JSON.parse(document.getElementById('day').textContent);
 // What the page keeps as differences to the one before, summed up again.
 const sums = numbers => {
   let sum = 0;
@@ -38,6 +39,13 @@ for (const svg of view.querySelectorAll('svg')) {
   svg.setAttribute('preserveAspectRatio', 'xMidYMid meet');
   svg.removeAttribute('width');
   svg.removeAttribute('height');
+  // A picture has no parts that can be reached; a group has.
+  svg.setAttribute('role', 'group');
+  for (const group of svg.querySelectorAll('.train')) {
+    group.setAttribute('role', 'img');
+    group.setAttribute('tabindex', '-1');
+    group.setAttribute('aria-label', group.querySelector('title').textContent);
+  }
 }
 
 function setBox(svg, box) {
@@ -69,17 +77,26 @@ function startBox(svg) {
   setBox(svg, wide < width ? [left, top, wide, height] : [left, top, width, height]);
 }
 
+// The wheel alone scrolls the page.
 view.addEventListener('wheel', event => {
+  if (!event.ctrlKey && !event.metaKey) return;
   event.preventDefault();
   const box = view.getBoundingClientRect();
   zoom(event.deltaY < 0 ? 1.2 : 1 / 1.2, (event.clientX - box.left) / box.width, (event.clientY - box.top) / box.height);
 }, { passive: false });
 
 const pointers = new Map();
+let down = null;
 view.addEventListener('pointerdown', event => {
   view.setPointerCapture(event.pointerId);
   pointers.set(event.pointerId, event);
+  down = pointers.size === 1 ? event : null;
   view.classList.add('moving');
+});
+view.addEventListener('pointerup', event => {
+  if (!down || Math.hypot(event.clientX - down.clientX, event.clientY - down.clientY) > 4) return;
+  const group = document.elementFromPoint(event.clientX, event.clientY)?.closest('.train');
+  if (group) tell(chosenTrain(Number(group.dataset.t)));
 });
 view.addEventListener('pointermove', event => {
   const before = pointers.get(event.pointerId);
@@ -89,6 +106,7 @@ view.addEventListener('pointermove', event => {
     const [other] = [...pointers.values()].filter(pointer => pointer.pointerId !== event.pointerId);
     const apart = from => Math.hypot(from.clientX - other.clientX, from.clientY - other.clientY) || 1;
     zoom(apart(event) / apart(before));
+    pan((before.clientX - event.clientX) / 2 / box.width, (before.clientY - event.clientY) / 2 / box.height);
   } else {
     pan((before.clientX - event.clientX) / box.width, (before.clientY - event.clientY) / box.height);
   }
@@ -103,17 +121,18 @@ for (const end of ['pointerup', 'pointercancel']) {
 
 const keys = {
   '+': () => zoom(1.3), '=': () => zoom(1.3), '-': () => zoom(1 / 1.3), '0': () => setBox(shown, wholeBox(shown)),
+  n: () => stepTrain(1), p: () => stepTrain(-1), N: () => stepTrain(1), P: () => stepTrain(-1),
   ArrowLeft: () => pan(-0.1, 0), ArrowRight: () => pan(0.1, 0), ArrowUp: () => pan(0, -0.1), ArrowDown: () => pan(0, 0.1),
 };
 view.addEventListener('keydown', event => {
-  if (keys[event.key] && !event.ctrlKey && !event.metaKey) {
+  if (shown && keys[event.key] && !event.ctrlKey && !event.metaKey && !event.altKey) {
     event.preventDefault();
     keys[event.key]();
   }
 });
 for (const button of document.querySelectorAll('[data-zoom]')) {
   const does = { in: () => zoom(1.3), out: () => zoom(1 / 1.3), all: () => setBox(shown, wholeBox(shown)) };
-  button.addEventListener('click', does[button.dataset.zoom]);
+  button.addEventListener('click', () => shown && does[button.dataset.zoom]());
 }
 
 function showLine(place) {
@@ -123,48 +142,61 @@ function showLine(place) {
   if (!boxes.has(shown)) startBox(shown);
 }
 element('lines').addEventListener('change', event => showLine(event.target.value));
-startBox(shown);
-addEventListener('resize', () => { if (boxOf(shown).join() === wholeBox(shown).join()) startBox(shown); });
+if (shown) startBox(shown);
+addEventListener('resize', () => { if (shown && boxOf(shown).join() === wholeBox(shown).join()) startBox(shown); });
 
-// ---- The board of a stop
+// ---- The board of a stop and the run of a train
 
 const stops = [...atStop.keys()].sort((a, b) => a - b);
 for (const stop of stops) element('stops').append(new Option(stopName(stop), stop));
+for (const number of trains.keys()) element('trains').append(new Option(trainName(number), number));
 
-function row(cells, kind) {
-  const tr = document.createElement('tr');
-  for (const [text, name] of cells) {
-    const td = document.createElement(kind);
-    td.textContent = text;
-    if (name) td.className = name;
-    tr.append(td);
+function cell(kind, text, scope, name) {
+  const made = document.createElement(kind);
+  made.textContent = text;
+  if (scope) made.scope = scope;
+  if (name) made.className = name;
+  return made;
+}
+
+// A table of events into an element; `at` heads the column of where each is, and `where` says it.
+function showEvents(into, caption, shownPlaces, at, where, found) {
+  const table = document.createElement('table'), heading = document.createElement('tr');
+  heading.append(...['Event', at, 'Kind', 'Scheduled', 'Now', 'Late'].map(text => cell('th', text, 'col')));
+  table.createCaption().textContent = caption;
+  table.createTHead().append(heading);
+  const body = table.createTBody();
+  for (const place of shownPlaces) {
+    const event = events[place], late = Math.max(0, event.now - event.time), row = document.createElement('tr');
+    const kind = (event.arrival ? 'arrival' : 'departure') + (passed.has(place) ? ', passed' : '');
+    row.append(
+      cell('th', event.id, 'row'), cell('td', where(place)), cell('td', kind), cell('td', clock(event.time)),
+      cell('td', clock(event.now)), cell('td', late ? clock(late) : '', '', late >= 60 ? 'late' : ''),
+    );
+    if (place === found) row.className = 'found';
+    body.append(row);
   }
-  return tr;
+  into.replaceChildren(table);
+  const seen = table.querySelector('.found');
+  into.scrollTop = seen ? seen.offsetTop - into.clientHeight / 2 : 0;
 }
 
 function showBoard(stop, found) {
   element('stops').value = stop;
-  const table = document.createElement('table');
-  const head = document.createElement('thead'), body = document.createElement('tbody');
-  head.append(row(['Event', 'Train', 'Kind', 'Scheduled', 'Now', 'Late'].map(text => [text]), 'th'));
   const sorted = [...atStop.get(stop)].sort((a, b) => events[a].now - events[b].now || a - b);
-  for (const place of sorted) {
-    const event = events[place], late = Math.max(0, event.now - event.time);
-    const name = trainOf.has(place) ? trainName(trainOf.get(place)) : '';
-    const tr = row([
-      [event.id], [name], [(event.arrival ? 'arrival' : 'departure') + (passed.has(place) ? ', passed' : '')],
-      [clock(event.time)], [clock(event.now)], [late ? clock(late) : '', late >= 60 ? 'late' : ''],
-    ], 'td');
-    if (place === found) tr.className = 'found';
-    body.append(tr);
-  }
-  table.append(head, body);
-  element('board').replaceChildren(table);
-  const seen = table.querySelector('.found'), board = element('board');
-  board.scrollTop = seen ? seen.offsetTop - board.clientHeight / 2 : 0;
+  showEvents(element('board'), stopName(stop), sorted, 'Train', place => (trainOf.has(place) ? trainName(trainOf.get(place)) : ''), found);
 }
+
+function showRun(number, found) {
+  element('trains').value = number;
+  const trip = DAY.trips[number] ? `, trip ${DAY.trips[number]}` : '';
+  showEvents(element('run'), trainName(number) + trip, trains[number], 'Stop', place => stopName(events[place].stop), found);
+}
+
 element('stops').addEventListener('change', event => showBoard(Number(event.target.value)));
+element('trains').addEventListener('change', event => tell(chosenTrain(Number(event.target.value))));
 if (stops.length) showBoard(stops[0]);
+if (trains.length) showRun(0);
 
 // ---- Finding
 
@@ -173,11 +205,12 @@ function unmark() {
   view.classList.remove('dim');
 }
 
+// Marks a train, and moves to it where a line that is drawn has it.
 function showTrain(number) {
-  const group = view.querySelector(`[data-t="${number}"]`);
+  const mark = `[data-t="${number}"]`, group = shown?.querySelector(mark) || view.querySelector(mark);
   if (!group) return false;
   showLine(group.closest('.line').id.slice(4));
-  for (const same of view.querySelectorAll(`[data-t="${number}"]`)) same.classList.add('found');
+  for (const same of view.querySelectorAll(mark)) same.classList.add('found');
   view.classList.add('dim');
   const box = group.getBBox(), [, , , all] = wholeBox(shown);
   const wide = Math.max(box.width * 1.6, 300), high = wide * view.clientHeight / view.clientWidth;
@@ -185,21 +218,42 @@ function showTrain(number) {
   return true;
 }
 
-function findTrain(number) {
+// Shows a train in all places, and says where and when it runs.
+function chosenTrain(number) {
+  unmark();
   const first = events[trains[number][0]], last = events[trains[number].at(-1)];
-  showTrain(number);
-  showBoard(first.stop, trains[number][0]);
-  return `${trainName(number)}: ${stopName(first.stop)} ${clock(first.now)} to ${stopName(last.stop)} ${clock(last.now)}, ` +
-    `${clock(Math.max(0, last.now - last.time))} late at its end.`;
+  const isDrawn = showTrain(number);
+  showRun(number);
+  const trip = DAY.trips[number] ? ` (trip ${DAY.trips[number]})` : '';
+  return `${trainName(number)}${trip}: ${stopName(first.stop)} ${clock(first.now)} to ${stopName(last.stop)} ${clock(last.now)}, ` +
+    `${clock(Math.max(0, last.now - last.time))} late at its end.${isDrawn ? '' : ' It runs on no line that is drawn.'}`;
+}
+
+// The train of the line that comes so many behind the marked one, in the order in which they are drawn.
+function stepTrain(by) {
+  const groups = [...shown.querySelectorAll('.train')];
+  if (!groups.length) return;
+  const at = groups.findIndex(group => group.classList.contains('found'));
+  const next = groups[at < 0 ? (by > 0 ? 0 : groups.length - 1) : (at + by + groups.length) % groups.length];
+  const said = chosenTrain(Number(next.dataset.t));
+  next.focus({ preventScroll: true });
+  tell(said);
+}
+
+function findTrain(number) {
+  const said = chosenTrain(number);
+  showBoard(events[trains[number][0]].stop, trains[number][0]);
+  return said;
 }
 
 function findEvent(id) {
   const place = byId.get(id);
   if (place === undefined) return null;
   const event = events[place];
-  if (trainOf.has(place)) showTrain(trainOf.get(place));
+  const train = trainOf.has(place) ? ` ${chosenTrain(trainOf.get(place))}` : '';
+  if (train) showRun(trainOf.get(place), place);
   showBoard(event.stop, place);
-  return `Event ${id}: ${event.arrival ? 'arrival' : 'departure'} at ${stopName(event.stop)}, scheduled ${clock(event.time)}, now ${clock(event.now)}.`;
+  return `Event ${id}: ${event.arrival ? 'arrival' : 'departure'} at ${stopName(event.stop)}, scheduled ${clock(event.time)}, now ${clock(event.now)}.${train}`;
 }
 
 function findStop(stop) {
@@ -211,24 +265,35 @@ function findStop(stop) {
 function find(wanted) {
   const text = wanted.trim().toLowerCase();
   const number = text.match(/^(?:(train|event|stop) +)?([0-9]+)$/);
-  const named = trains.findIndex((_, place) => trainName(place).toLowerCase() === text);
-  if (named >= 0) return findTrain(named);
+  const firstTrain = fits => {
+    const found = trains.findIndex((_, place) => fits(trainName(place).toLowerCase(), (DAY.trips[place] || '').toLowerCase()));
+    return found < 0 ? null : findTrain(found);
+  };
+  const named = firstTrain(name => name === text);
+  if (named) return named;
+  const isTrip = wantedTrip => firstTrain((_, trip) => trip === wantedTrip);
+  const asTrip = text.match(/^trip +(.+)$/);
+  if (asTrip) return isTrip(asTrip[1]);
   if (number) {
     const id = Number(number[2]);
     if (number[1] === 'stop') return atStop.has(id) ? findStop(id) : null;
     if (number[1] === 'train') return byId.has(id) && trainOf.has(byId.get(id)) ? findTrain(trainOf.get(byId.get(id))) : null;
-    return findEvent(id);
+    return findEvent(id) || (number[1] ? null : isTrip(text));
   }
-  const stop = stops.find(one => stopName(one).toLowerCase() === text) ?? stops.find(one => stopName(one).toLowerCase().includes(text));
-  if (stop !== undefined) return findStop(stop);
-  const part = trains.findIndex((_, place) => trainName(place).toLowerCase().includes(text));
-  return part < 0 ? null : findTrain(part);
+  const stop = stops.find(one => stopName(one).toLowerCase() === text);
+  const whole = stop === undefined ? isTrip(text) : findStop(stop);
+  if (whole) return whole;
+  const part = stops.find(one => stopName(one).toLowerCase().includes(text));
+  return part === undefined ? firstTrain((name, trip) => name.includes(text) || trip.includes(text)) : findStop(part);
+}
+
+function tell(said) {
+  element('found').textContent = element('marked').textContent = said;
 }
 
 element('find').addEventListener('submit', event => {
   event.preventDefault();
   unmark();
   const wanted = element('wanted').value;
-  if (!wanted.trim()) { element('found').textContent = ''; return; }
-  element('found').textContent = find(wanted) || `Nothing is called “${wanted}”.`;
+  tell(wanted.trim() ? find(wanted) || `Nothing is called “${wanted}”.` : '');
 });

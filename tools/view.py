@@ -1,20 +1,21 @@
 #!/usr/bin/env python3
 """Makes one page of a run, to be opened in a browser: view.py NET TEXT > day.html
 
-NET is the folder of a network, TEXT the text of a run over it. The page loads nothing from elsewhere. It shows the time-distance
-diagram of each line (as diagram.py draws it) with zoom and pan by mouse, touch and keys; a box that finds a train, an event or a
-stop; the board of a stop (scheduled, now, late); the journal with each reply; each plan with its choices and its tree as a list
-that folds, with bounds; and the cost by late arrivals, dropped changes and missed ones. It works by keyboard, in light and dark,
-and on a narrow screen. Names come from NET/Stops.csv and NET/Trains.csv where these are there.
+NET is the folder of a network, TEXT the text of a run over it. The page loads nothing from elsewhere, and runs no script but its own, whatever
+stands in names. It shows the time-distance diagrams of the eight busiest lines (as diagram.py draws them) with zoom and pan by
+mouse, touch and keys; a box that finds a train, a trip, an event or a stop; the run of a train and the board of a stop (scheduled,
+now, late); the journal with each reply; each plan with its choices and its tree as a list that folds, with bounds; and the cost by
+late arrivals, dropped changes and missed ones. It works by keyboard, in light and dark, and on a narrow screen. Names come from
+NET/Stops.csv and NET/Trains.csv where these are there.
 """
 import argparse
-import json
 import os
 import sys
 from collections import Counter
-from html import escape
 
-from diagram import drawing
+from diagram import drawing, style, trains_on
+from files import speak_utf8
+from markup import escaped, in_script, policy
 from railway import BadFile
 from scene import clock_time, cost_parts, counted, lateness_class, lines_of, read_scene
 
@@ -80,16 +81,18 @@ def log_rows(items):
     """Items of a log as a table."""
     rows = []
     for item in items:
-        said, answer = map(escape, item_words(item))
+        said, answer = map(escaped, item_words(item))
         kind = ' class="no"' if item.answer is None or item.answer.kind in ('refused', 'range', 'plans', 'noplan') else ''
         rows.append(f'<tr{kind}><td>{item.line}</td><td>{said}</td><td>{answer}</td></tr>')
-    return f'<table><thead><tr><th>Line</th><th>Said</th><th>Answered</th></tr></thead><tbody>{"".join(rows)}</tbody></table>'
+    heading = ''.join(f'<th scope="col">{name}</th>' for name in ('Line', 'Said', 'Answered'))
+    table = f'<table><thead><tr>{heading}</tr></thead><tbody>{"".join(rows)}</tbody></table>'
+    return f'<div class="scroll" tabindex="0" role="region" aria-label="Lines and answers">{table}</div>'
 
 
 def log_lines(items):
     """Items of a log as lines."""
     lines = [f'{item.line} {" -> ".join(filter(None, item_words(item)))}' for item in items]
-    return f'<pre tabindex="0">{escape(chr(10).join(lines))}</pre>'
+    return f'<pre class="scroll" tabindex="0">{escaped(chr(10).join(lines))}</pre>'
 
 
 def journal_part(scene):
@@ -187,16 +190,27 @@ def plans_part(scene):
 
 
 def lines_part(scene):
-    """The drawing of each line, of which one is shown, and the choice between them."""
-    lines = lines_of(scene.network, scene.trains, MOST_LINES) or [sorted({event.stop for event in scene.network.events})]
-    lines = [line for line in lines if line]
+    """The choice between the lines, the drawing of each, of which one is shown, and what is to be said of those left out."""
+    found = lines_of(scene.network, scene.trains, MOST_LINES + 1) or [sorted({event.stop for event in scene.network.events})]
+    lines = [line for line in found[:MOST_LINES] if line]
     names = [f'{scene.stop_name(line[0])} – {scene.stop_name(line[-1])}' for line in lines]
-    options = ''.join(f'<option value="{place}">{escape(name)}</option>' for place, name in enumerate(names))
+    options = ''.join(f'<option value="{place}">{escaped(name)}</option>' for place, name in enumerate(names))
     drawings = ''.join(
         f'<div class="line" id="line{place}"{"" if place == 0 else " hidden"}>{"".join(drawing(scene, line))}</div>'
         for place, line in enumerate(lines)
     )
-    return f'<label>Line <select id="lines">{options}</select></label>', drawings
+    choice = f'<label>Line <select id="lines">{options}</select></label>'
+    return choice, drawings, lines_note(scene, lines, len(found) > MOST_LINES)
+
+
+def lines_note(scene, lines, has_more):
+    """What the lines that are drawn leave out."""
+    drawn = {number for line in lines for number, _ in trains_on(scene, set(line))}
+    missing = len(scene.trains) - len(drawn)
+    said = f'These are the {MOST_LINES} busiest lines; there are more. ' if has_more else ''
+    if missing:
+        said += f'{missing} of {counted(len(scene.trains), "train runs", "trains run")} on no line that is drawn; they are found as the others.'
+    return f'<p class="note">{said.strip()}</p>' if said else ''
 
 
 def differences(numbers):
@@ -213,6 +227,7 @@ def data_of(scene):
         'passed': [place for place, time in enumerate(scene.rows.passed) if time is not None],
         'trains': [differences(train) for train in scene.trains], 'names': scene.names,
         'labels': [scene.train_label(place) for place in range(len(scene.trains))] if scene.labels else [],
+        'trips': [scene.trips.get(scene.first_event(place), '') for place in range(len(scene.trains))] if scene.trips else [],
     }
 
 
@@ -220,29 +235,34 @@ def page(scene):
     """The whole page."""
     here = os.path.dirname(os.path.abspath(__file__))
     with open(os.path.join(here, 'view.css'), encoding='utf-8') as css, open(os.path.join(here, 'view.js'), encoding='utf-8') as js:
-        style, script = css.read(), js.read()
-    choice, drawings = lines_part(scene)
+        look, script = css.read(), js.read()
+    choice, drawings, note = lines_part(scene)
     late = sum(lateness_class(scene.lateness(place)) > 0 for place in range(len(scene.times)))
     clock = f', clock {clock_time(scene.rows.clock, True)}' if scene.rows.clock else ''
     return f'''<!doctype html>
-<html lang="en"><head><meta charset="utf-8"><meta name="viewport" content="width=device-width,initial-scale=1">
-<title>A day of {len(scene.trains)} trains</title><style>{style}</style></head><body>
+<html lang="en"><head><meta charset="utf-8">
+<meta http-equiv="Content-Security-Policy" content="{policy([script], [look, style()])}"><meta name="viewport" content="width=device-width,initial-scale=1">
+<title>A day of {len(scene.trains)} trains</title><style>{look}</style></head><body>
 <header><h1>A day of {len(scene.trains)} trains</h1>
 <p>{counted(len(scene.run.journal), "entry", "entries")} from {counted(len(scene.run.logs), "feed", "feeds")}; {late} of {len(scene.times)} events a minute late or more{clock}.</p>
-<form id="find" role="search"><label for="wanted">Find a train, an event or a stop</label>
-<input id="wanted" type="search" autocomplete="off" placeholder="train 1, event 5, a name of a stop"><button>Find</button></form>
+<form id="find" role="search"><label for="wanted">Find a train, a trip, an event or a stop</label>
+<input id="wanted" type="search" autocomplete="off" placeholder="train 1, event 5, a trip, a name of a stop"><button>Find</button></form>
 <p id="found" role="status" aria-live="polite"></p></header>
 <main><section aria-labelledby="h-diagram"><h2 id="h-diagram">Diagram</h2>
 <div class="tools">{choice}<button type="button" data-zoom="in" aria-label="Zoom in">+</button>
 <button type="button" data-zoom="out" aria-label="Zoom out">−</button><button type="button" data-zoom="all">All</button>
-<span class="note">Wheel or + and − to zoom, drag or arrow keys to move, 0 for all.</span></div>
-<div id="view" tabindex="0" role="application" aria-label="Time-distance diagram">{drawings}</div></section>
-<section aria-labelledby="h-board"><h2 id="h-board">Board</h2><label>Stop <select id="stops"></select></label><div id="board"></div></section>
+<span class="note" id="keys">Ctrl and wheel or + and − to zoom, drag or arrow keys to move, 0 for all, N and P for the next train and the one before.</span></div>
+<div id="view" tabindex="0" role="application" aria-label="Time-distance diagram" aria-describedby="keys">{drawings}</div>
+<p id="marked" class="note"></p>{note}</section>
+<section aria-labelledby="h-train"><h2 id="h-train">Train</h2><label>Train <select id="trains"></select></label>
+<div id="run" class="scroll" tabindex="0" role="region" aria-labelledby="h-train"></div></section>
+<section aria-labelledby="h-board"><h2 id="h-board">Board</h2><label>Stop <select id="stops"></select></label>
+<div id="board" class="scroll" tabindex="0" role="region" aria-labelledby="h-board"></div></section>
 <section aria-labelledby="h-cost"><h2 id="h-cost">Cost</h2>{cost_part(scene)}</section>
 <section aria-labelledby="h-plans"><h2 id="h-plans">Plans</h2>{plans_part(scene)}</section>
 <section aria-labelledby="h-journal"><h2 id="h-journal">Journal</h2>{journal_part(scene)}</section></main>
-<script>const DAY={json.dumps(data_of(scene), separators=(",", ":"))};
-{script}</script></body></html>'''
+<script type="application/json" id="day">{in_script(data_of(scene))}</script>
+<script>{script}</script></body></html>'''
 
 
 def main():
@@ -252,6 +272,7 @@ def main():
     words.add_argument('--event-delays', metavar='NAME', help='delays of events at the start, as given to the run')
     words.add_argument('--activity-delays', metavar='NAME', help='delays of activities at the start, as given to the run')
     given = words.parse_args()
+    speak_utf8()
     try:
         scene = read_scene(given.net, given.text, given.event_delays, given.activity_delays)
     except BadFile as fault:

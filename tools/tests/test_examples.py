@@ -35,7 +35,7 @@ class Examples(unittest.TestCase):
         for example, line in (('connection', None), ('turnaround', None), ('day', '45,46,47,48,49,50,51,52,53,54,55')):
             folder = os.path.join(EXAMPLES, example)
             scene = read_scene(os.path.join(folder, 'net'), os.path.join(folder, 'text'))
-            stops = stops_of(line) if line else lines_of(scene.network, scene.trains)[0]
+            stops = stops_of(line) if line else lines_of(scene.network, scene.trains, 1)[0]
             with open(os.path.join(folder, 'picture.svg'), encoding='utf-8') as file:
                 self.assertEqual(file.read(), '\n'.join(drawing(scene, stops)) + '\n', example)
 

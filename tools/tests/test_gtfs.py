@@ -303,7 +303,8 @@ BROKEN = [
     ({'frequencies.txt': ['trip_id,start_time,end_time,headway_secs', 'r1,08:00:00,,600']}, 'column end_time: nothing stands here'),
     ({'frequencies.txt': ['trip_id,start_time,end_time,headway_secs', 'r1,08:00:00,09:00:00,0']}, 'column headway_secs: 0 is no time'),
     ({'transfers.txt': ['from_stop_id,to_stop_id,transfer_type', 'A,X,0']}, 'line 2: column to_stop_id: there is no stop X'),
-    ({'transfers.txt': ['from_stop_id,to_stop_id,transfer_type', 'A,A,2']}, 'line 2: column min_transfer_time: "" is no whole number'),
+    ({'transfers.txt': ['from_stop_id,to_stop_id,transfer_type,min_transfer_time', 'A,A,2,x']}, 'line 2: column min_transfer_time: "x" is no whole number'),
+    ({'frequencies.txt': ['trip_id,start_time,end_time,headway_secs,exact_times', 'r1,08:00:00,09:00:00,600,2']}, 'line 2: column exact_times: 2 is above 1'),
 ]
 
 # What breaks the line of the second stop.

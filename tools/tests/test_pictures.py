@@ -1,14 +1,19 @@
 """Diagrams and pages of runs: trains and lines that are found, the states of changes, and what stands in the pictures."""
+import base64
+import hashlib
 import os
+import shutil
 import subprocess
 import sys
 import tempfile
 import unittest
 import xml.etree.ElementTree as xml
 
+from hostile import HOSTILE
 from samples import TOOLS, network, text
 
 from diagram import drawing, frame_of
+from markup import in_script
 from railway import Activity, Event, Network
 from scene import cost_parts, distances, lines_of, links_of, path_of, read_scene, trains_of, turned_pairs
 from view import page, tree_part, upper_part
@@ -45,11 +50,11 @@ class TrainsAndLines(unittest.TestCase):
 
     def test_busiest_line_first(self):
         net = line_of_trains([(1, 2, 3), (3, 2, 1), (2, 9, 8, 7, 6), (1, 2, 3)])
-        self.assertEqual([sorted(line) for line in lines_of(net, trains_of(net))], [[1, 2, 3], [2, 6, 7, 8, 9]])
+        self.assertEqual([sorted(line) for line in lines_of(net, trains_of(net), 12)], [[1, 2, 3], [2, 6, 7, 8, 9]])
 
     def test_few_stops_are_one_line(self):
         net = line_of_trains([(1, 2, 3), (2, 9)])
-        self.assertEqual(lines_of(net, trains_of(net)), [[1, 2, 3, 9]])
+        self.assertEqual(lines_of(net, trains_of(net), 12), [[1, 2, 3, 9]])
 
     def test_stops_lie_as_far_apart_as_trains_drive(self):
         net = line_of_trains([(1, 2, 3)])
@@ -57,7 +62,7 @@ class TrainsAndLines(unittest.TestCase):
 
     def test_network_without_events(self):
         net = Network([], [])
-        self.assertEqual((trains_of(net), lines_of(net, [])), ([], []))
+        self.assertEqual((trains_of(net), lines_of(net, [], 12)), ([], []))
 
 
 class StatesOfChanges(unittest.TestCase):
@@ -104,12 +109,28 @@ class Drawings(unittest.TestCase):
         found = scene('connection', 'late_first_train')._replace(names={1: '<b>&'})
         self.assertIn('&lt;b&gt;&amp;', ''.join(drawing(found, [1, 2, 3])))
 
+    def test_every_name_leaves_a_drawing_xml(self):
+        found = scene('connection', 'late_first_train')
+        for name in HOSTILE:
+            svg = ''.join(drawing(found._replace(names={1: name}, labels={1: name}), [1, 2, 3]))
+            self.assertEqual(classes(svg).count('train'), 1, name)
+
 
 class Pages(unittest.TestCase):
     def test_page_loads_nothing(self):
         found = page(scene('connection', 'plan_that_is_adopted'))
         self.assertNotIn('src=', found)
-        self.assertNotIn('http', found.replace('http://www.w3.org/2000/svg', ''))
+        self.assertNotIn('http', found.replace('http://www.w3.org/2000/svg', '').replace('http-equiv', ''))
+
+    def test_page_lets_in_its_own_script_alone(self):
+        found = page(scene('connection', 'plan_that_is_adopted')._replace(names={1: '</script><script>1</script>'}))
+        with open(os.path.join(TOOLS, 'view.js'), 'rb') as file:
+            digest = base64.b64encode(hashlib.sha256(file.read()).digest()).decode()
+        self.assertIn(f"default-src 'none'; base-uri 'none'; form-action 'none'; script-src 'sha256-{digest}'; style-src 'sha256-", found)
+        self.assertEqual((found.count('<script'), found.count('</script')), (2, 2))
+
+    def test_data_have_no_markup(self):
+        self.assertEqual(in_script('<!--</script>&\u2028\u2029'), '"\\u003c!--\\u003c/script\\u003e\\u0026\\u2028\\u2029"')
 
     def test_tree_of_two_levels(self):
         nodes = [('inner', ('change', 5)), ('inner', ('pair', 3, 5)), ('bound', 1), ('cycle',), ('open', 2)]
@@ -131,8 +152,22 @@ class Pages(unittest.TestCase):
 
 
 class Commands(unittest.TestCase):
-    def run_tool(self, name, *words):
-        return subprocess.run([sys.executable, os.path.join(TOOLS, name), *words], capture_output=True, text=True)
+    def run_tool(self, name, *words, **said):
+        environment = {**os.environ, **said}
+        return subprocess.run([sys.executable, os.path.join(TOOLS, name), *words], capture_output=True, encoding='utf-8', env=environment)
+
+    def test_what_is_written_is_utf_8_whatever_the_locale_says(self):
+        with tempfile.TemporaryDirectory() as net:
+            for name in os.listdir(network('connection')):
+                shutil.copy(os.path.join(network('connection'), name), net)
+            with open(os.path.join(net, 'Stops.csv'), 'w', encoding='utf-8-sig') as file:
+                file.write('1;Ørby – 東京\n2;Ü\n')
+            for tool in ('view.py', 'diagram.py'):
+                outs = [self.run_tool(tool, net, text('late_first_train'), PYTHONIOENCODING=name) for name in ('ascii', 'cp1252', 'utf-8')]
+                self.assertEqual([out.returncode for out in outs], [0, 0, 0], outs[0].stderr)
+                self.assertEqual(outs[0].stdout, outs[2].stdout)
+                self.assertEqual(outs[1].stdout, outs[2].stdout)
+                self.assertIn('Ørby – 東京', outs[0].stdout)
 
     def test_bad_files_are_told_in_one_line(self):
         with tempfile.TemporaryDirectory() as folder:

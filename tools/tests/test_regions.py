@@ -65,6 +65,24 @@ class Cuts(unittest.TestCase):
             refuse_parted_pairs(whole, 'net', regions_of(whole, parts_of(whole, {2}), None))
         self.assertIn('pair of headways 6 7', str(caught.exception))
 
+    def test_every_number_of_regions_gets_as_many(self):
+        whole = day()
+        parts = parts_of(whole, MIDDLES)
+        sizes = [1 if place < 700 else part for place, part in enumerate(parts)]
+        for some in parts, sizes:
+            for count in range(1, len(set(some)) + 1):
+                self.assertEqual(set(regions_of(whole, some, count)), {*range(1, count + 1)})
+            with self.assertRaises(BadFile):
+                regions_of(whole, some, len(set(some)) + 1)
+
+    def test_numbers_of_regions_that_are_none(self):
+        folder = os.path.join(CASES, 'networks', 'forty_trains', 'net')
+        for number, what in ('0', 'is no whole number from 1'), ('-1', 'no whole number'), ('x', 'no whole number'), ('17', '17 is above 16'):
+            words = [sys.executable, os.path.join(TOOLS, 'split.py'), folder, ','.join(map(str, MIDDLES)), '/nowhere/x', '--regions', number]
+            done = subprocess.run(words, capture_output=True, text=True)
+            self.assertEqual((done.returncode, done.stdout), (2, ''))
+            self.assertIn(what, done.stderr)
+
     def test_command(self):
         with tempfile.TemporaryDirectory() as folder:
             words = [sys.executable, os.path.join(TOOLS, 'split.py'), os.path.join(CASES, 'networks', 'forty_trains', 'net'),

@@ -1,0 +1,63 @@
+#!/usr/bin/env python3
+"""Turns a solver's solution into lines of a feed: from_sol.py NET TEXT SOLUTION [--at=N] [--from=F --to=T] [--whole] > LINES
+
+NET, TEXT and the options are those that tools/to_mps.py was given; SOLUTION is what CBC (`cbc FILE -solve -solu SOLUTION`) or GLPK
+(`glpsol --freemps FILE -o SOLUTION`) wrote. Printed is a line `drop A`, `keep A` or `first E F` for each choice that the solution
+makes otherwise than the rows, in an order in which none of them closes a cycle. With --whole the first N entries of the journal stand
+before them as lines, an adopted plan by its decisions, and `cost` behind them: a run of that feed says what the solution costs.
+
+The status is 2 where a file is not good, or the solution is of another problem or none.
+"""
+from __future__ import annotations
+
+import argparse
+import sys
+from typing import Iterator, Optional, Sequence
+
+from decide import in_turn, spoken
+from programme import choices_in
+from railway import BadFile, Network, Rows, apply, read_delays
+from solution import decisions_of, read_solution
+from to_mps import add_rows_words, add_window_words, read_rows, window_of
+
+
+def said_again(network: Network, rows: Rows, journal: list) -> Iterator[str]:
+    """The entries of a journal as lines of a feed, from the rows at the start, which they change."""
+    for entry in journal:
+        if entry.message[0] == 'adopt':
+            yield from spoken(in_turn(network, rows, entry.message[1]))
+        else:
+            yield ' '.join(map(str, entry.message))
+        apply(network, rows, entry.message)
+
+
+def lines_of_solution(given: argparse.Namespace, words: argparse.ArgumentParser) -> list[str]:
+    window = window_of(words, given)
+    network, rows, journal, _ = read_rows(given)
+    decisions = decisions_of(given.solution, read_solution(given.solution), choices_in(network, rows, window))
+    try:
+        lines = spoken(in_turn(network, rows, decisions))
+    except ValueError as error:
+        raise BadFile(given.solution, None, 'its choices have a cycle: it is of another problem') from error
+    if given.whole:
+        start = Rows(network, read_delays(given.net, given.event_delays), read_delays(given.net, given.activity_delays))
+        lines = [*said_again(network, start, journal), *lines, 'cost']
+    return lines
+
+
+def main(asked: Optional[Sequence[str]] = None) -> None:
+    words = argparse.ArgumentParser(description=__doc__, formatter_class=argparse.RawDescriptionHelpFormatter)
+    add_rows_words(words)
+    words.add_argument('solution', metavar='SOLUTION', help='the file of a solution of CBC or GLPK')
+    add_window_words(words)
+    words.add_argument('--whole', action='store_true', help='print a whole feed, which ends with `cost`')
+    given = words.parse_args(asked)
+    try:
+        print(''.join(f'{line}\n' for line in lines_of_solution(given, words)), end='')
+    except BadFile as fault:
+        print(f'from_sol.py: {fault}', file=sys.stderr)
+        sys.exit(2)
+
+
+if __name__ == '__main__':
+    main()

@@ -1,0 +1,98 @@
+"""A browser without a window, driven over two pipes in its own protocol: Debian's package `chromium`."""
+from __future__ import annotations
+
+import fcntl
+import json
+import os
+import shutil
+import subprocess
+import tempfile
+
+CHROMIUM = shutil.which('chromium')
+MISSING = 'chromium is not installed'
+
+WORDS = ['--headless', '--no-sandbox', '--disable-gpu', '--no-first-run', '--disable-extensions', '--hide-scrollbars',
+         '--remote-debugging-pipe', '--window-size=1200,800', 'about:blank']
+
+# So long a browser may be silent, in seconds.
+PATIENCE = '60'
+
+
+class Browser:
+    """One page of a browser."""
+
+    def __init__(self):
+        self.folder = tempfile.TemporaryDirectory()
+        hears, self.into = os.pipe()
+        self.out_of, says = os.pipe()
+        # The protocol's pipes are those of numbers 3 and 4, which these may have themselves.
+        ends = [fcntl.fcntl(end, fcntl.F_DUPFD, 20) for end in (hears, says)]
+        script = f'exec timeout {PATIENCE} "$@" 3<&{ends[0]} 4>&{ends[1]}'
+        command = ['bash', '-c', script, 'bash', CHROMIUM, f'--user-data-dir={self.folder.name}', *WORDS]
+        self.process = subprocess.Popen(command, pass_fds=ends, stdout=subprocess.DEVNULL, stderr=subprocess.DEVNULL)
+        for end in hears, says, *ends:
+            os.close(end)
+        self.lines = open(self.out_of, 'rb')
+        self.number, self.session, self.rest = 0, None, b''
+        target = self.ask('Target.createTarget', url='about:blank')['targetId']
+        self.session = self.ask('Target.attachToTarget', targetId=target, flatten=True)['sessionId']
+        self.ask('Page.enable')
+        self.ask('Runtime.enable')
+
+    def close(self):
+        os.close(self.into)
+        self.process.terminate()
+        self.process.wait()
+        self.lines.close()
+        self.folder.cleanup()
+
+    def message(self):
+        """The next message of the browser."""
+        while b'\0' not in self.rest:
+            more = os.read(self.lines.fileno(), 1 << 16)
+            if not more:
+                raise EOFError('the browser has ended')
+            self.rest += more
+        message, _, self.rest = self.rest.partition(b'\0')
+        return json.loads(message)
+
+    def ask(self, method, until=None, **words):
+        """What the browser answers; where an event is waited for, when that has come."""
+        self.number += 1
+        asked = {'id': self.number, 'method': method, 'params': words, **({'sessionId': self.session} if self.session else {})}
+        os.write(self.into, json.dumps(asked).encode() + b'\0')
+        answer, happened = None, until is None
+        while answer is None or not happened:
+            message = self.message()
+            happened = happened or message.get('method') == until
+            if message.get('id') == self.number:
+                answer = message
+        if 'error' in answer:
+            raise RuntimeError(answer['error'])
+        return answer['result']
+
+    def open(self, name):
+        """Opens a file."""
+        self.ask('Page.navigate', until='Page.loadEventFired', url=f'file://{os.path.abspath(name)}')
+
+    def value(self, expression):
+        """The value of an expression in the page, where it is one of JSON."""
+        result = self.ask('Runtime.evaluate', expression=expression, returnByValue=True, awaitPromise=True)
+        if 'exceptionDetails' in result:
+            raise RuntimeError(result['exceptionDetails'])
+        return result['result'].get('value')
+
+    def press(self, key, text=''):
+        """Presses a key and lets it go."""
+        code = {'Tab': 9, 'Enter': 13}.get(key, 0)
+        words = {'key': key, 'windowsVirtualKeyCode': code, **({'text': text} if text else {})}
+        self.ask('Input.dispatchKeyEvent', type='keyDown', **words)
+        self.ask('Input.dispatchKeyEvent', type='keyUp', **words)
+
+    def wheel(self, x, y, down, ctrl=False):
+        """Turns the wheel over a point."""
+        self.ask('Input.dispatchMouseEvent', type='mouseWheel', x=x, y=y, deltaX=0, deltaY=down, modifiers=2 if ctrl else 0)
+
+    def settled(self):
+        """Waits until the page has been drawn twice."""
+        self.value('new Promise(done => requestAnimationFrame(() => requestAnimationFrame(() => done(true))))')
