@@ -1,23 +1,8 @@
 -- What stands at a place of a list, and lists that rise.
-use Rattle.std.proofs.Common.{◌≡◌, ℕ, zero, suc, ◌<◌, ◌⊎◌, List, [], ◌∷◌, ◌++◌, length, get_or, Some, refl, sym, ap, subst, ◌∙◌, inl, inr, arith, length-append, slice_get}
+use Rattle.std.proofs.Common.{◌≡◌, ℕ, zero, suc, ◌<◌, ◌⊎◌, List, [], ◌∷◌, length, get_or, refl, sym, ap, subst, ◌∙◌, inl, inr, arith}
 use Rattle.std.specs.List.{Contains}
-use Rattle.std.proofs.Math.Seq.{get_or-append_seam}
-use Rattle.std.proofs.lemmas.Option.{slice_get-get_or}
 
 module _ {X : Type 0} where
-  -- a value behind others stands at their number
-  pub at_seam : (before : List X) (x : X) (later : List X) → slice_get (before ++ x ∷ later) (length before) ≡ Some x
-  at_seam before x later =
-      slice_get-get_or (before ++ x ∷ later) (length before) x (omega (arith, length-append before (x ∷ later)))
-      ∙ ap Some (get_or-append_seam before x later x)
-
-  -- and no other one does
-  pub one_at_seam : (all before : List X) (x : X) (later : List X) (other : X) → all ≡ before ++ x ∷ later →
-      slice_get all (length before) ≡ Some other → other ≡ x
-  one_at_seam all before x later other is there =
-      let here : slice_get all (length before) ≡ Some x = ap (λ xs. slice_get xs (length before)) is ∙ at_seam before x later in
-      cc
-
   -- what a list contains is its first value or behind it
   pub head_or_tail : (y : X) (ys : List X) (z : X) → Contains (y ∷ ys) z → (y ≡ z) ⊎ Contains ys z
   head_or_tail y ys z (zero, lt, e) = inl e

@@ -49,10 +49,6 @@ too_large_exactly F value (Ok n) reads = (λ same. let apart : ⊥ = cc in absur
 too_large_exactly F value (Err NotANumber) reads = (λ same. let apart : ⊥ = cc in absurd apart, λ large. absurd (reads large.0))
 too_large_exactly F value (Err TooLarge) reads = (λ _. reads, λ _. refl)
 
--- digits as far as the text goes
-pub all_digits : (text : List ℕ) (n : ℕ) → n ≡ length text → AllWithin IsAsciiDigit text 0 n → All IsAsciiDigit text
-all_digits text n e h = λ k d below. h k d (omega arith) (omega arith)
-
 pub digit_more : (text : List ℕ) (i : ℕ) → i < length text → AllWithin IsAsciiDigit text 0 i → IsAsciiDigit (get_or text i 0) → AllWithin IsAsciiDigit text 0 (i + 1)
 digit_more text i low h digit = AllWithin-more IsAsciiDigit text 0 i h (λ d. rw (get_or_default text i d 0 low) digit)
 

@@ -94,13 +94,6 @@ same_first path t u d e p = let q = append_cancel_left path (d ∷ t) (e ∷ u) 
 
 -- ---- steps
 
--- the tree that has no node yet
-pub grown_first : IsGrown [] [] [] ([] ∷ [])
-grown_first = record {
-  together = λ nodes leaves f. f;
-  alone = λ all leaves f. record { nodes = all; all_are = refl; fill = f };
-}
-
 -- the next leaf is known
 pub grown_for : (read : List Leaf) (held : List Node) (due : List (List Decision)) (l : Leaf) → IsGrown read [] held due → IsGrown read (l ∷ []) held due
 grown_for read held due l g = record { together = g.together; alone = λ all leaves f. g.alone all (l ∷ leaves) f }

@@ -1,5 +1,5 @@
 -- Leaves and nodes are read where they stand, and nowhere else.
-use Rattle.std.proofs.Common.{◌≡◌, ℕ, ◌<◌, ◌≤◌, Bool, true, false, cond, eqb, ltb, List, [], ◌∷◌, ◌++◌, Option, Some, None, refl, sym, ap, subst, ◌∙◌, inl, inr, arith, append_assoc, append-nil, codes}
+use Rattle.std.proofs.Common.{◌≡◌, ℕ, ◌<◌, ◌≤◌, Bool, true, false, cond, ltb, List, [], ◌++◌, Option, Some, None, refl, sym, ap, subst, ◌∙◌, inl, inr, arith, append_assoc, append-nil, codes}
 use Rattle.std.specs.Prelude.{option_and_then}
 use Rattle.std.specs.Fmt.{decimal}
 use Rattle.std.proofs.lemmas.Bool.{lt-ltb, ltb-true}
@@ -120,14 +120,6 @@ node_spelled Cycle is = refl
 node_spelled (Bound c) is = sym (simp (append_assoc, append-nil))
 node_spelled (Open c) is = sym (simp (append_assoc, append-nil))
 node_spelled Hole is = absurd is
-
-no_change : (c : ℕ) (rest : List ℕ) → eqb 105 c ≡ false → change_in (c ∷ rest) ≡ None
-unfolding behind
-no_change c rest e = rw e refl
-
-no_pair : (c : ℕ) (rest : List ℕ) → eqb 105 c ≡ false → pair_in (c ∷ rest) ≡ None
-unfolding behind
-no_pair c rest e = rw e refl
 
 no_change_in_pair : (rest : List ℕ) → change_in (codes "inner pair " ++ rest) ≡ None
 unfolding behind

@@ -25,10 +25,6 @@ pub last_number_push : (last : ℕ) (items : List LogItem) (x : LogItem) → las
 last_number_push last [] x = refl
 last_number_push last (y ∷ items) x = last_number_push (number_after last (kind_of y)) items x
 
-pub last_line_push : (line : ℕ) (items : List LogItem) (x : LogItem) → last_line line (items ++ x ∷ []) ≡ line_of x
-last_line_push line [] x = refl
-last_line_push line (y ∷ items) x = last_line_push (line_of y) items x
-
 -- ---- order
 
 -- an item that follows is in order behind the others, and what is in order is so without its last item

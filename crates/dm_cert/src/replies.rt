@@ -6,7 +6,7 @@ use dm_rows::{At, Refusal};
 use dm_tree::Plan;
 
 /// The answer to a line. An entry number is how many entries the history had.
-#[derive(Debug, Drop)]
+#[derive(Drop)]
 pub enum Reply {
     /// The message, or the adopted plan, is the entry of this number, from 1.
     Ok(u32),
@@ -40,7 +40,7 @@ pub enum Reply {
 }
 
 /// What a log holds of one line. Lines are numbered from 1.
-#[derive(Debug, Drop)]
+#[derive(Drop)]
 pub enum LogItem {
     /// The line is in no form.
     Malformed { line: u32 },
@@ -49,7 +49,7 @@ pub enum LogItem {
 }
 
 /// What one feed was answered, line by line, and why it was read no further.
-#[derive(Debug, Drop)]
+#[derive(Drop)]
 pub struct FeedLog {
     pub items: Items<LogItem>,
     pub stop: FeedStop,

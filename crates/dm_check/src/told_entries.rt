@@ -45,7 +45,7 @@ pub(crate) fn next_entry(
         }));
     }
     match checked.accept(alloc, net, entries, &said.message) {
-        Ok(true) => Ok(entry_of(said)),
+        Ok(true) => Ok(said.into_entry()),
         Ok(false) => Err(Stop::Fault(Fault {
             line,
             kind: BadKind::Entry,
@@ -60,24 +60,6 @@ fn is_in_turn(said: &EntryLine, feeds: usize, entries: usize) -> bool
     ensures { Tells (IsInTurn feeds entries (numbered said.now)) result }
 {
     said.number as usize == entries + 1 && said.feed <= feeds as u128 && 1 <= said.line
-}
-
-/// The entry of a line whose feed is one of the run's.
-fn entry_of(said: EntryLine) -> Entry
-    requires { said.feed ≤ FEEDS }
-    ensures { result ≡ (numbered said).entry }
-{
-    let EntryLine {
-        feed,
-        line,
-        message,
-        ..
-    } = said;
-    Entry {
-        feed: feed as u32,
-        line,
-        message,
-    }
 }
 
 /// As many entries as the header says. The list grows as lines are found. The rows are then those after all of them.

@@ -9,10 +9,10 @@ use Rattle.dm_rows.specs.Rows.{RowsValue}
 use Rattle.dm_tree.specs.declared.forms.Node.{Node}
 use Rattle.dm_tree.specs.declared.forms.Node.TheVariants.{Inner, Cycle, Bound, Open, Hole}
 use Rattle.dm_rows.specs.Sides.{first_decision, is_first_decision, other_decision, IsOrdered}
-use Rattle.dm_rows.proofs.Sides.{first_decides, other_decides}
+use Rattle.dm_rows.proofs.Sides.{first_decides}
 use Rattle.dm_tree.specs.Trees.{choice_in}
 use Rattle.dm_tree.specs.Pending.{pending}
-use Rattle.dm_tree.proofs.Walked.{first_turned, second_left, is_inner}
+use Rattle.dm_tree.proofs.Walked.{is_inner}
 use Rattle.dm_paths.specs.Decisions.{IsOpen}
 use Rattle.dm_check_plans.specs.Inside.Visiting.{IsNextOpen, GoesOn}
 

@@ -2,21 +2,19 @@
 ghost use Rattle.std.specs.Prelude.{ℕ, ◌≡◌, ◌≤◌, ◌+◌, Some, All, Contains, map, length, IfOk, MatchBool};
 ghost use Rattle.dm_base.specs.declared.limits.TheConstants.{PENALTY};
 ghost use Rattle.dm_rows.specs.Rows.{IsSized};
-ghost use Rattle.dm_rows.specs.Reach.{ReachesFlip};
-ghost use Rattle.dm_rows.specs.Decide.{choice_of, free_choices_of, with_decisions};
-ghost use Rattle.dm_tree.specs.Plans.{whole_task, is_set, AreSomeOf, DiffersFrom, CostsWith};
+ghost use Rattle.dm_rows.specs.Decide.{choice_of, with_decisions};
+ghost use Rattle.dm_tree.specs.Plans.{whole_task, AreSomeOf, DiffersFrom, CostsWith};
 ghost use Rattle.dm_check_rows.specs.Claims.{Tells};
 ghost use Rattle.dm_check_times.specs.Timetables.{IsRoomOf};
 ghost use Rattle.dm_check_plans.specs.Inside.Paths.{AreFree, is_next};
-ghost use Rattle.dm_paths.specs.Decisions.{differs_from};
 
 use dm_base::Cost;
 use dm_check_rows::is_cost_of;
 use dm_check_times::{HeldCycle, KeptTimetable};
 use dm_marks::PlaceSet;
 use dm_network::Network;
-use dm_paths::{flip_of, with_decisions};
-use dm_rows::{Choice, Decision, Flip, Rows};
+use dm_paths::{differs_from, with_decisions};
+use dm_rows::{Choice, Decision, Rows};
 use std::alloc::AllocError;
 
 /// Whether decisions decide some of the choices allowed, in their order and each at most once.
@@ -48,39 +46,11 @@ pub fn are_all_different(net: &Network, rows: &Rows, decisions: &[Decision]) -> 
     ensures { (penalty budget : ℕ) → Tells (All (DiffersFrom (whole_task net.now rows.now penalty budget)) decisions.now) result }
 {
     for decision in decisions {
-        if !is_different(net, rows, *decision) {
+        if !differs_from(net, rows, *decision) {
             return false;
         }
     }
     true
-}
-
-/// Whether a decision of a free choice is not what the rows have.
-fn is_different(net: &Network, rows: &Rows, decision: Decision) -> bool
-    requires sized { IsSized net.now rows.now }
-    requires free { Contains (free_choices_of net.now rows.now) (choice_of decision) }
-    ensures { result ≡ differs_from net.now rows.now decision }
-{
-    let flip = flip_of(net, rows, decision);
-    !is_set(rows, flip)
-}
-
-/// Whether the rows have the decision already.
-fn is_set(rows: &Rows, flip: Flip) -> bool
-    requires { ReachesFlip rows.now flip }
-    ensures { result ≡ is_set rows.now (Some flip) }
-{
-    match flip {
-        Flip::Keep { act } => rows.kept(act),
-        Flip::Drop { act } => !rows.kept(act),
-        Flip::First { pair, small } => {
-            if small {
-                rows.small_first(pair)
-            } else {
-                !rows.small_first(pair)
-            }
-        }
-    }
 }
 
 /// Whether the rows have no cycle with these decisions of free choices, and cost this.

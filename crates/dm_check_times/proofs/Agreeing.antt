@@ -141,26 +141,6 @@ below_more net rows n old mid new inside had more =
     ])
     (λ a is. inl is) had (event_renews net rows n mid new inside more)
 
--- an event whose floor is at the clock or later, and one that is renewed
-pub moves_not : (net : Net) (rows : RowsValue) (event : ℕ) (t : KeptTimetableValue) → rows.clock ≤ slice_index t.floors event → MovesAt net rows event t t
-moves_not net rows event t late = record {
-  renews = renews_less net rows Nowhere (λ k. (k ≡ event) × (slice_index t.floors event < rows.clock)) Nowhere Nowhere t t
-      (λ e moved. absurd (let early = moved.1 in omega arith)) (λ a is. is) (renews_none net rows t);
-  others = λ k. inl refl;
-}
-
-pub moves_event : (net : Net) (rows : RowsValue) (event : ℕ) (old new : KeptTimetableValue) → event < length old.floors → RenewsEvent net rows event old new → MovesAt net rows event old new
-moves_event net rows event old new inside renews =
-    let all = event_renews net rows event old new inside renews in
-    record {
-      renews = renews_less net rows (Here event) (λ k. (k ≡ event) × (slice_index old.floors event < rows.clock)) Nowhere Nowhere old new
-          (λ e moved. inl moved.0) (λ a is. is) all;
-      others = λ k. elim (cases_eq k event) [
-        | inl here ↦ inr (all.events_there k here)
-        | inr ne ↦ inl (ap (λ (xs : List ℕ). slice_index xs k) renews.floors ∙ get_or-set_other old.floors event k (floor_of net rows event) 0 ne)
-      ];
-    }
-
 -- ---- one event of a schedule after the other
 
 pub among_none : (net : Net) (rows : RowsValue) (due : List Scheduled) (t : KeptTimetableValue) → MovesAmong net rows due 0 t t

@@ -66,7 +66,3 @@ lists_moved set kept times is size sizes alike = record {
   few = let f = is.few in omega arith;
   as_many = sym sizes;
 }
-
--- no event is noted, where all times are alike
-pub all_alike : (kept times : List ℕ) (flags : List Bool) → kept ≡ times → AreAlikeBut flags kept times
-all_alike kept times flags is e unmarked = ap (λ (xs : List ℕ). slice_index xs e) is

@@ -96,12 +96,6 @@ puts net within kept i time was now lateness is_kept below early was_is now_is i
       weighed = is_kept.weighed;
     }
 
--- whole other times
-pub takes : (net : Net) (kept : KeptCostValue) (times : List ℕ) (lateness : ℕ) → IsKeptCostOf net kept → length times ≡ length net.events → AreBelowLimit times →
-    lateness ≡ sum_by (event_cost net times) (range_with_len 0 (length net.events)) → lateness ≤ EVENTS * (WEIGHT * 2 ^ 38) →
-    IsKeptCostOf net (record { times = times; lateness = lateness; weights = kept.weights; penalized = kept.penalized })
-takes net kept times lateness is_kept size early is limit = record { late = record { as_many = size; early = early; cost = is; limit = limit }; weighed = is_kept.weighed }
-
 -- ---- a weight that changes
 
 pub sets : (net : Net) → IsWithinLimits net → (kept : KeptCostValue) (a weight penalized : ℕ) → IsKeptCostOf net kept → a < length net.activities → weight ≤ 2 * WEIGHT →

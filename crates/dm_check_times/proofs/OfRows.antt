@@ -1,8 +1,6 @@
 -- What is least over flags and spans is least for the rows that they are of.
-use Rattle.std.proofs.Common.{◌≡◌, ℕ, zero, suc, ◌+◌, ◌-◌, ◌*◌, ◌^◌, ◌<◌, ◌≤◌, List, length, Bool, cond, Option, Some, None, refl, sym, ap, ◌∙◌, arith, slice_index, inl, inr}
-use Rattle.std.specs.Prelude.{unwrap_or, max, sum_by}
-use Rattle.std.specs.List.{range_with_len}
-use Rattle.std.proofs.lemmas.List.Sums.{sum_by-cons}
+use Rattle.std.proofs.Common.{◌≡◌, ℕ, ◌+◌, ◌-◌, ◌^◌, ◌<◌, ◌≤◌, List, length, Bool, Option, Some, None, refl, sym, ◌∙◌, arith, slice_index, inl, inr}
+use Rattle.std.specs.Prelude.{unwrap_or, max}
 use Rattle.std.specs.Option.{ForSome}
 use Rattle.std.proofs.lemmas.Bool.{cases_lt}
 use Rattle.std.proofs.lemmas.List.{get_or_past}
@@ -12,12 +10,11 @@ use Rattle.dm_graph.specs.Graph.{IsLeast, AsksNoMore}
 use Rattle.dm_graph.proofs.Timetables.{same_is_least_alike, met_has_no_cycle}
 use Rattle.dm_graph.proofs.Transfers.{cycle_carries}
 use Rattle.dm_graph.proofs.Rounds.{least_is_bounded}
-use Rattle.dm_network.specs.Net.{Net, EndsAreKnown, IsWithinLimits, activity_at}
+use Rattle.dm_network.specs.Net.{Net, EndsAreKnown, IsWithinLimits}
 use Rattle.dm_network.specs.Held.{arcs_of, is_held, HasNoCycleOf}
 use Rattle.dm_network.specs.Start.{IsNetwork}
 use Rattle.dm_rows.specs.Rows.{RowsValue, RowsAreWithinLimits, passed_at}
 use Rattle.dm_rows.specs.Timetable.{IsLeastHolding, floor_of, span_of, graph_holding, planned_time}
-use Rattle.dm_rows.specs.Cost.{cost_charging, event_cost, charged_weight, missed_weight}
 use Rattle.dm_rows.specs.Laws.{EntersNoPassed}
 use Rattle.dm_rows.proofs.AsGraph.{least_from_graph}
 use Rattle.dm_rows.proofs.Holding.{cycles_are_positive}
@@ -126,24 +123,3 @@ module _ (net : Net) (rows : RowsValue) (holds : ℕ → Bool) (held : List Bool
       λ i. let w = all_within times (length net.events) (2 ^ 38 - 1) size (λ e below. let b = bounded e below in omega (arith, b, events)) i in omega arith
 
 -- ---- costs
-
-sum_same : (f g : ℕ → ℕ) (from n : ℕ) → ((a : ℕ) → a < from + n → f a ≡ g a) → sum_by f (range_with_len from n) ≡ sum_by g (range_with_len from n)
-sum_same f g from zero each = refl
-sum_same f g from (suc n) each =
-    let here = each from (omega arith) in
-    let rest = sum_same f g (from + 1) n (λ a below. each a (omega arith)) in
-    let one = sum_by-cons f from (range_with_len (from + 1) n) in
-    let two = sum_by-cons g from (range_with_len (from + 1) n) in
-    omega (arith, here, rest, one, two)
-
-pub cost_of_flags : (net : Net) (rows : RowsValue) (charges : ℕ → Bool) (charged : List Bool) (times : List ℕ) (penalty late weights missed cost : ℕ) →
-    AreFlags net charges charged →
-    late ≡ sum_by (event_cost net times) (range_with_len 0 (length net.events)) →
-    weights ≡ sum_by (charged_weight net (is_held charged)) (range_with_len 0 (length net.activities)) →
-    missed ≡ sum_by (missed_weight net rows times) (range_with_len 0 (length net.activities)) →
-    cost ≡ late + penalty * weights + penalty * missed → cost ≡ cost_charging net rows charges times penalty
-cost_of_flags net rows charges charged times penalty late weights missed cost flags a b c is =
-    let same : sum_by (charged_weight net (is_held charged)) (range_with_len 0 (length net.activities)) ≡ sum_by (charged_weight net charges) (range_with_len 0 (length net.activities)) =
-    sum_same (charged_weight net (is_held charged)) (charged_weight net charges) 0 (length net.activities)
-    (λ k below. ap (λ (b : Bool). cond b (activity_at net k).weight 0) (flags k (omega arith))) in
-    is ∙ rw (a, b, same, c) refl

@@ -1,5 +1,5 @@
 -- How times rise: one event, the heads out of an event, and a round.
-use Rattle.std.proofs.Common.{◌≡◌, ℕ, ◌+◌, ◌<◌, ◌≤◌, Bool, true, false, IsTrue, List, length, sym, ap, subst, ◌∙◌, inl, inr, refl, arith, slice_index, length-set, get_or-set_same, get_or-set_other}
+use Rattle.std.proofs.Common.{◌≡◌, ℕ, ◌+◌, ◌<◌, ◌≤◌, Bool, true, false, IsTrue, List, length, sym, ap, subst, ◌∙◌, inl, inr, refl, arith, slice_index, get_or-set_same, get_or-set_other}
 use Rattle.std.specs.Prelude.{slice_set}
 use Rattle.std.proofs.lemmas.Bool.{cases_lt, cases_eq}
 use Rattle.dm_base.specs.declared.limits.TheConstants.{BOUND, DELAY}
@@ -26,58 +26,6 @@ risen_not times due = record {
   marked = λ i no. refl;
   cause = λ i is. inl is;
 }
-
-pub raise_not : (event time : ℕ) (times : List ℕ) (due : List Bool) → time ≤ slice_index times event → Raises event time times times due due
-raise_not event time times due reached = record {
-  rise = risen_not times due;
-  reached = reached;
-  only = λ i. inl refl;
-}
-
-module _ (event time : ℕ) (times : List ℕ) (due : List Bool) (is_event : event < length times) (as_many : length due ≡ length times) (less : slice_index times event < time) where
-  time_here : (i : ℕ) → i ≡ event → slice_index (slice_set times event time) i ≡ time
-  time_here i is = subst (λ (j : ℕ). slice_index (slice_set times event time) j ≡ time) (sym is) (get_or-set_same times event time 0 is_event)
-
-  time_there : (i : ℕ) → (i ≡ event → ⊥) → slice_index (slice_set times event time) i ≡ slice_index times i
-  time_there i ne = get_or-set_other times event i time 0 ne
-
-  flag_here : (i : ℕ) → i ≡ event → is_due (slice_set due event true) i ≡ true
-  flag_here i is = subst (λ (j : ℕ). is_due (slice_set due event true) j ≡ true) (sym is) (get_or-set_same due event true false (omega arith))
-
-  flag_there : (i : ℕ) → (i ≡ event → ⊥) → is_due (slice_set due event true) i ≡ is_due due i
-  flag_there i ne = get_or-set_other due event i true false ne
-
-  pub raise_there : Raises event time times (slice_set times event time) due (slice_set due event true)
-  raise_there = record {
-    rise = record {
-      times = length-set times event time;
-      flags = length-set due event true;
-      no_fall = λ i. elim (cases_eq i event) [
-        | inl is ↦ let h = time_here i is in let e : slice_index times i ≡ slice_index times event = ap (λ j. slice_index times j) is in omega arith
-        | inr ne ↦ let h = time_there i ne in omega arith
-      ];
-      stays_due = λ i no. elim (cases_eq i event) [
-        | inl is ↦ true_false (flag_here i is) no
-        | inr ne ↦ sym (flag_there i ne) ∙ no
-      ];
-      marked = λ i no. elim (cases_eq i event) [
-        | inl is ↦ true_false (flag_here i is) no
-        | inr ne ↦ time_there i ne
-      ];
-      cause = λ i yes. elim (cases_eq i event) [
-        | inl is ↦
-            let h = time_here i is in
-            let e : slice_index times i ≡ slice_index times event = ap (λ j. slice_index times j) is in
-            inr (omega arith)
-        | inr ne ↦ inl (sym (flag_there i ne) ∙ yes)
-      ];
-    };
-    reached = let h = time_here event refl in omega arith;
-    only = λ i. elim (cases_eq i event) [
-      | inl is ↦ inr (is, time_here i is)
-      | inr ne ↦ inl (time_there i ne)
-    ];
-  }
 
 -- ---- one behind the other
 

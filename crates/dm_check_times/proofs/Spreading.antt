@@ -7,7 +7,7 @@ use Rattle.dm_network.specs.Net.{Net, activity_at, places_out_of, places_into}
 use Rattle.dm_network.specs.Held.{is_held}
 use Rattle.dm_check_times.specs.Binding.{is_due}
 use Rattle.dm_marks.specs.Marked.{is_marked, IsFirstFrom, NoneFrom}
-use Rattle.dm_check_times.specs.Inside.Spreading.{IsClosed, HasSpread, Spreads, SpreadsTo, SpreadsAlong, HasSpreadTo, SpreadsFrom, MarksTail, HasMarkedTailsTo, HasMarkedTails, HasReset, IsResetting}
+use Rattle.dm_check_times.specs.Inside.Spreading.{HasSpread, Spreads, SpreadsAlong, HasSpreadTo, SpreadsFrom, MarksTail, HasMarkedTailsTo, HasMarkedTails, HasReset, IsResetting}
 use Rattle.dm_marks.proofs.Marking.{mark_here, mark_there, mark_still}
 use Rattle.dm_network.proofs.EventRows.{stands_out}
 use Rattle.dm_network.proofs.EventRows.{stands_into}
@@ -42,35 +42,7 @@ spreads_twice old mid new due_old due_mid due_new one two = record {
   ];
 }
 
-pub stale_already : (event : ℕ) (stale due : List Bool) → is_marked stale event ≡ true → SpreadsTo event stale stale due due
-stale_already event stale due is = record { spreads = spreads_not stale due; there = is }
-
-pub stale_now : (event : ℕ) (stale due : List Bool) → event < length stale → event < length due → SpreadsTo event stale (slice_set stale event true) due (slice_set due event true)
-stale_now event stale due below due_below = record {
-  spreads = record {
-    as_many = length-set stale event true;
-    as_many_due = length-set due event true;
-    grows = λ e is. mark_still stale event e below is;
-    due_grows = λ e is. mark_still due event e due_below is;
-    cause = λ e is. elim (cases_eq e event) [
-      | inl here ↦ inr (subst (λ (j : ℕ). is_due (slice_set due event true) j ≡ true) (sym here) (mark_here due event true due_below))
-      | inr ne ↦ inl (sym (mark_there stale event e true ne) ∙ is)
-    ];
-  };
-  there = mark_here stale event true below;
-}
-
 -- ---- the head of one activity
-
-module _ (net : Net) (held : List Bool) (spans times : List ℕ) (from a : ℕ) (stale due : List Bool) where
-  pub along_free : is_held held a ≡ false → SpreadsAlong net held spans times from a stale stale due due
-  along_free free = record { spreads = spreads_not stale due; head = λ is tight. true_false is free }
-
-  pub along_loose : (from + slice_index spans a < slice_index times (activity_at net a).head) → SpreadsAlong net held spans times from a stale stale due due
-  along_loose loose = record { spreads = spreads_not stale due; head = λ is tight. absurd (omega arith) }
-
-  pub along_tight : (after due_after : List Bool) (head : ℕ) → head ≡ (activity_at net a).head → SpreadsTo head stale after due due_after → SpreadsAlong net held spans times from a stale after due due_after
-  along_tight after due_after head is to = record { spreads = to.spreads; head = λ held tight. subst (λ (e : ℕ). is_marked after e ≡ true) is to.there }
 
 -- ---- the heads out of an event
 
@@ -113,9 +85,6 @@ spread_row net held spans times event from n row old new due_old due_new is_row 
 -- ---- all that are due
 
 module _ (net : Net) (held : List Bool) (spans times : List ℕ) where
-  pub spread_begins : (stale due : List Bool) → ((e : ℕ) → is_marked stale e ≡ true → is_due due e ≡ true) → HasSpread net held spans times stale stale due
-  spread_begins stale due all = record { grows = λ e is. is; closed = λ a binds is not_due tight. true_false (all _ is) not_due }
-
   pub spread_next : (event : ℕ) (before stale after due now cleared due_after : List Bool) → now ≡ due → cleared ≡ slice_set now event false → HasSpread net held spans times before stale due →
       SpreadsFrom net held spans times event stale after cleared due_after → HasSpread net held spans times before after due_after
   spread_next event before stale after due now cleared due_after same is had from = record {
@@ -136,30 +105,7 @@ module _ (net : Net) (held : List Bool) (spans times : List ℕ) where
         ];
   }
 
-  pub spread_whole : (before stale due : List Bool) → HasSpread net held spans times before stale due → ((e : ℕ) → is_due due e ≡ false) → IsClosed net held spans times stale
-  spread_whole before stale due had none = λ a binds tail_stale tight. had.closed a binds tail_stale (none _) tight
-
--- where every event is stale, so is each that was, and each head
-pub all_grow : (before after : List Bool) → ((e : ℕ) → e < length before → is_marked after e ≡ true) → (e : ℕ) → is_marked before e ≡ true → is_marked after e ≡ true
-all_grow before after all e is = elim (cases_lt e (length before)) [
-  | inl below ↦ all e below
-  | inr past ↦ true_false is (get_or_past before e false (omega arith))
-]
-
-pub all_closed : (net : Net) (held : List Bool) (spans times : List ℕ) (stale : List Bool) (n : ℕ) → n ≡ length net.events → ((e : ℕ) → e < n → is_marked stale e ≡ true) → IsClosed net held spans times stale
-all_closed net held spans times stale n is all = λ a binds tail tight. let b = binds.to_event in all _ (omega arith)
-
 -- ---- the tails into an event
-
-pub tail_free : (net : Net) (held : List Bool) (a : ℕ) (due : List Bool) → is_held held a ≡ false → MarksTail net held a due due
-tail_free net held a due free = record { as_many = refl; grows = λ e is. is; tail = λ is. true_false is free }
-
-pub tail_due : (net : Net) (held : List Bool) (a tail : ℕ) (due : List Bool) → tail ≡ (activity_at net a).tail → tail < length due → MarksTail net held a due (slice_set due tail true)
-tail_due net held a tail due is below = record {
-  as_many = length-set due tail true;
-  grows = λ e was. mark_still due tail e below was;
-  tail = λ held. subst (λ (e : ℕ). is_due (slice_set due tail true) e ≡ true) is (mark_here due tail true below);
-}
 
 pub tails_none : (net : Net) (held : List Bool) (row : List ℕ) (due : List Bool) → HasMarkedTailsTo net held row 0 due due
 tails_none net held row due = record { as_many = refl; grows = λ e is. is; tails = λ k below is. absurd (omega arith) }

@@ -8,10 +8,9 @@ ghost use Rattle.dm_check_times.specs.Binding.{AreBelowLimit};
 ghost use Rattle.dm_check_times.specs.KeptCosts.{priced_weight};
 
 use crate::charges::{Charges, priced_weight};
-use crate::rows::span_of;
 use dm_base::{ActKind, Cost, EventKind, Milli, Secs};
 use dm_network::Network;
-use dm_rows::Rows;
+use dm_rows::{Rows, span_of};
 
 /// What a timetable of the rows costs. It takes no memory.
 pub fn cost_of(net: &Network, rows: &Rows, times: &[Secs], penalty: u64) -> Cost

@@ -17,11 +17,11 @@ use crate::beginning::mark_changed;
 use crate::bindings::Bindings;
 use crate::following::make_stale;
 use crate::rounds::HeldCycle;
-use crate::rows::{fill_floors, fill_spans, flag_active, floor_of, span_of};
+use crate::rows::{fill_floors, fill_spans, flag_active};
 use dm_base::Secs;
 use dm_marks::{Marks, PlaceSet};
 use dm_network::Network;
-use dm_rows::{Rows, is_active};
+use dm_rows::{Rows, floor_of, is_active, span_of};
 use std::alloc::{AllocError, Global};
 use std::marker::Model;
 

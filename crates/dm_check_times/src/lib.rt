@@ -50,4 +50,4 @@ pub use kept_timetable::KeptTimetable;
 pub use pricing::keep_cost;
 pub use rounds::HeldCycle;
 pub use row::{row_into, row_out_of};
-pub use rows::{fill_floors, fill_spans, flag_active, floor_of, span_of};
+pub use rows::{fill_floors, fill_spans, flag_active};

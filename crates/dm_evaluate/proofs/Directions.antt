@@ -36,9 +36,6 @@ settled_from turned after is = record {
 }
 
 module _ (net : Net) (p tail : ℕ) (row : List ℕ) (row_is : row ≡ places_out_of net tail) where
-  Among : ℕ → Type 0
-  Among = IsAmong row (length row)
-
   directed_is_among : (b : ℕ) → b < length net.activities → is_directed net p tail b ≡ true → IsAmong row (length row) b × ((activity_at net b).pair ≡ Some p)
   directed_is_among b below h =
       let both = and_parts (is_of_pair p (activity_at net b).pair) ((activity_at net b).tail == tail) h in

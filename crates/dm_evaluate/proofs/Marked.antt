@@ -1,18 +1,18 @@
 -- Marks where an event moves, and the first marked place that is flagged and not kept.
-use Rattle.std.proofs.Common.{◌≡◌, ◌≢◌, ℕ, ◌+◌, ◌<◌, ◌≤◌, Bool, true, false, ◌&&◌, List, length, Some, None, refl, sym, ap, subst, ◌∙◌, ◌⊎◌, inl, inr, arith, nat_lt, slice_index, length-set, get_or-set_other}
-use Rattle.std.specs.Prelude.{slice_set, if◌then◌else◌}
-use Rattle.std.proofs.lemmas.Bool.{cases_lt, cases_eq, and_parts, both_ways, false_from_ne_true}
+use Rattle.std.proofs.Common.{◌≡◌, ◌≢◌, ℕ, ◌+◌, ◌<◌, Bool, true, false, List, length, Some, None, refl, sym, ap, subst, ◌∙◌, ◌⊎◌, inl, inr, arith, nat_lt, slice_index, length-set, get_or-set_other}
+use Rattle.std.specs.Prelude.{slice_set}
+use Rattle.std.proofs.lemmas.Bool.{cases_eq, both_ways}
 use Rattle.dm_network.specs.Net.{Net, activity_at, pair_at, is_change, places_into, places_out_of}
 use Rattle.dm_network.specs.Start.{IsNetwork}
 use Rattle.dm_paths.proofs.Agreeing.{pair_joins}
-use Rattle.dm_marks.specs.Marked.{is_marked, IsFirstFrom, NoneFrom}
+use Rattle.dm_marks.specs.Marked.{is_marked}
 use Rattle.dm_network.proofs.EventRows.{stands_into}
 use Rattle.dm_marks.proofs.Marking.{mark_here, mark_still}
 use Rattle.dm_network.proofs.EventRows.{stands_out}
-use Rattle.dm_priced.specs.Priced.{is_flagged, comes_too_early}
+use Rattle.dm_priced.specs.Priced.{comes_too_early}
 use Rattle.dm_evaluate.specs.Marks.{MarksUnkept, IsUnmetHeadway, IsUnmetPair}
 use Rattle.dm_paths.specs.RowsRead.{IsAmong}
-use Rattle.dm_evaluate.specs.Inside.Marking.{MarksWhere, IsEarlyAt, IsEarlyAmong, IsEarlyHeadway, IsEarlyBothWays, IsEarlyBothWaysAmong, AreMarksOf, Clears, NoneBetween, IsFirst}
+use Rattle.dm_evaluate.specs.Inside.Marking.{MarksWhere, IsEarlyAt, IsEarlyAmong, IsEarlyHeadway, IsEarlyBothWays, IsEarlyBothWaysAmong}
 use Rattle.dm_paths.proofs.RowsRead.{among_next}
 
 -- no mark, some marks and then others, one mark
@@ -199,55 +199,3 @@ module _ (net : Net) (network : IsNetwork net) (spans x : List ℕ) (e t : ℕ) 
     changes = changes_now;
     pairs = pairs_now;
   }
-
--- the first marked place that is flagged and passes a test, looked for from a place on
-module _ (flags : List Bool) (test : ℕ → Bool) (n : ℕ) (marks now : List Bool) (start from : ℕ)
-    (are : AreMarksOf flags test n marks) (cleared : Clears test marks now) (none : NoneBetween flags test start from) where
-  unmarked_fails : (k : ℕ) → is_marked now k ≡ false → (is_flagged flags k && test k) ≡ false
-  unmarked_fails k clear =
-      false_from_ne_true (is_flagged flags k && test k)
-      (λ h.
-      let both = and_parts (is_flagged flags k) (test k) h in
-      both_ways (is_marked now k) clear (cleared.kept k (are.each k both.0 both.1) both.1))
-
-  none_to : (place : ℕ) → IsFirstFrom now from place → NoneBetween flags test start place
-  none_to place first k ge lt =
-      elim (cases_lt k from) [
-        | inl before ↦ none k ge before
-        | inr past ↦ unmarked_fails k (first.none_between k past lt)
-      ]
-
-  pub found_first : (place : ℕ) → IsFirstFrom now from place → start ≤ from → is_flagged flags place ≡ true → test place ≡ true → IsFirst flags test start n place
-  found_first place first ge flagged passes = record {
-    not_before = let b = first.not_before in omega arith;
-    within = let w = first.within in let same = cleared.as_many in let size = are.as_many in omega arith;
-    flagged = flagged;
-    passes = passes;
-    none = none_to place first;
-  }
-
-  pub found_none : NoneFrom now from → (k : ℕ) → start ≤ k → (is_flagged flags k && test k) ≡ false
-  found_none left k ge =
-      elim (cases_lt k from) [
-        | inl before ↦ none k ge before
-        | inr past ↦ unmarked_fails k (left k past)
-      ]
-
-  pub none_past : (place : ℕ) → IsFirstFrom now from place → (is_flagged flags place && test place) ≡ false → NoneBetween flags test start (place + 1)
-  none_past place first fails k ge lt =
-      elim (cases_lt k place) [
-        | inl before ↦ none_to place first k ge before
-        | inr past ↦ let is : k ≡ place = omega arith in subst (λ (j : ℕ). (is_flagged flags j && test j) ≡ false) (sym is) fails
-      ]
-
-  pub cleared_next : (place : ℕ) (stays : Bool) (next : List Bool) → stays ≡ test place → next ≡ (if stays then now else slice_set now place false) → Clears test marks next
-  cleared_next place true next is next_is = subst (Clears test marks) (sym next_is) cleared
-  cleared_next place false next is next_is =
-      subst (Clears test marks) (sym next_is)
-      (record {
-        as_many = length-set now place false ∙ cleared.as_many;
-        kept = λ k was passes. elim (cases_eq k place) [
-          | inl here ↦ absurd (both_ways (test place) (sym is) (ap test (sym here) ∙ passes))
-          | inr ne ↦ get_or-set_other now place k false false ne ∙ cleared.kept k was passes
-        ];
-      })

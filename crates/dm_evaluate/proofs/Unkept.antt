@@ -1,5 +1,5 @@
 -- What is marked by spans and times of a timetable, and what is violated by rows.
-use Rattle.std.proofs.Common.{◌≡◌, ℕ, ◌+◌, ◌<◌, Bool, true, false, ◌&&◌, List, length, get_or, Some, refl, sym, ap, subst, ◌∙◌, inl, inr, arith, nat_lt, slice_index}
+use Rattle.std.proofs.Common.{◌≡◌, ℕ, ◌+◌, ◌<◌, Bool, true, false, ◌&&◌, List, length, get_or, Some, refl, sym, ap, ◌∙◌, inl, inr, arith, nat_lt, slice_index}
 use Rattle.std.specs.Prelude.{◌==◌}
 use Rattle.std.specs.List.{range_with_len}
 use Rattle.std.proofs.lemmas.Bool.{cases_lt, and_parts, and_from, eq-eqb, eqb-true, both_ways}
@@ -12,24 +12,16 @@ use Rattle.dm_rows.specs.Rows.{RowsValue}
 use Rattle.dm_rows.specs.Timetable.{span_of}
 use Rattle.dm_paths.proofs.Agreeing.{passes_one, span_same}
 use Rattle.dm_paths.proofs.Setting.{differs_in_none, differs_with}
-use Rattle.dm_live.specs.Live.{LiveValue, with_held}
-use Rattle.dm_settle.specs.Constraints.{ConstraintsValue}
-use Rattle.dm_priced.specs.Priced.{PricedValue, is_flagged}
+use Rattle.dm_priced.specs.Priced.{is_flagged}
 use Rattle.dm_priced.specs.Priced as priced
 use Rattle.dm_evaluate.specs.Evaluator.{EvaluatorValue, IsEvaluatorOf, times_of}
 use Rattle.dm_paths.specs.Flags.{AreFlags}
 use Rattle.dm_evaluate.specs.Marks.{MarksValue, MarksUnkept, IsUnmetHeadway, IsUnmetPair}
 use Rattle.dm_evaluate.specs.Inside.Marking.{AreMarksOf, Clears}
-use Rattle.dm_evaluate.specs.Inside.Moves.{KeepsBut}
 use Rattle.dm_paths.specs.Decisions.{is_unmet_pair}
 use Rattle.dm_paths.proofs.Changing.{its_pair}
 use Rattle.dm_paths.proofs.Paths.{one_passes}
 use Rattle.dm_paths.proofs.Violating.{in_range, range_below}
-
--- where spans and times stay, what is marked stays
-pub still_marked : (net : Net) (spans spans' x x' : List ℕ) (marks : MarksValue) → spans' ≡ spans → x' ≡ x → MarksUnkept net spans x marks → MarksUnkept net spans' x' marks
-still_marked net spans spans' x x' marks spans_are times_are is =
-    subst (λ (s : List ℕ). MarksUnkept net s x' marks) (sym spans_are) (subst (λ (t : List ℕ). MarksUnkept net spans t marks) (sym times_are) is)
 
 -- spans that are those of rows
 module _ (net : Net) (rows : RowsValue) (spans x : List ℕ) (are : (a : ℕ) → a < length net.activities → slice_index spans a ≡ span_of net rows a) where
@@ -126,21 +118,3 @@ module _ (net : Net) (e : EvaluatorValue) (is : IsEvaluatorOf net e) where
     at_rest = is.at_rest;
     marked = cleared_marks net e.rows e.priced.live.given.spans (times_of e) spans_are e.marks after is.marked changes pairs;
   }
-
--- where a timetable keeps its spans and its times
-module _ (net : Net) (before after : PricedValue) (marks : MarksValue)
-    (was : MarksUnkept net before.live.given.spans before.live.times marks) where
-  pub marked_same : after.live.given.spans ≡ before.live.given.spans → after.live.times ≡ before.live.times →
-      MarksUnkept net after.live.given.spans after.live.times marks
-  marked_same spans times = still_marked net before.live.given.spans after.live.given.spans before.live.times after.live.times marks spans times was
-
-  pub marked_kept : (p : ℕ) (among : ℕ → Type 0) → KeepsBut net p among before after → MarksUnkept net after.live.given.spans after.live.times marks
-  marked_kept p among keeps = marked_same keeps.spans keeps.times
-
-  pub marked_held : (a : ℕ) (held : Bool) → after.live.given ≡ with_held before.live.given a held → after.live.times ≡ before.live.times →
-      MarksUnkept net after.live.given.spans after.live.times marks
-  marked_held a held given times = marked_same (ap (λ (g : ConstraintsValue). g.spans) given) times
-
-  pub marked_refused : (cycle : List ℕ) → after.live ≡ record before.live { order = record before.live.order { cycle = cycle } } →
-      MarksUnkept net after.live.given.spans after.live.times marks
-  marked_refused cycle live = marked_same (ap (λ (v : LiveValue). v.given.spans) live) (ap (λ (v : LiveValue). v.times) live)

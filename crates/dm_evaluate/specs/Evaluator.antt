@@ -42,8 +42,3 @@ pub record IsEvaluatorOf (net : Net) (evaluator : EvaluatorValue) : Type 0 where
 -- the path without the decisions of a choice
 abbrev pub path_without : Choice → List Decision → List Decision
 path_without choice path = filter (λ d. not (is_same_choice (choice_of d) choice)) path
-
--- Where a violated choice stands in the order of the free choices, this is the violated one behind it, or None.
-abbrev pub IsNextViolated : Net → RowsValue → List Decision → List ℕ → Choice → Option Choice → Type 0
-IsNextViolated net rows path x choice next =
-    (k : ℕ) → slice_get (violated_choices_of net rows path x) k ≡ Some choice → next ≡ slice_get (violated_choices_of net rows path x) (k + 1)

@@ -7,20 +7,18 @@ ghost use Rattle.dm_rows.specs.Relax.{is_decided, is_relaxed_active};
 ghost use Rattle.dm_times.specs.Faults.{RefusesHolding};
 ghost use Rattle.dm_tree.specs.Relaxed.{IsRelaxedLeast, relaxed_cost_of, IsRelaxedCycle, HasNoRelaxedCycle, IsViolated};
 ghost use Rattle.dm_relax.specs.Relaxed.{first_violated};
-ghost use Rattle.dm_evaluate.specs.Evaluator.{IsEvaluatorOf, IsNextViolated, times_of, cycle_of, path_without};
-ghost use Rattle.dm_evaluate.specs.Inside.Violations.{violated_behind};
+ghost use Rattle.dm_evaluate.specs.Evaluator.{IsEvaluatorOf, times_of, cycle_of, path_without};
 ghost use Rattle.dm_paths.specs.Decisions.{IsOpen};
-ghost use Rattle.dm_paths.specs.Places.{IsWithin};
 
 use crate::marks::ViolationMarks;
 use crate::places::{is_decided, place_of};
 use crate::starting::root_timetable;
 use crate::turning::{turn_off, turn_on};
-use crate::violations::{is_violated, violated_behind};
+use crate::violations::{first_violated, is_violated};
 use dm_base::{Cost, Steps};
 use dm_graph::search::Cyclic;
 use dm_network::Network;
-use dm_paths::{ChoicePlace, Undecided, all_undecided, flip_of, place_of_choice};
+use dm_paths::{Undecided, all_undecided, flip_of, place_of_choice};
 use dm_priced::PricedTimetable;
 use dm_rows::{Choice, Decision, Rows};
 use dm_settle::{NoTimes, Times};
@@ -31,7 +29,6 @@ use std::sync::ledger::Ledger;
 /// The relaxed problem of a path of decisions over the rows of one network, with its least times and their cost.
 ///
 /// Its calls take the network with which it was made, of which contracts say that it is an evaluator of it.
-#[derive(Drop)]
 pub struct Evaluator {
     rows: Rows,
 
@@ -40,6 +37,18 @@ pub struct Evaluator {
     undecided: Undecided,
     priced: PricedTimetable,
     marks: ViolationMarks,
+}
+
+impl Drop for Evaluator {
+    fn drop(self) {
+        let Evaluator {
+            rows: _,
+            path: _,
+            undecided: _,
+            priced: _,
+            marks: _,
+        } = self;
+    }
 }
 
 impl Model for Evaluator {
@@ -201,48 +210,10 @@ impl Evaluator {
         ensures first { result ≡ first_violated net.now self.old.rows self.old.path (times_of self.old) }
         ensures open { IfSome result (IsOpen net.now self.old.rows self.old.path) }
     {
-        self.violated_behind(net, None, steps)
-    }
-
-    /// The next violated choice behind a violated one in the same order, or None where it is the last. So all of them are found
-    /// one after the other, at the cost of what is marked.
-    pub fn next_violated<L: Ledger>(
-        &mut self,
-        net: &Network,
-        choice: Choice,
-        steps: &mut Steps<L>,
-    ) -> Option<Choice>
-        requires { IsEvaluatorOf net.now self.old }
-        ensures evaluator { IsEvaluatorOf net.now self.new }
-        ensures others { self.new ≡ record self.old { marks = self.new.marks } }
-        ensures next { IsNextViolated net.now self.old.rows self.old.path (times_of self.old) choice result }
-        ensures open { IfSome result (IsOpen net.now self.old.rows self.old.path) }
-    {
-        net.sound();
-        let Some(place) = place_of_choice(net, choice) else {
-            return None;
-        };
-        self.violated_behind(net, Some(place), steps)
-    }
-
-    /// The first violated choice, or the first behind the one at a place.
-    fn violated_behind<L: Ledger>(
-        &mut self,
-        net: &Network,
-        past: Option<ChoicePlace>,
-        steps: &mut Steps<L>,
-    ) -> Option<Choice>
-        requires evaluator { IsEvaluatorOf net.now self.old }
-        requires is_place { IfSome past (IsWithin net.now) }
-        ensures evaluator { IsEvaluatorOf net.now self.new }
-        ensures others { self.new ≡ record self.old { marks = self.new.marks } }
-        ensures first { result ≡ violated_behind net.now self.old.rows self.old.path (times_of self.old) past }
-        ensures open { IfSome result (IsOpen net.now self.old.rows self.old.path) }
-    {
         net.sound();
         let times = self.priced.live().times();
         let marks = &mut self.marks;
-        violated_behind(net, &self.rows, &self.undecided, times, marks, past, steps)
+        first_violated(net, &self.rows, &self.undecided, times, marks, steps)
     }
 
     /// Whether a choice is open and the times do not keep it.
@@ -269,7 +240,13 @@ impl Evaluator {
     pub fn into_priced(self) -> PricedTimetable
         ensures { result ≡ self.priced }
     {
-        let Evaluator { priced, .. } = self;
+        let Evaluator {
+            rows: _,
+            path: _,
+            undecided: _,
+            priced,
+            marks: _,
+        } = self;
         priced
     }
 

@@ -5,8 +5,7 @@
 //! [`Evaluator::decide`] makes one more, or refuses it exactly where what then binds has a cycle, and [`Evaluator::undecide`]
 //! takes any one back. Each move computes the times that it moves and no others, and takes no memory. Its times are the least
 //! ones of the relaxed problem, and its cost and the violated choices are theirs. What the times do not keep is marked where an
-//! event moves, so that [`Evaluator::violated`] and [`Evaluator::next_violated`] find the violated choices in order at the cost
-//! of what is marked.
+//! event moves, so that [`Evaluator::violated`] finds the first violated choice at the cost of what is marked before it.
 //!
 //! # What is promised
 //!
@@ -14,9 +13,7 @@
 //! exactly where the relaxed problem would then have a cycle, and all is as before; `undecide` takes any decision of the
 //! path back, and never fails. After each, the times are the least of the path's relaxed problem (`least`), `cost` is
 //! exactly its relaxed cost, a sum of kept numbers, and `violated` exactly the first undecided choice that the times
-//! violate; `next_violated` is exactly the one behind another in the list of them all.
-//!
-//! Both go from mark to mark: what the times do not keep is marked by every move, and a mark of what they keep goes when it
+//! violate. It goes from mark to mark: what the times do not keep is marked by every move, and a mark of what they keep goes when it
 //! is met. That few places are marked is no clause. `into_priced` gives the timetable alone. All but `new` take no memory.
 //! Laws: a priced timetable that is held to the relaxed problem of a path (`Evaluates`) has at rest its least times and its
 //! cost, and the problem has no cycle.

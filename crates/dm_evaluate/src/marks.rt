@@ -13,11 +13,19 @@ use std::alloc::{AllocError, Global};
 
 /// Marks at the changes whose head comes too early and at the pairs of which neither direction has all its headways met,
 /// whether a path decides them or not. A mark that is none any more stays until it is met.
-#[derive(Drop)]
 pub struct ViolationMarks {
     /// By place of the activity.
     pub changes: Marks,
     pub pairs: Marks,
+}
+
+impl Drop for ViolationMarks {
+    fn drop(self) {
+        let ViolationMarks {
+            changes: _,
+            pairs: _,
+        } = self;
+    }
 }
 
 impl ViolationMarks {

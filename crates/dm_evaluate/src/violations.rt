@@ -4,7 +4,7 @@ ghost use Rattle.dm_rows.specs.declared.messages.Decision.{Decision};
 ghost use Rattle.dm_rows.specs.Relax.{has_unmet_from};
 ghost use Rattle.dm_rows.specs.Rows.{IsSized};
 ghost use Rattle.dm_evaluate.specs.Inside.Marking.{AreMarksOf, Clears, IsFirstOrNone};
-ghost use Rattle.dm_evaluate.specs.Inside.Violations.{violated_from, violated_pair_from, violated_behind, AreFlagsFor, LeavesUndecided, AreMarked, AreCleared, IsFlagged};
+ghost use Rattle.dm_evaluate.specs.Inside.Violations.{violated_from, violated_pair_from, AreFlagsFor, LeavesUndecided, AreMarked, AreCleared, IsFlagged};
 ghost use Rattle.dm_paths.specs.Decisions.{is_unmet_pair};
 ghost use Rattle.dm_paths.specs.Places.{at_place, IsWithin};
 ghost use Rattle.dm_rows.specs.Cost.{comes_too_early};
@@ -21,89 +21,50 @@ use dm_settle::Times;
 use dm_times::comes_too_early;
 use std::sync::ledger::Ledger;
 
-/// The first violated choice, or the first behind the one at a place. The flags are of the undecided changes and pairs, and
-/// what of them is violated is marked. Marks of what is kept are taken away.
-pub fn violated_behind<L: Ledger>(
+/// The first undecided choice that is violated, the changes and then the pairs, or None where nothing is. The flags are of the
+/// undecided changes and pairs, and what of them is violated is marked. Marks of what is kept are taken away.
+pub fn first_violated<L: Ledger>(
     net: &Network,
     rows: &Rows,
     undecided: &Undecided,
     times: &Times,
     marks: &mut ViolationMarks,
-    past: Option<ChoicePlace>,
-    steps: &mut Steps<L>,
-) -> Option<Choice>
-    requires sized { IsSized net.now rows.now }
-    requires is_place { IfSome past (IsWithin net.now) }
-    requires size { length times.now ≡ length net.now.events }
-    requires marked { AreMarked net.now rows.now times.now undecided.now marks.old }
-    ensures first { (path : List Decision) → LeavesUndecided net.now rows.now path undecided.now
-        → result ≡ violated_behind net.now rows.now path times.now past }
-    ensures flagged { IfSome result (IsFlagged net.now undecided.now) }
-    ensures cleared { AreCleared net.now rows.now times.now marks.old marks.new }
-{
-    let _counts = (net.activities(), net.pairs());
-    let Some(place) = past else {
-        return violated_from(net, rows, undecided, times, marks, 0, steps);
-    };
-    match place {
-        ChoicePlace::Change(a) => violated_from(net, rows, undecided, times, marks, a + 1, steps),
-        ChoicePlace::Pair(p) => violated_pair_from(
-            net,
-            rows,
-            undecided,
-            times,
-            marks,
-            p + 1,
-            steps,
-        ),
-    }
-}
-
-/// The first undecided choice that is violated, the changes from a place on and then the pairs, or None where nothing is.
-fn violated_from<L: Ledger>(
-    net: &Network,
-    rows: &Rows,
-    undecided: &Undecided,
-    times: &Times,
-    marks: &mut ViolationMarks,
-    first: usize,
     steps: &mut Steps<L>,
 ) -> Option<Choice>
     requires sized { IsSized net.now rows.now }
     requires size { length times.now ≡ length net.now.events }
     requires marked { AreMarked net.now rows.now times.now undecided.now marks.old }
     ensures first { (path : List Decision) → LeavesUndecided net.now rows.now path undecided.now
-        → result ≡ violated_from net.now rows.now path times.now first }
+        → result ≡ violated_from net.now rows.now path times.now 0 }
     ensures flagged { IfSome result (IsFlagged net.now undecided.now) }
     ensures cleared { AreCleared net.now rows.now times.now marks.old marks.new }
 {
     let changes = &mut marks.changes;
-    if let Some(a) = next_change(net, rows, &undecided.changes, times, changes, first) {
+    if let Some(a) = first_change(net, rows, &undecided.changes, times, changes) {
         return Some(Choice::Change(net.activity(a).id));
     }
-    violated_pair_from(net, rows, undecided, times, marks, 0, steps)
+    first_violated_pair(net, rows, undecided, times, marks, steps)
 }
 
-/// The first undecided pair that is violated, from a place on, or None where none is.
-fn violated_pair_from<L: Ledger>(
+/// The first undecided pair that is violated, or None where none is.
+fn first_violated_pair<L: Ledger>(
     net: &Network,
     rows: &Rows,
     undecided: &Undecided,
     times: &Times,
     marks: &mut ViolationMarks,
-    first: usize,
     steps: &mut Steps<L>,
 ) -> Option<Choice>
     requires sized { IsSized net.now rows.now }
     requires size { length times.now ≡ length net.now.events }
     requires marked { AreMarked net.now rows.now times.now undecided.now marks.old }
     ensures first { (path : List Decision) → LeavesUndecided net.now rows.now path undecided.now
-        → result ≡ violated_pair_from net.now rows.now path times.now first }
+        → result ≡ violated_pair_from net.now rows.now path times.now 0 }
     ensures flagged { IfSome result (IsFlagged net.now undecided.now) }
     ensures cleared { AreCleared net.now rows.now times.now marks.old marks.new }
 {
     let pairs = &mut marks.pairs;
-    match next_pair(net, rows, &undecided.pairs, times, pairs, first, steps) {
+    match first_pair(net, rows, &undecided.pairs, times, pairs, steps) {
         Some(p) => Some(choice_of_pair(net, p)),
         None => None,
     }
@@ -151,24 +112,23 @@ fn is_unkept<L: Ledger>(
     }
 }
 
-/// The first undecided change from a place on whose head comes too early. The flags are of the undecided changes, of which
-/// those are marked. Marks of what is kept are taken away.
-fn next_change(
+/// The first undecided change whose head comes too early. The flags are of the undecided changes, of which those are marked.
+/// Marks of what is kept are taken away.
+fn first_change(
     net: &Network,
     rows: &Rows,
     changes: &[bool],
     times: &Times,
     marks: &mut Marks,
-    first: usize,
 ) -> Option<usize>
     requires sized { IsSized net.now rows.now }
     requires flags { length changes.now ≡ length net.now.activities }
     requires size { length times.now ≡ length net.now.events }
     requires marks { AreMarksOf changes.now (comes_too_early net.now rows.now times.now) (length net.now.activities) marks.old }
-    ensures first { IsFirstOrNone changes.now (comes_too_early net.now rows.now times.now) first (length net.now.activities) result }
+    ensures first { IsFirstOrNone changes.now (comes_too_early net.now rows.now times.now) 0 (length net.now.activities) result }
     ensures cleared { Clears (comes_too_early net.now rows.now times.now) marks.old marks.new }
 {
-    let mut from = first;
+    let mut from = 0;
     while let Some(a) = marks.first_from(from) {
         let early = comes_too_early(net, rows, times, a);
         if early && changes[a] {
@@ -180,26 +140,24 @@ fn next_change(
     None
 }
 
-/// The first undecided pair from a place on of which neither direction has all its headways met. The flags are of the
-/// undecided pairs, of which those are marked. Marks of what is kept are taken away. Only rows of events of marked pairs are
-/// read.
-fn next_pair<L: Ledger>(
+/// The first undecided pair of which neither direction has all its headways met. The flags are of the undecided pairs, of which
+/// those are marked. Marks of what is kept are taken away. Only rows of events of marked pairs are read.
+fn first_pair<L: Ledger>(
     net: &Network,
     rows: &Rows,
     pairs: &[bool],
     times: &Times,
     marks: &mut Marks,
-    first: usize,
     steps: &mut Steps<L>,
 ) -> Option<usize>
     requires sized { IsSized net.now rows.now }
     requires flags { length pairs.now ≡ length net.now.pairs }
     requires size { length times.now ≡ length net.now.events }
     requires marks { AreMarksOf pairs.now (is_unmet_pair net.now rows.now times.now) (length net.now.pairs) marks.old }
-    ensures first { IsFirstOrNone pairs.now (is_unmet_pair net.now rows.now times.now) first (length net.now.pairs) result }
+    ensures first { IsFirstOrNone pairs.now (is_unmet_pair net.now rows.now times.now) 0 (length net.now.pairs) result }
     ensures cleared { Clears (is_unmet_pair net.now rows.now times.now) marks.old marks.new }
 {
-    let mut from = first;
+    let mut from = 0;
     while let Some(p) = marks.first_from(from) {
         let unmet = is_unmet(net, rows, times, p, steps);
         if unmet && pairs[p] {

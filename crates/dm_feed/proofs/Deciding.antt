@@ -124,10 +124,6 @@ reads_first (decision.First e f) parts (text ∷ one ∷ other ∷ rest) h =
 some_same : (p q : Decision × List (List ℕ)) → Some p ≡ Some q → p ≡ q
 some_same p q e = cc
 
--- nothing is read at first
-pub read_none : (all : List (List ℕ)) → ReadSoFar all all []
-read_none all = record { together = λ tail h. h; alone = λ ds h. record { tail = ds; are = refl; stand = h } }
-
 some_none : {A : Type 0} (p : Decision × List (List ℕ)) → Some p ≡ None → A
 some_none p e = absurd cc
 

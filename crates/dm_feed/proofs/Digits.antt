@@ -1,8 +1,8 @@
 -- The test for digits against the form that the reader of numbers names.
-use Rattle.std.proofs.Common.{◌≡◌, ℕ, ◌<◌, ◌≤◌, Bool, true, false, ◌&&◌, not, eqb, List, length, Some, None, refl, ap, arith}
+use Rattle.std.proofs.Common.{◌≡◌, ℕ, ◌<◌, ◌≤◌, Bool, true, false, ◌&&◌, not, eqb, List, length, Some, refl, ap, arith}
 use Rattle.std.specs.Char.{is_ascii_digit, IsAsciiDigit}
 use Rattle.std.proofs.lemmas.List.Sums.{AllPass-from_list_all, list_all-from_AllPass}
-use Rattle.std.proofs.lemmas.Bool.{le-leb, lt-leb}
+use Rattle.std.proofs.lemmas.Bool.{le-leb}
 use Rattle.std.proofs.lemmas.Bool.Decides.{nat_tests}
 use Rattle.dm_base.specs.Numbers.{IsDigits, whole_value}
 use Rattle.dm_feed.specs.Inside.Reading.{is_number, number_up_to}
@@ -42,16 +42,7 @@ digits-from_number text e =
       digits = λ k d lt. passing_digit _ (all k d lt);
     }
 
-pub is_number-false : (text : List ℕ) → (IsDigits text → ⊥) → is_number text ≡ false
-is_number-false text h = elim (is_number text) as (λ b. is_number text ≡ b → is_number text ≡ false) [ true ↦ λ e. absurd (h (digits-from_number text e)) | false ↦ λ e. e ] refl
-
 -- the number that digits spell
 pub number_is : (largest n : ℕ) (text : List ℕ) → IsDigits text → n ≡ whole_value text → n ≤ largest → Some n ≡ number_up_to largest text
 number_is largest n text h is le =
     rw (is_number-true text h, le-leb (whole_value text) largest (omega (arith, is, le))) (ap (λ (k : ℕ). Some k) is)
-
-pub number_too_large : (largest : ℕ) (text : List ℕ) → IsDigits text → largest < whole_value text → None ≡ number_up_to largest text
-number_too_large largest text h lt = rw (is_number-true text h, lt-leb (whole_value text) largest lt) refl
-
-pub no_number : (largest : ℕ) (text : List ℕ) → (IsDigits text → ⊥) → None ≡ number_up_to largest text
-no_number largest text h = rw (is_number-false text h) refl

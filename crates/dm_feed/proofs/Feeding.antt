@@ -21,13 +21,10 @@ use Rattle.dm_feed.specs.declared.feed.Next.{Next}
 use Rattle.dm_feed.specs.declared.feed.Next.TheVariants.{Due, Stop}
 use Rattle.dm_feed.specs.Lines.{Hears, IsQuiet}
 use Rattle.dm_feed.specs.Feeds.{IsUnended, without_return, ended, ReaderValue, Takes, GivesDue, ReachesEnd, Answers}
-use Rattle.dm_feed.specs.Inside.Passing.{EndsAt, Fills, Overflows, FailsToFill, PassesEnded, PassesLast, FindsEnd, PassesRest, PassesLine, Grows, Looked, Drops, PassesQuiet, Holds}
+use Rattle.dm_feed.specs.Inside.Passing.{EndsAt, Fills, Overflows, FailsToFill, PassesEnded, PassesLast, PassesLine, Grows, Looked, Drops, PassesQuiet, Holds}
 use Rattle.dm_feed.proofs.Hearing.{quiet_or_line}
 
 -- ---- a carriage return at the end
-
-one_short : (n : ℕ) → suc n - 1 ≡ n
-one_short n = omega arith
 
 pub return_cut : (bytes : List ℕ) → 0 < length bytes → get_or bytes (length bytes - 1) 0 ≡ 13 → take (length bytes - 1) bytes ≡ without_return bytes
 return_cut [] some last = absurd (omega arith)
@@ -112,19 +109,12 @@ lengths [] e = absurd (omega arith)
 lengths (c ∷ []) e = refl
 lengths (c ∷ d ∷ cs) e = absurd (omega arith)
 
-empty : (given : List ℕ) → length given ≡ 0 → given ≡ []
-empty [] e = refl
-empty (c ∷ cs) e = absurd (omega arith)
-
 -- a line that is too long is malformed
 too_long : (bytes : List ℕ) → 1024 < length bytes → Hears bytes heard.Malformed
 too_long bytes long = record { not_quiet = λ q. absurd (omega (arith, q.short)); no_line = λ said l. absurd (omega (arith, l.short)) }
 
 pub too_long_ended : (bytes : List ℕ) → 1025 < length bytes → Hears (without_return bytes) heard.Malformed
 too_long_ended bytes long = too_long (without_return bytes) (omega (arith, without_return_length bytes))
-
-pub looked_none : {S : Type 0} (now : ReaderValue S) → Looked now 0
-looked_none now = record { within = omega arith; unended = All-nil (λ b. b ≢ 10) }
 
 one_more : (quiet : List (List ℕ)) (bytes rest : List ℕ) → flat_map ended quiet ++ (bytes ++ 10 ∷ rest) ≡ flat_map ended (quiet ++ bytes ∷ []) ++ rest
 one_more quiet bytes rest =
@@ -169,15 +159,6 @@ module _ {S : Type 0} {left : S → Option (List ℕ)} where
   joined : (before mid : ReaderValue S) (g : Grows left before mid) (more : List ℕ) → before.pending ++ (g.given ++ more) ≡ mid.pending ++ more
   joined before mid g more = sym (append_assoc before.pending g.given more) ∙ ap (λ (l : List ℕ). l ++ more) (sym g.behind)
 
-  pub grows_none : (before : ReaderValue S) → before.stop ≡ None → Grows left before before
-  grows_none before is_open = record {
-    given = [];
-    takes = takes_none before before refl refl;
-    behind = sym (append-nil before.pending);
-    lines = refl;
-    open_still = is_open;
-  }
-
   pub grows_more : (before mid now : ReaderValue S) (count : ℕ) → Grows left before mid → Fills left mid now count → Grows left before now
   grows_more before mid now count g f = record {
     given = g.given ++ f.given;
@@ -208,17 +189,6 @@ module _ {S : Type 0} {left : S → Option (List ℕ)} where
         open_still = is_open;
         within = within is_open;
       })
-
-  pub drops_first : (before : ReaderValue S) → before.stop ≡ None → 1025 < length before.pending → IsUnended before.pending → before.lines + length before.pending ≤ before.taken → Drops left before (record before { pending = [] })
-  drops_first before is_open long unended counted = record {
-    given = [];
-    takes = takes_none before (record before { pending = [] }) refl refl;
-    unended = subst IsUnended (sym (append-nil before.pending)) unended;
-    none_left = refl;
-    lines = refl;
-    some = omega arith;
-    open_still = is_open;
-  }
 
   only_new : (mid now : ReaderValue S) (count : ℕ) → mid.pending ≡ [] → (f : Fills left mid now count) → now.pending ≡ f.given
   only_new mid now count none f = f.behind ∙ ap (λ (l : List ℕ). l ++ f.given) none
@@ -254,25 +224,6 @@ module _ {S : Type 0} {left : S → Option (List ℕ)} where
         open_still = f.open_still;
         within = f.within;
       })
-
-  -- the source ended
-  pub drops_last : (before mid now : ReaderValue S) → 1025 < length before.pending → Drops left before mid → Fills left mid now 0 → PassesLast left before (record now { lines = now.lines + 1; stop = Some End }) heard.Malformed
-  drops_last before mid now long d f =
-      let none : f.given ≡ [] = empty f.given f.exact in
-      let all : before.pending ++ (d.given ++ f.given) ≡ before.pending ++ d.given = ap (λ (l : List ℕ). before.pending ++ (d.given ++ l)) none ∙ ap (λ (l : List ℕ). before.pending ++ l) (append-nil d.given) in
-      let size : 1025 < length (before.pending ++ d.given) = omega (arith, length-append before.pending d.given) in
-      record {
-        given = d.given ++ f.given;
-        takes = takes_then before mid (record now { lines = now.lines + 1; stop = Some End }) d.given f.given d.takes (record { consumed = f.takes.consumed; counted = f.takes.counted });
-        unended = subst IsUnended (sym all) d.unended;
-        some = subst (λ (l : List ℕ). 0 < length l) (sym all) (omega (arith, size));
-        none_left = only_new mid now 0 d.none_left f ∙ none;
-        at_end = f.at_end refl;
-        hears = subst (λ (l : List ℕ). Hears l heard.Malformed) (sym all) (too_long (before.pending ++ d.given) (omega (arith, size)));
-        lines = ap (λ (n : ℕ). n + 1) (f.lines ∙ d.lines);
-        stopped = refl;
-        within = f.within;
-      }
 
   pub quiet_none : (before : ReaderValue S) → before.stop ≡ None → PassesQuiet left before before
   quiet_none before is_open = record {
@@ -436,38 +387,6 @@ module _ {S : Type 0} where
     stopped = stopped;
   }
 
-  pub passes_rest : (left : S → Option (List ℕ)) (faults : S → ℕ) (is_sound : S → Type 0) (mid full now : ReaderValue S) (passed : Passed) → IsUnended mid.pending → Fills left mid full 0 → PassesRest full now passed → PassesLine left faults is_sound mid now passed
-  passes_rest left faults is_sound mid full now (Ended h) unended f r = absurd r
-  passes_rest left faults is_sound mid full now (Last h) unended f r =
-      let after : ReaderValue S = record full { pending = []; lines = full.lines + 1; stop = Some End } in
-      let all : mid.pending ++ f.given ≡ full.pending = sym f.behind in
-      let same : full.pending ≡ mid.pending = f.behind ∙ (ap (λ (l : List ℕ). mid.pending ++ l) (empty f.given f.exact) ∙ append-nil mid.pending) in
-      subst (λ (v : ReaderValue S). PassesLast left mid v h) (sym r.1)
-      (record {
-        given = f.given;
-        takes = record { consumed = f.takes.consumed; counted = f.takes.counted };
-        unended = subst IsUnended (sym (all ∙ same)) unended;
-        some = subst (λ (l : List ℕ). 0 < length l) (sym all) r.0;
-        none_left = refl;
-        at_end = f.at_end refl;
-        hears = subst (λ (l : List ℕ). Hears l h) (sym all) r.2;
-        lines = ap (λ (n : ℕ). n + 1) f.lines;
-        stopped = refl;
-        within = f.within;
-      })
-  passes_rest left faults is_sound mid full now (Nothing End) unended f r =
-      subst (λ (v : ReaderValue S). FindsEnd left mid v) (sym r.1)
-      (record {
-        given = f.given;
-        takes = record { consumed = f.takes.consumed; counted = f.takes.counted };
-        nothing = sym f.behind ∙ r.0;
-        at_end = f.at_end refl;
-        within = f.within;
-        stopped = refl;
-      })
-  passes_rest left faults is_sound mid full now (Nothing Long) unended f r = absurd r
-  passes_rest left faults is_sound mid full now (Nothing Fault) unended f r = absurd r
-
   -- a read failed, or the limit was passed
   pub drops_fails : (left : S → Option (List ℕ)) (faults : S → ℕ) (is_sound : S → Type 0) (before mid now : ReaderValue S) (stop : FeedStop) → faults before.source ≤ faults mid.source → (is_sound before.source → is_sound mid.source) → Drops left before mid → now.stop ≡ Some stop
       → FailsToFill left faults is_sound mid now stop → PassesLine left faults is_sound before now (Nothing stop)
@@ -529,11 +448,6 @@ module _ {S : Type 0} where
     risen = risen_since (faults before.source) (faults mid.source) (faults now.source) later p.risen;
     not_sound = λ s. p.not_sound (sound s);
   }
-
-  pub stopped_so : (left : S → Option (List ℕ)) (faults : S → ℕ) (is_sound : S → Type 0) (mid now : ReaderValue S) (stop : FeedStop) → PassesLine left faults is_sound mid now (Nothing stop) → now.stop ≡ Some stop
-  stopped_so left faults is_sound mid now End p = p.stopped
-  stopped_so left faults is_sound mid now Long p = p.stopped
-  stopped_so left faults is_sound mid now Fault p = p.stopped
 
   pub holds_more : (faults : S → ℕ) (is_sound : S → Type 0) (before mid now : ReaderValue S) → Holds faults is_sound before mid → faults mid.source ≤ faults now.source → (is_sound mid.source → is_sound now.source) → Holds faults is_sound before now
   holds_more faults is_sound before mid now h later sound = record { later = omega (arith, h.later, later); sound = λ s. sound (h.sound s) }

@@ -223,34 +223,6 @@ no_line_fails texts w first rest are other n none said h =
     let apart : Some (line.Say said) ≡ None = sym e ∙ none in
     cc
 
-pub no_message_fails : (texts : List (List ℕ)) (w : Word) (first : List ℕ) (rest : List (List ℕ)) (l : Line) → texts ≡ first ∷ rest → w ≢ Adopt → word_named first ≡ Some w → line_behind w rest ≡ Some l → message_of l ≡ None
-    → (said : Message) → StandForAll (parts_of_message said) texts → ⊥
-no_message_fails texts w first rest l are other n found none said h =
-    let e = line_reads said w first rest other n (subst (StandForAll (parts_of_message said)) are h) in
-    let same : line.Say said ≡ l = some_same (line.Say said) l (sym e ∙ found) in
-    let apart : Some said ≡ None = ap message_of same ∙ none in
-    cc
-  where
-    some_same : (a b : Line) → Some a ≡ Some b → a ≡ b
-    some_same a b q = cc
-
-pub no_word_fails : (texts : List (List ℕ)) (first : List ℕ) (rest : List (List ℕ)) → texts ≡ first ∷ rest → word_named first ≡ None → (said : Message) → StandForAll (parts_of_message said) texts → ⊥
-no_word_fails texts first rest are none said h = by_first said (subst (StandForAll (parts_of_message said)) are h)
-  where
-    unnamed : (w : Word) → first ≡ spelling_of_word w → ⊥
-    unnamed w is = let apart : Some w ≡ None = sym (named first w is) ∙ none in cc
-
-    by_first : (m : Message) → StandForAll (parts_of_message m) (first ∷ rest) → ⊥
-    by_first (message.DelayEvent e d) h = unnamed Delay h.0
-    by_first (message.DelayActivity a d) h = unnamed Delay h.0
-    by_first (message.Pass e t) h = unnamed Pass h.0
-    by_first (message.Recall e) h = unnamed Recall h.0
-    by_first (message.Keep a) h = unnamed Keep h.0
-    by_first (message.Drop a) h = unnamed Drop h.0
-    by_first (message.First e f) h = unnamed First h.0
-    by_first (message.Now t) h = unnamed Now h.0
-    by_first (message.Adopt ds) h = unnamed Adopt h.0
-
 pub line_says : (texts : List (List ℕ)) (w : Word) (first : List ℕ) (rest : List (List ℕ)) (l : Line) (said : Message) → texts ≡ first ∷ rest → word_named first ≡ Some w → line_behind w rest ≡ Some l → message_of l ≡ Some said → StandForAll (parts_of_message said) texts
 line_says texts w first rest l said are n found says =
     let is : line.Say said ≡ l = says_is l said says in

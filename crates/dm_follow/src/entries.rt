@@ -138,7 +138,7 @@ fn enter_next(table: &mut Table<'_>, feeds: u32, said: EntryLine) -> Result<bool
     let Ok(()) = table.reserve(&said.message) else {
         return Err(AllocError);
     };
-    post_with::<Brand>(table, entry_of(said, feeds), Blank::new(1))
+    post_with::<Brand>(table, said.into_entry(), Blank::new(1))
 }
 
 /// Whether the number is the next, the feed is one of so many, and the line is one.
@@ -147,25 +147,6 @@ fn is_in_turn(said: &EntryLine, feeds: u32, entered: u32) -> bool
     ensures { IsTrue result ↔ IsInTurn feeds entered (numbered said.now) }
 {
     said.number == entered + 1 && said.feed <= feeds as u128 && 1 <= said.line
-}
-
-/// The entry of a line whose feed is one of so many.
-fn entry_of(said: EntryLine, feeds: u32) -> Entry
-    requires { said.feed ≤ feeds }
-    ensures { result ≡ (numbered said).entry }
-{
-    let _most = feeds;
-    let EntryLine {
-        feed,
-        line,
-        message,
-        ..
-    } = said;
-    Entry {
-        feed: feed as u32,
-        line,
-        message,
-    }
 }
 
 /// Enters an entry, for which there is room, for a ledger that nothing reads. It answers whether it was accepted.

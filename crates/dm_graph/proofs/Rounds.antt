@@ -117,16 +117,6 @@ unfolding round
 round_above g zero e = omega arith
 round_above g (suc k) e = join_of-above g (round g k) e g.shape.arcs
 
-pub round_rises : (g : Graph) (k e : ℕ) → round g k e ≤ round g (suc k) e
-unfolding round
-round_rises g zero e = join_of-above g (round g zero) e g.shape.arcs
-round_rises g (suc k) e =
-    (round_is_join g k e).least (round g (suc (suc k)) e) (round_above g (suc (suc k)) e)
-    (λ a b is.
-    let before = round_rises g k (g.shape.tail a) in
-    let here = (round_is_join g (suc k) e).along a b is in
-    omega arith)
-
 -- no round is later than what meets the graph
 pub round_is_early : (g : Graph) (y : ℕ → ℕ) → Meets g y → (k e : ℕ) → e < g.shape.events → round g k e ≤ y e
 unfolding round

@@ -1,9 +1,8 @@
 -- From one graph to another: arcs, cycles, orders and timetables of one that are those of the other.
-use Rattle.std.proofs.Common.{◌≡◌, ℕ, ◌<◌, List, [], ◌∷◌, length, ◌⊎◌, inl, inr, refl, sym, ap, subst, ◌∙◌, arith, Some}
+use Rattle.std.proofs.Common.{◌≡◌, ℕ, ◌<◌, List, [], ◌∷◌, length, ◌⊎◌, inl, inr, refl, sym, subst, ◌∙◌, arith}
 use Rattle.std.proofs.lemmas.Bool.{cases_eq}
-use Rattle.dm_graph.specs.Arcs.{Arcs, Binds, BindsIn, Chain, IsCycle, HasNoCycle, IsOrder}
-use Rattle.dm_graph.specs.Graph.{Graph, Meets, IsLeast, total_span, AsksNoMore}
-use Rattle.dm_graph.proofs.Timetables.{meets_less, least_for_more}
+use Rattle.dm_graph.specs.Arcs.{Arcs, Binds, BindsIn, Chain, IsCycle, HasNoCycle}
+use Rattle.dm_graph.specs.Graph.{Graph, Meets, IsLeast, total_span}
 
 -- a chain whose arcs all bind in another graph is a chain there
 pub chain_carries : (g h : Arcs) → ((a : ℕ) → Binds g a → BindsIn g h a) → (i : ℕ) (chain : List ℕ) (j : ℕ) → Chain g i chain j → Chain h i chain j
@@ -21,16 +20,6 @@ pub cycle_carries : (g h : Arcs) → ((a : ℕ) → Binds g a → BindsIn g h a)
 cycle_carries g h each [] c = c
 cycle_carries g h each (a ∷ rest) c =
     cycle_at h (g.tail a) (a ∷ rest) (omega arith) (chain_carries g h each (g.tail a) (a ∷ rest) (g.tail a) c)
-
--- an order of arcs is an order of fewer
-pub order_of_fewer : (g h : Arcs) → h.events ≡ g.events → ((a : ℕ) → Binds h a → BindsIn h g a) → (order : List ℕ) → IsOrder g order → IsOrder h order
-order_of_fewer g h same each order is = record {
-  as_many = is.as_many ∙ sym same;
-  has_each = λ e lt. is.has_each e (omega arith);
-  forward = λ a b i j at_i at_j.
-      let w = each a b in
-      is.forward a w.binds i j (at_i ∙ ap Some w.same_tail) (at_j ∙ ap Some w.same_head);
-}
 
 -- the arcs of a chain of no span bind in h, if each arc has a positive span or binds in h
 still_chain : (g : Graph) (h : Arcs) → ((a : ℕ) → Binds g.shape a → (0 < g.span a) ⊎ BindsIn g.shape h a) →
@@ -75,7 +64,3 @@ least_same_times g x y same l = record {
   meets = meets_same_times g x y same l.meets;
   earliest = λ z m e lt. let s = same e lt in let f = l.earliest z m e lt in omega arith;
 }
-
--- two graphs that ask no more than each other have the same least timetable
-pub least_of_same : (g h : Graph) → AsksNoMore g h → AsksNoMore h g → (x : ℕ → ℕ) → IsLeast g x → IsLeast h x
-least_of_same g h less more x l = least_for_more g h less x l (meets_less h g more x l.meets)

@@ -54,10 +54,6 @@ module _ (n : ℕ) (order rank : List ℕ) (placed top : ℕ) (m : AreMarks n or
       let all = m.unmet in
       omega arith
 
-  -- two places with one event are one
-  same_place : (i j : ℕ) → Stands n order rank i → Stands n order rank j → slice_index order i ≡ slice_index order j → i ≡ j
-  same_place i j a b is = sym a.is_ranked ∙ ap (slice_index rank) is ∙ b.is_ranked
-
   module _ (u : ℕ) (lt : u < n) (unmet : slice_index rank u ≡ n) (above : ℕ) (is_top : top ≡ suc above) where
     abbrev order' : List ℕ
     order' = set order above u

@@ -13,11 +13,20 @@ use std::marker::Model;
 pub struct Cyclic;
 
 /// The arrays that a search works on, with what it found last.
-#[derive(Drop)]
 pub struct Search {
     walk: Walk,
     cycle: Vec<usize>,
     closed: usize,
+}
+
+impl Drop for Search {
+    fn drop(self) {
+        let Search {
+            walk: _,
+            cycle: _,
+            closed: _,
+        } = self;
+    }
 }
 
 impl Model for Search {

@@ -20,7 +20,6 @@ pub struct ArcsByHead<'a> {
 
 /// The events that are placed stand at the first places of `order`, those on the path at its last,
 /// the one on top first. `rank` has the place of each, or the number of events where it is not met yet.
-#[derive(Drop)]
 pub struct Walk {
     pub order: Vec<usize>,
     pub rank: Vec<usize>,
@@ -30,6 +29,18 @@ pub struct Walk {
     pub placed: usize,
     /// Where the path begins.
     pub top: usize,
+}
+
+impl Drop for Walk {
+    fn drop(self) {
+        let Walk {
+            order: _,
+            rank: _,
+            next: _,
+            placed: _,
+            top: _,
+        } = self;
+    }
 }
 
 /// What there is to do for the event on top of the path.

@@ -53,7 +53,6 @@ pub struct Ends {
 }
 
 /// The free choices, changes first, each in ascending place, and which activities bind on which side.
-#[derive(Drop)]
 pub struct Choices {
     sides: Vec<Sides>,
     acts: Vec<usize>,
@@ -63,6 +62,17 @@ pub struct Choices {
 
     /// The number of a pair's choice, by place of the pair.
     pair_numbers: Vec<Place>,
+}
+
+impl Drop for Choices {
+    fn drop(self) {
+        let Choices {
+            sides: _,
+            acts: _,
+            numbers: _,
+            pair_numbers: _,
+        } = self;
+    }
 }
 
 impl Choices {

@@ -110,11 +110,20 @@ pub enum By {
 }
 
 /// The scores of the violated choices as a tree of greatest ones: a violated choice that was never tried has the greatest.
-#[derive(Drop)]
 pub struct Scores {
     by: By,
     leaves: usize,
     tree: Vec<u64>,
+}
+
+impl Drop for Scores {
+    fn drop(self) {
+        let Scores {
+            by: _,
+            leaves: _,
+            tree: _,
+        } = self;
+    }
 }
 
 impl Scores {

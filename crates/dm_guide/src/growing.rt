@@ -42,7 +42,6 @@ pub struct Change {
 }
 
 /// A tree that grows, the gains of the choices, and the best choices that it has met.
-#[derive(Drop)]
 pub struct Tree {
     pub alloc: Global,
     pub nodes: Vec<Grown>,
@@ -63,6 +62,24 @@ pub struct Tree {
     /// The gains that have come since the round began, where another searcher is told of them.
     pub changes: Vec<Change>,
     pub tells: bool,
+}
+
+impl Drop for Tree {
+    fn drop(self) {
+        let Tree {
+            alloc: _,
+            nodes: _,
+            table: _,
+            scores: _,
+            best: _,
+            here: _,
+            expanded: _,
+            before: _,
+            chosen: _,
+            changes: _,
+            tells: _,
+        } = self;
+    }
 }
 
 impl Tree {

@@ -19,11 +19,20 @@ const WINDOWS: usize = 8;
 pub const NARROW: usize = 16;
 
 /// The search for better choices by kicks, and windows where one is better.
-#[derive(Drop)]
 pub struct Kicks {
     pub windows: Windows,
     ball: Numbers,
     events: Numbers,
+}
+
+impl Drop for Kicks {
+    fn drop(self) {
+        let Kicks {
+            windows: _,
+            ball: _,
+            events: _,
+        } = self;
+    }
 }
 
 impl Kicks {

@@ -12,12 +12,22 @@ use std::sync::ledger::{Blank, Ledger};
 
 /// The relaxed problem of a path that grows and shrinks. Times follow what is held or let go when they are settled, so that many
 /// decisions that are made and taken back one after the other move the times once.
-#[derive(Drop)]
 pub struct Mover<'a> {
     net: &'a Network,
     penalty: u64,
     priced: PricedTimetable,
     is_settled: bool,
+}
+
+impl Drop for Mover<'_> {
+    fn drop(self) {
+        let Mover {
+            net: _,
+            penalty: _,
+            priced: _,
+            is_settled: _,
+        } = self;
+    }
 }
 
 impl<'a> Model for Mover<'a> {

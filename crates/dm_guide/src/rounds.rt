@@ -6,11 +6,16 @@ use crate::sharing::Leaves;
 use std::alloc::{AllocError, Global};
 
 /// What searchers do at once, each its part. All of them read it, and each changes nothing but itself.
-#[derive(Drop)]
 pub struct Round {
     /// How many searchers have a part in it: all of them, or the first alone.
     pub(crate) parts: usize,
     pub(crate) work: Work,
+}
+
+impl Drop for Round {
+    fn drop(self) {
+        let Round { parts: _, work: _ } = self;
+    }
 }
 
 /// What there is to do.
@@ -27,10 +32,18 @@ pub enum Work {
 }
 
 /// Choices to begin from, and the sides on which the first searcher has all choices, none where it is alone.
-#[derive(Drop)]
 pub struct Seeds {
     pub numbers: Vec<usize>,
     pub sides: Vec<Option<Side>>,
+}
+
+impl Drop for Seeds {
+    fn drop(self) {
+        let Seeds {
+            numbers: _,
+            sides: _,
+        } = self;
+    }
 }
 
 /// Has all searchers that have a part in a round do it. The first alone needs nobody to run it.

@@ -11,7 +11,6 @@ use std::alloc::{AllocError, Global};
 
 /// A path, of which choices are known by number. After each move it looks again at the choices of the events that have moved
 /// and at no others.
-#[derive(Drop)]
 pub struct Scout<'a> {
     alloc: Global,
     mover: Mover<'a>,
@@ -54,6 +53,32 @@ pub struct Scout<'a> {
 
     /// How many decisions were made or tried.
     tried: u64,
+}
+
+impl Drop for Scout<'_> {
+    fn drop(self) {
+        let Scout {
+            alloc: _,
+            mover: _,
+            base: _,
+            choices: _,
+            sides: _,
+            seen: _,
+            violated: _,
+            places: _,
+            stale: _,
+            pending: _,
+            judged: _,
+            near: _,
+            far: _,
+            once: _,
+            turned: _,
+            changed: _,
+            touched: _,
+            cost: _,
+            tried: _,
+        } = self;
+    }
 }
 
 /// A choice, and the side that it had before.

@@ -14,7 +14,6 @@ use dm_evaluate::Evaluator;
 use std::alloc::{AllocError, Global};
 
 /// One of those who search together: nothing that it changes is another's.
-#[derive(Drop)]
 pub struct Searcher<'t> {
     pub(crate) alloc: Global,
     pub(crate) scout: Scout<'t>,
@@ -26,6 +25,19 @@ pub struct Searcher<'t> {
 
     /// Whether it wanted memory in a round.
     is_short: bool,
+}
+
+impl Drop for Searcher<'_> {
+    fn drop(self) {
+        let Searcher {
+            alloc: _,
+            scout: _,
+            kicks: _,
+            tree: _,
+            place: _,
+            is_short: _,
+        } = self;
+    }
 }
 
 impl<'t> Searcher<'t> {

@@ -14,7 +14,6 @@ use std::alloc::{AllocError, Global};
 const FIRST: u64 = 16;
 
 /// The leaves of a tree that are expanded in a round, in preorder, and what others than the first searcher know of the tree.
-#[derive(Drop)]
 pub struct Leaves {
     pub chosen: Vec<usize>,
 
@@ -26,8 +25,18 @@ pub struct Leaves {
     pub known: Known,
 }
 
+impl Drop for Leaves {
+    fn drop(self) {
+        let Leaves {
+            chosen: _,
+            limit: _,
+            most: _,
+            known: _,
+        } = self;
+    }
+}
+
 /// What others than the first searcher are told of the tree.
-#[derive(Drop)]
 pub struct Known {
     /// What has become of the leaves of the round before, and the nodes that have come since.
     expanded: Vec<Placed>,
@@ -36,6 +45,17 @@ pub struct Known {
     /// The gains that have come since then.
     changes: Vec<Change>,
     best: Cost,
+}
+
+impl Drop for Known {
+    fn drop(self) {
+        let Known {
+            expanded: _,
+            added: _,
+            changes: _,
+            best: _,
+        } = self;
+    }
 }
 
 /// A node, and its place.

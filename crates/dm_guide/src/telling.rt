@@ -13,12 +13,17 @@ pub struct Stand {
 }
 
 /// Groups of choices that stand otherwise than before, each of which made the choices better.
-#[derive(Drop)]
 pub struct Told {
     stands: Vec<Stand>,
 
     /// Where each group ends.
     ends: Vec<usize>,
+}
+
+impl Drop for Told {
+    fn drop(self) {
+        let Told { stands: _, ends: _ } = self;
+    }
 }
 
 impl Told {

@@ -5,20 +5,30 @@ use dm_rows::{Choice, Decision};
 use std::alloc::Global;
 
 /// Decisions after which nothing is violated, and what they cost.
-#[derive(Drop)]
 pub struct Found {
     pub path: Vec<Decision>,
     pub cost: Cost,
 }
 
+impl Drop for Found {
+    fn drop(self) {
+        let Found { path: _, cost: _ } = self;
+    }
+}
+
 /// Choices that are good, and a tree that tells much. Nothing is promised of it.
-#[derive(Drop)]
 pub struct Guide {
     /// Decisions after which nothing is violated, or none where nothing better was found.
     pub path: Vec<Decision>,
 
     /// The nodes of the tree, of which the first is the root.
     pub hints: Vec<Hint>,
+}
+
+impl Drop for Guide {
+    fn drop(self) {
+        let Guide { path: _, hints: _ } = self;
+    }
 }
 
 /// A node of a guide's tree.

@@ -25,7 +25,6 @@ struct Pick {
 }
 
 /// The search for better choices near choices that bind. Nothing is violated before and after.
-#[derive(Drop)]
 pub struct Windows {
     alloc: Global,
 
@@ -45,6 +44,21 @@ pub struct Windows {
     /// What became better, where another searcher is told of it.
     pub told: Told,
     tells: bool,
+}
+
+impl Drop for Windows {
+    fn drop(self) {
+        let Windows {
+            alloc: _,
+            limit: _,
+            members: _,
+            stands: _,
+            best: _,
+            touched: _,
+            told: _,
+            tells: _,
+        } = self;
+    }
 }
 
 impl Windows {

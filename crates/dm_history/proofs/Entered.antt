@@ -12,10 +12,7 @@ use Rattle.dm_rows.specs.History.{rows_at, IsLegal}
 use Rattle.dm_rows.specs.Refuse.{Refuses}
 use Rattle.dm_rows.specs.Resolve.{after, after_change, after_named, change_named}
 use Rattle.dm_rows.specs.Rows.{RowsValue}
-use Rattle.dm_history.specs.Replay.{RefusesReplay, IsFirstRefused}
-use Rattle.dm_history.specs.Inside.Entering.{Enters, IsReplayedTo, RefusesEntry}
-use Rattle.dm_history.specs.declared.replaying.ReplayFault.{ReplayFault}
-use Rattle.dm_history.specs.declared.replaying.ReplayFault.TheVariants.{Refused, OutOfMemory as NoMemory}
+use Rattle.dm_history.specs.Inside.Entering.{Enters, IsReplayedTo}
 
 -- the change that a message names leaves the rows after it
 pub applied : (net : Net) (old new : RowsValue) (m : Message) (change : Change) → change_named net m ≡ Some change →
@@ -59,18 +56,6 @@ module _ (net : Net) (start : RowsValue) (entries : List Entry) (n : ℕ) (entry
           few = let lt = enters.few in omega arith;
           free = enters.free;
         }
-
-    -- the entry is the first that is refused
-    pub refused_next : (fault : ReplayFault) → RefusesEntry net old n entry.message fault → RefusesReplay net start entries fault
-    refused_next (Refused place r) h =
-        let first : IsFirstRefused net start entries n r = record {
-          entry = entry;
-          stands = stands;
-          refused = subst (λ (rows : RowsValue). Refuses net rows n entry.message r) done.rows_are h.1;
-          accepted_before = done.accepted;
-        } in
-        subst (λ (i : ℕ). IsFirstRefused net start entries i r) (sym h.0) first
-    refused_next NoMemory h = tt
 
 -- entries that are all accepted are a legal history
 pub all_accepted : (net : Net) (start : RowsValue) (entries : List Entry) (rows : RowsValue) (known : Bool) →

@@ -8,12 +8,20 @@ use std::alloc::{AllocError, Global};
 use std::marker::Model;
 
 /// At most 1,000,000 entries in their order, and room for some more.
-#[derive(Drop)]
 pub struct History {
     entries: Vec<Entry>,
 
     /// For how many further entries there is room.
     spare: usize,
+}
+
+impl Drop for History {
+    fn drop(self) {
+        let History {
+            entries: _,
+            spare: _,
+        } = self;
+    }
 }
 
 impl Model for History {

@@ -18,7 +18,7 @@ use dm_times::{NoTimes, least};
 use std::alloc::{AllocError, Global};
 
 /// Why entries have no rows.
-#[derive(PartialEq, Eq, Debug, Drop)]
+#[derive(Drop)]
 pub enum ReplayFault {
     /// The entry at this place, from 0, is the first that is refused, for this.
     Refused(usize, Refusal),

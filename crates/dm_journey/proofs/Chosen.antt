@@ -129,14 +129,3 @@ module _ (net : Net) (x : List ℕ) (to : StopId) (ranks : List ℕ) (reached : 
             (λ e there. let first = earliest.1 e there in
             Any-push (IsNoWorse (time_at x e) n) answer journey (record { no_later = omega arith; no_more = omega arith }));
       })
-
--- before any
-pub found_nothing : (net : Net) (x : List ℕ) (to : StopId) (ranks : List ℕ) (reached : List (Option Reach)) (answer : List Journey) → answer ≡ [] →
-    AreFound net x to ranks reached 0 answer
-found_nothing net x to ranks reached answer is =
-    subst (AreFound net x to ranks reached 0) (sym is) (record {
-      found = λ begins usable are. All-nil (IsFound net begins usable x to 0);
-      fewer = All-nil (λ (j : Journey). j.changes < 0);
-      trade = λ i j d before below. absurd (omega arith);
-      meets_each = λ e m fewer there. absurd (omega arith);
-    })

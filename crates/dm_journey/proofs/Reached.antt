@@ -264,15 +264,6 @@ module _ (net : Net) (flags : List Bool) (order ranks : List ℕ) (most : ℕ) (
             get_or-set_other now (slice_index order k) e reach None (other_than e is_event other) ∙ has.others e is_event (omega arith);
       }
 
--- before the first event, nothing is reached on
-pub has_reached_none : (net : Net) (flags : List Bool) (ranks : List ℕ) (most : ℕ) (before : List (Option Reach)) → HasReached net flags ranks most before before 0
-has_reached_none net flags ranks most before = record {
-  as_many = refl;
-  comes = λ e is_event none. absurd (omega arith);
-  well = λ e is_event none. absurd (omega arith);
-  others = λ e is_event all. refl;
-}
-
 -- behind the last event, all are
 pub has_reached_all : (net : Net) (flags : List Bool) (order ranks : List ℕ) (most : ℕ) (before now : List (Option Reach)) (k : ℕ) →
     AreRanks (length net.events) order ranks → length before ≡ length net.events → k ≡ length net.events → HasReached net flags ranks most before now k →

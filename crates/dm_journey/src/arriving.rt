@@ -19,7 +19,7 @@ use dm_times::Times;
 use std::alloc::{AllocError, Global};
 
 /// A walk from a stop to a stop.
-#[derive(PartialEq, Eq, Debug, Drop)]
+#[derive(Drop)]
 pub struct Journey {
     /// The places of its activities, each of which begins where the one before it ends.
     pub walk: Items<usize>,

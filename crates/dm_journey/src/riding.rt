@@ -6,8 +6,8 @@ ghost use Rattle.dm_journey.specs.Walks.{is_usable};
 
 use dm_base::ActKind;
 use dm_network::Network;
-use dm_rows::Rows;
-use dm_times::{Times, span_of};
+use dm_rows::{Rows, span_of};
+use dm_times::Times;
 use std::alloc::{AllocError, Global};
 
 /// Whether each activity is usable, by place.

@@ -55,12 +55,6 @@ pub fields_few : (bytes : List ℕ) → AllByRecursion (HasFewFields (length byt
 fields_few bytes =
     fields_within (length bytes) (filled_lines bytes) (all_filter (IsWithin (length bytes)) is_filled (pieces ends_line bytes) (pieces_within ends_line (length bytes) bytes (omega arith)))
 
-filter-length : (t : List ℕ → Bool) (xs : List (List ℕ)) → length (filter t xs) ≤ length xs
-filter-length t [] = omega arith
-filter-length t (x ∷ xs) =
-    let more = filter-length t xs in
-    elim (cases_Bool (t x)) [ inl e ↦ rw e (omega arith) | inr e ↦ rw e (omega arith) ]
-
 -- a filled line has a byte of its own
 filter-more : (p : List ℕ) (ps : List (List ℕ)) → length (filter is_filled ps) ≤ length (filter is_filled (p ∷ ps))
 filter-more [] ps = omega arith

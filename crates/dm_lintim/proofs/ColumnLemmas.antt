@@ -1,11 +1,10 @@
 -- Columns, and the words that name them.
 use Rattle.std.proofs.Common.{◌≡◌, ◌<◌, ◌+◌, ℕ, zero, suc, true, false, List, [], ◌∷◌, ◌++◌, length, drop, get_or, Option, Some, None, refl, sym, ap, ◌∙◌, inl, inr, arith, append_assoc, length-append}
-use Rattle.std.proofs.lemmas.List.{append-nil, drop_more}
-use Rattle.std.proofs.lemmas.Bool.{or_parts, ne_eqb, eqb-true, eq-eqb, or_cases, or_right, both_ways, false≢true}
+use Rattle.std.proofs.lemmas.List.{drop_more}
+use Rattle.std.proofs.lemmas.Bool.{or_parts, ne_eqb, eqb-true, eq-eqb, or_cases, both_ways, false≢true}
 use Rattle.dm_lintim.specs.declared.columns.Column.{Column}
 use Rattle.dm_lintim.specs.declared.columns.Column.TheVariants as col
-use Rattle.dm_lintim.specs.declared.columns.ColumnFault.{ColumnFault}
-use Rattle.dm_lintim.specs.Columns.{AreColumns, BreaksWord, FirstMissing, HasAll, IsNew, IsOnce, NameAll, Names, StopsAtWord, column_number, has_column, is_column, is_known, same_column}
+use Rattle.dm_lintim.specs.Columns.{AreColumns, FirstMissing, HasAll, IsNew, IsOnce, NameAll, Names, column_number, has_column, is_column, is_known, same_column}
 use Rattle.dm_lintim.specs.Inside.Words.{AddsColumn, HasRead}
 
 column_at : ℕ → Column
@@ -28,14 +27,6 @@ at_number col.Delay = refl
 
 pub same_is : (a b : Column) → same_column a b ≡ true → a ≡ b
 same_is a b e = sym (at_number a) ∙ ap column_at (eqb-true (column_number a) (column_number b) e) ∙ at_number b
-
-pub same_self : (a : Column) → same_column a a ≡ true
-same_self a = eq-eqb (column_number a) (column_number a) refl
-
-pub known_at : (known : List Column) (i : ℕ) (d : Column) → i < length known → is_known known (get_or known i d) ≡ true
-known_at [] i d h = absurd (omega arith)
-known_at (c ∷ cs) zero d h = rw (same_self c) refl
-known_at (c ∷ cs) (suc i) d h = or_right (same_column (get_or cs i d) c) (is_known cs (get_or cs i d)) (known_at cs i d (omega arith))
 
 pub known_place : (known : List Column) (c : Column) → is_known known c ≡ true → (i : ℕ) × (i < length known) × ((d : Column) → get_or known i d ≡ c)
 known_place [] c e = absurd (false≢true e)
@@ -100,17 +91,6 @@ read_more known words left w cs new read adds = record {
   words_are = read.words_are ∙ sym (append_assoc read.before (w ∷ []) left);
   good = columns_push known read.before cs new w read.good adds;
 }
-
-pub read_all : (known : List Column) (words : List (List ℕ)) (cs : List (Option Column)) → HasRead known words [] cs → AreColumns known words cs
-read_all known words cs read = rw (read.words_are, append-nil read.before) read.good
-
-pub read_stops : (known : List Column) (words left : List (List ℕ)) (w : List ℕ) (cs : List (Option Column)) (why : ColumnFault)
-    → HasRead known words (w ∷ left) cs → BreaksWord known cs w why → StopsAtWord known words why
-read_stops known words left w cs why read breaks =
-    record { before = read.before; word = w; after = left; columns = cs; words_are = read.words_are; good = read.good; breaks = breaks }
-
-pub read_none : (known : List Column) (words : List (List ℕ)) → HasRead known words words []
-read_none known words = record { before = []; words_are = refl; good = record { names = tt; once = tt; few = omega arith } }
 
 -- one more of the required columns is there
 pub missing_more : (cs : List (Option Column)) (required : List Column) (i : ℕ) (d : Column) → i < length required → has_column cs (get_or required i d) ≡ true

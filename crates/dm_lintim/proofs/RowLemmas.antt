@@ -44,9 +44,6 @@ module _ {R : Type 0} (K : List ℕ → Type 0) (IsRow : List (Option Column) �
   good_push [] r all one = (one, tt)
   good_push (q ∷ rs) r all one = (all.0, good_push rs r all.1 one)
 
-  pub rows_none : (all : List (List (List ℕ))) → HasRows K IsRow cs all all []
-  rows_none all = record { before = []; records_are = refl; rows_are = tt; good = tt }
-
   -- one record more
   pub rows_more : (all left : List (List (List ℕ))) (r : List (List ℕ)) (xs new : List R)
       → HasRows K IsRow cs all (r ∷ left) xs → AddsRow K IsRow cs (map cell_of r) xs new → HasRows K IsRow cs all left new
@@ -82,9 +79,6 @@ module _ {R : Type 0} (K : List ℕ → Type 0) (IsRow : List (Option Column) �
     number = breaks.number ∙ ap (λ (n : ℕ). n + 1) (rows-length (counted_among has.before) xs has.rows_are);
     breaks = breaks.breaks;
   }
-
-  pub rows_all : (all : List (List (List ℕ))) (xs : List R) → HasRows K IsRow cs all [] xs → AreRows IsRow cs (counted_among all) xs
-  rows_all all xs has = rw (has.records_are, append-nil has.before) has.rows_are
 
   -- no more rows than records
   pub rows_few : (all left : List (List (List ℕ))) (xs : List R) → HasRows K IsRow cs all left xs → length xs + length left ≤ length all

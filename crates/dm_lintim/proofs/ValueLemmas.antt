@@ -1,5 +1,5 @@
 -- The values of a record, cell by cell.
-use Rattle.std.proofs.Common.{◌≡◌, ◌≤◌, ◌<◌, ℕ, Bool, true, false, List, [], ◌∷◌, ◌+◌, suc, add-one, drop, drop-cons, length, set, get_or, Option, Some, None, refl, sym, ap, ◌∙◌, inl, inr, arith, unwrap_or, get_or-set_same, get_or-set_other}
+use Rattle.std.proofs.Common.{◌≡◌, ◌≤◌, ◌<◌, ℕ, true, false, List, [], ◌∷◌, ◌+◌, suc, add-one, drop, drop-cons, length, set, get_or, Option, Some, None, refl, sym, ap, ◌∙◌, inl, inr, arith, unwrap_or, get_or-set_same, get_or-set_other}
 use Rattle.std.specs.List.{list_any}
 use Rattle.std.specs.Prelude.{is_some}
 use Rattle.std.proofs.Math.ListN.{drop_of_length-le}
@@ -7,8 +7,8 @@ use Rattle.std.proofs.lemmas.Bool.{cases_Bool, true≢false, eqb-false}
 use Rattle.dm_lintim.specs.declared.columns.Column.{Column}
 use Rattle.dm_lintim.specs.declared.columns.Column.TheVariants as col
 use Rattle.dm_lintim.specs.Columns.{HasAll, column_number, has_column, is_column, same_column}
-use Rattle.dm_lintim.specs.Files.{largest_of, text_under}
-use Rattle.dm_lintim.specs.Inside.Values.{AreValuesOf, AreWithin, HasKind, HoldsNumber, IsKindOf, KindFrom, LeadsTo, PutsCell, PutsKind, number_from, number_of, put_slot, slot}
+use Rattle.dm_lintim.specs.Files.{text_under}
+use Rattle.dm_lintim.specs.Inside.Values.{AreValuesOf, HasKind, HoldsNumber, IsKindOf, KindFrom, LeadsTo, PutsCell, PutsKind, number_from, number_of, put_slot, slot}
 use Rattle.dm_lintim.proofs.ColumnLemmas.{same_is}
 
 put_other : (o : Option ℕ) (n : ℕ) → put_slot o false n ≡ o
@@ -33,26 +33,6 @@ slot_put old column c number none below =
           rw e (get_or-set_other old (column_number column) (column_number c) (Some number) None (eqb-false (column_number c) (column_number column) e) ∙ sym (put_other (slot old c) number))
     ]
 
--- a slot that is taken stays
-pub slot_kept : (old : List (Option ℕ)) (column c : Column) (number held : ℕ) → slot old column ≡ Some held
-    → slot old c ≡ put_slot (slot old c) (same_column c column) number
-slot_kept old column c number held some =
-    elim (cases_Bool (same_column c column)) [
-      | inl e ↦ let here : slot old c ≡ Some held = rw (same_is c column e) some in rw here refl
-      | inr e ↦ rw e (sym (put_other (slot old c) number))
-    ]
-
-within_slot : (o : Option ℕ) (b : Bool) (number largest : ℕ) → unwrap_or o 0 ≤ largest → (b ≡ true → number ≤ largest) → unwrap_or (put_slot o b number) 0 ≤ largest
-within_slot (Some m) b number largest old new = old
-within_slot None true number largest old new = new refl
-within_slot None false number largest old new = old
-
-pub within_put : (old new : List (Option ℕ)) (column : Column) (number : ℕ) → AreWithin old → number ≤ largest_of column
-    → ((c : Column) → slot new c ≡ put_slot (slot old c) (same_column c column) number) → AreWithin new
-within_put old new column number within fits put c =
-    let same : same_column c column ≡ true → number ≤ largest_of c = λ e. rw (same_is c column e) fits in
-    rw (put c) (within_slot (slot old c) (same_column c column) number (largest_of c) (within c) same)
-
 number_from_put : (o : Option ℕ) (k : Option Column) (ks : List (Option Column)) (f : List ℕ) (fs : List (List ℕ)) (c : Column)
     → number_from (put_slot o (is_column c k) (number_of c f)) ks fs c ≡ number_from o (k ∷ ks) (f ∷ fs) c
 number_from_put (Some m) k ks f fs c = refl
@@ -75,10 +55,6 @@ module _ {K : Type 0} (Names : K → List ℕ → Type 0) where
             rw (sym here) named
         | inr e ↦ let none : Some kind ≡ None = rw e at puts in cc
       ]
-
-  pub values_none : (numbers : List (Option ℕ)) (kind : Option K) (cs : List (Option Column)) (fs : List (List ℕ)) → ((c : Column) → slot numbers c ≡ None) → kind ≡ None
-      → LeadsTo Names numbers kind cs fs cs fs
-  values_none numbers kind cs fs none no_kind_yet = record { numbers_from = λ c h. rw (none c) refl; kind_from = rw no_kind_yet (refl, refl) }
 
   -- one cell more
   pub values_more : (cs : List (Option Column)) (fs : List (List ℕ)) (k : Option Column) (ks : List (Option Column)) (f : List ℕ) (rest : List (List ℕ))

@@ -15,7 +15,7 @@ use Rattle.dm_live.specs.Live.{IsLive, LiveValue, ReadsFew, AreMarked, is_fixed,
 use Rattle.dm_live.specs.Inside.Placing.{ArePlaced}
 use Rattle.dm_live.proofs.Moving.{marked_for_one, marked_for_none, floor_of_one, span_of_one, held_of_one}
 use Rattle.dm_live.proofs.Ordering.{with_one, without_one}
-use Rattle.dm_live.proofs.Standing.{flag_here, flag_there, least_stand, goes_forward, marks_unsettled}
+use Rattle.dm_live.proofs.Standing.{least_stand, goes_forward, marks_unsettled}
 
 module _ (net : Net) (live : LiveValue) (is : IsLive net live) where
   -- a fixed event that keeps its floor stands
@@ -132,27 +132,6 @@ module _ (net : Net) (live : LiveValue) (is : IsLive net live) where
       flag_moves known a true lt (λ on. free) order given marks ordered
       (λ b below. held b ∙ ap (λ (c : Bool). if c then is_held live.order.held b else held_with live.order.held (a ∷ []) b) fixed_is
       ∙ with_one net live.order live.given live.fixed is.in_order a lt (in_flags a lt) b below) given_is marks_are
-
-  -- an event is free
-  pub free_moves : (i : ℕ) → i < length net.events → (order : OrderValue) (fixed : List Bool) → fixed ≡ slice_set live.fixed i false → IsOrderOf net order →
-      HoldsUnfixed net order live.given (slice_set live.fixed i false) →
-      IsLive net (record { given = live.given; order = order; times = live.times; marks = live.marks; fixed = fixed })
-  free_moves i lt order fixed fixed_is ordered in_order =
-      subst (λ (f : List Bool). IsLive net (record { given = live.given; order = order; times = live.times; marks = live.marks; fixed = f })) (sym fixed_is)
-      (record {
-        sized = is.sized;
-        ordered = ordered;
-        as_many_fixed = length-set live.fixed i false ∙ is.as_many_fixed;
-        in_order = in_order;
-        stand = λ e on. is.stand e (elim (cases_eq e i) [
-          | inl here ↦
-              let many = is.as_many_fixed in
-              let off : is_fixed (slice_set live.fixed i false) e ≡ false = ap (is_fixed (slice_set live.fixed i false)) here ∙ flag_here live.fixed i false (omega arith) in
-              absurd cc
-          | inr other ↦ sym (flag_there live.fixed i e false other) ∙ on
-        ]);
-        marked = is.marked;
-      })
 
   -- a sweep may begin where the marks of the events that are not fixed are at their places
   pub sweep_begins : (ranks again : List ℕ) (flags placed : List Bool) → ranks ≡ live.order.ranks → again ≡ live.order.ranks → flags ≡ live.fixed →

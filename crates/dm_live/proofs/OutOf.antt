@@ -97,16 +97,6 @@ module _ (net : Net) (event : ℕ) (row : List ℕ) (is : row ≡ places_out_of 
       | inr other ↦ had.others b other ∙ ap (λ (c : Bool). if c then is_held given.held b else is_held before.held b) (sym (ne_eqb _ event other))
     ]
 
-  pub none_taken : (given : ConstraintsValue) (before : OrderValue) → IsOrderOf net before →
-      ((b : ℕ) → b < length net.activities → is_held before.held b ≡ true → is_held given.held b ≡ true) → HasTaken net given event row 0 before before
-  none_taken given before ordered fewer = record {
-    ordered = ordered;
-    cycle = refl;
-    fewer = fewer;
-    taken = λ k lt h. absurd (omega arith);
-    others = λ b other. refl;
-  }
-
   -- the order of the held activities where the event is fixed, and where it is no more
   module _ (order now : OrderValue) (given : ConstraintsValue) (fixed : List Bool) (in_order : HoldsUnfixed net order given fixed) (below : event < length fixed) where
     flag_then : (flag : Bool) (b : ℕ) → (activity_at net b).tail ≡ event → is_fixed (slice_set fixed event flag) (activity_at net b).tail ≡ flag
@@ -118,13 +108,4 @@ module _ (net : Net) (event : ℕ) (row : List ℕ) (is : row ≡ places_out_of 
           ∙ ap (λ (c : Bool). if c then false else is_held given.held b) (sym (flag_then true b leaves))
       | inr other ↦ ap (λ (c : Bool). if c then false else is_held order.held b) (not_among b other) ∙ in_order b lt
           ∙ ap (λ (c : Bool). if c then false else is_held given.held b) (sym (flag_there fixed event (activity_at net b).tail true other))
-    ]
-
-    pub freed_in_order : ((b : ℕ) → b < length net.activities → is_held now.held b ≡ (if (activity_at net b).tail == event then is_held given.held b else is_held order.held b)) →
-        HoldsUnfixed net now given (slice_set fixed event false)
-    freed_in_order held b lt = held b lt ∙ elim (cases_eq (activity_at net b).tail event) [
-      | inl leaves ↦ ap (λ (c : Bool). if c then is_held given.held b else is_held order.held b) (eq-eqb _ event leaves)
-          ∙ ap (λ (c : Bool). if c then false else is_held given.held b) (sym (flag_then false b leaves))
-      | inr other ↦ ap (λ (c : Bool). if c then is_held given.held b else is_held order.held b) (ne_eqb _ event other) ∙ in_order b lt
-          ∙ ap (λ (c : Bool). if c then false else is_held given.held b) (sym (flag_there fixed event (activity_at net b).tail false other))
     ]

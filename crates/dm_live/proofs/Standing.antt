@@ -60,9 +60,6 @@ module _ (net : Net) (order : OrderValue) (given : ConstraintsValue) (fixed : Li
   pub held_in_order : (a : ℕ) → a < length net.activities → is_fixed fixed (activity_at net a).tail ≡ false → is_held order.held a ≡ is_held given.held a
   held_in_order a lt off = in_order a lt ∙ ap (λ (b : Bool). if b then false else is_held given.held a) off
 
-  pub only_held : (a : ℕ) → a < length net.activities → is_held order.held a ≡ true → is_held given.held a ≡ true
-  only_held a lt holds = unless_on (is_fixed fixed (activity_at net a).tail) (is_held given.held a) (sym (in_order a lt) ∙ holds)
-
   pub rank : ℕ → ℕ
   rank e = rank_at (is_fixed fixed e) (slice_index order.ranks e)
 

@@ -26,7 +26,6 @@ use std::sync::ledger::Ledger;
 ///
 /// Events and activities go by place; times, floors and spans are seconds. Its calls take the network with which it was
 /// made, of which contracts say that it is live: [`LiveTimetable::new`] ensures it, and every call keeps it.
-#[derive(Drop)]
 pub struct LiveTimetable {
     constraints: Constraints,
     order: Order,
@@ -41,6 +40,19 @@ pub struct LiveTimetable {
 
     /// Room for the marks of a sweep, by place in the order. Between calls none is set.
     placed: Marks,
+}
+
+impl Drop for LiveTimetable {
+    fn drop(self) {
+        let LiveTimetable {
+            constraints: _,
+            order: _,
+            times: _,
+            marks: _,
+            fixed: _,
+            placed: _,
+        } = self;
+    }
 }
 
 impl Model for LiveTimetable {

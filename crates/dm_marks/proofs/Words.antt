@@ -1,13 +1,13 @@
 -- Bits that are set, taken back and found.
 use Rattle.std.proofs.Common.{ℕ, ◌≡◌, ◌≢◌, ◌+◌, ◌-◌, ◌*◌, ◌/◌, ◌%◌, ◌^◌, ◌<◌, ◌≤◌, Bool, true, false, List, length, bit_and, bit_or, w64, refl, sym, ap, subst, ◌∙◌, inl, inr, arith, length-set, get_or-set_same, get_or-set_other, pow_mono, take, ◌++◌}
-use Rattle.std.specs.Prelude.{slice_set, slice_index, slice_index_or, replicate, Option, Some, None, IfSome, IfNone}
+use Rattle.std.specs.Prelude.{slice_set, slice_index, slice_index_or, replicate, Option, Some, None, IfSome}
 use Rattle.std.specs.Int.{bit_at, bit_not, trailing_zeros}
 use Rattle.std.proofs.lemmas.Bool.{cases_eq, cases_lt, false_from_ne_true, true≢false}
 use Rattle.std.proofs.lemmas.List.{get_or_past, get_or-replicate, ext_get_or, length-replicate, take_at}
 use Rattle.std.proofs.lemmas.Nat.{shr-shr}
 use Rattle.std.proofs.lemmas.Nat.Bits.{bit_at-zero, bit_at-lt, bit_at-trailing_zeros, bit_at_set_same, bit_at_set_other, bit_at_clear_same, bit_at_clear_other}
 use native.Mathlib.Nat.{div-eq_of_lt}
-use Rattle.dm_marks.specs.Marked.{is_marked, IsFirstFrom, NoneFrom}
+use Rattle.dm_marks.specs.Marked.{is_marked, IsFirstFrom}
 use Rattle.dm_marks.specs.Inside.Words.{bit_of, Turns, AreBits, AreCovered, IsFirstBit, NoBitBetween, NoBitFrom}
 use Rattle.dm_marks.proofs.Listing.{none_in}
 use Rattle.dm_marks.proofs.Marking.{mark_here, mark_there}
@@ -201,15 +201,6 @@ first_far marks words groups from place are near first = first_marked marks word
   ];
 })
 
-pub none_far : (marks : List Bool) (words groups : List ℕ) (from : ℕ) → AreBits marks words × AreCovered words groups → NoBitBetween words from (from / 64 * 64 + 64) →
-    NoBitFrom words ((from / 64 + 1) * 64) → NoneFrom marks from
-none_far marks words groups from are near far k at =
-    let none : bit_of words k ≡ 0 = elim (cases_lt k (from / 64 * 64 + 64)) [
-      | inl under ↦ near k at under
-      | inr over ↦ far k (omega arith)
-    ] in
-    false_from_ne_true (is_marked marks k) (λ m. omega (arith, are.0.marked k m, none))
-
 -- no word from one on has a bit of its group
 pub none_behind : (words groups : List ℕ) (word from : ℕ) → AreCovered words groups → NoBitBetween words (word * 64) (from * 64) → NoBitFrom groups from → NoBitFrom words (word * 64)
 none_behind words groups word from are before none k at = elim (cases_lt k (from * 64)) [
@@ -253,7 +244,3 @@ marked_kept marks words after rest groups now others n m place many many_groups 
 pub some_too : (found : Option ℕ) (P Q : ℕ → Type 0) → ((x : ℕ) → P x → Q x) → IfSome found P → IfSome found Q
 some_too None P Q then had = tt
 some_too (Some x) P Q then had = then x had
-
-pub none_too : (found : Option ℕ) (P Q : Type 0) → (P → Q) → IfNone found P → IfNone found Q
-none_too None P Q then had = then had
-none_too (Some x) P Q then had = tt

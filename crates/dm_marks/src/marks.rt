@@ -10,7 +10,7 @@ use std::marker::Model;
 const WORD: usize = 64;
 
 /// Which places are marked. The first mark from a place on is found without a look at each place between.
-#[derive(Debug, Drop)]
+#[derive(Debug)]
 pub struct Marks {
     flags: Vec<bool>,
 
@@ -19,6 +19,16 @@ pub struct Marks {
 
     /// A bit of each word, which is set where the word has a mark, or had one when it was looked at last.
     groups: Vec<u64>,
+}
+
+impl Drop for Marks {
+    fn drop(self) {
+        let Marks {
+            flags: _,
+            words: _,
+            groups: _,
+        } = self;
+    }
 }
 
 impl Model for Marks {

@@ -7,12 +7,20 @@ use std::alloc::{AllocError, Global};
 use std::marker::Model;
 
 /// Some of so many places, listed in the order in which they came.
-#[derive(Debug, Drop)]
 pub struct PlaceSet {
     flags: Vec<bool>,
 
     /// The places that are in. It has room for every place.
     places: Vec<usize>,
+}
+
+impl Drop for PlaceSet {
+    fn drop(self) {
+        let PlaceSet {
+            flags: _,
+            places: _,
+        } = self;
+    }
 }
 
 impl Model for PlaceSet {

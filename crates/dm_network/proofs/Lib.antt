@@ -10,6 +10,5 @@ pub mod Arraying
 pub mod Flagged
 pub mod Starting
 pub mod Making
-pub mod EventIds
 pub mod EventRows
 pub mod Holding

@@ -16,7 +16,7 @@ use Rattle.dm_network.specs.declared.parts.Activity.{Activity}
 use Rattle.dm_network.specs.declared.parts.Pair.{Pair}
 use Rattle.dm_network.specs.declared.parts.NetFault.{NetFault}
 use Rattle.dm_network.specs.declared.parts.NetFault.TheVariants.{TooMany, DoubleEvent, DoubleActivity, UnknownEvent, ZeroHeadway, Cycle, OutOfMemory}
-use Rattle.dm_network.specs.Net.{Net, no_event, no_activity, no_pair, is_headway, IsWithinLimits}
+use Rattle.dm_network.specs.Net.{no_event, no_activity, no_pair, is_headway, IsWithinLimits}
 use Rattle.dm_network.specs.Pairs.{joins, pair_place, own_pair, IsHeadwayFrom, FormPair, IsPaired}
 use Rattle.dm_network.specs.Build.{AreWithinLimits, AreFew, IsMadeOf, event_row, activity_row, IsNoEvent, NamesNoEvent, RefusesRecords}
 use Rattle.dm_network.specs.Inside.Flat.{ArePairsInOrder}
@@ -43,9 +43,6 @@ some_is (Some x) h = (x, refl)
 
 module _ (events : List Event) (activities : List Activity) (pairs : List Pair) (paired : List Activity)
     (is : paired ≡ map (with_pair pairs) activities) (in_order : ArePairsInOrder pairs) (two_way : AreTwoWay activities pairs) where
-  net : Net
-  net = net_with events paired pairs
-
   many : length paired ≡ length activities
   many = ap length is ∙ length-map activities (with_pair pairs)
 

@@ -6,7 +6,7 @@ use Rattle.dm_network.proofs.Keys.{keys_do_not_fall}
 use Rattle.std.proofs.lemmas.Bool.{cases_lt, cases_eq, eqb-true, eq-eqb, lt-ltb, both_ways}
 use Rattle.std.proofs.lemmas.Option.{slice_get_within, slice_get-get_or, get_or_from_slice_get}
 use Rattle.std.proofs.lemmas.List.{take_more, take_all, map-append, get_or-map, get_or_default, length-map}
-use Rattle.std.proofs.lemmas.List.Elements.{All-push, All-nil}
+use Rattle.std.proofs.lemmas.List.Elements.{All-push}
 use Rattle.std.proofs.lemmas.List.Sums.{fails_before_first}
 use Rattle.std.proofs.lemmas.List.Quantifiers.{position-Some}
 use Rattle.dm_base.specs.declared.ids.EventId.{EventId}
@@ -15,7 +15,7 @@ use Rattle.dm_base.specs.declared.rows.ActRow.{ActRow}
 use Rattle.dm_network.specs.declared.parts.Event.{Event}
 use Rattle.dm_network.specs.declared.parts.Activity.{Activity}
 use Rattle.dm_network.specs.Net.{no_event}
-use Rattle.dm_network.specs.Build.{event_row, IsNoEvent, NamesNoEvent, IsFirst}
+use Rattle.dm_network.specs.Build.{event_row, IsNoEvent, NamesNoEvent}
 use Rattle.dm_network.specs.Inside.Stages.{row_with, event_with, HasEnds, Resolves, AreResolved}
 
 -- what makes an event of a record, and back
@@ -88,13 +88,6 @@ pub record AreResolvedTo (events : List Event) (rows : List ActRow) (i : ℕ) (a
   pub ends : All (HasEnds (length events)) activities
   pub known : (k : ℕ) (row : ActRow) → k < i → slice_get rows k ≡ Some row → NamesNoEvent (map event_row events) row → ⊥
 
-pub resolved_none : (events : List Event) (rows : List ActRow) → AreResolvedTo events rows 0 []
-resolved_none events rows = record {
-  are = refl;
-  ends = All-nil (HasEnds (length events));
-  known = λ k row lt. absurd (omega arith);
-}
-
 pub resolved_more : (events : List Event) (rows : List ActRow) (i : ℕ) (activities : List Activity) (row : ActRow) (a : Activity) →
     AreResolvedTo events rows i activities → i < length rows → row ≡ get_or rows i row → Resolves events row a →
     AreResolvedTo events rows (i + 1) (activities ++ a ∷ [])
@@ -119,17 +112,6 @@ resolved_all events rows i activities done all = record {
   are = sym (take_all i rows all) ∙ done.are;
   ends = done.ends;
   known = λ k row here names. let w = slice_get_within rows k row here in done.known k row (omega arith) here names;
-}
-
-pub first_unknown : (events : List Event) (rows : List ActRow) (i : ℕ) (activities : List Activity) (row : ActRow) → AreResolvedTo events rows i activities →
-    i < length rows → row ≡ get_or rows i row → NamesNoEvent (map event_row events) row → IsFirst (NamesNoEvent (map event_row events)) rows row.id
-first_unknown events rows i activities row done lt at names = record {
-  place = i;
-  row = row;
-  at_place = slice_get-get_or rows i row lt ∙ ap Some (sym at);
-  holds = names;
-  named = refl;
-  none_before = λ k other below here. done.known k other below here;
 }
 
 pub events_keep_ids : (rows : List EventRow) → map (λ e. e.id.0) (map event_with rows) ≡ map (λ row. row.id.0) rows

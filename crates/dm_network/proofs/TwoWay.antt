@@ -135,14 +135,6 @@ pub record AreCommonTo (upward downward : List Pair) (i : ℕ) (pairs : List Pai
   pub from_downward : (p : Pair) → Contains pairs p → Contains downward p
   pub all : (k : ℕ) → k < i → Contains downward (get_or upward k no_pair) → Contains pairs (get_or upward k no_pair)
 
-pub common_none : (upward downward : List Pair) → AreCommonTo upward downward 0 []
-common_none upward downward = record {
-  in_order = λ i j lt in'. absurd (omega arith);
-  from_upward = λ p h. let lt = h.1 in absurd (omega arith);
-  from_downward = λ p h. let lt = h.1 in absurd (omega arith);
-  all = λ k lt. absurd (omega arith);
-}
-
 module _ (upward downward : List Pair) (i : ℕ) (pairs : List Pair) (is : AreCommonTo upward downward i pairs) where
   later : (p : Pair) → Contains pairs p → (k : ℕ) × (k < i + 1) × (get_or upward k no_pair ≡ p)
   later p h = let f = is.from_upward p h in let lt = f.1 in (f.0, omega arith, f.2)

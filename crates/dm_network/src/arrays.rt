@@ -12,21 +12,21 @@ use dm_base::{ActId, StopId};
 use std::alloc::{AllocError, Global};
 
 /// The places of the events in ascending order of stops, and the stop of each.
-#[derive(Debug, Drop)]
+#[derive(Drop)]
 pub struct ByStop {
     pub stops: Vec<StopId>,
     pub places: Vec<usize>,
 }
 
 /// A stop, and the place of an event there.
-#[derive(Clone, Copy, Debug)]
+#[derive(Clone, Copy)]
 pub struct Standing {
     pub stop: StopId,
     pub place: usize,
 }
 
 /// What stands beside a network: the tail of each activity, the activities by head and by tail, and the events by stop.
-#[derive(Debug, Drop)]
+#[derive(Drop)]
 pub struct Arrays {
     pub tails: Vec<usize>,
     pub incoming: FlatRows,

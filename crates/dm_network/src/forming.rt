@@ -12,7 +12,7 @@ use dm_base::{ActId, ActRow, EventId, EventRow};
 use std::alloc::Global;
 
 /// The parts of a network.
-#[derive(Debug, Drop)]
+#[derive(Drop)]
 pub struct Formed {
     pub events: Vec<Event>,
     pub activities: Vec<Activity>,

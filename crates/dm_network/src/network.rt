@@ -20,7 +20,6 @@ use std::marker::Model;
 use std::sync::ledger::Ledger;
 
 /// Events, activities and pairs, each list in ascending order of ids. Places count from 0.
-#[derive(Debug, Drop)]
 pub struct Network {
     events: Vec<Event>,
     activities: Vec<Activity>,
@@ -36,6 +35,21 @@ pub struct Network {
     /// The places of the events in ascending order of stops, and the stop of each.
     by_stop: Vec<usize>,
     stops: Vec<StopId>,
+}
+
+impl Drop for Network {
+    fn drop(self) {
+        let Network {
+            events: _,
+            activities: _,
+            pairs: _,
+            incoming: _,
+            outgoing: _,
+            tails: _,
+            by_stop: _,
+            stops: _,
+        } = self;
+    }
 }
 
 impl Model for Network {

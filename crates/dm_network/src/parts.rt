@@ -4,7 +4,7 @@ use dm_base::{ActId, ActKind, EventId, EventKind, Items, Milli, Secs, StopId};
 use std::alloc::AllocError;
 
 /// An arrival or a departure of a train.
-#[derive(Clone, Copy, PartialEq, Eq, Debug)]
+#[derive(Clone, Copy)]
 pub struct Event {
     pub id: EventId,
     pub kind: EventKind,
@@ -18,7 +18,7 @@ pub struct Event {
 }
 
 /// What joins two events. The tail and the head are places of events.
-#[derive(Clone, Copy, PartialEq, Eq, Debug)]
+#[derive(Clone, Copy)]
 pub struct Activity {
     pub id: ActId,
     pub kind: ActKind,
@@ -36,7 +36,7 @@ pub struct Activity {
 }
 
 /// Two events with headways in both directions, by place. The one with the smaller id comes first.
-#[derive(Clone, Copy, PartialEq, Eq, Debug)]
+#[derive(Clone, Copy, PartialEq, Eq)]
 pub struct Pair {
     pub small: usize,
     pub large: usize,

@@ -68,13 +68,6 @@ module _ (p : ℕ → Bool) where
   pub failing_next : (m : ℕ) → failing p (m + 1) ≡ failing p m + (if p m then 0 else 1)
   failing_next m = ap (failing p) (add-one m)
 
-  pub failing_rises : (i j : ℕ) → i ≤ j → failing p i ≤ failing p j
-  failing_rises i j le =
-      let at_i = failing_is i in
-      let at_j = failing_is j in
-      let rise = passing_rises other i j le in
-      omega arith
-
   pub failing_before : (i j : ℕ) → i < j → p i ≡ false → failing p i < failing p j
   failing_before i j lt is =
       let at_i = failing_is i in

@@ -3,7 +3,7 @@ use Rattle.std.proofs.Common.{◌≡◌, ℕ, ◌<◌, ◌≤◌, Bool, IsTrue, 
 use Rattle.dm_graph.specs.Arcs.{Chain}
 use Rattle.dm_graph.specs.Arrays.{AreRanks}
 use Rattle.dm_network.specs.Net.{Net, EndsAreKnown, activity_at}
-use Rattle.dm_network.specs.Held.{arcs_of, is_held, IsCycleOf}
+use Rattle.dm_network.specs.Held.{arcs_of, is_held}
 use Rattle.dm_order.specs.Inside.Reaching.{IsCause, HasReached}
 
 module _ (net : Net) (held : List Bool) (order ranks : List ℕ) (ranked : AreRanks (length net.events) order ranks) (known : EndsAreKnown net) where
@@ -29,8 +29,3 @@ module _ (net : Net) (held : List Bool) (order ranks : List ℕ) (ranked : AreRa
 
     pub traced : (t : ℕ) (way : List ℕ) → Chain (arcs_of net (is_held held)) event way t → Chain (arcs_of net (is_held held)) (activity_at net a).tail (a ∷ way) t
     traced t way chain = put_in_front a event t way cause.is_activity cause.holds is_event cause.head chain
-
-  pub closed : (first event : ℕ) (way : List ℕ) → first < length net.activities → IsTrue (is_held held first) → event < length net.events →
-      slice_index ranks (activity_at net first).head ≡ slice_index ranks event →
-      Chain (arcs_of net (is_held held)) event way (activity_at net first).tail → IsCycleOf net (is_held held) (first ∷ way)
-  closed first event way lt holds is_event same chain = put_in_front first event (activity_at net first).tail way lt holds is_event same chain

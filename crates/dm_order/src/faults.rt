@@ -4,7 +4,7 @@ use dm_graph::search::Cyclic;
 use std::alloc::AllocError;
 
 /// Why rows have no order.
-#[derive(Clone, Copy, PartialEq, Eq, Debug, Drop)]
+#[derive(Clone, Copy, Drop)]
 pub enum OrderFault {
     /// The active activities have a cycle.
     Cyclic,

@@ -3,10 +3,15 @@ ghost use Rattle.std.specs.Prelude.{◌≡◌, ◌<◌, length, All, true, false
 ghost use Rattle.dm_order.specs.Inside.Flagging.{flagged, taken_back};
 
 /// Whether each activity is held, and beside it the same for an addition that is tried.
-#[derive(Drop)]
 pub struct Flags {
     pub held: Vec<bool>,
     pub tried: Vec<bool>,
+}
+
+impl Drop for Flags {
+    fn drop(self) {
+        let Flags { held: _, tried: _ } = self;
+    }
 }
 
 impl Flags {

@@ -13,7 +13,6 @@ use dm_network::Network;
 use std::alloc::Global;
 
 /// The events in their order, and the room in which they are moved.
-#[derive(Drop)]
 pub struct Lists {
     pub places: Places,
     pub reach: Reach,
@@ -22,6 +21,18 @@ pub struct Lists {
 
     /// Whether the search, and not the way, has the cycle that was found last.
     pub by_search: bool,
+}
+
+impl Drop for Lists {
+    fn drop(self) {
+        let Lists {
+            places: _,
+            reach: _,
+            way: _,
+            search: _,
+            by_search: _,
+        } = self;
+    }
 }
 
 impl Lists {

@@ -21,10 +21,15 @@ use std::marker::Model;
 ///
 /// Events and activities go by place. Its calls take the network with which it was made, of which contracts say that it
 /// is an order: [`Order::new`] ensures it, and [`Order::add`] and [`Order::remove`] keep it.
-#[derive(Drop)]
 pub struct Order {
     flags: Flags,
     lists: Lists,
+}
+
+impl Drop for Order {
+    fn drop(self) {
+        let Order { flags: _, lists: _ } = self;
+    }
 }
 
 impl Model for Order {

@@ -6,11 +6,20 @@ ghost use Rattle.dm_order.specs.Inside.Shifting.{failing, reached_from, AreRanke
 use std::alloc::{AllocError, Global};
 
 /// The events in their order, the place of each, and room for an interval of the order.
-#[derive(Drop)]
 pub struct Places {
     pub order: Vec<usize>,
     pub ranks: Vec<usize>,
     pub spare: Vec<usize>,
+}
+
+impl Drop for Places {
+    fn drop(self) {
+        let Places {
+            order: _,
+            ranks: _,
+            spare: _,
+        } = self;
+    }
 }
 
 impl Places {

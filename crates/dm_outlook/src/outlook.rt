@@ -18,7 +18,7 @@ use dm_window::{RebaseFault, Rebased, rebase, window_plan};
 use std::alloc::{AllocError, Global};
 
 /// What becomes of a plan's choices in newer rows.
-#[derive(Debug, Drop)]
+#[derive(Drop)]
 pub enum Carried {
     /// Those that differ from these rows, and what the rows cost with them.
     Rebased(Rebased),
@@ -31,7 +31,7 @@ pub enum Carried {
 }
 
 /// A plan of a window at an entry.
-#[derive(Debug, Drop)]
+#[derive(Drop)]
 pub struct Outlook {
     /// How many entries the history has for whose rows the plan is.
     pub entry: u32,

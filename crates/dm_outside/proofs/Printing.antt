@@ -1,11 +1,11 @@
 -- What every printer rests on: how the texts of its parts make the text of the whole.
-use Rattle.std.proofs.Common.{◌≡◌, ℕ, ◌+◌, ◌<◌, ◌≤◌, List, [], ◌∷◌, ◌++◌, length, take, drop, Option, Result, Ok, Err, refl, sym, ap, ◌∙◌, append_assoc, append-nil, get_or, suc, arith, inl, inr, length-append, subst, take-append-drop, ◌-◌}
+use Rattle.std.proofs.Common.{◌≡◌, ℕ, ◌+◌, ◌<◌, ◌≤◌, List, [], ◌∷◌, ◌++◌, length, take, drop, Option, Result, Ok, Err, sym, ap, ◌∙◌, append_assoc, append-nil, get_or, suc, arith, inl, inr, length-append, subst, take-append-drop, ◌-◌}
 use Rattle.std.proofs.lemmas.List.{length-drop, take_all, take_more}
 use Rattle.std.proofs.Math.Seq.{drop-cons}
 use Rattle.std.proofs.lemmas.Grind.{flat_map-append}
 use Rattle.std.specs.List.{flat_map}
-use Rattle.std.specs.Io.KnownBytes.{Appends, Keeps}
-use Rattle.std.proofs.KnownBytes.{Appends-nil, Appends-trans, Appends-kept}
+use Rattle.std.specs.Io.KnownBytes.{Appends}
+use Rattle.std.proofs.KnownBytes.{Appends-nil, Appends-trans}
 use Rattle.dm_outside.specs.Faults.{HasRisen}
 use Rattle.dm_outside.specs.Printing.{TakesAll, TakesFront, Puts, Gathers, Breaks, Prints}
 
@@ -13,11 +13,6 @@ use Rattle.dm_outside.specs.Printing.{TakesAll, TakesFront, Puts, Gathers, Break
 pub risen_since : (a b c : ℕ) → a ≤ b → HasRisen b c → HasRisen a c
 risen_since a b c le (inl lt) = inl (omega arith)
 risen_since a b c le (inr last) = inr last
-
--- a count that has risen stays so
-pub still_risen : (a b c : ℕ) → HasRisen a b → b ≤ c → HasRisen a c
-still_risen a b c (inl lt) le = inl (omega arith)
-still_risen a b c (inr last) le = inr (omega arith)
 
 -- p and x are g and q, and then comes y
 regroup : (p x g q y : List ℕ) → p ++ x ≡ g ++ q → p ++ (x ++ y) ≡ g ++ (q ++ y)
@@ -116,14 +111,6 @@ module _ {K : Type 0} {taken : K → Option (List ℕ)} {faults : K → ℕ} whe
   prints_fault_next {a} {b} {c} {p} {q} {X} {i} {x} f xs d lt is before now =
       subst (Breaks taken faults a c p) (sym (texts_at f xs i x d lt is)) (prints_fault_at (flat_map f (drop (suc i) xs)) before now)
 
-  -- what is held fits on the page
-  pub prints_held : (s : K) (p x : List ℕ) → Gathers taken faults s s p (p ++ x) x
-  prints_held s p x = record { given = []; is_text = refl; takes = takes_none s }
-
-  -- the page was emptied, and then holds the text
-  pub prints_over : {a b : K} {p : List ℕ} (x : List ℕ) → TakesAll taken faults a b p → Gathers taken faults a b p x x
-  prints_over {a} {b} {p} x t = record { given = p; is_text = refl; takes = t }
-
   -- all that was held and the text were put
   pub prints_past : {a b : K} {p x : List ℕ} → TakesAll taken faults a b (p ++ x) → Gathers taken faults a b p [] x
   prints_past {a} {b} {p} {x} t = record { given = p ++ x; is_text = sym (append-nil (p ++ x)); takes = t }
@@ -149,19 +136,3 @@ module _ {K : Type 0} {taken : K → Option (List ℕ)} {faults : K → ℕ} whe
     is_text = f.is_text ∙ (ap (λ l. f.given ++ l) (parts n rest) ∙ sym (append_assoc f.given (take n rest) (take (length rest - n) (drop n rest))));
     takes = takes_then f.takes (record { appended = appended; later = later });
   }
-
-  -- a write of a rest that is not empty failed
-  pub put_fault : {a b c : K} {rest text : List ℕ} → Gathers taken faults a b [] rest text → 0 < length rest → Keeps (taken b) (taken c) → faults b ≤ faults c → HasRisen (faults b) (faults c) → TakesFront taken faults a c text
-  put_fault {a} {b} {c} {rest} {text} f proper kept later risen = record {
-    front = f.given;
-    rest = rest;
-    is_text = f.is_text;
-    is_proper = proper;
-    appended = Appends-kept (taken a) (taken b) (taken c) f.given f.takes.appended kept;
-    later = omega (arith, f.takes.later, later);
-    risen = risen_since (faults a) (faults b) (faults c) f.takes.later risen;
-  }
-
-  -- nothing is left to put
-  pub put_end : {a b : K} {text : List ℕ} → Gathers taken faults a b [] [] text → TakesAll taken faults a b text
-  put_end {a} {b} {text} f = subst (TakesAll taken faults a b) (sym (f.is_text ∙ append-nil f.given)) f.takes

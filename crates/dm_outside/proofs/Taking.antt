@@ -1,8 +1,8 @@
 -- How a source is taken, piece by piece.
-use Rattle.std.proofs.Common.{◌≡◌, ℕ, ◌+◌, ◌≤◌, ◌++◌, List, length, Option, subst, sym, ap, arith, length-append}
+use Rattle.std.proofs.Common.{◌≡◌, ℕ, ◌+◌, ◌≤◌, ◌++◌, List, length, Option, arith, length-append}
 use Rattle.std.specs.Io.KnownBytes.{Consumes}
 use Rattle.std.proofs.KnownBytes.{Consumes-trans}
-use Rattle.dm_outside.specs.Taking.{TakesAtMost, TakesPiece}
+use Rattle.dm_outside.specs.Taking.{TakesAtMost}
 
 -- these bytes were taken so far, at most one above the limit, through a piece of this size
 pub record Taking {S : Type 0} (left : S → Option (List ℕ)) (faults : S → ℕ) (is_sound : S → Type 0) (before now : S) (bytes : List ℕ) (limit size : ℕ) : Type 0 where
@@ -13,16 +13,6 @@ pub record Taking {S : Type 0} (left : S → Option (List ℕ)) (faults : S → 
   pub piece : size ≡ 65536
 
 module _ {S : Type 0} {left : S → Option (List ℕ)} {faults : S → ℕ} {is_sound : S → Type 0} where
-  -- one piece more
-  pub taking_more : {a b c : S} {bytes new : List ℕ} {limit size count : ℕ} → Taking left faults is_sound a b bytes limit size → TakesPiece (left b) (left c) bytes new count → faults b ≤ faults c → (is_sound b → is_sound c) → length bytes + count ≤ limit + 1 → Taking left faults is_sound a c new limit size
-  taking_more {a} {b} {c} {bytes} {new} {limit} {size} {count} t p later sound short = record {
-    consumed = subst (Consumes (left a) (left c)) (sym p.behind) (Consumes-trans (left a) (left b) (left c) bytes p.given t.consumed p.consumed);
-    short = omega (arith, ap length p.behind, length-append bytes p.given, p.exact);
-    later = omega (arith, t.later);
-    sound = λ h. sound (t.sound h);
-    piece = t.piece;
-  }
-
   -- a read that gave bytes which were lost, or none
   pub taking_lost : {a b c : S} {bytes : List ℕ} {limit size most : ℕ} → Taking left faults is_sound a b bytes limit size → TakesAtMost most (left b) (left c) → length bytes + most ≤ limit + 1 → TakesAtMost (limit + 1) (left a) (left c)
   taking_lost {a} {b} {c} {bytes} {limit} {size} {most} t p short = record {

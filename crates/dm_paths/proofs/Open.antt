@@ -23,7 +23,6 @@ use Rattle.dm_paths.specs.declared.places.ChoicePlace.TheVariants.{Change, Pair}
 use Rattle.dm_paths.specs.Flags.{AreFlags}
 use Rattle.dm_paths.specs.Decisions.{IsOpen}
 use Rattle.dm_paths.specs.Places.{IsPlaceOf, HasNoPlace, IsWithin, at_place}
-use Rattle.dm_paths.specs.Places.{HasFlagFor}
 use Rattle.dm_paths.proofs.Lists.{mapped, apart_from_once}
 use Rattle.dm_paths.proofs.Paths.{one_passes}
 use Rattle.dm_paths.proofs.Violating.{violated_change_by, violated_pair_by}
@@ -140,12 +139,6 @@ violated_is_open net network rows path x c among =
           let u = and_parts (is_undecided_pair net rows path f.place) (has_unmet_from net rows x f.place (pair_at net f.place).small) h.0 in
           open_where_flagged net network rows path c (Pair f.place) (f.below, f.is) u.0
     ]
-
--- where a flag stands for what is undecided, and that there is one
-pub flag_for : (net : Net) (choice : Choice) (place : ChoicePlace) → IsPlaceOf net choice place → (changes pairs : List Bool) → length changes ≡ length net.activities →
-    length pairs ≡ length net.pairs → HasFlagFor place changes pairs
-flag_for net choice (Change a) is changes pairs e f = let b = is.0 in omega (arith, e, b)
-flag_for net choice (Pair p) is changes pairs e f = let b = is.0 in omega (arith, f, b)
 
 pub flag_is : (net : Net) (rows : RowsValue) (path : List Decision) (choice : Choice) (place : ChoicePlace) → IsPlaceOf net choice place → (changes pairs : List Bool) →
     AreFlags (is_undecided_change net rows path) (length net.activities) changes → AreFlags (is_undecided_pair net rows path) (length net.pairs) pairs →

@@ -17,7 +17,7 @@ use Rattle.dm_rows.specs.Relax.{is_same_choice, is_decided, is_undecided_change,
 use Rattle.dm_paths.proofs.Naming.{change_decides, pair_decides, one_change, one_pair}
 use Rattle.dm_rows.proofs.Sides.{same_choice, same_itself}
 use Rattle.dm_paths.proofs.Setting.{DiffersInDecisions, HasDecision, differs_in_none, differs_with, has_each, has_kept, has_first, in_front}
-use Rattle.dm_paths.proofs.Agreeing.{passes_one, PairJoins, pair_joins, change_is_no_headway, change_has_no_pair, has_passed_same, active_same, kept_agrees, decided_change}
+use Rattle.dm_paths.proofs.Agreeing.{passes_one, PairJoins, pair_joins, change_has_no_pair, has_passed_same, active_same, kept_agrees, decided_change}
 use Rattle.dm_paths.specs.Decisions.{AddsDecision, is_of, IsOfChange, IsOfPair}
 
 -- what one element of a list passes, some element passes
@@ -82,9 +82,6 @@ headway_kind Wait h = cc
 headway_kind Turnaround h = cc
 headway_kind Change h = cc
 headway_kind Headway h = refl
-
-headway_is_no_change : (k : ActKind) → is_headway k ≡ true → is_change k ≡ false
-headway_is_no_change k h = false_from_ne_true (is_change k) (λ is. let no = change_is_no_headway k is in absurd cc)
 
 module _ (net : Net) (network : IsNetwork net) (rows : RowsValue) (sized : IsSized net rows) (path other : List Decision)
     (list : IsChoiceList net rows path) (other_list : IsChoiceList net rows other) (d : Decision) (adds : AddsDecision path other d) where

@@ -8,21 +8,23 @@
 //! # What is promised
 //!
 //! Choices by place and paths of decisions. `place_of_choice` answers exactly where a choice stands in the network, or that
-//! it is none of its choices; `flip_of` what a decision of a free choice names; `change_decision` and `pair_decision` give the
-//! decisions of the choice at a place, `push_some` pushes one if there is one, and `with_decisions` sets decisions of free
-//! choices; `all_undecided` and `binding_flags` are the flags of the path without decisions: what is undecided, and what binds
-//! then.
+//! it is none of its choices; `flip_of` what a decision of a free choice names, and `differs_from` whether the rows have
+//! another; `change_decision` and `pair_decision` give the decisions of the choice at a place, `push_some` pushes one if there
+//! is one, and `with_decisions` sets decisions of free choices; `all_undecided` and `binding_flags` are the flags of the path
+//! without decisions: what is undecided, and what binds then.
 //! `Undecided` sets one flag. The last four take memory. What search plans (`dm_relax`, `dm_evaluate`) and what judges them
 //! (`dm_check_plans`) stand on it.
 #![tactic(auto)]
 
 mod decisions;
+mod differing;
 mod flips;
 mod free;
 mod places;
 mod undecided;
 
 pub use decisions::{change_decision, pair_decision, push_some, with_decisions};
+pub use differing::differs_from;
 pub use flips::flip_of;
 pub use free::{all_undecided, binding_flags, binds};
 pub use places::{ChoicePlace, place_of_choice};

@@ -7,7 +7,7 @@ use dm_network::Network;
 use dm_rows::Choice;
 
 /// Where a choice stands in a network.
-#[derive(Clone, Copy, PartialEq, Eq, Debug)]
+#[derive(Clone, Copy)]
 pub enum ChoicePlace {
     /// The place of the activity that is the change.
     Change(usize),

@@ -7,10 +7,18 @@ use crate::places::ChoicePlace;
 use dm_rows::Flip;
 
 /// A flag for each activity, whether it is a change that is undecided, and one for each pair, whether it is.
-#[derive(Drop)]
 pub struct Undecided {
     pub changes: Vec<bool>,
     pub pairs: Vec<bool>,
+}
+
+impl Drop for Undecided {
+    fn drop(self) {
+        let Undecided {
+            changes: _,
+            pairs: _,
+        } = self;
+    }
 }
 
 impl Undecided {

@@ -2,16 +2,14 @@
 use Rattle.std.proofs.Common.{◌≡◌, ℕ, ◌+◌, ◌-◌, ◌*◌, ◌<◌, ◌≤◌, Bool, List, length, sum_by, ap, ◌∙◌, ◌&&◌, if◌then◌else◌, nat_lt, arith, slice_index}
 use Rattle.std.specs.Prelude.{slice_set}
 use Rattle.std.specs.List.{range_with_len}
-use Rattle.dm_network.specs.Net.{Net, activity_at, is_change, places_into, places_out_of, EndsAreKnown, IsWithinLimits}
+use Rattle.dm_network.specs.Net.{Net, activity_at, is_change, places_into, places_out_of, EndsAreKnown}
 use Rattle.dm_rows.specs.Active.{has_passed}
 use Rattle.dm_rows.specs.Cost.{charged_weight, cost_charging}
 use Rattle.dm_rows.specs.Cost.{missed_weight as rows_missed_weight}
 use Rattle.dm_rows.specs.Rows.{RowsValue}
-use Rattle.dm_settle.specs.Settling.{AreEarly}
 use Rattle.dm_priced.specs.Priced.{PricedValue, FollowsPrice, is_flagged, missed_weight, comes_too_early, lateness_of, charged_of, missed_of, priced_cost}
-use Rattle.dm_priced.specs.Inside.Adding.{AreKnown, AreWithin, AreActivities, cost_at}
+use Rattle.dm_priced.specs.Inside.Adding.{AreKnown, AreActivities, cost_at}
 use Rattle.dm_priced.proofs.Changing.{lateness_moves, missed_moves}
-use Rattle.dm_priced.proofs.Limits.{lateness_within, charged_within, missed_within}
 use Rattle.dm_rows.proofs.Totals.{sum_alike}
 use Rattle.dm_network.proofs.EventRows.{leads_into}
 use Rattle.dm_network.proofs.EventRows.{leads_out}
@@ -50,16 +48,6 @@ module _ (net : Net) (passed : List Bool) (spans x : List ℕ) (e t lateness mis
 
     pub missed_now : missed + (new_into + new_out) - (was_into + was_out) ≡ missed_of net passed spans (slice_set x e t)
     missed_now = let b = missed_balance in omega (arith, b)
-
--- sums that are right are within their limits
-pub within_where_right : (net : Net) → IsWithinLimits net → (passed charged : List Bool) (spans x : List ℕ) → AreEarly x →
-    (lateness charges misses : ℕ) → lateness ≡ lateness_of net x → charges ≡ charged_of net charged → misses ≡ missed_of net passed spans x →
-    AreWithin (record { lateness = lateness; charged = charges; missed = misses })
-within_where_right net within passed charged spans x early lateness charges misses is_lateness is_charged is_missed =
-    let a = lateness_within net within x early in
-    let b = charged_within net within charged in
-    let c = missed_within net within passed spans x in
-    record { lateness = omega (arith, a, is_lateness); charged = omega (arith, b, is_charged); missed = omega (arith, c, is_missed) }
 
 -- beside rows
 module _ (net : Net) (rows : RowsValue) (charges : ℕ → Bool) (priced : PricedValue) (known : EndsAreKnown net) (follows : FollowsPrice net rows charges priced) where

@@ -1,9 +1,9 @@
 -- Sums over places, and how they change where a function changes at one place or along rows.
-use Rattle.std.proofs.Common.{◌≡◌, ℕ, zero, suc, ◌+◌, ◌*◌, ◌<◌, ◌≤◌, Bool, true, false, cond, List, [], ◌∷◌, length, filter, sum_by, refl, ap, ◌∙◌, inl, inr, arith, slice_index}
+use Rattle.std.proofs.Common.{◌≡◌, ℕ, zero, suc, ◌+◌, ◌*◌, ◌≤◌, Bool, true, false, cond, List, [], ◌∷◌, filter, sum_by, refl, ap, ◌∙◌, inl, inr, arith}
 use Rattle.std.specs.List.{range_with_len}
 use Rattle.std.proofs.lemmas.Bool.{cases_Bool}
-use Rattle.std.proofs.lemmas.List.Sums.{sum_by-cons, sum_by_more}
-use Rattle.dm_priced.specs.Inside.Adding.{IsTotalOf, IsTotalBelow}
+use Rattle.std.proofs.lemmas.List.Sums.{sum_by-cons}
+use Rattle.dm_priced.specs.Inside.Adding.{IsTotalBelow}
 
 pub sum_none : (f : ℕ → ℕ) (xs : List ℕ) → ((k : ℕ) → f k ≡ 0) → sum_by f xs ≡ 0
 sum_none f [] none = refl
@@ -83,18 +83,6 @@ sum_moves_rows f g p q others both (x ∷ xs) =
           ]
     ]
 
--- a total along a row
-pub total_first : (f : ℕ → ℕ) (row : List ℕ) (most : ℕ) → IsTotalOf f row 0 most 0
-total_first f row most = record { sum = refl; bound = omega arith }
-
-pub total_next : (f : ℕ → ℕ) (row : List ℕ) (n most total new : ℕ) → n < length row → new ≤ most → new ≡ f (slice_index row n) →
-    IsTotalOf f row n most total → IsTotalOf f row (n + 1) most (total + new)
-total_next f row n most total new lt le is t =
-    let more = sum_by_more f row n 0 lt in
-    let sum = t.sum in
-    let bound = t.bound in
-    record { sum = omega (arith, more, sum, is); bound = omega (arith, bound, le) }
-
 -- a total over the places before one
 sum_last : (f : ℕ → ℕ) (a n : ℕ) → sum_by f (range_with_len a (suc n)) ≡ sum_by f (range_with_len a n) + f (a + n)
 sum_last f a zero =
@@ -107,9 +95,6 @@ sum_last f a (suc n) =
     let right : sum_by f (range_with_len a (suc n)) ≡ f a + sum_by f (range_with_len (a + 1) n) = sum_by-cons f a (range_with_len (a + 1) n) in
     let here : f (a + 1 + n) ≡ f (a + suc n) = ap f (omega arith) in
     omega (arith, left, rest, right, here)
-
-pub below_first : (f : ℕ → ℕ) (most : ℕ) → IsTotalBelow f 0 most 0
-below_first f most = record { sum = refl; bound = omega arith }
 
 pub below_next : (f : ℕ → ℕ) (n most total new : ℕ) → new ≤ most → new ≡ f n → IsTotalBelow f n most total → IsTotalBelow f (n + 1) most (total + new)
 below_next f n most total new le is t =

@@ -24,7 +24,6 @@ use std::sync::ledger::Ledger;
 ///
 /// Events and activities go by place; times, floors and spans are seconds. Its calls take the network with which it was
 /// made, of which contracts say that it is priced: [`PricedTimetable::new`] ensures it, and every call keeps it.
-#[derive(Drop)]
 pub struct PricedTimetable {
     live: LiveTimetable,
 
@@ -36,6 +35,19 @@ pub struct PricedTimetable {
     lateness: Cost,
     charged_weight: Cost,
     missed_weight: Cost,
+}
+
+impl Drop for PricedTimetable {
+    fn drop(self) {
+        let PricedTimetable {
+            live: _,
+            passed: _,
+            charged: _,
+            lateness: _,
+            charged_weight: _,
+            missed_weight: _,
+        } = self;
+    }
 }
 
 impl Model for PricedTimetable {

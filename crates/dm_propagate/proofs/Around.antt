@@ -1,5 +1,5 @@
 -- The activities at an event and those that flips decide about, as the rows of the network list them.
-use Rattle.std.proofs.Common.{◌≡◌, ℕ, zero, suc, ◌+◌, ◌<◌, Bool, List, [], ◌∷◌, length, Some, sym, ap, subst, ◌∙◌, ◌⊎◌, inl, inr, arith, eq-eqb, filter}
+use Rattle.std.proofs.Common.{◌≡◌, ℕ, ◌+◌, ◌<◌, Bool, List, [], ◌∷◌, length, Some, sym, ap, subst, ◌∙◌, ◌⊎◌, inl, inr, arith, eq-eqb, filter}
 use Rattle.std.specs.Prelude.{◌==◌, All, slice_get}
 use Rattle.std.specs.List.{range_with_len}
 use Rattle.std.proofs.lemmas.List.{get_or_default}
@@ -72,20 +72,12 @@ module _ (net : Net) (rows : RowsValue) (p : ℕ) (small : Bool) (here there : L
       TakesUp net rows (Within net (IsDecided net (First p small))) one three
   taken_up_at_pair f s = taken_up_then net rows (IsAmong here (length here)) (IsAmong there (length there)) (Within net (IsDecided net (First p small))) one two three at_pair f s
 
--- a change alone
-pub alone_below : (n a : ℕ) → a < n → All (λ b. b < n) (a ∷ [])
-alone_below n a lt zero d k = lt
-alone_below n a lt (suc k) d past = absurd (omega arith)
-
 module _ (net : Net) (rows : RowsValue) (a : ℕ) (flip : Flip) (decides : (b : ℕ) → IsDecided net flip b → b ≡ a) (one two : LiveValue) where
   alone : (b : ℕ) → Within net (IsDecided net flip) b → IsAmong (a ∷ []) 1 b
   alone b (lt, decided) = (0, omega arith, sym (decides b decided))
 
   pub let_go_alone : LetsGo net rows (IsAmong (a ∷ []) 1) one two → LetsGo net rows (Within net (IsDecided net flip)) one two
   let_go_alone f = record { numbers = f.numbers; cycle = f.cycle; fewer = f.fewer; kept = f.kept; gone = λ b d. f.gone b (alone b d); marked = f.marked }
-
-  pub taken_up_alone : TakesUp net rows (IsAmong (a ∷ []) 1) one two → TakesUp net rows (Within net (IsDecided net flip)) one two
-  taken_up_alone f = record { held = f.held; cycle = f.cycle; taken = λ b d. f.taken b (alone b d) }
 
 -- flips one after another
 pub by_flips : (decides : Flip → ℕ → Type 0) (flips : List Flip) (n : ℕ) (flip : Flip) → slice_get flips n ≡ Some flip → (b : ℕ) →

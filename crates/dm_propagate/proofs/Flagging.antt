@@ -106,10 +106,6 @@ module _ (net : Net) (rows : RowsValue) where
   next_flip_charged flips n flip there one two three f s =
       charges_then (IsOfOneBefore IsNamed flips n) (IsNamed flip) (IsOfOneBefore IsNamed flips (n + 1)) one two three (by_flips IsNamed flips n flip there) f s
 
-  -- event after event
-  pub no_flags : (flags : FlagsValue) → HasFlagsTo net rows 0 flags
-  no_flags flags = record { passed = λ i lt. absurd (omega arith); charged = λ a lt head. absurd (omega arith) }
-
   pub next_flags : (n : ℕ) (before after : FlagsValue) → n < length before.passed → HasFlagsTo net rows n before →
       SetsFlagsAt net rows n before after → HasFlagsTo net rows (n + 1) after
   next_flags n before after below has sets = record {
@@ -122,10 +118,6 @@ module _ (net : Net) (rows : RowsValue) where
       | inr other ↦ inl (has.charged a lt (omega arith))
     ]);
   }
-
-  pub all_flags : ((a : ℕ) → a < length net.activities → (activity_at net a).head < length net.events) → (flags : FlagsValue) → FixesPassed rows flags.fixed →
-      HasFlagsTo net rows (length net.events) flags → AreFlagsOf net rows flags
-  all_flags known flags fixed has = record { fixed = fixed; passed = has.passed; charged = λ a lt. has.charged a lt (known a lt) }
 
   -- flags that are right but for what a change concerns, and that are set there
   pub none_concerned : (change : Change) (flags : FlagsValue) → ((i : ℕ) → MovesPass change i → ⊥) → ((a : ℕ) → MovesCharge net change a → ⊥) →

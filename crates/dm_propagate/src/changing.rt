@@ -19,9 +19,8 @@ use crate::turning::{let_go_around, let_go_by_flips, set_place, take_up_around, 
 use dm_base::{Secs, Steps};
 use dm_graph::search::Cyclic;
 use dm_priced::PricedTimetable;
-use dm_rows::{Change, Flip};
+use dm_rows::{Change, Flip, floor_of, span_of};
 use dm_schedule::Scheduled;
-use dm_times::{floor_of, span_of};
 use std::sync::ledger::Ledger;
 
 /// Brings a timetable to follow rows at an event that has passed or that is recalled. An activity that would make a cycle

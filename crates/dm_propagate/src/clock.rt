@@ -13,7 +13,7 @@ use crate::sweeping::set_floors;
 use dm_base::Secs;
 use dm_priced::PricedTimetable;
 use dm_schedule::{Scheduled, scheduled_before};
-use dm_times::floor_of;
+use dm_rows::floor_of;
 
 /// Gives each event its floor by the rows, where each had it by the same rows at an earlier clock. Unless the clock is taken
 /// back, an event that is scheduled at it or later has its floor already: a look at each other one finds those to change.

@@ -33,7 +33,6 @@ use std::sync::ledger::Ledger;
 ///
 /// Its calls take the network with which it was made, of which contracts say that it is an engine of it: [`Engine::new`]
 /// ensures it, and [`Engine::update`] keeps it.
-#[derive(Drop)]
 pub struct Engine {
     rows: Rows,
 
@@ -46,6 +45,18 @@ pub struct Engine {
 
     /// The events whose times have moved since it was emptied, and maybe others.
     moved: PlaceSet,
+}
+
+impl Drop for Engine {
+    fn drop(self) {
+        let Engine {
+            rows: _,
+            twin: _,
+            priced: _,
+            schedule: _,
+            moved: _,
+        } = self;
+    }
 }
 
 impl Model for Engine {

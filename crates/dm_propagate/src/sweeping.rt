@@ -14,7 +14,7 @@ use crate::turning::set_place;
 use dm_base::Steps;
 use dm_graph::search::Cyclic;
 use dm_priced::PricedTimetable;
-use dm_times::{floor_of, span_of};
+use dm_rows::{floor_of, span_of};
 use std::sync::ledger::Ledger;
 
 /// Holds a timetable that holds nothing to rows. Where these have a cycle, it stays as it should be kept, and such a cycle is

@@ -19,8 +19,7 @@ use dm_base::Steps;
 use dm_graph::search::Cyclic;
 use dm_network::Pair;
 use dm_priced::PricedTimetable;
-use dm_rows::Flip;
-use dm_times::floor_of;
+use dm_rows::{Flip, floor_of};
 use std::sync::ledger::Ledger;
 
 /// Lets the activities go that lead into an event or out of it and are not active. They are those of these two rows.

@@ -38,10 +38,6 @@ pub all_of_each : {V : Type 0} (P : List V → V → Type 0) (Q : V → Type 0) 
 all_of_each P Q holds before [] each = All-nil Q
 all_of_each P Q holds before (v ∷ vs) each = All-cons Q v vs (holds before v each.0) (all_of_each P Q holds (before ++ v ∷ []) vs each.1)
 
-pub each_of_all : {V : Type 0} (Q : V → Type 0) (before vs : List V) → All Q vs → Each (λ held v. Q v) before vs
-each_of_all Q before [] all = tt
-each_of_all Q before (v ∷ vs) all = (All-head Q v vs all, each_of_all Q (before ++ v ∷ []) vs (All-tail Q v vs all))
-
 pub each_weaker : {V : Type 0} (P Q : List V → V → Type 0) → ((before : List V) (v : V) → P before v → Q before v) → (before vs : List V) → Each P before vs → Each Q before vs
 each_weaker P Q weaker before [] each = tt
 each_weaker P Q weaker before (v ∷ vs) each = (weaker before v each.0, each_weaker P Q weaker (before ++ v ∷ []) vs each.1)

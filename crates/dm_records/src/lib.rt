@@ -7,7 +7,8 @@
 //! # What is promised
 //!
 //! The readers of the records of a run's text, from the opening lines to the times and notes: each gives the one value that
-//! a line spells, exactly where it spells one. It takes memory for lists alone (choices, cycles). Laws: `lines_spell_one`
+//! a line spells, exactly where it spells one. It takes memory for lists alone (choices, cycles). `EntryLine::into_entry` is the
+//! entry of a line. Laws: `lines_spell_one`
 //! (a line of each kind spells one record alone); `runs_have_own_texts` (different runs over one network that have a
 //! spelling have different texts, one run has different texts in the two versions, and what stands behind a run's text does
 //! not change how it is read, for runs whose lists are shorter than 2^64); `texts_tell_one_run` (a text of a true run over

@@ -1,11 +1,11 @@
 //! The lines of a run's text outside the logs' items.
-ghost use Rattle.std.specs.Prelude.{◌≡◌, IfOk, codes};
+ghost use Rattle.std.specs.Prelude.{◌≡◌, ◌<◌, ◌^◌, IfOk, codes};
 ghost use Rattle.dm_records.specs.RunLines.{IsNumberLine, IsVersionLine, IsEntryLine, IsOpeningLine, IsStopLine, IsNoteLine, IsTimeLine, IsWordLine};
 ghost use Rattle.dm_records.specs.Readings.{IsRead, numbered, opening, note, timed};
 
 use crate::fields::{LARGEST_ID, one_whole, three_numbers, three_whole, two_whole};
 use dm_feed::{FeedStop, MessageFault, read_message};
-use dm_rows::Message;
+use dm_rows::{Entry, Message};
 use dm_text::behind;
 use std::alloc::{AllocError, Global};
 
@@ -16,6 +16,26 @@ pub struct EntryLine {
     pub feed: u128,
     pub line: u32,
     pub message: Message,
+}
+
+impl EntryLine {
+    /// The entry, where its feed fits in memory.
+    pub fn into_entry(self) -> Entry
+        requires { self.feed < 2 ^ 32 }
+        ensures { result ≡ (numbered self).entry }
+    {
+        let EntryLine {
+            feed,
+            line,
+            message,
+            ..
+        } = self;
+        Entry {
+            feed: feed as u32,
+            line,
+            message,
+        }
+    }
 }
 
 /// The number of a feed, and how many items its log has.

@@ -56,9 +56,6 @@ held_in_relaxed false active h = (refl, h)
 
 module _ (net : Net) (network : IsNetwork net) (rows : RowsValue) (path : List Decision) (s : RowsValue) (over_s : DiffersInDecisions rows s)
     (has_r : (d : Decision) → Contains path d → HasDecision net (with_decisions net rows path) d) (has_s : (d : Decision) → Contains path d → HasDecision net s d) where
-  relaxed : RowsValue
-  relaxed = with_decisions net rows path
-
   over_r : DiffersInDecisions rows (with_decisions net rows path)
   over_r = differs_with net rows rows path (differs_in_none rows)
 

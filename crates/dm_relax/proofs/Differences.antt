@@ -4,7 +4,7 @@ use Rattle.std.specs.Prelude.{filter, ◌&&◌}
 use mathlib.Core.Bool.{beq}
 use Rattle.std.specs.List.{range_with_len, filter_map, cons_option}
 use Rattle.std.proofs.lemmas.Bool.{cases_Bool, cond-true, cond-false, and_from, and_left, and_right, not_from_true, not_from_false, false_from_ne_true}
-use Rattle.std.proofs.lemmas.List.{append_assoc, append-nil}
+use Rattle.std.proofs.lemmas.List.{append_assoc}
 use Rattle.std.proofs.lemmas.List.Elements.{filter-append, filter_map-append}
 use Rattle.dm_network.specs.Net.{Net}
 use Rattle.dm_network.proofs.Filling.{range_more}
@@ -27,16 +27,6 @@ gathered_more f before n items more is next =
     ∙ append_assoc before (filter_map f (range_with_len 0 n)) (cons_option (f n) [])
     ∙ ap (λ xs. before ++ xs) (sym (filter_map-append f (range_with_len 0 n) (n ∷ [])))
     ∙ ap (λ xs. before ++ filter_map f xs) (sym (range_more 0 n ∙ ap (λ m. range_with_len 0 n ++ m ∷ []) e))
-
-pub gathers : (f : ℕ → Option Decision) (before : List Decision) (n : ℕ) (d : Decision) (items : List Decision) →
-    items ≡ before ++ filter_map f (range_with_len 0 n) → f n ≡ Some d → items ++ d ∷ [] ≡ before ++ filter_map f (range_with_len 0 (n + 1))
-gathers f before n d items is here =
-    gathered_more f before n items (items ++ d ∷ []) is (ap (λ o. items ++ cons_option o []) (sym here))
-
-pub passes_over : (f : ℕ → Option Decision) (before : List Decision) (n : ℕ) (items : List Decision) →
-    items ≡ before ++ filter_map f (range_with_len 0 n) → f n ≡ None → items ≡ before ++ filter_map f (range_with_len 0 (n + 1))
-passes_over f before n items is here =
-    gathered_more f before n items items is (sym (append-nil items) ∙ ap (λ o. items ++ cons_option o []) (sym here))
 
 -- what differs of the decisions of the places that pass
 listed_once : (net : Net) (rows : RowsValue) (f : ℕ → Decision) (free : ℕ → Bool) (xs : List ℕ) →

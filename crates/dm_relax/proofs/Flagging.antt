@@ -49,15 +49,6 @@ pub none_listed : {X : Type 0} (f : ℕ → X) (test : ℕ → Bool) (n i : ℕ)
 none_listed f test n i le none =
     ap (λ ys. slice_get (map f ys) 0) (none_from test 0 n (λ k lt. none k (omega arith)))
 
--- the first of two lists together is the first of the first, or else of the second
-pub first_of_both : {X : Type 0} (xs ys : List X) (x : X) → slice_get xs 0 ≡ Some x → slice_get (xs ++ ys) 0 ≡ Some x
-first_of_both [] ys x h = cc
-first_of_both (y ∷ xs) ys x h = h
-
-pub first_of_second : {X : Type 0} (xs ys : List X) → slice_get xs 0 ≡ None → slice_get (xs ++ ys) 0 ≡ slice_get ys 0
-first_of_second [] ys h = refl
-first_of_second (y ∷ xs) ys h = cc
-
 -- one activity more
 or_false : (b c : Bool) → c ≡ false → (b || c) ≡ b
 or_false true c e = refl

@@ -19,7 +19,7 @@ use dm_times::{NoTimes, Times, comes_too_early, cost_charging, least_holding};
 use std::alloc::{AllocError, Global};
 
 /// What the relaxed problem of a path gives.
-#[derive(Debug, Drop)]
+#[derive(Drop)]
 pub struct Relaxed {
     /// Its least times.
     pub times: Times,

@@ -12,7 +12,7 @@ use Rattle.dm_rows.specs.declared.messages.Refusal.{Refusal}
 use Rattle.dm_rows.specs.Rows.{RowsValue}
 use Rattle.dm_rows.specs.Resolve.{flips_named, flip_named, with_next}
 use Rattle.dm_rows.specs.Reach.{ReachesFlip}
-use Rattle.dm_rows.specs.Refuse.{PassesDecision, RefusesDecision, RefusesSome}
+use Rattle.dm_rows.specs.Refuse.{PassesDecision, RefusesSome}
 
 -- the first n decisions are these flips, and nothing refuses them
 pub record HasNamed (net : Net) (rows : RowsValue) (decisions : List Decision) (n : ℕ) (flips : List Flip) : Type 0 where
@@ -53,19 +53,6 @@ one_more_named net rows decisions n flips d flip had below is found reaches pass
                 let there : slice_get decisions n ≡ Some e = subst (λ (j : ℕ). slice_get decisions j ≡ Some e) here stands in
                 subst (PassesDecision net rows) (same_decision decisions n d e (stands_at decisions n d below is) there) passes
           ];
-    }
-
--- the decision at n is the first that is refused
-pub refused_at : (net : Net) (rows : RowsValue) (decisions : List Decision) (n : ℕ) (flips : List Flip) (d : Decision) (r : Refusal) →
-    HasNamed net rows decisions n flips → n < length decisions → d ≡ get_or decisions n d → RefusesDecision net rows d r →
-    RefusesSome net rows decisions r
-refused_at net rows decisions n flips d r had below is refused =
-    record {
-      at = n;
-      decision = d;
-      stands = stands_at decisions n d below is;
-      refused = refused;
-      passed_before = had.passed;
     }
 
 -- nothing refuses a list of which nothing refuses any decision

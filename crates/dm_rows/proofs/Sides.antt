@@ -1,6 +1,6 @@
 -- The two decisions of a choice, and the test whether two choices are one.
-use Rattle.std.proofs.Common.{◌≡◌, ℕ, Bool, true, false, cond, eqb, refl, ap, ◌∙◌, ◌⊎◌, inl, inr, sym, arith, ltb, lt-ltb}
-use Rattle.std.proofs.lemmas.Bool.{cases_lt, le-ltb, ltb-true, eqb-true, eq-eqb, and_parts, and_from}
+use Rattle.std.proofs.Common.{◌≡◌, ℕ, Bool, true, false, cond, eqb, refl, ap, ◌⊎◌, inl, inr, arith, ltb, lt-ltb}
+use Rattle.std.proofs.lemmas.Bool.{le-ltb, ltb-true, eqb-true, eq-eqb, and_parts, and_from}
 use Rattle.dm_base.specs.declared.ids.ActId.{ActId}
 use Rattle.dm_base.specs.declared.ids.EventId.{EventId}
 use Rattle.dm_rows.specs.declared.messages.Choice.{Choice}
@@ -51,20 +51,6 @@ pub second_decides : (c : Choice) → IsOrdered c → choice_of (second_decision
 second_decides (Change a) o = refl
 second_decides (Pair i j) o = rw (le-ltb j.0 i.0 (omega arith)) refl
 
-pub other_decides : (d : Decision) → choice_of (other_decision d) ≡ choice_of d
-other_decides (Keep a) = refl
-other_decides (Drop a) = refl
-other_decides (First i j) =
-    elim (cases_lt i.0 j.0) [
-      | inl up ↦ rw (lt-ltb i.0 j.0 up, le-ltb j.0 i.0 (omega arith)) refl
-      | inr not_up ↦ elim (cases_lt j.0 i.0) [
-        | inl down ↦ rw (lt-ltb j.0 i.0 down, le-ltb i.0 j.0 (omega arith)) refl
-        | inr not_down ↦
-            let same : i ≡ j = event_id i j (omega arith) in
-            rw (le-ltb i.0 j.0 (omega arith), le-ltb j.0 i.0 (omega arith)) (ap (λ k. Pair k j) same ∙ ap (λ k. Pair j k) (sym same))
-      ]
-    ]
-
 -- a decision of a choice is its first or its second, and these differ
 pub is_either : (d : Decision) (c : Choice) → choice_of d ≡ c → (d ≡ first_decision c) ⊎ (d ≡ second_decision c)
 is_either (Keep a) c e = inl (ap first_decision e)
@@ -87,11 +73,6 @@ first_is_first (Pair i j) o = o
 pub other_of_first : (c : Choice) → other_decision (first_decision c) ≡ second_decision c
 other_of_first (Change a) = refl
 other_of_first (Pair i j) = refl
-
-pub other_is_second : (d : Decision) → is_first_decision d ≡ true → is_first_decision (other_decision d) ≡ false
-other_is_second (Keep a) e = refl
-other_is_second (Drop a) e = cc
-other_is_second (First i j) e = le-ltb j.0 i.0 (let lt = ltb-true i.0 j.0 e in omega arith)
 
 -- what a first decision is of the choice that it decides
 pub record IsFirstOf (d : Decision) (c : Choice) : Type 0 where

@@ -10,12 +10,6 @@ pub record IsTotalTo (f : ℕ → ℕ) (n most i total : ℕ) : Type 0 where
   pub sum : total + sum_by f (range_with_len i (n - i)) ≡ sum_by f (range_with_len 0 n)
   pub bound : total ≤ i * most
 
-pub total_none : (f : ℕ → ℕ) (n most : ℕ) → IsTotalTo f n most 0 0
-total_none f n most =
-    let e : n - 0 ≡ n = omega arith in
-    let same : sum_by f (range_with_len 0 (n - 0)) ≡ sum_by f (range_with_len 0 n) = ap (λ (k : ℕ). sum_by f (range_with_len 0 k)) e in
-    record { sum = omega (arith, same); bound = omega arith }
-
 pub total_next : (f : ℕ → ℕ) (n most i total new : ℕ) → i < n → new ≤ most → new ≡ f i → IsTotalTo f n most i total → IsTotalTo f n most (i + 1) (total + new)
 total_next f n most i total new lt le is t =
     let e : n - i ≡ suc (n - (i + 1)) = omega arith in
@@ -23,13 +17,6 @@ total_next f n most i total new lt le is t =
     let old = t.sum in
     let bound = t.bound in
     record { sum = omega (arith, split, is, old); bound = omega arith }
-
-pub total_all : (f : ℕ → ℕ) (n most i total : ℕ) → n ≤ i → IsTotalTo f n most i total → total ≡ sum_by f (range_with_len 0 n)
-total_all f n most i total le t =
-    let e : n - i ≡ 0 = omega arith in
-    let none : sum_by f (range_with_len i (n - i)) ≡ 0 = ap (λ (k : ℕ). sum_by f (range_with_len i k)) e in
-    let old = t.sum in
-    omega (arith, none, old)
 
 pub sum_alike : (f g : ℕ → ℕ) (a n : ℕ) → ((k : ℕ) → a ≤ k → k < a + n → f k ≡ g k) → sum_by f (range_with_len a n) ≡ sum_by g (range_with_len a n)
 sum_alike f g a zero same = refl

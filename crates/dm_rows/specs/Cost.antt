@@ -29,10 +29,6 @@ abbrev pub is_dropped_change : Net → RowsValue → ℕ → Bool
 is_dropped_change net rows a =
     is_change (activity_at net a).kind && not (kept_at rows a) && not (has_passed rows (activity_at net a).head)
 
--- the weight of a dropped change whose head has not passed
-abbrev pub dropped_weight : Net → RowsValue → ℕ → ℕ
-dropped_weight net rows a = charged_weight net (is_dropped_change net rows) a
-
 -- the activity is not met in the timetable: its head comes too early
 abbrev pub comes_too_early : Net → RowsValue → List ℕ → ℕ → Bool
 comes_too_early net rows x a =

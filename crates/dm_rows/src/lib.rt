@@ -7,9 +7,9 @@
 //!
 //! The definitions of rows, timetables, costs, refusals and histories. Timetables are defined once over any held
 //! activities: the rows' own are one instance, a relaxed problem is another. `start_rows` gives the start rows or the first
-//! unknown id; `is_active`, `flip_of`, `free_choices` and `admit` answer by the definitions, `admit` with the first refusal
-//! by numbers, ids, passed events and the clock; `apply` changes one row and keeps all others and all sizes; `copy` gives
-//! equal rows. `start_rows`, `copy`, `free_choices` and the admission of an `Adopt` alone take memory.
+//! unknown id; `is_active`, `floor_of`, `span_of`, `flip_of`, `free_choices` and `admit` answer by the definitions, `admit`
+//! with the first refusal by numbers, ids, passed events and the clock; `apply` changes one row and keeps all others and all
+//! sizes; `copy` gives equal rows. `start_rows`, `copy`, `free_choices` and the admission of an `Adopt` alone take memory.
 //!
 //! Laws of `laws`: a timetable meets the rows exactly where it meets their graph and keeps the passed times, and is least
 //! for them exactly where it is least for their graph; held activities of a network, of which none enters a passed event,
@@ -24,6 +24,7 @@ mod choices;
 pub mod laws;
 mod messages;
 mod rows;
+mod spans;
 mod starting;
 
 pub use activity::is_active;
@@ -31,4 +32,5 @@ pub use admission::{admit, flip_of};
 pub use choices::{choice_of_pair, free_choices, is_free_change, is_free_pair};
 pub use messages::{At, Change, Choice, Decision, Entry, Flip, Message, Refusal, StartFault};
 pub use rows::{Rows, Snapshot};
+pub use spans::{floor_of, span_of};
 pub use starting::start_rows;

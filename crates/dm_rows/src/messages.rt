@@ -145,7 +145,7 @@ pub enum Message {
 }
 
 /// An accepted message, and the feed and line that it came from, both from 1.
-#[derive(PartialEq, Eq, Debug, Drop)]
+#[derive(Drop)]
 pub struct Entry {
     pub feed: u32,
     pub line: u32,
@@ -153,14 +153,14 @@ pub struct Entry {
 }
 
 /// An answer, and the number of the entry at which it was given.
-#[derive(PartialEq, Eq, Debug, Drop)]
+#[derive(Drop)]
 pub struct At<E> {
     pub entry: u32,
     pub why: E,
 }
 
 /// A decision by place.
-#[derive(Clone, Copy, PartialEq, Eq, Debug)]
+#[derive(Clone, Copy, PartialEq, Eq)]
 pub enum Flip {
     Keep { act: usize },
     Drop { act: usize },
@@ -170,7 +170,7 @@ pub enum Flip {
 }
 
 /// A message by place.
-#[derive(PartialEq, Eq, Debug, Drop)]
+#[derive(PartialEq, Eq, Drop)]
 pub enum Change {
     EventDelay { event: usize, delay: Secs },
     ActDelay { act: usize, delay: Secs },

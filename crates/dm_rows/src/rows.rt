@@ -15,7 +15,6 @@ use std::alloc::{AllocError, Global};
 use std::marker::Model;
 
 /// The source delays, the passed events, the kept changes and the order of each pair, by place, and the clock.
-#[derive(Drop)]
 pub struct Rows {
     alloc: Global,
     event_delays: Vec<u64>,
@@ -24,6 +23,20 @@ pub struct Rows {
     kept: Vec<bool>,
     small_first: Vec<bool>,
     clock: u64,
+}
+
+impl Drop for Rows {
+    fn drop(self) {
+        let Rows {
+            alloc: _,
+            event_delays: _,
+            act_delays: _,
+            passed: _,
+            kept: _,
+            small_first: _,
+            clock: _,
+        } = self;
+    }
 }
 
 impl Model for Rows {
@@ -44,10 +57,15 @@ impl Model for Rows {
 }
 
 /// The rows at an entry of a history.
-#[derive(Drop)]
 pub struct Snapshot {
     pub entry: u32,
     pub rows: Rows,
+}
+
+impl Drop for Snapshot {
+    fn drop(self) {
+        let Snapshot { entry: _, rows: _ } = self;
+    }
 }
 
 impl Rows {

@@ -9,7 +9,7 @@ use dm_network::Network;
 use std::alloc::{AllocError, Global};
 
 /// An event by its place, with its scheduled time in seconds.
-#[derive(Clone, Copy, Debug)]
+#[derive(Clone, Copy)]
 pub struct Scheduled {
     pub time: Secs,
     pub event: usize,

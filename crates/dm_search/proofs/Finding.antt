@@ -1,5 +1,5 @@
 -- What one step finds is what is known of a leaf.
-use Rattle.std.proofs.Common.{◌≡◌, ℕ, ◌<◌, ◌≤◌, true, List, ◌++◌, refl, sym, subst, ◌∙◌, inl, inr, arith, None, slice_get, lt-ltb}
+use Rattle.std.proofs.Common.{◌≡◌, ℕ, ◌<◌, true, List, ◌++◌, refl, sym, subst, ◌∙◌, inl, inr, arith, None, slice_get, lt-ltb}
 use Rattle.std.specs.Prelude.{Contains}
 use Rattle.std.proofs.lemmas.List.Elements.{Contains-append_cases}
 use Rattle.std.proofs.lemmas.Option.{slice_get-get_or}
@@ -10,15 +10,14 @@ use Rattle.dm_rows.specs.declared.messages.Decision.{Decision}
 use Rattle.dm_rows.specs.Rows.{RowsValue}
 use Rattle.dm_rows.specs.Decide.{free_choices_of, free_changes_of, free_pairs_of, change_choice, pair_choice, is_free_change, is_free_pair, IsChoiceList}
 use Rattle.dm_rows.specs.Relax.{violated_choices_of}
-use Rattle.dm_tree.specs.declared.forms.Node.TheVariants.{Cycle, Bound, Open}
 use Rattle.dm_tree.specs.Plans.{Task, IsViolatedThere}
 use Rattle.dm_rows.specs.Sides.{is_ordered}
 use Rattle.dm_relax.proofs.Differing.{differences_complete}
 use Rattle.dm_paths.proofs.Naming.{from_place, ids_rise}
-use Rattle.dm_search.specs.Steps.{HasRelaxedCycle, IsPruned, IsSolved}
+use Rattle.dm_search.specs.Steps.{IsSolved}
 use Rattle.dm_search.specs.Inside.Walking.{IsBranchThere}
 use Rattle.dm_search.specs.Moving.{IsOver}
-use Rattle.dm_search.specs.Inside.Searching.{AreBest, IsSettled, IsBetter, IsSplit}
+use Rattle.dm_search.specs.Inside.Searching.{AreBest, IsBetter, IsSplit}
 use Rattle.dm_guide.specs.Posed.{task_beside, IsPosed}
 use Rattle.dm_search.proofs.Beside.{beside_is_task, differences_beside}
 use Rattle.dm_search.proofs.Leaves.{violated_is_undecided}
@@ -50,17 +49,6 @@ module _ (net : Net) (network : IsNetwork net) (rows : RowsValue) (penalty : ℕ
   abbrev task : Task
   task = task_beside net rows penalty base budget
 
-  pub found_cycle : HasRelaxedCycle net rows (base ++ path) → IsSettled task path best ceiling Cycle
-  found_cycle h = record { is_leaf = refl; known = record { cycle = h.cycle; is_cycle = h.is_cycle }; used = λ c e. cc }
-
-  pub found_bound : (c : ℕ) → IsPruned net rows (base ++ path) penalty best c → IsSettled task path best ceiling (Bound c)
-  found_bound c h =
-      record {
-        is_leaf = refl;
-        known = record { cost = record { times = h.times; least = h.least; cost = h.cost }; no_less = h.no_less };
-        used = λ k e. cc;
-      }
-
   pub found_better : (c : ℕ) (choices old : List Decision) → IsSolved net rows (base ++ path) penalty best c choices → AreBest task old best →
       IsBetter task path best (record { choices = choices; cost = c })
   found_better c choices old h are =
@@ -90,11 +78,6 @@ module _ (net : Net) (network : IsNetwork net) (rows : RowsValue) (penalty : ℕ
         cost = h.cost;
         violated = h.violated;
       }
-
-  pub found_open : (c : ℕ) (choice : Choice) → IsBranchThere net rows (base ++ path) penalty best c choice → ceiling ≤ c →
-      IsSettled task path best ceiling (Open c)
-  found_open c choice h dear =
-      record { is_leaf = refl; known = (choice, violated_there c choice h); used = λ k e. let same : c ≡ k = cc in omega arith }
 
   pub found_split : (c : ℕ) (choice : Choice) (old : List Decision) → IsBranchThere net rows (base ++ path) penalty best c choice →
       AreBest task old best → c < ceiling → IsSplit task path ceiling choice

@@ -1,6 +1,6 @@
 -- Paths that begin with a base, and what two of them have in common behind it.
 use Rattle.std.proofs.Common.{◌≡◌, ℕ, ◌+◌, ◌<◌, ◌≤◌, List, [], ◌∷◌, ◌++◌, length, get_or, take, drop, sym, ap, subst, ◌∙◌, arith, append_assoc, append-nil, suc}
-use Rattle.std.proofs.lemmas.List.{drop_at, length-append, take-append-drop, take_more, take_all}
+use Rattle.std.proofs.lemmas.List.{drop_at, length-append, take-append-drop, take_more}
 use Rattle.dm_network.specs.Net.{Net}
 use Rattle.dm_network.specs.Start.{IsNetwork}
 use Rattle.dm_rows.specs.declared.messages.Decision.{Decision}
@@ -93,6 +93,3 @@ module _ (net : Net) (network : IsNetwork net) (rows : RowsValue) (sized : IsSiz
   made_cycle h =
       subst (HasRelaxedCycle net rows) whole_is
       (longer_cycle net network rows sized (path ++ d ∷ []) (drop (i + 1) decisions) whole_list made_list h)
-
-pub all_made : (before decisions path : List Decision) (i : ℕ) → length decisions ≤ i → path ≡ before ++ take i decisions → path ≡ before ++ decisions
-all_made before decisions path i all e = e ∙ ap (λ xs. before ++ xs) (take_all i decisions all)

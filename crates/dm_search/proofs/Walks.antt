@@ -2,7 +2,7 @@
 use Rattle.std.proofs.Common.{◌≡◌, ℕ, zero, suc, ◌+◌, ◌-◌, ◌<◌, ◌≤◌, Bool, true, false, List, [], ◌∷◌, ◌++◌, length, get_or, take, drop, Option, Some, None, refl, sym, ap, subst, ◌∙◌, arith, append-nil}
 use Rattle.std.specs.Prelude.{Contains, not, ◌&&◌, slice_get, IfSome}
 use Rattle.std.proofs.Math.Seq.{get_or-append_seam, take-append_seam}
-use Rattle.std.proofs.lemmas.List.{take_more, take_all, drop_all, take-append-drop, take-append-le, length-take-le, length-append}
+use Rattle.std.proofs.lemmas.List.{take_more, take_all, drop_all, length-append}
 use Rattle.std.proofs.lemmas.List.Elements.{All-contains, Contains-append_left, Contains-push}
 use Rattle.dm_graph.specs.Arcs.{Binds, BindsIn}
 use Rattle.dm_graph.proofs.Transfers.{cycle_carries}
@@ -12,7 +12,7 @@ use Rattle.dm_network.specs.Start.{IsNetwork}
 use Rattle.dm_rows.specs.declared.messages.Choice.{Choice}
 use Rattle.dm_rows.specs.declared.messages.Decision.{Decision}
 use Rattle.dm_rows.specs.Decide.{IsChoiceList, choice_of, with_decisions, free_choices_of, is_free_change, is_free_pair, change_choice, pair_choice}
-use Rattle.dm_rows.specs.Relax.{is_same_choice, is_decided, is_of_undecided, is_relaxed_active, violated_choices_of}
+use Rattle.dm_rows.specs.Relax.{is_of_undecided, is_relaxed_active, violated_choices_of}
 use Rattle.dm_rows.specs.Rows.{RowsValue, IsSized}
 use Rattle.dm_rows.specs.Active.{is_active}
 use Rattle.dm_evaluate.specs.Evaluator.{EvaluatorValue, IsEvaluatorOf, times_of, path_without}
@@ -21,7 +21,6 @@ use Rattle.dm_relax.specs.Relaxed.{first_violated}
 use Rattle.dm_tree.specs.Plans.{Task}
 use Rattle.dm_tree.specs.Relaxed.{relaxed_cost_of, IsViolated}
 use Rattle.dm_evaluate.proofs.Lists.{without_at}
-use Rattle.dm_paths.proofs.Paths.{one_passes}
 use Rattle.dm_paths.proofs.Apart.{got_is_in}
 use Rattle.dm_relax.proofs.BoundLaw.{all_from}
 use Rattle.dm_rows.proofs.Sides.{same_itself}
@@ -46,23 +45,6 @@ front_of net rows front rest list =
       once = λ m n d e a b same. list.once m n d e (got_before front rest m d a) (got_before front rest n e b) same;
     }
 
--- a front of a front
-take_of_take : (m n : ℕ) (xs : List Decision) → m ≤ n → n ≤ length xs → take m (take n xs) ≡ take m xs
-take_of_take m n xs le within =
-    let size = length-take-le n xs within in
-    sym (take-append-le m (take n xs) (drop n xs) (omega (arith, size))) ∙ ap (take m) (take-append-drop n xs)
-
--- one decision less
-pub one_less : (whole p q : List Decision) → p ≡ take (length p) whole → length p ≤ length whole → 0 < length p → q ≡ take (length p - 1) p →
-    (q ≡ take (length q) whole) × (length q ≡ length p - 1)
-one_less whole p q e within some f =
-    let size : length q ≡ length p - 1 = ap length f ∙ length-take-le (length p - 1) p (omega arith) in
-    let same : q ≡ take (length p - 1) whole =
-    f ∙ (ap (take (length p - 1)) e ∙ take_of_take (length p - 1) (length p) whole (omega arith) within) in (
-      same ∙ ap (λ (k : ℕ). take k whole) (sym size),
-      size,
-    )
-
 -- the last decision is taken back
 without_last : (net : Net) (rows : RowsValue) (q : List Decision) (d : Decision) → IsChoiceList net rows (q ++ d ∷ []) →
     path_without (choice_of d) (q ++ d ∷ []) ≡ q
@@ -78,11 +60,6 @@ pub taken_back : (net : Net) (rows : RowsValue) (path new : List Decision) (d : 
 taken_back net rows path new d list e is =
     is ∙ (ap (path_without (choice_of d)) e
     ∙ without_last net rows (take (length path - 1) path) d (subst (IsChoiceList net rows) e list))
-
-pub last_decided : (path : List Decision) (d : Decision) → path ≡ take (length path - 1) path ++ d ∷ [] → is_decided path (choice_of d) ≡ true
-last_decided path d e =
-    one_passes (λ x. is_same_choice (choice_of x) (choice_of d)) path d
-    (subst (λ xs. Contains xs d) (sym e) (Contains-push (take (length path - 1) path) d)) (same_itself (choice_of d))
 
 pub last_is : (path : List Decision) (d : Decision) → 0 < length path → d ≡ get_or path (length path - 1) d → path ≡ take (length path - 1) path ++ d ∷ []
 last_is path d some is =

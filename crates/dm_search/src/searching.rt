@@ -53,10 +53,18 @@ struct Hints<'g> {
 }
 
 /// An evaluator that is brought from path to path, each behind the base of a task. It is seen as the task.
-#[derive(Drop)]
 pub(crate) struct Walker<'t> {
     pub(crate) task: Task<'t>,
     pub(crate) evaluator: Evaluator,
+}
+
+impl Drop for Walker<'_> {
+    fn drop(self) {
+        let Walker {
+            task: _,
+            evaluator: _,
+        } = self;
+    }
 }
 
 impl<'t> Model for Walker<'t> {

@@ -15,7 +15,7 @@ use dm_times::NoTimes;
 use std::alloc::{AllocError, Global};
 
 /// What a search does with a path. Costs are in thousandths of passenger seconds.
-#[derive(PartialEq, Eq, Debug, Drop)]
+#[derive(PartialEq, Eq, Drop)]
 pub enum Outcome {
     /// The relaxed problem of the path has a cycle, so that no choices hold its decisions.
     Cycle,

@@ -1,15 +1,12 @@
 -- The graph that constraints give: its bounds, its orders and cycles, and the times and marks of a computation from scratch.
 use Rattle.std.proofs.Common.{◌≡◌, ℕ, zero, suc, ◌<◌, Bool, true, List, [], ◌∷◌, length, replicate, refl, ap, ◌∙◌, arith, slice_index}
-use Rattle.dm_base.specs.declared.ids.ActId.{ActId}
-use Rattle.dm_graph.specs.Arcs.{Arcs, Chain, IsCycle, IsOrder}
+use Rattle.dm_graph.specs.Arcs.{Arcs, Chain, IsCycle}
 use Rattle.dm_graph.specs.Arrays.{AreRanks}
 use Rattle.dm_graph.specs.Graph.{Graph}
-use Rattle.dm_graph.proofs.Ranks.{ranks_rise}
 use Rattle.dm_network.specs.Net.{Net, IsWithinLimits}
-use Rattle.dm_network.specs.Held.{arcs_of, ids_of, ShowsCycleOf}
 use Rattle.dm_settle.specs.Constraints.{ConstraintsValue, AreWithinLimits, IsBounded, graph_given}
 use Rattle.dm_marks.specs.Marked.{is_marked}
-use Rattle.dm_settle.specs.Settling.{MarksUnsettled, GoesForward}
+use Rattle.dm_settle.specs.Settling.{MarksUnsettled}
 
 pub given_is_bounded : (net : Net) (given : ConstraintsValue) → IsWithinLimits net → AreWithinLimits given.floors given.spans → IsBounded (graph_given net given)
 given_is_bounded net given within limits = record {
@@ -17,10 +14,6 @@ given_is_bounded net given within limits = record {
   floors = λ e lt. limits.of_events e;
   spans = λ a binds. limits.of_activities a;
 }
-
--- in an order of all arcs that bind, each goes forward
-pub order_goes_forward : (g : Arcs) (order ranks : List ℕ) (marks : List Bool) → AreRanks g.events order ranks → IsOrder g order → GoesForward g ranks marks
-order_goes_forward g order ranks marks ranked is a binds may = ranks_rise g order ranks ranked is a binds
 
 -- where every place is marked, no event needs to have its time
 marked_in : (n k : ℕ) → k < n → is_marked (replicate n true) k ≡ true
@@ -48,6 +41,3 @@ chain_names g i (a ∷ rest) j c (suc k) lt = chain_names g (g.head a) rest j c.
 pub cycle_names : (g : Arcs) (cycle : List ℕ) → IsCycle g cycle → (k : ℕ) → k < length cycle → slice_index cycle k < g.arcs
 cycle_names g [] c k lt = absurd c
 cycle_names g (a ∷ rest) c k lt = chain_names g (g.tail a) (a ∷ rest) (g.tail a) c k lt
-
-pub cycle_shown : (net : Net) (held : ℕ → Bool) (cycle : List ℕ) (ids : List ActId) → IsCycle (arcs_of net held) cycle → ids ≡ ids_of net cycle → ShowsCycleOf net held ids
-cycle_shown net held cycle ids c named = record { places = cycle; is_cycle = c; named = named }

@@ -11,11 +11,20 @@ use std::marker::Model;
 
 /// Which activities of a network are held, the floor of each event and the span of each activity, by place. The head of a
 /// held activity is at least its span after its tail, and no event is before its floor. Floors and spans are seconds.
-#[derive(Debug, Drop)]
 pub struct Constraints {
     held: Vec<bool>,
     floors: Vec<Secs>,
     spans: Vec<Secs>,
+}
+
+impl Drop for Constraints {
+    fn drop(self) {
+        let Constraints {
+            held: _,
+            floors: _,
+            spans: _,
+        } = self;
+    }
 }
 
 impl Model for Constraints {

@@ -4,7 +4,7 @@ use dm_base::{ActId, Items};
 use std::alloc::AllocError;
 
 /// Why constraints have no times.
-#[derive(PartialEq, Eq, Debug, Drop)]
+#[derive(Debug, Drop)]
 pub enum NoTimes {
     /// Held activities that form a cycle, each head the next tail.
     Cycle(Items<ActId>),

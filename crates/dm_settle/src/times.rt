@@ -8,7 +8,7 @@ use std::alloc::{AllocError, Global};
 use std::marker::Model;
 
 /// The time of each event, by place, in seconds. Every time is below 2^38.
-#[derive(Debug, Drop)]
+#[derive(Drop)]
 pub struct Times {
     seconds: Vec<Secs>,
 }

@@ -26,7 +26,7 @@ pub trait Watcher {
 }
 
 /// One that is told, and keeps nothing.
-#[derive(Clone, Copy, Debug)]
+#[derive(Clone, Copy)]
 pub struct Unwatched;
 
 impl Watcher for Unwatched {

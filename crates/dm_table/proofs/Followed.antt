@@ -1,23 +1,11 @@
 -- A copy of times that is brought up to date, place by place.
-use Rattle.std.proofs.Common.{◌≡◌, ◌≢◌, ℕ, zero, suc, ◌+◌, ◌<◌, ◌≤◌, ◌⊎◌, List, [], ◌∷◌, length, get_or, drop, set, refl, sym, ap, subst, ◌∙◌, inl, inr, arith, All, length-set, get_or-set_same, get_or-set_other}
+use Rattle.std.proofs.Common.{◌≡◌, ◌≢◌, ℕ, zero, suc, ◌+◌, ◌<◌, ◌≤◌, ◌⊎◌, List, [], ◌∷◌, length, get_or, drop, set, sym, ap, subst, ◌∙◌, inl, inr, arith, All, length-set, get_or-set_same, get_or-set_other}
 use Rattle.std.specs.Prelude.{Contains}
 use Rattle.std.proofs.lemmas.Bool.{cases_eq}
 use Rattle.std.proofs.lemmas.Grind.{same_number_lists}
 use Rattle.std.proofs.lemmas.List.{drop_more, drop_all, length_push}
-use Rattle.std.proofs.lemmas.List.Elements.{All-push, All-nil, Contains-push, Contains-append_left}
+use Rattle.std.proofs.lemmas.List.Elements.{All-push, Contains-push, Contains-append_left}
 use Rattle.dm_table.specs.Inside.Noted.{IsUpToDate, ListsWhereMoved, IsRightBut}
-
--- before any place is looked at
-pub none_looked : (due : ℕ → Type 0) (times before : List ℕ) → length before ≡ length times →
-    ((i : ℕ) → (get_or before i 0 ≡ get_or times i 0) ⊎ due i) → IsRightBut due times before before [] 0
-none_looked due times before as_many right = record {
-  began = as_many;
-  as_many = as_many;
-  right = right;
-  each = λ i. inr refl;
-  within = All-nil (λ place. place < length times);
-  few = omega arith;
-}
 
 module _ (due rest : ℕ → Type 0) (times before now listed : List ℕ) (looked : ℕ) (so_far : IsRightBut due times before now listed looked)
     (place : ℕ) (below : place < length times) (leaves : (i : ℕ) → due i → (i ≡ place) ⊎ rest i)

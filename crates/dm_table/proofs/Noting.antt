@@ -1,12 +1,7 @@
 -- What is noted of the times that have moved, over the calls of a table.
-use Rattle.std.proofs.Common.{◌≡◌, ℕ, ◌<◌, ◌≤◌, ◌⊎◌, Bool, true, false, List, [], ◌∷◌, ◌++◌, length, get_or, replicate, refl, sym, ap, subst, ◌∙◌, inl, inr, arith, All}
-use Rattle.std.specs.Prelude.{Contains}
-use Rattle.std.proofs.lemmas.Bool.{false≢true, cases_lt}
-use Rattle.std.proofs.lemmas.List.{get_or_past, length_push, length-replicate}
-use Rattle.std.proofs.lemmas.List.Elements.{All-weaker}
+use Rattle.std.proofs.Common.{◌≡◌, ℕ, ◌≤◌, Bool, false, List, [], ◌∷◌, ◌++◌, length, replicate, sym, ap, subst, ◌∙◌, arith}
+use Rattle.std.proofs.lemmas.List.{length_push, length-replicate}
 use Rattle.dm_network.specs.Net.{Net}
-use Rattle.dm_marks.specs.Marked.{is_marked}
-use Rattle.dm_marks.specs.Places.{PlaceSetValue, IsPlaceSet}
 use Rattle.dm_propagate.specs.Moved.{TakesInMoved}
 use Rattle.dm_propagate.proofs.Following.{one_least}
 use Rattle.dm_rows.specs.declared.messages.Entry.{Entry}
@@ -15,13 +10,6 @@ use Rattle.dm_rows.specs.Rows.{RowsValue}
 use Rattle.dm_rows.specs.Timetable.{IsLeast, time_at}
 use Rattle.dm_table.specs.Inside.Noted.{AreNoted}
 use Rattle.dm_table.proofs.Kept.{rows_before}
-
--- where no time moves, nothing has to be noted
-pub nothing_moves : (noted : List Bool) (before after : List ℕ) → after ≡ before → TakesInMoved noted noted before after
-nothing_moves noted before after same = record {
-  as_many = refl;
-  others = λ i out. (out, ap (λ (x : List ℕ). get_or x i 0) same);
-}
 
 -- where times are those after so many entries, none has moved since then
 pub noted_anew : (net : Net) (start rows : RowsValue) (history : List Entry) (n : ℕ) (flags : List Bool) (times : List ℕ) → n ≤ length history →
@@ -47,35 +35,9 @@ module _ (net : Net) (start : RowsValue) (history : List Entry) (since : ℕ) (n
         ∙ are.others x (subst (λ (rows : RowsValue). IsLeast net rows x) same of_x) i (moved.others i out).0;
   }
 
-  pub noted_still : (noted_now : List Bool) (now : List ℕ) → TakesInMoved noted noted_now times now → AreNoted net start history since noted_now now
-  noted_still noted_now now moved = noted_beside history noted_now now are.within refl moved
-
   pub noted_next : (entry : Entry) (noted_now : List Bool) (now : List ℕ) → TakesInMoved noted noted_now times now →
       AreNoted net start (history ++ entry ∷ []) since noted_now now
   noted_next entry noted_now now moved =
       let within = are.within in
       noted_beside (history ++ entry ∷ []) noted_now now (omega (arith, length_push history entry))
       (rows_before net start history entry since within) moved
-
--- what is noted are events
-pub places_are_events : (set : PlaceSetValue) (n : ℕ) → IsPlaceSet set → length set.flags ≡ n → All (λ place. place < n) set.places
-places_are_events set n is as_many =
-    All-weaker (λ place. is_marked set.flags place ≡ true) (λ place. place < n)
-    (λ place is_in. elim (cases_lt place n) [
-      | inl below ↦ below
-      | inr past ↦ absurd (false≢true (sym (get_or_past set.flags place false (omega arith)) ∙ is_in))
-    ]) set.places is.within
-
--- whether a place is in
-in_or_out : (b : Bool) → (b ≡ true) ⊎ (b ≡ false)
-in_or_out true = inl refl
-in_or_out false = inr refl
-
--- times after so many entries are those of now but where an event is noted
-pub right_but_noted : (net : Net) (start : RowsValue) (history : List Entry) (since shown : ℕ) (set : PlaceSetValue) (times x : List ℕ) →
-    AreNoted net start history since set.flags times → IsPlaceSet set → shown ≡ since → IsLeast net (rows_at net start history shown) x →
-    (i : ℕ) → (get_or x i 0 ≡ get_or times i 0) ⊎ Contains set.places i
-right_but_noted net start history since shown set times x are is same least i = elim (in_or_out (is_marked set.flags i)) [
-  | inl is_in ↦ inr (is.each i is_in)
-  | inr out ↦ inl (sym (are.others x (subst (λ (n : ℕ). IsLeast net (rows_at net start history n) x) same least) i out))
-]

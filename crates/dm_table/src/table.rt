@@ -26,7 +26,6 @@ use std::marker::Model;
 use std::sync::ledger::Ledger;
 
 /// The entries of a day over one network, its rows and their least timetable.
-#[derive(Drop)]
 pub struct Table<'n> {
     alloc: Global,
     net: &'n Network,
@@ -43,6 +42,22 @@ pub struct Table<'n> {
 
     /// For how many decisions there is room at least.
     room: usize,
+}
+
+impl Drop for Table<'_> {
+    fn drop(self) {
+        let Table {
+            alloc: _,
+            net: _,
+            start: _,
+            penalty: _,
+            history: _,
+            engine: _,
+            since: _,
+            flips: _,
+            room: _,
+        } = self;
+    }
 }
 
 impl<'n> Model for Table<'n> {

@@ -2,7 +2,7 @@
 use Rattle.std.proofs.Common.{◌≡◌, ℕ, ◌+◌, ◌<◌, List, length, get_or, set, Bool, refl, sym, ap, ◌∙◌, arith, inl, inr, false}
 use Rattle.std.proofs.lemmas.Bool.{cases_eq}
 use Rattle.std.proofs.lemmas.Grind.{get_or-set_at}
-use Rattle.std.proofs.lemmas.List.{get_or-set_other, length-set, length-replicate}
+use Rattle.std.proofs.lemmas.List.{get_or-set_other, length-set}
 use Rattle.std.specs.Prelude.{slice_index}
 use Rattle.dm_base.specs.declared.ids.ActId.{ActId}
 use Rattle.dm_graph.specs.Arcs.{Binds, BindsIn}
@@ -14,17 +14,17 @@ use Rattle.dm_network.specs.Held.{arcs_of, is_held, HasNoCycleOf, ShowsCycleOf}
 use Rattle.dm_network.proofs.Holding.{binds_with}
 use Rattle.dm_rows.specs.Active.{is_active, HasNoCycle}
 use Rattle.dm_rows.specs.Rows.{RowsValue}
-use Rattle.dm_rows.specs.Timetable.{IsLeast, IsLeastHolding, floor_of, span_of, graph_holding}
+use Rattle.dm_rows.specs.Timetable.{IsLeast, IsLeastHolding, span_of, graph_holding}
 use Rattle.dm_rows.specs.Laws.{EntersNoPassed}
 use Rattle.dm_rows.proofs.AsGraph.{least_from_graph, active_enter_no_passed}
-use Rattle.dm_settle.specs.Constraints.{ConstraintsValue, arcs_given, graph_given, nothing_held}
+use Rattle.dm_settle.specs.Constraints.{ConstraintsValue, arcs_given, graph_given}
 use Rattle.dm_settle.specs.Settling.{AreLeast}
 use Rattle.dm_settle.specs.Constraints.{RefusesTimes as RefusesGiven}
 use Rattle.dm_settle.specs.declared.faults.NoTimes.{NoTimes}
 use Rattle.dm_settle.specs.declared.faults.NoTimes.TheVariants.{Cycle, OutOfMemory}
 use Rattle.dm_times.specs.Faults.{RefusesHolding}
 use Rattle.dm_times.specs.Constraints.{AreConstraintsHolding, AreConstraintsOf}
-use Rattle.dm_times.specs.Inside.Filling.{ActivitiesTo, FloorsTo}
+use Rattle.dm_times.specs.Inside.Filling.{ActivitiesTo}
 
 -- the first n items are by a function, and so is the next one that is set
 one_more : {A : Type 0} (xs : List A) (d v : A) (f : ℕ → A) (n : ℕ) → n < length xs → ((k : ℕ) → k < n → get_or xs k d ≡ f k) →
@@ -34,10 +34,6 @@ one_more xs d v f n below each is k lt =
       | inl same ↦ get_or-set_at xs n k v d same below ∙ is ∙ ap f (sym same)
       | inr other ↦ get_or-set_other xs n k v d other ∙ each k (omega arith)
     ]
-
-pub activities_none : (net : Net) (rows : RowsValue) (held : ℕ → Bool) (given : ConstraintsValue) → ActivitiesTo net rows held 0 given given
-activities_none net rows held given =
-    record { flags = refl; as_many_spans = refl; held = λ a lt. absurd (omega arith); spans = λ a lt. absurd (omega arith); floors = refl }
 
 -- the next activity is held or not, and then has its span
 pub activities_next : (net : Net) (rows : RowsValue) (held : ℕ → Bool) (n : ℕ) (before now : ConstraintsValue) (b : Bool) (span : ℕ) →
@@ -50,46 +46,6 @@ activities_next net rows held n before now b span below within is span_is h =
       held = one_more now.held false b held n (let size = h.flags in omega arith) h.held is;
       spans = one_more now.spans 0 span (span_of net rows) n (let size = h.as_many_spans in omega arith) h.spans span_is;
       floors = h.floors;
-    }
-
-pub floors_none : (net : Net) (rows : RowsValue) (given : ConstraintsValue) → FloorsTo net rows 0 given given
-floors_none net rows given = record { size = refl; each = λ a lt. absurd (omega arith); held = refl; spans = refl }
-
-pub floors_next : (net : Net) (rows : RowsValue) (n : ℕ) (before now : ConstraintsValue) (floor : ℕ) → n < length before.floors →
-    floor ≡ floor_of net rows n → FloorsTo net rows n before now →
-    FloorsTo net rows (n + 1) before (record now { floors = set now.floors n floor })
-floors_next net rows n before now floor below is h =
-    record {
-      size = length-set now.floors n floor ∙ h.size;
-      each = one_more now.floors 0 floor (floor_of net rows) n (let size = h.size in omega arith) h.each is;
-      held = h.held;
-      spans = h.spans;
-    }
-
--- constraints that hold nothing are as long as the network's lists
-pub held_size : (net : Net) (given : ConstraintsValue) → given ≡ nothing_held net → length given.held ≡ length net.activities
-held_size net given is = ap (λ (g : ConstraintsValue). length g.held) is ∙ length-replicate (length net.activities) false
-
-pub floors_size : (net : Net) (given : ConstraintsValue) → given ≡ nothing_held net → length given.floors ≡ length net.events
-floors_size net given is = ap (λ (g : ConstraintsValue). length g.floors) is ∙ length-replicate (length net.events) 0
-
-pub spans_size : (net : Net) (given : ConstraintsValue) → given ≡ nothing_held net → length given.spans ≡ length net.activities
-spans_size net given is = ap (λ (g : ConstraintsValue). length g.spans) is ∙ length-replicate (length net.activities) 0
-
--- filled in from the activities and then from the events, they are the rows'
-pub filled : (net : Net) (rows : RowsValue) (held_to : ℕ → Bool) (empty holding given : ConstraintsValue) → empty ≡ nothing_held net →
-    ActivitiesTo net rows held_to (length net.activities) empty holding → FloorsTo net rows (length net.events) holding given →
-    AreConstraintsHolding net rows held_to given
-filled net rows held_to empty holding given is activities floors =
-    record {
-      sized = record {
-        held = ap length floors.held ∙ activities.flags ∙ held_size net empty is;
-        floors = floors.size ∙ ap length activities.floors ∙ floors_size net empty is;
-        spans = ap length floors.spans ∙ activities.as_many_spans ∙ spans_size net empty is;
-      };
-      held = λ a below. ap (λ flags. is_held flags a) floors.held ∙ activities.held a below;
-      floors = floors.each;
-      spans = λ a below. ap (λ xs. slice_index xs a) floors.spans ∙ activities.spans a below;
     }
 
 -- the graph of the constraints is that of the rows

@@ -6,11 +6,10 @@ ghost use Rattle.dm_rows.specs.Rows.{IsSized};
 ghost use Rattle.dm_rows.specs.Timetable.{IsLeast};
 ghost use Rattle.dm_rows.specs.Cost.{cost_of, cost_charging, event_cost, charged_weight, missed_weight, comes_too_early};
 
-use crate::filling::span_of;
 use crate::holding::{AsRowsSay, Charging};
 use dm_base::{ActKind, Cost, EventKind, Milli};
 use dm_network::Network;
-use dm_rows::Rows;
+use dm_rows::{Rows, span_of};
 use dm_settle::Times;
 
 /// What the rows' least timetable costs, in thousandths of passenger seconds: the lateness of the arrivals, and the penalty

@@ -22,6 +22,6 @@ mod scratch;
 
 pub use costing::{comes_too_early, cost, cost_charging};
 pub use dm_settle::{NoTimes, Times};
-pub use filling::{constraints_holding, floor_of, span_of};
+pub use filling::constraints_holding;
 pub use holding::{AsRowsSay, Charging, Holding};
 pub use scratch::{least, least_holding};

@@ -1,8 +1,8 @@
 -- What the leaves that lie at a path ask for there.
-use Rattle.std.proofs.Common.{◌≡◌, ◌≢◌, ℕ, ◌+◌, ◌-◌, ◌<◌, ◌≤◌, true, false, List, [], ◌∷◌, ◌++◌, length, get_or, refl, sym, ap, subst, ◌∙◌, ◌⊎◌, inl, inr, arith, Option, Some, None, slice_get, append-nil, slice_index, set, length-set, get_or-set_same, get_or-set_other}
+use Rattle.std.proofs.Common.{◌≡◌, ℕ, ◌+◌, ◌-◌, ◌<◌, ◌≤◌, true, false, List, [], ◌∷◌, ◌++◌, length, get_or, refl, sym, ap, subst, ◌∙◌, ◌⊎◌, inl, inr, arith, Option, Some, None, slice_get, append-nil, slice_index}
 use Rattle.std.specs.Prelude.{unwrap_or}
 use Rattle.std.proofs.lemmas.Bool.{cases_lt}
-use Rattle.std.proofs.lemmas.List.{length-append, get_or-append_right, get_or_default}
+use Rattle.std.proofs.lemmas.List.{get_or-append_right, get_or_default}
 use Rattle.std.proofs.lemmas.Option.{slice_get_within, get_or_from_slice_get}
 use Rattle.dm_rows.specs.declared.messages.Choice.{Choice}
 use Rattle.dm_rows.specs.declared.messages.Decision.{Decision}
@@ -12,9 +12,9 @@ use Rattle.dm_tree.specs.declared.forms.Node.TheVariants.{Inner, Cycle, Bound, O
 use Rattle.dm_tree.specs.declared.forms.Leaf.{Leaf}
 use Rattle.dm_tree.specs.Trees.{Shape, choice_in, IsLeaf, IsProper, StandsAt, HasLeaves, HaveNoTree}
 use Rattle.dm_rows.specs.Sides.{IsOrdered, is_ordered}
-use Rattle.dm_tree.specs.Inside.Assembling.{Improves, AreMatched, IsRematched, LiesBelow, AsksFor, MayStand, IsAskedOf, Agree, IsAsked, LiesNone, SeenSoFar, IsDue}
+use Rattle.dm_tree.specs.Inside.Assembling.{AreMatched, IsRematched, LiesBelow, AsksFor, MayStand, IsAskedOf, Agree, IsAsked, LiesNone, SeenSoFar, IsDue}
 use Rattle.dm_tree.specs.Pending.{IsFront, KeepsFront}
-use Rattle.dm_rows.proofs.Sides.{ordered, ordered_tells}
+use Rattle.dm_rows.proofs.Sides.{ordered_tells}
 use Rattle.dm_tree.proofs.Standing.{one_stands, stands_above}
 use Rattle.dm_tree.proofs.Matching.{full_is_front, front_is_full}
 
@@ -35,10 +35,6 @@ goes_below path l d f lt is = from_rest f.rest f.is
         let same : d ≡ x = is ∙ (ap (λ xs. get_or xs (length path) d) e ∙ at) in
         record { decision = x; rest = rest; is = e; decides = ap choice_of (sym same) }
 
-pub asks_below : (path : List Decision) (l : Leaf) (d : Decision) → IsFront path l.path → length path < length l.path →
-    d ≡ get_or l.path (length path) d → is_ordered (choice_of d) ≡ true → IsAskedOf path l (Some (Inner (choice_of d)))
-asks_below path l d f lt is o = (goes_below path l d f lt is, ordered (choice_of d) o)
-
 -- a pair that is not written in order stands in no tree
 pub asks_badly : (path : List Decision) (l : Leaf) (d : Decision) → IsFront path l.path → length path < length l.path →
     d ≡ get_or l.path (length path) d → is_ordered (choice_of d) ≡ false → IsAskedOf path l None
@@ -49,45 +45,12 @@ asks_badly path l d f lt is o shape proper leaf stands =
     ordered_tells (choice_of d) (subst IsOrdered b.decides (stands_above shape path b.rest b.decision l.node proper s).1) in
     cc
 
-ends_there : (path : List Decision) (l : Leaf) → IsFront path l.path → length l.path ≤ length path → l.path ≡ path
-ends_there path l f le = from_rest f.rest f.is
-  where
-    from_rest : (rest : List Decision) → l.path ≡ path ++ rest → l.path ≡ path
-    from_rest [] e = e ∙ append-nil path
-    from_rest (x ∷ rest) e =
-        let n : length l.path ≡ length path + length (x ∷ rest) = ap length e ∙ length-append path (x ∷ rest) in
-        absurd (omega arith)
-
-pub asks_itself : (path : List Decision) (l : Leaf) → IsFront path l.path → length l.path ≤ length path →
-    choice_in l.node ≡ None → IsAskedOf path l (Some l.node)
-asks_itself path l f le e = by_node l.node refl e
-  where
-    at : l.path ≡ path
-    at = ends_there path l f le
-
-    by_node : (n : Node) → l.node ≡ n → choice_in n ≡ None → AsksFor path n l × MayStand n
-    by_node (Inner c) is e = cc
-    by_node Cycle is e = ((at, is), tt)
-    by_node (Bound c) is e = ((at, is), tt)
-    by_node (Open c) is e = ((at, is), tt)
-    by_node Hole is e = ((at, is), tt)
-
 no_leaf : (n : Node) (c : Choice) → choice_in n ≡ Some c → IsLeaf n → ⊥
 no_leaf (Inner x) c e l = l
 no_leaf Cycle c e l = cc
 no_leaf (Bound x) c e l = cc
 no_leaf (Open x) c e l = cc
 no_leaf Hole c e l = cc
-
-pub asks_for_inner : (path : List Decision) (l : Leaf) → (choice_in l.node ≡ None → ⊥) → IsAskedOf path l None
-asks_for_inner path l is shape proper leaf stands = by_node l.node is leaf
-  where
-    by_node : (n : Node) → (choice_in n ≡ None → ⊥) → IsLeaf n → ⊥
-    by_node (Inner c) h i = i
-    by_node Cycle h i = h refl
-    by_node (Bound c) h i = h refl
-    by_node (Open c) h i = h refl
-    by_node Hole h i = h refl
 
 -- a given leaf stands in a tree that has the leaves
 given_stands : (leaves : List Leaf) (shape : Shape) → HasLeaves shape leaves → (k : ℕ) (l : Leaf) → slice_get leaves k ≡ Some l →
@@ -98,11 +61,6 @@ given_stands leaves shape has k l at =
       subst (λ (x : Leaf). StandsAt shape x.path x.node) e (has.stand k l lt),
       subst (λ (x : Leaf). IsLeaf x.node) e (has.are_leaves k l lt),
     )
-
-pub refused_leaf : (leaves : List Leaf) (path : List Decision) (k : ℕ) (l : Leaf) → slice_get leaves k ≡ Some l →
-    IsAskedOf path l None → HaveNoTree leaves
-refused_leaf leaves path k l at none shape proper has =
-    let s = given_stands leaves shape has k l at in none shape proper s.1 s.0
 
 -- what a leaf of a tree asks for stands in it
 asked_stands : (shape : Shape) (path : List Decision) (n : Node) (l : Leaf) → IsProper shape → StandsAt shape l.path l.node →
@@ -276,44 +234,6 @@ all_rematched path leaves before after i le r old keeps m =
           let lt : k < length leaves = slice_get_within leaves k l here in
           r.done k l (omega arith) here old (m.each k l here) keeps;
     }
-
-pub none_rematched : (path : List Decision) (leaves : List Leaf) (before : List ℕ) → length before ≡ length leaves →
-    IsRematched path leaves before before 0
-none_rematched path leaves before size =
-    record { size = size; done = λ k l lt here. absurd (omega arith); left = λ k le. refl }
-
--- one more leaf
-pub one_rematched : (path : List Decision) (leaves : List Leaf) (before now : List ℕ) (i n : ℕ) (l : Leaf) → slice_get leaves i ≡ Some l →
-    Improves path l.path (slice_index now i) n → IsRematched path leaves before now i →
-    IsRematched path leaves before (set now i n) (i + 1)
-one_rematched path leaves before now i n l here better r =
-    record {
-      size = length-set now i n ∙ r.size;
-      done = λ k m lt there.
-          elim (cases_lt k i) [
-            | inl b ↦
-                let ne : k ≢ i = omega arith in
-                let stays : slice_index (set now i n) k ≡ slice_index now k = get_or-set_other now i k n 0 ne in
-                subst (Improves path m.path (slice_index before k)) (sym stays) (r.done k m b there)
-            | inr q ↦ last k m (the_last k i lt q) there
-          ];
-      left = λ k le.
-          let ne : k ≢ i = omega arith in
-          get_or-set_other now i k n 0 ne ∙ r.left k (omega arith);
-    }
-  where
-    last : (k : ℕ) (m : Leaf) → k ≡ i → slice_get leaves k ≡ Some m →
-        Improves path m.path (slice_index before k) (slice_index (set now i n) k)
-    last k m e there =
-        let same : m ≡ l = same_leaf leaves i k l m (sym e) here there in
-        let lt : i < length leaves = slice_get_within leaves i l here in
-        let size : length now ≡ length leaves = r.size in
-        let lt' : k < length now = omega arith in
-        let old : slice_index now i ≡ slice_index before k = r.left i (omega arith) ∙ ap (slice_index before) (sym e) in
-        let new : slice_index (set now i n) k ≡ n = rw e (get_or-set_same now i n 0 (omega arith)) in
-        let h : Improves path m.path (slice_index before k) n =
-        subst (λ x. Improves path m.path x n) old (subst (λ (x : Leaf). Improves path x.path (slice_index now i) n) (sym same) better) in
-        subst (Improves path m.path (slice_index before k)) (sym new) h
 
 -- the choice that the leaf asks for is not written in order
 pub asks_badly_at : (path : List Decision) (l : Leaf) (whole : List Decision) (d : Decision) (c : Choice) → whole ≡ l.path →

@@ -1,5 +1,5 @@
 -- How much two paths have in common.
-use Rattle.std.proofs.Common.{◌≡◌, ◌≢◌, ℕ, ◌+◌, ◌-◌, ◌<◌, ◌≤◌, List, [], ◌∷◌, ◌++◌, length, take, drop, get_or, refl, sym, ap, ◌∙◌, inl, inr, arith, append_assoc, append-nil}
+use Rattle.std.proofs.Common.{◌≡◌, ◌≢◌, ℕ, ◌+◌, ◌-◌, ◌<◌, ◌≤◌, List, [], ◌∷◌, ◌++◌, length, take, drop, get_or, refl, sym, ap, ◌∙◌, inl, inr, arith}
 use Rattle.std.proofs.lemmas.Bool.{cases_lt}
 use Rattle.std.proofs.lemmas.List.{length-append, get_or-take, take_all, take-take, take_at, take-append-drop, take_more_same, get_or_default}
 use Rattle.dm_rows.specs.declared.messages.Decision.{Decision}
@@ -9,10 +9,6 @@ use Rattle.dm_tree.specs.Pending.{IsFront, KeepsFront}
 left_at : (path rest : List Decision) (m : ℕ) (d : Decision) → m < length path → get_or (path ++ rest) m d ≡ get_or path m d
 left_at path rest m d lt =
     sym (get_or-take (length path) (path ++ rest) m d lt) ∙ ap (λ xs. get_or xs m d) (take_at path rest (length path) refl)
-
-pub none_common : (whole : List Decision) → HasCommon [] whole 0
-none_common whole =
-    record { of_path = omega arith; of_whole = omega arith; same = refl; differ = λ d p w. absurd (omega arith) }
 
 -- a path that has all of itself in common is a front
 pub full_is_front : (path whole : List Decision) (m : ℕ) → HasCommon path whole m → m ≡ length path → IsFront path whole
@@ -89,25 +85,3 @@ common_differs old new whole m j d h k is le apart =
     let b : 0 < length new = k.some in
     common_cut old new whole m j h k is le
     (λ lt x e. apart (get_or_default whole j d x lt ∙ (sym e ∙ get_or_default new j x d (omega arith))))
-
--- a path that is a front, with its last decision turned
-pub turn_keeps : (old path before : List Decision) (d e : Decision) → path ≡ before ++ d ∷ [] → IsFront path old →
-    KeepsFront old (before ++ e ∷ [])
-turn_keeps old path before d e is f =
-    let n : length (before ++ e ∷ []) ≡ length before + 1 = length-append before (e ∷ []) in
-    let back : length (before ++ e ∷ []) - 1 ≡ length before = omega arith in
-    let whole : old ≡ before ++ (d ∷ f.rest) = f.is ∙ (ap (λ xs. xs ++ f.rest) is ∙ append_assoc before (d ∷ []) f.rest) in
-    let size : length old ≡ length before + length (d ∷ f.rest) = ap length whole ∙ length-append before (d ∷ f.rest) in
-    record {
-      some = omega arith;
-      within = omega arith;
-      same = rw back (take_at before (e ∷ []) (length before) refl
-          ∙ sym (ap (take (length before)) whole ∙ take_at before (d ∷ f.rest) (length before) refl));
-    }
-
-pub front_itself : (path : List Decision) → IsFront path path
-front_itself path = record { rest = []; is = sym (append-nil path) }
-
-pub front_shorter : (old path before : List Decision) (d : Decision) → path ≡ before ++ d ∷ [] → IsFront path old → IsFront before old
-front_shorter old path before d is f =
-    record { rest = d ∷ f.rest; is = f.is ∙ (ap (λ xs. xs ++ f.rest) is ∙ append_assoc before (d ∷ []) f.rest) }

@@ -12,25 +12,11 @@ use Rattle.dm_rows.specs.Sides.{first_decision, second_decision, is_ordered, is_
 use Rattle.dm_tree.specs.Inside.Filling.{is_none_left, fills, leaves_due}
 use Rattle.dm_tree.specs.Pending.{pending}
 use Rattle.dm_tree.proofs.Filled.{both, some_more, one_back, tree_fills, leaves_filled}
-use Rattle.dm_rows.proofs.Sides.{other_is_second, first_is_first, other_of_first}
+use Rattle.dm_rows.proofs.Sides.{first_is_first, other_of_first}
 
 pub pending_push : (path : List Decision) (d : Decision) →
     pending (path ++ d ∷ []) ≡ cond (is_first_decision d) ((path ++ other_decision d ∷ []) ∷ pending path) (pending path)
 pending_push path d = simp (reverse-append, reverse-reverse)
-
--- a first decision, taken back and turned
-pub first_turned : (old path : List Decision) (d : Decision) → old ≡ path ++ d ∷ [] → is_first_decision d ≡ true →
-    pending old ≡ (path ++ other_decision d ∷ []) ∷ pending (path ++ other_decision d ∷ [])
-first_turned old path d e first =
-    let a : pending old ≡ pending (path ++ d ∷ []) = ap pending e in
-    let b : pending (path ++ d ∷ []) ≡ (path ++ other_decision d ∷ []) ∷ pending path = rw (pending_push path d, first) refl in
-    let c : pending (path ++ other_decision d ∷ []) ≡ pending path =
-    rw (pending_push path (other_decision d), other_is_second d first) refl in
-    a ∙ (b ∙ ap (λ xs. (path ++ other_decision d ∷ []) ∷ xs) (sym c))
-
-pub second_left : (old path : List Decision) (d : Decision) → old ≡ path ++ d ∷ [] → is_first_decision d ≡ false →
-    pending old ≡ pending path
-second_left old path d e second = ap pending e ∙ rw (pending_push path d, second) refl
 
 -- what is due after a choice that is written in order
 pub due_after_choice : (path : List Decision) (c : Choice) → is_ordered c ≡ true →

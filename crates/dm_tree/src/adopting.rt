@@ -1,7 +1,7 @@
 //! Why a plan is not adopted.
 
 /// Why a plan is not adopted.
-#[derive(Clone, Copy, PartialEq, Eq, Debug)]
+#[derive(Clone, Copy, PartialEq, Eq)]
 pub enum AdoptRefusal {
     /// The history has this many entries, more than the plan's.
     Old { now: u32 },

@@ -40,14 +40,14 @@ impl Node {
 }
 
 /// A leaf of a tree, and the decisions from the root to it.
-#[derive(PartialEq, Eq, Debug, Drop)]
+#[derive(Drop)]
 pub struct Leaf {
     pub path: Items<Decision>,
     pub node: Node,
 }
 
 /// A child of a choice: the decision that leads to it, and the place where it stands in preorder.
-#[derive(Clone, Copy, PartialEq, Eq, Debug)]
+#[derive(Clone, Copy)]
 pub struct Child {
     pub decision: Decision,
     pub place: usize,

@@ -7,7 +7,7 @@ use crate::Node;
 use std::marker::Model;
 
 /// A tree of choices in which holes may stand, seen as its nodes in preorder.
-#[derive(Debug, Drop)]
+#[derive(Drop)]
 pub struct Partial {
     nodes: Vec<Node>,
 }

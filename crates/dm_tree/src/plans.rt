@@ -5,7 +5,6 @@ use dm_base::{Cost, Items};
 use dm_rows::Decision;
 
 /// Choices for the rows at an entry, with a tree that shows how good they are.
-#[derive(Debug, Drop)]
 pub struct Plan {
     /// How many entries the history has whose rows the plan is for.
     pub entry: u32,
@@ -21,4 +20,17 @@ pub struct Plan {
 
     pub mark: Mark,
     pub tree: Tree,
+}
+
+impl Drop for Plan {
+    fn drop(self) {
+        let Plan {
+            entry: _,
+            choices: _,
+            cost: _,
+            bound: _,
+            mark: _,
+            tree: _,
+        } = self;
+    }
 }

@@ -9,13 +9,18 @@ use std::alloc::{AllocError, Global};
 use std::marker::Model;
 
 /// A whole tree of choices, seen as its nodes in preorder.
-#[derive(Debug, Drop)]
 pub struct Tree {
     nodes: Vec<Node>,
 
     /// For each place the place behind the tree that begins there. A second child stands behind the tree of the first, which
     /// stands behind its choice, so the second child of a choice stands at the end kept for the place after it.
     ends: Vec<usize>,
+}
+
+impl Drop for Tree {
+    fn drop(self) {
+        let Tree { nodes: _, ends: _ } = self;
+    }
 }
 
 impl Model for Tree {

@@ -16,7 +16,7 @@ use dm_tree::Plan;
 use std::alloc::{AllocError, Global};
 
 /// What a rule chooses for some rows and what they cost then, beside a plan for them.
-#[derive(Debug, Drop)]
+#[derive(Drop)]
 pub struct Comparison {
     /// The rule's choices: the changes that it decides otherwise than the rows, in ascending id.
     pub choices: Items<Decision>,

@@ -12,7 +12,7 @@ use dm_rows::{Rows, is_free_change};
 use std::alloc::{AllocError, Global};
 
 /// A free change by place, with what it is sorted by.
-#[derive(Clone, Copy, Debug)]
+#[derive(Clone, Copy)]
 pub struct FreeChange {
     pub act: usize,
 

@@ -1,7 +1,7 @@
 //! Waiting rules.
 
 /// How long the departures of trains wait for passengers who change.
-#[derive(Clone, Copy, PartialEq, Eq, Debug)]
+#[derive(Clone, Copy)]
 pub enum WaitRule {
     /// None is later than it would be without the change.
     Never,

@@ -1,25 +1,23 @@
 //! Plans carried over to newer rows.
-ghost use Rattle.std.specs.Prelude.{◌≡◌, ◌≤◌, ◌↔◌, IsTrue, Contains, Some, IfOk, IfErr, IfSome, IfNone};
+ghost use Rattle.std.specs.Prelude.{◌≡◌, ◌≤◌, ◌↔◌, IsTrue, Contains, IfOk, IfErr, IfSome, IfNone};
 ghost use Rattle.dm_base.specs.declared.limits.TheConstants.{PENALTY};
 ghost use Rattle.dm_rows.specs.Rows.{IsSized};
-ghost use Rattle.dm_rows.specs.Decide.{IsChoiceList, choice_of, free_choices_of, is_free_change, is_free_pair};
+ghost use Rattle.dm_rows.specs.Decide.{IsChoiceList, free_choices_of, is_free_change, is_free_pair};
 ghost use Rattle.dm_relax.specs.Complete.{differences_from};
-ghost use Rattle.dm_paths.specs.Decisions.{differs_from, ReachesNet};
 ghost use Rattle.dm_paths.specs.Places.{IsWithin, at_place};
-ghost use Rattle.dm_tree.specs.Plans.{is_set};
 ghost use Rattle.dm_window.specs.Rebasing.{DecideOnce, IsFirstNotFree, IsRebased, RefusesRebase};
 ghost use Rattle.dm_window.specs.Inside.Carrying.{AreFree, CostsCarried, RefusesCarried};
 
 use dm_base::{ActId, Cost, Items};
 use dm_network::Network;
-use dm_paths::{ChoicePlace, flip_of, place_of_choice, with_decisions};
-use dm_rows::{Choice, Decision, Flip, Rows, Snapshot, is_free_change, is_free_pair};
+use dm_paths::{ChoicePlace, differs_from, place_of_choice, with_decisions};
+use dm_rows::{Choice, Decision, Rows, Snapshot, is_free_change, is_free_pair};
 use dm_times::{NoTimes, cost, least};
 use dm_tree::Plan;
 use std::alloc::{AllocError, Global};
 
 /// A plan's choices over newer rows.
-#[derive(Debug, Drop)]
+#[derive(Drop)]
 pub struct Rebased {
     /// How many entries the history has whose rows the choices are for.
     pub entry: u32,
@@ -32,7 +30,7 @@ pub struct Rebased {
 }
 
 /// Why a plan is not carried over.
-#[derive(PartialEq, Eq, Debug, Drop)]
+#[derive(Drop)]
 pub enum RebaseFault {
     /// The first choice of the plan that is no free choice of the newer rows.
     NotFree(Decision),
@@ -145,40 +143,11 @@ fn differing(
 {
     let mut kept = Vec::new(alloc);
     for decision in decisions {
-        if differs(net, rows, *decision) {
+        if differs_from(net, rows, *decision) {
             kept.push(*decision)?;
         }
     }
     Ok(kept)
-}
-
-/// Whether a decision of a free choice differs from the rows.
-fn differs(net: &Network, rows: &Rows, decision: Decision) -> bool
-    requires sized { IsSized net.now rows.now }
-    requires free { Contains (free_choices_of net.now rows.now) (choice_of decision) }
-    ensures { result ≡ differs_from net.now rows.now decision }
-{
-    !has_flip(net, rows, flip_of(net, rows, decision))
-}
-
-/// Whether the rows have what a flip sets.
-fn has_flip(net: &Network, rows: &Rows, flip: Flip) -> bool
-    requires sized { IsSized net.now rows.now }
-    requires reaches { ReachesNet net.now flip }
-    ensures { result ≡ is_set rows.now (Some flip) }
-{
-    let _places = net.activities();
-    match flip {
-        Flip::Keep { act } => rows.kept(act),
-        Flip::Drop { act } => !rows.kept(act),
-        Flip::First { pair, small } => {
-            if small {
-                rows.small_first(pair)
-            } else {
-                !rows.small_first(pair)
-            }
-        }
-    }
 }
 
 /// What the rows cost with decisions of free choices, or a cycle that they make.

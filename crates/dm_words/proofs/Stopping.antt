@@ -1,9 +1,8 @@
 -- Stops read one after another.
-use Rattle.std.proofs.Common.{◌≡◌, ℕ, ◌+◌, ◌-◌, ◌<◌, ◌≤◌, Bool, true, false, List, [], ◌∷◌, ◌++◌, length, get_or, take, drop, refl, sym, ap, subst, ◌∙◌, arith, append_assoc, length-append}
+use Rattle.std.proofs.Common.{◌≡◌, ℕ, ◌+◌, ◌-◌, ◌<◌, Bool, true, false, List, [], ◌∷◌, ◌++◌, length, get_or, take, drop, refl, sym, ap, subst, ◌∙◌, arith, append_assoc}
 use Rattle.std.specs.Prelude.{◌==◌, ◌&&◌, not}
 use Rattle.std.specs.List.{list_any}
 use Rattle.std.proofs.lemmas.List.{append-nil, drop_more, take_all, length-drop}
-use Rattle.dm_base.specs.declared.limits.TheConstants.{BOARDS}
 use Rattle.dm_words.specs.Stops.{IsStop, Spell, are_different}
 use Rattle.dm_words.specs.Inside.Pieces.{BeginsWith, IsReadTo}
 
@@ -27,25 +26,6 @@ module _ (all left : List (List ℕ)) (piece : List ℕ) (done : List ℕ) (read
         whole = λ tail spelled. subst (Spell all) (sym (append_assoc done (stop ∷ []) tail)) (read.whole (stop ∷ tail) (is, spelled));
         only = λ stops spelled. let b = read.only stops spelled in begins_more stop is stops b.tail b.is b.spelled;
       }
-
-  none_here : ((stop : ℕ) → IsStop piece stop → ⊥) → (tail : List ℕ) → Spell (piece ∷ left) tail → ⊥
-  none_here no_stop [] spelled = spelled
-  none_here no_stop (stop ∷ tail) spelled = no_stop stop spelled.0
-
-  pub no_stops : ((stop : ℕ) → IsStop piece stop → ⊥) → (stops : List ℕ) → Spell all stops → length stops ≤ BOARDS → ⊥
-  no_stops no_stop stops spelled few = let b = read.only stops spelled in none_here no_stop b.tail b.spelled
-
-  one_there : (tail : List ℕ) → Spell (piece ∷ left) tail → 1 ≤ length tail
-  one_there [] spelled = absurd spelled
-  one_there (stop ∷ tail) spelled = omega arith
-
-  pub too_many : length done ≡ BOARDS → (stops : List ℕ) → Spell all stops → length stops ≤ BOARDS → ⊥
-  too_many full stops spelled few =
-      let b = read.only stops spelled in
-      let one = one_there b.tail b.spelled in
-      let l = length-append done b.tail in
-      let e = ap length b.is in
-      omega arith
 
 pub read_all : (all : List (List ℕ)) (done : List ℕ) → IsReadTo all [] done → Spell all done
 read_all all done read = subst (Spell all) (append-nil done) (read.whole [] tt)

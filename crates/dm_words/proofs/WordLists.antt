@@ -1,9 +1,9 @@
 -- Words among words, and texts before what stands behind them.
-use Rattle.std.proofs.Common.{◌≡◌, ℕ, ◌+◌, ◌<◌, ◌≤◌, List, [], ◌∷◌, ◌++◌, length, map, take, drop, get_or, Option, Some, None, refl, sym, ap, ◌∙◌, inl, inr}
+use Rattle.std.proofs.Common.{◌≡◌, ℕ, ◌+◌, List, ◌++◌, length, take, drop, Option, Some, None, refl, sym, ap, ◌∙◌, inl, inr}
 use Rattle.std.specs.Str.{bytes_eq}
 use Rattle.std.proofs.lemmas.Slice.Eq.{bytes_eq-Decides}
 use Rattle.std.proofs.lemmas.Bool.{cases_Bool}
-use Rattle.std.proofs.lemmas.List.{drop_more, drop_all, take-append-drop}
+use Rattle.std.proofs.lemmas.List.{take-append-drop}
 use Rattle.std.proofs.Math.Seq.{take-append_seam}
 use Rattle.std.specs.Option.{MatchOption, option_map}
 use Rattle.std.specs.Str.Pattern.{FindsTextPrefix, StripsPrefix}
@@ -38,19 +38,7 @@ pub behind_is : (text word : List ℕ) (r : Option (Bor (List ℕ))) → MatchOp
 behind_is text word None h = behind_none text word h
 behind_is text word (Some x) h = behind_some text word x.now h.0 h.1.0 h.1.1 h.2
 
--- texts of column words that are refused give no columns
-pub refused_columns : (events activities : List ℕ) (why : ColumnFault) → ReadsFileColumns events activities (Err why) → (columns : FileColumns) → ReadsFileColumns events activities (Ok columns) → ⊥
-refused_columns events activities why refused columns given = let e = columns_one events activities (Ok columns) (Err why) given refused in cc e
-
 -- the same, where the texts are known by what they equal
 pub refused_texts : (events activities e a : List ℕ) (r : Result FileColumns ColumnFault) (why : ColumnFault) → e ≡ events → a ≡ activities → ReadsFileColumns e a r → r ≡ Err why → (columns : FileColumns) → ReadsFileColumns events activities (Ok columns) → ⊥
 refused_texts events activities e a r why is_e is_a reads is columns given =
     let f = columns_one e a r (Ok columns) reads (rw (is_e, is_a) given) in cc (f, is)
-
-module _ {X : Type 0} (key : X → List ℕ) where
-  -- the words from a place on
-  pub from_place : (xs : List X) (i : ℕ) (x : X) → i < length xs → x ≡ get_or xs i x → map key (drop i xs) ≡ key x ∷ map key (drop (i + 1) xs)
-  from_place xs i x lt is = ap (map key) (drop_more xs i x lt) ∙ ap (λ y. key y ∷ map key (drop (i + 1) xs)) (sym is)
-
-  pub from_end : (xs : List X) (i : ℕ) → length xs ≤ i → map key (drop i xs) ≡ []
-  from_end xs i le = ap (map key) (drop_all i xs le)

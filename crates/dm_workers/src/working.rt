@@ -215,13 +215,35 @@ impl<F: Grown<Path>> Worker<F> {
             → IsWorking (task_of team.now.task.now) team.now.own team.now.word.now.id start given nothing w) }
     {
         let mut worker = self;
+        worker.take_all(rt, team, gate)?;
+        Ok(worker)
+    }
+
+    /// Takes nodes until none is left. The evaluator is made at the first that is expanded.
+    fn take_all<R: Wait, H: Hold>(
+        &mut self,
+        rt: &R,
+        team: &Team<'_, '_, F>,
+        gate: &H,
+    ) -> Result<(), AllocError>
+        requires posed { IsPosedTask team.now.task.now }
+        requires picks { PicksNodes (task_of team.now.task.now) F.fits }
+        requires own { IsOwnCost (task_of team.now.task.now) team.now.own }
+        requires deques { map deque_of self.old.tallies.items ≡ team.now.thieves.now.items }
+        requires word { self.old.hand.word ≡ team.now.word.now.id }
+        ensures same { OnOk result (IsSameWorker self.old self.new) }
+        ensures empty { OnOk result (WasEmpty F.fits self.new.owner.account) }
+        ensures works { OnOk result ((given : List Bool → ℕ) (start : ℕ)
+            → IsWorking (task_of team.now.task.now) team.now.own team.now.word.now.id start given nothing self.old
+            → IsWorking (task_of team.now.task.now) team.now.own team.now.word.now.id start given nothing self.new) }
+    {
         let mut evaluator: Option<Evaluator> = None;
         for _ in rt.forever() {
-            match worker.next(team.thieves) {
-                Some(path) => worker.take_on(team, &mut evaluator, path, gate)?,
+            match self.next(team.thieves) {
+                Some(path) => self.take_on(team, &mut evaluator, path, gate)?,
                 None => {
                     if team.pace.has_ended() {
-                        return Ok(worker);
+                        return Ok(());
                     }
                     thread::yield_now();
                     continue;

@@ -28,12 +28,6 @@ abbrev pub violated_pair_from : Net → RowsValue → List Decision → List ℕ
 violated_pair_from net rows path x first =
     slice_get (map (pair_choice net) (filter (is_violated_pair net rows path x) (range_with_len first (length net.pairs - first)))) 0
 
--- the first violated choice of all, or behind a place
-abbrev pub violated_behind : Net → RowsValue → List Decision → List ℕ → Option ChoicePlace → Option Choice
-violated_behind net rows path x None = violated_from net rows path x 0
-violated_behind net rows path x (Some (Change a)) = violated_from net rows path x (a + 1)
-violated_behind net rows path x (Some (Pair p)) = violated_pair_from net rows path x (p + 1)
-
 -- there is a flag for each activity and each pair
 pub record AreFlagsFor (net : Net) (undecided : Undecided) : Type 0 where
   pub changes : length undecided.changes.items ≡ length net.activities

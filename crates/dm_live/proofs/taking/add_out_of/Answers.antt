@@ -2,7 +2,7 @@ use Rattle.std.proofs.Common.{◌≡◌, ◌∙◌, ◌+◌, true, false, refl, 
 use Rattle.dm_order.specs.Value.{OrderValue}
 use Rattle.dm_settle.proofs.Held.{out_may_be_held}
 use Rattle.dm_live.specs.Inside.Taking.{HasTaken}
-use Rattle.dm_live.proofs.OutOf.{none_taken, none_refused, taken_with, taken_without, taken_whole}
+use Rattle.dm_live.proofs.OutOf.{none_refused, taken_with, taken_without, taken_whole}
 use Rattle.dm_live.proofs.taking.add_out_of.Goals as goal
 use Rattle.dm_live.proofs.taking.add_out_of.Goals.{then-is_held+in-Ok, else-is_held}
 

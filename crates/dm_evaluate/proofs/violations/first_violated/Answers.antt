@@ -6,7 +6,7 @@ use Rattle.dm_priced.specs.Priced.{is_flagged}
 use Rattle.dm_paths.specs.declared.places.ChoicePlace.TheVariants.{Change}
 use Rattle.dm_paths.specs.Flags.{AreFlags}
 use Rattle.dm_evaluate.proofs.Violating.{change_is_first, no_change_from, pairs_from_start}
-use Rattle.dm_evaluate.proofs.violations.violated_from.Goals as goal
+use Rattle.dm_evaluate.proofs.violations.first_violated.Goals as goal
 
 pub returns-in-Some-clause-first : goal.returns-in-Some-clause-first
 returns-in-Some-clause-first g c path u =
@@ -14,7 +14,7 @@ returns-in-Some-clause-first g c path u =
     let flags = subst (λ (f : List Bool). AreFlags (is_undecided_change net c.args.rows.now path) (length net.activities) f) (sym c.deref.ensures.value) u.changes in
     ap (λ (activity : Activity). Some (choice.Change activity.id)) c.activity.ensures
     ∙ change_is_first net c.args.rows.now path c.args.times.now c.deref.result.now c.args.undecided.now.pairs.items flags u.pairs
-    c.args.first c.in-Some.a c.in-Some.ensures.first
+    0 c.in-Some.a c.in-Some.ensures.first
 
 pub returns-in-Some-clause-flagged : goal.returns-in-Some-clause-flagged
 returns-in-Some-clause-flagged g c =
@@ -31,5 +31,5 @@ returns-clause-first g c path u =
     let rows = c.args.rows.now in
     let x = c.args.times.now in
     let flags = subst (λ (f : List Bool). AreFlags (is_undecided_change net rows path) (length net.activities) f) (sym c.deref.ensures.value) u.changes in
-    c.violated_pair_from.ensures.first path u ∙ pairs_from_start net rows path x
-    ∙ no_change_from net rows path x c.deref.result.now c.args.undecided.now.pairs.items flags u.pairs c.args.first c.in_default.ensures.first
+    c.first_violated_pair.ensures.first path u ∙ pairs_from_start net rows path x
+    ∙ no_change_from net rows path x c.deref.result.now c.args.undecided.now.pairs.items flags u.pairs 0 c.in_default.ensures.first

@@ -5,7 +5,7 @@ use Rattle.dm_priced.specs.Priced.{is_flagged}
 use Rattle.dm_paths.specs.declared.places.ChoicePlace.TheVariants.{Pair}
 use Rattle.dm_paths.specs.Flags.{AreFlags}
 use Rattle.dm_evaluate.proofs.Violating.{pair_is_first, no_pair_from}
-use Rattle.dm_evaluate.proofs.violations.violated_pair_from.Goals as goal
+use Rattle.dm_evaluate.proofs.violations.first_violated_pair.Goals as goal
 
 pub returns-in-Some-clause-first : goal.returns-in-Some-clause-first
 returns-in-Some-clause-first g c path u =
@@ -13,7 +13,7 @@ returns-in-Some-clause-first g c path u =
     let flags = subst (λ (f : List Bool). AreFlags (is_undecided_pair net c.args.rows.now path) (length net.pairs) f) (sym c.deref.ensures.value) u.pairs in
     ap (λ (choice : Choice). Some choice) c.choice_of_pair.ensures
     ∙ pair_is_first net c.args.rows.now path c.args.times.now c.args.undecided.now.changes.items c.deref.result.now u.changes flags
-    c.args.first c.in-Some.p c.in-Some.ensures.first
+    0 c.in-Some.p c.in-Some.ensures.first
 
 pub returns-in-Some-clause-flagged : goal.returns-in-Some-clause-flagged
 returns-in-Some-clause-flagged g c =
@@ -29,4 +29,4 @@ returns-in-None-clause-first g c path u =
     let net = c.args.net.now in
     let flags = subst (λ (f : List Bool). AreFlags (is_undecided_pair net c.args.rows.now path) (length net.pairs) f) (sym c.deref.ensures.value) u.pairs in
     no_pair_from net c.args.rows.now path c.args.times.now c.args.undecided.now.changes.items c.deref.result.now u.changes flags
-    c.args.first c.in-None.ensures.first
+    0 c.in-None.ensures.first

@@ -1,6 +1,6 @@
 use Rattle.dm_workers.proofs.Steps.{none_taken, path_taken}
 use Rattle.dm_workers.proofs.Stealing.{same_after, taken_same, none_same}
-use Rattle.dm_workers.proofs.working.Worker.work_on.Goals as goal
+use Rattle.dm_workers.proofs.working.Worker.take_all.Goals as goal
 
 pub returns-then-has_ended-clause-works : goal.returns-then-has_ended-clause-works
 returns-then-has_ended-clause-works g c = λ given start w. none_taken _ _ _ start given _ _ c.in-None-next.ensures.none.0 (c.loop.invariant.works given start w)
