@@ -118,7 +118,7 @@ TEXTS = [
          text([], lambda data: data[:4])),
     Case('another network', ['check', 'net', 'text'], 1,
          ['text line 8: the answer is not the one that the rows at its entry give',
-          'line 8: are the network, its columns and the delays at the start those of the run, and the text unchanged?'],
+          'line 8: are the network, its columns, the delays at the start and --plans=16 those of the run, and the text unchanged?'],
          lambda program: write('text', b'dm-run 2\npenalty 3600\nfeeds 1\nentries 1\nentry 1 feed 1 line 1 delay event 1 60\n'
                                b'feed 1 2\n1 delay event 1 60 -> 1 ok\n2 time 1 -> 1 time 150\nend\n')),
     Case('no such text', ['check', 'net', 'text'], 4, ['text: No such file or directory (os error 2)']),

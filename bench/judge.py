@@ -1,7 +1,7 @@
 #!/usr/bin/env python3
 """Judges texts of runs by a second reading of the rules, which shares no code with the program:
 
-    python3 bench/judge.py DIR TEXT [--penalty=T] [--event-delays=NAME] [--activity-delays=NAME]
+    python3 bench/judge.py DIR TEXT [--penalty=T] [--plans=N] [--event-delays=NAME] [--activity-delays=NAME]
     python3 bench/judge.py --cases FOLDER
 
 The first prints what `dispatcher check` prints of the same words: `good ENTRIES PLANS`, with status 0, or `bad LINE KIND`, with
@@ -23,7 +23,7 @@ from railway import (  # noqa: E402
     MOST_ENTRIES, Network, Rows, admit, cost_of, is_cycle, is_true_plan, read_delays, read_network, times_of,
 )
 from runtext import (  # noqa: E402
-    ID, MESSAGES, MOST_BOARDS, MOST_FEEDS, MOST_NODES, MOST_PLANS, NUMBER, Bad, Text, fits, read_item, read_message, read_plan,
+    ID, MESSAGES, MOST_BOARDS, MOST_FEEDS, MOST_NODES, NUMBER, STANDARD_PLANS, Bad, Text, fits, read_item, read_message, read_plan,
 )
 
 # What replaces each byte where every byte of a text is judged.
@@ -58,9 +58,10 @@ class Log:
 class Judge:
     """Judges one text of a run over a network from rows at the start, and keeps what it has read and found true."""
 
-    def __init__(self, network, start, penalty):
+    def __init__(self, network, start, penalty, plans=STANDARD_PLANS):
         self.network = network
         self.penalty = penalty
+        self.plans = plans
         self.version = None
         self.history = []
         self.rows = [start]
@@ -196,7 +197,7 @@ class Judge:
         if said[0] != 'plan':
             return False
         if answer.kind == 'plans':
-            return self.may_have(said[1]) and log.plans == MOST_PLANS
+            return self.may_have(said[1]) and log.plans == self.plans
         return said[1] == answer.value and not self.may_have(said[1])
 
     def is_entered(self, log, item):
@@ -240,14 +241,14 @@ class Judge:
 
     def is_planned(self, log, said, answer):
         """Whether a request for a plan may have one, and is answered by one that is true."""
-        if said[0] != 'plan' or not self.may_have(said[1]) or log.plans >= MOST_PLANS:
+        if said[0] != 'plan' or not self.may_have(said[1]) or log.plans >= self.plans:
             return False
         return is_true_plan(self.network, self.rows[answer.entry], self.penalty, said[1], answer.value)
 
 
-def verdict_on(network, start, penalty, text):
+def verdict_on(network, start, penalty, text, plans=STANDARD_PLANS):
     """What is told of a text: ('good', ENTRIES, PLANS) or ('bad', LINE, KIND)."""
-    return Judge(network, start, penalty).judge(text)
+    return Judge(network, start, penalty, plans).judge(text)
 
 
 def in_print(verdict):
@@ -273,9 +274,10 @@ class Case(NamedTuple):
     due: str
     network: Network
     penalty: int
+    plans: int
 
     def told(self, text):
-        return in_print(verdict_on(self.network, Rows(self.network), self.penalty, text))
+        return in_print(verdict_on(self.network, Rows(self.network), self.penalty, text, self.plans))
 
 
 def differences(folder, case):
@@ -299,8 +301,10 @@ def judge_cases(folder):
     for line in read_bytes(folder, 'cases').decode().splitlines():
         if line.startswith('#') or not line.strip():
             continue
-        name, *due, network, penalty = line.split()
-        case = Case(name, ' '.join(due), read_network(os.path.join(folder, 'networks', network, 'net')), int(penalty))
+        name, verdict, first, second, network, penalty, *plans = line.split()
+        due = f'{verdict} {first} {second}'
+        folder_of_network = os.path.join(folder, 'networks', network, 'net')
+        case = Case(name, due, read_network(folder_of_network), int(penalty), int(plans[0]) if plans else STANDARD_PLANS)
         found = differences(folder, case)
         print(*found, sep='\n', end='\n' if found else '')
         count += 1
@@ -313,6 +317,7 @@ def main():
     words = argparse.ArgumentParser(description='Judges texts of runs.', allow_abbrev=False)
     words.add_argument('--cases', metavar='FOLDER')
     words.add_argument('--penalty', type=int, default=3600)
+    words.add_argument('--plans', type=int, default=STANDARD_PLANS)
     words.add_argument('--event-delays')
     words.add_argument('--activity-delays')
     words.add_argument('names', nargs='*', metavar='DIR TEXT')
@@ -324,7 +329,7 @@ def main():
     folder, text = given.names
     network = read_network(folder)
     start = Rows(network, read_delays(folder, given.event_delays), read_delays(folder, given.activity_delays))
-    verdict = verdict_on(network, start, given.penalty, read_bytes(text))
+    verdict = verdict_on(network, start, given.penalty, read_bytes(text), given.plans)
     print(in_print(verdict))
     sys.exit(0 if verdict[0] == 'good' else 1)
 

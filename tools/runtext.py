@@ -16,7 +16,7 @@ NUMBER = 2 ** 128 - 1
 LONGEST_LINE = 1024
 MOST_FEEDS = 64
 MOST_BOARDS = 64
-MOST_PLANS = 16
+STANDARD_PLANS = 16
 MOST_NODES = {1: 4096, 2: 16384}
 
 # What stands behind the words of each kind.

@@ -78,7 +78,7 @@ legal = record { size = lit≤ tt; accepted = accepted }
 -- ---- the log is true
 
 module _ (version : ℕ) (in_range : 100 ≤ plan_limit version) where
-  true_log : IsTrueLog (setting_of version at_start the_run) (late_entry ∷ []) 0 items
+  true_log : IsTrueLog (setting_of version 16 at_start the_run) (late_entry ∷ []) 0 items
   true_log =
       record {
         answers = (
@@ -88,16 +88,16 @@ module _ (version : ℕ) (in_range : 100 ≤ plan_limit version) where
         in_order = (lit< tt, lit< tt, (lit< tt, lit≤ tt, tt));
       }
 
-  each : (place : ℕ) (log : FeedLog) → slice_get the_run.logs place ≡ Some log → IsTrueLog (setting_of version at_start the_run) (late_entry ∷ []) place log.items
+  each : (place : ℕ) (log : FeedLog) → slice_get the_run.logs place ≡ Some log → IsTrueLog (setting_of version 16 at_start the_run) (late_entry ∷ []) place log.items
   each zero log is =
       let same : items ≡ log.items = cc in
-      subst (IsTrueLog (setting_of version at_start the_run) (late_entry ∷ []) 0) same true_log
+      subst (IsTrueLog (setting_of version 16 at_start the_run) (late_entry ∷ []) 0) same true_log
   each (suc n) log is = let e : None ≡ Some log = is in cc
 
   once : (n : ℕ) → 0 < n → n ≤ 1 → count_by (names n) (all_items the_run.logs) ≡ 1
   once n some few = let e : n ≡ 1 = omega arith in subst (λ (k : ℕ). count_by (names k) (all_items the_run.logs) ≡ 1) (sym e) refl
 
-  true_run : IsTrueRun version at_start the_run
+  true_run : IsTrueRun version 16 at_start the_run
   true_run =
       record {
         some_feed = lit≤ tt;

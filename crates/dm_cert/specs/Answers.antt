@@ -2,7 +2,7 @@
 use Rattle.std.specs.Prelude.{ℕ, ◌≡◌, ◌==◌, ◌+◌, ◌-◌, ◌<◌, ◌≤◌, ◌⊎◌, Bool, true, false, if◌then◌else◌, List, length, slice_get, fold, count_by, Option, Some, None}
 use Rattle.std.specs.Option.{IsSomeAnd}
 use Rattle.dm_base.specs.declared.ids.EventId.{EventId}
-use Rattle.dm_base.specs.declared.limits.TheConstants.{BUDGET, PLANS, ENTRIES}
+use Rattle.dm_base.specs.declared.limits.TheConstants.{BUDGET, ENTRIES}
 use Rattle.dm_network.specs.Net.{Net, event_place}
 use Rattle.dm_rows.specs.declared.messages.Entry.{Entry}
 use Rattle.dm_rows.specs.declared.messages.Message.{Message}
@@ -27,11 +27,13 @@ use Rattle.dm_cert.specs.declared.replies.LogItem.TheVariants.{Malformed, Answer
 abbrev pub plan_limit : ℕ → ℕ
 plan_limit version = if version == 1 then 4096 else BUDGET
 
--- what answers go by besides the entries: the network, the rows at the start, the penalty, and the version of the text
+-- what answers go by besides the entries: the network, the rows at the start, the penalty, how many plans a feed may have, and
+-- the version of the text
 pub record Setting : Type 0 where
   pub net : Net
   pub start : RowsValue
   pub penalty : ℕ
+  pub plans : ℕ
   pub version : ℕ
 
 -- the rows after the first n entries
@@ -105,13 +107,13 @@ pub record IsCostAt (s : Setting) (history : List Entry) (n cost : ℕ) : Type 0
 pub record IsPlanFor (s : Setting) (history : List Entry) (before : List LogItem) (budget : ℕ) (plan : Plan) : Type 0 where
   pub within : plan.entry ≤ length history
   pub in_range : IsBudget s budget
-  pub fewer : count_by is_plan before < PLANS
+  pub fewer : count_by is_plan before < s.plans
   pub is_true : IsTruePlan (whole_task s.net (rows_after s history plan.entry) s.penalty budget) plan
 
 -- the feed has had all its plans
 pub record HasAllPlans (s : Setting) (before : List LogItem) (budget : ℕ) : Type 0 where
   pub in_range : IsBudget s budget
-  pub all : count_by is_plan before ≡ PLANS
+  pub all : count_by is_plan before ≡ s.plans
 
 -- the plan's choices are entered behind the entries that it is for
 pub record IsAdopted (history : List Entry) (feed line n : ℕ) (plan : Plan) : Type 0 where

@@ -35,35 +35,37 @@ pub record AreTrueNotes (entries : ℕ) (notes : List Note) : Type 0 where
 
 -- ---- runs
 
--- what the answers of a run go by, where it began with these rows and is printed in this version
-abbrev pub setting_of : ℕ → RowsValue → Run → Setting
-setting_of version start run = record { net = run.net; start = start; penalty = run.penalty; version = version }
+-- what the answers of a run go by, where a feed may have so many plans, it began with these rows and is printed in this version
+abbrev pub setting_of : ℕ → ℕ → RowsValue → Run → Setting
+setting_of version plans start run =
+    record { net = run.net; start = start; penalty = run.penalty; plans = plans; version = version }
 
 -- the rows after all its entries
 abbrev pub rows_at_end : RowsValue → Run → RowsValue
 rows_at_end start run = rows_at run.net start run.history (length run.history)
 
--- There are 1 to 64 feeds. The history is legal from the rows at the start, every log is true, and the notes are. The times
--- are least after all entries, and the cost is theirs.
-pub record IsTrueRun (version : ℕ) (start : RowsValue) (run : Run) : Type 0 where
+-- There are 1 to 64 feeds, of which each may have so many plans. The history is legal from the rows at the start, every log is
+-- true, and the notes are. The times are least after all entries, and the cost is theirs.
+pub record IsTrueRun (version plans : ℕ) (start : RowsValue) (run : Run) : Type 0 where
   pub some_feed : 1 ≤ length run.logs
   pub few_feeds : length run.logs ≤ FEEDS
   pub legal : IsLegal run.net start run.history
-  pub logs : AreTrueLogs (setting_of version start run) run.history run.logs
+  pub logs : AreTrueLogs (setting_of version plans start run) run.history run.logs
   pub notes : AreTrueNotes (length run.history) run.notes
   pub least : IsLeast run.net (rows_at_end start run) run.times
   pub cost : run.cost ≡ cost_of run.net (rows_at_end start run) run.times run.penalty
 
--- the text is the spelling of the run in this version, and the run is true from these rows
-pub record IsTextOf (version : ℕ) (start : RowsValue) (run : Run) (text : List ℕ) : Type 0 where
+-- the text is the spelling of the run in this version, and the run is true from these rows, where a feed may have so many plans
+pub record IsTextOf (version plans : ℕ) (start : RowsValue) (run : Run) (text : List ℕ) : Type 0 where
   pub is_version : IsVersion version
-  pub is_true : IsTrueRun version start run
+  pub is_true : IsTrueRun version plans start run
   pub fits : FitsRun run
   pub is_spelled : IsSpelledRun run
   pub spelled : text ≡ run_text version run
 
--- The text is the spelling, in one of the versions, of a true run of this network from these rows at this penalty.
-pub record IsRunText (net : Net) (start : RowsValue) (penalty : ℕ) (text : List ℕ) : Type 0 where
+-- The text is the spelling, in one of the versions, of a true run of this network from these rows at this penalty, where a feed
+-- may have so many plans.
+pub record IsRunText (net : Net) (start : RowsValue) (penalty plans : ℕ) (text : List ℕ) : Type 0 where
   pub version : ℕ
   pub history : List Entry
   pub logs : List FeedLog
@@ -71,6 +73,6 @@ pub record IsRunText (net : Net) (start : RowsValue) (penalty : ℕ) (text : Lis
   pub times : List ℕ
   pub cost : ℕ
   pub is_text :
-      IsTextOf version start
+      IsTextOf version plans start
       (record { net = net; penalty = penalty; history = history; logs = logs; notes = notes; times = times; cost = cost })
       text

@@ -75,10 +75,10 @@ PlannedRunIsSpelled =
     ++ codes "leaf bound 1075000 keep 5\nleaf bound 940000 drop 5\nend\nboards 0\ntimes 1\n"
     ++ codes "1; 160\n2; 250\n3; 260\n4; 340\n5; 270\n6; 365\ncost 1075000\ndone\n"
 
--- the run is true, and has a text, in both versions
+-- where a feed may have 16 plans, the run is true, and has a text, in both versions
 abbrev pub PlannedRunIsTrue : Type 0
 PlannedRunIsTrue =
-    (version : ℕ) → IsVersion version → IsRunText connection at_start 10 (run_text version (late_run (late_item ∷ plan_item ∷ [])))
+    (version : ℕ) → IsVersion version → IsRunText connection at_start 10 16 (run_text version (late_run (late_item ∷ plan_item ∷ [])))
 
 -- the same plan in the later version
 abbrev pub PlanIsSpelled : Type 0

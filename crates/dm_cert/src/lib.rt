@@ -29,6 +29,7 @@ mod faults;
 mod growth;
 pub mod laws;
 mod leaf_lines;
+pub mod limits;
 mod listed;
 mod notes;
 mod plan_lines;

@@ -3,7 +3,7 @@ use Rattle.std.proofs.Common.{◌≡◌, ◌≢◌, ℕ, zero, suc, ◌+◌, ◌
 use Rattle.std.specs.Prelude.{◌⊎◌, nat_lt, count_by, slice_index_or}
 use Rattle.std.proofs.lemmas.Bool.{lt-ltb, eqb-true, eq-eqb, ne_eqb}
 use Rattle.std.proofs.lemmas.List.Sums.{sum_by-append}
-use Rattle.dm_base.specs.declared.limits.TheConstants.{PLANS}
+use Rattle.dm_cert.specs.declared.limits.TheConstants.{PLANS}
 use Rattle.dm_text.specs.Places.{Place}
 use Rattle.dm_text.specs.Judging.{Times}
 use Rattle.dm_rows.specs.declared.messages.Entry.{Entry}

@@ -3,7 +3,8 @@ use Rattle.std.proofs.Common.{◌≡◌, ℕ, ◌+◌, ◌*◌, ◌<◌, ◌≤�
 use Rattle.std.specs.Prelude.{count_by}
 use Rattle.std.specs.List.{flat_map}
 use Rattle.std.proofs.lemmas.List.Sums.{sum_by-append}
-use Rattle.dm_base.specs.declared.limits.TheConstants.{PLANS, FEEDS}
+use Rattle.dm_base.specs.declared.limits.TheConstants.{FEEDS}
+use Rattle.dm_cert.specs.declared.limits.TheConstants.{PLANS}
 use Rattle.dm_text.specs.Places.{Place}
 use Rattle.dm_text.specs.Judging.{Then, Times}
 use Rattle.dm_rows.specs.declared.messages.Entry.{Entry}

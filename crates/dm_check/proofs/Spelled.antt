@@ -374,23 +374,23 @@ body_told s place run next told =
     subst (λ (r : Run). place.left ≡ body_text s.version r) (sym rest.is) all
 
 -- the version is the one that the first line tells
-pub good_is_spelled_so : (net : Net) (start : RowsValue) (penalty : ℕ) (text : List ℕ) (entries plans : ℕ) (good : IsGood net start penalty text entries plans) →
+pub good_is_spelled_so : (net : Net) (start : RowsValue) (penalty most_plans : ℕ) (text : List ℕ) (entries plans : ℕ) (good : IsGood net start penalty most_plans text entries plans) →
     text ≡ run_text good.told.value good.run
 unfolding run_text header_text heading_text ending_text
-good_is_spelled_so net start penalty text entries plans good =
+good_is_spelled_so net start penalty most_plans text entries plans good =
     let version : ℕ = good.told.value in
     let run : Run = good.run in
-    let s : Setting = record { net = net; start = start; penalty = penalty; version = version } in
+    let s : Setting = record { net = net; start = start; penalty = penalty; plans = most_plans; version = version } in
     let first = stands_left IsVersionLine (λ v. codes "dm-run " ++ (decimal v ++ line_end)) version_line (at_start text) version good.told.behind good.told.told in
     let body = body_told s good.told.behind run good.end good.told.then in
     first ∙ (ap (λ xs. (codes "dm-run " ++ (decimal version ++ line_end)) ++ xs) body
     ∙ regroup_all (decimal version) (decimal run.penalty) (decimal (length run.logs)) (decimal (length run.history)) (entries_text 1 run.history) (logs_text version 1 run.logs)
     (boards_text (length run.notes)) (flat_map note_text run.notes) (codes "times " ++ (decimal (length run.history) ++ line_end)) (timetable_text run.net run.times) (decimal run.cost))
 
-pub good_is_spelled : (net : Net) (start : RowsValue) (penalty : ℕ) (text : List ℕ) (entries plans : ℕ) (good : IsGood net start penalty text entries plans) →
-    IsSpelledIn net start penalty text entries plans good
-good_is_spelled net start penalty text entries plans good = record {
+pub good_is_spelled : (net : Net) (start : RowsValue) (penalty most_plans : ℕ) (text : List ℕ) (entries plans : ℕ) (good : IsGood net start penalty most_plans text entries plans) →
+    IsSpelledIn net start penalty most_plans text entries plans good
+good_is_spelled net start penalty most_plans text entries plans good = record {
   version = good.told.value;
   is_version = good.told.told.spelled.is_version;
-  spelled = good_is_spelled_so net start penalty text entries plans good;
+  spelled = good_is_spelled_so net start penalty most_plans text entries plans good;
 }

@@ -155,10 +155,10 @@ body_once s =
     (λ history. then_one (Times feeds (TellsLog s history) []) _ (times_one (TellsLog s history) (λ before. log_once s history before) feeds [])
     (λ logs. rest_once s history logs)))))
 
-pub run_once : (net : Net) (start : RowsValue) (penalty : ℕ) → IsSingle (TellsRun net start penalty)
-run_once net start penalty =
-    then_one (Reads IsVersionLine) (λ version. TellsBody (record { net = net; start = start; penalty = penalty; version = version })) (reads_once IsVersionLine lines_spell_one.versions)
-    (λ version. body_once (record { net = net; start = start; penalty = penalty; version = version }))
+pub run_once : (net : Net) (start : RowsValue) (penalty most_plans : ℕ) → IsSingle (TellsRun net start penalty most_plans)
+run_once net start penalty most_plans =
+    then_one (Reads IsVersionLine) (λ version. TellsBody (record { net = net; start = start; penalty = penalty; plans = most_plans; version = version })) (reads_once IsVersionLine lines_spell_one.versions)
+    (λ version. body_once (record { net = net; start = start; penalty = penalty; plans = most_plans; version = version }))
 
 -- ---- verdicts
 
@@ -175,15 +175,15 @@ same_good : (a b c d : ℕ) → a ≡ c → b ≡ d → Good a b ≡ Good c d
 same_good a b c d p q = cc
 
 pub verdicts_are_one : VerdictsAreOne
-verdicts_are_one net start penalty text (Good entries plans) (Good other others) p q =
-    let same = ok_run p.run q.run p.end q.end (run_once net start penalty (at_start text) (Ok (p.run, p.end)) (Ok (q.run, q.end)) p.told q.told) in
+verdicts_are_one net start penalty most_plans text (Good entries plans) (Good other others) p q =
+    let same = ok_run p.run q.run p.end q.end (run_once net start penalty most_plans (at_start text) (Ok (p.run, p.end)) (Ok (q.run, q.end)) p.told q.told) in
     same_good entries plans other others
     (p.entries_are ∙ (ap (λ (r : Run). length r.history) same ∙ sym q.entries_are))
     (p.plans_are ∙ (ap (λ (r : Run). count_by is_plan (all_items r.logs)) same ∙ sym q.plans_are))
-verdicts_are_one net start penalty text (Good entries plans) (Bad line k) p q =
-    absurd (ok_or_bad p.run p.end (bad k line) (run_once net start penalty (at_start text) (Ok (p.run, p.end)) (Err (bad k line)) p.told q))
-verdicts_are_one net start penalty text (Bad line k) (Good entries plans) p q =
-    absurd (ok_or_bad q.run q.end (bad k line) (run_once net start penalty (at_start text) (Ok (q.run, q.end)) (Err (bad k line)) q.told p))
-verdicts_are_one net start penalty text (Bad line k) (Bad other j) p q =
-    let same = same_fault (bad k line) (bad j other) (run_once net start penalty (at_start text) (Err (bad k line)) (Err (bad j other)) p q) in
+verdicts_are_one net start penalty most_plans text (Good entries plans) (Bad line k) p q =
+    absurd (ok_or_bad p.run p.end (bad k line) (run_once net start penalty most_plans (at_start text) (Ok (p.run, p.end)) (Err (bad k line)) p.told q))
+verdicts_are_one net start penalty most_plans text (Bad line k) (Good entries plans) p q =
+    absurd (ok_or_bad q.run q.end (bad k line) (run_once net start penalty most_plans (at_start text) (Ok (q.run, q.end)) (Err (bad k line)) q.told p))
+verdicts_are_one net start penalty most_plans text (Bad line k) (Bad other j) p q =
+    let same = same_fault (bad k line) (bad j other) (run_once net start penalty most_plans (at_start text) (Err (bad k line)) (Err (bad j other)) p q) in
     ap (λ (f : Fault). Bad f.line f.kind) same

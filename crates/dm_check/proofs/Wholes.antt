@@ -2,7 +2,8 @@
 use Rattle.std.proofs.Common.{◌≡◌, ℕ, zero, suc, ◌+◌, ◌*◌, ◌<◌, ◌≤◌, Bool, List, [], ◌∷◌, ◌++◌, length, Result, Ok, Err, refl, sym, ap, subst, ◌∙◌, inl, inr, arith, codes, length-append}
 use Rattle.std.specs.Prelude.{count_by}
 use Rattle.std.proofs.lemmas.Bool.{cases_lt}
-use Rattle.dm_base.specs.declared.limits.TheConstants.{PLANS, FEEDS, ENTRIES}
+use Rattle.dm_base.specs.declared.limits.TheConstants.{FEEDS, ENTRIES}
+use Rattle.dm_cert.specs.declared.limits.TheConstants.{PLANS}
 use Rattle.dm_text.specs.Places.{Place, at_start}
 use Rattle.dm_text.specs.Judging.{Then, Times}
 use Rattle.dm_network.specs.Net.{Net}
@@ -234,22 +235,22 @@ module _ (s : Setting) (old : Place) where
       })
       body_on entries last new (Err OutOfMemory) told on = tt
 
-module _ (net : Net) (start : RowsValue) (penalty : ℕ) (old new : Place) where
-  pub version_fault : (fault : Fault) → Reads IsVersionLine old (Err fault) → RunOn net start penalty old new (Err (Found fault))
+module _ (net : Net) (start : RowsValue) (penalty most_plans : ℕ) (old new : Place) where
+  pub version_fault : (fault : Fault) → Reads IsVersionLine old (Err fault) → RunOn net start penalty most_plans old new (Err (Found fault))
   version_fault fault told = inl told
 
   pub run_on : (version : ℕ) (mid : Place) (result : Result Counts Stop) → Reads IsVersionLine old (Ok (version, mid)) →
-      BodyOn (record { net = net; start = start; penalty = penalty; version = version }) mid new result → RunOn net start penalty old new result
+      BodyOn (record { net = net; start = start; penalty = penalty; plans = most_plans; version = version }) mid new result → RunOn net start penalty most_plans old new result
   run_on version mid (Ok counts) told on = record { value = on.value; told = record { value = version; behind = mid; told = told; then = on.told }; holds_of = on.holds_of }
   run_on version mid (Err (Found fault)) told on = inr (record { value = version; behind = mid; told = told; then = on })
   run_on version mid (Err OutOfMemory) told on = tt
 
-pub run_good : (net : Net) (start : RowsValue) (penalty : ℕ) (text : List ℕ) (old new : Place) (counts : Counts) → old ≡ at_start text → RunOn net start penalty old new (Ok counts) →
-    IsGood net start penalty text counts.entries counts.plans
-run_good net start penalty text old new counts at on = record {
+pub run_good : (net : Net) (start : RowsValue) (penalty most_plans : ℕ) (text : List ℕ) (old new : Place) (counts : Counts) → old ≡ at_start text → RunOn net start penalty most_plans old new (Ok counts) →
+    IsGood net start penalty most_plans text counts.entries counts.plans
+run_good net start penalty most_plans text old new counts at on = record {
   run = on.value;
   end = new;
-  told = subst (λ (p : Place). TellsRun net start penalty p (Ok (on.value, new))) at on.told;
+  told = subst (λ (p : Place). TellsRun net start penalty most_plans p (Ok (on.value, new))) at on.told;
   entries_are = on.holds_of.entries_are;
   plans_are = on.holds_of.plans_are;
 }

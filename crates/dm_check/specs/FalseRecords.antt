@@ -198,19 +198,20 @@ TellsBody s =
     Then (Times entries (TellsEntry s feeds) []) (λ history.
     Then (Times feeds (TellsLog s history) []) (λ logs. TellsRest s history logs)))))
 
-abbrev pub TellsRun : Net → RowsValue → ℕ → Place → Result (Run × Place) Fault → Type 0
-TellsRun net start penalty =
-    Then (Reads IsVersionLine) (λ version. TellsBody (record { net = net; start = start; penalty = penalty; version = version }))
+abbrev pub TellsRun : Net → RowsValue → ℕ → ℕ → Place → Result (Run × Place) Fault → Type 0
+TellsRun net start penalty most_plans =
+    Then (Reads IsVersionLine) (λ version.
+    TellsBody (record { net = net; start = start; penalty = penalty; plans = most_plans; version = version }))
 
--- the text is that of a run, with so many entries and so many plans
-pub record IsGood (net : Net) (start : RowsValue) (penalty : ℕ) (text : List ℕ) (entries plans : ℕ) : Type 0 where
+-- the text is that of a run, where a feed may have `most_plans`, with so many entries and so many plans
+pub record IsGood (net : Net) (start : RowsValue) (penalty most_plans : ℕ) (text : List ℕ) (entries plans : ℕ) : Type 0 where
   pub run : Run
   pub end : Place
-  pub told : TellsRun net start penalty (at_start text) (Ok (run, end))
+  pub told : TellsRun net start penalty most_plans (at_start text) (Ok (run, end))
   pub entries_are : entries ≡ length run.history
   pub plans_are : plans ≡ count_by is_plan (all_items run.logs)
 
 -- The verdict on a text: that it is good, or the first record that breaks its rule, by its line and its kind.
-abbrev pub IsVerdict : Net → RowsValue → ℕ → List ℕ → Verdict → Type 0
-IsVerdict net start penalty text (Good entries plans) = IsGood net start penalty text entries plans
-IsVerdict net start penalty text (Bad line k) = TellsRun net start penalty (at_start text) (Err (bad k line))
+abbrev pub IsVerdict : Net → RowsValue → ℕ → ℕ → List ℕ → Verdict → Type 0
+IsVerdict net start penalty most_plans text (Good entries plans) = IsGood net start penalty most_plans text entries plans
+IsVerdict net start penalty most_plans text (Bad line k) = TellsRun net start penalty most_plans (at_start text) (Err (bad k line))

@@ -12,7 +12,8 @@ use Rattle.dm_cert.specs.declared.replies.Reply.TheVariants.{Planned}
 use Rattle.dm_cert.specs.declared.replies.FeedLog.{FeedLog}
 use Rattle.dm_cert.specs.Answers.{is_plan}
 use Rattle.dm_cert.specs.Logs.{names, all_items}
-use Rattle.dm_base.specs.declared.limits.TheConstants.{PLANS, FEEDS, ENTRIES}
+use Rattle.dm_base.specs.declared.limits.TheConstants.{FEEDS, ENTRIES}
+use Rattle.dm_cert.specs.declared.limits.TheConstants.{PLANS}
 use Rattle.dm_cert.specs.RunTexts.{Run}
 use Rattle.dm_check.specs.declared.checking.Counts.{Counts}
 use Rattle.dm_check.specs.declared.checking.Header.{Header}
@@ -229,5 +230,5 @@ HistoryOn s feeds entries old new =
 abbrev pub BodyOn : Setting → Place → Place → Result Counts Stop → Type 0
 BodyOn s old new = JudgedThat (TellsBody s) (λ counts run. IsCounted counts run) old new
 
-abbrev pub RunOn : Net → RowsValue → ℕ → Place → Place → Result Counts Stop → Type 0
-RunOn net start penalty old new = JudgedThat (TellsRun net start penalty) (λ counts run. IsCounted counts run) old new
+abbrev pub RunOn : Net → RowsValue → ℕ → ℕ → Place → Place → Result Counts Stop → Type 0
+RunOn net start penalty most_plans old new = JudgedThat (TellsRun net start penalty most_plans) (λ counts run. IsCounted counts run) old new

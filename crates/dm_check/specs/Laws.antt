@@ -15,24 +15,26 @@ use Rattle.dm_check.specs.FalseRecords.{IsVerdict, IsGood}
 
 -- the first line of the empty text is missing
 abbrev pub EmptyTextIsCut : Type 0
-EmptyTextIsCut = (net : Net) (start : RowsValue) (penalty : ℕ) → IsVerdict net start penalty [] (Bad 1 Truncated)
+EmptyTextIsCut = (net : Net) (start : RowsValue) (penalty most_plans : ℕ) → IsVerdict net start penalty most_plans [] (Bad 1 Truncated)
 
 -- of a text one verdict alone holds: it is good, or one record of it is the first that breaks its rule
 abbrev pub VerdictsAreOne : Type 0
 VerdictsAreOne =
-    (net : Net) (start : RowsValue) (penalty : ℕ) (text : List ℕ) (one other : Verdict) → IsVerdict net start penalty text one →
-    IsVerdict net start penalty text other → one ≡ other
+    (net : Net) (start : RowsValue) (penalty most_plans : ℕ) (text : List ℕ) (one other : Verdict) →
+    IsVerdict net start penalty most_plans text one → IsVerdict net start penalty most_plans text other → one ≡ other
 
 -- a good text is the spelling of the run that is told of it, in a version
-pub record IsSpelledIn (net : Net) (start : RowsValue) (penalty : ℕ) (text : List ℕ) (entries plans : ℕ) (good : IsGood net start penalty text entries plans) : Type 0 where
+pub record IsSpelledIn (net : Net) (start : RowsValue) (penalty most_plans : ℕ) (text : List ℕ) (entries plans : ℕ)
+    (good : IsGood net start penalty most_plans text entries plans) : Type 0 where
   pub version : ℕ
   pub is_version : IsVersion version
   pub spelled : text ≡ run_text version good.run
 
 abbrev pub GoodTextsAreSpelled : Type 0
 GoodTextsAreSpelled =
-    (net : Net) (start : RowsValue) (penalty : ℕ) (text : List ℕ) (entries plans : ℕ) (good : IsGood net start penalty text entries plans) →
-    IsSpelledIn net start penalty text entries plans good
+    (net : Net) (start : RowsValue) (penalty most_plans : ℕ) (text : List ℕ) (entries plans : ℕ)
+    (good : IsGood net start penalty most_plans text entries plans) →
+    IsSpelledIn net start penalty most_plans text entries plans good
 
 -- of a place one thing alone is told about the plan whose text should begin there: the plan, or one fault
 abbrev pub PlansAreToldOnce : Type 0

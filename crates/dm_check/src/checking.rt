@@ -2,6 +2,7 @@
 ghost use Rattle.std.specs.Prelude.{◌≡◌, ◌≤◌, [], length, IfOk};
 ghost use Rattle.dm_base.specs.declared.limits.TheConstants.{TEXT, PENALTY};
 ghost use Rattle.dm_rows.specs.Rows.{IsSized};
+ghost use Rattle.dm_cert.specs.declared.limits.TheConstants.{PLANS};
 ghost use Rattle.dm_cert.specs.Answers.{rows_after};
 ghost use Rattle.dm_check_rows.specs.Claims.{AreCheckedRowsOf};
 ghost use Rattle.dm_check_answers.specs.Judging.{IsDay, setting_of, history_of, value_of};
@@ -166,10 +167,12 @@ fn run_told(
     net: &Network,
     start: &Rows,
     penalty: u64,
+    plans: u32,
 ) -> Result<Counts, Stop>
     requires sized { IsSized net.now start.now }
     requires penalty { penalty ≤ PENALTY }
-    ensures { RunOn net.now start.now penalty lines.old lines.new result }
+    requires plans { plans ≤ PLANS }
+    ensures { RunOn net.now start.now penalty plans lines.old lines.new result }
 {
     let version = match version_told(lines) {
         Ok(version) => version,
@@ -180,13 +183,14 @@ fn run_told(
         net,
         start,
         penalty,
+        plans,
         version,
     };
     body_told(lines, &day)
 }
 
-/// What is told of the text of a run of this network, from these rows at the start and at this penalty: that it is good, or
-/// the first record that breaks its rule. The text has at most 536,870,912 bytes, and nothing else is asked of it. Memory is
+/// What is told of the text of a run of this network, from these rows at the start and at this penalty, where a feed may have so
+/// many plans, at most 4,096: that it is good, or the first record that breaks its rule. The text has at most 536,870,912 bytes, and nothing else is asked of it. Memory is
 /// taken for the network and for what the text holds, and not by a number that it names.
 #[tactic(auto, using(crate::proofs::Wholes::run_good))]
 pub fn check(
@@ -194,15 +198,17 @@ pub fn check(
     net: &Network,
     start: &Rows,
     penalty: u64,
+    plans: u32,
     text: &[u8],
 ) -> Result<Verdict, AllocError>
     requires sized { IsSized net.now start.now }
     requires penalty { penalty ≤ PENALTY }
+    requires plans { plans ≤ PLANS }
     requires short { length text.now ≤ TEXT }
-    ensures { IfOk result (IsVerdict net.now start.now penalty text.now) }
+    ensures { IfOk result (IsVerdict net.now start.now penalty plans text.now) }
 {
     let mut lines = Lines::new(text);
-    match run_told(alloc, &mut lines, net, start, penalty) {
+    match run_told(alloc, &mut lines, net, start, penalty, plans) {
         Ok(Counts { entries, plans }) => Ok(Verdict::Good { entries, plans }),
         Err(Stop::Fault(Fault { line, kind })) => Ok(Verdict::Bad { line, kind }),
         Err(Stop::OutOfMemory) => Err(AllocError),

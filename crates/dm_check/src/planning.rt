@@ -1,13 +1,12 @@
 //! Plans as answers.
 ghost use Rattle.std.specs.Prelude.{◌≡◌, ◌<◌, ◌≤◌, List, length, true, false, Ok, IfOk};
-ghost use Rattle.dm_base.specs.declared.limits.TheConstants.{PLANS};
+ghost use Rattle.dm_cert.specs.declared.limits.TheConstants.{PLANS};
 ghost use Rattle.dm_cert.specs.declared.replies.LogItem.{LogItem};
 ghost use Rattle.dm_cert.specs.declared.replies.Reply.TheVariants.{Planned as PlanReply};
 ghost use Rattle.dm_cert.specs.Answers.{IsBudget, IsPlanFor, IsTrueReply};
 ghost use Rattle.dm_check_rows.specs.Claims.{Tells};
-ghost use Rattle.dm_check_answers.specs.Judging.{IsPast, setting_of, history_of};
+ghost use Rattle.dm_check_answers.specs.Judging.{IsDay, IsPast, setting_of, history_of};
 
-use dm_base::limits::PLANS;
 use dm_check_answers::{Asked, Journal, Past, Replay, is_budget};
 use dm_check_plans::is_true_plan;
 use dm_feed::Line;
@@ -17,8 +16,10 @@ use std::alloc::AllocError;
 /// Whether a plan may be an answer: as many nodes may be asked for, the feed has not had all its plans, and there are as many
 /// entries.
 fn may_be(journal: &Journal<'_>, past: &Past, budget: u64, plan: &Plan) -> bool
+    requires day { IsDay journal.now.day }
     ensures in_range { result ≡ true → IsBudget (setting_of journal.now.day) budget }
-    ensures fewer { result ≡ true → past.now.plans < PLANS }
+    ensures fewer { result ≡ true → past.now.plans < (setting_of journal.now.day).plans }
+    ensures few { result ≡ true → past.now.plans < PLANS }
     ensures within { result ≡ true → plan.now.entry ≤ length (history_of journal.now) }
     ensures never { result ≡ false → (before : List LogItem) → IsPast before past.now
         → IsPlanFor (setting_of journal.now.day) (history_of journal.now) before budget plan.now → ⊥ }
@@ -26,7 +27,7 @@ fn may_be(journal: &Journal<'_>, past: &Past, budget: u64, plan: &Plan) -> bool
     if !is_budget(journal, budget) {
         return false;
     }
-    past.plans < PLANS && plan.entry as usize <= journal.entries.len()
+    past.plans < journal.day.plans as usize && plan.entry as usize <= journal.entries.len()
 }
 
 /// Whether a plan is a true answer to a feed's line, behind what stands before it in the feed's log. It is asked of each node of

@@ -1,6 +1,6 @@
 //! The items of a log, each true and in order behind those before it.
 ghost use Rattle.std.specs.Prelude.{ℕ, ◌≡◌, ◌+◌, ◌<◌, ◌≤◌, List, length, Bool, true, Ok, IfOk};
-ghost use Rattle.dm_base.specs.declared.limits.TheConstants.{PLANS};
+ghost use Rattle.dm_cert.specs.declared.limits.TheConstants.{PLANS};
 ghost use Rattle.dm_feed.specs.Lines.{IsSpelledLine};
 ghost use Rattle.dm_text.specs.Places.{Place};
 ghost use Rattle.dm_rows.specs.declared.messages.Entry.{Entry as EntryValue};

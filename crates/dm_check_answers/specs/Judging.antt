@@ -1,10 +1,11 @@
 -- What answers are judged by, and what stands before them.
 use Rattle.std.specs.Prelude.{ℕ, ◌≡◌, ◌≤◌, List, length, Bool, fold, count_by, Option, Some, None}
 use Rattle.std.specs.Borrow.{Bor}
-use Rattle.dm_base.specs.declared.limits.TheConstants.{PENALTY, PLANS}
+use Rattle.dm_base.specs.declared.limits.TheConstants.{PENALTY}
 use Rattle.dm_rows.specs.declared.messages.Entry.{Entry}
 use Rattle.dm_rows.specs.Rows.{IsSized}
 use Rattle.dm_tree.specs.declared.plans.Plan.{Plan}
+use Rattle.dm_cert.specs.declared.limits.TheConstants.{PLANS}
 use Rattle.dm_cert.specs.declared.replies.LogItem.{LogItem}
 use Rattle.dm_cert.specs.declared.replies.Reply.{Reply}
 use Rattle.dm_cert.specs.declared.replies.Reply.TheVariants.{Ok, Refused, Old}
@@ -21,15 +22,17 @@ use Rattle.dm_check_answers.specs.declared.past.Past.{Past}
 -- ---- what answers are judged by
 
 abbrev pub setting_of : Day → Setting
-setting_of d = record { net = d.net.now; start = d.start.now; penalty = d.penalty; version = d.version }
+setting_of d =
+    record { net = d.net.now; start = d.start.now; penalty = d.penalty; plans = d.plans; version = d.version }
 
 abbrev pub history_of : Journal → List Entry
 history_of j = j.entries.now
 
--- the rows at the start are of the network, the penalty is not too large, and there is such a version
+-- the rows at the start are of the network, the penalty is not too large, nor the number of plans, and there is such a version
 pub record IsDay (d : Day) : Type 0 where
   pub sized : IsSized d.net.now d.start.now
   pub penalty : d.penalty ≤ PENALTY
+  pub plans : d.plans ≤ PLANS
   pub version : IsVersion d.version
 
 -- a journal is seen as the setting and the entries

@@ -22,6 +22,9 @@ pub struct Day<'a> {
     /// The penalty of a missed change, in seconds for each passenger.
     pub penalty: u64,
 
+    /// How many plans a feed may have, at most 4,096.
+    pub plans: u32,
+
     /// The version of the text, 1 or 2.
     pub version: u32,
 }

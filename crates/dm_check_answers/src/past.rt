@@ -1,6 +1,6 @@
 //! What the next answer of a feed needs of the items before it.
 ghost use Rattle.std.specs.Prelude.{◌≡◌, ◌++◌, [], ◌∷◌, ◌<◌, ◌≤◌, List, true, length};
-ghost use Rattle.dm_base.specs.declared.limits.TheConstants.{PLANS};
+ghost use Rattle.dm_cert.specs.declared.limits.TheConstants.{PLANS};
 ghost use Rattle.dm_feed.specs.declared.grammar.Line.{Line as Said};
 ghost use Rattle.dm_cert.specs.declared.replies.LogItem.{LogItem};
 ghost use Rattle.dm_cert.specs.declared.replies.LogItem.TheVariants.{Malformed, Answered};

@@ -9,7 +9,7 @@ ghost use Rattle.dm_check_answers.specs.Judging.{IsPast, setting_of, history_of}
 
 use crate::asked::Asked;
 use crate::journal::Journal;
-use dm_base::limits::{BUDGET, PLANS};
+use dm_base::limits::BUDGET;
 use dm_records::Answer;
 
 /// The most nodes that a plan may be asked to have in a text of version 1.
@@ -42,7 +42,7 @@ pub(crate) fn is_true_of_plan(
     let is_budget = is_budget(journal, budget);
     match answer {
         Answer::Range(said) => !is_budget && *said == budget as u128,
-        Answer::Plans => is_budget && asked.past.plans == PLANS,
+        Answer::Plans => is_budget && asked.past.plans == journal.day.plans as usize,
         _ => false,
     }
 }

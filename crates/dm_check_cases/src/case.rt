@@ -17,7 +17,7 @@ pub struct Case {
 
 impl Case {
     /// The case of a line, or `None` where the line is a comment or has not the form
-    /// `NAME VERDICT FIRST SECOND NETWORK PENALTY`.
+    /// `NAME VERDICT FIRST SECOND NETWORK PENALTY`, with a number of plans behind it or none.
     pub fn of(alloc: Global, line: &str) -> Result<Option<Case>, AllocError> {
         let mut parts = line.split_whitespace();
         let (Some(name), Some(verdict), Some(first), Some(second)) = (
@@ -36,6 +36,9 @@ impl Case {
         words.push(format!(in alloc; "networks/{network}/net")?)?;
         words.push(format!(in alloc; "texts/{name}")?)?;
         words.push(format!(in alloc; "--penalty={penalty}")?)?;
+        if let Some(plans) = parts.next() {
+            words.push(format!(in alloc; "--plans={plans}")?)?;
+        }
         Ok(Some(Case {
             name: String::from_str(alloc, name)?,
             due: format!(in alloc; "{verdict} {first} {second}")?,

@@ -2,6 +2,7 @@
 ghost use Rattle.std.specs.Prelude.{◌≤◌};
 ghost use Rattle.dm_base.specs.declared.limits.TheConstants.{PENALTY};
 ghost use Rattle.dm_rows.specs.Rows.{IsSized};
+ghost use Rattle.dm_cert.specs.declared.limits.TheConstants.{PLANS};
 
 use crate::verdict::spelling_of;
 use dm_base::limits::TEXT;
@@ -20,25 +21,33 @@ const EVERY_FRONT: &str = "every front truncated";
 /// What is due where each byte of a text is replaced in turn.
 pub const EVERY_BYTE: &str = "every byte judged";
 
+/// What a text is judged at: the penalty in seconds for each passenger, and how many plans a feed may have.
+#[derive(Clone, Copy)]
+pub struct Terms {
+    pub penalty: u64,
+    pub plans: u32,
+}
+
 /// What is told of a text, of its fronts, or of what it is with one byte replaced, as is asked by what is due.
 pub fn told_as(
     alloc: Global,
     net: &Network,
     rows: &Rows,
-    penalty: u64,
+    terms: Terms,
     asked: &str,
     text: &[u8],
     due: &[u8],
 ) -> Option<String>
     requires sized { IsSized net.now rows.now }
-    requires penalty { penalty ≤ PENALTY }
+    requires penalty { terms.penalty ≤ PENALTY }
+    requires plans { terms.plans ≤ PLANS }
 {
     if asked == EVERY_FRONT {
-        told_of_fronts(alloc, net, rows, penalty, text)
+        told_of_fronts(alloc, net, rows, terms, text)
     } else if asked == EVERY_BYTE {
-        told_of_bytes(alloc, net, rows, penalty, text, due)
+        told_of_bytes(alloc, net, rows, terms, text, due)
     } else {
-        told(alloc, net, rows, penalty, text)
+        told(alloc, net, rows, terms, text)
     }
 }
 
@@ -47,24 +56,26 @@ fn verdict_on(
     alloc: Global,
     net: &Network,
     rows: &Rows,
-    penalty: u64,
+    terms: Terms,
     text: &[u8],
 ) -> Option<Verdict>
     requires sized { IsSized net.now rows.now }
-    requires penalty { penalty ≤ PENALTY }
+    requires penalty { terms.penalty ≤ PENALTY }
+    requires plans { terms.plans ≤ PLANS }
 {
     if text.len() > TEXT {
         return None;
     }
-    check(alloc, net, rows, penalty, text).ok()
+    check(alloc, net, rows, terms.penalty, terms.plans, text).ok()
 }
 
 /// The verdict on a text, in print.
-fn told(alloc: Global, net: &Network, rows: &Rows, penalty: u64, text: &[u8]) -> Option<String>
+fn told(alloc: Global, net: &Network, rows: &Rows, terms: Terms, text: &[u8]) -> Option<String>
     requires sized { IsSized net.now rows.now }
-    requires penalty { penalty ≤ PENALTY }
+    requires penalty { terms.penalty ≤ PENALTY }
+    requires plans { terms.plans ≤ PLANS }
 {
-    let verdict = verdict_on(alloc, net, rows, penalty, text)?;
+    let verdict = verdict_on(alloc, net, rows, terms, text)?;
     spelling_of(alloc, verdict).ok()
 }
 
@@ -73,11 +84,12 @@ fn told_of_fronts(
     alloc: Global,
     net: &Network,
     rows: &Rows,
-    penalty: u64,
+    terms: Terms,
     text: &[u8],
 ) -> Option<String>
     requires sized { IsSized net.now rows.now }
-    requires penalty { penalty ≤ PENALTY }
+    requires penalty { terms.penalty ≤ PENALTY }
+    requires plans { terms.plans ≤ PLANS }
 {
     let mut line: u32 = 1;
     for (length, byte) in text.iter().enumerate() {
@@ -86,7 +98,7 @@ fn told_of_fronts(
             kind: BadKind::Truncated,
         };
         let front = text.get(..length)?;
-        if verdict_on(alloc, net, rows, penalty, front)? != due {
+        if verdict_on(alloc, net, rows, terms, front)? != due {
             return format!(in alloc; "front {length}").ok();
         }
         if *byte == b'\n' {
@@ -102,16 +114,17 @@ fn told_of_bytes(
     alloc: Global,
     net: &Network,
     rows: &Rows,
-    penalty: u64,
+    terms: Terms,
     text: &[u8],
     due: &[u8],
 ) -> Option<String>
     requires sized { IsSized net.now rows.now }
-    requires penalty { penalty ≤ PENALTY }
+    requires penalty { terms.penalty ≤ PENALTY }
+    requires plans { terms.plans ≤ PLANS }
 {
     let mut lines = str::from_utf8(due).ok()?.lines();
     for place in 0..text.len() {
-        let told = told_of_byte(alloc, net, rows, penalty, text, place)?;
+        let told = told_of_byte(alloc, net, rows, terms, text, place)?;
         if lines.next() != Some(told.as_str()) {
             return format!(in alloc; "{told} at byte {place}").ok();
         }
@@ -124,17 +137,18 @@ fn told_of_byte(
     alloc: Global,
     net: &Network,
     rows: &Rows,
-    penalty: u64,
+    terms: Terms,
     text: &[u8],
     place: usize,
 ) -> Option<String>
     requires sized { IsSized net.now rows.now }
-    requires penalty { penalty ≤ PENALTY }
+    requires penalty { terms.penalty ≤ PENALTY }
+    requires plans { terms.plans ≤ PLANS }
 {
     let mut all = String::new(alloc);
     for byte in BYTES {
         let other = replaced(alloc, text, place, byte)?;
-        let one = told(alloc, net, rows, penalty, &other)?;
+        let one = told(alloc, net, rows, terms, &other)?;
         all = format!(in alloc; "{all}{one},").ok()?;
     }
     Some(all)

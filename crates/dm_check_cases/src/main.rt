@@ -1,9 +1,10 @@
 //! Texts of runs with the verdicts that are due on them.
 //!
 //! It reads the file `cases`, a case a line: its name, which is that of a file under `texts`, the verdict that is due, the
-//! network, which is a folder under `networks`, and the penalty. Where `every front truncated` is due, each front of the text
-//! is to lack its next line; where `every byte judged` is, each byte is replaced by five others in turn, and what is due is a
-//! line for each byte in a file under `bytes`. For each case it prints `NAME ok`, or what is told of the text instead.
+//! network, which is a folder under `networks`, the penalty, and, where it is not the standard one, how many plans a feed may
+//! have. Where `every front truncated` is due, each front of the text is to lack its next line; where `every byte judged` is,
+//! each byte is replaced by five others in turn, and what is due is a line for each byte in a file under `bytes`. For each case
+//! it prints `NAME ok`, or what is told of the text instead.
 //!
 //! It stands on dm_check for what it tries, and on dm_words and dm_input for the network and the start rows of a case. It
 //! promises nothing.
@@ -19,10 +20,11 @@ mod verdict;
 
 use case::Case;
 use dm_base::limits::PENALTY;
+use dm_cert::limits::PLANS;
 use dm_input::read_opening;
 use dm_outside::{FolderShelf, Shelf, take_all};
 use dm_words::{CommandWords, read_words};
-use judged::{EVERY_BYTE, told_as};
+use judged::{EVERY_BYTE, Terms, told_as};
 use repeating::written_out;
 use std::alloc::{AllocError, Global};
 use std::fs::File;
@@ -71,7 +73,11 @@ fn verdict_on<R: AllocGlobal + Files<File = File>>(rt: &R, case: &Case) -> Optio
     let Some(CommandWords::Check(words)) = read_words(case.words.as_slice()) else {
         return None;
     };
-    if words.files.penalty > PENALTY {
+    let terms = Terms {
+        penalty: words.files.penalty,
+        plans: words.files.plans,
+    };
+    if terms.penalty > PENALTY || terms.plans as usize > PLANS {
         return None;
     }
     let text = written_out(alloc, read_file(rt, words.text)?)?;
@@ -80,12 +86,11 @@ fn verdict_on<R: AllocGlobal + Files<File = File>>(rt: &R, case: &Case) -> Optio
     let Ok(opened) = read_opening(alloc, &mut shelf, &words.files) else {
         return None;
     };
-    let penalty = words.files.penalty;
     told_as(
         alloc,
         &opened.net,
         &opened.rows,
-        penalty,
+        terms,
         &case.due,
         &text,
         &due,

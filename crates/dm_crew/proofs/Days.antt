@@ -30,9 +30,9 @@ use Rattle.dm_crew.specs.AtOnce.{numbers_to, day_desk, AnswersDay}
 -- ---- what a planner plans for
 
 -- a planner for one base is one for another that is the same
-pub plans_at : (pre : Bor Snapshot → ℕ → Type 0) (post : Bor Snapshot → ℕ → Result Plan AllocError → Type 0) (base other : Base) → other ≡ base →
-    PlansUnder pre post (setting_of base) → PlansUnder pre post (setting_of other)
-plans_at pre post base other is plans = subst (λ (b : Base). PlansUnder pre post (setting_of b)) (sym is) plans
+pub plans_at : (pre : Bor Snapshot → ℕ → Type 0) (post : Bor Snapshot → ℕ → Result Plan AllocError → Type 0) (plans : ℕ) (base other : Base) → other ≡ base →
+    PlansUnder pre post (setting_of plans base) → PlansUnder pre post (setting_of plans other)
+plans_at pre post plans base other is under = subst (λ (b : Base). PlansUnder pre post (setting_of plans b)) (sym is) under
 
 -- ---- the numbers up to one
 
@@ -107,8 +107,8 @@ none_legal base = record { size = omega arith; accepted = λ n entry r at. absur
 pub base_is : (there : Option Base) (base : Base) → there ≡ Some base → base_in there ≡ base
 base_is there base is = ap base_in is
 
-abbrev whole_desk : Base → List Entry → DeskValue
-whole_desk base seen = record { setting = setting_of base; seen = seen; mine = numbers_to (length seen) }
+abbrev whole_desk : ℕ → Base → List Entry → DeskValue
+whole_desk plans base seen = record { setting = setting_of plans base; seen = seen; mine = numbers_to (length seen) }
 
 -- a desk that has made the same numbers as often answers as well
 as_well : {S : Type 0} (left : S → Option (List ℕ)) (is_sound : S → Type 0) (feeds : List (Option S)) (batch : ℕ) (before now other : DeskValue) (logs : List FeedLog) → other.setting ≡ now.setting → other.seen ≡ now.seen → ((n : ℕ) → times n now.mine ≡ times n other.mine)
@@ -123,25 +123,25 @@ as_well left is_sound feeds batch before now other logs setting seen mine a = re
   rounds = a.rounds;
 }
 
-pub answers_day : {S : Type 0} (left : S → Option (List ℕ)) (is_sound : S → Type 0) (net : Net) (rows : RowsValue) (price : ℕ) (feeds : List (Option S)) (batch : ℕ) (first last : PassValue Base) (table : TableValue) (logs : List FeedLog) → first.seen ≡ [] → first.mine ≡ [] → first.opening ≡ 0
+pub answers_day : {S : Type 0} (left : S → Option (List ℕ)) (is_sound : S → Type 0) (net : Net) (rows : RowsValue) (price plans : ℕ) (feeds : List (Option S)) (batch : ℕ) (first last : PassValue Base) (table : TableValue) (logs : List FeedLog) → first.seen ≡ [] → first.mine ≡ [] → first.opening ≡ 0
     → first.base ≡ Some (record { network = net; start = rows; penalty = price }) → IsSamePass first last → last.base ≡ Some (base_of table) → table.history ≡ last.seen → IsTable table → AreAllAbove last.opening last.seen last.mine
-    → AnswersFeeds left is_sound feeds batch (desk_of (record { network = net; start = rows; penalty = price }) first) (desk_of (record { network = net; start = rows; penalty = price }) last) logs → AnswersDay left is_sound net rows price feeds batch table logs
-answers_day left is_sound net rows price feeds batch first last table logs none_seen none_made opened based same based_last history is_table all answers =
+    → AnswersFeeds left is_sound feeds batch (desk_of plans (record { network = net; start = rows; penalty = price }) first) (desk_of plans (record { network = net; start = rows; penalty = price }) last) logs → AnswersDay left is_sound net rows price plans feeds batch table logs
+answers_day left is_sound net rows price plans feeds batch first last table logs none_seen none_made opened based same based_last history is_table all answers =
     let base : Base = record { network = net; start = rows; penalty = price } in
     let some : Some (base_of table) ≡ Some base = sym based_last ∙ (ap (λ (p : PassValue Base). p.base) same ∙ based) in
     let is : base_of table ≡ base = cc some in
     let opening : last.opening ≡ 0 = ap (λ (p : PassValue Base). p.opening) same ∙ opened in
     let numbers = all_numbers last.seen last.mine (subst (λ (n : ℕ). AreAllAbove n last.seen last.mine) opening all) in
-    let whole = as_well left is_sound feeds batch (desk_of base first) (desk_of base last) (whole_desk base last.seen) logs refl refl numbers answers in
-    let from_start : AnswersFeeds left is_sound feeds batch (day_desk net rows price) (whole_desk base last.seen) logs =
-    subst (λ (l : List Entry). AnswersFeeds left is_sound feeds batch (record { setting = setting_of base; seen = l; mine = [] }) (whole_desk base last.seen) logs) none_seen
-    (subst (λ (m : List Numbered). AnswersFeeds left is_sound feeds batch (record { setting = setting_of base; seen = first.seen; mine = numbers_in m }) (whole_desk base last.seen) logs) none_made whole) in
+    let whole = as_well left is_sound feeds batch (desk_of plans base first) (desk_of plans base last) (whole_desk plans base last.seen) logs refl refl numbers answers in
+    let from_start : AnswersFeeds left is_sound feeds batch (day_desk net rows price plans) (whole_desk plans base last.seen) logs =
+    subst (λ (l : List Entry). AnswersFeeds left is_sound feeds batch (record { setting = setting_of plans base; seen = l; mine = [] }) (whole_desk plans base last.seen) logs) none_seen
+    (subst (λ (m : List Numbered). AnswersFeeds left is_sound feeds batch (record { setting = setting_of plans base; seen = first.seen; mine = numbers_in m }) (whole_desk plans base last.seen) logs) none_made whole) in
     record {
       network = ap (λ (b : Base). b.network) is;
       start = ap (λ (b : Base). b.start) is;
       penalty = ap (λ (b : Base). b.penalty) is;
       is_table = is_table;
       answers =
-          subst (λ (b : Base). AnswersFeeds left is_sound feeds batch (day_desk net rows price) (whole_desk b table.history) logs) (sym is)
-          (subst (λ (l : List Entry). AnswersFeeds left is_sound feeds batch (day_desk net rows price) (whole_desk base l) logs) (sym history) from_start);
+          subst (λ (b : Base). AnswersFeeds left is_sound feeds batch (day_desk net rows price plans) (whole_desk plans b table.history) logs) (sym is)
+          (subst (λ (l : List Entry). AnswersFeeds left is_sound feeds batch (day_desk net rows price plans) (whole_desk plans base l) logs) (sym history) from_start);
     }

@@ -45,8 +45,8 @@ holds_at F base before now is same h = subst (λ (o : Option Base). IsSomeAnd o 
 pub base_looked : (before now : PassValue Base) → HasLooked before now → now.base ≡ before.base
 base_looked before now h = ap (λ (p : PassValue Base). p.base) h.same
 
-looks : (base : Base) (before now : PassValue Base) → before.base ≡ Some base → HasLooked before now → Holds IsLegalAfter now → Looks (desk_of base before) (desk_of base now)
-looks base before now is h legal = record {
+looks : (plans : ℕ) (base : Base) (before now : PassValue Base) → before.base ≡ Some base → HasLooked before now → Holds IsLegalAfter now → Looks (desk_of plans base before) (desk_of plans base now)
+looks plans base before now is h legal = record {
   goes_on = record { setting = refl; later = h.later; legal = holds_at IsLegalAfter base before now is (base_looked before now h) legal };
   mine = ap (λ (p : PassValue Base). numbers_in p.mine) h.same;
 }
@@ -54,13 +54,13 @@ looks base before now is h legal = record {
 pub same_looked : (before now : PassValue Base) → HasLooked before now → IsSamePass before now
 same_looked before now h = subst (λ (p : PassValue Base). IsSamePass before p) (sym h.same) refl
 
-pub tells_length : (before now : PassValue Base) (n : ℕ) → HasLooked before now → Holds IsLegalAfter now → n ≡ length now.seen → (base : Base) → before.base ≡ Some base → TellsLength (desk_of base before) (desk_of base now) n
-tells_length before now n h legal here base is = record { looks = looks base before now is h legal; here = here }
+pub tells_length : (plans : ℕ) (before now : PassValue Base) (n : ℕ) → HasLooked before now → Holds IsLegalAfter now → n ≡ length now.seen → (base : Base) → before.base ≡ Some base → TellsLength (desk_of plans base before) (desk_of plans base now) n
+tells_length plans before now n h legal here base is = record { looks = looks plans base before now is h legal; here = here }
 
-pub tells_cost : (before now : PassValue Base) (cost n : ℕ) → HasLooked before now → Holds IsLegalAfter now → n ≡ length now.seen → Holds (λ base seen. CostsAfter base seen cost) now → (base : Base) → before.base ≡ Some base
-    → TellsCost (desk_of base before) (desk_of base now) (cost, n)
-tells_cost before now cost n h legal here costs base is = record {
-  looks = looks base before now is h legal;
+pub tells_cost : (plans : ℕ) (before now : PassValue Base) (cost n : ℕ) → HasLooked before now → Holds IsLegalAfter now → n ≡ length now.seen → Holds (λ base seen. CostsAfter base seen cost) now → (base : Base) → before.base ≡ Some base
+    → TellsCost (desk_of plans base before) (desk_of plans base now) (cost, n)
+tells_cost plans before now cost n h legal here costs base is = record {
+  looks = looks plans base before now is h legal;
   here = here;
   costs = record {
     within = omega (arith, here);
@@ -74,8 +74,8 @@ mapped : {X : Type 0} (f : ℕ → X) (o : Option ℕ) (y : X) → option_map f 
 mapped f None y e = absurd cc
 mapped f (Some x) y e = (x, refl, cc)
 
-time_known : (base : Base) (seen : List Entry) (n : ℕ) (event : EventId) (time : ℕ) → n ≡ length seen → ShowsTime base seen event time → IsTimeAt (setting_of base) seen n event time
-time_known base seen n event time here s =
+time_known : (plans : ℕ) (base : Base) (seen : List Entry) (n : ℕ) (event : EventId) (time : ℕ) → n ≡ length seen → ShowsTime base seen event time → IsTimeAt (setting_of plans base) seen n event time
+time_known plans base seen n event time here s =
     let at = mapped (λ i. time_at s.times i) (event_place base.network event) time s.shown in
     record {
       within = omega (arith, here);
@@ -86,31 +86,31 @@ time_known base seen n event time here s =
       is_time = at.2;
     }
 
-unknown_at : (base : Base) (seen : List Entry) (n : ℕ) (event : EventId) (why : Refusal) → n ≡ length seen → RefusesTime base.network event why → IsUnknownAt (setting_of base) seen n event why
-unknown_at base seen n event (refusal.UnknownEvent u) here h = record { within = omega (arith, here); unknown = h.0; is_why = ap refusal.UnknownEvent h.1 }
-unknown_at base seen n event refusal.OutOfMemory here h = absurd h
-unknown_at base seen n event (refusal.Range v) here h = absurd h
-unknown_at base seen n event (refusal.UnknownActivity a) here h = absurd h
-unknown_at base seen n event (refusal.UnknownChange a) here h = absurd h
-unknown_at base seen n event (refusal.UnknownPair i j) here h = absurd h
-unknown_at base seen n event (refusal.Passed e t) here h = absurd h
-unknown_at base seen n event (refusal.NotPassed e) here h = absurd h
-unknown_at base seen n event (refusal.Back c) here h = absurd h
-unknown_at base seen n event (refusal.Cycle ids) here h = absurd h
-unknown_at base seen n event (refusal.Full k) here h = absurd h
+unknown_at : (plans : ℕ) (base : Base) (seen : List Entry) (n : ℕ) (event : EventId) (why : Refusal) → n ≡ length seen → RefusesTime base.network event why → IsUnknownAt (setting_of plans base) seen n event why
+unknown_at plans base seen n event (refusal.UnknownEvent u) here h = record { within = omega (arith, here); unknown = h.0; is_why = ap refusal.UnknownEvent h.1 }
+unknown_at plans base seen n event refusal.OutOfMemory here h = absurd h
+unknown_at plans base seen n event (refusal.Range v) here h = absurd h
+unknown_at plans base seen n event (refusal.UnknownActivity a) here h = absurd h
+unknown_at plans base seen n event (refusal.UnknownChange a) here h = absurd h
+unknown_at plans base seen n event (refusal.UnknownPair i j) here h = absurd h
+unknown_at plans base seen n event (refusal.Passed e t) here h = absurd h
+unknown_at plans base seen n event (refusal.NotPassed e) here h = absurd h
+unknown_at plans base seen n event (refusal.Back c) here h = absurd h
+unknown_at plans base seen n event (refusal.Cycle ids) here h = absurd h
+unknown_at plans base seen n event (refusal.Full k) here h = absurd h
 
-pub tells_time : (before now : PassValue Base) (event : EventId) (answer : Result (ℕ × ℕ) (At Refusal)) → HasLooked before now → Holds IsLegalAfter now → IfOk answer (λ told. told.1 ≡ length now.seen)
+pub tells_time : (plans : ℕ) (before now : PassValue Base) (event : EventId) (answer : Result (ℕ × ℕ) (At Refusal)) → HasLooked before now → Holds IsLegalAfter now → IfOk answer (λ told. told.1 ≡ length now.seen)
     → IfOk answer (λ told. Holds (λ base seen. ShowsTime base seen event told.0) now) → IfErr answer (λ at. at.entry ≡ length now.seen) → IfErr answer (λ at. Holds (λ base seen. RefusesTime base.network event at.why) now)
-    → (base : Base) → before.base ≡ Some base → TellsTime (desk_of base before) (desk_of base now) event answer
-tells_time before now event (Ok told) h legal here shown refused_here refused base is = record {
-  looks = looks base before now is h legal;
+    → (base : Base) → before.base ≡ Some base → TellsTime (desk_of plans base before) (desk_of plans base now) event answer
+tells_time plans before now event (Ok told) h legal here shown refused_here refused base is = record {
+  looks = looks plans base before now is h legal;
   here = here;
-  is_time = time_known base now.seen told.1 event told.0 here (holds_at (λ b seen. ShowsTime b seen event told.0) base before now is (base_looked before now h) shown);
+  is_time = time_known plans base now.seen told.1 event told.0 here (holds_at (λ b seen. ShowsTime b seen event told.0) base before now is (base_looked before now h) shown);
 }
-tells_time before now event (Err at) h legal here shown refused_here refused base is = record {
-  looks = looks base before now is h legal;
+tells_time plans before now event (Err at) h legal here shown refused_here refused base is = record {
+  looks = looks plans base before now is h legal;
   here = refused_here;
-  unknown = unknown_at base now.seen at.entry event at.why refused_here (holds_at (λ b seen. RefusesTime b.network event at.why) base before now is (base_looked before now h) refused);
+  unknown = unknown_at plans base now.seen at.entry event at.why refused_here (holds_at (λ b seen. RefusesTime b.network event at.why) base before now is (base_looked before now h) refused);
 }
 
 -- ---- a pass that enters
@@ -118,8 +118,8 @@ tells_time before now event (Err at) h legal here shown refused_here refused bas
 base_entered : (before now : PassValue Base) (entry : Entry) (n : ℕ) → HasEntered before now entry n → now.base ≡ before.base
 base_entered before now entry n e = ap (λ (p : PassValue Base). p.base) e.same
 
-enters : (base : Base) (before now : PassValue Base) (entry : Entry) (n : ℕ) → before.base ≡ Some base → HasEntered before now entry n → Holds IsLegalAfter now → Enters (desk_of base before) (desk_of base now) entry n
-enters base before now entry n is e legal =
+enters : (plans : ℕ) (base : Base) (before now : PassValue Base) (entry : Entry) (n : ℕ) → before.base ≡ Some base → HasEntered before now entry n → Holds IsLegalAfter now → Enters (desk_of plans base before) (desk_of plans base now) entry n
+enters plans base before now entry n is e legal =
     let h = e.history in
     let seen : now.seen ≡ h ++ entry ∷ [] = ap (λ (p : PassValue Base). p.seen) e.same in
     let size = length-append h (entry ∷ []) in
@@ -136,32 +136,32 @@ enters base before now entry n is e legal =
       mine = ap (λ (p : PassValue Base). numbers_in p.mine) e.same ∙ map-append (λ m. m.number) before.mine (numbered n entry ∷ []);
     }
 
-is_refused : (base : Base) (seen : List Entry) (m : Message) (n : ℕ) (why : Refusal) → n ≡ length seen → Refuses base.network (rows_at base.network base.start seen (length seen)) (length seen) m why → IsRefused (setting_of base) seen n m why
-is_refused base seen m n why here h = record {
+is_refused : (plans : ℕ) (base : Base) (seen : List Entry) (m : Message) (n : ℕ) (why : Refusal) → n ≡ length seen → Refuses base.network (rows_at base.network base.start seen (length seen)) (length seen) m why → IsRefused (setting_of plans base) seen n m why
+is_refused plans base seen m n why here h = record {
   within = omega (arith, here);
   refuses = subst (λ (k : ℕ). Refuses base.network (rows_at base.network base.start seen k) k m why) (sym here) h;
 }
 
-refused_so : (base : Base) (seen : List Entry) (m : Message) (n : ℕ) (why : Refusal) → n ≡ length seen → RefusesAfter base seen m why → (why ≡ refusal.OutOfMemory) ⊎ IsRefused (setting_of base) seen n m why
-refused_so base seen m n refusal.OutOfMemory here h = inl refl
-refused_so base seen m n (refusal.Range v) here h = inr (is_refused base seen m n (refusal.Range v) here h)
-refused_so base seen m n (refusal.UnknownEvent e) here h = inr (is_refused base seen m n (refusal.UnknownEvent e) here h)
-refused_so base seen m n (refusal.UnknownActivity a) here h = inr (is_refused base seen m n (refusal.UnknownActivity a) here h)
-refused_so base seen m n (refusal.UnknownChange a) here h = inr (is_refused base seen m n (refusal.UnknownChange a) here h)
-refused_so base seen m n (refusal.UnknownPair i j) here h = inr (is_refused base seen m n (refusal.UnknownPair i j) here h)
-refused_so base seen m n (refusal.Passed e t) here h = inr (is_refused base seen m n (refusal.Passed e t) here h)
-refused_so base seen m n (refusal.NotPassed e) here h = inr (is_refused base seen m n (refusal.NotPassed e) here h)
-refused_so base seen m n (refusal.Back c) here h = inr (is_refused base seen m n (refusal.Back c) here h)
-refused_so base seen m n (refusal.Cycle ids) here h = inr (is_refused base seen m n (refusal.Cycle ids) here h)
-refused_so base seen m n (refusal.Full k) here h = inr (is_refused base seen m n (refusal.Full k) here h)
+refused_so : (plans : ℕ) (base : Base) (seen : List Entry) (m : Message) (n : ℕ) (why : Refusal) → n ≡ length seen → RefusesAfter base seen m why → (why ≡ refusal.OutOfMemory) ⊎ IsRefused (setting_of plans base) seen n m why
+refused_so plans base seen m n refusal.OutOfMemory here h = inl refl
+refused_so plans base seen m n (refusal.Range v) here h = inr (is_refused plans base seen m n (refusal.Range v) here h)
+refused_so plans base seen m n (refusal.UnknownEvent e) here h = inr (is_refused plans base seen m n (refusal.UnknownEvent e) here h)
+refused_so plans base seen m n (refusal.UnknownActivity a) here h = inr (is_refused plans base seen m n (refusal.UnknownActivity a) here h)
+refused_so plans base seen m n (refusal.UnknownChange a) here h = inr (is_refused plans base seen m n (refusal.UnknownChange a) here h)
+refused_so plans base seen m n (refusal.UnknownPair i j) here h = inr (is_refused plans base seen m n (refusal.UnknownPair i j) here h)
+refused_so plans base seen m n (refusal.Passed e t) here h = inr (is_refused plans base seen m n (refusal.Passed e t) here h)
+refused_so plans base seen m n (refusal.NotPassed e) here h = inr (is_refused plans base seen m n (refusal.NotPassed e) here h)
+refused_so plans base seen m n (refusal.Back c) here h = inr (is_refused plans base seen m n (refusal.Back c) here h)
+refused_so plans base seen m n (refusal.Cycle ids) here h = inr (is_refused plans base seen m n (refusal.Cycle ids) here h)
+refused_so plans base seen m n (refusal.Full k) here h = inr (is_refused plans base seen m n (refusal.Full k) here h)
 
-pub posts : (before now : PassValue Base) (entry : Entry) (answer : Result ℕ (At Refusal)) → IfOk answer (HasEntered before now entry) → Holds IsLegalAfter now → OnErr answer (HasLooked before now) → IfErr answer (λ at. at.entry ≡ length now.seen)
-    → IfErr answer (λ at. Holds (λ base seen. RefusesAfter base seen entry.message at.why) now) → (base : Base) → before.base ≡ Some base → Posts (desk_of base before) (desk_of base now) entry answer
-posts before now entry (Ok n) entered legal looked here refused base is = enters base before now entry n is entered legal
-posts before now entry (Err at) entered legal looked here refused base is = record {
-  looks = looks base before now is looked legal;
+pub posts : (plans : ℕ) (before now : PassValue Base) (entry : Entry) (answer : Result ℕ (At Refusal)) → IfOk answer (HasEntered before now entry) → Holds IsLegalAfter now → OnErr answer (HasLooked before now) → IfErr answer (λ at. at.entry ≡ length now.seen)
+    → IfErr answer (λ at. Holds (λ base seen. RefusesAfter base seen entry.message at.why) now) → (base : Base) → before.base ≡ Some base → Posts (desk_of plans base before) (desk_of plans base now) entry answer
+posts plans before now entry (Ok n) entered legal looked here refused base is = enters plans base before now entry n is entered legal
+posts plans before now entry (Err at) entered legal looked here refused base is = record {
+  looks = looks plans base before now is looked legal;
   here = here;
-  why = refused_so base now.seen entry.message at.entry at.why here (holds_at (λ b seen. RefusesAfter b seen entry.message at.why) base before now is (base_looked before now looked) refused);
+  why = refused_so plans base now.seen entry.message at.entry at.why here (holds_at (λ b seen. RefusesAfter b seen entry.message at.why) base before now is (base_looked before now looked) refused);
 }
 
 pub same_posted : {E : Type 0} (before now : PassValue Base) (entry : Entry) (answer : Result ℕ E) → IfOk answer (HasEntered before now entry) → OnErr answer (HasLooked before now) → IsSamePass before now
@@ -170,10 +170,10 @@ same_posted before now entry (Err e) entered looked = same_looked before now loo
 
 -- ---- plans
 
-pub copied : {E : Type 0} (before now : PassValue Base) (answer : Result Snapshot E) → HasLooked before now → Holds IsLegalAfter now → IfOk answer (λ snapshot. snapshot.entry ≡ length now.seen) → IfOk answer (λ snapshot. Holds (λ base seen. snapshot.rows ≡ rows_at base.network base.start seen (length seen)) now)
-    → IfOk answer (λ snapshot. Holds (λ base seen. IsSized base.network snapshot.rows) now) → IfOk answer (λ snapshot. Holds (λ base seen. HasNoCycle base.network snapshot.rows) now) → (base : Base) → before.base ≡ Some base → IfOk answer (IsCopied (desk_of base before) (desk_of base now))
-copied before now (Ok snapshot) h legal here rows sized no_cycle base is = record {
-  looks = looks base before now is h legal;
+pub copied : {E : Type 0} (plans : ℕ) (before now : PassValue Base) (answer : Result Snapshot E) → HasLooked before now → Holds IsLegalAfter now → IfOk answer (λ snapshot. snapshot.entry ≡ length now.seen) → IfOk answer (λ snapshot. Holds (λ base seen. snapshot.rows ≡ rows_at base.network base.start seen (length seen)) now)
+    → IfOk answer (λ snapshot. Holds (λ base seen. IsSized base.network snapshot.rows) now) → IfOk answer (λ snapshot. Holds (λ base seen. HasNoCycle base.network snapshot.rows) now) → (base : Base) → before.base ≡ Some base → IfOk answer (IsCopied (desk_of plans base before) (desk_of plans base now))
+copied plans before now (Ok snapshot) h legal here rows sized no_cycle base is = record {
+  looks = looks plans base before now is h legal;
   here = here;
   rows =
       holds_at (λ b seen. snapshot.rows ≡ rows_at b.network b.start seen (length seen)) base before now is (base_looked before now h) rows
@@ -181,14 +181,14 @@ copied before now (Ok snapshot) h legal here rows sized no_cycle base is = recor
   sized = holds_at (λ b seen. IsSized b.network snapshot.rows) base before now is (base_looked before now h) sized;
   no_cycle = holds_at (λ b seen. HasNoCycle b.network snapshot.rows) base before now is (base_looked before now h) no_cycle;
 }
-copied before now (Err e) h legal here rows sized no_cycle base is = tt
+copied plans before now (Err e) h legal here rows sized no_cycle base is = tt
 
-pub true_of : (pass : PassValue Base) (plan : Plan) → ForSome pass.base (λ base. IsTrueOf (desk_of base pass) plan) → ForSome pass.base (λ base. ServerIsTrueOf base pass.seen plan)
-true_of pass plan is base e = let t = is base e in record { budget = t.budget; within = t.within; is_true = t.is_true }
+pub true_of : (plans : ℕ) (pass : PassValue Base) (plan : Plan) → ForSome pass.base (λ base. IsTrueOf (desk_of plans base pass) plan) → ForSome pass.base (λ base. ServerIsTrueOf base pass.seen plan)
+true_of plans pass plan is base e = let t = is base e in record { budget = t.budget; within = t.within; is_true = t.is_true }
 
-pub adopts_plan : (before now : PassValue Base) (plan : Plan) (feed line : ℕ) (answer : Result ℕ AdoptRefusal) → IfOk answer (HasEntered before now (adopts plan feed line)) → Holds IsLegalAfter now → IfOk answer (λ n. n ≡ plan.entry + 1) → OnErr answer (HasLooked before now)
-    → IfErr answer (RefusesAdopt plan now.seen) → (base : Base) → before.base ≡ Some base → AdoptsPlan (desk_of base before) (desk_of base now) plan feed line answer
-adopts_plan before now plan feed line (Ok n) entered legal next looked refused base is = record { enters = enters base before now (adopts plan feed line) n is entered legal; next = next }
-adopts_plan before now plan feed line (Err (Old n)) entered legal next looked refused base is = record { looks = looks base before now is looked legal; here = refused.0; older = refused.1 }
-adopts_plan before now plan feed line (Err (Full n)) entered legal next looked refused base is = record { looks = looks base before now is looked legal; here = refused.0; full = refused.1; present = sym refused.2 }
-adopts_plan before now plan feed line (Err NoMemory) entered legal next looked refused base is = looks base before now is looked legal
+pub adopts_plan : (plans : ℕ) (before now : PassValue Base) (plan : Plan) (feed line : ℕ) (answer : Result ℕ AdoptRefusal) → IfOk answer (HasEntered before now (adopts plan feed line)) → Holds IsLegalAfter now → IfOk answer (λ n. n ≡ plan.entry + 1) → OnErr answer (HasLooked before now)
+    → IfErr answer (RefusesAdopt plan now.seen) → (base : Base) → before.base ≡ Some base → AdoptsPlan (desk_of plans base before) (desk_of plans base now) plan feed line answer
+adopts_plan plans before now plan feed line (Ok n) entered legal next looked refused base is = record { enters = enters plans base before now (adopts plan feed line) n is entered legal; next = next }
+adopts_plan plans before now plan feed line (Err (Old n)) entered legal next looked refused base is = record { looks = looks plans base before now is looked legal; here = refused.0; older = refused.1 }
+adopts_plan plans before now plan feed line (Err (Full n)) entered legal next looked refused base is = record { looks = looks plans base before now is looked legal; here = refused.0; full = refused.1; present = sym refused.2 }
+adopts_plan plans before now plan feed line (Err NoMemory) entered legal next looked refused base is = looks plans base before now is looked legal

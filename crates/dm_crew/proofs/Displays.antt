@@ -55,8 +55,8 @@ true_later entries later notes low t = record {
 
 -- ---- passes that have looked
 
-pub looked_on : (base : Base) (before now : PassValue Base) → HasLooked before now → IsLegal base.network base.start now.seen → GoesOn (desk_of base before) (desk_of base now)
-looked_on base before now looked legal = record { setting = refl; later = looked.later; legal = legal }
+pub looked_on : (plans : ℕ) (base : Base) (before now : PassValue Base) → HasLooked before now → IsLegal base.network base.start now.seen → GoesOn (desk_of plans base before) (desk_of plans base now)
+looked_on plans base before now looked legal = record { setting = refl; later = looked.later; legal = legal }
 
 pub looked_same : (first before now : PassValue Base) → IsSamePass first before → HasLooked before now → IsSamePass first now
 looked_same first before now same looked =
@@ -66,10 +66,10 @@ looked_same first before now same looked =
     ∙ ap (λ (m : List Numbered). record first { seen = now.seen; mine = m }) (sym mine))
 
 -- rounds that were answered to a history are so over a longer one, of which nothing is one's own
-pub rounds_look : {S : Type 0} (left : S → Option (List ℕ)) (is_sound : S → Type 0) (feeds : List (Option S)) (first : DeskValue) (batch : ℕ) (base : Base) (before now : PassValue Base) (jobs : List (Job S)) → HasLooked before now → IsLegal base.network base.start now.seen
-    → InRounds left is_sound feeds first batch (desk_of base before) jobs → InRounds left is_sound feeds first batch (desk_of base now) jobs
-rounds_look left is_sound feeds first batch base before now jobs looked legal r =
-    let on = looked_on base before now looked legal in
+pub rounds_look : {S : Type 0} (left : S → Option (List ℕ)) (is_sound : S → Type 0) (feeds : List (Option S)) (first : DeskValue) (batch plans : ℕ) (base : Base) (before now : PassValue Base) (jobs : List (Job S)) → HasLooked before now → IsLegal base.network base.start now.seen
+    → InRounds left is_sound feeds first batch (desk_of plans base before) jobs → InRounds left is_sound feeds first batch (desk_of plans base now) jobs
+rounds_look left is_sound feeds first batch plans base before now jobs looked legal r =
+    let on = looked_on plans base before now looked legal in
     let s = r.state in
     let mine : numbers_in now.mine ≡ numbers_in before.mine = ap (λ (p : PassValue Base). numbers_in p.mine) looked.same in
     let longer = no_shorter before.seen now.seen looked.later in
@@ -77,9 +77,9 @@ rounds_look left is_sound feeds first batch base before now jobs looked legal r 
       rounds = r.rounds;
       low = r.low;
       state = record {
-        goes_on = on_and_on first (desk_of base before) (desk_of base now) s.goes_on on;
+        goes_on = on_and_on first (desk_of plans base before) (desk_of plans base now) s.goes_on on;
         as_many = s.as_many;
-        each = λ k feed job f j. job_grows left is_sound feed (desk_of base before) (desk_of base now) (k + 1) job.progress job.log.items on (s.each k feed job f j);
+        each = λ k feed job f j. job_grows left is_sound feed (desk_of plans base before) (desk_of plans base now) (k + 1) job.progress job.log.items on (s.each k feed job f j);
         named = λ n. s.named n ∙ ap (times n) (sym mine);
         done = s.done;
         ahead = s.ahead;

@@ -62,15 +62,15 @@ pub all_given : {F J R T E : Type 0} {g : Shared F (J × Unit {0}) R} {f : F} (P
 all_given P js items (Ok t) each gives = given_at P js (items t) each gives
 all_given P js items (Err e) each gives = tt
 
-module _ {S W E : Type 0} (left : S → Option (List ℕ)) (is_sound : S → Type 0) (base : Base) (batch : ℕ) (some : 0 < batch) (turn : TableId) (works after : List W) (jobs : List (Job S)) (start : PassValue Base) (job : W → Job S) (pass : W → PassValue Base) (feed : W → ℕ) (answer : W → Result (Unit {0}) E) where
+module _ {S W E : Type 0} (left : S → Option (List ℕ)) (is_sound : S → Type 0) (plans : ℕ) (base : Base) (batch : ℕ) (some : 0 < batch) (turn : TableId) (works after : List W) (jobs : List (Job S)) (start : PassValue Base) (job : W → Job S) (pass : W → PassValue Base) (feed : W → ℕ) (answer : W → Result (Unit {0}) E) where
   -- the parts of a round before they are worked, split from a pass
   pub record IsShared : Type 0 where
     pub here : start.turn ≡ turn
     pub idle : start.holds ≡ false
     pub based : start.base ≡ Some base
-    pub legal : HasSeenLegal (desk_of base start)
+    pub legal : HasSeenLegal (desk_of plans base start)
     pub can_read : CanReadAll jobs
-    pub are_true : AllAreTrue (desk_of base start) jobs
+    pub are_true : AllAreTrue (desk_of plans base start) jobs
     pub of_jobs : map job works ≡ jobs
     pub split : All (λ w. pass w ≡ split_of start) works
     pub numbered : (k : ℕ) (w : W) → slice_get works k ≡ Some w → feed w ≡ k + 1
@@ -78,27 +78,27 @@ module _ {S W E : Type 0} (left : S → Option (List ℕ)) (is_sound : S → Typ
   -- and after
   pub record AreWorked : Type 0 where
     pub as_many : length after ≡ length works
-    pub each : (k : ℕ) (w v : W) → slice_get works k ≡ Some w → slice_get after k ≡ Some v → (feed v ≡ feed w) × IsWorked left is_sound base batch (feed w) (pass w) (job w) (pass v) (job v) (answer v)
+    pub each : (k : ℕ) (w v : W) → slice_get works k ≡ Some w → slice_get after k ≡ Some v → (feed v ≡ feed w) × IsWorked left is_sound plans base batch (feed w) (pass w) (job w) (pass v) (job v) (answer v)
 
   job_at : IsShared → (k : ℕ) (w : W) → slice_get works k ≡ Some w → slice_get jobs k ≡ Some (job w)
   job_at s k w e = ap (λ (l : List (Job S)). slice_get l k) (sym s.of_jobs) ∙ map_at job works k w e
 
-  pub all_ready : IsShared → All (λ w. IsReady turn base (feed w) (pass w) (job w)) works
+  pub all_ready : IsShared → All (λ w. IsReady turn plans base (feed w) (pass w) (job w)) works
   all_ready s =
-      all_from (λ w. IsReady turn base (feed w) (pass w) (job w)) works
+      all_from (λ w. IsReady turn plans base (feed w) (pass w) (job w)) works
       (λ k w e.
       let is = all_at (λ w. pass w ≡ split_of start) works k w s.split e in
-      subst (λ (p : PassValue Base). IsReady turn base (feed w) p (job w)) (sym is)
-      (record { here = s.here; idle = refl; based = s.based; legal = s.legal; can_read = s.can_read k (job w) (job_at s k w e); are_true = subst (λ (n : ℕ). AreTrueOf (desk_of base start) n (job w).log.items) (sym (s.numbered k w e)) (s.are_true k (job w) (job_at s k w e)) }))
+      subst (λ (p : PassValue Base). IsReady turn plans base (feed w) p (job w)) (sym is)
+      (record { here = s.here; idle = refl; based = s.based; legal = s.legal; can_read = s.can_read k (job w) (job_at s k w e); are_true = subst (λ (n : ℕ). AreTrueOf (desk_of plans base start) n (job w).log.items) (sym (s.numbered k w e)) (s.are_true k (job w) (job_at s k w e)) }))
 
-  worked_from : IsShared → AreWorked → (k : ℕ) (v : W) → slice_get after k ≡ Some v → (w : W) × (slice_get works k ≡ Some w) × IsWorked left is_sound base batch (k + 1) (split_of start) (job w) (pass v) (job v) (answer v)
+  worked_from : IsShared → AreWorked → (k : ℕ) (v : W) → slice_get after k ≡ Some v → (w : W) × (slice_get works k ≡ Some w) × IsWorked left is_sound plans base batch (k + 1) (split_of start) (job w) (pass v) (job v) (answer v)
   worked_from s a k v e =
       let w = other_at works after k v a.as_many e in
       let is = all_at (λ w. pass w ≡ split_of start) works k w.0 s.split w.1 in (
         w.0,
         w.1,
-        subst (λ (n : ℕ). IsWorked left is_sound base batch n (split_of start) (job w.0) (pass v) (job v) (answer v)) (s.numbered k w.0 w.1)
-            (subst (λ (p : PassValue Base). IsWorked left is_sound base batch (feed w.0) p (job w.0) (pass v) (job v) (answer v)) is (a.each k w.0 v w.1 e).1),
+        subst (λ (n : ℕ). IsWorked left is_sound plans base batch n (split_of start) (job w.0) (pass v) (job v) (answer v)) (s.numbered k w.0 w.1)
+            (subst (λ (p : PassValue Base). IsWorked left is_sound plans base batch (feed w.0) p (job w.0) (pass v) (job v) (answer v)) is (a.each k w.0 v w.1 e).1),
       )
 
   pub all_idle : IsShared → AreWorked → All (λ v. ((pass v).turn ≡ turn) × ((pass v).holds ≡ false) × ((pass v).room ≡ 1)) after
@@ -111,15 +111,15 @@ module _ {S W E : Type 0} (left : S → Option (List ℕ)) (is_sound : S → Typ
         ap (λ (p : PassValue Base). p.room) same,
       ))
 
-  legal_after : IsShared → (k : ℕ) (w v : W) → StepsFrom left is_sound (job w).progress (job w).log.items (job v) (desk_of base (split_of start)) (desk_of base (pass v)) (k + 1) batch → IsLegal base.network base.start (pass v).seen
-  legal_after s k w v x = stays_legal left is_sound batch some (job w).progress (job w).log.items (job v) (desk_of base (split_of start)) (desk_of base (pass v)) (k + 1) s.legal x
+  legal_after : IsShared → (k : ℕ) (w v : W) → StepsFrom left is_sound (job w).progress (job w).log.items (job v) (desk_of plans base (split_of start)) (desk_of plans base (pass v)) (k + 1) batch → IsLegal base.network base.start (pass v).seen
+  legal_after s k w v x = stays_legal left is_sound batch some (job w).progress (job w).log.items (job v) (desk_of plans base (split_of start)) (desk_of plans base (pass v)) (k + 1) s.legal x
 
   pub all_legal : IsShared → AreWorked → All (λ v. OnOk (answer v) (IsLegal base.network base.start (pass v).seen)) after
   all_legal s a =
       all_from (λ v. OnOk (answer v) (IsLegal base.network base.start (pass v).seen)) after
       (λ k v e.
       let w = worked_from s a k v e in
-      ok_weaker (StepsFrom left is_sound (job w.0).progress (job w.0).log.items (job v) (desk_of base (split_of start)) (desk_of base (pass v)) (k + 1) batch) (IsLegal base.network base.start (pass v).seen) (answer v) (legal_after s k w.0 v) w.2.steps)
+      ok_weaker (StepsFrom left is_sound (job w.0).progress (job w.0).log.items (job v) (desk_of plans base (split_of start)) (desk_of plans base (pass v)) (k + 1) batch) (IsLegal base.network base.start (pass v).seen) (answer v) (legal_after s k w.0 v) w.2.steps)
 
   module _ (rest now : PassValue Base) (shared : IsShared) (worked : AreWorked) (apart : rest ≡ record start { room = start.room - length jobs }) (enough : length jobs < start.room) where
     same_after : IsGathered base rest now (map pass after) → IsSamePass start now
@@ -130,11 +130,11 @@ module _ {S W E : Type 0} (left : S → Option (List ℕ)) (is_sound : S → Typ
         gathered.same
         ∙ (ap (λ (r : ℕ). with_parts rest r now.seen now.mine) all ∙ ap (λ (p : PassValue Base). with_parts p start.room now.seen now.mine) apart)
 
-    round_of : IsGathered base rest now (map pass after) → All (λ v. IsOk (answer v)) after → AnswersRound left is_sound batch (desk_of base start) jobs (desk_of base now) (map job after)
+    round_of : IsGathered base rest now (map pass after) → All (λ v. IsOk (answer v)) after → AnswersRound left is_sound batch (desk_of plans base start) jobs (desk_of plans base now) (map job after)
     round_of gathered ok =
         let seen : rest.seen ≡ start.seen = ap (λ (p : PassValue Base). p.seen) apart in
         let mine : rest.mine ≡ start.mine = ap (λ (p : PassValue Base). p.mine) apart in
-        answers_round left is_sound batch some job (λ w. desk_of base (pass w)) (desk_of base start) (desk_of base now) jobs after
+        answers_round left is_sound batch some job (λ w. desk_of plans base (pass w)) (desk_of plans base start) (desk_of plans base now) jobs after
         (record {
           legal = shared.legal;
           goes_on = record { setting = refl; later = subst (λ (l : List Entry). IsPrefix l now.seen) seen gathered.later; legal = gathered.legal };
@@ -142,8 +142,8 @@ module _ {S W E : Type 0} (left : S → Option (List ℕ)) (is_sound : S → Typ
           steps = λ k j v at e.
               let w = worked_from shared worked k v e in
               let same : job w.0 ≡ j = some_is (job_at shared k w.0 w.1) at in
-              subst (λ (i : Job S). StepsFrom left is_sound i.progress i.log.items (job v) (fresh (desk_of base start)) (desk_of base (pass v)) (k + 1) batch) same
-              (ok_holds (StepsFrom left is_sound (job w.0).progress (job w.0).log.items (job v) (desk_of base (split_of start)) (desk_of base (pass v)) (k + 1) batch) (answer v) w.2.steps (all_at (λ v. IsOk (answer v)) after k v ok e));
+              subst (λ (i : Job S). StepsFrom left is_sound i.progress i.log.items (job v) (fresh (desk_of plans base start)) (desk_of plans base (pass v)) (k + 1) batch) same
+              (ok_holds (StepsFrom left is_sound (job w.0).progress (job w.0).log.items (job v) (desk_of plans base (split_of start)) (desk_of plans base (pass v)) (k + 1) batch) (answer v) w.2.steps (all_at (λ v. IsOk (answer v)) after k v ok e));
           onward = λ k v e. record {
             setting = refl;
             later = all_at (λ (p : PassValue Base). IsPrefix p.seen now.seen) (map pass after) k (pass v) gathered.latest (map_at pass after k v e);
@@ -160,6 +160,6 @@ module _ {S W E : Type 0} (left : S → Option (List ℕ)) (is_sound : S → Typ
     told_same (Err e) gathered = tt
 
     pub told_round : {T F : Type 0} (items : T → List (Job S)) (result : Result T F) → IfOk result (λ t. items t ≡ map job after) → OnOk result (All (λ v. IsOk (answer v)) after) → OnOk result (IsGathered base rest now (map pass after))
-        → IfOk result (λ t. AnswersRound left is_sound batch (desk_of base start) jobs (desk_of base now) (items t))
-    told_round items (Ok t) is ok gathered = subst (λ (l : List (Job S)). AnswersRound left is_sound batch (desk_of base start) jobs (desk_of base now) l) (sym is) (round_of gathered ok)
+        → IfOk result (λ t. AnswersRound left is_sound batch (desk_of plans base start) jobs (desk_of plans base now) (items t))
+    told_round items (Ok t) is ok gathered = subst (λ (l : List (Job S)). AnswersRound left is_sound batch (desk_of plans base start) jobs (desk_of plans base now) l) (sym is) (round_of gathered ok)
     told_round items (Err e) is ok gathered = tt

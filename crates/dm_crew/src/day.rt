@@ -36,8 +36,8 @@ pub struct AnsweredDay<'n> {
 }
 
 /// Answers feeds over a server of these rows, at a penalty in seconds for each passenger, until each has ended, in rounds of so
-/// many lines a feed. In a round each feed has a thread of its own where two or more are still read and one can be made; else the
-/// caller answers it. A feed that could not be opened is `None`. Boards are shown the times before the first round, and after each
+/// many lines a feed. Each feed may have so many plans. In a round each feed has a thread of its own where two or more are still
+/// read and one can be made; else the caller answers it. A feed that could not be opened is `None`. Boards are shown the times before the first round, and after each
 /// round those that have moved. Want of memory may come at any point up to the end of the last round.
 pub fn answer_at_once<
     'n,
@@ -51,6 +51,7 @@ pub fn answer_at_once<
     net: &'n Network,
     rows: Rows,
     penalty: u64,
+    plans: u32,
     feeds: Vec<Option<S>>,
     planner: &L,
     gate: &H,
@@ -60,11 +61,12 @@ pub fn answer_at_once<
     requires sized { IsSized net.now rows }
     requires no_cycle { HasNoCycle net.now rows }
     requires penalty { penalty ≤ PENALTY }
-    requires plans { PlansUnder (L.pre planner.now) (L.post planner.now) (day_desk net.now rows penalty).setting }
+    requires plans { PlansUnder (L.pre planner.now) (L.post planner.now) (day_desk net.now rows penalty plans).setting }
     requires few { length feeds.items ≤ FEEDS }
     requires some { 0 < batch }
     requires few_boards { vec_len boards.old ≤ BOARDS }
-    ensures answers { IfOk result (λ day. AnswersDay S.left S.is_sound net.now rows penalty feeds.items batch day.table day.logs.items) }
+    ensures answers { IfOk result (λ day. AnswersDay S.left S.is_sound net.now rows penalty plans feeds.items batch day.table
+        day.logs.items) }
 
     // Each board that no note names shows the times of the table, and each note has its cause.
     ensures shown { IfOk result (λ day. AreShown place times (λ b. (Board-box b).faults b.value) (λ b. (Board-box b).is_sound b.value)
@@ -79,6 +81,7 @@ pub fn answer_at_once<
         alloc,
         server: &server,
         planner,
+        plans,
         gate,
         batch,
     };

@@ -39,6 +39,9 @@ impl Seat for Brand {
 pub struct Caller<'a, 's, 'n, R: Wait> {
     pub rt: &'a R,
     pub server: &'s Server<'n>,
+
+    /// How many plans a feed may have.
+    pub plans: u32,
 }
 
 /// A server with an idle pass of its own, as a desk.
@@ -56,7 +59,11 @@ pub struct ServerDesk<'a, 's, 'n, R: Wait, P: Seat> {
 impl<R: Wait, P: Seat> Desk for ServerDesk<'_, '_, '_, R, P> {
     ghost use Rattle.dm_crew.specs.Passes.{desk_of};
 
-    ghost value = { λ d. desk_of P.base d.pass };
+    ghost value = { λ d. desk_of d.caller.plans P.base d.pass };
+
+    fn plans(&self) -> u32 {
+        self.caller.plans
+    }
 
     fn post(&mut self, entry: Entry) -> Result<u32, At<Refusal>> {
         self.caller.post(&mut self.pass, entry)
@@ -89,7 +96,8 @@ impl<'n, R: Wait> Caller<'_, '_, 'n, R> {
         requires turn { pass.old.turn ≡ self.now.server.now.id }
         requires idle { pass.old.holds ≡ false }
         ensures same { IsSamePass pass.old pass.new }
-        ensures posts { (base : ABase) → pass.old.base ≡ Some base → Posts (desk_of base pass.old) (desk_of base pass.new) entry result }
+        ensures posts { (base : ABase) → pass.old.base ≡ Some base
+            → Posts (desk_of self.now.plans base pass.old) (desk_of self.now.plans base pass.new) entry result }
     {
         self.server.post(self.rt, pass, entry)
     }
@@ -100,7 +108,7 @@ impl<'n, R: Wait> Caller<'_, '_, 'n, R> {
         requires idle { pass.old.holds ≡ false }
         ensures same { IsSamePass pass.old pass.new }
         ensures tells { (base : ABase) → pass.old.base ≡ Some base
-            → TellsTime (desk_of base pass.old) (desk_of base pass.new) event result }
+            → TellsTime (desk_of self.now.plans base pass.old) (desk_of self.now.plans base pass.new) event result }
     {
         self.server.time(self.rt, pass, event)
     }
@@ -110,7 +118,8 @@ impl<'n, R: Wait> Caller<'_, '_, 'n, R> {
         requires turn { pass.old.turn ≡ self.now.server.now.id }
         requires idle { pass.old.holds ≡ false }
         ensures same { IsSamePass pass.old pass.new }
-        ensures tells { (base : ABase) → pass.old.base ≡ Some base → TellsCost (desk_of base pass.old) (desk_of base pass.new) result }
+        ensures tells { (base : ABase) → pass.old.base ≡ Some base
+            → TellsCost (desk_of self.now.plans base pass.old) (desk_of self.now.plans base pass.new) result }
     {
         self.server.cost(self.rt, pass)
     }
@@ -120,7 +129,8 @@ impl<'n, R: Wait> Caller<'_, '_, 'n, R> {
         requires turn { pass.old.turn ≡ self.now.server.now.id }
         requires idle { pass.old.holds ≡ false }
         ensures same { IsSamePass pass.old pass.new }
-        ensures tells { (base : ABase) → pass.old.base ≡ Some base → TellsLength (desk_of base pass.old) (desk_of base pass.new) result }
+        ensures tells { (base : ABase) → pass.old.base ≡ Some base
+            → TellsLength (desk_of self.now.plans base pass.old) (desk_of self.now.plans base pass.new) result }
     {
         self.server.length(self.rt, pass)
     }
@@ -131,7 +141,7 @@ impl<'n, R: Wait> Caller<'_, '_, 'n, R> {
         requires idle { pass.old.holds ≡ false }
         ensures same { IsSamePass pass.old pass.new }
         ensures copied { (base : ABase) → pass.old.base ≡ Some base
-            → IfOk result (IsCopied (desk_of base pass.old) (desk_of base pass.new)) }
+            → IfOk result (IsCopied (desk_of self.now.plans base pass.old) (desk_of self.now.plans base pass.new)) }
     {
         self.server.snapshot(self.rt, pass)
     }
@@ -146,10 +156,10 @@ impl<'n, R: Wait> Caller<'_, '_, 'n, R> {
     ) -> Result<u32, AdoptRefusal>
         requires turn { pass.old.turn ≡ self.now.server.now.id }
         requires idle { pass.old.holds ≡ false }
-        requires plan { ForSome pass.old.base (λ base. IsTrueOf (desk_of base pass.old) plan.now) }
+        requires plan { ForSome pass.old.base (λ base. IsTrueOf (desk_of self.now.plans base pass.old) plan.now) }
         ensures same { IsSamePass pass.old pass.new }
         ensures adopts { (base : ABase) → pass.old.base ≡ Some base
-            → AdoptsPlan (desk_of base pass.old) (desk_of base pass.new) plan.now feed line result }
+            → AdoptsPlan (desk_of self.now.plans base pass.old) (desk_of self.now.plans base pass.new) plan.now feed line result }
     {
         self.server.adopt(self.rt, pass, plan, feed, line)
     }

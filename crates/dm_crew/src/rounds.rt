@@ -28,13 +28,15 @@ use std::sync::Wait;
 use std::thread;
 use std::thread::Threads;
 
-/// What feeds are answered with: a server, what plans for it, a gate, and how many lines a feed has in a round.
+/// What feeds are answered with: a server, what plans for it, how many plans a feed may have, a gate, and how many lines a feed has
+/// in a round.
 #[derive(Drop)]
 pub struct Crew<'c, 'n, R, L, H> {
     pub rt: &'c R,
     pub alloc: Global,
     pub server: &'c Server<'n>,
     pub planner: &'c L,
+    pub plans: u32,
     pub gate: &'c H,
     pub batch: u32,
 }
@@ -58,16 +60,16 @@ impl<
         requires here { main.old.turn ≡ self.now.server.now.id }
         requires idle { main.old.holds ≡ false }
         requires base { main.old.base ≡ Some P.base }
-        requires legal { HasSeenLegal (desk_of P.base main.old) }
-        requires plans { PlansUnder (L.pre self.now.planner.now) (L.post self.now.planner.now) (setting_of P.base) }
+        requires legal { HasSeenLegal (desk_of self.now.plans P.base main.old) }
+        requires plans { PlansUnder (L.pre self.now.planner.now) (L.post self.now.planner.now) (setting_of self.now.plans P.base) }
         requires few { length feeds.items ≤ FEEDS }
         requires rooms { length feeds.items < main.old.room }
         requires some { 0 < self.now.batch }
         requires fits { IsFor P.base.network (vec_len boards.old) display.old }
         requires none { HasShownNothing display.old }
         ensures same { OnOk result (IsSamePass main.old main.new) }
-        ensures answers { IfOk result (λ logs. AnswersFeeds S.left S.is_sound feeds.items self.now.batch (desk_of P.base main.old)
-            (desk_of P.base main.new) logs.items) }
+        ensures answers { IfOk result (λ logs. AnswersFeeds S.left S.is_sound feeds.items self.now.batch
+            (desk_of self.now.plans P.base main.old) (desk_of self.now.plans P.base main.new) logs.items) }
         ensures up { OnOk result (AreUp place times (λ b. (Board-box b).faults b.value) (λ b. (Board-box b).is_sound b.value) P.base
             main.new.seen display.new boards.old.items boards.new.items) }
         ensures stops { map place boards.new.items ≡ map place boards.old.items }
@@ -94,17 +96,17 @@ impl<
         requires here { main.old.turn ≡ self.now.server.now.id }
         requires idle { main.old.holds ≡ false }
         requires base { main.old.base ≡ Some P.base }
-        requires legal { HasSeenLegal (desk_of P.base main.old) }
-        requires plans { PlansUnder (L.pre self.now.planner.now) (L.post self.now.planner.now) (setting_of P.base) }
+        requires legal { HasSeenLegal (desk_of self.now.plans P.base main.old) }
+        requires plans { PlansUnder (L.pre self.now.planner.now) (L.post self.now.planner.now) (setting_of self.now.plans P.base) }
         requires can_read { CanReadAll (map (λ b. b.value) jobs.items) }
-        requires are_true { AllAreTrue (desk_of P.base main.old) (map (λ b. b.value) jobs.items) }
+        requires are_true { AllAreTrue (desk_of self.now.plans P.base main.old) (map (λ b. b.value) jobs.items) }
         requires few { vec_len jobs ≤ FEEDS }
         requires rooms { vec_len jobs < main.old.room }
         requires some { 0 < self.now.batch }
         ensures same { OnOk result (IsSamePass main.old main.new) }
         ensures later { OnOk result (IsPrefix main.old.seen main.new.seen) }
-        ensures round { IfOk result (λ after. AnswersRound S.left S.is_sound self.now.batch (desk_of P.base main.old)
-            (map (λ b. b.value) jobs.items) (desk_of P.base main.new) (map (λ b. b.value) after.items)) }
+        ensures round { IfOk result (λ after. AnswersRound S.left S.is_sound self.now.batch (desk_of self.now.plans P.base main.old)
+            (map (λ b. b.value) jobs.items) (desk_of self.now.plans P.base main.new) (map (λ b. b.value) after.items)) }
     {
         let works = share_out(self.alloc, self.server, main, jobs)?;
         let works = self.work_all::<P, S>(works)?;
@@ -117,10 +119,11 @@ impl<
         &self,
         works: Vec<Work<'n, S>>,
     ) -> Result<Vec<Work<'n, S>>, AllocError>
-        requires ready { All (λ w. IsReady self.now.server.now.id P.base w.feed w.pass w.job.value) works.items }
-        requires plans { PlansUnder (L.pre self.now.planner.now) (L.post self.now.planner.now) (setting_of P.base) }
+        requires ready { All (λ w. IsReady self.now.server.now.id self.now.plans P.base w.feed w.pass w.job.value) works.items }
+        requires plans { PlansUnder (L.pre self.now.planner.now) (L.post self.now.planner.now) (setting_of self.now.plans P.base) }
         ensures len { IfOk result (λ after. vec_len after ≡ vec_len works.entry) }
-        ensures each { IfOk result (λ after. AreWorkedEach S.left S.is_sound P.base self.now.batch works.entry.items after.items) }
+        ensures each { IfOk result (λ after. AreWorkedEach S.left S.is_sound self.now.plans P.base self.now.batch
+            works.entry.items after.items) }
     {
         if count_read(&works) >= 2 {
             return thread::map_vec(

@@ -36,11 +36,11 @@ impl<'n, S: Source + Drop> Work<'n, S> {
         self,
         crew: &Crew<'_, 'n, R, L, H>,
     ) -> Work<'n, S>
-        requires ready { IsReady crew.now.server.now.id P.base self.feed self.pass self.job.value }
-        requires plans { PlansUnder (L.pre crew.now.planner.now) (L.post crew.now.planner.now) (setting_of P.base) }
+        requires ready { IsReady crew.now.server.now.id crew.now.plans P.base self.feed self.pass self.job.value }
+        requires plans { PlansUnder (L.pre crew.now.planner.now) (L.post crew.now.planner.now) (setting_of crew.now.plans P.base) }
         ensures feed { result.feed ≡ self.entry.feed }
-        ensures worked { IsWorked S.left S.is_sound P.base crew.now.batch self.entry.feed self.entry.pass self.entry.job.value result.pass
-            result.job.value result.answer }
+        ensures worked { IsWorked S.left S.is_sound crew.now.plans P.base crew.now.batch self.entry.feed self.entry.pass self.entry.job.value
+            result.pass result.job.value result.answer }
     {
         let Work {
             pass,
@@ -74,14 +74,15 @@ fn answer_seated<
     feed: u32,
 ) -> (Pass<Kept<'n>>, Result<(), AllocError>)
     requires pass { pass ≡ P.pass }
-    requires ready { IsReady crew.now.server.now.id P.base feed pass job.old }
-    requires plans { PlansUnder (L.pre crew.now.planner.now) (L.post crew.now.planner.now) (setting_of P.base) }
-    ensures { IsWorked S.left S.is_sound P.base crew.now.batch feed pass.entry job.old result.0 job.new result.1 }
+    requires ready { IsReady crew.now.server.now.id crew.now.plans P.base feed pass job.old }
+    requires plans { PlansUnder (L.pre crew.now.planner.now) (L.post crew.now.planner.now) (setting_of crew.now.plans P.base) }
+    ensures { IsWorked S.left S.is_sound crew.now.plans P.base crew.now.batch feed pass.entry job.old result.0 job.new result.1 }
 {
     let mut desk: ServerDesk<'_, '_, 'n, R, P> = ServerDesk {
         caller: Caller {
             rt: crew.rt,
             server: crew.server,
+            plans: crew.plans,
         },
         pass,
         of: PhantomData,

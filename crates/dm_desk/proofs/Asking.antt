@@ -4,7 +4,6 @@ use Rattle.std.specs.Borrow.{Bor}
 use Rattle.std.specs.Prelude.{count_by, Result}
 use Rattle.std.specs.declared.alloc.AllocError.{AllocError}
 use Rattle.std.proofs.lemmas.List.Sums.{sum_by-cons, sum_by_push}
-use Rattle.dm_base.specs.declared.limits.TheConstants.{PLANS}
 use Rattle.dm_feed.specs.declared.grammar.Line.{Line}
 use Rattle.dm_feed.specs.declared.grammar.Line.TheVariants as line
 use Rattle.dm_rows.specs.declared.rows.Snapshot.{Snapshot}
@@ -24,7 +23,7 @@ use Rattle.dm_desk.specs.Inside.Replies.{HasPlans}
 module _ (desk : DeskValue) (feed : ℕ) where
   -- an item is no plan, or a true one before which there were few
   record KeepsPlans (before : List LogItem) (latest : Option Plan) (x : LogItem) : Type 0 where
-    few : count_by is_plan before ≤ PLANS → count_by is_plan before + cond (is_plan x) 1 0 ≤ PLANS
+    few : count_by is_plan before ≤ desk.setting.plans → count_by is_plan before + cond (is_plan x) 1 0 ≤ desk.setting.plans
     is_true : IfSome latest (IsTrueOf desk) → IfSome (plan_after latest x) (IsTrueOf desk)
 
   no_plan : (before : List LogItem) (latest : Option Plan) (x : LogItem) → is_plan x ≡ is_plan (Malformed 0) → plan_after latest x ≡ latest → KeepsPlans before latest x
@@ -57,8 +56,8 @@ module _ (desk : DeskValue) (feed : ℕ) where
   keeps_plans before latest (Answered here said reply.Plans) t = no_plan before latest (Answered here said reply.Plans) refl refl
   keeps_plans before latest (Answered here said (reply.Range b)) t = no_plan before latest (Answered here said (reply.Range b)) refl refl
 
-  plans_in_all : (before : List LogItem) (latest : Option Plan) (items : List LogItem) → AreTrueAnswers desk.setting desk.seen feed before items → count_by is_plan before ≤ PLANS → IfSome latest (IsTrueOf desk)
-      → (count_by is_plan before + count_by is_plan items ≤ PLANS) × IfSome (fold plan_after latest items) (IsTrueOf desk)
+  plans_in_all : (before : List LogItem) (latest : Option Plan) (items : List LogItem) → AreTrueAnswers desk.setting desk.seen feed before items → count_by is_plan before ≤ desk.setting.plans → IfSome latest (IsTrueOf desk)
+      → (count_by is_plan before + count_by is_plan items ≤ desk.setting.plans) × IfSome (fold plan_after latest items) (IsTrueOf desk)
   plans_in_all before latest [] t few is = (omega arith, is)
   plans_in_all before latest (x ∷ items) t few is =
       let k = keeps_plans before latest x t.0 in

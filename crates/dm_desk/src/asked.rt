@@ -9,7 +9,7 @@ ghost use Rattle.dm_desk.specs.Inside.Replies.{HasPlans, Replies, IsPresentPlan}
 
 use crate::desk::Desk;
 use crate::plans::{count_plans, last_plan};
-use dm_base::limits::{BUDGET, ENTRIES, PLANS};
+use dm_base::limits::{BUDGET, ENTRIES};
 use dm_cert::{LogItem, Reply};
 use dm_rows::{At, Refusal, Snapshot};
 use dm_tree::{AdoptRefusal, Plan};
@@ -31,7 +31,7 @@ pub fn plan<D: Desk, P: Fn(&Snapshot, u64) -> Result<Plan, AllocError>>(
     if budget == 0 || budget > BUDGET {
         return Ok(Reply::Range(budget));
     }
-    if count_plans(items) == PLANS {
+    if count_plans(items) == desk.plans() as usize {
         return Ok(Reply::Plans);
     }
     let plan = present_plan(desk, planner, budget)?;

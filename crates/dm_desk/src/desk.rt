@@ -1,6 +1,6 @@
 //! What answers messages and questions.
 
-ghost use Rattle.std.specs.Prelude.{IfOk};
+ghost use Rattle.std.specs.Prelude.{◌≡◌, IfOk};
 ghost use Rattle.dm_desk.specs.Desks.{Posts, TellsTime, TellsCost, TellsLength, IsCopied, IsTrueOf, AdoptsPlan};
 
 use dm_base::{Cost, EventId, Secs};
@@ -13,8 +13,12 @@ use std::alloc::AllocError;
 pub trait Desk {
     ghost use Rattle.dm_desk.specs.Desks.{DeskValue};
 
-    /// The network, start rows and penalty, the history that was seen, and which of its entries were entered here.
+    /// The network, start rows, penalty and number of plans, the history that was seen, and which of its entries were entered here.
     ghost value: { Self → DeskValue };
+
+    /// How many plans a feed may have.
+    fn plans(&self) -> u32
+        ensures { result ≡ (value self.now).setting.plans };
 
     /// Enters a message, and answers its number. A refusal is the first that applies at the history that is seen, or want of
     /// memory, and nothing is entered then.

@@ -112,7 +112,7 @@ text_front : (version : ℕ) (run : Run) →
 unfolding run_text
 text_front version run = refl
 
-module _ (version : ℕ) (start : RowsValue) (run : Run) (text : List ℕ) (is : IsTextOf version start run text) where
+module _ (version plans : ℕ) (start : RowsValue) (run : Run) (text : List ℕ) (is : IsTextOf version plans start run text) where
   penalty_low : run.penalty ≤ largest_cost
   penalty_low = let low = is.fits.penalty in omega (arith, low)
 
@@ -127,7 +127,7 @@ module _ (version : ℕ) (start : RowsValue) (run : Run) (text : List ℕ) (is :
     few_feeds = is.is_true.few_feeds;
     few_entries = is.is_true.legal.size;
     within = omega arith;
-    each = entries_came (setting_of version start run) run.history run.logs is.is_true.logs [] run.history is.fits.history refl;
+    each = entries_came (setting_of version plans start run) run.history run.logs is.is_true.logs [] run.history is.fits.history refl;
     legal = is.is_true.legal;
     front = is.spelled ∙ text_front version run;
   }

@@ -27,5 +27,5 @@ pub record IsFrontOf (start : RowsValue) (run : Run) (bytes : List ℕ) (history
 -- A front of the text of a true run has no front fault, and the history that it carries is a front of the run's.
 abbrev pub FrontsAreFollowed : Type 0
 FrontsAreFollowed =
-    (version : ℕ) (start : RowsValue) (run : Run) (text front rest : List ℕ) (history : List Entry) → IsTextOf version start run text →
-    text ≡ front ++ rest → IsFollowed run.net start run.penalty front history → IsFrontOf start run front history
+    (version plans : ℕ) (start : RowsValue) (run : Run) (text front rest : List ℕ) (history : List Entry) →
+    IsTextOf version plans start run text → text ≡ front ++ rest → IsFollowed run.net start run.penalty front history → IsFrontOf start run front history

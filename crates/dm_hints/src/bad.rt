@@ -44,6 +44,12 @@ pub fn tell_bad<R: Eprint + Files<File = File>>(
             "dispatcher: line {line}: was the run cut off, or the text not copied whole?"
         );
     }
+    if is_same(kind, "plan") || is_same(kind, "reply") {
+        let plans = files.plans;
+        return eprintln!(rt;
+            "dispatcher: line {line}: are the network, its columns, the delays at the start and --plans={plans} those of the run, and the text unchanged?"
+        );
+    }
     eprintln!(rt;
         "dispatcher: line {line}: are the network, its columns and the delays at the start those of the run, and the text unchanged?"
     )

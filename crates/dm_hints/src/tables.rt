@@ -60,7 +60,14 @@ const WORKERS: u32 = 256;
 
 const AT: u32 = 512;
 
-const FILES: u32 = PENALTY + EVENT_COLUMNS + ACTIVITY_COLUMNS + EVENT_DELAYS + ACTIVITY_DELAYS;
+const PLANS: u32 = 1024;
+
+const FILES: u32 = PENALTY
+    + PLANS
+    + EVENT_COLUMNS
+    + ACTIVITY_COLUMNS
+    + EVENT_DELAYS
+    + ACTIVITY_DELAYS;
 
 /// All commands.
 pub const COMMANDS: [CommandTable; 7] = [
@@ -116,7 +123,7 @@ pub const COMMANDS: [CommandTable; 7] = [
 ];
 
 /// All options.
-pub const OPTIONS: [OptionTable; 10] = [
+pub const OPTIONS: [OptionTable; 11] = [
     OptionTable {
         bit: PENALTY,
         name: "--penalty=",
@@ -125,6 +132,15 @@ pub const OPTIONS: [OptionTable; 10] = [
         most: 1_000_000,
         has_number: true,
         meaning: "seconds for each passenger who misses a change (3600)",
+    },
+    OptionTable {
+        bit: PLANS,
+        name: "--plans=",
+        example: "--plans=16",
+        least: 1,
+        most: 4_096,
+        has_number: true,
+        meaning: "how many plans a feed may have, 1 to 4096 (16)",
     },
     OptionTable {
         bit: BATCH,

@@ -72,7 +72,7 @@ module _ {K : Type 0} (taken : K → Option (List ℕ)) (faults : K → ℕ) (to
     answer_here status text a =
         let same : a.asked ≡ asked = query_is a.asked asked (one_command words (QueryOf a.asked) (QueryOf asked) a.is_asked asks) in
         subst (λ (q : Query). IsAnswerAt q opening.net opening.rows asked.files.penalty bytes status text) (ap (λ (x : QueryAsked). x.query) same)
-        (told_here told words asked.files asked.text about known opening opens bytes held (λ o penalty line. IsAnswerAt a.asked.query o.net o.rows penalty line status text) a.asked.files a.asked.text
+        (told_here told words asked.files asked.text about known opening opens bytes held (λ o files line. IsAnswerAt a.asked.query o.net o.rows files.penalty line status text) a.asked.files a.asked.text
         (record { asked = QueryOf a.asked; is_asked = a.is_asked; reads = refl; names = refl }) a.opening a.opens a.bytes a.held a.answers)
 
     pub answered_ends : (result : Status) → Ends taken faults told is_sound end_boards words before now result → EndsAnswered (IsAnswerAt asked.query opening.net opening.rows asked.files.penalty bytes) (taken before) (taken now) result

@@ -14,13 +14,13 @@ use Rattle.dm_words.specs.declared.queries.Query.{Query}
 use Rattle.dm_words.specs.declared.queries.Query.TheVariants.{Follow, Window, Rules, Journey}
 use Rattle.dm_words.specs.declared.queries.TheConstants.{CHANGES, STANDARD_CHANGES, STANDARD_WORKERS}
 use Rattle.dm_words.specs.declared.command.TheConstants.{BATCH, STANDARD_BATCH}
-use Rattle.dm_words.specs.declared.files.TheConstants.{STANDARD_PENALTY}
+use Rattle.dm_words.specs.declared.files.TheConstants.{PLANS, STANDARD_PENALTY, STANDARD_PLANS}
 use Rattle.dm_network.specs.Net.{Net}
 use Rattle.dm_network.specs.Start.{IsNetwork}
 use Rattle.dm_rows.specs.Active.{HasNoCycle}
 use Rattle.dm_rows.specs.Rows.{RowsValue}
 use Rattle.dm_times.proofs.Meeting.{start_has_no_cycle}
-use Rattle.dm_program.specs.Inside.Stages.{IsAtStart, AreWithin, IsQueryWithin, IsWithin, IsWithinLimits}
+use Rattle.dm_program.specs.Inside.Stages.{IsAtStart, AreWithin, IsCheckWithin, IsQueryWithin, IsWithin, IsWithinLimits}
 use Rattle.dm_program.specs.Inside.Generating.{IsDayWithin}
 
 no_more : (given : Option (List ℕ)) (least most standard n : ℕ) → standard ≤ most → IsNumberOr given least most standard n → n ≤ most
@@ -49,11 +49,15 @@ asked_within (word ∷ words) asked asks =
       workers = workers_within words asked.workers asks.1.workers;
     }
 
-pub check_within : (words : List (List ℕ)) (asked : CheckAsked) → Asks words (CheckOf asked) → asked.files.penalty ≤ PENALTY
+pub check_within : (words : List (List ℕ)) (asked : CheckAsked) → Asks words (CheckOf asked) → IsCheckWithin asked
 check_within [] asked asks = absurd asks
 check_within (word ∷ words) asked asks =
     let penalty = asks.1.files.penalty in
-    no_more penalty.value 0 PENALTY STANDARD_PENALTY asked.files.penalty (omega arith) penalty.is
+    let plans = asks.1.files.plans in
+    record {
+      penalty = no_more penalty.value 0 PENALTY STANDARD_PENALTY asked.files.penalty (omega arith) penalty.is;
+      plans = let few = no_more plans.value 1 PLANS STANDARD_PLANS asked.files.plans (omega arith) plans.is in omega (arith, few);
+    }
 
 pub day_within : (words : List (List ℕ)) (asked : GenAsked) → Asks words (GenOf asked) → IsDayWithin asked
 day_within [] asked asks = absurd asks

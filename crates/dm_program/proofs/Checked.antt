@@ -6,7 +6,7 @@ use Rattle.dm_outside.specs.Faults.{HasRisen}
 use Rattle.dm_outside.specs.declared.faults.TakeFault.{TakeFault}
 use Rattle.dm_outside.specs.declared.faults.TakeFault.TheVariants.{ReadFault as NotRead, TooLong as TooMany, OutOfMemory}
 use Rattle.dm_input.specs.Input.{Told, IsHeld, Opening, OpeningAnswer}
-use Rattle.dm_words.specs.Words.{CheckAsked, CheckOf, QueryAsked, QueryOf, Asks}
+use Rattle.dm_words.specs.Words.{CheckAsked, CheckOf, FilesAsked, QueryAsked, QueryOf, Asks}
 use Rattle.dm_words.proofs.OneCommand.{one_command}
 use Rattle.dm_cert.specs.RunTexts.{Run}
 use Rattle.dm_cert.specs.Runs.{IsRunText}
@@ -36,13 +36,13 @@ module _ {K : Type 0} (taken : K → Option (List ℕ)) (faults : K → ℕ) (to
 
   -- ---- what was done is due
 
-  due_verdict : (opening : Opening) → OpeningAnswer told asked.files (Ok opening) → end_boards None → (verdict : Verdict) → IsJudged told asked.text opening.net opening.rows asked.files.penalty verdict → IsDue told is_sound end_boards words (verdict_status verdict) (verdict_line verdict)
+  due_verdict : (opening : Opening) → OpeningAnswer told asked.files (Ok opening) → end_boards None → (verdict : Verdict) → IsJudged told asked.text opening.net opening.rows asked.files.penalty asked.files.plans verdict → IsDue told is_sound end_boards words (verdict_status verdict) (verdict_line verdict)
   due_verdict opening opens left (GoodVerdict entries plans) judged =
       inr (inr (inl (record { asked = asked; is_asked = asks; opening = opening; opens = opens; bytes = judged.bytes; held = judged.held; short = judged.short; verdict = GoodVerdict entries plans; is_verdict = judged.is_verdict; has_status = refl; run_texts = (λ well. judged.good.0 tt, λ is. refl); is_line = refl; boards = left })))
   due_verdict opening opens left (BadVerdict line kind) judged =
       inl (record { asked = asked; is_asked = asks; opening = opening; opens = opens; bytes = judged.bytes; held = judged.held; short = judged.short; verdict = BadVerdict line kind; is_verdict = judged.is_verdict; has_status = refl; run_texts = (λ well. absurd (bad_is_not_well well), λ is. absurd (judged.good.1 is)); is_line = refl; boards = left })
 
-  ends_by : (opening : Opening) → OpeningAnswer told asked.files (Ok opening) → end_boards None → (judgement : Result Verdict TakeFault) (result : Status) → Judges told is_sound asked.text opening.net opening.rows asked.files.penalty judgement → EndsBy taken faults asked.text judgement before now result → Ends taken faults told is_sound end_boards words before now result
+  ends_by : (opening : Opening) → OpeningAnswer told asked.files (Ok opening) → end_boards None → (judgement : Result Verdict TakeFault) (result : Status) → Judges told is_sound asked.text opening.net opening.rows asked.files.penalty asked.files.plans judgement → EndsBy taken faults asked.text judgement before now result → Ends taken faults told is_sound end_boards words before now result
   ends_by opening opens left (Ok verdict) result judges h = ends_due taken faults told is_sound end_boards words before now (verdict_status verdict) (verdict_line verdict) result (due_verdict opening opens left verdict judges) h
   ends_by opening opens left (Err NotRead) result judges h =
       ends_due taken faults told is_sound end_boards words before now ReadFault (unread_text_line asked.text) result (inr (inl (record { files = asked.files; text = asked.text; about = about; opening = opening; opens = opens; unsound = judges; is_line = refl; boards = left }))) h
@@ -61,17 +61,17 @@ module _ {K : Type 0} (taken : K → Option (List ℕ)) (faults : K → ℕ) (to
 
   module _ (known : IsSome told) (opening : Opening) (opens : OpeningAnswer told asked.files (Ok opening)) (bytes : List ℕ) (held : IsHeld told asked.text bytes) (short : length bytes ≤ TEXT) where
     -- what is said of the text over one opening is said over the other
-    said_here : (P : Opening → ℕ → List ℕ → Type 0) (status : Status) (line : List ℕ) (v : IsVerdictFor told end_boards words status line) → P v.opening v.asked.files.penalty v.bytes → P opening asked.files.penalty bytes
+    said_here : (P : Opening → FilesAsked → List ℕ → Type 0) (status : Status) (line : List ℕ) (v : IsVerdictFor told end_boards words status line) → P v.opening v.asked.files v.bytes → P opening asked.files bytes
     said_here P status line v said =
         told_here told words asked.files asked.text about known opening opens bytes held P v.asked.files v.asked.text (record { asked = CheckOf v.asked; is_asked = v.is_asked; reads = refl; names = refl }) v.opening v.opens v.bytes v.held said
 
-    told_verdict : (verdict : Verdict) → IsVerdict opening.net opening.rows asked.files.penalty bytes verdict → (status : Status) (line : List ℕ) → IsVerdictFor told end_boards words status line → (status ≡ verdict_status verdict) × (line ≡ verdict_line verdict)
+    told_verdict : (verdict : Verdict) → IsVerdict opening.net opening.rows asked.files.penalty asked.files.plans bytes verdict → (status : Status) (line : List ℕ) → IsVerdictFor told end_boards words status line → (status ≡ verdict_status verdict) × (line ≡ verdict_line verdict)
     told_verdict verdict is status line v =
-        let here = said_here (λ o penalty text. IsVerdict o.net o.rows penalty text v.verdict) status line v v.is_verdict in
-        let same : v.verdict ≡ verdict = verdicts_are_one opening.net opening.rows asked.files.penalty bytes v.verdict verdict here is in
+        let here = said_here (λ o files text. IsVerdict o.net o.rows files.penalty files.plans text v.verdict) status line v v.is_verdict in
+        let same : v.verdict ≡ verdict = verdicts_are_one opening.net opening.rows asked.files.penalty asked.files.plans bytes v.verdict verdict here is in
         (v.has_status ∙ ap verdict_status same, v.is_line ∙ ap verdict_line same)
 
-    pub judged_ends : (verdict : Verdict) → IsVerdict opening.net opening.rows asked.files.penalty bytes verdict → (result : Status) → Ends taken faults told is_sound end_boards words before now result → EndsTold (verdict_status verdict) (verdict_line verdict) (taken before) (taken now) result
+    pub judged_ends : (verdict : Verdict) → IsVerdict opening.net opening.rows asked.files.penalty asked.files.plans bytes verdict → (result : Status) → Ends taken faults told is_sound end_boards words before now result → EndsTold (verdict_status verdict) (verdict_line verdict) (taken before) (taken now) result
     judged_ends verdict is result h =
         elim (text_ends taken faults told is_sound end_boards words before now asked.files asked.text about known opening opens bytes held short result h) [
           | inl w ↦ elim (w.holds) [
@@ -94,10 +94,10 @@ module _ {K : Type 0} (taken : K → Option (List ℕ)) (faults : K → ℕ) (to
         ]
 
     -- a text of a true run is told good
-    never_bad : IsRunText opening.net opening.rows asked.files.penalty bytes → (line : List ℕ) → IsVerdictFor told end_boards words Bad line → ⊥
-    never_bad is line v = said_here (λ o penalty text. IsRunText o.net o.rows penalty text → ⊥) Bad line v (λ there. bad_is_not_well (v.run_texts.1 there)) is
+    never_bad : IsRunText opening.net opening.rows asked.files.penalty asked.files.plans bytes → (line : List ℕ) → IsVerdictFor told end_boards words Bad line → ⊥
+    never_bad is line v = said_here (λ o files text. IsRunText o.net o.rows files.penalty files.plans text → ⊥) Bad line v (λ there. bad_is_not_well (v.run_texts.1 there)) is
 
-    pub run_text_ends : IsRunText opening.net opening.rows asked.files.penalty bytes → IsSoundFor is_sound asked.files asked.text → (HasRisen (faults before) (faults now) → ⊥) → (result : Status) → Ends taken faults told is_sound end_boards words before now result → (result ≡ Well) ⊎ (result ≡ NoMemory)
+    pub run_text_ends : IsRunText opening.net opening.rows asked.files.penalty asked.files.plans bytes → IsSoundFor is_sound asked.files asked.text → (HasRisen (faults before) (faults now) → ⊥) → (result : Status) → Ends taken faults told is_sound end_boards words before now result → (result ≡ Well) ⊎ (result ≡ NoMemory)
     run_text_ends is sound unrisen result h =
         elim (check_ends_well sound unrisen result h) [
           | inl well ↦ inl well

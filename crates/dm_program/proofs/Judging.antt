@@ -12,22 +12,22 @@ use Rattle.dm_program.specs.declared.status.Status.{Status}
 use Rattle.dm_program.specs.Inside.Checking.{IsJudged, Judges, EndsJudged}
 
 -- bytes that were not taken are not judged, for the same reason
-pub not_taken : (told : Told) (is_sound : List ℕ → Type 0) (name : List ℕ) (net : Net) (rows : RowsValue) (penalty : ℕ) (fault : TakeFault) → Takes told is_sound name TEXT (Err fault) → Judges told is_sound name net rows penalty (Err fault)
-not_taken told is_sound name net rows penalty NotRead h = h
-not_taken told is_sound name net rows penalty TooMany h = h
-not_taken told is_sound name net rows penalty OutOfMemory h = tt
+pub not_taken : (told : Told) (is_sound : List ℕ → Type 0) (name : List ℕ) (net : Net) (rows : RowsValue) (penalty plans : ℕ) (fault : TakeFault) → Takes told is_sound name TEXT (Err fault) → Judges told is_sound name net rows penalty plans (Err fault)
+not_taken told is_sound name net rows penalty plans NotRead h = h
+not_taken told is_sound name net rows penalty plans TooMany h = h
+not_taken told is_sound name net rows penalty plans OutOfMemory h = tt
 
-judges_before : (told before : Told) (is_sound sound_before : List ℕ → Type 0) (name : List ℕ) (net : Net) (rows : RowsValue) (penalty : ℕ) → told ≡ before → ((n : List ℕ) → sound_before n → is_sound n)
-    → (judgement : Result Verdict TakeFault) → Judges told is_sound name net rows penalty judgement → Judges before sound_before name net rows penalty judgement
-judges_before told before is_sound sound_before name net rows penalty same sound (Ok verdict) h = subst (λ (t : Told). IsJudged t name net rows penalty verdict) same h
-judges_before told before is_sound sound_before name net rows penalty same sound (Err NotRead) h = λ s. h (sound name s)
-judges_before told before is_sound sound_before name net rows penalty same sound (Err TooMany) h = subst (λ (t : Told). IsLong t name TEXT) same h
-judges_before told before is_sound sound_before name net rows penalty same sound (Err OutOfMemory) h = tt
+judges_before : (told before : Told) (is_sound sound_before : List ℕ → Type 0) (name : List ℕ) (net : Net) (rows : RowsValue) (penalty plans : ℕ) → told ≡ before → ((n : List ℕ) → sound_before n → is_sound n)
+    → (judgement : Result Verdict TakeFault) → Judges told is_sound name net rows penalty plans judgement → Judges before sound_before name net rows penalty plans judgement
+judges_before told before is_sound sound_before name net rows penalty plans same sound (Ok verdict) h = subst (λ (t : Told). IsJudged t name net rows penalty plans verdict) same h
+judges_before told before is_sound sound_before name net rows penalty plans same sound (Err NotRead) h = λ s. h (sound name s)
+judges_before told before is_sound sound_before name net rows penalty plans same sound (Err TooMany) h = subst (λ (t : Told). IsLong t name TEXT) same h
+judges_before told before is_sound sound_before name net rows penalty plans same sound (Err OutOfMemory) h = tt
 
-pub judged_before : {H K : Type 0} (files : H → Told) (is_sound : H → List ℕ → Type 0) (taken : K → Option (List ℕ)) (faults : K → ℕ) (one two : H) (name : List ℕ) (net : Net) (rows : RowsValue) (penalty : ℕ) (before now : K) (result : Status) → IsKept files is_sound one two
-    → EndsJudged taken faults (files two) (is_sound two) name net rows penalty before now result → EndsJudged taken faults (files one) (is_sound one) name net rows penalty before now result
-judged_before files is_sound taken faults one two name net rows penalty before now result kept e = record {
+pub judged_before : {H K : Type 0} (files : H → Told) (is_sound : H → List ℕ → Type 0) (taken : K → Option (List ℕ)) (faults : K → ℕ) (one two : H) (name : List ℕ) (net : Net) (rows : RowsValue) (penalty plans : ℕ) (before now : K) (result : Status) → IsKept files is_sound one two
+    → EndsJudged taken faults (files two) (is_sound two) name net rows penalty plans before now result → EndsJudged taken faults (files one) (is_sound one) name net rows penalty plans before now result
+judged_before files is_sound taken faults one two name net rows penalty plans before now result kept e = record {
   judgement = e.judgement;
-  judges = judges_before (files two) (files one) (is_sound two) (is_sound one) name net rows penalty kept.same kept.sound e.judgement e.judges;
+  judges = judges_before (files two) (files one) (is_sound two) (is_sound one) name net rows penalty plans kept.same kept.sound e.judgement e.judges;
   ends = e.ends;
 }

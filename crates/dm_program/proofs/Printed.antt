@@ -25,14 +25,14 @@ use Rattle.dm_program.specs.Inside.Stages.{IsOpenedAs, IsOpened, AreOpened, AreW
 
 -- ---- one run
 
-module _ {S : Type 0} (left : S → Option (List ℕ)) (source_sound : S → Type 0) (net : Net) (rows : RowsValue) (price : ℕ) (feeds : List (Option S)) (batch : ℕ) (table : TableValue) (logs : List FeedLog) (notes : List Note) (r : AnswersDay left source_sound net rows price feeds batch table logs) where
+module _ {S : Type 0} (left : S → Option (List ℕ)) (source_sound : S → Type 0) (net : Net) (rows : RowsValue) (price plans : ℕ) (feeds : List (Option S)) (batch : ℕ) (table : TableValue) (logs : List FeedLog) (notes : List Note) (r : AnswersDay left source_sound net rows price plans feeds batch table logs) where
   pub run_is_spelled : IsSpelledRun (run_in table logs notes)
   run_is_spelled = record {
     logs = λ k d low. r.answers.spelled k (get_or logs k d) (slice_get-get_or logs k d low);
     times = r.is_table.least.meets.size;
   }
 
-  logs_are_true : AreTrueLogs (table_desk table).setting table.history logs
+  logs_are_true : AreTrueLogs (table_desk plans table).setting table.history logs
   logs_are_true = record {
     each = r.answers.are_true;
     once = λ n some low.
@@ -40,7 +40,7 @@ module _ {S : Type 0} (left : S → Option (List ℕ)) (source_sound : S → Typ
         omega (arith, r.answers.named n, before, each_once (length table.history) n some low);
   }
 
-  run_is_true : AreTrueNotes (length table.history) notes → 1 ≤ length logs → length logs ≤ 64 → IsTrueRun 2 table.start (run_in table logs notes)
+  run_is_true : AreTrueNotes (length table.history) notes → 1 ≤ length logs → length logs ≤ 64 → IsTrueRun 2 plans table.start (run_in table logs notes)
   run_is_true noted some few = record {
     some_feed = some;
     few_feeds = few;
@@ -80,9 +80,9 @@ module _ {S : Type 0} (left : S → Option (List ℕ)) (source_sound : S → Typ
 
   -- ---- its text
 
-  pub is_run_of : (told : Told) (is_sound : List ℕ → Type 0) (end_boards : Option Run → Type 0) (words : List (List ℕ)) (asked : RunAsked) (opening : Opening) → Asks words (RunOf asked) → AreWithin asked → OpeningAnswer told asked.files (Ok opening) → opening.net ≡ net → opening.rows ≡ rows → price ≡ asked.files.penalty
+  pub is_run_of : (told : Told) (is_sound : List ℕ → Type 0) (end_boards : Option Run → Type 0) (words : List (List ℕ)) (asked : RunAsked) (opening : Opening) → Asks words (RunOf asked) → AreWithin asked → OpeningAnswer told asked.files (Ok opening) → opening.net ≡ net → opening.rows ≡ rows → price ≡ asked.files.penalty → plans ≡ asked.files.plans
       → batch ≡ asked.batch → AreOpened left source_sound told is_sound asked.feeds feeds → FitsRun (run_in table logs notes) → AreTrueNotes (length table.history) notes → end_boards (Some (run_in table logs notes)) → (status : Status) → status ≡ status_of logs → IsRunOf told is_sound end_boards words status (run_text 2 (run_in table logs notes))
-  is_run_of told is_sound end_boards words asked opening asks within opens is_net is_rows is_price is_batch opened fits noted boards status is_status =
+  is_run_of told is_sound end_boards words asked opening asks within opens is_net is_rows is_price is_plans is_batch opened fits noted boards status is_status =
       let of = logs_of_names told is_sound asked.feeds opened in
       let start : table.start ≡ opening.rows = r.start ∙ sym is_rows in
       record {
@@ -99,7 +99,7 @@ module _ {S : Type 0} (left : S → Option (List ℕ)) (source_sound : S → Typ
         has_status = is_status;
         is_text = record {
           is_version = inr refl;
-          is_true = subst (λ (x : RowsValue). IsTrueRun 2 x (run_in table logs notes)) start (run_is_true noted (omega (arith, of.as_many, within.some_feed)) (omega (arith, of.as_many, within.few_feeds)));
+          is_true = subst (λ (n : ℕ). IsTrueRun 2 n opening.rows (run_in table logs notes)) is_plans (subst (λ (x : RowsValue). IsTrueRun 2 plans x (run_in table logs notes)) start (run_is_true noted (omega (arith, of.as_many, within.some_feed)) (omega (arith, of.as_many, within.few_feeds))));
           fits = fits;
           is_spelled = run_is_spelled;
           spelled = refl;

@@ -141,11 +141,11 @@ module _ {K : Type 0} (taken : K → Option (List ℕ)) (faults : K → ℕ) (to
 -- ---- what is told of bytes over one opening is told over the other
 
 module _ (told : Told) (words : List (List ℕ)) (files : FilesAsked) (text : List ℕ) (about : AsksAbout words files text) (known : IsSome told) (opening : Opening) (opens : OpeningAnswer told files (Ok opening)) (bytes : List ℕ) (held : IsHeld told text bytes) where
-  pub told_here : (P : Opening → ℕ → List ℕ → Type 0) (others : FilesAsked) (name : List ℕ) (also : AsksAbout words others name) (other : Opening) → OpeningAnswer told others (Ok other) → (line : List ℕ) → IsHeld told name line → P other others.penalty line → P opening files.penalty bytes
+  pub told_here : (P : Opening → FilesAsked → List ℕ → Type 0) (others : FilesAsked) (name : List ℕ) (also : AsksAbout words others name) (other : Opening) → OpeningAnswer told others (Ok other) → (line : List ℕ) → IsHeld told name line → P other others line → P opening files bytes
   told_here P others name also other answers line holds said =
       let same : others ≡ files = same_files words others files (about_over words others name also) (about_over words files text about) in
       let one : other ≡ opening = opening_is_one told files known (Ok other) (Ok opening) (subst (λ (f : FilesAsked). OpeningAnswer told f (Ok other)) same answers) opens in
       let is : line ≡ bytes = held_is told text line bytes known (subst (λ (n : List ℕ). IsHeld told n line) (same_text words others files name text also about) holds) held in
-      subst (P opening files.penalty) is
-      (subst (λ (o : Opening). P o files.penalty line) one
-      (subst (λ (f : FilesAsked). P other f.penalty line) same said))
+      subst (P opening files) is
+      (subst (λ (o : Opening). P o files line) one
+      (subst (λ (f : FilesAsked). P other f line) same said))

@@ -14,8 +14,8 @@ use Rattle.dm_program.specs.declared.status.Status.TheVariants.{Ok as Well}
 use Rattle.dm_program.specs.Commands.{AsksAbout}
 use Rattle.dm_program.specs.Verdicts.{verdict_line, verdict_status, long_text_line, unread_text_line}
 
--- The line is the verdict on the text, over the network and the start rows of the files and at the penalty of the words: that it is
--- good, with so many entries and plans, or the first record that breaks its rule. The status is the verdict's. The good texts are
+-- The line is the verdict on the text, over the network and the start rows of the files, at the penalty of the words and for as many
+-- plans of a feed as they say: that it is good, with so many entries and plans, or the first record that breaks its rule. The status is the verdict's. The good texts are
 -- exactly the spellings, in one of the versions, of true runs.
 pub record IsVerdictFor (told : Told) (end_boards : Option Run → Type 0) (words : List (List ℕ)) (status : Status) (line : List ℕ) : Type 0 where
   pub asked : CheckAsked
@@ -26,9 +26,9 @@ pub record IsVerdictFor (told : Told) (end_boards : Option Run → Type 0) (word
   pub held : IsHeld told asked.text bytes
   pub short : length bytes ≤ TEXT
   pub verdict : Verdict
-  pub is_verdict : IsVerdict opening.net opening.rows asked.files.penalty bytes verdict
+  pub is_verdict : IsVerdict opening.net opening.rows asked.files.penalty asked.files.plans bytes verdict
   pub has_status : status ≡ verdict_status verdict
-  pub run_texts : (status ≡ Well) ↔ IsRunText opening.net opening.rows asked.files.penalty bytes
+  pub run_texts : (status ≡ Well) ↔ IsRunText opening.net opening.rows asked.files.penalty asked.files.plans bytes
   pub is_line : line ≡ verdict_line verdict
   pub boards : end_boards None
 

@@ -9,7 +9,7 @@ use Rattle.dm_program.specs.declared.status.Status.{Status}
 use Rattle.dm_program.specs.Feeds.{AreLogsOf, status_of}
 
 -- The text is that of a true run, in version 2: of the network and the start rows that the words and the bytes under their
--- names determine, at the penalty of the words, with a log for each feed. The logs keep to rounds of the words' batch, the
+-- names determine, at the penalty of the words, with a log for each feed, which may have as many plans as the words say. The logs keep to rounds of the words' batch, the
 -- status is theirs, and the boards end as those of the run.
 pub record IsRunOf (told : Told) (is_sound : List ℕ → Type 0) (end_boards : Option Run → Type 0) (words : List (List ℕ)) (status : Status) (text : List ℕ) : Type 0 where
   pub asked : RunAsked
@@ -23,4 +23,4 @@ pub record IsRunOf (told : Told) (is_sound : List ℕ → Type 0) (end_boards : 
   pub logs : AreLogsOf told is_sound asked.feeds run.logs
   pub rounds : KeepsRounds run.logs asked.batch
   pub has_status : status ≡ status_of run.logs
-  pub is_text : IsTextOf 2 opening.rows run text
+  pub is_text : IsTextOf 2 asked.files.plans opening.rows run text

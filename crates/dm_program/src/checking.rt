@@ -1,10 +1,10 @@
 //! A check of a text, from its words to its verdict.
-ghost use Rattle.std.specs.Prelude.{◌≡◌, ◌≤◌};
-ghost use Rattle.dm_base.specs.declared.limits.TheConstants.{PENALTY};
+ghost use Rattle.std.specs.Prelude.{◌≤◌};
 ghost use Rattle.dm_rows.specs.Rows.{IsSized};
 ghost use Rattle.dm_input.specs.Stops.{IsKept};
 ghost use Rattle.dm_words.specs.Asked.{check_of};
 ghost use Rattle.dm_program.specs.Inside.Checking.{Judges, EndsJudged, EndsChecked};
+ghost use Rattle.dm_program.specs.Inside.Stages.{IsCheckWithin};
 
 use crate::ends::{end_long_text, end_stopped, end_unread_text, end_verdict};
 use crate::status::Status;
@@ -25,7 +25,7 @@ pub fn check_text<H: Shelf, K: Sink>(
     shelf: &mut H,
     out: &mut K,
 ) -> Status
-    requires penalty { (check_of words.now).files.penalty ≤ PENALTY }
+    requires within { IsCheckWithin (check_of words.now) }
     ensures ends { EndsChecked K.taken K.faults (H.files shelf.old) (H.is_sound shelf.old) (check_of words.now) out.old out.new result }
     ensures kept { IsKept H.files H.is_sound shelf.old shelf.new }
     ensures later { K.faults out.old ≤ K.faults out.new }
@@ -35,54 +35,53 @@ pub fn check_text<H: Shelf, K: Sink>(
         Err(stop) => return end_stopped(&words.files, &stop, out),
     };
     let Opened { net, rows } = opened;
-    let penalty = words.files.penalty;
-    judge_text(alloc, &net, &rows, penalty, words.text, shelf, out)
+    judge_text(alloc, &net, &rows, words, shelf, out)
 }
 
-/// Opens a text, and prints the verdict on it, or why there is none.
+/// Opens the text that the words name, and prints the verdict on it, or why there is none.
 fn judge_text<H: Shelf, K: Sink>(
     alloc: Global,
     net: &Network,
     rows: &Rows,
-    penalty: u64,
-    name: &str,
+    words: &CheckWords<'_>,
     shelf: &mut H,
     out: &mut K,
 ) -> Status
     requires sized { IsSized net.now rows.now }
-    requires penalty { penalty ≤ PENALTY }
-    ensures ends { EndsJudged K.taken K.faults (H.files shelf.old) (H.is_sound shelf.old) name.now net.now rows.now penalty out.old out.new
-        result }
+    requires within { IsCheckWithin (check_of words.now) }
+    ensures ends { EndsJudged K.taken K.faults (H.files shelf.old) (H.is_sound shelf.old) (check_of words.now).text net.now rows.now
+        (check_of words.now).files.penalty (check_of words.now).files.plans out.old out.new result }
     ensures kept { IsKept H.files H.is_sound shelf.old shelf.new }
     ensures later { K.faults out.old ≤ K.faults out.new }
 {
-    match verdict_on(alloc, net, rows, penalty, name, shelf) {
+    match verdict_on(alloc, net, rows, words, shelf) {
         Ok(verdict) => end_verdict(verdict, out),
-        Err(TakeFault::ReadFault) => end_unread_text(name, out),
-        Err(TakeFault::TooLong) => end_long_text(name, out),
+        Err(TakeFault::ReadFault) => end_unread_text(words.text, out),
+        Err(TakeFault::TooLong) => end_long_text(words.text, out),
         Err(TakeFault::OutOfMemory) => Status::NoMemory,
     }
 }
 
-/// The verdict on the text of a name.
+/// The verdict on the text that the words name.
 fn verdict_on<H: Shelf>(
     alloc: Global,
     net: &Network,
     rows: &Rows,
-    penalty: u64,
-    name: &str,
+    words: &CheckWords<'_>,
     shelf: &mut H,
 ) -> Result<Verdict, TakeFault>
     requires sized { IsSized net.now rows.now }
-    requires penalty { penalty ≤ PENALTY }
-    ensures judges { Judges (H.files shelf.old) (H.is_sound shelf.old) name.now net.now rows.now penalty result }
+    requires within { IsCheckWithin (check_of words.now) }
+    ensures judges { Judges (H.files shelf.old) (H.is_sound shelf.old) (check_of words.now).text net.now rows.now
+        (check_of words.now).files.penalty (check_of words.now).files.plans result }
     ensures kept { IsKept H.files H.is_sound shelf.old shelf.new }
 {
-    let text = match take_name(alloc, shelf, name, TEXT) {
+    let text = match take_name(alloc, shelf, words.text, TEXT) {
         Ok(text) => text,
         Err(fault) => return Err(fault),
     };
-    match judge(alloc, net, rows, penalty, &text) {
+    let (penalty, plans) = (words.files.penalty, words.files.plans);
+    match judge(alloc, net, rows, penalty, plans, &text) {
         Ok(verdict) => Ok(verdict),
         Err(AllocError) => Err(TakeFault::OutOfMemory),
     }

@@ -66,6 +66,7 @@ pub fn run_feeds<R: Threads + Wait + Sync, H: Shelf, K: Sink, G: Hold + Sync>(
         &net,
         rows,
         run.files.penalty,
+        run.files.plans,
         feeds,
         run.batch as u32,
         run.workers,
@@ -79,12 +80,13 @@ pub fn run_feeds<R: Threads + Wait + Sync, H: Shelf, K: Sink, G: Hold + Sync>(
 
 /// Answers feeds over a network in rounds, from the rows before any message. In a round each feed has a thread of its own where
 /// two or more are still read and one can be made; else the caller answers it. Boards are shown the times before the first round
-/// and after each. So many workers search for each plan, in threads of their own.
+/// and after each. Each feed may have so many plans. So many workers search for each plan, in threads of their own.
 pub fn answer_run<'n, R: Threads + Wait + Sync, S: Source + Send + Drop, H: Hold + Sync>(
     means: &Means<'_, R, H>,
     net: &'n Network,
     rows: Rows,
     penalty: u64,
+    plans: u32,
     feeds: Vec<Option<S>>,
     batch: u32,
     workers: u32,
@@ -97,7 +99,8 @@ pub fn answer_run<'n, R: Threads + Wait + Sync, S: Source + Send + Drop, H: Hold
     requires some { 0 < batch }
     requires workers { (1 ≤ workers) × (workers ≤ WORKERS) }
     requires few_boards { vec_len boards.old ≤ BOARDS }
-    ensures answers { IfOk result (λ day. AnswersDay S.left S.is_sound net.now rows penalty feeds.items batch day.table day.logs.items) }
+    ensures answers { IfOk result (λ day. AnswersDay S.left S.is_sound net.now rows penalty plans feeds.items batch day.table
+        day.logs.items) }
     ensures shown { IfOk result (λ day. AreShown place times (λ b. (Board-box b).faults b.value) (λ b. (Board-box b).is_sound b.value)
         net.now day.table.times (length day.table.history) day.publisher.notes boards.old.items boards.new.items) }
     ensures stops { map place boards.new.items ≡ map place boards.old.items }
@@ -126,6 +129,7 @@ pub fn answer_run<'n, R: Threads + Wait + Sync, S: Source + Send + Drop, H: Hold
         net,
         rows,
         penalty,
+        plans,
         feeds,
         &planner,
         means.gate,

@@ -93,7 +93,7 @@ pub fn dispatch<R: Threads + Wait + Sync, H: Shelf, K: Sink, G: Gate>(
     ensures judged { (asked : CheckAsked) (opening : Opening) (bytes : List ℕ) (verdict : Verdict)
         → Asks (map string_bytes words.now) (CheckOf asked) → IsSome (H.files shelf.old)
         → OpeningAnswer (H.files shelf.old) asked.files (Ok opening) → IsHeld (H.files shelf.old) asked.text bytes → length bytes ≤ TEXT
-        → IsVerdict opening.net opening.rows asked.files.penalty bytes verdict
+        → IsVerdict opening.net opening.rows asked.files.penalty asked.files.plans bytes verdict
         → EndsTold (verdict_status verdict) (verdict_line verdict) (K.taken out.old) (K.taken out.new) result }
 
     // What is asked of the journal of a text is answered from its bytes, but for the same: a line that breaks its rule is told,
@@ -122,7 +122,7 @@ pub fn dispatch<R: Threads + Wait + Sync, H: Shelf, K: Sink, G: Gate>(
     ensures run_texts_are_good { (asked : CheckAsked) (opening : Opening) (bytes : List ℕ)
         → Asks (map string_bytes words.now) (CheckOf asked) → IsSome (H.files shelf.old)
         → OpeningAnswer (H.files shelf.old) asked.files (Ok opening) → IsHeld (H.files shelf.old) asked.text bytes → length bytes ≤ TEXT
-        → IsRunText opening.net opening.rows asked.files.penalty bytes → IsSoundFor (H.is_sound shelf.old) asked.files asked.text
+        → IsRunText opening.net opening.rows asked.files.penalty asked.files.plans bytes → IsSoundFor (H.is_sound shelf.old) asked.files asked.text
         → (HasRisen (K.faults out.old) (K.faults out.new) → ⊥)
         → (result ≡ Status.Ok) ⊎ (result ≡ Status.NoMemory) }
 

@@ -141,8 +141,8 @@ log_held s history place log few fits is = record {
 
 -- ---- runs
 
-pub is_in_print : (version : ℕ) (start : RowsValue) (run : Run) (text : List ℕ) → IsNetwork run.net → IsWithinLimits run.net → IsTextOf version start run text → IsInPrint run
-is_in_print version start run text network limits is =
+pub is_in_print : (version plans : ℕ) (start : RowsValue) (run : Run) (text : List ℕ) → IsNetwork run.net → IsWithinLimits run.net → IsTextOf version plans start run text → IsInPrint run
+is_in_print version plans start run text network limits is =
     let entries : length run.history ≤ 1000000 = is.is_true.legal.size in
     let feeds : length run.logs ≤ 64 = is.is_true.few_feeds in
     let boards : length run.notes ≤ 64 = is.is_true.notes.few in
@@ -153,16 +153,16 @@ is_in_print version start run text network limits is =
         history = omega (arith, entries);
         feeds = omega (arith, feeds);
         logs = λ k d below.
-            log_held (setting_of version start run) run.history k (get_or run.logs k d) (λ rows. few_choices run.net rows network limits) (is.fits.logs k d below)
+            log_held (setting_of version plans start run) run.history k (get_or run.logs k d) (λ rows. few_choices run.net rows network limits) (is.fits.logs k d below)
             (is.is_true.logs.each k (get_or run.logs k d) (slice_get-get_or run.logs k d below));
         notes = omega (arith, boards);
       };
     }
 
 pub texts_tell_one_run : TextsTellOneRun
-texts_tell_one_run version other_version start other_start one other text network limits is also net =
-    let good = is_in_print version start one text network limits is in
-    let good_too = is_in_print other_version other_start other text (subst IsNetwork net network) (subst IsWithinLimits net limits) also in
+texts_tell_one_run version other_version plans other_plans start other_start one other text network limits is also net =
+    let good = is_in_print version plans start one text network limits is in
+    let good_too = is_in_print other_version other_plans other_start other text (subst IsNetwork net network) (subst IsWithinLimits net limits) also in
     let same = runs_have_own_texts version other_version one other [] [] is.is_version also.is_version good good_too net
     (ap (λ xs. xs ++ []) (sym is.spelled ∙ also.spelled)) in
     record { same_version = same.same_version; run = same.run }

@@ -81,10 +81,11 @@ pub record IsOneRun (version other_version : ℕ) (one other : Run) : Type 0 whe
   pub same_version : version ≡ other_version
   pub run : one ≡ other
 
--- Where one text is that of two true runs over one network, from whatever rows, they are one run in one version: a true text
--- tells all that is in it. No list is too long here, since the truth of a run keeps its lists short.
+-- Where one text is that of two true runs over one network, from whatever rows and with however many plans, they are one run in
+-- one version: a true text tells all that is in it. No list is too long here, since the truth of a run keeps its lists short.
 abbrev pub TextsTellOneRun : Type 0
 TextsTellOneRun =
-    (version other_version : ℕ) (start other_start : RowsValue) (one other : Run) (text : List ℕ) → IsNetwork one.net →
-    IsWithinLimits one.net → IsTextOf version start one text → IsTextOf other_version other_start other text →
+    (version other_version plans other_plans : ℕ) (start other_start : RowsValue) (one other : Run) (text : List ℕ) →
+    IsNetwork one.net → IsWithinLimits one.net → IsTextOf version plans start one text →
+    IsTextOf other_version other_plans other_start other text →
     one.net ≡ other.net → IsOneRun version other_version one other

@@ -17,26 +17,26 @@ use Rattle.dm_truth.proofs.ToldRuns.{good_texts_are_true}
 use Rattle.dm_truth.proofs.WholeRuns.{true_texts_are_good}
 
 pub run_texts_are_the_good_ones : RunTextsAreTheGoodOnes
-run_texts_are_the_good_ones net start penalty text network limits ids within low = (
+run_texts_are_the_good_ones net start penalty most_plans text network limits ids within low = (
   λ is. record {
     entries = length is.history;
     plans = count_by is_plan (all_items is.logs);
-    good = true_texts_are_good is.version start _ text network limits ids is.is_text;
+    good = true_texts_are_good is.version most_plans start _ text network limits ids is.is_text;
   },
-  λ has. good_texts_are_true net start penalty text has.entries has.plans network limits within low has.good,
+  λ has. good_texts_are_true net start penalty most_plans text has.entries has.plans network limits within low has.good,
 )
 
 -- the one verdict on a text is good exactly where this is a run text
-module _ (net : Net) (start : RowsValue) (penalty : ℕ) (text : List ℕ) (network : IsNetwork net) (limits : IsWithinLimits net) (ids : EventIdsFit net) (within : RowsAreWithinLimits start) (low : penalty ≤ PENALTY) where
-  both : IsRunText net start penalty text ↔ HasNoFalseRecord net start penalty text
-  both = run_texts_are_the_good_ones net start penalty text network limits ids within low
+module _ (net : Net) (start : RowsValue) (penalty most_plans : ℕ) (text : List ℕ) (network : IsNetwork net) (limits : IsWithinLimits net) (ids : EventIdsFit net) (within : RowsAreWithinLimits start) (low : penalty ≤ PENALTY) where
+  both : IsRunText net start penalty most_plans text ↔ HasNoFalseRecord net start penalty most_plans text
+  both = run_texts_are_the_good_ones net start penalty most_plans text network limits ids within low
 
-  pub good_exactly : (verdict : Verdict) → IsVerdict net start penalty text verdict → SaysGood verdict ↔ IsRunText net start penalty text
+  pub good_exactly : (verdict : Verdict) → IsVerdict net start penalty most_plans text verdict → SaysGood verdict ↔ IsRunText net start penalty most_plans text
   good_exactly verdict is = (λ says. both.1 (has verdict is says), λ run. told (both.0 run))
     where
-      has : (v : Verdict) → IsVerdict net start penalty text v → SaysGood v → HasNoFalseRecord net start penalty text
+      has : (v : Verdict) → IsVerdict net start penalty most_plans text v → SaysGood v → HasNoFalseRecord net start penalty most_plans text
       has (Good entries plans) good says = record { entries = entries; plans = plans; good = good }
       has (Bad line kind) bad says = absurd says
 
-      told : HasNoFalseRecord net start penalty text → SaysGood verdict
-      told one = subst SaysGood (verdicts_are_one net start penalty text (Good one.entries one.plans) verdict one.good is) tt
+      told : HasNoFalseRecord net start penalty most_plans text → SaysGood verdict
+      told one = subst SaysGood (verdicts_are_one net start penalty most_plans text (Good one.entries one.plans) verdict one.good is) tt

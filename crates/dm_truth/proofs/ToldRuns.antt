@@ -191,9 +191,9 @@ same_default xs k d other below = get_or_from_slice_get xs k (get_or xs k other)
 -- ---- the whole
 
 pub good_texts_are_true : GoodTextsAreTrue
-good_texts_are_true net start penalty text entries plans network limits within low good =
+good_texts_are_true net start penalty most_plans text entries plans network limits within low good =
     let version : ℕ = good.told.value in
-    let s : Setting = record { net = net; start = start; penalty = penalty; version = version } in
+    let s : Setting = record { net = net; start = start; penalty = penalty; plans = most_plans; version = version } in
     let feeds_on = good.told.then.then in
     let entries_on = feeds_on.then in
     let history_on = entries_on.then in
@@ -263,6 +263,6 @@ good_texts_are_true net start penalty text entries plans network limits within l
           logs = all_of_each (IsSoundLog s history) IsSpelledLog (λ before log sound_log. sound_log.spelled) [] logs each_log.each;
           times = each_time.count;
         };
-        spelled = good_is_spelled_so net start penalty text entries plans good ∙ ap (λ (r : Run). run_text version r) cost_on.then.then.1;
+        spelled = good_is_spelled_so net start penalty most_plans text entries plans good ∙ ap (λ (r : Run). run_text version r) cost_on.then.then.1;
       };
     }

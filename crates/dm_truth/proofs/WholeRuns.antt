@@ -39,9 +39,9 @@ number_stands words rule n place rest none fits holds left =
 
 -- ---- the run
 
-module _ (version : ℕ) (start : RowsValue) (run : Run) (text : List ℕ) (ids : EventIdsFit run.net) (is : IsTextOf version start run text) (print : IsInPrint run) where
+module _ (version most_plans : ℕ) (start : RowsValue) (run : Run) (text : List ℕ) (ids : EventIdsFit run.net) (is : IsTextOf version most_plans start run text) (print : IsInPrint run) where
   abbrev s : Setting
-  s = setting_of version start run
+  s = setting_of version most_plans start run
 
   abbrev rows : RowsValue
   rows = rows_after s run.history (length run.history)
@@ -199,15 +199,15 @@ module _ (version : ℕ) (start : RowsValue) (run : Run) (text : List ℕ) (ids 
       ∙ sym (regroup_all (decimal version) (decimal run.penalty) (decimal (length run.logs)) (decimal (length run.history)) (entries_text 1 run.history) (logs_text version 1 run.logs)
       (boards_text (length run.notes)) (flat_map note_text run.notes) (counted (codes "times ") (length run.history)) (timetable_text run.net run.times) (decimal run.cost))
 
-  pub run_stands : Told (TellsRun run.net start run.penalty) run (at_start text) []
+  pub run_stands : Told (TellsRun run.net start run.penalty most_plans) run (at_start text) []
   run_stands =
       then_stands (Reads IsVersionLine) _ version run (at_start text) body_text []
       (line_stands IsVersionLine (counted (codes "dm-run ")) version (at_start text) body_text (version_has_line version is.is_version) text_is)
       (λ p e. body_stands p e)
 
 pub true_texts_are_good : TrueTextsAreGood
-true_texts_are_good version start run text network limits ids is =
-    let told = run_stands version start run text ids is (is_in_print version start run text network limits is) in
+true_texts_are_good version most_plans start run text network limits ids is =
+    let told = run_stands version most_plans start run text ids is (is_in_print version most_plans start run text network limits is) in
     record {
       run = run;
       end = told.next;

@@ -16,16 +16,17 @@ use Rattle.dm_check.specs.FalseRecords.{IsVerdict}
 -- its logs have.
 abbrev pub TrueTextsAreGood : Type 0
 TrueTextsAreGood =
-    (version : ℕ) (start : RowsValue) (run : Run) (text : List ℕ) → IsNetwork run.net → IsWithinLimits run.net →
-    EventIdsFit run.net → IsTextOf version start run text →
-    IsVerdict run.net start run.penalty text (Good (length run.history) (count_by is_plan (all_items run.logs)))
+    (version most_plans : ℕ) (start : RowsValue) (run : Run) (text : List ℕ) → IsNetwork run.net → IsWithinLimits run.net →
+    EventIdsFit run.net → IsTextOf version most_plans start run text →
+    IsVerdict run.net start run.penalty most_plans text (Good (length run.history) (count_by is_plan (all_items run.logs)))
 
--- A good text is that of a true run of the network, from these rows at the start and at this penalty.
+-- A good text is that of a true run of the network, from these rows at the start and at this penalty, where a feed may have so
+-- many plans.
 abbrev pub GoodTextsAreTrue : Type 0
 GoodTextsAreTrue =
-    (net : Net) (start : RowsValue) (penalty : ℕ) (text : List ℕ) (entries plans : ℕ) → IsNetwork net → IsWithinLimits net →
-    RowsAreWithinLimits start → penalty ≤ PENALTY → IsVerdict net start penalty text (Good entries plans) →
-    IsRunText net start penalty text
+    (net : Net) (start : RowsValue) (penalty most_plans : ℕ) (text : List ℕ) (entries plans : ℕ) → IsNetwork net → IsWithinLimits net →
+    RowsAreWithinLimits start → penalty ≤ PENALTY → IsVerdict net start penalty most_plans text (Good entries plans) →
+    IsRunText net start penalty most_plans text
 
 -- the verdict is that the text is good
 abbrev pub SaysGood : Verdict → Type 0
@@ -33,15 +34,15 @@ SaysGood (Good entries plans) = Unit {0}
 SaysGood (Bad line kind) = ⊥
 
 -- some verdict says that no record of the text breaks its rule
-pub record HasNoFalseRecord (net : Net) (start : RowsValue) (penalty : ℕ) (text : List ℕ) : Type 0 where
+pub record HasNoFalseRecord (net : Net) (start : RowsValue) (penalty most_plans : ℕ) (text : List ℕ) : Type 0 where
   pub entries : ℕ
   pub plans : ℕ
-  pub good : IsVerdict net start penalty text (Good entries plans)
+  pub good : IsVerdict net start penalty most_plans text (Good entries plans)
 
--- The run texts of a network, from rows at the start and at a penalty within the limits, are exactly the texts in which no
--- record breaks its rule.
+-- The run texts of a network, from rows at the start and at a penalty within the limits, and for any number of plans, are exactly
+-- the texts in which no record breaks its rule.
 abbrev pub RunTextsAreTheGoodOnes : Type 0
 RunTextsAreTheGoodOnes =
-    (net : Net) (start : RowsValue) (penalty : ℕ) (text : List ℕ) → IsNetwork net → IsWithinLimits net → EventIdsFit net →
-    RowsAreWithinLimits start → penalty ≤ PENALTY →
-    IsRunText net start penalty text ↔ HasNoFalseRecord net start penalty text
+    (net : Net) (start : RowsValue) (penalty most_plans : ℕ) (text : List ℕ) → IsNetwork net → IsWithinLimits net →
+    EventIdsFit net → RowsAreWithinLimits start → penalty ≤ PENALTY →
+    IsRunText net start penalty most_plans text ↔ HasNoFalseRecord net start penalty most_plans text

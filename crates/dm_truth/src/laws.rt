@@ -8,13 +8,13 @@ pub fn true_texts_are_good()
 {}
 
 /// A good text, over a network and rows at the start within the limits, is that of a true run of this network from these rows at
-/// this penalty.
+/// this penalty, where a feed may have so many plans.
 pub fn good_texts_are_true()
     ensures { GoodTextsAreTrue }
 {}
 
-/// Both ways: the run texts of a network, from rows at the start and at a penalty within the limits, are exactly the texts in
-/// which no record breaks its rule.
+/// Both ways: the run texts of a network, from rows at the start and at a penalty within the limits, and for any number of plans,
+/// are exactly the texts in which no record breaks its rule.
 pub fn run_texts_are_the_good_ones()
     ensures { RunTextsAreTheGoodOnes }
 {}

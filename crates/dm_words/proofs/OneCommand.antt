@@ -73,13 +73,14 @@ later_names a c b d e = cc
 pub second_name : (a b c d : List ℕ) → a ∷ b ∷ [] ≡ c ∷ d ∷ [] → b ≡ d
 second_name a b c d e = cc
 
-files_are : (x y : FilesAsked) → x.folder ≡ y.folder → x.penalty ≡ y.penalty → x.columns ≡ y.columns → x.event_delays ≡ y.event_delays → x.activity_delays ≡ y.activity_delays → x ≡ y
-files_are x y folder penalty columns events activities =
+files_are : (x y : FilesAsked) → x.folder ≡ y.folder → x.penalty ≡ y.penalty → x.plans ≡ y.plans → x.columns ≡ y.columns → x.event_delays ≡ y.event_delays → x.activity_delays ≡ y.activity_delays → x ≡ y
+files_are x y folder penalty plans columns events activities =
     ap (λ v. record x { folder = v }) folder
     ∙ (ap (λ v. record x { folder = y.folder; penalty = v }) penalty
-    ∙ (ap (λ v. record x { folder = y.folder; penalty = y.penalty; columns = v }) columns
-    ∙ (ap (λ v. record x { folder = y.folder; penalty = y.penalty; columns = y.columns; event_delays = v }) events
-    ∙ ap (λ v. record y { activity_delays = v }) activities)))
+    ∙ (ap (λ v. record x { folder = y.folder; penalty = y.penalty; plans = v }) plans
+    ∙ (ap (λ v. record x { folder = y.folder; penalty = y.penalty; plans = y.plans; columns = v }) columns
+    ∙ (ap (λ v. record y { event_delays = v; activity_delays = x.activity_delays }) events
+    ∙ ap (λ v. record y { activity_delays = v }) activities))))
 
 files_one : (words : List (List ℕ)) (x y : FilesAsked) → x.folder ≡ y.folder → AsksFiles words x → AsksFiles words y → x ≡ y
 files_one words x y folder p q =
@@ -88,7 +89,8 @@ files_one words x y folder p q =
     let columns = columns_one (event_words q.events) (activity_words q.activities) (Ok x.columns) (Ok y.columns)
     (subst (λ (a : Option (List ℕ)). ReadsFileColumns (event_words q.events) (activity_words a) (Ok x.columns)) activities
     (subst (λ (e : Option (List ℕ)). ReadsFileColumns (event_words e) (activity_words p.activities) (Ok x.columns)) events p.are_columns)) q.are_columns in
-    files_are x y folder (penalty_one words x.penalty y.penalty p.penalty q.penalty) (read_is x.columns y.columns columns)
+    files_are x y folder (penalty_one words x.penalty y.penalty p.penalty q.penalty)
+    (option_one _ _ _ _ words x.plans y.plans p.plans q.plans) (read_is x.columns y.columns columns)
     (given_one event_delays_option words x.event_delays y.event_delays p.gives_event_delays q.gives_event_delays)
     (given_one activity_delays_option words x.activity_delays y.activity_delays p.gives_activity_delays q.gives_activity_delays)
 

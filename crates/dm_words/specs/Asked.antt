@@ -17,6 +17,7 @@ files_of words =
     record {
       folder = words.folder.now;
       penalty = words.penalty;
+      plans = words.plans;
       columns = words.columns;
       event_delays = option_map (λ x. x.now) words.event_delays;
       activity_delays = option_map (λ x. x.now) words.activity_delays;

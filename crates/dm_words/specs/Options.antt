@@ -13,6 +13,9 @@ use Rattle.dm_words.specs.declared.options.QueryKind.TheVariants.{Follow, Window
 abbrev pub penalty_option : List ℕ
 penalty_option = codes "--penalty="
 
+abbrev pub plans_option : List ℕ
+plans_option = codes "--plans="
+
 abbrev pub batch_option : List ℕ
 batch_option = codes "--batch="
 
@@ -43,7 +46,8 @@ workers_option = codes "--workers="
 -- the options of the files of a folder
 abbrev pub file_options : List (List ℕ)
 file_options =
-    penalty_option ∷ event_columns_option ∷ activity_columns_option ∷ event_delays_option ∷ activity_delays_option ∷ []
+    penalty_option ∷ plans_option ∷ event_columns_option ∷ activity_columns_option ∷ event_delays_option ∷
+    activity_delays_option ∷ []
 
 -- the options of a command
 abbrev pub options_of : Kind → List (List ℕ)

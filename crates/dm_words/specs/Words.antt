@@ -4,11 +4,11 @@ use Rattle.std.specs.Prelude.{ℕ, ◌≡◌, ◌≤◌, true, ◌||◌, List, [
 use Rattle.std.specs.List.{list_all}
 use Rattle.dm_base.specs.declared.limits.TheConstants.{PENALTY, FEEDS}
 use Rattle.dm_lintim.specs.Columns.{FileColumns, ReadsFileColumns}
-use Rattle.dm_words.specs.Options.{GivesOption, activity_columns_option, activity_delays_option, batch_option, boards_option, event_columns_option, event_delays_option, is_name, is_option, options_of, penalty_option}
+use Rattle.dm_words.specs.Options.{GivesOption, activity_columns_option, activity_delays_option, batch_option, boards_option, event_columns_option, event_delays_option, is_name, is_option, options_of, penalty_option, plans_option}
 use Rattle.dm_words.specs.Stops.{AreBoards}
 use Rattle.dm_words.specs.Values.{IsNumber, IsNumberOr}
-use Rattle.dm_words.specs.Queries.{AsksOwn, HasWorkers, kind_of, word_of}
-use Rattle.dm_words.specs.declared.files.TheConstants.{STANDARD_PENALTY}
+use Rattle.dm_words.specs.Queries.{AsksOwn, HasNumber, HasWorkers, kind_of, word_of}
+use Rattle.dm_words.specs.declared.files.TheConstants.{PLANS, STANDARD_PENALTY, STANDARD_PLANS}
 use Rattle.dm_words.specs.declared.command.TheConstants.{BATCH, STANDARD_BATCH, TRAINS, LARGEST_NUMBER}
 use Rattle.dm_words.specs.declared.options.Kind.{Kind}
 use Rattle.dm_words.specs.declared.options.Kind.TheVariants.{Run, Check, Gen, Query as Asking}
@@ -18,6 +18,7 @@ use Rattle.dm_words.specs.declared.queries.Query.{Query}
 pub record FilesAsked : Type 0 where
   pub folder : List ℕ
   pub penalty : ℕ
+  pub plans : ℕ
   pub columns : FileColumns
   pub event_delays : Option (List ℕ)
   pub activity_delays : Option (List ℕ)
@@ -61,6 +62,10 @@ pub record IsPenalty (words : List (List ℕ)) (penalty : ℕ) : Type 0 where
   pub given : GivesOption penalty_option words value
   pub is : IsNumberOr value 0 PENALTY STANDARD_PENALTY penalty
 
+-- how many plans a feed may have
+abbrev pub HasPlans : List (List ℕ) → ℕ → Type 0
+HasPlans words plans = HasNumber plans_option 1 PLANS STANDARD_PLANS words plans
+
 -- how many lines of each feed are answered in a round
 pub record IsBatch (words : List (List ℕ)) (batch : ℕ) : Type 0 where
   pub value : Option (List ℕ)
@@ -91,6 +96,7 @@ pub record AsksFiles (words : List (List ℕ)) (asked : FilesAsked) : Type 0 whe
   pub events : Option (List ℕ)
   pub activities : Option (List ℕ)
   pub penalty : IsPenalty words asked.penalty
+  pub plans : HasPlans words asked.plans
   pub gives_events : GivesOption event_columns_option words events
   pub gives_activities : GivesOption activity_columns_option words activities
   pub gives_event_delays : GivesOption event_delays_option words asked.event_delays

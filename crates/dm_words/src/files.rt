@@ -3,11 +3,12 @@ ghost use Rattle.std.specs.Prelude.{ℕ, ◌≡◌, ◌≤◌, Option, List, Som
 ghost use Rattle.std.specs.Option.{option_map};
 ghost use Rattle.dm_lintim.specs.Columns.{FileColumns, ReadsFileColumns};
 ghost use Rattle.dm_words.specs.Values.{IsNumber, IsNumberOr};
-ghost use Rattle.dm_words.specs.Words.{AsksFiles, FilesAsked, IsPenalty, event_words, activity_words};
+ghost use Rattle.dm_words.specs.Words.{AsksFiles, FilesAsked, HasPlans, IsPenalty, event_words, activity_words};
 ghost use Rattle.dm_words.specs.Asked.{files_of};
 
 use crate::options::{
-    ACTIVITY_COLUMNS, ACTIVITY_DELAYS, EVENT_COLUMNS, EVENT_DELAYS, PENALTY_OPTION, given,
+    ACTIVITY_COLUMNS, ACTIVITY_DELAYS, EVENT_COLUMNS, EVENT_DELAYS, PENALTY_OPTION, PLANS_OPTION,
+    given,
 };
 use dm_base::limits::PENALTY;
 use dm_base::read_whole;
@@ -15,6 +16,11 @@ use dm_lintim::Columns;
 
 /// The penalty where the words give none, in seconds for each passenger.
 pub const STANDARD_PENALTY: u64 = 3_600;
+
+/// The most plans that a feed may have, and how many where the words do not say it.
+pub const PLANS: u64 = 4_096;
+
+pub const STANDARD_PLANS: u64 = 16;
 
 /// The columns of the files where the words give none.
 const STANDARD_EVENTS: &str = "id,periodic-id,type,time,weight,stop";
@@ -52,6 +58,16 @@ pub fn penalty_of(words: &[String]) -> Option<u64>
     number_or(penalty, 0, PENALTY, STANDARD_PENALTY)
 }
 
+/// How many plans a feed may have.
+fn plans_of(words: &[String]) -> Option<u64>
+    ensures { MatchOption result ((n : ℕ) → HasPlans (map string_bytes words.now) n → ⊥) (λ n. HasPlans (map string_bytes words.now) n) }
+{
+    let Some(plans) = given(PLANS_OPTION, words) else {
+        return None;
+    };
+    number_or(plans, 1, PLANS, STANDARD_PLANS)
+}
+
 /// The text that is given, or else the standard one.
 fn text_or<'a>(given: Option<&'a str>, standard: &'static str) -> &'a str
     ensures { result.now ≡ unwrap_or (option_map (λ x. x.now) given.entry) standard.now }
@@ -86,6 +102,9 @@ pub struct FileWords<'a> {
 
     /// Seconds for each passenger of a missed change, at most `PENALTY`.
     pub penalty: u64,
+
+    /// How many plans a feed may have, from 1 to 4,096.
+    pub plans: u32,
     pub columns: Columns,
 
     /// The name of a file of the folder.
@@ -101,6 +120,9 @@ pub fn read_files<'a>(folder: &'a str, words: &'a [String]) -> Option<FileWords<
         (λ files. (folder.now ≡ files.folder.now) × AsksFiles (map string_bytes words.now) (files_of files)) }
 {
     let Some(penalty) = penalty_of(words) else {
+        return None;
+    };
+    let Some(plans) = plans_of(words) else {
         return None;
     };
     let Some(events) = given(EVENT_COLUMNS, words) else {
@@ -121,6 +143,7 @@ pub fn read_files<'a>(folder: &'a str, words: &'a [String]) -> Option<FileWords<
     Some(FileWords {
         folder,
         penalty,
+        plans: plans as u32,
         columns,
         event_delays,
         activity_delays,

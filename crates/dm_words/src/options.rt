@@ -8,6 +8,8 @@ ghost use Rattle.dm_words.specs.Options.{GivesOption, behind, file_options, is_n
 /// How the word of each option begins.
 pub const PENALTY_OPTION: &str = "--penalty=";
 
+pub const PLANS_OPTION: &str = "--plans=";
+
 pub const BATCH_OPTION: &str = "--batch=";
 
 pub const EVENT_COLUMNS: &str = "--event-columns=";
@@ -65,6 +67,7 @@ fn is_file_option(word: &str) -> bool
     ensures { result ≡ is_option file_options word.now }
 {
     behind(PENALTY_OPTION, word).is_some()
+        || behind(PLANS_OPTION, word).is_some()
         || behind(EVENT_COLUMNS, word).is_some()
         || behind(ACTIVITY_COLUMNS, word).is_some()
         || behind(EVENT_DELAYS, word).is_some()

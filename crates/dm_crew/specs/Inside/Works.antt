@@ -18,23 +18,23 @@ abbrev pub split_of : PassValue Base → PassValue Base
 split_of main = record main { holds = false; room = 1; mine = [] }
 
 -- the pass is an idle one of the server, the reader may be asked, and the log is true of what the pass has seen
-pub record IsReady {S : Type 0} (turn : TableId) (base : Base) (feed : ℕ) (pass : PassValue Base) (job : Job S) : Type 0 where
+pub record IsReady {S : Type 0} (turn : TableId) (plans : ℕ) (base : Base) (feed : ℕ) (pass : PassValue Base) (job : Job S) : Type 0 where
   pub here : pass.turn ≡ turn
   pub idle : pass.holds ≡ false
   pub based : pass.base ≡ Some base
-  pub legal : HasSeenLegal (desk_of base pass)
+  pub legal : HasSeenLegal (desk_of plans base pass)
   pub can_read : CanRead job.progress
-  pub are_true : AreTrueOf (desk_of base pass) feed job.log.items
+  pub are_true : AreTrueOf (desk_of plans base pass) feed job.log.items
 
 -- the next lines were answered over the pass, or memory was wanting
-pub record IsWorked {S E : Type 0} (left : S → Option (List ℕ)) (is_sound : S → Type 0) (base : Base) (batch feed : ℕ) (pass : PassValue Base) (job : Job S) (now : PassValue Base) (after : Job S) (answer : Result (Unit {0}) E) : Type 0 where
+pub record IsWorked {S E : Type 0} (left : S → Option (List ℕ)) (is_sound : S → Type 0) (plans : ℕ) (base : Base) (batch feed : ℕ) (pass : PassValue Base) (job : Job S) (now : PassValue Base) (after : Job S) (answer : Result (Unit {0}) E) : Type 0 where
   pub same : IsSamePass pass now
-  pub steps : OnOk answer (StepsFrom left is_sound job.progress job.log.items after (desk_of base pass) (desk_of base now) feed batch)
+  pub steps : OnOk answer (StepsFrom left is_sound job.progress job.log.items after (desk_of plans base pass) (desk_of plans base now) feed batch)
 
 -- the next lines of each feed were answered over its pass, or memory was wanting
-abbrev pub AreWorkedEach : {S : Type 0} → (S → Option (List ℕ)) → (S → Type 0) → Base → ℕ → List (Work S) → List (Work S) → Type 0
-AreWorkedEach {S} left is_sound base batch works after =
-    (k : ℕ) (w v : Work S) → slice_get works k ≡ Some w → slice_get after k ≡ Some v → (v.feed ≡ w.feed) × IsWorked left is_sound base batch w.feed w.pass w.job.value v.pass v.job.value v.answer
+abbrev pub AreWorkedEach : {S : Type 0} → (S → Option (List ℕ)) → (S → Type 0) → ℕ → Base → ℕ → List (Work S) → List (Work S) → Type 0
+AreWorkedEach {S} left is_sound plans base batch works after =
+    (k : ℕ) (w v : Work S) → slice_get works k ≡ Some w → slice_get after k ≡ Some v → (v.feed ≡ w.feed) × IsWorked left is_sound plans base batch w.feed w.pass w.job.value v.pass v.job.value v.answer
 
 -- a feed that is still read
 abbrev pub is_read : {S : Type 0} → Progress S → Bool

@@ -1,6 +1,5 @@
 -- What the answer to one line does.
 use Rattle.std.specs.Prelude.{ℕ, ◌≡◌, ◌+◌, ◌≤◌, ◌∷◌, [], List, length, count_by, Option, None, IfSome}
-use Rattle.dm_base.specs.declared.limits.TheConstants.{PLANS}
 use Rattle.dm_feed.specs.declared.grammar.Heard.{Heard}
 use Rattle.dm_feed.specs.declared.grammar.Heard.TheVariants.{Blank, Line as Spoken, Malformed as Unheard}
 use Rattle.dm_feed.specs.declared.grammar.Line.{Line}
@@ -47,7 +46,7 @@ plan_in answered = plan_after None answered
 
 -- the plans of a feed are as many as it may have at most, and the latest is true of what is seen
 pub record HasPlans (desk : DeskValue) (items : List LogItem) : Type 0 where
-  pub few : count_by is_plan items ≤ PLANS
+  pub few : count_by is_plan items ≤ desk.setting.plans
   pub latest : IfSome (latest_plan items) (IsTrueOf desk)
 
 -- a true plan of the rows after all that is seen now, of so many nodes at most

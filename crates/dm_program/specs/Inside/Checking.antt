@@ -20,19 +20,19 @@ use Rattle.dm_program.specs.Verdicts.{verdict_line, verdict_status, long_text_li
 use Rattle.dm_program.specs.Inside.Stages.{EndsStopped}
 
 -- the bytes under a name are short, and this is the verdict on them
-pub record IsJudged (told : Told) (name : List ℕ) (net : Net) (rows : RowsValue) (penalty : ℕ) (verdict : Verdict) : Type 0 where
+pub record IsJudged (told : Told) (name : List ℕ) (net : Net) (rows : RowsValue) (penalty plans : ℕ) (verdict : Verdict) : Type 0 where
   pub bytes : List ℕ
   pub held : IsHeld told name bytes
   pub short : length bytes ≤ TEXT
-  pub is_verdict : IsVerdict net rows penalty bytes verdict
-  pub good : SaysGood verdict ↔ IsRunText net rows penalty bytes
+  pub is_verdict : IsVerdict net rows penalty plans bytes verdict
+  pub good : SaysGood verdict ↔ IsRunText net rows penalty plans bytes
 
 -- the verdict on the text of a name, or why there is none
-abbrev pub Judges : Told → (List ℕ → Type 0) → List ℕ → Net → RowsValue → ℕ → Result Verdict TakeFault → Type 0
-Judges told is_sound name net rows penalty (Ok verdict) = IsJudged told name net rows penalty verdict
-Judges told is_sound name net rows penalty (Err NotRead) = is_sound name → ⊥
-Judges told is_sound name net rows penalty (Err TooMany) = IsLong told name TEXT
-Judges told is_sound name net rows penalty (Err OutOfMemory) = Unit {0}
+abbrev pub Judges : Told → (List ℕ → Type 0) → List ℕ → Net → RowsValue → ℕ → ℕ → Result Verdict TakeFault → Type 0
+Judges told is_sound name net rows penalty plans (Ok verdict) = IsJudged told name net rows penalty plans verdict
+Judges told is_sound name net rows penalty plans (Err NotRead) = is_sound name → ⊥
+Judges told is_sound name net rows penalty plans (Err TooMany) = IsLong told name TEXT
+Judges told is_sound name net rows penalty plans (Err OutOfMemory) = Unit {0}
 
 -- what is written of this, and the status
 abbrev pub EndsBy : {K : Type 0} → (K → Option (List ℕ)) → (K → ℕ) → List ℕ → Result Verdict TakeFault → K → K → Status → Type 0
@@ -42,9 +42,9 @@ EndsBy taken faults name (Err TooMany) before now result = EndsAs taken faults b
 EndsBy taken faults name (Err OutOfMemory) before now result = (now ≡ before) × (result ≡ NoMemory)
 
 -- how a check ends whose files make this network with these rows
-pub record EndsJudged {K : Type 0} (taken : K → Option (List ℕ)) (faults : K → ℕ) (told : Told) (is_sound : List ℕ → Type 0) (name : List ℕ) (net : Net) (rows : RowsValue) (penalty : ℕ) (before now : K) (result : Status) : Type 0 where
+pub record EndsJudged {K : Type 0} (taken : K → Option (List ℕ)) (faults : K → ℕ) (told : Told) (is_sound : List ℕ → Type 0) (name : List ℕ) (net : Net) (rows : RowsValue) (penalty plans : ℕ) (before now : K) (result : Status) : Type 0 where
   pub judgement : Result Verdict TakeFault
-  pub judges : Judges told is_sound name net rows penalty judgement
+  pub judges : Judges told is_sound name net rows penalty plans judgement
   pub ends : EndsBy taken faults name judgement before now result
 
 -- its files stopped a command
@@ -57,7 +57,7 @@ pub record EndsAtFiles {K : Type 0} (taken : K → Option (List ℕ)) (faults : 
 pub record EndsAtText {K : Type 0} (taken : K → Option (List ℕ)) (faults : K → ℕ) (told : Told) (is_sound : List ℕ → Type 0) (asked : CheckAsked) (before now : K) (result : Status) : Type 0 where
   pub opening : Opening
   pub opens : OpeningAnswer told asked.files (Ok opening)
-  pub ends : EndsJudged taken faults told is_sound asked.text opening.net opening.rows asked.files.penalty before now result
+  pub ends : EndsJudged taken faults told is_sound asked.text opening.net opening.rows asked.files.penalty asked.files.plans before now result
 
 -- how a check ends
 abbrev pub EndsChecked : {K : Type 0} → (K → Option (List ℕ)) → (K → ℕ) → Told → (List ℕ → Type 0) → CheckAsked → K → K → Status → Type 0

@@ -4,7 +4,7 @@ use Rattle.dm_base.specs.declared.limits.TheConstants.{BUDGET, DELAY, FEEDS, PEN
 use Rattle.dm_base.specs.declared.rows.DelayRow.{DelayRow}
 use Rattle.dm_input.specs.Input.{Told, IsHeld}
 use Rattle.dm_input.specs.Lines.{refused_line, read_fault_line}
-use Rattle.dm_words.specs.Words.{RunAsked, QueryAsked, FilesAsked, Command, RunOf, CheckOf, GenOf, QueryOf}
+use Rattle.dm_words.specs.Words.{RunAsked, CheckAsked, QueryAsked, FilesAsked, Command, RunOf, CheckOf, GenOf, QueryOf}
 use Rattle.dm_words.specs.declared.queries.Query.{Query}
 use Rattle.dm_words.specs.declared.queries.Query.TheVariants.{Follow, Window, Rules, Journey}
 use Rattle.dm_words.specs.declared.queries.WindowWords.{WindowWords}
@@ -15,6 +15,7 @@ use Rattle.dm_input.specs.declared.flaws.InputStop.TheVariants.{Refused, ReadFau
 use Rattle.dm_network.specs.Net.{Net}
 use Rattle.dm_rows.specs.Rows.{RowsValue, start_rows_of}
 use Rattle.dm_rows.specs.Cost.{cost_of}
+use Rattle.dm_cert.specs.declared.limits.TheConstants.{PLANS}
 use Rattle.dm_cert.specs.declared.replies.FeedLog.{FeedLog}
 use Rattle.dm_cert.specs.declared.notes.Note.{Note}
 use Rattle.dm_cert.specs.RunTexts.{Run}
@@ -42,6 +43,11 @@ pub record AreWithin (asked : RunAsked) : Type 0 where
   pub few_lines : asked.batch < 2 ^ 32
   pub workers : (1 ≤ asked.workers) × (asked.workers ≤ WORKERS)
 
+-- the numbers of a check
+pub record IsCheckWithin (asked : CheckAsked) : Type 0 where
+  pub penalty : asked.files.penalty ≤ PENALTY
+  pub plans : asked.files.plans ≤ PLANS
+
 -- the budget of a window
 abbrev pub IsWindowWithin : WindowWords → Type 0
 IsWindowWithin asked = (1 ≤ asked.budget) × (asked.budget ≤ BUDGET)
@@ -65,7 +71,7 @@ pub record IsQueryWithin (asked : QueryAsked) : Type 0 where
 
 abbrev pub IsWithin : Command → Type 0
 IsWithin (RunOf asked) = AreWithin asked
-IsWithin (CheckOf asked) = asked.files.penalty ≤ PENALTY
+IsWithin (CheckOf asked) = IsCheckWithin asked
 IsWithin (GenOf asked) = IsDayWithin asked
 IsWithin (QueryOf asked) = IsQueryWithin asked
 

@@ -12,7 +12,7 @@ returns-clause-ends g c =
     inr (record {
       opening = opening_in c.in-Ok.opened;
       opens = c.in-Ok.ensures.opening;
-      ends = judged_before g.H.Shelf.files g.H.Shelf.is_sound g.K.Sink.taken g.K.Sink.faults c.args.shelf.now c.read_opening.new.shelf _ _ _ _ c.args.out.now c.judge_text.new.out c.judge_text.result c.in-Ok.ensures.kept c.judge_text.ensures.ends;
+      ends = judged_before g.H.Shelf.files g.H.Shelf.is_sound g.K.Sink.taken g.K.Sink.faults c.args.shelf.now c.read_opening.new.shelf _ _ _ _ _ c.args.out.now c.judge_text.new.out c.judge_text.result c.in-Ok.ensures.kept c.judge_text.ensures.ends;
     })
 
 pub returns-clause-kept : goal.returns-clause-kept

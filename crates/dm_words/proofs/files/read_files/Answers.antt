@@ -3,6 +3,9 @@ use Rattle.dm_words.proofs.files.read_files.Goals as goal
 pub returns-in_default : goal.returns-in_default
 returns-in_default c = λ asked folder asks. c.in_default.ensures _ asks.penalty
 
+pub returns-in_default-plans_of : goal.returns-in_default-plans_of
+returns-in_default-plans_of c = λ asked folder asks. c.in_default-plans_of.ensures _ asks.plans
+
 pub returns-in_default-given : goal.returns-in_default-given
 returns-in_default-given c = λ asked folder asks. c.in_default-given.ensures _ asks.gives_events
 

@@ -16,11 +16,11 @@ use Rattle.dm_crew.proofs.rounds.Crew.answer_feeds.Goals.{in-None, in-Some+then-
 pub loop-init : goal.loop-init
 loop-init g c = (
   looked_same c.args.main.now c.args.main.now c.show.new.main refl c.show.ensures.looked,
-  rounds_look g.S.Source.left g.S.Source.is_sound c.args.feeds.items (desk_of g.P.Seat.base c.args.main.now) c.args.self.now.batch g.P.Seat.base c.args.main.now c.show.new.main (map (λ b. b.value) c.in_ok-jobs.jobs.items) c.show.ensures.looked c.show.ensures.legal
+  rounds_look g.S.Source.left g.S.Source.is_sound c.args.feeds.items (desk_of c.args.self.now.plans g.P.Seat.base c.args.main.now) c.args.self.now.batch c.args.self.now.plans g.P.Seat.base c.args.main.now c.show.new.main (map (λ b. b.value) c.in_ok-jobs.jobs.items) c.show.ensures.looked c.show.ensures.legal
       (record {
         rounds = 0;
         low = 0;
-        state = first_round g.S.Source.left g.S.Source.is_sound c.args.self.now.batch c.requires.some c.args.feeds.items (desk_of g.P.Seat.base c.args.main.now) (map (λ b. b.value) c.in_ok-jobs.jobs.items) c.requires.legal c.in_ok-jobs.ensures;
+        state = first_round g.S.Source.left g.S.Source.is_sound c.args.self.now.batch c.requires.some c.args.feeds.items (desk_of c.args.self.now.plans g.P.Seat.base c.args.main.now) (map (λ b. b.value) c.in_ok-jobs.jobs.items) c.requires.legal c.in_ok-jobs.ensures;
       }),
   shown_first _ _ _ _ g.P.Seat.base c.show.new.main.seen c.args.display.now c.show.new.self c.args.boards.now.items c.show.new.boards.items c.requires.none c.show.ensures.up,
 )
@@ -31,7 +31,7 @@ show-requires-clause-legal g c = c.requires.legal
 pub show_growth-requires-clause-legal : goal.show_growth-requires-clause-legal
 show_growth-requires-clause-legal g c =
     let rounds = c.loop.invariant.1 in
-    let round = c.in_ok-jobs-2.ensures.round c.args.feeds.items (desk_of g.P.Seat.base c.args.main.now) rounds.rounds rounds.low rounds.state in
+    let round = c.in_ok-jobs-2.ensures.round c.args.feeds.items (desk_of c.args.self.now.plans g.P.Seat.base c.args.main.now) rounds.rounds rounds.low rounds.state in
     round.goes_on.legal
 
 pub show_growth-requires-clause-has : goal.show_growth-requires-clause-has
@@ -53,12 +53,12 @@ answer_round-requires-clause-legal g c = λ lifetimes bounds. c.loop.invariant.1
 pub answer_round-requires-clause-can_read : goal.answer_round-requires-clause-can_read
 answer_round-requires-clause-can_read g c =
     λ lifetimes bounds.
-    can_read_all g.S.Source.left g.S.Source.is_sound c.args.self.now.batch c.requires.some c.args.feeds.items (desk_of g.P.Seat.base c.args.main.now) c.loop.invariant.1.rounds c.loop.invariant.1.low (desk_of g.P.Seat.base c.loop.main) (map (λ b. b.value) c.loop.jobs.items) 0 c.loop.invariant.1.state
+    can_read_all g.S.Source.left g.S.Source.is_sound c.args.self.now.batch c.requires.some c.args.feeds.items (desk_of c.args.self.now.plans g.P.Seat.base c.args.main.now) c.loop.invariant.1.rounds c.loop.invariant.1.low (desk_of c.args.self.now.plans g.P.Seat.base c.loop.main) (map (λ b. b.value) c.loop.jobs.items) 0 c.loop.invariant.1.state
 
 pub answer_round-requires-clause-are_true : goal.answer_round-requires-clause-are_true
 answer_round-requires-clause-are_true g c =
     λ lifetimes bounds.
-    are_true_all g.S.Source.left g.S.Source.is_sound c.args.self.now.batch c.requires.some c.args.feeds.items (desk_of g.P.Seat.base c.args.main.now) c.loop.invariant.1.rounds c.loop.invariant.1.low (desk_of g.P.Seat.base c.loop.main) (map (λ b. b.value) c.loop.jobs.items) 0 c.loop.invariant.1.state
+    are_true_all g.S.Source.left g.S.Source.is_sound c.args.self.now.batch c.requires.some c.args.feeds.items (desk_of c.args.self.now.plans g.P.Seat.base c.args.main.now) c.loop.invariant.1.rounds c.loop.invariant.1.low (desk_of c.args.self.now.plans g.P.Seat.base c.loop.main) (map (λ b. b.value) c.loop.jobs.items) 0 c.loop.invariant.1.state
 
 pub answer_round-requires-clause-few : goal.answer_round-requires-clause-few
 answer_round-requires-clause-few g c = omega (arith, c.loop.jobs.ok.0, length-map c.loop.jobs.items (λ b. b.value), c.loop.invariant.1.state.as_many, c.requires.few)
@@ -71,7 +71,7 @@ answer_round-requires-clause-rooms g c =
 pub loop-preserved : goal.loop-preserved
 loop-preserved g c =
     let rounds = c.loop.invariant.1 in
-    let round = c.in_ok-jobs-2.ensures.round c.args.feeds.items (desk_of g.P.Seat.base c.args.main.now) rounds.rounds rounds.low rounds.state in
+    let round = c.in_ok-jobs-2.ensures.round c.args.feeds.items (desk_of c.args.self.now.plans g.P.Seat.base c.args.main.now) rounds.rounds rounds.low rounds.state in
     let before = c.answer_round.new.main in
     let now = c.show_growth.new.main in
     let looked = c.show_growth.ensures.looked in
@@ -79,7 +79,7 @@ loop-preserved g c =
     let on : IsPrefix c.loop.main.seen now.seen = prefix_trans c.loop.main.seen before.seen now.seen c.in_ok-jobs-2.ensures.later looked.later in
     let same : IsSamePass c.args.main.now before = c.in_ok-jobs-2.ensures.same ∙ ap (λ (p : PassValue Base). record p { seen = before.seen; mine = before.mine }) c.loop.invariant.0 in (
       looked_same c.args.main.now before now same looked,
-      rounds_look g.S.Source.left g.S.Source.is_sound c.args.feeds.items (desk_of g.P.Seat.base c.args.main.now) c.args.self.now.batch g.P.Seat.base before now (map (λ b. b.value) c.in_ok-jobs-2.jobs.items) looked legal (record { rounds = rounds.rounds + 1; low = length before.seen; state = round }),
+      rounds_look g.S.Source.left g.S.Source.is_sound c.args.feeds.items (desk_of c.args.self.now.plans g.P.Seat.base c.args.main.now) c.args.self.now.batch c.args.self.now.plans g.P.Seat.base before now (map (λ b. b.value) c.in_ok-jobs-2.jobs.items) looked legal (record { rounds = rounds.rounds + 1; low = length before.seen; state = round }),
       shown_on _ _ _ _ g.P.Seat.base c.loop.main.seen now.seen c.loop.display c.show_growth.new.self c.args.boards.now.items c.loop.boards.items c.show_growth.new.boards.items on c.show_growth.ensures.up c.loop.invariant.2,
     )
 
@@ -90,12 +90,12 @@ logs_of-requires-clause-room g c =
 
 pub returns-clause-answers : goal.returns-clause-answers
 returns-clause-answers g c =
-    let P : List FeedLog → Type 0 = λ logs. AnswersFeeds g.S.Source.left g.S.Source.is_sound c.args.feeds.items c.args.self.now.batch (desk_of g.P.Seat.base c.args.main.now) (desk_of g.P.Seat.base c.loop.main) logs in
+    let P : List FeedLog → Type 0 = λ logs. AnswersFeeds g.S.Source.left g.S.Source.is_sound c.args.feeds.items c.args.self.now.batch (desk_of c.args.self.now.plans g.P.Seat.base c.args.main.now) (desk_of c.args.self.now.plans g.P.Seat.base c.loop.main) logs in
     let ends : P (map log_in (map (λ b. b.value) c.loop.jobs.items)) =
     elim c.match-next.branch [
       | in-None w ↦ absurd (is_some_none c.next.result c.next.ensures.steps w.in-None.is)
       | in-Some+then-have_ended w ↦
-          ends_rounds g.S.Source.left g.S.Source.is_sound c.args.self.now.batch c.requires.some c.args.feeds.items (desk_of g.P.Seat.base c.args.main.now) c.loop.invariant.1.rounds c.loop.invariant.1.low (desk_of g.P.Seat.base c.loop.main) (map (λ b. b.value) c.loop.jobs.items) (map log_in (map (λ b. b.value) c.loop.jobs.items))
+          ends_rounds g.S.Source.left g.S.Source.is_sound c.args.self.now.batch c.requires.some c.args.feeds.items (desk_of c.args.self.now.plans g.P.Seat.base c.args.main.now) c.loop.invariant.1.rounds c.loop.invariant.1.low (desk_of c.args.self.now.plans g.P.Seat.base c.loop.main) (map (λ b. b.value) c.loop.jobs.items) (map log_in (map (λ b. b.value) c.loop.jobs.items))
           c.loop.invariant.1.state (ended_all (λ b. b.value) w.deref.result.now c.loop.jobs.items w.deref.ensures.value (w.have_ended.ensures.ended w.if-have_ended.true)) refl
     ] in
     subst P (sym c.logs_of.ensures) ends

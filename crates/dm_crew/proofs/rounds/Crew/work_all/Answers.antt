@@ -7,7 +7,7 @@ use Rattle.dm_crew.proofs.rounds.Crew.work_all.Goals as goal
 
 pub worked-requires-clause-ready : goal.worked-requires-clause-ready
 worked-requires-clause-ready g c =
-    all_here (λ (w : Work _). IsReady c.args.self.now.server.now.id g.P.Seat.base w.feed w.pass w.job.value) c.loop-work.yielded c.loop-work.work-iterator.rest.items c.next.new.self.rest.items c.args.works.items c.in-Some.work c.in-Some.ensures.steps.0 c.loop-work.invariant.whole c.requires.ready
+    all_here (λ (w : Work _). IsReady c.args.self.now.server.now.id c.args.self.now.plans g.P.Seat.base w.feed w.pass w.job.value) c.loop-work.yielded c.loop-work.work-iterator.rest.items c.next.new.self.rest.items c.args.works.items c.in-Some.work c.in-Some.ensures.steps.0 c.loop-work.invariant.whole c.requires.ready
 
 pub loop-work-preserved : goal.loop-work-preserved
 loop-work-preserved g c =
@@ -16,7 +16,7 @@ loop-work-preserved g c =
     record {
       whole = one_yielded c.loop-work.yielded _ _ c.args.works.items w c.in-Some.ensures.steps.0 inv.whole;
       many = omega (arith, ap length c.in_ok-push.ensures.items, length-append c.loop-work.done.items (c.worked.result ∷ []), length-append c.loop-work.yielded (w ∷ []), inv.many);
-      each = paired_more (λ (a b : Work _). (b.feed ≡ a.feed) × IsWorked g.S.Source.left g.S.Source.is_sound g.P.Seat.base c.args.self.now.batch a.feed a.pass a.job.value b.pass b.job.value b.answer) c.loop-work.yielded c.loop-work.done.items c.push.new.self.items w c.worked.result c.in_ok-push.ensures.items inv.many inv.each (c.worked.ensures.feed, c.worked.ensures.worked);
+      each = paired_more (λ (a b : Work _). (b.feed ≡ a.feed) × IsWorked g.S.Source.left g.S.Source.is_sound c.args.self.now.plans g.P.Seat.base c.args.self.now.batch a.feed a.pass a.job.value b.pass b.job.value b.answer) c.loop-work.yielded c.loop-work.done.items c.push.new.self.items w c.worked.result c.in_ok-push.ensures.items inv.many inv.each (c.worked.ensures.feed, c.worked.ensures.worked);
     }
 
 pub returns-clause-len : goal.returns-clause-len
@@ -27,8 +27,8 @@ returns-clause-len g c =
 pub returns-clause-each : goal.returns-clause-each
 returns-clause-each g c =
     let all = all_yielded c.loop-work.yielded c.loop-work.work-iterator.rest.items c.args.works.items (sym c.loop-work.work-iterator.rest.ok.0 ∙ c.in-None.ensures.steps.0) c.loop-work.invariant.whole in
-    subst (λ (l : List (Work _)). AreWorkedEach g.S.Source.left g.S.Source.is_sound g.P.Seat.base c.args.self.now.batch l c.loop-work.done.items) all c.loop-work.invariant.each
+    subst (λ (l : List (Work _)). AreWorkedEach g.S.Source.left g.S.Source.is_sound c.args.self.now.plans g.P.Seat.base c.args.self.now.batch l c.loop-work.done.items) all c.loop-work.invariant.each
 
 pub returns-then-count_read-ge2-clause-each : goal.returns-then-count_read-ge2-clause-each
 returns-then-count_read-ge2-clause-each g c =
-    all_given (λ (w v : Work _). (v.feed ≡ w.feed) × IsWorked g.S.Source.left g.S.Source.is_sound g.P.Seat.base c.args.self.now.batch w.feed w.pass w.job.value v.pass v.job.value v.answer) c.args.works.items (λ after. after.items) c.map_vec.result (λ w v call. let met = call.met in search rules) c.map_vec.ensures.each
+    all_given (λ (w v : Work _). (v.feed ≡ w.feed) × IsWorked g.S.Source.left g.S.Source.is_sound c.args.self.now.plans g.P.Seat.base c.args.self.now.batch w.feed w.pass w.job.value v.pass v.job.value v.answer) c.args.works.items (λ after. after.items) c.map_vec.result (λ w v call. let met = call.met in search rules) c.map_vec.ensures.each

@@ -7,5 +7,5 @@ invariant-loop-work g l =
     record {
       whole : l.yielded ++ l.work-iterator.rest.items ≡ l.fn.works.items;
       many : length l.done.items ≡ length l.yielded;
-      each : AreWorkedEach g.S.Source.left g.S.Source.is_sound g.P.Seat.base l.fn.self.batch l.yielded l.done.items;
+      each : AreWorkedEach g.S.Source.left g.S.Source.is_sound l.fn.self.plans g.P.Seat.base l.fn.self.batch l.yielded l.done.items;
     }
