@@ -1,7 +1,7 @@
 //! Why bytes give no plan.
 
 /// What is wrong with the text of a plan.
-#[derive(Clone, Copy, PartialEq, Eq, Debug)]
+#[derive(Clone, Copy, PartialEq, Eq)]
 pub enum CertKind {
     /// The line is the first that is not as the format says.
     Form,
@@ -18,7 +18,7 @@ pub enum CertKind {
 }
 
 /// Why bytes give no plan, and at which line, from 1.
-#[derive(Clone, Copy, PartialEq, Eq, Debug)]
+#[derive(Clone, Copy, PartialEq, Eq)]
 pub struct CertFault {
     pub line: u32,
     pub kind: CertKind,

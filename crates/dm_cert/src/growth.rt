@@ -11,7 +11,7 @@ use dm_tree::{Leaf, Node, turn_back};
 use std::alloc::{AllocError, Global};
 
 /// How far a tree has grown.
-#[derive(Clone, Copy, PartialEq, Eq, Debug)]
+#[derive(Clone, Copy)]
 pub enum Stage {
     /// The next leaf is due at the path or below it.
     Due,

@@ -1,7 +1,7 @@
 //! Boards that show nothing more.
 
 /// A board that was dropped.
-#[derive(Clone, Copy, PartialEq, Eq, Debug)]
+#[derive(Clone, Copy, PartialEq, Eq)]
 pub struct Note {
     /// Its place in the list of boards, from 1.
     pub board: u32,

@@ -15,7 +15,7 @@ use dm_tree::{Mark, Node};
 const LARGEST_ID: u128 = 4_294_967_295;
 
 /// What a plan's first line says: with the costs how many lines of choices follow, and how many of the tree.
-#[derive(Clone, Copy, PartialEq, Eq, Debug)]
+#[derive(Clone, Copy)]
 pub struct Heading {
     pub mark: Mark,
     pub cost: Cost,

@@ -22,12 +22,22 @@ use std::marker::Model;
 
 /// Times of a network's events, with what their lateness costs, and for each activity the weight of which the penalty is taken, with
 /// their sum. So the cost of these times is a sum of two numbers.
-#[derive(Debug, Drop)]
 pub struct KeptCost {
     times: Vec<Secs>,
     lateness: Cost,
     weights: Vec<Milli>,
     penalized: Cost,
+}
+
+impl Drop for KeptCost {
+    fn drop(self) {
+        let KeptCost {
+            times: _,
+            lateness: _,
+            weights: _,
+            penalized: _,
+        } = self;
+    }
 }
 
 impl Model for KeptCost {

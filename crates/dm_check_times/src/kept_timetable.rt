@@ -27,7 +27,6 @@ use std::marker::Model;
 
 /// What binds in rows, and a timetable that was least for what bound when it was computed last. What has changed since then is
 /// marked, so that the next one costs what has changed.
-#[derive(Debug, Drop)]
 pub struct KeptTimetable {
     held: Vec<bool>,
     spans: Vec<Secs>,
@@ -38,6 +37,20 @@ pub struct KeptTimetable {
 
     /// The clock of the rows that the floors are of.
     clock: Secs,
+}
+
+impl Drop for KeptTimetable {
+    fn drop(self) {
+        let KeptTimetable {
+            held: _,
+            spans: _,
+            floors: _,
+            times: _,
+            stale: _,
+            due: _,
+            clock: _,
+        } = self;
+    }
 }
 
 impl Model for KeptTimetable {

@@ -14,7 +14,7 @@ use dm_base::Secs;
 use dm_marks::{Marks, PlaceSet};
 
 /// The held activities have a cycle.
-#[derive(Clone, Copy, PartialEq, Eq, Debug)]
+#[derive(Clone, Copy)]
 pub struct HeldCycle;
 
 impl Bindings<'_> {

@@ -16,7 +16,6 @@ use dm_text::behind;
 use std::alloc::{AllocError, Global};
 
 /// Why a line is said to have been refused. A number may be larger than any that is true.
-#[derive(PartialEq, Eq, Debug, Drop)]
 pub enum Reason {
     Range(u128),
     UnknownEvent(EventId),
@@ -30,8 +29,24 @@ pub enum Reason {
     Full,
 }
 
+impl Drop for Reason {
+    fn drop(self) {
+        match self {
+            Reason::Range(_)
+            | Reason::UnknownEvent(_)
+            | Reason::UnknownActivity(_)
+            | Reason::UnknownChange(_)
+            | Reason::UnknownPair(_, _)
+            | Reason::Passed(_, _)
+            | Reason::NotPassed(_)
+            | Reason::Back(_)
+            | Reason::Cycle(_)
+            | Reason::Full => {}
+        }
+    }
+}
+
 /// An answer of one line. An entry number is how many entries the history is said to have had.
-#[derive(PartialEq, Eq, Debug, Drop)]
 pub enum Answer {
     Ok(u32),
     Read(u32),
@@ -44,8 +59,24 @@ pub enum Answer {
     Range(u128),
 }
 
+impl Drop for Answer {
+    fn drop(self) {
+        match self {
+            Answer::Ok(_)
+            | Answer::Read(_)
+            | Answer::Old(_)
+            | Answer::Time(_, _)
+            | Answer::Cost(_, _)
+            | Answer::Refused(_, _)
+            | Answer::NoPlan
+            | Answer::Plans
+            | Answer::Range(_) => {}
+        }
+    }
+}
+
 /// An answer of one line, or the first line of a plan for the rows at an entry.
-#[derive(Debug, Drop)]
+#[derive(Drop)]
 pub(crate) enum AnswerLine {
     Answer(Answer),
     Plan(u32, Heading),

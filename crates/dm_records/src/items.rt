@@ -20,7 +20,7 @@ use dm_tree::Mark;
 use std::alloc::{AllocError, Global};
 
 /// The first line of an item that answers with a plan: how many lines of choices follow, and how many of the tree.
-#[derive(Debug, Drop)]
+#[derive(Drop)]
 pub struct PlanLine {
     pub line: u32,
     pub said: Line,
@@ -33,7 +33,7 @@ pub struct PlanLine {
 }
 
 /// The first line of an item: a whole item of one line, or the first line of a plan.
-#[derive(Debug, Drop)]
+#[derive(Drop)]
 pub enum LogLine {
     Malformed(u32),
     Answered {

@@ -28,7 +28,7 @@ pub(crate) trait Kind: Copy {
 }
 
 /// A kind of line that a feed says.
-#[derive(Clone, Copy, PartialEq, Eq, Debug)]
+#[derive(Clone, Copy)]
 pub(crate) enum SaidKind {
     DelayEvent,
     DelayActivity,
@@ -46,7 +46,7 @@ pub(crate) enum SaidKind {
 }
 
 /// A kind of answer at an entry.
-#[derive(Clone, Copy, PartialEq, Eq, Debug)]
+#[derive(Clone, Copy)]
 pub(crate) enum ToldKind {
     Ok,
     Read,
@@ -65,7 +65,7 @@ pub(crate) enum ToldKind {
 }
 
 /// A kind of answer at no entry.
-#[derive(Clone, Copy, PartialEq, Eq, Debug)]
+#[derive(Clone, Copy)]
 pub(crate) enum FreeKind {
     NoPlan,
     Plans,

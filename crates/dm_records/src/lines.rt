@@ -10,7 +10,7 @@ use dm_text::behind;
 use std::alloc::{AllocError, Global};
 
 /// An entry with the number that its line says. Its feed may be no feed of the run.
-#[derive(Debug, Drop)]
+#[derive(Drop)]
 pub struct EntryLine {
     pub number: u32,
     pub feed: u128,
@@ -39,14 +39,14 @@ impl EntryLine {
 }
 
 /// The number of a feed, and how many items its log has.
-#[derive(Clone, Copy, PartialEq, Eq, Debug)]
+#[derive(Clone, Copy)]
 pub struct OpeningLine {
     pub feed: u128,
     pub items: u128,
 }
 
 /// The note of a board, which may be none.
-#[derive(Clone, Copy, PartialEq, Eq, Debug)]
+#[derive(Clone, Copy)]
 pub struct NoteLine {
     pub board: u128,
     pub stop: u128,
@@ -54,7 +54,7 @@ pub struct NoteLine {
 }
 
 /// The id of an event and its time, in seconds.
-#[derive(Clone, Copy, PartialEq, Eq, Debug)]
+#[derive(Clone, Copy)]
 pub struct TimeLine {
     pub event: u32,
     pub time: u128,
