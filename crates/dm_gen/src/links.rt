@@ -8,7 +8,7 @@ use dm_base::{ActKind, EventId, Milli, Secs};
 use std::alloc::{AllocError, Global};
 
 /// An activity without its id.
-#[derive(Clone, Copy, Debug)]
+#[derive(Clone, Copy)]
 pub struct Link {
     pub kind: ActKind,
     pub tail: EventId,

@@ -53,7 +53,7 @@ pub struct FeedHeard {
 }
 
 /// How a feed ended.
-#[derive(Clone, Copy, PartialEq, Eq)]
+#[derive(Clone, Copy)]
 pub enum Stop {
     End,
     Fault,

@@ -5,7 +5,7 @@ use dm_network::NetFault;
 use dm_rows::StartFault;
 
 /// A file of the folder, in the order of reading.
-#[derive(Clone, Copy, PartialEq, Eq, Debug)]
+#[derive(Clone, Copy)]
 pub enum File {
     Events,
     Activities,
@@ -14,7 +14,7 @@ pub enum File {
 }
 
 /// Why a file is refused.
-#[derive(Clone, Copy, PartialEq, Eq, Debug)]
+#[derive(Clone, Copy)]
 pub enum FileFlaw {
     /// A record breaks a rule, or the file begins with a byte order mark.
     Record(FileFault),
@@ -24,7 +24,7 @@ pub enum FileFlaw {
 }
 
 /// What is refused: one of the files, and after all files the network that they make, and then the start rows.
-#[derive(PartialEq, Eq, Debug, Drop)]
+#[derive(Drop)]
 pub enum InputFlaw {
     InFile(File, FileFlaw),
 
@@ -36,7 +36,7 @@ pub enum InputFlaw {
 }
 
 /// Why there is no network with its start rows.
-#[derive(PartialEq, Eq, Debug, Drop)]
+#[derive(Drop)]
 pub enum InputStop {
     /// The first thing that is refused.
     Refused(InputFlaw),

@@ -8,7 +8,7 @@ use dm_base::Cost;
 use dm_outside::{Page, Sink, WriteFault};
 
 /// What a generated day comes to after its feed.
-#[derive(Clone, Copy, PartialEq, Eq, Debug)]
+#[derive(Clone, Copy)]
 pub struct Summary {
     /// Events of the network.
     pub events: u64,

@@ -4,7 +4,7 @@ use std::alloc::{AllocError, Global};
 use std::io;
 
 /// Why a case fails.
-#[derive(Clone, Copy, PartialEq, Eq, Debug)]
+#[derive(Clone, Copy, Debug)]
 pub enum Failure {
     /// The two ways differ after so many steps.
     Differs(u32),

@@ -48,7 +48,7 @@ const TURNED: ActivityCase = (ActKind::Turnaround, 4, 5, 30, 0);
 const DIRECT_DRIVE: ActivityCase = (ActKind::Drive, 7, 8, 200, 0);
 
 /// A small network. Events and activities are numbered from 1.
-#[derive(Clone, Copy, PartialEq, Eq, Debug)]
+#[derive(Clone, Copy, PartialEq, Eq)]
 pub enum Sample {
     /// One train over two legs: four events.
     TwoLegs,

@@ -258,7 +258,7 @@ fn the_first_wrong_line_is_named(rt: HostRuntime) -> Result<(), Fail> {
         };
         match read(rt.alloc(), *first, text) {
             Ok(_) => panic!(rt; "a plan"),
-            Err(fault) => assert_eq!(rt; fault, wanted),
+            Err(fault) => assert!(rt; fault == wanted),
         }
     }
     Ok(())
