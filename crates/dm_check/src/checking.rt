@@ -25,7 +25,7 @@ use dm_text::Lines;
 use std::alloc::{AllocError, Global};
 
 /// How many entries a run has, and how many plans there are in its logs.
-#[derive(Clone, Copy, PartialEq, Eq, Debug)]
+#[derive(Clone, Copy, PartialEq, Eq)]
 pub(crate) struct Counts {
     pub(crate) entries: u32,
     pub(crate) plans: u32,

@@ -29,10 +29,18 @@ use dm_tree::Plan;
 use std::alloc::AllocError;
 
 /// What judges the logs of a text: the rows at the entries, and a flag for each entry, whether an item names it.
-#[derive(Drop)]
 pub(crate) struct Logs<'j> {
     pub(crate) replay: Replay<'j>,
     pub(crate) named: Vec<bool>,
+}
+
+impl Drop for Logs<'_> {
+    fn drop(self) {
+        let Logs {
+            replay: _,
+            named: _,
+        } = self;
+    }
 }
 
 /// Whether an answer of one line is the next item of a feed's log.

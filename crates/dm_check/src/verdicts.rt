@@ -1,7 +1,7 @@
 //! What is told of a text.
 
 /// What is wrong with a record.
-#[derive(Clone, Copy, PartialEq, Eq, Debug)]
+#[derive(Clone, Copy, PartialEq, Eq)]
 pub enum BadKind {
     /// A line has not the form that must stand there.
     Form,
@@ -32,7 +32,7 @@ pub enum BadKind {
 }
 
 /// What is told of a text.
-#[derive(Clone, Copy, PartialEq, Eq, Debug)]
+#[derive(Clone, Copy, PartialEq, Eq)]
 pub enum Verdict {
     /// Every record is true. There are so many entries, and so many plans in the logs.
     Good { entries: u32, plans: u32 },

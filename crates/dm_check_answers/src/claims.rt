@@ -4,7 +4,7 @@ use dm_feed::Line;
 use dm_records::Answer;
 
 /// A line of a feed, and an answer to it.
-#[derive(Debug, Drop)]
+#[derive(Drop)]
 pub struct Answered {
     pub said: Line,
     pub answer: Answer,

@@ -13,11 +13,20 @@ use dm_records::Answer;
 use std::alloc::Global;
 
 /// Claims in the order of a text, with the verdict on each that was judged, and the place of the next one.
-#[derive(Drop)]
 pub struct Known {
     pub claims: Vec<Answered>,
     pub verdicts: Vec<Option<bool>>,
     pub next: usize,
+}
+
+impl Drop for Known {
+    fn drop(self) {
+        let Known {
+            claims: _,
+            verdicts: _,
+            next: _,
+        } = self;
+    }
 }
 
 impl Known {

@@ -8,7 +8,7 @@ use crate::replay::Replay;
 use std::alloc::{AllocError, Global};
 
 /// The place of a claim, with the number of its entry.
-#[derive(Clone, Copy, Debug)]
+#[derive(Clone, Copy)]
 struct Turn {
     number: u32,
     place: usize,

@@ -14,12 +14,22 @@ use dm_records::Answer;
 use dm_tree::Plan;
 
 /// The line and the entry number that were last, or 0, the latest plan, and how many plans there were.
-#[derive(Drop)]
 pub struct Past {
     pub line: u32,
     pub number: u32,
     pub latest: Option<Plan>,
     pub plans: usize,
+}
+
+impl Drop for Past {
+    fn drop(self) {
+        let Past {
+            line: _,
+            number: _,
+            latest: _,
+            plans: _,
+        } = self;
+    }
 }
 
 impl Past {

@@ -13,12 +13,22 @@ use std::alloc::AllocError;
 use std::marker::Model;
 
 /// The rows after so many entries of a journal, and their times, with the claims of such rows whose truth is known.
-#[derive(Drop)]
 pub struct Replay<'a> {
     pub(crate) journal: Journal<'a>,
     pub(crate) checked: CheckedRows,
     entry: usize,
     pub(crate) known: Known,
+}
+
+impl Drop for Replay<'_> {
+    fn drop(self) {
+        let Replay {
+            journal: _,
+            checked: _,
+            entry: _,
+            known: _,
+        } = self;
+    }
 }
 
 impl<'a> Model for Replay<'a> {

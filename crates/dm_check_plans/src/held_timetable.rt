@@ -22,11 +22,20 @@ use std::marker::Model;
 
 /// What is held, and times that follow it. After a cycle nothing is known of them, and they begin again from those of what was held
 /// first.
-#[derive(Drop)]
 pub struct HeldTimetable {
     kept: KeptTimetable,
     first: Known,
     has_first: bool,
+}
+
+impl Drop for HeldTimetable {
+    fn drop(self) {
+        let HeldTimetable {
+            kept: _,
+            first: _,
+            has_first: _,
+        } = self;
+    }
 }
 
 impl Model for HeldTimetable {

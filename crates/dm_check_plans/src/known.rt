@@ -6,10 +6,15 @@ use std::alloc::{AllocError, Global};
 use std::marker::Model;
 
 /// Flags of activities, and the least times for these.
-#[derive(Drop)]
 pub struct Known {
     held: Vec<bool>,
     times: Vec<Secs>,
+}
+
+impl Drop for Known {
+    fn drop(self) {
+        let Known { held: _, times: _ } = self;
+    }
 }
 
 impl Model for Known {

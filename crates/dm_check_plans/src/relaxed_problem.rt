@@ -26,7 +26,6 @@ use std::marker::Model;
 
 /// A path of decisions over rows, with what its relaxed problem holds and charges for. Its calls take the network and the rows
 /// for which it was made.
-#[derive(Drop)]
 pub struct RelaxedProblem {
     path: Vec<Decision>,
     undecided: Undecided,
@@ -42,6 +41,21 @@ pub struct RelaxedProblem {
 
     /// The places of the network's changes.
     places: Vec<usize>,
+}
+
+impl Drop for RelaxedProblem {
+    fn drop(self) {
+        let RelaxedProblem {
+            path: _,
+            undecided: _,
+            charged: _,
+            timetable: _,
+            kept_cost: _,
+            moved: _,
+            is_noted: _,
+            places: _,
+        } = self;
+    }
 }
 
 impl Model for RelaxedProblem {

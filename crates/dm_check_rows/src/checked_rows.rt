@@ -28,7 +28,6 @@ use std::marker::Model;
 
 /// The rows of a network as messages come. Their least timetable is computed where it is asked for, from that of before and what
 /// has changed since then; and no cycle is looked for after a message that makes none.
-#[derive(Drop)]
 pub struct CheckedRows {
     rows: Rows,
 
@@ -51,6 +50,22 @@ pub struct CheckedRows {
 
     /// The events whose times may not be those of the cost.
     moved: PlaceSet,
+}
+
+impl Drop for CheckedRows {
+    fn drop(self) {
+        let CheckedRows {
+            rows: _,
+            is_free: _,
+            is_kept: _,
+            is_priced: _,
+            is_settled: _,
+            schedule: _,
+            timetable: _,
+            kept_cost: _,
+            moved: _,
+        } = self;
+    }
 }
 
 impl Model for CheckedRows {

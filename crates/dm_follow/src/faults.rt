@@ -1,7 +1,7 @@
 //! What stops a follower, and what it has of a journal.
 
 /// Why a line, or a piece, is not taken.
-#[derive(Clone, Copy, PartialEq, Eq, Debug)]
+#[derive(Clone, Copy, PartialEq, Eq)]
 pub enum FollowKind {
     /// The line has not the form that must stand there, or says a number of the header that may not stand there.
     Form = 1,
@@ -14,7 +14,7 @@ pub enum FollowKind {
 }
 
 /// The first line of a journal that stands whole and breaks its rule, or want of memory.
-#[derive(Clone, Copy, PartialEq, Eq, Debug)]
+#[derive(Clone, Copy, PartialEq, Eq)]
 pub struct FollowFault {
     /// The number of the line, from 1, and 0 for want of memory.
     pub line: u32,
@@ -28,7 +28,7 @@ pub(crate) const NO_MEMORY: FollowFault = FollowFault {
 };
 
 /// What a follower has of the lines of a journal.
-#[derive(Clone, Copy, PartialEq, Eq, Debug)]
+#[derive(Clone, Copy, PartialEq, Eq)]
 pub enum Tail {
     /// All entries that the header tells.
     Whole,

@@ -20,7 +20,6 @@ use std::marker::Model;
 
 /// A table that follows a journal as its bytes arrive, seen as the table of the entries so far, how many bytes were taken, the line
 /// that comes next, and the bytes of it that were taken.
-#[derive(Drop)]
 pub struct Follower<'n> {
     alloc: Global,
     table: Table<'n>,
@@ -31,6 +30,18 @@ pub struct Follower<'n> {
 
     /// The bytes of the line that is not whole yet.
     part: Vec<u8>,
+}
+
+impl Drop for Follower<'_> {
+    fn drop(self) {
+        let Follower {
+            alloc: _,
+            table: _,
+            taken: _,
+            stage: _,
+            part: _,
+        } = self;
+    }
 }
 
 impl<'n> Model for Follower<'n> {

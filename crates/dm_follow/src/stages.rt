@@ -3,7 +3,7 @@
 use crate::faults::FollowKind;
 
 /// The line that comes next.
-#[derive(Clone, Copy, PartialEq, Eq, Debug)]
+#[derive(Clone, Copy)]
 pub enum Stage {
     Version,
     Penalty,

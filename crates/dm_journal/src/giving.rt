@@ -9,7 +9,7 @@ use dm_follow::{FollowFault, FollowKind, Follower, Tail};
 use std::alloc::AllocError;
 
 /// A rule of a journal's lines.
-#[derive(Clone, Copy, PartialEq, Eq, Debug)]
+#[derive(Clone, Copy)]
 pub enum BrokenRule {
     /// The line has not the form that must stand there, or says a number of the header that may not stand there.
     Form,
@@ -19,7 +19,7 @@ pub enum BrokenRule {
 }
 
 /// The first line of a journal that stands whole and breaks its rule.
-#[derive(Clone, Copy, PartialEq, Eq, Debug)]
+#[derive(Clone, Copy)]
 pub struct BrokenLine {
     /// The number of the line, from 1.
     pub line: u32,
@@ -27,7 +27,6 @@ pub struct BrokenLine {
 }
 
 /// What the journal at the front of a text carries.
-#[derive(Drop)]
 pub enum Journal<'n> {
     /// All its lines stand whole, and this follower has taken the text.
     Whole(Follower<'n>),
@@ -37,6 +36,14 @@ pub enum Journal<'n> {
 
     /// The first line that breaks its rule.
     Broken(BrokenLine),
+}
+
+impl Drop for Journal<'_> {
+    fn drop(self) {
+        match self {
+            Journal::Whole(_) | Journal::Torn(_, _) | Journal::Broken(_) => {}
+        }
+    }
 }
 
 /// The line that a fault of a follower is of, or none where it is want of memory.

@@ -31,7 +31,6 @@ pub enum Carried {
 }
 
 /// A plan of a window at an entry.
-#[derive(Drop)]
 pub struct Outlook {
     /// How many entries the history has for whose rows the plan is.
     pub entry: u32,
@@ -39,6 +38,16 @@ pub struct Outlook {
 
     /// What becomes of the plan at the last entry, where an entry was named.
     pub carried: Option<Carried>,
+}
+
+impl Drop for Outlook {
+    fn drop(self) {
+        let Outlook {
+            entry: _,
+            plan: _,
+            carried: _,
+        } = self;
+    }
 }
 
 /// A plan for the window from one scheduled time to another, in seconds, both of them in it, of the rows after so many entries of

@@ -18,12 +18,20 @@ use std::alloc::{AllocError, Global};
 use std::marker::Model;
 
 /// Which boards of a list were dropped, what was published last, and the room to show the others what has changed.
-#[derive(Drop)]
 pub struct Publisher {
     showing: Showing,
 
     /// Room for the events that are looked at.
     listed: Vec<Listed>,
+}
+
+impl Drop for Publisher {
+    fn drop(self) {
+        let Publisher {
+            showing: _,
+            listed: _,
+        } = self;
+    }
 }
 
 impl Model for Publisher {

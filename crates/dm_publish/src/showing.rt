@@ -20,7 +20,6 @@ use std::alloc::{AllocError, Global};
 use std::marker::Model;
 
 /// Which boards of a list were dropped, what was published last, and the room to show the others what has changed.
-#[derive(Drop)]
 pub(crate) struct Showing {
     boards: usize,
     events: usize,
@@ -29,6 +28,18 @@ pub(crate) struct Showing {
 
     /// The times in seconds that were published last, by place of the event; none before the first publishing.
     last: Vec<Secs>,
+}
+
+impl Drop for Showing {
+    fn drop(self) {
+        let Showing {
+            boards: _,
+            events: _,
+            notes: _,
+            changes: _,
+            last: _,
+        } = self;
+    }
 }
 
 impl Model for Showing {
