@@ -28,11 +28,20 @@ use std::sync::Wait;
 use std::thread::Threads;
 
 /// The table of a day, the logs of its feeds, and the publisher with the notes of boards whose show has failed.
-#[derive(Drop)]
 pub struct AnsweredDay<'n> {
     pub table: Table<'n>,
     pub logs: Vec<FeedLog>,
     pub publisher: Publisher,
+}
+
+impl Drop for AnsweredDay<'_> {
+    fn drop(self) {
+        let AnsweredDay {
+            table: _,
+            logs: _,
+            publisher: _,
+        } = self;
+    }
 }
 
 /// Answers feeds over a server of these rows, at a penalty in seconds for each passenger, until each has ended, in rounds of so
@@ -90,7 +99,7 @@ pub fn answer_at_once<
     Ok(AnsweredDay {
         table,
         logs,
-        publisher: display.publisher,
+        publisher: display.into_publisher(),
     })
 }
 
