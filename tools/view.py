@@ -1,12 +1,12 @@
 #!/usr/bin/env python3
 """Makes one page of a run, to be opened in a browser: view.py NET TEXT > day.html
 
-NET is the folder of a network, TEXT the text of a run over it. The page loads nothing from elsewhere, and runs no script but its own, whatever
-stands in names. It shows the time-distance diagrams of the eight busiest lines (as diagram.py draws them) with zoom and pan by
-mouse, touch and keys; a box that finds a train, a trip, an event or a stop; the run of a train and the board of a stop (scheduled,
-now, late); the journal with each reply; each plan with its choices and its tree as a list that folds, with bounds; and the cost by
-late arrivals, dropped changes and missed ones. It works by keyboard, in light and dark, and on a narrow screen. Names come from
-NET/Stops.csv and NET/Trains.csv where these are there.
+NET is the folder of a network, TEXT the text of a run over it. The page loads nothing from elsewhere, and runs no script but its
+own, whatever stands in names. It shows the time-distance diagrams of the eight busiest lines (as diagram.py draws them) with zoom
+and pan by mouse, touch and keys; a box that finds a train, a trip, an event or a stop; the run of a train and the board of a stop
+(scheduled, now, late); the journal with each reply; each plan with its choices and its tree as a list that folds, with bounds; and
+the cost by late arrivals, dropped changes and missed ones. It works by keyboard, in light and dark, and on a narrow screen. Names
+come from NET/Stops.csv and NET/Trains.csv where these are there.
 """
 import argparse
 import os
@@ -209,7 +209,7 @@ def lines_note(scene, lines, has_more):
     missing = len(scene.trains) - len(drawn)
     said = f'These are the {MOST_LINES} busiest lines; there are more. ' if has_more else ''
     if missing:
-        said += f'{missing} of {counted(len(scene.trains), "train runs", "trains run")} on no line that is drawn; they are found as the others.'
+        said += f'{missing} of {len(scene.trains)} trains run on no line that is drawn; they are found as the others.'
     return f'<p class="note">{said.strip()}</p>' if said else ''
 
 

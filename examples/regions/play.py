@@ -84,7 +84,7 @@ class Broker:
         """Starts the broker, and waits until it hears."""
         with open(os.path.join(self.folder, 'broker-said'), 'ab') as said:
             process = subprocess.Popen(['mosquitto', '-c', 'mosquitto.conf'], cwd=self.folder, stdout=said, stderr=said)
-        for _ in range(200):
+        for _ in range(1200):
             try:
                 socket.create_connection(('127.0.0.1', self.port)).close()
                 return process

@@ -14,8 +14,8 @@ MISSING = 'chromium is not installed'
 WORDS = ['--headless', '--no-sandbox', '--disable-gpu', '--no-first-run', '--disable-extensions', '--hide-scrollbars',
          '--remote-debugging-pipe', '--window-size=1200,800', 'about:blank']
 
-# So long a browser may be silent, in seconds.
-PATIENCE = '60'
+# So long a browser may live, in seconds.
+PATIENCE = '600'
 
 
 class Browser:

@@ -75,7 +75,7 @@ class OverBroker(unittest.TestCase):
     def until(self, name, lines):
         """Waits until these lines stand in a file."""
         due = ''.join(f'{line}\n' for line in lines)
-        end = time.monotonic() + 20
+        end = time.monotonic() + 60
         while self.read(name) != due:
             self.assertLess(time.monotonic(), end, f'{self.read(name)!r} and not {due!r}')
             time.sleep(0.02)
@@ -105,7 +105,7 @@ class Away(OverBroker):
 
     def until_last(self, due):
         """Waits until these delays of events are the last of the feed."""
-        end, last = time.monotonic() + 20, None
+        end, last = time.monotonic() + 60, None
         while last != due:
             self.assertLess(time.monotonic(), end, last)
             last = {int(line.split()[2]): int(line.split()[3]) for line in self.read('lines').splitlines()}

@@ -70,7 +70,7 @@ class InBrowser(unittest.TestCase):
 
     def until(self, expression):
         """Waits for an expression to hold."""
-        end = time.monotonic() + 5
+        end = time.monotonic() + 60
         while not self.browser.value(expression):
             self.assertLess(time.monotonic(), end, expression)
             time.sleep(0.02)
