@@ -4,8 +4,8 @@
 A DAY is TRAINS:NUMBER, a day of bench/day.py after its 500 delays, or TRAINS:NUMBER:FROM:TO, the choices of a window of it, or
 SHAPE:NUMBER, a network of tools/shapes.py with delays of tools/scenarios.py. By default they are days of 20 to 2,000 trains with the
 numbers 1 to 9, and windows of 10, 20 and 40 minutes on days of 2,000 trains. The penalty is 3600 and a plan has 16,384 nodes. CBC and
-GLPK (Debian's coinor-cbc and glpk-utils) solve the programme of tools/to_mps.py, each for --limit seconds at most (60); GLPK with all
-of its cuts. Where one of them is not there its column says so.
+GLPK (Debian's coinor-cbc and glpk-utils) solve the programme of tools/to_mps.py, each for --limit seconds at most (60), CBC of processor,
+GLPK of the clock; GLPK with all of its cuts. Where one of them is not there its column says so.
 
 Each line of the table printed has the cost in millions, the bound and the gap where it is not proved to be the least, the seconds of
 processor (of a run with the plan less one without; of a window the whole command; of a solver without to_mps.py) and the most memory.
@@ -196,7 +196,7 @@ def prepared(day: str, folder: str) -> tuple[str, list[str], Optional[Window]]:
         write_day(int(numbers[0]), int(kind), folder)
         with open(os.path.join(folder, 'delays'), encoding='ascii') as file:
             return os.path.join(folder, 'net'), file.read().splitlines(), window
-    from scenarios import delays_of_shape
+    from delays import delays_of_shape
     return (*delays_of_shape(kind, int(numbers[0]), folder), window)
 
 

@@ -9,12 +9,11 @@ import sys
 from typing import NamedTuple, Sequence
 
 HELPER = '''
-import os, signal, sys
-limit, words = float(sys.argv[1]), sys.argv[2:]
+import os, resource, sys
+limit, words = int(sys.argv[1]), sys.argv[2:]
+resource.setrlimit(resource.RLIMIT_CPU, (limit, limit))
 quiet = [(os.POSIX_SPAWN_OPEN, 2, os.devnull, os.O_WRONLY, 0)]
 child = os.posix_spawnp(words[0], words, os.environ, file_actions=quiet)
-signal.signal(signal.SIGALRM, lambda *_: os.kill(child, signal.SIGKILL))
-signal.setitimer(signal.ITIMER_REAL, limit)
 _, status, used = os.wait4(child, 0)
 print(os.waitstatus_to_exitcode(status), used.ru_utime + used.ru_stime, used.ru_maxrss / 1024, file=sys.stderr)
 '''
@@ -28,8 +27,8 @@ class Measured(NamedTuple):
     megabytes: float
 
 
-def measured(words: Sequence[str], limit: float = 3600) -> Measured:
-    """Runs a command, which is ended after so many seconds of the clock."""
+def measured(words: Sequence[str], limit: int = 3600) -> Measured:
+    """Runs a command, which is ended after so many seconds of processor."""
     done = subprocess.run([sys.executable, '-S', '-c', HELPER, str(limit), *words], capture_output=True, check=True)
     status, seconds, megabytes = done.stderr.split()
     return Measured(done.stdout.decode('utf-8', 'replace'), int(status), float(seconds), float(megabytes))

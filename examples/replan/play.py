@@ -1,0 +1,105 @@
+#!/usr/bin/env python3
+"""Plays a day that is replanned: python3 play.py DISPATCHER [--trains=2000] [--number=7] [--every=10] [--ahead=40] [FOLDER]
+
+The network and the 500 delays are those of bench/day.py. A delay is told at the scheduled time of its event. Each --every minutes the
+program plans a window of the next --ahead minutes; its choices are entered, and all else is left as it was decided before. At the end
+the cost of the day stands beside that of no plan, of one plan of all that is told in the first two hours, and of one plan of all that
+the whole day told, with the bound below which no choices of that day cost. Each text is judged by `check`.
+
+With a FOLDER the files stay there: the network, the feed of the day (`text.feed`) and its text.
+"""
+from __future__ import annotations
+
+import argparse
+import os
+import sys
+import tempfile
+
+TOP = os.path.join(os.path.dirname(os.path.abspath(__file__)), '..', '..')
+sys.path[:0] = [os.path.join(TOP, 'tools'), os.path.join(TOP, 'bench')]
+
+from day import write_day  # noqa: E402
+from delays import Told  # noqa: E402
+from playing import Played, Program, Replanning, replanned  # noqa: E402
+from railway import BadFile, Network, Rows, read_network  # noqa: E402
+from runtext import heard, read_run  # noqa: E402
+from scene import clock_time  # noqa: E402
+from words import whole_between  # noqa: E402
+
+BUDGET = 16_384
+MORNING = 7_200
+
+
+def told_of(network: Network, name: str) -> list[Told]:
+    """The delays of a feed, each at the scheduled time of its event."""
+    with open(name, encoding='ascii') as file:
+        messages = [heard(line.rstrip('\n')) for line in file]
+    return sorted(Told(network.events[network.event_place[message[1]]].time, message) for message in messages)
+
+
+def watch(now: int, entered: int) -> None:
+    if now % 3600 == 0:
+        print(f'{clock_time(now)}: {entered} choices entered', flush=True)
+
+
+def line_of(name: str, cost: int, bound: int) -> str:
+    return f'{name}: cost {cost / 1e6:.2f}, {100 * (cost - bound) / bound:.1f} % above the bound of the day'
+
+
+def played(program: Program, network: Network, told: list[Told], how: Replanning) -> None:
+    times = [event.time for event in network.events]
+    start, end = min(times), max(times)
+    nothing = Played(network, Rows(network), ahead=told[:])
+    nothing.tell(None)
+    never = program.judged(nothing.lines)
+
+    whole = program.judged([*nothing.lines, f'plan {BUDGET}', 'adopt'], 'whole')
+    with open(program.path('whole'), 'rb') as file:
+        run = read_run(file.read(), len(network.events))
+    bound = run.logs[0].items[-2].answer.value.bound
+
+    morning = Played(network, Rows(network), ahead=told[:])
+    morning.tell(start + MORNING)
+    program.run(morning.lines)
+    morning.enter(program.window(start + MORNING, max(end, start + MORNING), BUDGET))
+    morning.tell(None)
+    once = program.judged(morning.lines, 'morning')
+
+    day = Played(network, Rows(network), ahead=told[:])
+    replanned(program, day, start, end, how, watch)
+    cost = program.judged(day.lines)
+
+    print(line_of('no plan', never, bound))
+    print(line_of('one plan, of the first two hours', once, bound))
+    print(line_of(f'a window of {how.ahead // 60} minutes each {how.every // 60} minutes', cost, bound))
+    print(line_of('one plan, of all delays of the day', whole, bound))
+    print(f'bound {bound / 1e6:.2f}')
+
+
+def main() -> int:
+    words = argparse.ArgumentParser(description=__doc__, formatter_class=argparse.RawDescriptionHelpFormatter)
+    words.add_argument('dispatcher', metavar='DISPATCHER', help='the built program')
+    words.add_argument('folder', nargs='?', metavar='FOLDER', help='where the files stay')
+    words.add_argument('--trains', type=whole_between(1, 2_000), default=2_000, metavar='N', help='(2000)')
+    words.add_argument('--number', type=whole_between(0, 999_999_999), default=7, metavar='S', help='from which delays are drawn (7)')
+    words.add_argument('--every', type=whole_between(1, 1440), default=10, metavar='MINUTES', help='(10)')
+    words.add_argument('--ahead', type=whole_between(1, 1440), default=40, metavar='MINUTES', help='(40)')
+    given = words.parse_args()
+    with tempfile.TemporaryDirectory() as other:
+        folder = given.folder or other
+        os.makedirs(folder, exist_ok=True)
+        write_day(given.number, given.trains, folder)
+        net = os.path.join(folder, 'net')
+        network = read_network(net)
+        program = Program(os.path.abspath(given.dispatcher), net, 3600, folder)
+        try:
+            how = Replanning(60 * given.every, 60 * given.ahead)
+            played(program, network, told_of(network, os.path.join(folder, 'delays')), how)
+        except BadFile as fault:
+            print(f'play.py: {fault}', file=sys.stderr)
+            return 2
+    return 0
+
+
+if __name__ == '__main__':
+    sys.exit(main())

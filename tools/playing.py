@@ -1,0 +1,154 @@
+"""A day that is played: what is told in time, the clock, and windows that are planned while it goes on.
+
+The program runs the feed so far and plans a window behind its text; the choices are entered as lines. What has been told is kept as
+rows beside it, by the rules of railway.py, so that the feed can be written without a question at each line.
+"""
+from __future__ import annotations
+
+import os
+import resource
+import subprocess
+from dataclasses import dataclass, field
+from typing import Optional, Sequence
+
+from decide import in_turn, spoken
+from delays import Told
+from railway import BadFile, Network, Rows, apply, refusal_at_once, times_of
+from runtext import DECISIONS, read_form
+
+# The most bytes of a feed.
+FEED = 262_144
+
+
+def children_seconds() -> float:
+    """The seconds of processor of the commands that have ended."""
+    used = resource.getrusage(resource.RUSAGE_CHILDREN)
+    return used.ru_utime + used.ru_stime
+
+
+@dataclass
+class Program:
+    """The built program over the network of a folder, and how many seconds of processor its commands took; it leaves its files in a
+    folder."""
+    name: str
+    net: str
+    penalty: int
+    folder: str
+    seconds: float = 0
+    options: Sequence[str] = ()
+
+    def path(self, name: str) -> str:
+        return os.path.join(self.folder, name)
+
+    def call(self, *words: str) -> str:
+        """What a command prints; BadFile where it ends with another status than 0."""
+        command = [self.name, *words, f'--penalty={self.penalty}', *self.options]
+        began = children_seconds()
+        try:
+            done = subprocess.run(command, capture_output=True, text=True)
+        except OSError as error:
+            raise BadFile(self.name, None, error.strerror or 'cannot be run') from error
+        self.seconds += children_seconds() - began
+        if done.returncode != 0:
+            said = (done.stdout.splitlines() or [''])[0]
+            raise BadFile(' '.join(command), None, f'it ends with status {done.returncode}: {said}')
+        return done.stdout
+
+    def run(self, lines: Sequence[str], name: str = 'text') -> str:
+        """The text of a run of a feed of lines, which is left under a name; BadFile where the feed is too long."""
+        feed = ''.join(f'{line}\n' for line in lines)
+        if len(feed) > FEED:
+            raise BadFile(self.path(f'{name}.feed'), None, f'the day needs {len(feed)} bytes of a feed, which holds {FEED}')
+        with open(self.path(f'{name}.feed'), 'w', encoding='ascii') as file:
+            file.write(feed)
+        text = self.call('run', self.net, self.path(f'{name}.feed'))
+        with open(self.path(name), 'w', encoding='ascii') as file:
+            file.write(text)
+        return text
+
+    def judged(self, lines: Sequence[str], name: str = 'text') -> int:
+        """The cost after a feed of lines, none of which may be refused; its text is judged by `check`."""
+        text = self.run(lines, name)
+        if ' refused ' in text or 'malformed' in text:
+            raise BadFile(self.path(name), None, 'a line of it is refused')
+        verdict = self.call('check', self.net, self.path(name))
+        if not verdict.startswith('good '):
+            raise BadFile(self.path(name), None, f'check says: {verdict.strip()}')
+        return int(text.splitlines()[-2].split()[1])
+
+    def window(self, start: int, end: int, budget: int) -> list[tuple]:
+        """The choices that the plan of a window behind the text makes."""
+        told = self.call('window', self.net, self.path('text'), str(max(0, start)), str(end), str(budget))
+        return choices_in_print(told)
+
+    def ruled(self, rule: str) -> list[tuple]:
+        """The choices that a waiting rule makes behind the text."""
+        return choices_in_print(self.call('rules', self.net, self.path('text'), rule, '1'))
+
+
+def choices_in_print(told: str) -> list[tuple]:
+    return [form for line in told.splitlines() if line.startswith('choice ')
+            if (form := read_form(DECISIONS, line.split()[1:])) is not None]
+
+
+@dataclass
+class Played:
+    """A day so far: the lines of its feed, and the rows after them."""
+    network: Network
+    rows: Rows
+    clock: bool = False
+    lines: list[str] = field(default_factory=list)
+    ahead: list[Told] = field(default_factory=list)
+
+    def say(self, message: tuple) -> None:
+        self.lines.append(' '.join(map(str, message)))
+        apply(self.network, self.rows, message)
+
+    def tell(self, now: Optional[int]) -> bool:
+        """Says what is known at a time, or all that is left. Whether there was anything."""
+        known = [one for one in self.ahead if now is None or one.time <= now]
+        self.ahead = [one for one in self.ahead if now is not None and one.time > now]
+        for one in known:
+            if refusal_at_once(self.network, self.rows, one.message) is None:
+                self.say(one.message)
+        if self.clock and now is not None:
+            self.let_pass(now)
+        return bool(known)
+
+    def let_pass(self, now: int) -> None:
+        """What has happened by now passes at its time, and the clock goes on."""
+        times = times_of(self.network, self.rows)
+        passing = [(at, place) for place, at in enumerate(times) if at <= now and self.rows.passed[place] is None]
+        for at, place in sorted(passing):
+            self.say(('pass', self.network.events[place].id, at))
+        if now > self.rows.clock:
+            self.say(('now', now))
+
+    def enter(self, decisions: Sequence[tuple]) -> int:
+        """Says choices, in an order in which none closes a cycle; how many."""
+        turns = in_turn(self.network, self.rows, decisions)
+        self.lines += spoken(turns)
+        for decision in turns:
+            self.rows.decide(self.network, decision)
+        return len(turns)
+
+
+@dataclass(frozen=True)
+class Replanning:
+    """How a day is replanned: each so many seconds the choices of the next so many, by a plan of so many nodes."""
+    every: int = 600
+    ahead: int = 2400
+    budget: int = 4096
+
+
+def replanned(program: Program, played: Played, start: int, end: int, how: Replanning, watch=lambda now, entered: None) -> None:
+    """Plays a day from one time to another; what is not told by the end is told then."""
+    for now in range(start, end + 1, how.every):
+        played.tell(now)
+        if not played.lines:
+            continue
+        program.run(played.lines)
+        # With a clock what has passed is no choice; without one, what is scheduled before now is left as it is.
+        begin = now - how.ahead if played.clock else now
+        watch(now, played.enter(program.window(begin, now + how.ahead, how.budget)))
+    played.tell(None)
