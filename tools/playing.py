@@ -117,12 +117,32 @@ class Played:
 
     def let_pass(self, now: int) -> None:
         """What has happened by now passes at its time, and the clock goes on."""
-        times = times_of(self.network, self.rows)
-        passing = [(at, place) for place, at in enumerate(times) if at <= now and self.rows.passed[place] is None]
-        for at, place in sorted(passing):
-            self.say(('pass', self.network.events[place].id, at))
+        for message in self.passing(now, times_of(self.network, self.rows), 0):
+            self.say(message)
         if now > self.rows.clock:
             self.say(('now', now))
+
+    def passing(self, now: int, times: Sequence[int], since: int) -> list[tuple]:
+        """What has happened by now of the events that are scheduled since some time, in the order of their times."""
+        events = self.network.events
+        happened = [(at, place) for place, at in enumerate(times)
+                    if at <= now and events[place].time >= since and self.rows.passed[place] is None]
+        return [('pass', events[place].id, at) for at, place in sorted(happened)]
+
+    def question(self, now: int, times: Sequence[int], since: int) -> list[str]:
+        """The feed with what has happened since some time, and with what is late and cannot be before now, for one question."""
+        late = [
+            ('delay event', event.id, now - event.time) for event, at in zip(self.network.events, times) if since <= event.time < now < at
+            and event.time + self.rows.event_delays[self.network.event_place[event.id]] < now
+        ]
+        return self.lines + spoken(late) + spoken(self.passing(now, times, since))
+
+    def hold_back(self, now: int, before: Sequence[int]) -> None:
+        """What had not happened by now, and which choices would let happen before, is delayed until now."""
+        after = times_of(self.network, self.rows)
+        for event, was, will_be in zip(self.network.events, before, after):
+            if was > now > will_be:
+                self.say(('delay event', event.id, now - event.time))
 
     def enter(self, decisions: Sequence[tuple]) -> int:
         """Says choices, in an order in which none closes a cycle; how many."""
@@ -135,20 +155,26 @@ class Played:
 
 @dataclass(frozen=True)
 class Replanning:
-    """How a day is replanned: each so many seconds the choices of the next so many, by a plan of so many nodes."""
+    """How a day is replanned: each so many seconds the choices of the next so many, by a plan of so many nodes. What is late is still
+    open so long after its schedule."""
     every: int = 600
     ahead: int = 2400
     budget: int = 4096
+    back: int = 3600
 
 
 def replanned(program: Program, played: Played, start: int, end: int, how: Replanning, watch=lambda now, entered: None) -> None:
-    """Plays a day from one time to another; what is not told by the end is told then."""
-    for now in range(start, end + 1, how.every):
+    """Plays a day from one time to another; what is not told by the end is told then.
+
+    Without a clock the feed of the day has no passed events; each question has those that matter, so that a day of any size fits.
+    """
+    for now in range(start, end + how.back + 1, how.every):
         played.tell(now)
-        if not played.lines:
-            continue
-        program.run(played.lines)
-        # With a clock what has passed is no choice; without one, what is scheduled before now is left as it is.
-        begin = now - how.ahead if played.clock else now
-        watch(now, played.enter(program.window(begin, now + how.ahead, how.budget)))
+        if played.lines:
+            times = times_of(played.network, played.rows)
+            program.run(played.lines if played.clock else played.question(now, times, now - how.back))
+            entered = played.enter(program.window(now - how.back, now + how.ahead, how.budget))
+            if entered and not played.clock:
+                played.hold_back(now, times)
+            watch(now, entered)
     played.tell(None)

@@ -31,10 +31,11 @@ MORNING = 7_200
 
 
 def told_of(network: Network, name: str) -> list[Told]:
-    """The delays of a feed, each at the scheduled time of its event."""
+    """The delays of a feed, each at the scheduled time of its event; of two of one event the later one stays behind the other."""
     with open(name, encoding='ascii') as file:
         messages = [heard(line.rstrip('\n')) for line in file]
-    return sorted(Told(network.events[network.event_place[message[1]]].time, message) for message in messages)
+    told = [Told(network.events[network.event_place[message[1]]].time, message) for message in messages]
+    return sorted(told, key=lambda one: one.time)
 
 
 def watch(now: int, entered: int) -> None:

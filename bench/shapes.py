@@ -1,0 +1,93 @@
+#!/usr/bin/env python3
+"""Prints what networks of several shapes take: python3 bench/shapes.py DISPATCHER [SHAPE[:SIZES] ..] [--number=S]
+
+The shapes are those of tools/shapes.py in their usual sizes, all four by default; SIZES are its options with commas between, as
+mesh:lines=60,trains=8. `gen` is a day of bench/day.py with 2,000 trains. Of each there are: the seconds of processor to load it (a run
+of an empty feed), those of one more delay (a feed full of drawn delays, less the load, by its lines), those of a plan of 16,384 nodes
+behind a day that is drawn from --number as tools/scenarios.py does (mixed, three trains of ten with a delay), less the run without it,
+with its cost and bound in millions, and the gap. `check` judges the texts. The last line tells where the gap is worst.
+"""
+from __future__ import annotations
+
+import argparse
+import os
+import sys
+import tempfile
+from dataclasses import replace
+from typing import Iterator
+
+TOP = os.path.join(os.path.dirname(os.path.abspath(__file__)), '..')
+sys.path[:0] = [os.path.join(TOP, 'tools'), os.path.join(TOP, 'bench')]
+
+from against import Fault, Server, planned  # noqa: E402
+from day import FEED, Draws, write_day  # noqa: E402
+from delays import Drawing, Lines, drawn_day, size_of, told_lines  # noqa: E402
+from files import write_all  # noqa: E402
+from from_gtfs import texts_of  # noqa: E402
+from railway import Network, Rows, free_choices, read_network  # noqa: E402
+from shapes import USUAL, made  # noqa: E402
+
+
+def written(shape: str, folder: str) -> tuple[str, Network]:
+    """Writes the network of a shape, and gives its folder and itself."""
+    net = os.path.join(folder, 'net')
+    name, _, sizes = shape.partition(':')
+    if name == 'gen':
+        write_day(7, 2000, folder)
+    elif name in USUAL:
+        given = dict(size.split('=') for size in sizes.split(',') if size)
+        write_all(net, texts_of(made(name, replace(USUAL[name], **{key: int(value) for key, value in given.items()}))))
+    else:
+        raise Fault(f'"{name}" is no shape')
+    return net, read_network(net)
+
+
+def many_delays(network: Network) -> Iterator[str]:
+    """Drawn delays, as many as a feed holds."""
+    draws, size = Draws(1), 0
+    while True:
+        line = f'delay event {network.events[draws.below(len(network.events))].id} {draws.below(900) + 1}'
+        size += len(line) + 1
+        if size > FEED:
+            return
+        yield line
+
+
+def line_of(program: str, shape: str, number: int) -> tuple[str, float]:
+    """The line of a shape, and its gap."""
+    with tempfile.TemporaryDirectory() as folder:
+        net, network = written(shape, folder)
+        server = Server(program, net, folder)
+        load = server.run([], 'empty').seconds
+        delays = list(many_delays(network))
+        delay = (server.run(delays, 'delays').seconds - load) / len(delays)
+        told = drawn_day(Lines(network), Drawing('mixed', 0.3, size_of('exponential:300')), number, 1)
+        plan = planned(server, told_lines(told))
+        assert plan.cost is not None and plan.bound is not None
+        gap = 100 * (plan.cost - plan.bound) / plan.cost if plan.cost else 0.0
+        sizes = f'{len(network.events)} | {len(network.activities)} | {len(free_choices(network, Rows(network)))}'
+        return (f'| {shape} | {sizes} | {load:.2f} s | {delay * 1e6:.0f} µs | {plan.seconds:.2f} s | {plan.cost / 1e6:.2f} '
+                f'| {plan.bound / 1e6:.2f} | {gap:.2f} % |'), gap
+
+
+def main() -> int:
+    words = argparse.ArgumentParser(description=__doc__, formatter_class=argparse.RawDescriptionHelpFormatter)
+    words.add_argument('dispatcher', metavar='DISPATCHER', help='the built program')
+    words.add_argument('shapes', nargs='*', metavar='SHAPE', help='shapes, and gen')
+    words.add_argument('--number', type=int, default=1, metavar='S', help='from which the day is drawn (1)')
+    given = words.parse_args()
+    print('| Shape | Events | Activities | Choices | Load | A delay | A plan | Cost | Bound | Gap |\n' + '|---' * 10 + '|')
+    gaps = {}
+    for shape in given.shapes or [*USUAL, 'gen']:
+        try:
+            line, gaps[shape] = line_of(os.path.abspath(given.dispatcher), shape, given.number)
+        except Fault as fault:
+            print(f'{shape}: {fault}')
+            return 1
+        print(line, flush=True)
+    print(f'\nThe gap is worst at {max(gaps, key=lambda shape: gaps[shape])}.')
+    return 0
+
+
+if __name__ == '__main__':
+    sys.exit(main())
