@@ -29,12 +29,12 @@ from typing import NamedTuple, Optional, Sequence
 TOP = os.path.join(os.path.dirname(os.path.abspath(__file__)), '..')
 sys.path[:0] = [os.path.join(TOP, 'tools'), os.path.join(TOP, 'bench')]
 
+from choices import choices_in  # noqa: E402
 from day import write_day  # noqa: E402
 from decide import in_turn, spoken  # noqa: E402
 from measured import Measured, measured  # noqa: E402
 from programme import Posed, Programme, Window, mps_text, programme_of  # noqa: E402
 from railway import BadFile, Network, Rows, read_network  # noqa: E402
-from runtext import DECISIONS, read_form  # noqa: E402
 from scene import read_text, rows_of  # noqa: E402
 from solution import Solution, decisions_of, read_solution  # noqa: E402
 
@@ -129,7 +129,7 @@ def windowed(server: Server, delays: Sequence[str], window: Window, network: Net
     words = [server.program, 'window', server.net, server.path('text'), str(window.start), str(window.end), str(BUDGET)]
     done = measured([*words, f'--penalty={PENALTY}'])
     mark, cost, bound = plan_of(done.printed)
-    choices = [read_form(DECISIONS, line.split()[1:]) for line in done.printed.splitlines() if line.startswith('choice ')]
+    choices = choices_in(done.printed.encode(), None)
     if server.cost([*delays, *spoken(in_turn(network, rows, choices))]) != cost:
         raise Fault('the choices of a window do not cost what its plan says')
     return Found(cost, bound, mark == 'optimal', done.seconds, done.megabytes)

@@ -11,10 +11,11 @@ import subprocess
 from dataclasses import dataclass, field
 from typing import Optional, Sequence
 
+from choices import choices_in
 from decide import in_turn, spoken
 from delays import Told
 from railway import BadFile, Network, Rows, apply, refusal_at_once, times_of
-from runtext import DECISIONS, read_form
+from runtext import DECISIONS, Bad, read_form
 
 # The most bytes of a feed.
 FEED = 262_144
@@ -79,16 +80,16 @@ class Program:
     def window(self, start: int, end: int, budget: int) -> list[tuple]:
         """The choices that the plan of a window behind the text makes."""
         told = self.call('window', self.net, self.path('text'), str(max(0, start)), str(end), str(budget))
-        return choices_in_print(told)
+        try:
+            return list(choices_in(told.encode(), None))
+        except Bad as bad:
+            raise BadFile(self.name, bad.args[0], 'this is no line of a window') from bad
 
     def ruled(self, rule: str) -> list[tuple]:
         """The choices that a waiting rule makes behind the text."""
-        return choices_in_print(self.call('rules', self.net, self.path('text'), rule, '1'))
-
-
-def choices_in_print(told: str) -> list[tuple]:
-    return [form for line in told.splitlines() if line.startswith('choice ')
-            if (form := read_form(DECISIONS, line.split()[1:])) is not None]
+        told = self.call('rules', self.net, self.path('text'), rule, '1')
+        forms = [read_form(DECISIONS, line.split()[1:]) for line in told.splitlines() if line.startswith('choice ')]
+        return [form for form in forms if form is not None]
 
 
 @dataclass

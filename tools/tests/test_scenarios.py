@@ -32,8 +32,8 @@ if words[0] == 'run':
         file.write(lines + '--\\n')
     print('cost 7\\ndone')
 elif words[0] == 'window':
-    print('window', *words[3:5])
-    print('choice first 5 3')
+    print(*words[:1], *words[3:5], 'entry 1')
+    print('plan optimal cost 1 bound 1 choices 1 nodes 1', 'choice first 5 3', 'bound 1', sep='\\n')
 else:
     print('good 1 0')
 '''

@@ -1,5 +1,5 @@
 #!/usr/bin/env python3
-"""Prints what networks of several shapes take: python3 bench/shapes.py DISPATCHER [SHAPE[:SIZES] ..] [--number=S]
+"""Prints what networks of several shapes take: python3 bench/shaped.py DISPATCHER [SHAPE[:SIZES] ..] [--number=S]
 
 The shapes are those of tools/shapes.py in their usual sizes, all four by default; SIZES are its options with commas between, as
 mesh:lines=60,trains=8. `gen` is a day of bench/day.py with 2,000 trains. Of each there are: the seconds of processor to load it (a run
