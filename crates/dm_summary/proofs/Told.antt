@@ -16,7 +16,7 @@ use Rattle.dm_rows.specs.Rows.{RowsValue, start_rows_of}
 use Rattle.dm_rows.specs.History.{rows_at, IsLegal}
 use Rattle.dm_table.specs.Value.{TableValue, IsTable}
 use Rattle.dm_summary.specs.Summed.{IsSummaryOf}
-use Rattle.dm_summary.specs.Inside.Lines.{IsOpened, HasEntered, IsSummaryIn}
+use Rattle.dm_summary.specs.Inside.Lines.{IsOpened, HasEntered, IsSummaryIn, IsSummaryOver}
 
 pub summary_is : (number trains penalty : ℕ) (net : Net) (opened table : TableValue) (summary : Summary) → IsBuiltFrom (events_of trains) (activities_of trains) net
     → IsOpened net penalty opened → HasEntered opened (feed_of number trains) table → IsTable table → IsSummaryIn table summary → IsSummaryOf number trains penalty summary
@@ -43,11 +43,20 @@ summary_is number trains penalty net opened table summary built o h is s =
       sum = s.sum;
     }
 
+pub summary_of_day : (number trains penalty : ℕ) (net : Net) (lines : List Line) (summary : Summary) → IsBuiltFrom (events_of trains) (activities_of trains) net
+    → lines ≡ feed_of number trains → IsSummaryOver net lines penalty summary → IsSummaryOf number trains penalty summary
+summary_of_day number trains penalty net lines summary built are over =
+    let after = over.after in
+    summary_is number trains penalty net over.table after.table summary built over.opened
+    (subst (λ (said : List Line). HasEntered over.table said after.table) are after.entered) after.is_table after.told
+
 pub few_lines : (number trains : ℕ) (lines : List Line) → lines ≡ feed_of number trains → length lines ≤ 500
 few_lines number trains lines are = omega (arith, ap length are, feed_count number trains)
 
-pub lines_delay : (number trains penalty : ℕ) (net : Net) (opened : TableValue) (lines : List Line) → 1 ≤ trains → IsBuiltFrom (events_of trains) (activities_of trains) net
-    → IsOpened net penalty opened → lines ≡ feed_of number trains → All (DelaysEventOf opened.network) lines
-lines_delay number trains penalty net opened lines some built o are =
-    subst (λ (n : Net). All (DelaysEventOf n) lines) (sym o.network)
-    (subst (All (DelaysEventOf net)) (sym are) (delays_events number trains net some built.made))
+pub lines_delay : (number trains : ℕ) (net : Net) (lines : List Line) → 1 ≤ trains → IsBuiltFrom (events_of trains) (activities_of trains) net
+    → lines ≡ feed_of number trains → All (DelaysEventOf net) lines
+lines_delay number trains net lines some built are = subst (All (DelaysEventOf net)) (sym are) (delays_events number trains net some built.made)
+
+pub still_delay : (net : Net) (penalty : ℕ) (opened : TableValue) (lines : List Line) → IsOpened net penalty opened → All (DelaysEventOf net) lines
+    → All (DelaysEventOf opened.network) lines
+still_delay net penalty opened lines o delays = subst (λ (n : Net). All (DelaysEventOf n) lines) (sym o.network) delays

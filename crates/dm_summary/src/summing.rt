@@ -1,12 +1,15 @@
 //! The summary of a generated day.
-ghost use Rattle.std.specs.Prelude.{◌≡◌, ◌≤◌, IfOk, sum};
+ghost use Rattle.std.specs.Prelude.{◌≡◌, ◌≤◌, [], length, All, IfOk, sum};
 ghost use Rattle.dm_base.specs.declared.limits.TheConstants.{PENALTY};
+ghost use Rattle.dm_gen.specs.Sound.{DelaysEventOf};
 ghost use Rattle.dm_summary.specs.Summed.{IsSummaryOf};
-ghost use Rattle.dm_summary.specs.Inside.Lines.{IsSummaryIn};
+ghost use Rattle.dm_summary.specs.Inside.Lines.{IsSummaryAfter, IsSummaryIn, IsSummaryOver, NonePassed};
 
 use crate::entering::enter_lines;
 use crate::opening::{network_of, rows_of, table_of};
+use dm_feed::Line;
 use dm_gen::make;
+use dm_network::Network;
 use dm_report::Summary;
 use dm_rows::free_choices;
 use dm_settle::Times;
@@ -32,11 +35,41 @@ pub fn summarize(
 {
     let (events, activities, lines) = make(alloc, number, trains)?;
     let net = network_of(alloc, trains, events, activities)?;
-    let rows = rows_of(alloc, &net)?;
-    let mut table = table_of(alloc, &net, rows, penalty)?;
-    enter_lines(&mut table, &lines)?;
+    summary_over(alloc, &net, &lines, penalty)
+}
+
+/// The summary of a day without start delays, after lines that delay events of its network.
+fn summary_over(
+    alloc: Global,
+    net: &Network,
+    lines: &[Line],
+    penalty: u64,
+) -> Result<Summary, AllocError>
+    requires few { length lines.now ≤ 500 }
+    requires delays { All (DelaysEventOf net.now) lines.now }
+    requires penalty { penalty ≤ PENALTY }
+    ensures { IfOk result (IsSummaryOver net.now lines.now penalty) }
+{
+    let rows = rows_of(alloc, net)?;
+    let mut table = table_of(alloc, net, rows, penalty)?;
+    summary_after(alloc, &mut table, lines)
+}
+
+/// The summary of a table without entries, after lines that delay events of its network.
+fn summary_after(
+    alloc: Global,
+    table: &mut Table<'_>,
+    lines: &[Line],
+) -> Result<Summary, AllocError>
+    requires none { table.old.history ≡ [] }
+    requires none_passed { NonePassed table.old.rows }
+    requires few { length lines.now ≤ 500 }
+    requires delays { All (DelaysEventOf table.old.network) lines.now }
+    ensures { IfOk result (IsSummaryAfter table.old lines.now) }
+{
+    enter_lines(table, lines)?;
     table.sound();
-    summary_of(alloc, &table)
+    summary_of(alloc, table)
 }
 
 /// What a table tells of its day.

@@ -10,7 +10,7 @@ use Rattle.dm_report.specs.declared.summaries.Summary.{Summary}
 use Rattle.dm_rows.specs.Cost.{cost_of}
 use Rattle.dm_rows.specs.Decide.{free_choices_of}
 use Rattle.dm_rows.specs.Rows.{RowsValue, passed_at, start_rows_of}
-use Rattle.dm_table.specs.Value.{TableValue}
+use Rattle.dm_table.specs.Value.{TableValue, IsTable}
 
 -- what the entries say, as lines
 abbrev pub lines_of : List Entry → List Line
@@ -57,3 +57,16 @@ pub record IsSummaryIn (table : TableValue) (summary : Summary) : Type 0 where
   pub entries : summary.entries ≡ length table.history
   pub cost : summary.cost ≡ cost_of table.network table.rows table.times table.penalty
   pub sum : summary.sum ≡ sum table.times
+
+-- what a table tells of its day after these lines, of which none had been entered
+pub record IsSummaryAfter (before : TableValue) (said : List Line) (summary : Summary) : Type 0 where
+  pub table : TableValue
+  pub is_table : IsTable table
+  pub entered : HasEntered before said table
+  pub told : IsSummaryIn table summary
+
+-- what a day of this network that starts without delays comes to after these lines
+pub record IsSummaryOver (net : Net) (said : List Line) (penalty : ℕ) (summary : Summary) : Type 0 where
+  pub table : TableValue
+  pub opened : IsOpened net penalty table
+  pub after : IsSummaryAfter table said summary
