@@ -95,13 +95,12 @@ class FeedFile:
     """A file of lines, behind which lines are put."""
 
     def __init__(self, name: str):
-        self.name = name
+        if os.path.exists(name) and not os.path.isfile(name):
+            raise BadFile(name, None, 'this is no file, which a relay could read again')
         try:
             self.file = open(name, 'ab', buffering=0)
         except OSError as error:
             raise BadFile(name, None, error.strerror or 'cannot be written') from error
-        if not os.path.isfile(name):
-            raise BadFile(name, None, 'this is no file, which a relay could read again')
         self.text = text_of(name)
         if self.text and not self.text.endswith('\n'):
             self.write('\n')

@@ -196,7 +196,9 @@ class Lines(unittest.TestCase):
         self.assertEqual(self.fed(b'1; 1240, 2; 900, 3; 1007\n').splitlines()[2:], [' delay event 10  007', 'delay event 9 30', 'delay event 9 300'])
 
     def test_feed_that_is_no_file(self):
-        for name in os.path.dirname(self.feed), os.path.join(self.feed, 'x'):
+        pipe = f'{self.feed}.pipe'
+        os.mkfifo(pipe)
+        for name in os.path.dirname(self.feed), os.path.join(self.feed, 'x'), pipe:
             done = subprocess.run([sys.executable, os.path.join(TOOLS, 'relay.py'), self.table, '--region=2', '--feed', name], input=b'', capture_output=True)
             self.assertEqual((done.returncode, done.stderr.count(b'\n')), (2, 1), done.stderr)
 
