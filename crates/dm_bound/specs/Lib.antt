@@ -1,4 +1,5 @@
--- What a reader must believe: Words. The rule that the word keeps: Rule. What each step tells: Inside.
+-- What contracts see of a word and its hands: Words. The rule that the word keeps: Rule. What each step tells, and how a hand is
+-- seen: Steps.
 pub mod Words
 pub mod Rule
-pub mod Inside
+pub mod Steps

@@ -10,7 +10,7 @@ use Rattle.std.proofs.lemmas.List.Elements.{All-nil, All-head, All-tail, All-pus
 use Rattle.std.proofs.lemmas.List.Sums.{sum_by_push, sum_by-append}
 use Rattle.dm_deques.specs.Rule.{fresh, Balanced, WasEmpty}
 use Rattle.dm_deques.specs.Deques.{having_put, having_taken, settled}
-use Rattle.dm_deques.specs.Inside.Steps.{HasPut, HasTaken, HasWhole}
+use Rattle.dm_deques.specs.Steps.{HasPut, HasTaken, HasWhole}
 use Rattle.dm_deques.specs.declared.account.Account.{Account}
 use Rattle.dm_base.proofs.Counts.{each_set, sum_set, sum_at, sum_lone}
 

@@ -1,5 +1,6 @@
--- What a reader must believe: Deques, Rule. What each step tells: Inside.
+-- What contracts see of owners, thieves and tallies: Deques. The rule that a deque keeps: Rule. What each step tells, and how these
+-- are seen: Steps.
 pub mod Rule
 pub mod Deques
 pub mod Sharing
-pub mod Inside
+pub mod Steps
