@@ -1,34 +1,15 @@
 -- Judges one behind the other, where the code does not make what is told.
-use Rattle.std.proofs.Common.{◌≡◌, ℕ, ◌+◌, ◌<◌, ◌≤◌, List, [], ◌∷◌, ◌++◌, length, Result, Ok, Err, refl, sym, ap, subst, ◌∙◌, inl, inr, arith, length-append}
+use Rattle.std.proofs.Common.{◌≡◌, ℕ, ◌+◌, ◌<◌, ◌≤◌, List, [], ◌∷◌, ◌++◌, length, Result, Ok, Err, refl, sym, ap, subst, ◌∙◌, arith, length-append}
 use Rattle.dm_text.specs.Places.{Place}
-use Rattle.dm_text.specs.Judging.{Then, Times}
+use Rattle.dm_text.specs.Judging.{Times}
 use Rattle.dm_text.proofs.Counted.{HasRun, run_begins, run_goes, run_stops, run_ends}
 use Rattle.dm_check.specs.declared.faults.Fault.{Fault}
 use Rattle.dm_check.specs.declared.faults.Stop.{Stop}
 use Rattle.dm_check.specs.declared.faults.Stop.TheVariants.{Fault as Found, OutOfMemory}
-use Rattle.dm_check.specs.Judged.{ToldThat, JudgedThat, Judged}
+use Rattle.dm_check.specs.Judged.{ToldThat, JudgedThat}
 
 abbrev pub Judge : Type 0 → Type 1
 Judge V = Place → Result (V × Place) Fault → Type 0
-
-module _ {V W X : Type 0} (first : Judge V) (next : V → Judge W) (holds : X → W → Type 0) (old new : Place) where
-  pub then_on : (v : V) (mid : Place) (result : Result X Stop) → first old (Ok (v, mid)) → JudgedThat (next v) holds mid new result → JudgedThat (Then first next) holds old new result
-  then_on v mid (Ok x) told on = record { value = on.value; told = record { value = v; behind = mid; told = told; then = on.told }; holds_of = on.holds_of }
-  then_on v mid (Err (Found fault)) told on = inr (record { value = v; behind = mid; told = told; then = on })
-  then_on v mid (Err OutOfMemory) told on = tt
-
-  pub then_fault : (fault : Fault) → first old (Err fault) → JudgedThat (Then first next) holds old new (Err (Found fault))
-  then_fault fault told = inl told
-
-  -- behind a judge of which a value is made
-  pub then_stop : {Y : Type 0} (seen : Y → V) (mid : Place) (stop : Stop) → Judged first seen old mid (Err stop) → JudgedThat (Then first next) holds old new (Err stop)
-  then_stop seen mid (Found fault) told = inl told
-  then_stop seen mid OutOfMemory told = tt
-
-  -- behind one of which something is known
-  pub then_stop_that : {Y : Type 0} (known : Y → V → Type 0) (mid : Place) (stop : Stop) → JudgedThat first known old mid (Err stop) → JudgedThat (Then first next) holds old new (Err stop)
-  then_stop_that known mid (Found fault) told = inl told
-  then_stop_that known mid OutOfMemory told = tt
 
 -- ---- so many steps
 

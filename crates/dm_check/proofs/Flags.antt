@@ -1,5 +1,5 @@
 -- Every entry is named where every entry is flagged, and the notes of boards.
-use Rattle.std.proofs.Common.{◌≡◌, ℕ, ◌+◌, ◌-◌, ◌<◌, ◌≤◌, Bool, true, false, List, [], ◌∷◌, ◌++◌, length, map, Result, Ok, Err, refl, sym, ap, subst, ◌∙◌, inl, inr, arith, codes}
+use Rattle.std.proofs.Common.{◌≡◌, ℕ, ◌+◌, ◌-◌, ◌<◌, ◌≤◌, Bool, true, false, List, [], ◌∷◌, ◌++◌, length, map, Result, Ok, Err, refl, sym, ap, subst, ◌∙◌, inr, arith, codes}
 use Rattle.std.proofs.lemmas.Bool.{ltb-true, lt-ltb}
 use Rattle.std.specs.Prelude.{nat_lt, count_by, slice_index_or}
 use Rattle.dm_base.specs.declared.limits.TheConstants.{BOARDS}
@@ -8,7 +8,6 @@ use Rattle.dm_rows.specs.declared.messages.Entry.{Entry}
 use Rattle.dm_cert.specs.Logs.{names, all_items}
 use Rattle.dm_cert.specs.declared.replies.FeedLog.{FeedLog}
 use Rattle.dm_records.specs.RunLines.{IsNumberLine}
-use Rattle.dm_check.specs.declared.faults.Fault.{Fault}
 use Rattle.dm_check.specs.declared.verdicts.BadKind.TheVariants as kind
 use Rattle.dm_check.specs.FalseRecords.{bad, Reads, AreNamed, TellsBoards}
 use Rattle.dm_check.specs.Judged.{AreFlagged}
@@ -35,13 +34,7 @@ module _ (history : List Entry) (logs : List FeedLog) (named : List Bool) (each 
   all_named named_all = λ n below. flagged n below ∙ some_back (count_by (names (n + 1)) (all_items logs)) (named_all (n + 1) (omega arith) (omega (arith, each)))
 
   module _ (old mid : Place) (line number : ℕ) (at : line ≡ old.line) where
-    pub boards_unread : (fault : Fault) → Reads (IsNumberLine (codes "boards ")) old (Err fault) → TellsBoards history logs old (Err fault)
-    boards_unread fault read = inl (inl read)
-
     module _ (read : Reads (IsNumberLine (codes "boards ")) old (Ok (number, mid))) where
-      pub too_many : BOARDS < number → TellsBoards history logs old (Err (bad kind.Form line))
-      too_many many = inl (inr (record { value = number; behind = mid; told = read; then = (λ few. absurd (omega arith), ap (bad kind.Form) at) }))
-
       pub some_unnamed : number ≤ BOARDS → (AreAll named → ⊥) → TellsBoards history logs old (Err (bad kind.Unnamed line))
       some_unnamed few none = inr (record {
         value = number;

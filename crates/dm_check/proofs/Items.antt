@@ -1,14 +1,13 @@
 -- The next item of a log, by its first line and what stands behind it.
-use Rattle.std.proofs.Common.{◌≡◌, ◌≢◌, ℕ, zero, suc, ◌+◌, ◌-◌, ◌<◌, ◌≤◌, Bool, true, false, cond, eqb, List, [], ◌∷◌, ◌++◌, length, Result, Ok, Err, refl, sym, ap, subst, ◌∙◌, inl, inr, arith, append_assoc, append-nil}
-use Rattle.std.specs.Prelude.{◌⊎◌, nat_lt, count_by, slice_index_or}
-use Rattle.std.proofs.lemmas.Bool.{lt-ltb, eqb-true, eq-eqb, ne_eqb}
+use Rattle.std.proofs.Common.{◌≡◌, ◌≢◌, ℕ, zero, suc, ◌+◌, ◌-◌, ◌<◌, ◌≤◌, Bool, false, cond, List, [], ◌∷◌, ◌++◌, length, Result, Ok, Err, refl, sym, ap, subst, ◌∙◌, inl, inr, arith, append_assoc, append-nil}
+use Rattle.std.specs.Prelude.{nat_lt, count_by}
 use Rattle.std.proofs.lemmas.List.Sums.{sum_by-append}
 use Rattle.dm_cert.specs.declared.limits.TheConstants.{PLANS}
 use Rattle.dm_text.specs.Places.{Place}
 use Rattle.dm_text.specs.Judging.{Times}
 use Rattle.dm_rows.specs.declared.messages.Entry.{Entry}
 use Rattle.dm_cert.specs.Answers.{Setting, is_plan}
-use Rattle.dm_cert.specs.Logs.{kind_of, is_entered, names, Kind, entered}
+use Rattle.dm_cert.specs.Logs.{names, Kind}
 use Rattle.dm_cert.specs.declared.replies.LogItem.{LogItem}
 use Rattle.dm_records.specs.RunLines.{ItemLine, lone, planned, IsItemLine, PlanOpening}
 use Rattle.dm_check_answers.specs.declared.past.Past.{Past}
@@ -17,8 +16,8 @@ use Rattle.dm_check.specs.declared.faults.Fault.{Fault}
 use Rattle.dm_check.specs.declared.faults.Stop.{Stop}
 use Rattle.dm_check.specs.declared.faults.Stop.TheVariants.{Fault as Found, OutOfMemory}
 use Rattle.dm_check.specs.declared.verdicts.BadKind.TheVariants as kind
-use Rattle.dm_check.specs.FalseRecords.{bad, Reads, IsNextItem, TellsItem}
-use Rattle.dm_check.specs.Judged.{Judged, ToldThat, JudgedThat, AreFlagged, IsFlaggedAt, KeepsItem, KeepsItems, BehindOn, ItemOn, ItemsOn}
+use Rattle.dm_check.specs.FalseRecords.{Reads, IsNextItem, TellsItem}
+use Rattle.dm_check.specs.Judged.{Judged, ToldThat, JudgedThat, AreFlagged, KeepsItem, KeepsItems, BehindOn, ItemOn, ItemsOn}
 use Rattle.dm_check.proofs.Chained.{HasKept, kept_none, kept_more, kept_stop, kept_all}
 
 module _ (s : Setting) (history : List Entry) (feed : ℕ) (before : List LogItem) (past : Past) (flags named : List Bool) where
@@ -40,10 +39,6 @@ module _ (s : Setting) (history : List Entry) (feed : ℕ) (before : List LogIte
       BehindOn s history feed before first (lone answered) place place past flags named (Ok (tt {0}))
   lone_next first place answered next keeps = record { value = answered; told = (next, refl, refl); holds_of = keeps }
 
-  pub lone_none : (first : ℕ) (place : Place) (answered : LogItem) → (IsNextItem s history feed before answered → ⊥) →
-      BehindOn s history feed before first (lone answered) place place past flags named (Err (Found (bad kind.Reply first)))
-  lone_none first place answered none = (none, refl)
-
 -- ---- flags
 
 counted : (n : ℕ) (items : List LogItem) (x : LogItem) → count_by (names n) (items ++ x ∷ []) ≡ count_by (names n) items + (0 + cond (names n x) 1 0)
@@ -55,37 +50,6 @@ nothing_named items x named none flagged = λ n below.
     let same : count_by (names (n + 1)) (items ++ x ∷ []) ≡ count_by (names (n + 1)) items =
     counted (n + 1) items x ∙ (ap (λ b. count_by (names (n + 1)) items + (0 + cond b 1 0)) (none (n + 1)) ∙ (omega arith)) in
     flagged n below ∙ ap (λ k. nat_lt 0 k) (sym same)
-
-positive : (k : ℕ) → true ≡ nat_lt 0 (k + (0 + 1))
-positive k = sym (lt (k + (0 + 1)) (omega arith))
-  where
-    lt : (n : ℕ) → 0 < n → nat_lt 0 n ≡ true
-    lt n p = lt-ltb 0 n p
-
--- an item that names the entry of this number
-pub one_named : (items : List LogItem) (x : LogItem) (number : ℕ) (old new : List Bool) → kind_of x ≡ entered number → IsFlaggedAt number old new → AreFlagged items old → AreFlagged (items ++ x ∷ []) new
-one_named items x number old new is at flagged = λ n below. elim (cases_here n) [
-  | inl here ↦
-      let names_it : names (n + 1) x ≡ true = ap (is_entered (n + 1)) is ∙ eq-eqb number (n + 1) (sym here) in
-      let more : count_by (names (n + 1)) (items ++ x ∷ []) ≡ count_by (names (n + 1)) items + (0 + 1) =
-      counted (n + 1) items x ∙ ap (λ b. count_by (names (n + 1)) items + (0 + cond b 1 0)) names_it in
-      let within : number ≤ length old = (let s = at.size in omega arith) in
-      let flag : slice_index_or new n false ≡ true = ap (λ k. slice_index_or new k false) (omega arith) ∙ at.here (omega arith) within in
-      flag ∙ (positive (count_by (names (n + 1)) items) ∙ ap (λ k. nat_lt 0 k) (sym more))
-  | inr other ↦
-      let not_it : names (n + 1) x ≡ false = ap (is_entered (n + 1)) is ∙ ne_eqb number (n + 1) (λ e. other (sym e)) in
-      let same : count_by (names (n + 1)) (items ++ x ∷ []) ≡ count_by (names (n + 1)) items =
-      counted (n + 1) items x ∙ (ap (λ b. count_by (names (n + 1)) items + (0 + cond b 1 0)) not_it ∙ (omega arith)) in
-      let low : n < length old = (let s = at.size in omega arith) in
-      at.elsewhere n low other ∙ (flagged n low ∙ ap (λ k. nat_lt 0 k) (sym same))
-]
-  where
-    cases_here : (n : ℕ) → (n + 1 ≡ number) ⊎ (n + 1 ≡ number → ⊥)
-    cases_here n = at_bool (eqb (n + 1) number) refl
-      where
-        at_bool : (b : Bool) → eqb (n + 1) number ≡ b → (n + 1 ≡ number) ⊎ (n + 1 ≡ number → ⊥)
-        at_bool true e = inl (eqb-true (n + 1) number e)
-        at_bool false e = inr (λ same. let yes : eqb (n + 1) number ≡ true = eq-eqb (n + 1) number same in cc)
 
 -- ---- all items
 

@@ -11,4 +11,4 @@ pub mod Wholes
 pub mod Flags
 pub mod Notes
 pub mod Gathered
-pub mod Planned
+pub mod Truth

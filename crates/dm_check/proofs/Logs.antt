@@ -29,9 +29,6 @@ module _ (s : Setting) (history : List Entry) (before : List FeedLog) (feed : �
   opened : (answer : Result (ℕ × Place) Fault) → TellsOpening feed old answer → TellsOpening (length before + 1) old answer
   opened answer told = subst (λ (n : ℕ). TellsOpening n old answer) (sym at) told
 
-  pub log_unopened : (new : Place) (fault : Fault) → TellsOpening feed old (Err fault) → LogOn s history before old new flags named (Err (Found fault))
-  log_unopened new fault told = inl (opened (Err fault) told)
-
   module _ (items : ℕ) (mid : Place) (opening : TellsOpening feed old (Ok (items, mid))) where
     pub log_stop : (behind new : Place) (more : List Bool) (stop : Stop) → ItemsOn s history feed items mid behind flags more (Err stop) → LogOn s history before old new flags named (Err stop)
     log_stop behind new more (Found fault) told =

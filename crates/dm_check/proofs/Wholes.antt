@@ -33,13 +33,7 @@ abbrev run_with : Setting → List Entry → List FeedLog → List Note → List
 run_with s history logs notes times cost = record { net = s.net; penalty = s.penalty; history = history; logs = logs; notes = notes; times = times; cost = cost }
 
 module _ (s : Setting) (history : List Entry) (logs : List FeedLog) (notes : List Note) (rows : RowsValue) (old : Place) where
-  pub times_fault : (new : Place) (fault : Fault) → Times (length s.net.events) (TellsTime s.net rows) [] old (Err fault) → EndingOn s history logs notes rows old new (Err (Found fault))
-  times_fault new fault told = inl told
-
   module _ (mid : Place) (timed : TellsTimetable s.net rows old mid (Ok tt)) where
-    pub cost_fault : (new : Place) (fault : Fault) → TellsCost s.net rows s.penalty mid (Err fault) → EndingOn s history logs notes rows old new (Err (Found fault))
-    cost_fault new fault told = inr (record { value = timed.times; behind = mid; told = timed.told; then = inl told })
-
     module _ (cost : ℕ) (behind : Place) (priced : TellsCost s.net rows s.penalty mid (Ok (cost, behind))) where
       pub end_fault : (new : Place) (fault : Fault) → ((run : Run) → TellsEnd run behind (Err fault)) → EndingOn s history logs notes rows old new (Err (Found fault))
       end_fault new fault told = inr (record {
@@ -88,9 +82,6 @@ module _ (s : Setting) (history : List Entry) (logs : List FeedLog) (notes : Lis
 -- ---- what stands behind the logs
 
 module _ (s : Setting) (history : List Entry) (logs : List FeedLog) (old : Place) where
-  pub boards_fault : (new : Place) (fault : Fault) → TellsBoards history logs old (Err fault) → RestOn s history logs old new (Err (Found fault))
-  boards_fault new fault told = inl told
-
   module _ (count : ℕ) (mid : Place) (boards : TellsBoards history logs old (Ok (count, mid))) where
     pub notes_stop : (behind new : Place) (stop : Stop) → JudgedThat (Times count (TellsNote history) []) (λ (done : Unit {0}) notes. Unit {0}) mid behind (Err stop) → RestOn s history logs old new (Err stop)
     notes_stop behind new (Found fault) told = inr (record { value = count; behind = mid; told = boards; then = inl told })
@@ -200,9 +191,6 @@ abbrev TellsCount : Place → Result (ℕ × Place) Fault → Type 0
 TellsCount = TellsNumber (codes "entries ") (λ n. n ≤ ENTRIES)
 
 module _ (s : Setting) (old : Place) where
-  pub penalty_fault : (new : Place) (fault : Fault) → TellsPenalty s old (Err fault) → BodyOn s old new (Err (Found fault))
-  penalty_fault new fault told = inl told
-
   module _ (penalty : ℕ) (mid : Place) (paid : TellsPenalty s old (Ok (penalty, mid))) where
     pub feeds_fault : (new : Place) (fault : Fault) → TellsFeeds mid (Err fault) → BodyOn s old new (Err (Found fault))
     feeds_fault new fault told = inr (record { value = penalty; behind = mid; told = paid; then = inl told })

@@ -2,5 +2,7 @@
 pub mod FalseRecords
 pub mod Judged
 pub mod Laws
+-- What the verdicts on texts say of runs.
+pub mod Truth
 -- What the judges compute: checked, and not to be believed.
 pub mod Inside

@@ -189,11 +189,9 @@ fn run_told(
     body_told(lines, &day)
 }
 
-/// What is told of the text of a run of this network, from these rows at the start and at this penalty, where a feed may have so
-/// many plans, at most 4,096: that it is good, or the first record that breaks its rule. The text has at most 536,870,912 bytes, and nothing else is asked of it. Memory is
-/// taken for the network and for what the text holds, and not by a number that it names.
+/// What is told of a text: that it is good, or the first record that breaks its rule.
 #[tactic(auto, using(crate::proofs::Wholes::run_good))]
-pub fn check(
+pub(crate) fn verdict_on(
     alloc: Global,
     net: &Network,
     start: &Rows,

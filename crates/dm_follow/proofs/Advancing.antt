@@ -30,9 +30,6 @@ header_on penalty stage next line is steps = λ net start history bytes at. head
 pub header_off : (penalty : ℕ) (stage : Stage) (line : List ℕ) → IsInHeader stage → penalty ≤ PENALTY → StepsHeader penalty stage line None → AdvancesHeader penalty stage line (Failed (header_line stage) kind.Form)
 header_off penalty stage line is low stops = λ net start history bytes at. header_fails net start penalty history line bytes stage is stops (omega (arith, low)) at
 
-pub header_advances : (t : TableValue) (stage next : Stage) (line : List ℕ) → AdvancesHeader t.penalty stage line next → Advances t t stage line next
-header_advances t stage next line on = record { day = same_day t; reads = λ bytes at. on t.network t.start t.history bytes at }
-
 -- ---- entries
 
 -- all entries were read: the line is passed over

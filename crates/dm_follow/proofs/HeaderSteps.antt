@@ -1,7 +1,6 @@
 -- A line of the header is taken.
 use Rattle.std.proofs.Common.{◌≡◌, ℕ, zero, suc, ◌+◌, ◌<◌, ◌≤◌, ◌⊎◌, List, [], ◌∷◌, ◌++◌, length, Result, Ok, Err, Option, Some, None, refl, sym, ap, subst, ◌∙◌, inl, inr, arith, append_assoc, append-nil, codes}
 use Rattle.std.proofs.lemmas.List.Elements.{All-nil}
-use Rattle.dm_base.specs.declared.limits.TheConstants.{FEEDS, ENTRIES}
 use Rattle.dm_text.specs.Places.{Place, at_start, IsLineAt, IsCutAt, HasNoLineFeed}
 use Rattle.dm_text.specs.Judging.{Times}
 use Rattle.dm_network.specs.Net.{Net}
@@ -13,7 +12,7 @@ use Rattle.dm_follow.specs.declared.faults.FollowKind.{FollowKind}
 use Rattle.dm_follow.specs.declared.faults.FollowKind.TheVariants as kind
 use Rattle.dm_follow.specs.declared.stages.Stage.{Stage}
 use Rattle.dm_follow.specs.declared.stages.Stage.TheVariants.{Version, Penalty, Feeds, Entries, Journal, Failed}
-use Rattle.dm_follow.specs.Journals.{Halt, unended, broken, Header, header, Reads, Rules, TellsHeader, TellsPenalty, TellsFeeds, TellsEntries, TellsEntry, TellsJournal}
+use Rattle.dm_follow.specs.Journals.{Halt, unended, broken, Header, header, Reads, Rules, TellsHeader, TellsPenalty, TellsFeeds, TellsEntry, TellsJournal}
 use Rattle.dm_follow.specs.Followed.{IsLastPart}
 use Rattle.dm_follow.specs.Inside.Reading.{HeaderFrom, header_line, IsInHeader, StepsHeader, IsAtHeader, IsAtEntry, HasEntered, behind_entries, HasFailed, IsReadTo}
 use Rattle.dm_follow.proofs.Chains.{goes_on}
@@ -62,41 +61,6 @@ penalty_stops penalty line none = λ place behind stands. inl (rules_stop (IsNum
 
 pub penalty_breaks : (penalty n : ℕ) (line : List ℕ) → IsNumberLine (codes "penalty ") n line → (n ≡ penalty → ⊥) → StepsHeader penalty Penalty line None
 penalty_breaks penalty n line spelled breaks = λ place behind stands. inl (rules_break (IsNumberLine (codes "penalty ")) (λ n. n ≡ penalty) kind.Form (λ n. n) place behind line stands n spelled breaks)
-
-abbrev AreFeeds : ℕ → Type 0
-AreFeeds n = (1 ≤ n) × (n ≤ FEEDS)
-
-pub feeds_steps : (penalty n : ℕ) (line : List ℕ) → IsNumberLine (codes "feeds ") n line → 1 ≤ n → n ≤ FEEDS → StepsHeader penalty Feeds line (Some (Entries n))
-feeds_steps penalty n line spelled some few = (
-  refl,
-  λ place behind answer stands told.
-      goes_on (Rules (IsNumberLine (codes "feeds ")) AreFeeds kind.Form (λ n. n)) TellsEntries place behind n answer
-      (rules_go (IsNumberLine (codes "feeds ")) AreFeeds kind.Form (λ n. n) place behind line stands n spelled (some, few)) told,
-)
-
-pub feeds_stops : (penalty : ℕ) (line : List ℕ) → ((n : ℕ) → IsNumberLine (codes "feeds ") n line → ⊥) → StepsHeader penalty Feeds line None
-feeds_stops penalty line none = λ place behind stands. inl (rules_stop (IsNumberLine (codes "feeds ")) AreFeeds kind.Form (λ n. n) place behind line stands none)
-
-pub feeds_break : (penalty n : ℕ) (line : List ℕ) → IsNumberLine (codes "feeds ") n line → (AreFeeds n → ⊥) → StepsHeader penalty Feeds line None
-feeds_break penalty n line spelled breaks = λ place behind stands. inl (rules_break (IsNumberLine (codes "feeds ")) AreFeeds kind.Form (λ n. n) place behind line stands n spelled breaks)
-
-pub entries_step : (penalty feeds n : ℕ) (line : List ℕ) → IsNumberLine (codes "entries ") n line → n ≤ ENTRIES → StepsHeader penalty (Entries feeds) line (Some (Journal feeds n))
-entries_step penalty feeds n line spelled few = (
-  refl,
-  λ place behind answer stands told. entries_give answer
-      (rules_go (IsNumberLine (codes "entries ")) (λ n. n ≤ ENTRIES) kind.Form (header feeds) place behind line stands n spelled few) told,
-)
-  where
-    entries_give : {place behind : Place} (answer : Result (Header × Place) Halt) → TellsEntries feeds place (Ok (header feeds n, behind)) → HeaderFrom penalty (Journal feeds n) behind answer → TellsEntries feeds place answer
-    entries_give {place} {behind} (Ok (h, next)) one told =
-        subst (λ (x : Header). TellsEntries feeds place (Ok (x, next))) (sym told.0) (subst (λ (p : Place). TellsEntries feeds place (Ok (header feeds n, p))) (sym told.1) one)
-    entries_give (Err halt) one told = absurd told
-
-pub entries_stop : (penalty feeds : ℕ) (line : List ℕ) → ((n : ℕ) → IsNumberLine (codes "entries ") n line → ⊥) → StepsHeader penalty (Entries feeds) line None
-entries_stop penalty feeds line none = λ place behind stands. rules_stop (IsNumberLine (codes "entries ")) (λ n. n ≤ ENTRIES) kind.Form (header feeds) place behind line stands none
-
-pub entries_break : (penalty feeds n : ℕ) (line : List ℕ) → IsNumberLine (codes "entries ") n line → (n ≤ ENTRIES → ⊥) → StepsHeader penalty (Entries feeds) line None
-entries_break penalty feeds n line spelled breaks = λ place behind stands. rules_break (IsNumberLine (codes "entries ")) (λ n. n ≤ ENTRIES) kind.Form (header feeds) place behind line stands n spelled breaks
 
 -- ---- bytes
 

@@ -9,3 +9,4 @@ pub mod Taken
 pub mod Advancing
 pub mod Longer
 pub mod Fronts
+pub mod Tails

@@ -23,7 +23,7 @@ use Rattle.dm_follow.specs.declared.stages.Stage.TheVariants.{Version, Penalty, 
 use Rattle.dm_follow.specs.Journals.{Halt, unended, broken, Reads, TellsHeader, TellsEntry, TellsJournal, IsFrontFault, HasNoFrontFault}
 use Rattle.dm_follow.specs.Followed.{IsFollowed, IsLastPart, IsTail, IsTorn}
 use Rattle.dm_follow.specs.Follower.{FollowerValue, IsFailedTail, tail_at, tail_of, Follows, IsAnswer, AnswersTaken, TakesPiece}
-use Rattle.dm_follow.specs.Inside.Reading.{HeaderFrom, header_line, IsAtHeader, IsAtEntry, HasEntered, behind_entries, HasFailed, IsRuleKind, IsReadTo, SameDay, KeepsEntries, Advances}
+use Rattle.dm_follow.specs.Inside.Reading.{HeaderFrom, header_line, IsAtHeader, IsAtEntry, HasEntered, behind_entries, HasFailed, IsRuleKind, IsReadTo, SameDay, Advances}
 use Rattle.dm_follow.specs.Inside.Moving.{IsLive, IsFaultOf, AnswersStage, ReadTo, Goes, EndsWith, TakesFront}
 use Rattle.dm_follow.proofs.Single.{journal_once}
 use Rattle.dm_follow.proofs.Carried.{no_header, followed_to, followed_all, halts_there, ends_there}
@@ -179,16 +179,6 @@ takes_piece old new piece result takes is =
 pub same_day : (t : TableValue) → SameDay t t
 same_day t = record { network = refl; start = refl; penalty = refl }
 
-fault_at : ℕ → FollowKind → FollowFault
-fault_at line k = record { line = line; kind = k }
-
-pub goes_none : (f : FollowerValue) → Goes f f []
-goes_none f = record {
-  day = same_day f.table;
-  counted = omega arith;
-  reads = λ bytes read. subst (λ (b : List ℕ). ReadTo f b) (sym (append-nil bytes)) read;
-}
-
 -- a follower that has failed takes nothing, and answers the same
 pub failed_takes : (f : FollowerValue) (piece : List ℕ) (fault : FollowFault) → IsFaultOf f.stage fault → TakesPiece f f piece (Err fault)
 failed_takes f piece fault failed =
@@ -233,18 +223,6 @@ goes_line old new next advances stage_is part_is counted = record {
   reads = λ bytes read. on_day old.table new.table new.table.history new.stage new.part (bytes ++ 10 ∷ []) advances.day
       (subst (λ (stage : Stage). IsReadTo old.table.network old.table.start old.table.penalty new.table.history stage new.part (bytes ++ 10 ∷ [])) (sym stage_is)
       (subst (λ (part : List ℕ). IsReadTo old.table.network old.table.start old.table.penalty new.table.history next part (bytes ++ 10 ∷ [])) (sym part_is) (advances.reads bytes read)));
-}
-
--- nothing was taken, and only room was made
-pub goes_room : (old new : FollowerValue) → KeepsEntries old.table new.table → new.stage ≡ old.stage → new.part ≡ old.part → new.taken ≡ old.taken → Goes old new []
-goes_room old new keeps stage_is part_is counted = record {
-  day = keeps.day;
-  counted = omega (arith, counted);
-  reads = λ bytes read. on_day old.table new.table new.table.history new.stage new.part (bytes ++ []) keeps.day
-      (subst (λ (all : List ℕ). IsReadTo old.table.network old.table.start old.table.penalty new.table.history new.stage new.part all) (sym (append-nil bytes))
-      (subst (λ (history : List Entry). IsReadTo old.table.network old.table.start old.table.penalty history new.stage new.part bytes) (sym keeps.history)
-      (subst (λ (stage : Stage). IsReadTo old.table.network old.table.start old.table.penalty old.table.history stage new.part bytes) (sym stage_is)
-      (subst (λ (part : List ℕ). IsReadTo old.table.network old.table.start old.table.penalty old.table.history old.stage part bytes) (sym part_is) read))));
 }
 
 -- ---- bytes of a line that goes on
@@ -333,9 +311,6 @@ pub record HasTaken (old now : FollowerValue) (piece rest : List ℕ) : Type 0 w
   pub goes : Goes old now front
   pub live : IsLive now.stage
 
-pub taken_none : (f : FollowerValue) (piece : List ℕ) → IsLive f.stage → HasTaken f f piece piece
-taken_none f piece live = record { front = []; split = refl; goes = goes_none f; live = live }
-
 pub taken_line : (old now next : FollowerValue) (piece rest line later : List ℕ) (done : Unit {0}) → HasTaken old now piece rest → TakesFront now next (line ++ 10 ∷ []) (Ok done) → rest ≡ line ++ 10 ∷ later →
     HasTaken old next piece later
 taken_line old now next piece rest line later done had takes rest_is =
@@ -375,9 +350,6 @@ taken_then old mid new xs ys result goes takes = record {
   goes = goes_then old mid new xs takes.front goes takes.goes;
   ends = takes.ends;
 }
-
-pub taken_short : (f : FollowerValue) (xs : List ℕ) (fault : FollowFault) → fault ≡ NO_MEMORY → IsLive f.stage → TakesFront f f xs (Err fault)
-taken_short f xs fault short live = record { front = []; rest = xs; split = refl; goes = goes_none f; ends = inl (short, live) }
 
 -- the bytes behind the last LF end the call
 pub taken_last : (old now next : FollowerValue) (piece rest : List ℕ) (result : Result (Unit {0}) FollowFault) → HasTaken old now piece rest → OnOk result (Goes now next rest) → IsLive next.stage →
@@ -419,20 +391,6 @@ feed_taken old new stage result advances stage_is part_is counted answers = reco
   goes = goes_line old new stage advances stage_is part_is counted;
   ends = ends_of new stage result stage_is answers;
 }
-
--- only room was made
-pub room_taken : (old new : FollowerValue) (xs : List ℕ) (fault : FollowFault) → KeepsEntries old.table new.table → new.stage ≡ old.stage → new.part ≡ old.part → new.taken ≡ old.taken → IsLive old.stage →
-    fault ≡ NO_MEMORY → TakesFront old new xs (Err fault)
-room_taken old new xs fault keeps stage_is part_is counted live short = record {
-  front = [];
-  rest = xs;
-  split = refl;
-  goes = goes_room old new keeps stage_is part_is counted;
-  ends = inl (short, subst IsLive (sym stage_is) live);
-}
-
-pub keeps_all : (t : TableValue) → KeepsEntries t t
-keeps_all t = record { day = same_day t; history = refl }
 
 -- a follower that has taken nothing
 pub follows_none : (t : TableValue) (part : List ℕ) → IsTable t → t.history ≡ [] → part ≡ [] → Follows (record { table = t; taken = 0; stage = Version; part = part }) []

@@ -7,8 +7,9 @@ use Rattle.dm_rows.specs.Rows.{RowsValue}
 use Rattle.dm_cert.specs.RunTexts.{Run}
 use Rattle.dm_cert.specs.Runs.{IsTextOf}
 use Rattle.dm_follow.specs.declared.faults.FollowKind.{FollowKind}
+use Rattle.dm_follow.specs.declared.faults.Tail.{Tail}
 use Rattle.dm_follow.specs.Journals.{IsFrontFault, HasNoFrontFault}
-use Rattle.dm_follow.specs.Followed.{IsFollowed}
+use Rattle.dm_follow.specs.Followed.{IsFollowed, IsTail}
 
 -- Of bytes one history alone is the longest that they carry, and one front fault at most is theirs.
 pub record FollowedIsOne : Type 0 where
@@ -18,6 +19,12 @@ pub record FollowedIsOne : Type 0 where
       IsFrontFault net start penalty bytes kind line → IsFrontFault net start penalty bytes as_kind as_line → kind ≡ as_kind
   pub lines : (net : Net) (start : RowsValue) (penalty : ℕ) (bytes : List ℕ) (kind as_kind : FollowKind) (line as_line : ℕ) →
       IsFrontFault net start penalty bytes kind line → IsFrontFault net start penalty bytes as_kind as_line → line ≡ as_line
+
+-- Of bytes one tail alone is theirs: all lines whole, one line torn with so many bytes, or one that breaks its rule.
+abbrev pub TailsAreOne : Type 0
+TailsAreOne =
+    (net : Net) (start : RowsValue) (penalty : ℕ) (bytes : List ℕ) (one other : Tail) →
+    IsTail net start penalty bytes one → IsTail net start penalty bytes other → one ≡ other
 
 -- the history is a front of the run's, and no line breaks its rule
 pub record IsFrontOf (start : RowsValue) (run : Run) (bytes : List ℕ) (history : List Entry) : Type 0 where

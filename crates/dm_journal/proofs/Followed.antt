@@ -1,6 +1,5 @@
 -- A source that is followed to its end.
 use Rattle.std.proofs.Common.{◌≡◌, ℕ, ◌+◌, ◌<◌, ◌≤◌, List, [], ◌++◌, length, Option, Some, None, Result, Ok, Err, refl, sym, ap, subst, ◌∙◌, arith, append_assoc, append-nil, length-append}
-use Rattle.std.specs.Prelude.{IsErrOf}
 use Rattle.std.specs.Io.KnownBytes.{Consumes, IsAtEnd}
 use Rattle.std.proofs.KnownBytes.{Consumes-nil, Consumes-trans}
 use Rattle.dm_base.specs.declared.limits.TheConstants.{TEXT}
@@ -62,13 +61,6 @@ module _ {S : Type 0} (left : S → Option (List ℕ)) (is_sound : S → Type 0)
   -- more bytes were there than a text may have
   pub followed_long : (a b : S) (old new : FollowerValue) (broken : Option BrokenLine) (count size : ℕ) → Following left is_sound a b old new broken count size → TEXT < count → TakesCount (TEXT + 1) (left a) (left b)
   followed_long a b old new broken count size f long = record { given = f.bytes; exact = omega (arith, f.counted, f.short, long); consumed = f.consumed }
-
--- why a read stops, behind what was given
-pub piece_stops : {S T : Type 0} (left : S → Option (List ℕ)) (is_sound : S → Type 0) (a b c : S) (old mid new : FollowerValue) (broken : Option BrokenLine) (count size : ℕ) (fault : TakeFault) → Following left is_sound a b old mid broken count size →
-    (IsErrOf {T = T} (Err fault) NotRead → is_sound b → ⊥) → (IsErrOf {T = T} (Err fault) TooMany → ⊥) → ReadsFollowing left is_sound a c old new (Err fault)
-piece_stops left is_sound a b c old mid new broken count size NotRead f unsound not_long = λ s. unsound refl (f.sound s)
-piece_stops left is_sound a b c old mid new broken count size TooMany f unsound not_long = absurd (not_long refl)
-piece_stops left is_sound a b c old mid new broken count size Short f unsound not_long = tt
 
 -- a source that is not followed to its end is not read
 pub source_stops : {S : Type 0} (left : S → Option (List ℕ)) (is_sound : S → Type 0) (a b : S) (old new f : FollowerValue) (fault : TakeFault) → ReadsFollowing left is_sound a b old new (Err fault) → ReadsSource left is_sound a b f (Err fault)

@@ -1,10 +1,8 @@
 -- The sizes of rows after entries, and which rows those after the first entries are.
-use Rattle.std.proofs.Common.{◌≡◌, ℕ, ◌≤◌, List, [], ◌∷◌, length, take, fold, Option, Some, None, ap, sym, subst, ◌∙◌}
-use Rattle.std.proofs.Math.Seq.{take-length}
+use Rattle.std.proofs.Common.{◌≡◌, ◌≤◌, List, [], ◌∷◌, fold, Option, Some, None, ap, sym, subst, ◌∙◌}
 use Rattle.dm_network.specs.Net.{Net}
 use Rattle.dm_rows.specs.declared.messages.Change.{Change}
 use Rattle.dm_rows.specs.declared.messages.Entry.{Entry}
-use Rattle.dm_rows.specs.History.{rows_at}
 use Rattle.dm_rows.specs.Resolve.{after, after_named, change_named}
 use Rattle.dm_rows.specs.Rows.{RowsValue, IsSized}
 use Rattle.dm_rows.proofs.Setting.{change_keeps_sizes}
@@ -16,11 +14,6 @@ named_sized net rows None sized = sized
 pub entered_sized : (net : Net) (rows : RowsValue) (entries : List Entry) → IsSized net rows → IsSized net (fold (λ r (e : Entry). after net r e.message) rows entries)
 entered_sized net rows [] sized = sized
 entered_sized net rows (e ∷ entries) sized = entered_sized net (after net rows e.message) entries (named_sized net rows (change_named net e.message) sized)
-
--- the rows after the front of a history are those after so many of its entries
-pub rows_front : (net : Net) (start : RowsValue) (history : List Entry) (n : ℕ) (front : List Entry) → front ≡ take n history →
-    rows_at net start front (length front) ≡ rows_at net start history n
-rows_front net start history n front is = ap (λ es. fold (λ rows (e : Entry). after net rows e.message) start es) (take-length front ∙ is)
 
 -- rows that were replayed, over a network and from rows that are these
 pub replayed_sized : (net other : Net) (start from : RowsValue) (front : List Entry) (rows : RowsValue) → other ≡ net → from ≡ start →

@@ -1,7 +1,6 @@
 -- What the words of a run say of its numbers, and its start rows.
-use Rattle.std.proofs.Common.{◌≡◌, ℕ, ◌≤◌, List, [], ◌∷◌, Option, Some, None, Ok, sym, subst, arith}
+use Rattle.std.proofs.Common.{ℕ, ◌≤◌, List, [], ◌∷◌, Option, Some, None, sym, subst, arith}
 use Rattle.dm_base.specs.declared.limits.TheConstants.{PENALTY, WORKERS}
-use Rattle.dm_input.specs.Input.{Told, Opening, OpeningAnswer, IsAnswer}
 use Rattle.dm_base.specs.declared.limits.TheConstants.{DELAY}
 use Rattle.dm_waitrule.specs.Rules.{KeepsWithin}
 use Rattle.dm_words.specs.declared.queries.RuleWord.{RuleWord}
@@ -9,7 +8,7 @@ use Rattle.dm_words.specs.declared.queries.RuleWord.TheVariants.{Never, Always, 
 use Rattle.dm_program.specs.Ruled.{rule_named}
 use Rattle.dm_words.specs.Queries.{AsksOwn, HasWorkers, IsRule}
 use Rattle.dm_words.specs.Values.{IsNumberOr}
-use Rattle.dm_words.specs.Words.{RunAsked, CheckAsked, GenAsked, QueryAsked, FilesAsked, Command, RunOf, CheckOf, GenOf, QueryOf, Asks}
+use Rattle.dm_words.specs.Words.{RunAsked, CheckAsked, GenAsked, QueryAsked, Command, RunOf, CheckOf, GenOf, QueryOf, Asks}
 use Rattle.dm_words.specs.declared.queries.Query.{Query}
 use Rattle.dm_words.specs.declared.queries.Query.TheVariants.{Follow, Window, Rules, Journey}
 use Rattle.dm_words.specs.declared.queries.TheConstants.{CHANGES, STANDARD_CHANGES, STANDARD_WORKERS}
@@ -99,14 +98,6 @@ command_within words (RunOf asked) asks = asked_within words asked asks
 command_within words (CheckOf asked) asks = check_within words asked asks
 command_within words (GenOf asked) asks = day_within words asked asks
 command_within words (QueryOf asked) asks = query_within words asked asks
-
-ok_is : (x y : Opening) → IsAnswer x (Ok y) → y ≡ x
-ok_is x y e = cc
-
-pub opening_starts : (told : Told) (asked : FilesAsked) (opening : Opening) → OpeningAnswer told asked (Ok opening) → IsAtStart opening.net opening.rows
-opening_starts told asked opening o =
-    let made : opening ≡ record { net = o.2.0; rows = o.2.2.0 } = ok_is (record { net = o.2.0; rows = o.2.2.0 }) opening o.2.2.2 in
-    subst (λ (p : Opening). IsAtStart p.net p.rows) (sym made) (record { event_delays = o.0.event_delays; activity_delays = o.0.activity_delays; are = o.2.2.1.are })
 
 -- at the start there is no cycle
 pub start_has_none : (net : Net) (rows : RowsValue) → IsNetwork net → IsAtStart net rows → HasNoCycle net rows

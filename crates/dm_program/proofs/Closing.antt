@@ -1,5 +1,5 @@
 -- What each end of a run says of the text that was due.
-use Rattle.std.proofs.Common.{◌≡◌, ℕ, ◌≤◌, ◌⊎◌, inl, inr, Bool, true, false, cond, List, Option, Some, None, Err, refl, sym, subst}
+use Rattle.std.proofs.Common.{◌≡◌, ℕ, ◌⊎◌, inl, inr, Bool, true, false, cond, List, Option, Some, None, Err, refl, sym, subst}
 use Rattle.std.specs.Io.KnownBytes.{Appends, Keeps}
 use Rattle.std.specs.List.{list_any}
 use Rattle.dm_input.specs.Input.{Told, OpeningAnswer, IsUnread}
@@ -69,13 +69,6 @@ module _ {K : Type 0} (taken : K → Option (List ℕ)) (faults : K → ℕ) (to
 
   pub ends_run : (logs : List FeedLog) (text : List ℕ) (result : Status) → IsRunOf told is_sound end_boards words (status_of logs) text → EndsAs taken faults before now text (status_of logs) result → Ends taken faults told is_sound end_boards words before now result
   ends_run logs text result run h = ends_due (status_of logs) text result (due_of_run told is_sound end_boards words logs (status_of logs) text refl run) h
-
--- however a text came out, the count has not fallen
-pub ends_later : {K : Type 0} (taken : K → Option (List ℕ)) (faults : K → ℕ) (before now : K) (text : List ℕ) (status result : Status) → EndsAs taken faults before now text status result → faults before ≤ faults now
-ends_later taken faults before now text status result h = elim h [
-  | inl whole ↦ whole.1.later
-  | inr front ↦ front.1.later
-]
 
 keeps_same : (known : Option (List ℕ)) → Keeps known known
 keeps_same None = tt

@@ -38,9 +38,6 @@ held_is (Some files) name x y known h k = some_is x y (sym h ∙ k)
 run_is : (x y : RunAsked) → RunOf x ≡ RunOf y → x ≡ y
 run_is x y e = cc
 
-no_day : (run : RunAsked) (day : GenAsked) → RunOf run ≡ GenOf day → ⊥
-no_day run day e = cc
-
 no_check : (run : RunAsked) (check : CheckAsked) → RunOf run ≡ CheckOf check → ⊥
 no_check run check e = cc
 
@@ -80,12 +77,6 @@ check_over : (words : List (List ℕ)) (check : CheckAsked) → Asks words (Chec
 check_over words check asks = record { asked = CheckOf check; is_asked = asks; reads = refl }
 
 -- ---- feeds that end well
-
-not_fault : (stop : FeedStop) → stop ≡ End → is_fault stop ≡ false
-not_fault stop e = ap is_fault e
-
-not_long : (stop : FeedStop) → stop ≡ End → is_long stop ≡ false
-not_long stop e = ap is_long e
 
 none_any : (p : FeedStop → Bool) → p End ≡ false → (logs : List FeedLog) → ((k : ℕ) (log : FeedLog) → slice_get logs k ≡ Some log → log.stop ≡ End) → list_any (λ log. p log.stop) logs ≡ false
 none_any p no_end [] all = refl

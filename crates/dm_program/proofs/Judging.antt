@@ -6,16 +6,10 @@ use Rattle.dm_rows.specs.Rows.{RowsValue}
 use Rattle.dm_outside.specs.declared.faults.TakeFault.{TakeFault}
 use Rattle.dm_outside.specs.declared.faults.TakeFault.TheVariants.{ReadFault as NotRead, TooLong as TooMany, OutOfMemory}
 use Rattle.dm_input.specs.Input.{Told}
-use Rattle.dm_input.specs.Stops.{IsKept, IsLong, Takes}
+use Rattle.dm_input.specs.Stops.{IsKept, IsLong}
 use Rattle.dm_check.specs.declared.verdicts.Verdict.{Verdict}
 use Rattle.dm_program.specs.declared.status.Status.{Status}
 use Rattle.dm_program.specs.Inside.Checking.{IsJudged, Judges, EndsJudged}
-
--- bytes that were not taken are not judged, for the same reason
-pub not_taken : (told : Told) (is_sound : List ℕ → Type 0) (name : List ℕ) (net : Net) (rows : RowsValue) (penalty plans : ℕ) (fault : TakeFault) → Takes told is_sound name TEXT (Err fault) → Judges told is_sound name net rows penalty plans (Err fault)
-not_taken told is_sound name net rows penalty plans NotRead h = h
-not_taken told is_sound name net rows penalty plans TooMany h = h
-not_taken told is_sound name net rows penalty plans OutOfMemory h = tt
 
 judges_before : (told before : Told) (is_sound sound_before : List ℕ → Type 0) (name : List ℕ) (net : Net) (rows : RowsValue) (penalty plans : ℕ) → told ≡ before → ((n : List ℕ) → sound_before n → is_sound n)
     → (judgement : Result Verdict TakeFault) → Judges told is_sound name net rows penalty plans judgement → Judges before sound_before name net rows penalty plans judgement

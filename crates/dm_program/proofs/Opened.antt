@@ -1,27 +1,14 @@
 -- Feeds that are opened one after another.
-use Rattle.std.proofs.Common.{◌≡◌, ℕ, ◌+◌, ◌<◌, Bor, List, [], ◌∷◌, ◌++◌, length, map, Option, Some, None, IsSome, inl, inr, refl, sym, ap, subst, ◌∙◌, arith, length-append, slice_get, get_or}
+use Rattle.std.proofs.Common.{◌≡◌, ℕ, ◌+◌, ◌<◌, Bor, List, [], ◌∷◌, ◌++◌, length, map, Option, Some, None, inl, inr, sym, ap, subst, ◌∙◌, arith, length-append, slice_get, get_or}
 use Rattle.std.proofs.lemmas.List.{get_or-map, length-map}
 use Rattle.std.proofs.lemmas.Option.{slice_get-get_or}
 use Rattle.dm_input.specs.Input.{Told, IsHeld}
 use Rattle.dm_input.specs.Stops.{IsKept}
-use Rattle.dm_outside.specs.Shelf.{Opens}
 use Rattle.dm_rounds.proofs.Places.{behind_push}
 use Rattle.dm_program.specs.Inside.Stages.{IsOpened, OpenedFirst, AreOpened}
 
-none_is_some : {X : Type 0} (o : Option X) → o ≡ None → IsSome o → ⊥
-none_is_some None is some = absurd cc
-none_is_some (Some x) is some = absurd cc
-
 some_same : {X : Type 0} {x y : X} → Some x ≡ Some y → x ≡ y
 some_same e = cc
-
-pub held_as : (told : Told) (name : List ℕ) (left : Option (List ℕ)) (bytes : List ℕ) → Opens told name left → left ≡ Some bytes → IsHeld told name bytes
-held_as None name left bytes opens is = tt
-held_as (Some files) name left bytes opens is = sym opens.1 ∙ is
-
-pub untold_as : (told : Told) (name : List ℕ) (left : Option (List ℕ)) → Opens told name left → left ≡ None → told ≡ None
-untold_as None name left opens is = refl
-untold_as (Some files) name left opens is = absurd (none_is_some (files name) (sym opens.1 ∙ is) opens.0)
 
 pub kept_then : {H : Type 0} (files : H → Told) (is_sound : H → List ℕ → Type 0) (a b c : H) → IsKept files is_sound a b → IsKept files is_sound b c → IsKept files is_sound a c
 kept_then files is_sound a b c one two = record { same = two.same ∙ one.same; sound = λ name s. two.sound name (one.sound name s) }

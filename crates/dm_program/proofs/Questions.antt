@@ -17,10 +17,7 @@ use Rattle.dm_follow.specs.declared.faults.Tail.{Tail}
 use Rattle.dm_follow.specs.Journals.{HasNoFrontFault}
 use Rattle.dm_follow.specs.Followed.{IsWhole}
 use Rattle.dm_follow.specs.Follower.{FollowerValue, tail_of}
-use Rattle.dm_journal.specs.declared.giving.BrokenLine.{BrokenLine}
-use Rattle.dm_journal.specs.declared.giving.BrokenRule.{BrokenRule}
-use Rattle.dm_journal.specs.declared.giving.BrokenRule.TheVariants.{Form, Entry}
-use Rattle.dm_journal.specs.Journals.{IsBrokenAt, IsFollowerOf, IsTornAt}
+use Rattle.dm_journal.specs.Journals.{IsFollowerOf, IsTornAt}
 use Rattle.dm_journey.specs.declared.arriving.Journey.{Journey as AJourney}
 use Rattle.dm_journey.specs.Journeys.{AreJourneys, IsJourney}
 use Rattle.dm_input.specs.Input.{Told, IsHeld}
@@ -37,7 +34,7 @@ use Rattle.dm_waitrule.specs.Compared.{Compares}
 use Rattle.dm_waitrule.specs.declared.comparing.Comparison.{Comparison}
 use Rattle.dm_program.specs.declared.status.Status.{Status}
 use Rattle.dm_program.specs.declared.status.Status.TheVariants.{Ok as Well, Bad, Refused}
-use Rattle.dm_program.specs.Answers.{IsBadFor, WantsAll}
+use Rattle.dm_program.specs.Answers.{WantsAll}
 use Rattle.dm_program.specs.Ends.{EndsAs}
 use Rattle.dm_program.specs.Followed.{IsStateOf, state_text}
 use Rattle.dm_ruling.specs.Texts.{comparison_text}
@@ -46,7 +43,7 @@ use Rattle.dm_program.specs.Travelled.{AreJourneysOf, journeys_text, stop_number
 use Rattle.dm_program.specs.Verdicts.{verdict_line}
 use Rattle.dm_program.specs.Windowed.{IsUnknownEntry, IsWindowOf, unknown_entry_line}
 use Rattle.dm_outlook.specs.Texts.{outlook_text}
-use Rattle.dm_program.specs.Inside.Asking.{AreWalksIn, EndsAsked, EndsOnJournal, EndsOutlook, EndsTravelled, IsWalkIn, kind_of_rule, state_of, EndsCompared}
+use Rattle.dm_program.specs.Inside.Asking.{AreWalksIn, EndsAsked, EndsOnJournal, EndsOutlook, EndsTravelled, IsWalkIn, state_of, EndsCompared}
 
 -- ---- followers
 
@@ -160,19 +157,6 @@ wants_all (Rules asked) other = tt
 wants_all (Journey asked) other = tt
 
 module _ {K : Type 0} (taken : K → Option (List ℕ)) (faults : K → ℕ) (net : Net) (rows : RowsValue) (penalty : ℕ) (bytes : List ℕ) (before now : K) (result : Status) where
-  broken_is_bad : (query : Query) (line : ℕ) (rule : BrokenRule) → IsBrokenAt net rows penalty bytes (record { line = line; rule = rule }) → IsBadFor query net rows penalty bytes line (kind_of_rule rule)
-  broken_is_bad query line Form is = is
-  broken_is_bad query line Entry is = is
-
-  pub answers_broken : (query : Query) (line : BrokenLine) → IsBrokenAt net rows penalty bytes line → EndsAs taken faults before now (verdict_line (BadVerdict line.line (kind_of_rule line.rule))) Bad result → EndsOnJournal taken faults query net rows penalty bytes before now result
-  answers_broken query line is ends =
-      inl (record {
-        status = Bad;
-        text = verdict_line (BadVerdict line.line (kind_of_rule line.rule));
-        answers = record { line = line.line; kind = kind_of_rule line.rule; is_bad = broken_is_bad query line.line line.rule is; is_text = refl };
-        ends = ends;
-      })
-
   pub answers_torn : (query : Query) (line : ℕ) → (query ≡ Follow → ⊥) → IsTornAt net rows penalty bytes line → EndsAs taken faults before now (verdict_line (BadVerdict line bad.Truncated)) Bad result → EndsOnJournal taken faults query net rows penalty bytes before now result
   answers_torn query line other is ends =
       inl (record {

@@ -9,12 +9,11 @@ ghost use Rattle.dm_program.specs.Inside.Stages.{IsCheckWithin};
 use crate::ends::{end_long_text, end_stopped, end_unread_text, end_verdict};
 use crate::status::Status;
 use dm_base::limits::TEXT;
-use dm_check::Verdict;
+use dm_check::{Verdict, check};
 use dm_input::{Opened, read_opening, take_name};
 use dm_network::Network;
 use dm_outside::{Shelf, Sink, TakeFault};
 use dm_rows::Rows;
-use dm_truth::judge;
 use dm_words::CheckWords;
 use std::alloc::{AllocError, Global};
 
@@ -81,7 +80,7 @@ fn verdict_on<H: Shelf>(
         Err(fault) => return Err(fault),
     };
     let (penalty, plans) = (words.files.penalty, words.files.plans);
-    match judge(alloc, net, rows, penalty, plans, &text) {
+    match check(alloc, net, rows, penalty, plans, &text) {
         Ok(verdict) => Ok(verdict),
         Err(AllocError) => Err(TakeFault::OutOfMemory),
     }

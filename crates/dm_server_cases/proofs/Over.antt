@@ -1,13 +1,12 @@
 -- What is known of a pass over a server of a network, and of plans that are adopted by it.
 use Rattle.std.proofs.Common.{◌≡◌, ℕ, ◌≤◌, false, List, [], ◌∷◌, ◌++◌, length, sym, ap, subst, ◌∙◌, arith, append_assoc}
-use Rattle.std.specs.Prelude.{Option, Some, Result, Ok, Err, IfOk, OnErr}
-use Rattle.std.specs.Option.{ForSome, IsSomeAnd}
+use Rattle.std.specs.Prelude.{Some, Result, Ok, Err, IfOk, OnErr}
+use Rattle.std.specs.Option.{ForSome}
 use mathlib.Core.List.{IsPrefix}
 use Rattle.dm_network.specs.Net.{Net}
 use Rattle.dm_rows.specs.declared.messages.Entry.{Entry}
-use Rattle.dm_rows.specs.Active.{HasNoCycle}
 use Rattle.dm_rows.specs.History.{rows_at}
-use Rattle.dm_rows.specs.Rows.{RowsValue, IsSized}
+use Rattle.dm_rows.specs.Rows.{RowsValue}
 use Rattle.dm_server.specs.declared.kept.Base.{Base}
 use Rattle.dm_server.specs.Answers.{rows_after, IsTrueOf, HasLooked, HasEntered}
 use Rattle.dm_server.proofs.After.{true_of_longer}
@@ -55,18 +54,6 @@ served_looked net server before now s looked =
       room = ap (λ (p : PassValue Base). p.room) looked.same ∙ s.room;
       over = record { rows = s.over.rows; is = ap (λ (p : PassValue Base). p.base) looked.same ∙ s.over.is };
     }
-
-pub sized_over : (net : Net) (price : ℕ) (pass : PassValue Base) (rows : RowsValue) → IsOver net price pass →
-    IsSomeAnd pass.base (λ base. IsSized base.network rows) → IsSized net rows
-sized_over net price pass rows o h = subst (λ (q : Option Base). IsSomeAnd q (λ base. IsSized base.network rows)) o.is h
-
-pub no_cycle_over : (net : Net) (price : ℕ) (pass : PassValue Base) (rows : RowsValue) → IsOver net price pass →
-    IsSomeAnd pass.base (λ base. HasNoCycle base.network rows) → HasNoCycle net rows
-no_cycle_over net price pass rows o h = subst (λ (q : Option Base). IsSomeAnd q (λ base. HasNoCycle base.network rows)) o.is h
-
-pub rows_over : (pass : PassValue Base) (rows : RowsValue) → IsSomeAnd pass.base (λ base. rows ≡ rows_after base pass.seen) →
-    ForSome pass.base (λ base. rows ≡ rows_after base pass.seen)
-rows_over pass rows h base e = subst (λ (q : Option Base). IsSomeAnd q (λ b. rows ≡ rows_after b pass.seen)) e h
 
 same_some : (a b : Base) → Some a ≡ Some b → a ≡ b
 same_some a b e = cc

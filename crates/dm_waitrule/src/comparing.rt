@@ -1,5 +1,5 @@
 //! A rule set beside a plan.
-ghost use Rattle.std.specs.Prelude.{ℕ, ◌≤◌, IfOk};
+ghost use Rattle.std.specs.Prelude.{ℕ, ◌≡◌, ◌≤◌, IfOk};
 ghost use Rattle.dm_base.specs.declared.limits.TheConstants.{DELAY, PENALTY};
 ghost use Rattle.dm_rows.specs.Active.{HasNoCycle};
 ghost use Rattle.dm_rows.specs.Rows.{IsSized};
@@ -26,8 +26,8 @@ pub struct Comparison {
     pub plan: Plan,
 }
 
-/// A rule's choices for the rows of a snapshot, which have no cycle, with what they cost, beside a true plan for these rows. The
-/// penalty is in seconds for each passenger, at most 1,000,000, and so is a number in the rule.
+/// A rule's choices for the rows of a snapshot, which have no cycle, with what they cost, beside a true plan for these rows, which
+/// is handed on. The penalty is in seconds for each passenger, at most 1,000,000, and so is a number in the rule.
 pub fn compare(
     alloc: Global,
     net: &Network,
@@ -40,8 +40,9 @@ pub fn compare(
     requires no_cycle { HasNoCycle net.now snapshot.now.rows }
     requires penalty { penalty ≤ PENALTY }
     requires limit { KeepsWithin DELAY rule }
-    ensures { (budget : ℕ) → IsTruePlan (whole_task net.now snapshot.now.rows penalty budget) plan
+    ensures compares { (budget : ℕ) → IsTruePlan (whole_task net.now snapshot.now.rows penalty budget) plan
         → IfOk result (Compares net.now snapshot.now.rows penalty budget rule) }
+    ensures plan { IfOk result (λ compared. compared.plan ≡ plan) }
 {
     net.sound();
     let engine = ruled(alloc, net, &snapshot.rows, rule)?;

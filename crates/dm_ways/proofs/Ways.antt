@@ -28,28 +28,6 @@ pub step_weight : (d : Decision) (b : Bool) (sides : List Bool) (path : List Dec
 step_weight d true sides path e = rw e refl
 step_weight d false sides path e = rw e refl
 
-pub other_weight : (d : Decision) (b : Bool) (sides : List Bool) (path : List Decision) → is_first_decision d ≢ b → on_way (b ∷ sides) (d ∷ path) ≡ 0
-other_weight d true sides path ne = by_test (is_first_decision d) refl where
-  by_test : (t : Bool) → is_first_decision d ≡ t → cond (is_first_decision d) (on_way sides path) 0 ≡ 0
-  by_test true e = absurd (ne e)
-  by_test false e = rw e refl
-other_weight d false sides path ne = by_test (is_first_decision d) refl where
-  by_test : (t : Bool) → is_first_decision d ≡ t → cond (is_first_decision d) 0 (on_way sides path) ≡ 0
-  by_test true e = rw e refl
-  by_test false e = absurd (ne e)
-
-pub at_most_one : (sides : List Bool) (path : List Decision) → on_way sides path ≤ 1
-at_most_one sides [] = omega arith
-at_most_one [] (d ∷ path) = omega arith
-at_most_one (true ∷ sides) (d ∷ path) = by_test (is_first_decision d) (at_most_one sides path) where
-  by_test : (t : Bool) → on_way sides path ≤ 1 → cond t (on_way sides path) 0 ≤ 1
-  by_test true h = h
-  by_test false h = omega arith
-at_most_one (false ∷ sides) (d ∷ path) = by_test (is_first_decision d) (at_most_one sides path) where
-  by_test : (t : Bool) → on_way sides path ≤ 1 → cond t 0 (on_way sides path) ≤ 1
-  by_test true h = omega arith
-  by_test false h = h
-
 -- a path lies on its own way, and so does each front of it
 pub own_way : (path rest : List Decision) → on_way (sides_of (path ++ rest)) path ≡ 1
 own_way [] rest = refl

@@ -120,12 +120,6 @@ module _ (net : Net) (network : IsNetwork net) (rows : RowsValue) (from to : ℕ
       (some_places (change_choice net) (is_free_change net rows) (λ a. not (is_change_within net from to a)) (range_with_len 0 (length net.activities)))
       (some_places (pair_choice net) (is_free_pair net rows) (λ p. not (is_pair_within net from to p)) (range_with_len 0 (length net.pairs)))
 
-  pub inside_some : AreSomeOf (free_choices_of net rows) (choices_in net rows from to)
-  inside_some =
-      some_of_both (free_changes_of net rows) (free_pairs_of net rows) _ _
-      (some_places (change_choice net) (is_free_change net rows) (is_change_within net from to) (range_with_len 0 (length net.activities)))
-      (some_places (pair_choice net) (is_free_pair net rows) (is_pair_within net from to) (range_with_len 0 (length net.pairs)))
-
   base_list : IsChoiceList net rows (window_base net rows from to)
   base_list =
       choice_list_from net rows (window_base net rows from to)

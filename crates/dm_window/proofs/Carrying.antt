@@ -1,5 +1,5 @@
 -- Decisions of a plan that are free in newer rows, and those of them that differ.
-use Rattle.std.proofs.Common.{◌≡◌, ℕ, ◌<◌, ◌≤◌, Bool, List, [], ◌∷◌, length, map, get_or, Some, refl, sym, ap, subst, ◌∙◌, inl, inr, arith}
+use Rattle.std.proofs.Common.{◌≡◌, ℕ, ◌<◌, ◌≤◌, Bool, List, [], ◌∷◌, length, map, get_or, Some, refl, sym, subst, inl, inr, arith}
 use Rattle.std.specs.Prelude.{filter, Contains, slice_get}
 use Rattle.std.proofs.lemmas.Bool.{cases_Bool, cond-true, cond-false}
 use Rattle.std.proofs.lemmas.List.Elements.{All-contains}
@@ -18,7 +18,7 @@ use Rattle.dm_relax.specs.Complete.{differences_from}
 use Rattle.dm_paths.specs.Decisions.{differs_from}
 use Rattle.dm_window.specs.declared.rebasing.RebaseFault.{RebaseFault}
 use Rattle.dm_window.specs.declared.rebasing.RebaseFault.TheVariants.{NotFree, Cycle, OutOfMemory}
-use Rattle.dm_window.specs.Rebasing.{DecideOnce, DecidesFree, IsFirstNotFree, IsRebased, RefusesRebase}
+use Rattle.dm_window.specs.Rebasing.{DecideOnce, DecidesFree, IsRebased, RefusesRebase}
 use Rattle.dm_window.specs.Inside.Carrying.{AreFree, CostsCarried, RefusesCarried}
 
 -- decisions of different choices stay so where some are left out
@@ -44,18 +44,6 @@ pub kept_list : (net : Net) (rows : RowsValue) (ds kept : List Decision) → Dec
 kept_list net rows ds kept once free is =
     rw is (choice_list_from net rows (differences_from net rows ds) (kept_apart (differs_from net rows) ds (apart_from_once ds once))
     (λ d h. All-contains (DecidesFree net rows) ds d free (was_among (differs_from net rows) ds d h)))
-
--- the first decision that is not free
-pub first_found : (net : Net) (rows : RowsValue) (ds : List Decision) (i : ℕ) (d : Decision) → i < length ds → d ≡ get_or ds i d →
-    ((k : ℕ) (e : Decision) → k < i → slice_get ds k ≡ Some e → DecidesFree net rows e) → (DecidesFree net rows d → ⊥) →
-    IsFirstNotFree net rows ds d
-first_found net rows ds i d lt is before not_free =
-    record {
-      place = i;
-      stands = slice_get-get_or ds i d lt ∙ ap Some (sym is);
-      not_free = not_free;
-      before = before;
-    }
 
 -- where none of them is found, all are free
 pub all_free : (net : Net) (rows : RowsValue) (ds : List Decision) (i : ℕ) → length ds ≤ i →

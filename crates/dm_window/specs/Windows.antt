@@ -1,5 +1,5 @@
 -- Which choices are in a window, what stands outside it, and which plans are true there.
-use Rattle.std.specs.Prelude.{ℕ, ◌&&◌, ◌++◌, nat_le, Bool, not, List, length, map, filter, Contains}
+use Rattle.std.specs.Prelude.{ℕ, ◌&&◌, ◌++◌, nat_le, Bool, not, List, length, map, filter}
 use Rattle.std.specs.List.{range_with_len}
 use Rattle.dm_network.specs.Net.{Net, event_at, activity_at, pair_at}
 use Rattle.dm_rows.specs.declared.messages.Choice.{Choice}
@@ -40,10 +40,6 @@ abbrev pub choices_in : Net → RowsValue → ℕ → ℕ → List Choice
 choices_in net rows from to =
     map (change_choice net) (filter (is_change_in net rows from to) (range_with_len 0 (length net.activities)))
     ++ map (pair_choice net) (filter (is_pair_in net rows from to) (range_with_len 0 (length net.pairs)))
-
--- The choice is in the window: it is free, and its change's head, or both events of its pair, are scheduled there.
-abbrev pub InWindow : Net → RowsValue → ℕ → ℕ → Choice → Type 0
-InWindow net rows from to choice = Contains (choices_in net rows from to) choice
 
 -- The base of a window: the decisions that set every other free choice as the rows have it, in the order of free choices.
 abbrev pub window_base : Net → RowsValue → ℕ → ℕ → List Decision

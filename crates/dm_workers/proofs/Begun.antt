@@ -2,7 +2,6 @@
 use Rattle.std.proofs.Common.{◌≡◌, ◌⊎◌, ℕ, ◌+◌, ◌≤◌, Bool, List, [], ◌∷◌, refl, ap, sym, ◌∙◌, subst, arith, inl, inr}
 use Rattle.std.specs.Prelude.{map, All, sum_by}
 use Rattle.std.proofs.lemmas.List.Elements.{All-nil}
-use Rattle.std.proofs.lemmas.List.Sums.{sum_by-cons}
 use Rattle.atomic_table.specs.Seated.{TableId}
 use Rattle.atomic_blocks.specs.Lent.{RowsId}
 use Rattle.dm_network.specs.Net.{Net}
@@ -21,15 +20,11 @@ use Rattle.dm_deques.specs.Sharing.{new_tally, deque_of}
 use Rattle.dm_ways.specs.Ways.{paths_on, leaves_on}
 use Rattle.dm_workers.specs.declared.working.Worker.{Worker}
 use Rattle.dm_workers.specs.Inside.Workers.{IsWorking, IsSameWorker, IsNewWorker, IsDone}
-use Rattle.dm_workers.specs.Inside.Working.{Path, taken_on, IsHandedIn, AreKept, AreListed, AreFindings, IsAtWork, nothing}
+use Rattle.dm_workers.specs.Inside.Working.{Path, IsHandedIn, AreKept, AreListed, AreFindings, IsAtWork, nothing}
 
 some_of_none : (xs : List Choice) → AreSomeOf xs []
 some_of_none [] = refl
 some_of_none (x ∷ xs) = tt
-
-taken_none : (s : List Bool) (ds : List RowsId) → taken_on s (map new_tally ds) ≡ 0
-taken_none s [] = refl
-taken_none s (d ∷ ds) = let one : TallyValue Path = new_tally d in omega (arith, taken_none s ds, sum_by-cons (λ (t : TallyValue Path). paths_on s t.account.taken) one (map new_tally ds))
 
 pub tally_deques : (ds : List RowsId) → map deque_of (map (new_tally {T = Path}) ds) ≡ ds
 tally_deques [] = refl

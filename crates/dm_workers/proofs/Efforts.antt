@@ -74,13 +74,6 @@ module _ (task : Task) (own : ℕ) (word : TableId) (start : ℕ) (given : List 
       };
     }
 
-    -- or given up
-    pub dropped : (in_hand : List Bool → ℕ) → Works in_hand owner tallies hand leaves choices cost → Works nothing owner tallies hand leaves choices cost
-    dropped in_hand w = record {
-      fair = λ s. omega (arith, w.fair s);
-      found = w.found;
-    }
-
     -- the two paths below it are put
     pub branched : (path : Path) (c : Choice) (owner' : TallyValue Path) → Works (λ s. on_way s path) owner tallies hand leaves choices cost → IsOrdered c
         → owner' ≡ record owner { account = having_put (having_put owner.account ((path ++ second_decision c ∷ []) ∷ [])) ((path ++ first_decision c ∷ []) ∷ []) }

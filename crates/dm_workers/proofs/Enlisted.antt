@@ -1,16 +1,16 @@
 -- Loops over workers and their deques.
-use Rattle.std.proofs.Common.{◌≡◌, ℕ, ◌+◌, ◌-◌, ◌<◌, ◌≤◌, Bool, true, List, [], ◌∷◌, ◌++◌, length, map, All, sym, ap, subst, ◌∙◌, arith, append_assoc, append-nil, length-append}
+use Rattle.std.proofs.Common.{◌≡◌, ℕ, ◌+◌, ◌-◌, ◌≤◌, Bool, true, List, [], ◌∷◌, ◌++◌, length, map, All, sym, ap, subst, ◌∙◌, arith, append_assoc, length-append}
 use Rattle.std.specs.Prelude.{sum_by}
-use Rattle.std.proofs.lemmas.List.{map-append, length-map, nil_from_length}
+use Rattle.std.proofs.lemmas.List.{map-append}
 use Rattle.std.proofs.lemmas.List.Elements.{All-head, All-tail, All-push}
 use Rattle.std.proofs.lemmas.List.Sums.{sum_by-cons, sum_by_push}
 use Rattle.atomic_blocks.specs.Lent.{RowsId}
 use Rattle.dm_bound.specs.Words.{HandValue}
 use Rattle.dm_deques.specs.declared.account.Account.{Account}
 use Rattle.dm_deques.specs.Deques.{TallyValue}
-use Rattle.dm_deques.specs.Rule.{fresh, IsWithin}
+use Rattle.dm_deques.specs.Rule.{fresh}
 use Rattle.dm_deques.specs.Sharing.{deque_of, settling_each}
-use Rattle.dm_ways.specs.Ways.{on_way, paths_on}
+use Rattle.dm_ways.specs.Ways.{paths_on}
 use Rattle.dm_workers.specs.Inside.Gathering.{owners_put, owners_taken, all_taken, HasTakenNothing}
 use Rattle.dm_workers.specs.Inside.Working.{Path, taken_on}
 use Rattle.dm_workers.proofs.Gathered.{settles, settles_deques}
@@ -24,31 +24,12 @@ module _ {X Y : Type 0} (f : X → Y) where
       ∙ (append_assoc (map f xs) (f x ∷ []) next
       ∙ (ap (λ (z : Y). map f xs ++ z ∷ next) same ∙ (ap (λ (l : List Y). map f xs ++ l) (sym is) ∙ all))))
 
-  pub fewer_of : (xs : List X) (y : Y) (rest next whole : List Y) → map f xs ++ rest ≡ whole → rest ≡ y ∷ next → length xs < length whole
-  fewer_of xs y rest next whole all is = omega (arith, ap length all, length-append (map f xs) rest, length-map xs f, ap length is)
-
-  pub all_of : (xs : List X) (rest whole : List Y) → map f xs ++ rest ≡ whole → length rest ≡ 0 → map f xs ≡ whole
-  all_of xs rest whole all none = sym (append-nil (map f xs)) ∙ (ap (λ (l : List Y). map f xs ++ l) (sym (nil_from_length rest none)) ∙ all)
-
 -- hands that are split off one after another
 pub one_split : (start hand next : HandValue) (n m : ℕ) → hand ≡ record start { room = start.room - n } → next ≡ record hand { room = hand.room - 1 } → m ≡ n + 1
     → next ≡ record start { room = start.room - m }
 one_split start hand next n m is split more =
     let room : start.room - n - 1 ≡ start.room - m = omega (arith, more) in
     split ∙ (ap (λ (h : HandValue). record h { room = h.room - 1 }) is ∙ ap (λ (r : ℕ). record start { room = r }) room)
-
--- one owner that was counted, and those that are left
-pub one_counted : (s : List Bool) (o : TallyValue Path) (items : List Path) (rest next : List (TallyValue Path)) → rest ≡ o ∷ next → IsWithin o.account items
-    → owners_taken s next ≤ owners_put s next → owners_taken s rest ≤ owners_put s rest
-one_counted s o items rest next is within left = omega (
-  arith,
-  ap (owners_taken s) is,
-  ap (owners_put s) is,
-  sum_by-cons (λ (x : TallyValue Path). paths_on s x.account.taken) o next,
-  sum_by-cons (λ (x : TallyValue Path). paths_on s x.account.put) o next,
-  within (on_way s),
-  left,
-)
 
 -- one list of tallies that was settled, and those that are left
 pub one_settled : (s : List Bool) (settled now : List (TallyValue Path)) (ts : List (TallyValue Path)) (rest next : List (List (TallyValue Path))) → rest ≡ ts ∷ next

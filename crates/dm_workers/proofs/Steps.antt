@@ -23,7 +23,7 @@ use Rattle.dm_workers.specs.Nodes.{IsChosen, IsNode}
 use Rattle.dm_workers.specs.Expanding.{IsSeen, having_looked, limit_of}
 use Rattle.dm_workers.specs.Inside.Working.{Path, taken_on, IsShown, IsEnd, AreKept, IsAtWork, nothing}
 use Rattle.dm_workers.specs.Inside.Workers.{IsWorking, IsHandedTo, IsBetterOf, HasBranched, HasTaken, HasFoundNone}
-use Rattle.dm_workers.proofs.Efforts.{looked_on, handed, branched, bettered, told, taken, dropped}
+use Rattle.dm_workers.proofs.Efforts.{looked_on, handed, branched, bettered, told, taken}
 use Rattle.dm_workers.proofs.Outcomes.{chosen_is_ordered, pruned_costs, solved_costs, branch_costs, solved_kept, branch_chosen}
 
 limit_below : (seen : ℕ) → seen < nothing_looked → limit_of seen ≡ seen
@@ -46,10 +46,6 @@ module _ {F : Type 0} (task : Task) (own : ℕ) (word : TableId) (start : ℕ) (
       (λ (k : HandValue). IsAtWork task own word start given (λ s. on_way s path) old.owner old.tallies.items k old.leaves.items old.best.choices old.best.cost)
       (sym is)
       (looked_on task own word start given old.owner old.tallies.items old.hand old.leaves.items old.best.choices old.best.cost (λ s. on_way s path) seen w)
-
-  -- a path is given up
-  pub path_dropped : (old : Worker F) (path : Path) → Work (λ s. on_way s path) old → Work nothing old
-  path_dropped old path w = dropped task own word start given old.owner old.tallies.items old.hand old.leaves.items old.best.choices old.best.cost (λ s. on_way s path) w
 
   -- no path was found
   pub none_taken : (old new : Worker F) → HasFoundNone old new → Work nothing old → Work nothing new

@@ -1,5 +1,5 @@
 -- All that workers have handed in, from what they were given.
-use Rattle.std.proofs.Common.{◌≡◌, ℕ, ◌+◌, ◌-◌, ◌≤◌, Bool, List, [], ◌∷◌, length, map, All, Result, refl, ap, sym, subst, ◌∙◌, arith, append-nil}
+use Rattle.std.proofs.Common.{◌≡◌, ℕ, ◌+◌, ◌-◌, ◌≤◌, Bool, List, [], ◌∷◌, length, map, All, Result, refl, ap, sym, subst, ◌∙◌, arith}
 use Rattle.std.specs.Prelude.{IfOk}
 use Rattle.std.proofs.lemmas.List.{length-map}
 use Rattle.atomic_table.specs.Seated.{TableId}
@@ -8,16 +8,14 @@ use Rattle.dm_network.specs.Net.{Net}
 use Rattle.dm_rows.specs.declared.messages.Decision.{Decision}
 use Rattle.dm_rows.specs.Active.{HasNoCycle}
 use Rattle.dm_rows.specs.Cost.{Costs}
-use Rattle.dm_rows.specs.Decide.{IsChoiceList}
 use Rattle.dm_rows.specs.Rows.{RowsValue}
 use Rattle.dm_bound.specs.Words.{HandValue, lowest}
 use Rattle.dm_deques.specs.Deques.{TallyValue}
 use Rattle.dm_deques.specs.Sharing.{deque_of}
 use Rattle.dm_tree.specs.Plans.{Task}
-use Rattle.dm_guide.specs.Posed.{task_beside, IsPosed}
+use Rattle.dm_guide.specs.Posed.{task_beside}
 use Rattle.dm_workers.specs.declared.gathering.Gathered.{Gathered}
 use Rattle.dm_workers.specs.declared.working.Worker.{Worker}
-use Rattle.dm_workers.specs.Nodes.{IsNode}
 use Rattle.dm_workers.specs.Inside.Found.{IsFound}
 use Rattle.dm_workers.specs.Inside.Gathering.{all_taken, owners_put, owners_taken}
 use Rattle.dm_workers.specs.Inside.Together.{deque_of_worker, IsGatheredFrom, HandsIn, AreHandedIn, AreDone, IsFirstHand}
@@ -27,10 +25,6 @@ use Rattle.dm_workers.proofs.Begun.{own_kept}
 use Rattle.dm_workers.proofs.Ends.{deques_agree, found_of}
 use Rattle.dm_workers.proofs.Handing.{handed_words, none_gathered}
 use Rattle.dm_workers.proofs.Joined.{given_is}
-
--- the root is a node
-pub root_node : (net : Net) (rows : RowsValue) (penalty : ℕ) (base : List Decision) (budget : ℕ) → IsPosed net rows penalty base budget → IsNode (task_beside net rows penalty base budget) []
-root_node net rows penalty base budget posed = record { list = subst (IsChoiceList net rows) (sym (append-nil base)) posed.decides; way = tt }
 
 handed_many : {F E : Type 0} (task : Task) (own : ℕ) (word : TableId) (start : ℕ) (theirs : List RowsId) (jobs : List (Worker F)) (worked : List (Result (Worker F) E))
     → AreHandedIn task own word start theirs jobs worked → length worked ≡ length jobs

@@ -12,7 +12,7 @@ use Rattle.dm_words.specs.Words.{CheckAsked, FilesAsked}
 use Rattle.dm_cert.specs.Runs.{IsRunText}
 use Rattle.dm_check.specs.declared.verdicts.Verdict.{Verdict}
 use Rattle.dm_check.specs.FalseRecords.{IsVerdict}
-use Rattle.dm_truth.specs.Laws.{SaysGood}
+use Rattle.dm_check.specs.Truth.{SaysGood}
 use Rattle.dm_program.specs.declared.status.Status.{Status}
 use Rattle.dm_program.specs.declared.status.Status.TheVariants.{Refused, ReadFault, NoMemory}
 use Rattle.dm_program.specs.Ends.{EndsAs}

@@ -6,4 +6,4 @@ compare-requires-clause-no_cycle g c = rw (c.network-net.ensures, c.in_ok-snapsh
 pub returns : goal.returns
 returns g c =
     rw (c.network-net.ensures, c.in_ok-snapshot.ensures.rows, c.penalty-penalty.ensures, c.rule_named-rule.ensures) at
-    (c.compare.ensures c.args.asked.budget c.in_ok-plan.ensures.plan)
+    (c.compare.ensures.compares c.args.asked.budget c.in_ok-plan.ensures.plan)

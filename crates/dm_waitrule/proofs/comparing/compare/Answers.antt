@@ -5,8 +5,8 @@ use Rattle.dm_waitrule.specs.Rules.{differences_to}
 use Rattle.dm_waitrule.proofs.Bounded.{compares}
 use Rattle.dm_waitrule.proofs.comparing.compare.Goals as goal
 
-pub returns : goal.returns
-returns c = λ budget is.
+pub returns-clause-compares : goal.returns-clause-compares
+returns-clause-compares c = λ budget is.
     compares c.args.net.now c.sound.ensures.network c.args.snapshot.now.rows c.requires.sized c.requires.no_cycle c.args.rule c.args.penalty budget
     c.in_ok-engine.engine.rows c.in_ok-engine.ensures.ruled (record { choices = c.from_vec.result; cost = c.cost-cost.result; plan = c.args.plan })
     (c.from_vec.ensures ∙ c.in_ok-choices.ensures ∙ ap (differences_to c.args.net.now c.args.snapshot.now.rows) c.rows.ensures)

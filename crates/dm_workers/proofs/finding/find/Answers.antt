@@ -2,7 +2,7 @@ use Rattle.std.proofs.Common.{◌≡◌, ℕ, sym, ap, subst, ◌∙◌}
 use Rattle.dm_bound.specs.Words.{HandValue}
 use Rattle.dm_guide.specs.Tasks.{task_of}
 use Rattle.dm_workers.specs.Inside.Together.{AreDone}
-use Rattle.dm_workers.proofs.Whole.{root_node, are_done, rooms_are}
+use Rattle.dm_workers.proofs.Whole.{are_done, rooms_are}
 use Rattle.dm_workers.proofs.finding.find.Goals as goal
 
 pub put_together-requires-clause-worked : goal.put_together-requires-clause-worked

@@ -1,4 +1,4 @@
-use Rattle.dm_check.proofs.Logs.{log_unopened, log_stop, log_unended, log_all}
+use Rattle.dm_check.proofs.Logs.{log_stop, log_unended, log_all}
 use Rattle.dm_check.proofs.told_items.Logs.next_log.Goals as goal
 
 pub returns-in-Err-all_items-clause-tells : goal.returns-in-Err-all_items-clause-tells

@@ -19,9 +19,9 @@ use Rattle.dm_records.proofs.ItemsRead.{said_body, malformed_text}
 use Rattle.dm_records.proofs.Splitting.{parts_no_feed}
 use Rattle.dm_check.specs.FalseRecords.{TellsItem, IsNextItem}
 use Rattle.dm_records.proofs.LinesSpelled.{number_then}
-use Rattle.dm_truth.proofs.PlanItems.{plan_told}
-use Rattle.dm_truth.proofs.Replies.{reply_line, formed_or_plan, IsPlanned}
-use Rattle.dm_truth.proofs.Standing.{IsTold, line_stands}
+use Rattle.dm_check.proofs.Truth.PlanItems.{plan_told}
+use Rattle.dm_check.proofs.Truth.Replies.{reply_line, formed_or_plan, IsPlanned}
+use Rattle.dm_check.proofs.Truth.Standing.{IsTold, line_stands}
 
 -- the item stands in print, and memory holds it
 pub record IsPrinted (answered : LogItem) : Type 0 where

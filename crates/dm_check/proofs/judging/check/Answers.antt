@@ -1,5 +1,5 @@
-use Rattle.dm_truth.proofs.BothWays.{good_exactly}
-use Rattle.dm_truth.proofs.judging.judge.Goals as goal
+use Rattle.dm_check.proofs.Truth.BothWays.{good_exactly}
+use Rattle.dm_check.proofs.judging.check.Goals as goal
 
 pub returns-in-Ok-clause-good : goal.returns-in-Ok-clause-good
 returns-in-Ok-clause-good c =

@@ -12,9 +12,9 @@ use Rattle.dm_check.specs.declared.verdicts.Verdict.{Verdict}
 use Rattle.dm_check.specs.declared.verdicts.Verdict.TheVariants.{Good, Bad}
 use Rattle.dm_check.specs.FalseRecords.{IsVerdict}
 use Rattle.dm_check.proofs.ToldOnce.{verdicts_are_one}
-use Rattle.dm_truth.specs.Laws.{RunTextsAreTheGoodOnes, HasNoFalseRecord, SaysGood}
-use Rattle.dm_truth.proofs.ToldRuns.{good_texts_are_true}
-use Rattle.dm_truth.proofs.WholeRuns.{true_texts_are_good}
+use Rattle.dm_check.specs.Truth.{RunTextsAreTheGoodOnes, HasNoFalseRecord, SaysGood}
+use Rattle.dm_check.proofs.Truth.ToldRuns.{good_texts_are_true}
+use Rattle.dm_check.proofs.Truth.WholeRuns.{true_texts_are_good}
 
 pub run_texts_are_the_good_ones : RunTextsAreTheGoodOnes
 run_texts_are_the_good_ones net start penalty most_plans text network limits ids within low = (

@@ -1,4 +1,4 @@
-pub mod Counted
+-- That the verdict is good exactly of the texts of true runs.
 pub mod Standing
 pub mod Lines
 pub mod Replies

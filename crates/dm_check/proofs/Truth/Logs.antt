@@ -20,12 +20,12 @@ use Rattle.dm_check.specs.declared.verdicts.BadKind.TheVariants as kind
 use Rattle.dm_check.specs.FalseRecords.{Reads, Rules, IsNextEntry, TellsEntry, IsNextItem, TellsItem, TellsLog, IsNextNote, TellsNote, IsNextTime, TellsTime}
 use Rattle.dm_check.proofs.Spelled.{same_each, log_same, timed_text}
 use Rattle.dm_records.proofs.Each.{Each, each_of_splits, each_both, all_there}
-use Rattle.dm_truth.proofs.Items.{IsPrinted, item_told}
+use Rattle.dm_check.proofs.Truth.Items.{IsPrinted, item_told}
 use Rattle.dm_records.proofs.LinesSpelled.{entry_line}
-use Rattle.dm_truth.proofs.Lines.{opening_line, stop_line, note_line, time_line}
+use Rattle.dm_check.proofs.Truth.Lines.{opening_line, stop_line, note_line, time_line}
 use Rattle.dm_records.proofs.Named.{IsTrueBehind}
-use Rattle.dm_truth.proofs.Standing.{IsTold, line_stands, rule_stands, then_stands, all_stand}
-use Rattle.dm_truth.proofs.Truths.{numbered_next, items_next, timed_next}
+use Rattle.dm_check.proofs.Truth.Standing.{IsTold, line_stands, rule_stands, then_stands, all_stand}
+use Rattle.dm_check.proofs.Truth.Truths.{numbered_next, items_next, timed_next}
 
 pub entry_told : (s : Setting) (feeds : ℕ) (before : List Entry) (entry : Entry) → IsNextEntry s feeds before (numbered_next before entry) → length before + 1 ≤ largest_id → FitsEntry entry →
     IsTold (TellsEntry s feeds) (λ k. entry_text (k + 1)) before entry

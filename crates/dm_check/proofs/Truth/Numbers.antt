@@ -26,7 +26,7 @@ use Rattle.dm_cert.specs.declared.replies.LogItem.{LogItem}
 use Rattle.dm_cert.specs.Answers.{Setting, rows_after, latest_plan, HasNoRoom, IsTrueReply}
 use Rattle.dm_cert.specs.RunTexts.{FitsReason, FitsReply, IsSpelledReason, IsSpelledReply}
 use Rattle.dm_records.specs.RunLines.{IsFormedReason, IsFormedReply, IsFormedSaid}
-use Rattle.dm_truth.proofs.Limits.{legal_within, least_low}
+use Rattle.dm_check.proofs.Truth.Limits.{legal_within, least_low}
 
 -- ---- refusals that tell a value, a time or a clock
 

@@ -33,7 +33,7 @@ use Rattle.dm_check.specs.declared.faults.Fault.{Fault}
 use Rattle.dm_check.specs.declared.verdicts.BadKind.TheVariants as kind
 use Rattle.dm_check.specs.FalseRecords.{bad, Reads, TellsItem, IsNextItem, IsNextPlan, plan_opened}
 use Rattle.dm_records.proofs.LinesSpelled.{number_then}
-use Rattle.dm_truth.proofs.Standing.{IsTold}
+use Rattle.dm_check.proofs.Truth.Standing.{IsTold}
 
 -- ---- lines that are told are told whatever the faults of others are
 

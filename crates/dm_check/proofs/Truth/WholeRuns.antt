@@ -20,14 +20,14 @@ use Rattle.dm_records.proofs.HeldRuns.{is_in_print}
 use Rattle.dm_check.specs.declared.verdicts.BadKind.TheVariants as kind
 use Rattle.dm_check.specs.FalseRecords.{bad, Reads, IsNextEntry, TellsEntry, TellsLog, TellsBoards, IsNextNote, TellsNote, IsNextTime, TellsTime, TellsCost, TellsEnd, TellsEnding, TellsNumber, TellsRest, TellsBody, TellsRun}
 use Rattle.dm_check.proofs.Spelled.{texts_from, same_each, entries_same, logs_same, times_same, timed_text, regroup_all}
-use Rattle.dm_truth.specs.Laws.{TrueTextsAreGood}
+use Rattle.dm_check.specs.Truth.{TrueTextsAreGood}
 use Rattle.dm_records.proofs.Each.{Each, each_of_splits, each_both, all_there}
 use Rattle.dm_records.proofs.LinesSpelled.{counted, number_line, version_has_line}
-use Rattle.dm_truth.proofs.Lines.{word_line}
-use Rattle.dm_truth.proofs.Logs.{entry_told, note_told, time_told, log_told, IsPrintedLog}
+use Rattle.dm_check.proofs.Truth.Lines.{word_line}
+use Rattle.dm_check.proofs.Truth.Logs.{entry_told, note_told, time_told, log_told, IsPrintedLog}
 use Rattle.dm_records.proofs.Named.{IsTrueBehind, logs_behind}
-use Rattle.dm_truth.proofs.Standing.{Told, IsTold, line_stands, rule_stands, then_stands, all_stand}
-use Rattle.dm_truth.proofs.Truths.{numbered_next, entries_next, all_named, notes_next, timed_next, times_next}
+use Rattle.dm_check.proofs.Truth.Standing.{Told, IsTold, line_stands, rule_stands, then_stands, all_stand}
+use Rattle.dm_check.proofs.Truth.Truths.{numbered_next, entries_next, all_named, notes_next, timed_next, times_next}
 
 -- ---- lines with a number
 

@@ -23,8 +23,8 @@ use Rattle.dm_records.specs.RunLines.{PlanOpening, ItemLine, lone, planned, IsFo
 use Rattle.dm_check.specs.declared.faults.Fault.{Fault}
 use Rattle.dm_check.specs.declared.verdicts.BadKind.TheVariants as kind
 use Rattle.dm_check.specs.FalseRecords.{bad, Reads, TellsItem, TellsBehind, TellsPlanBehind, IsNextItem, IsNextPlan, plan_opened}
-use Rattle.dm_truth.proofs.Numbers.{IsSound, reply_fits, reply_spelled}
-use Rattle.dm_truth.proofs.PlanItems.{lines_again}
+use Rattle.dm_check.proofs.Truth.Numbers.{IsSound, reply_fits, reply_spelled}
+use Rattle.dm_check.proofs.Truth.PlanItems.{lines_again}
 
 -- the next item, whose numbers are ones that types hold, and which has a spelling
 pub record IsSoundItem (s : Setting) (history : List Entry) (feed : ℕ) (before : List LogItem) (answered : LogItem) : Type 0 where

@@ -26,15 +26,15 @@ use Rattle.dm_cert.specs.Runs.{IsTrueNote, AreTrueNotes}
 use Rattle.dm_check_answers.specs.Judging.{line_before, number_before}
 use Rattle.dm_check.specs.FalseRecords.{IsNextNote, TellsEntry, TellsItem, TellsLog, TellsNote, TellsTime, entry_before}
 use Rattle.dm_check.proofs.Spelled.{good_is_spelled_so}
-use Rattle.dm_truth.specs.Laws.{GoodTextsAreTrue}
+use Rattle.dm_check.specs.Truth.{GoodTextsAreTrue}
 use Rattle.dm_records.proofs.Each.{Each, each_at, each_weaker, all_of_each}
-use Rattle.dm_truth.proofs.Limits.{least_low, legal_within}
+use Rattle.dm_check.proofs.Truth.Limits.{least_low, legal_within}
 use Rattle.dm_records.proofs.Named.{IsTrueBehind}
-use Rattle.dm_truth.proofs.Numbers.{IsSound}
-use Rattle.dm_truth.proofs.OnceNamed.{named_once}
-use Rattle.dm_truth.proofs.ToldEach.{told_each, Says}
-use Rattle.dm_truth.proofs.ToldItems.{IsSoundItem, item_sound}
-use Rattle.dm_truth.proofs.Truths.{line_more, number_more, last_entry}
+use Rattle.dm_check.proofs.Truth.Numbers.{IsSound}
+use Rattle.dm_check.proofs.Truth.OnceNamed.{named_once}
+use Rattle.dm_check.proofs.Truth.ToldEach.{told_each, Says}
+use Rattle.dm_check.proofs.Truth.ToldItems.{IsSoundItem, item_sound}
+use Rattle.dm_check.proofs.Truth.Truths.{line_more, number_more, last_entry}
 
 -- ---- entries
 

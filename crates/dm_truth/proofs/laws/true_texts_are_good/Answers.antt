@@ -1,5 +1,0 @@
-use Rattle.dm_truth.proofs.WholeRuns as WholeRuns
-use Rattle.dm_truth.proofs.laws.true_texts_are_good.Goals as goal
-
-pub returns : goal.returns
-returns c = WholeRuns.true_texts_are_good

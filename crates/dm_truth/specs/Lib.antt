@@ -1,2 +1,0 @@
--- What the verdicts on texts say of runs.
-pub mod Laws
