@@ -8,7 +8,7 @@ use Rattle.atomic_table.specs.Table.{State, keeps, step, Allows, Splits, Joins, 
 use Rattle.std.proofs.lemmas.List.Elements.{All-nil}
 use Rattle.dm_bound.specs.Words.{lowest, nothing_looked}
 use Rattle.dm_bound.specs.Rule.{spent, IsLive, IsReached, Stands, Rule}
-use Rattle.dm_bound.specs.Steps.{Sat, Lowered, Looked, cut_off, left_over, joined, listing, seeing, opening_view}
+use Rattle.dm_bound.specs.Inside.Steps.{Sat, Lowered, Looked, cut_off, left_over, joined, listing, seeing, opening_view}
 use Rattle.dm_bound.specs.declared.view.View.{View}
 use Rattle.dm_base.proofs.Counts.{sum_two}
 use Rattle.dm_bound.proofs.Lowest.{above_lowest, lowest_is}

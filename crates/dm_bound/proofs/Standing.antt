@@ -9,7 +9,7 @@ use Rattle.std.proofs.lemmas.List.Elements.{All-nil, All-append, All-push, All-w
 use Rattle.std.proofs.lemmas.List.Sums.{sum_by_push}
 use Rattle.dm_bound.specs.Words.{nothing_looked}
 use Rattle.dm_bound.specs.Rule.{spent, IsLive, IsReached, Stands}
-use Rattle.dm_bound.specs.Steps.{cut_off, left_over, joined, listing, seeing}
+use Rattle.dm_bound.specs.Inside.Steps.{cut_off, left_over, joined, listing, seeing}
 use Rattle.dm_bound.specs.declared.view.View.{View}
 use Rattle.dm_base.proofs.Counts.{set_there, each_set, sum_set}
 

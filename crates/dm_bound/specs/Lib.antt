@@ -1,5 +1,4 @@
--- What contracts see of a word and its hands: Words. The rule that the word keeps: Rule. What each step tells, and how a hand is
--- seen: Steps.
+-- What a reader must believe: Words. The rule that the word keeps: Rule. What each step tells: Inside.
 pub mod Words
 pub mod Rule
-pub mod Steps
+pub mod Inside

@@ -14,7 +14,7 @@ pub struct Least;
 
 impl TableRule<u64, View, About> for Least {
     ghost use Rattle.dm_bound.specs.Rule.{Rule};
-    ghost use Rattle.dm_bound.specs.Steps.{opening_view};
+    ghost use Rattle.dm_bound.specs.Inside.Steps.{opening_view};
 
     ghost holds = { λ about. Rule about.start about.seats };
 
@@ -25,7 +25,7 @@ impl TableRule<u64, View, About> for Least {
 pub struct Lower;
 
 impl Play<u64, View> for Lower {
-    ghost use Rattle.dm_bound.specs.Steps.{Lowered};
+    ghost use Rattle.dm_bound.specs.Inside.Steps.{Lowered};
 
     ghost then = { Lowered };
 }
@@ -34,7 +34,7 @@ impl Play<u64, View> for Lower {
 pub struct Look;
 
 impl Play<u64, View> for Look {
-    ghost use Rattle.dm_bound.specs.Steps.{Looked};
+    ghost use Rattle.dm_bound.specs.Inside.Steps.{Looked};
 
     ghost then = { Looked };
 }
@@ -43,7 +43,7 @@ impl Play<u64, View> for Look {
 pub struct Cut;
 
 impl Split<View> for Cut {
-    ghost use Rattle.dm_bound.specs.Steps.{left_over, cut_off};
+    ghost use Rattle.dm_bound.specs.Inside.Steps.{left_over, cut_off};
 
     ghost left = { left_over };
 
@@ -54,7 +54,7 @@ impl Split<View> for Cut {
 pub struct Glue;
 
 impl Join<View> for Glue {
-    ghost use Rattle.dm_bound.specs.Steps.{joined};
+    ghost use Rattle.dm_bound.specs.Inside.Steps.{joined};
     ghost use Rattle.dm_bound.specs.Rule.{spent};
 
     ghost both = { joined };

@@ -18,7 +18,7 @@ pub struct Hand {
 
 impl Model for Hand {
     ghost use Rattle.dm_bound.specs.Words.{HandValue};
-    ghost use Rattle.dm_bound.specs.Steps.{hand_value, IsAtRest};
+    ghost use Rattle.dm_bound.specs.Inside.Steps.{hand_value, IsAtRest};
 
     ghost Value = { HandValue };
 

@@ -1,3 +1,4 @@
+pub mod Found
 pub mod Rows
 pub mod Claimed
 pub mod Replayed

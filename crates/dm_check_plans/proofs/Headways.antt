@@ -1,7 +1,7 @@
 -- The headways of a pair out of an event, flagged or no longer.
 use Rattle.std.proofs.Common.{◌≡◌, ℕ, ◌+◌, ◌<◌, Bool, true, false, List, length, Some, refl, sym, ap, subst, ◌∙◌, ◌⊎◌, inl, inr, arith, slice_index, length-set, get_or-set_same, get_or-set_other}
 use Rattle.std.specs.Prelude.{slice_set, ◌==◌, MatchBool}
-use Rattle.std.proofs.lemmas.Bool.{cases_Bool, cases_eq, and_parts, and_from, cond-true, cond-false, eqb-true, both_ways, eq-eqb}
+use Rattle.std.proofs.lemmas.Bool.{cases_Bool, cases_eq, and_parts, and_from, cond-true, cond-false, eqb-true, both_ways, eq-eqb, ne_eqb}
 use Rattle.dm_network.specs.Net.{Net, activity_at, places_out_of}
 use Rattle.dm_rows.specs.Relax.{is_of_pair}
 use Rattle.dm_check_plans.specs.Inside.Flags.{AreSetWhere}
@@ -12,6 +12,17 @@ use Rattle.dm_network.proofs.EventRows.{leads_out, stands_out}
 use Rattle.dm_paths.specs.RowsRead.{IsAmong}
 use Rattle.dm_paths.proofs.Changing.{its_pair, no_pair}
 use Rattle.dm_paths.proofs.RowsRead.{among_next}
+
+-- one flag that is set
+pub set_one : (flags : List Bool) (a n : ℕ) (value : Bool) → a < length flags → AreSetWhere (λ b. b == a) value n flags (slice_set flags a value)
+set_one flags a n value below = record {
+  size = length-set flags a value;
+  each = λ b lt. elim (cases_eq b a) [
+    | inl is ↦ ap (is_flagged (slice_set flags a value)) is ∙ get_or-set_same flags a value false below
+        ∙ sym (cond-true (b == a) value (is_flagged flags b) (eq-eqb b a is))
+    | inr ne ↦ get_or-set_other flags a b value false ne ∙ sym (cond-false (b == a) value (is_flagged flags b) (ne_eqb b a ne))
+  ];
+}
 
 module _ (net : Net) (p : ℕ) (row : List ℕ) (value : Bool) where
   pub none_turned : (flags : List Bool) → HasTurned net p row 0 value flags flags

@@ -10,3 +10,4 @@ pub mod Visited
 pub mod Chosen
 pub mod Told
 pub mod Whole
+pub mod Walking

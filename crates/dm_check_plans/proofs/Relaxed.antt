@@ -1,6 +1,6 @@
 -- The relaxed problem of a path has the floors, the spans and the passed events of the rows themselves.
 use Rattle.std.proofs.Common.{◌≡◌, ℕ, ◌+◌, ◌*◌, Bool, List, length, Option, None, sym, ap, subst, ◌∙◌, inl, inr, arith}
-use Rattle.std.specs.Prelude.{◌&&◌, nat_lt, is_some, slice_index_or, sum_by, if◌then◌else◌}
+use Rattle.std.specs.Prelude.{◌&&◌, nat_lt, is_some, slice_index_or, sum_by, if◌then◌else◌, Result, Ok, Err, OnOk}
 use Rattle.std.specs.List.{range_with_len}
 use Rattle.dm_network.specs.Net.{Net, activity_at, is_change}
 use Rattle.dm_network.specs.Held.{arcs_of}
@@ -80,3 +80,7 @@ module _ (net : Net) (rows : RowsValue) (path : List Decision) where
     | inl c ↦ record { cycle = c.cycle; is_cycle = c.is_cycle }
     | inr none ↦ absurd (some none)
   ]
+
+pub on_ok_three : {V E : Type 0} (r : Result V E) (P Q R S : Type 0) → (P → Q → R → S) → OnOk r P → OnOk r Q → OnOk r R → OnOk r S
+on_ok_three (Ok v) P Q R S f p q s = f p q s
+on_ok_three (Err e) P Q R S f p q s = tt

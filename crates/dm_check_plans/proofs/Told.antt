@@ -17,7 +17,7 @@ use Rattle.dm_rows.proofs.Holding.{held_is_met_exactly_without_cycle}
 use Rattle.dm_tree.specs.declared.forms.Node.{Node}
 use Rattle.dm_tree.specs.declared.forms.Node.TheVariants.{Inner, Cycle, Bound, Open, Hole}
 use Rattle.dm_tree.specs.Relaxed.{IsRelaxedLeast, RelaxedCosts, relaxed_cost_of, HasNoRelaxedCycle, IsViolated}
-use Rattle.dm_tree.specs.Plans.{whole_task, IsViolatedThere, IsTrueInner, IsTrueBound, IsTrueOpen}
+use Rattle.dm_tree.specs.Plans.{Task, whole_task, IsViolatedThere, IsTrueInner, IsTrueBound, IsTrueOpen}
 use Rattle.dm_rows.specs.Sides.{IsOrdered}
 use Rattle.dm_check_rows.specs.Claims.{Tells}
 use Rattle.dm_check_plans.specs.Inside.RelaxedProblems.{HasRelaxedCycle}
@@ -42,6 +42,9 @@ one_own net rows penalty a b p q =
     p.cost ∙ ap (λ (x : List ℕ). cost_of net rows x penalty) (one_least net rows _ p.times q.times p.least q.least) ∙ sym q.cost
 
 module _ (net : Net) (rows : RowsValue) (penalty budget : ℕ) (path : List Decision) where
+  task : Task
+  task = whole_task net rows penalty budget
+
   -- where some timetable is least there is no cycle
   least_has_none : IsNetwork net → (x : List ℕ) → IsRelaxedLeast net rows path x → HasNoRelaxedCycle net rows path
   least_has_none network x least =
@@ -61,6 +64,9 @@ module _ (net : Net) (rows : RowsValue) (penalty budget : ℕ) (path : List Deci
   cycle_told network some plan_cost Hole false e = λ t. t
 
   module _ (times : List ℕ) (least : IsRelaxedLeast net rows path times) where
+    own : ℕ
+    own = relaxed_cost_of net rows path times penalty
+
     one_cost : (c : ℕ) → RelaxedCosts net rows path penalty c → c ≡ relaxed_cost_of net rows path times penalty
     one_cost c costs =
         costs.cost ∙ ap (λ (x : List ℕ). relaxed_cost_of net rows path x penalty)

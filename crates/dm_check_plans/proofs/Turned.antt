@@ -9,7 +9,7 @@ use Rattle.dm_network.specs.Start.{IsNetwork}
 use Rattle.dm_rows.specs.declared.messages.Decision.{Decision}
 use Rattle.dm_rows.specs.declared.messages.Flip.{Flip}
 use Rattle.dm_rows.specs.Active.{has_passed}
-use Rattle.dm_rows.specs.Decide.{IsChoiceList, choice_of, free_choices_of}
+use Rattle.dm_rows.specs.Decide.{IsChoiceList, choice_of, free_choices_of, with_decisions}
 use Rattle.dm_rows.specs.Relax.{is_undecided_change, is_undecided_pair, is_relaxed_active, is_relaxed_dropped}
 use Rattle.dm_rows.specs.Rows.{RowsValue, IsSized, kept_at}
 use Rattle.dm_check_plans.specs.Inside.Flags.{AreSetWhere}
@@ -148,6 +148,11 @@ none_dropped false kept passed = refl
 
 pub none_charged : (net : Net) (rows : RowsValue) (a : ℕ) → is_relaxed_dropped net rows [] a ≡ false
 none_charged net rows a = none_dropped (is_change (activity_at net a).kind) (kept_at rows a) (has_passed rows (activity_at net a).head)
+
+-- what is no change is charged for nowhere
+pub no_change_charged : (net : Net) (rows : RowsValue) (path : List Decision) (a : ℕ) → is_change (activity_at net a).kind ≡ false → is_relaxed_dropped net rows path a ≡ false
+no_change_charged net rows path a other =
+    ap (λ (b : Bool). (b && not (kept_at (with_decisions net rows path) a) && not (has_passed (with_decisions net rows path) (activity_at net a).head)) && not (is_undecided_change net rows path a)) other
 
 -- where nothing is decided
 pub begins : (net : Net) (rows : RowsValue) (changes pairs charged : List Bool) (timetable : HeldTimetableValue) (cost : KeptCostValue) (moved : PlaceSetValue) (places : List ℕ) (path : List Decision) → path ≡ [] →

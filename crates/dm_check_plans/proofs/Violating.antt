@@ -1,8 +1,8 @@
 -- Which choices a timetable violates, by flags of what is undecided and by rows.
-use Rattle.std.proofs.Common.{◌≡◌, ℕ, suc, ◌<◌, Bool, true, false, ◌&&◌, List, [], ◌∷◌, length, get_or, refl, ap, ◌∙◌, arith, slice_index}
+use Rattle.std.proofs.Common.{◌≡◌, ℕ, suc, ◌+◌, ◌<◌, Bool, true, false, ◌&&◌, List, [], ◌∷◌, length, get_or, refl, sym, ap, subst, ◌∙◌, inl, inr, arith, slice_index}
 use Rattle.std.specs.Prelude.{sum_by, if◌then◌else◌}
 use Rattle.std.specs.List.{range_with_len}
-use Rattle.std.proofs.lemmas.Bool.{and_from, and_parts, false_from_ne_true, cond-true, cond-false}
+use Rattle.std.proofs.lemmas.Bool.{and_from, and_parts, cases_lt, false_from_ne_true, cond-true, cond-false}
 use Rattle.std.proofs.lemmas.List.Sums.{sum_by-cons, get_or-le-sum_by}
 use Rattle.std.proofs.lemmas.List.FromFn.{length-range_with_len, get_or-range_with_len}
 use Rattle.dm_network.specs.Net.{Net, activity_at, is_change}
@@ -20,6 +20,14 @@ use Rattle.dm_paths.proofs.Open.{violated_where, where_violated}
 use Rattle.dm_check_times.specs.Changes.{AreChangesTo}
 use Rattle.dm_paths.specs.Flags.{is_flagged, AreFlags}
 use Rattle.dm_check_plans.specs.Inside.Violations.{NoneFlagged, NoneFlaggedAmong, AreFlagsOfChanges}
+
+-- one more place that is not flagged, or does not meet the test
+pub next_flagged : (flags : List Bool) (test : ℕ → Bool) (n : ℕ) → NoneFlagged flags test n → (is_flagged flags n && test n) ≡ false → NoneFlagged flags test (n + 1)
+next_flagged flags test n none here k lt =
+    elim (cases_lt k n) [
+      | inl early ↦ none k early
+      | inr past ↦ let is : k ≡ n = omega arith in subst (λ (j : ℕ). (is_flagged flags j && test j) ≡ false) (sym is) here
+    ]
 
 -- a choice is violated exactly where it is flagged at its place and unkept there
 module _ (net : Net) (network : IsNetwork net) (rows : RowsValue) (path : List Decision) (x : List ℕ) (choice : Choice) (place : ChoicePlace) (is : IsPlaceOf net choice place)

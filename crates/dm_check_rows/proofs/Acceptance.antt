@@ -1,5 +1,5 @@
 -- Whether a message is accepted.
-use Rattle.std.proofs.Common.{IsTrue, length, slice_index, ◌≡◌, ℕ, Bool, false, List, Some, refl, sym, ap, subst, ◌∙◌, inl, inr, Result, Ok, Err}
+use Rattle.std.proofs.Common.{IsTrue, length, slice_index, ◌≡◌, ℕ, Bool, true, false, List, Some, refl, sym, ap, subst, ◌∙◌, inl, inr, Result, Ok, Err}
 use Rattle.std.specs.Prelude.{IfOk, OnOk}
 use Rattle.dm_network.specs.Net.{Net}
 use Rattle.dm_network.specs.Held.{ids_of}
@@ -11,12 +11,13 @@ use Rattle.dm_rows.specs.Rows.{RowsValue, IsSized}
 use Rattle.dm_rows.specs.Active.{HasNoCycle}
 use Rattle.dm_rows.specs.Resolve.{after, after_change, after_named, change_named}
 use Rattle.dm_rows.specs.Refuse.{RefusesAdmission, PassesAtOnce, IsNow}
-use Rattle.dm_check_rows.specs.Claims.{IsAccepted, IsKnownFree, IsKept, IsPriced, AreCheckedRowsOf, TellsAcceptance}
+use Rattle.dm_check_rows.specs.Claims.{IsAccepted, IsKnownFree, IsKept, IsPriced, IsNoted, AreCheckedRowsOf, TellsAcceptance}
+use Rattle.dm_schedule.specs.Schedule.{IsScheduleOf}
 use Rattle.dm_schedule.specs.declared.schedule.Scheduled.{Scheduled}
 use Rattle.dm_check_times.specs.KeptCosts.{KeptCostValue, IsKeptCostOf}
 use Rattle.dm_marks.specs.Places.{PlaceSetValue}
 use Rattle.dm_check_times.specs.Noting.{NotesMoves}
-use Rattle.dm_check_times.specs.Timetables.{KeptTimetableValue, IsRoomOf}
+use Rattle.dm_check_times.specs.Timetables.{KeptTimetableValue, IsRoomOf, IsSettledFor}
 use Rattle.dm_rows.specs.Harmless.{IsHarmless}
 use Rattle.dm_check_rows.proofs.AtOnce.{refuses_at_once}
 use Rattle.dm_rows.proofs.Harmless.{never_make_cycles}
@@ -59,6 +60,22 @@ entered net m change was now known stays kept still priced priced_still t new co
   priced = prices was is stands.priced;
   noted = λ yes e unmarked. ap (λ (x : List ℕ). slice_index x e) cost_times ∙ (stands.noted (noted yes) e unmarked ∙ ap (λ (x : List ℕ). slice_index x e) (sym times));
   as_many_moved = stands.as_many_moved;
+  settled = λ is. absurd cc;
+}
+
+-- rows whose least timetable is computed
+pub settles : (net : Net) (rows : RowsValue) (t : KeptTimetableValue) (cost : KeptCostValue) (moved : PlaceSetValue) (priced : Bool) (schedule : List Scheduled) → IsSized net rows → IsScheduleOf net schedule → IsKeptCostOf net cost → IsPriced net rows cost priced → IsNoted t cost moved priced → length moved.flags ≡ length net.events → IsSettledFor net rows t →
+    AreCheckedRowsOf net (record { rows = rows; is_free = true; is_kept = true; is_priced = priced; is_settled = false; schedule = schedule; timetable = t; kept_cost = cost; moved = moved })
+settles net rows t cost moved priced schedule sized scheduled is_cost is_priced noted as_many settled = record {
+  sized = sized;
+  free = λ _. settled.no_cycle;
+  schedule = scheduled;
+  room = settled.timetable.room;
+  kept = λ _. record { timetable = settled.timetable; agrees = settled.agrees };
+  cost = is_cost;
+  priced = is_priced;
+  noted = noted;
+  as_many_moved = as_many;
   settled = λ is. absurd cc;
 }
 

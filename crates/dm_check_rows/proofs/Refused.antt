@@ -1,13 +1,16 @@
 -- Whether a message is refused as it is said to be.
-use Rattle.std.proofs.Common.{◌≡◌, ℕ, Bool, true, false, subst, inl, inr}
+use Rattle.std.proofs.Common.{◌≡◌, ℕ, Bool, true, false, sym, subst, ◌⊎◌, inl, inr, Result, Ok, Err}
+use Rattle.std.specs.Prelude.{IfOk}
+use Rattle.dm_base.specs.declared.limits.TheConstants.{ENTRIES}
 use Rattle.dm_network.specs.Net.{Net}
 use Rattle.dm_rows.specs.declared.messages.Message.{Message}
 use Rattle.dm_rows.specs.declared.messages.Message.TheVariants as message
 use Rattle.dm_rows.specs.declared.messages.Refusal.{Refusal}
 use Rattle.dm_rows.specs.declared.messages.Refusal.TheVariants as refusal
 use Rattle.dm_rows.specs.Rows.{RowsValue}
+use Rattle.dm_rows.specs.Active.{HasNoCycle}
 use Rattle.dm_rows.specs.Resolve.{after}
-use Rattle.dm_rows.specs.Refuse.{Refuses, RefusesAtOnce, RefusesAdmission, IsAdopt}
+use Rattle.dm_rows.specs.Refuse.{Refuses, RefusesAtOnce, RefusesAdmission, PassesAtOnce, IsNow, IsAdopt}
 use Rattle.dm_feed.specs.Lines.{IsSaid}
 use Rattle.dm_check_rows.specs.Claims.{IsOfOneRow, Tells}
 use Rattle.dm_check_rows.proofs.AtOnce.{no_cycle_at_once, no_full_at_once, no_memory_at_once, refuses_at_once}
@@ -53,3 +56,16 @@ told_at_once net rows n m r s true said once same = subst (λ (x : Refusal). Ref
 told_at_once net rows n m r s false said once differs = λ other. differs (one_refusal net rows n m r s said once other)
 
 -- ---- after what nothing refuses at once
+
+no_cycle_then : (net : Net) (rows : RowsValue) (n : ℕ) (m : Message) → (IsNow m → ⊥) → Refuses net rows n m (refusal.Full ENTRIES) → HasNoCycle net (after net rows m)
+no_cycle_then net rows n m other refuses = by refuses.1
+  where
+    by : IsNow m ⊎ HasNoCycle net (after net rows m) → HasNoCycle net (after net rows m)
+    by (inl now) = absurd (other now)
+    by (inr none) = none
+
+pub full_told : {E : Type 0} (net : Net) (rows : RowsValue) (n : ℕ) (m : Message) (result : Result Bool E) → n ≡ ENTRIES → PassesAtOnce net rows m → (IsNow m → ⊥) →
+    IfOk result (Tells (HasNoCycle net (after net rows m))) → IfOk result (Tells (Refuses net rows n m (refusal.Full ENTRIES)))
+full_told net rows n m (Ok true) full passes other none = (passes, inr none, full, sym full)
+full_told net rows n m (Ok false) full passes other some = λ refuses. some (no_cycle_then net rows n m other refuses)
+full_told net rows n m (Err fault) full passes other told = tt

@@ -1,16 +1,16 @@
 -- Each step keeps the protocol of a deque.
-use Rattle.std.proofs.Common.{◌≡◌, ◌⊎◌, ℕ, ◌+◌, ◌-◌, ◌≤◌, Bool, true, false, cond, List, [], ◌∷◌, ◌++◌, set, All, refl, ap, sym, ◌∙◌, subst, arith, inl, inr, ⊎_elim}
+use Rattle.std.proofs.Common.{◌≡◌, ◌⊎◌, ℕ, zero, suc, ◌+◌, ◌-◌, ◌≤◌, Bool, true, false, cond, List, [], ◌∷◌, ◌++◌, set, All, refl, ap, sym, ◌∙◌, subst, arith, inl, inr, ⊎_elim}
 use Rattle.std.specs.List.{sum_by}
-use mathlib.Core.Option.{some}
+use mathlib.Core.Option.{some, some-injective, some-ne-none}
 use lib.ListN.{get_elem?}
-use Rattle.crossbeam_deque.specs.Tasks.{Pushes, Takes, Pops, Learns, Admits, Merges}
+use Rattle.crossbeam_deque.specs.Tasks.{Pushes, Takes, Pops, Finds, Learns, Admits, Merges}
 use Rattle.crossbeam_deque.proofs.Lists.{at_snoc}
 use Rattle.atomic_table.proofs.Lists.{set_else}
 use Rattle.std.proofs.lemmas.List.Elements.{All-nil, All-head, All-tail, All-push, All-cons}
 use Rattle.std.proofs.lemmas.List.Sums.{sum_by_push, sum_by-append}
-use Rattle.dm_deques.specs.Rule.{fresh, Balanced}
+use Rattle.dm_deques.specs.Rule.{fresh, Balanced, WasEmpty}
 use Rattle.dm_deques.specs.Deques.{having_put, having_taken, settled}
-use Rattle.dm_deques.specs.Steps.{HasPut, HasTaken, HasWhole}
+use Rattle.dm_deques.specs.Inside.Steps.{HasPut, HasTaken, HasWhole}
 use Rattle.dm_deques.specs.declared.account.Account.{Account}
 use Rattle.dm_base.proofs.Counts.{each_set, sum_set, sum_at, sum_lone}
 
@@ -45,6 +45,12 @@ module _ {T : Type 0} where
 module _ {T : Type 0} (fits : T → Type 0) where
   abbrev Holds : List T → List (Account T) → Type 0
   Holds = Balanced fits
+
+  pub opens : Holds [] (fresh true ∷ [])
+  opens = record { balance = λ h. refl; one_puts = refl; others = first; fit = All-nil fits } where
+    first : (i : ℕ) (v : Account T) → get_elem? (fresh true ∷ []) i ≡ some v → Bare v
+    first zero v e none = ap (λ (u : Account T). u.put) (sym (some-injective (fresh true) v e))
+    first (suc i) v e none = absurd (some-ne-none v (sym e))
 
   -- where one account changes by as much as the tasks do, what was balanced still is
   rebalanced : (port : ℕ) (v w : Account T) (before items : List T) (views : List (Account T)) → get_elem? views port ≡ some v → Holds before views → w.puts ≡ v.puts → Bare w
@@ -83,6 +89,9 @@ module _ {T : Type 0} (fits : T → Type 0) where
     taken_off port v xs items (xs ++ items) views at b (λ h. omega (arith, sum_by-append h xs items)) (all_right fits xs items b.fit),
     (refl, all_left fits xs items b.fit),
   )
+
+  pub finds : (port : ℕ) (v : Account T) → Finds Holds port v (WasEmpty fits v)
+  finds port v views b at = record { accounts = views; place = port; stands = at; balanced = b }
 
   pub admits : Admits Holds (fresh false)
   admits items views b =

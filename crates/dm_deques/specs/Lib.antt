@@ -1,6 +1,5 @@
--- What contracts see of owners, thieves and tallies: Deques. The rule that a deque keeps: Rule. What each step tells, and how these
--- are seen: Steps.
+-- What a reader must believe: Deques, Rule. What each step tells: Inside.
 pub mod Rule
 pub mod Deques
 pub mod Sharing
-pub mod Steps
+pub mod Inside

@@ -20,7 +20,7 @@ pub struct Owner<T: Drop, G: Grown<T>> {
 
 impl<T: Drop, G: Grown<T>> Model for Owner<T, G> {
     ghost use Rattle.dm_deques.specs.Deques.{TallyValue};
-    ghost use Rattle.dm_deques.specs.Steps.{owner_value, IsOwner};
+    ghost use Rattle.dm_deques.specs.Inside.Steps.{owner_value, IsOwner};
 
     ghost Value = { TallyValue T };
 
@@ -37,7 +37,7 @@ pub struct Thief<T: Drop, G: Grown<T>> {
 
 impl<T: Drop, G: Grown<T>> Model for Thief<T, G> {
     ghost use Rattle.atomic_blocks.specs.Lent.{RowsId};
-    ghost use Rattle.dm_deques.specs.Steps.{thief_deque};
+    ghost use Rattle.dm_deques.specs.Inside.Steps.{thief_deque};
 
     ghost Value = { RowsId };
 
@@ -52,7 +52,7 @@ pub struct Tally<T: Drop> {
 
 impl<T: Drop> Model for Tally<T> {
     ghost use Rattle.dm_deques.specs.Deques.{TallyValue};
-    ghost use Rattle.dm_deques.specs.Steps.{tally_value, IsTally};
+    ghost use Rattle.dm_deques.specs.Inside.Steps.{tally_value, IsTally};
 
     ghost Value = { TallyValue T };
 

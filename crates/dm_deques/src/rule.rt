@@ -32,7 +32,7 @@ impl<T, G: Grown<T>> Protocol<T, Account<T>> for Fair<G> {
 pub struct Put;
 
 impl<T> Outcome<T, Account<T>> for Put {
-    ghost use Rattle.dm_deques.specs.Steps.{HasPut};
+    ghost use Rattle.dm_deques.specs.Inside.Steps.{HasPut};
 
     ghost then = { HasPut };
 }
@@ -43,7 +43,7 @@ pub struct Take<G> {
 }
 
 impl<T, G: Grown<T>> Outcome<T, Account<T>> for Take<G> {
-    ghost use Rattle.dm_deques.specs.Steps.{HasTaken};
+    ghost use Rattle.dm_deques.specs.Inside.Steps.{HasTaken};
     ghost use Rattle.dm_deques.specs.Rule.{WasEmpty};
 
     ghost then = { HasTaken G.fits };
@@ -57,7 +57,7 @@ pub struct Steal<G> {
 }
 
 impl<T, G: Grown<T>> Outcome<T, Account<T>> for Steal<G> {
-    ghost use Rattle.dm_deques.specs.Steps.{HasTaken};
+    ghost use Rattle.dm_deques.specs.Inside.Steps.{HasTaken};
 
     ghost then = { HasTaken G.fits };
 }
@@ -66,7 +66,7 @@ impl<T, G: Grown<T>> Outcome<T, Account<T>> for Steal<G> {
 pub struct Whole;
 
 impl<T> Lesson<T, Account<T>> for Whole {
-    ghost use Rattle.dm_deques.specs.Steps.{HasWhole};
+    ghost use Rattle.dm_deques.specs.Inside.Steps.{HasWhole};
 
     ghost fact = { HasWhole };
 }

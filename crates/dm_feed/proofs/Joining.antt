@@ -4,12 +4,12 @@ use Rattle.std.specs.List.{onto_first, concat}
 use Rattle.std.proofs.lemmas.List.Elements.{All-head, All-tail}
 use Rattle.dm_feed.specs.declared.grammar.Heard.{Heard}
 use Rattle.dm_feed.specs.Lines.{Hears}
-use Rattle.dm_feed.specs.Feeds.{without_return, ended}
+use Rattle.dm_feed.specs.Feeds.{IsUnended, without_return, ended}
 use Rattle.dm_feed.specs.DueItems.{pieces_of, lines_among, lines_of, DueItem, item, AreDueItems}
 use Rattle.dm_feed.specs.Joined.{AreWhole, HearsFirst, AreItemsOfParts}
 use Rattle.dm_feed.specs.Laws.{AreJoined}
 use Rattle.dm_feed.specs.Inside.Passing.{EndsAt}
-use Rattle.dm_feed.proofs.Ahead.{some_piece, line_among, quiet_first, same_items, due_items}
+use Rattle.dm_feed.proofs.Ahead.{some_piece, line_among, line_more, quiet_first, same_items, due_items}
 use Rattle.dm_feed.proofs.Feeding.{rest_of}
 
 -- ---- the first line
@@ -54,6 +54,13 @@ lines_joined front rest (inr e) =
     ap (λ (l : List ℕ). lines_of (l ++ rest)) e.1
     ∙ (lines_behind e.0 rest
     ∙ (ap (λ (ls : List (List ℕ)). ls ++ lines_of rest) (sym (lines_alone e.0)) ∙ ap (λ (l : List ℕ). lines_of l ++ lines_of rest) (sym e.1)))
+
+-- one line more
+pub one_line : (line : List ℕ) → IsUnended line → lines_of (ended line) ≡ without_return line ∷ []
+one_line line h = ap lines_of (sym (append-nil (ended line))) ∙ line_more line [] h
+
+pub still_whole : (bytes line : List ℕ) → AreWhole (bytes ++ ended line)
+still_whole bytes line = inr (bytes ++ line, sym (append_assoc bytes line (10 ∷ [])))
 
 -- ---- their due items
 

@@ -16,8 +16,8 @@
 //! after want of memory a front of the piece was taken, and the others may be given again. `tail` tells what is there of
 //! the journal: all, the line that is torn and how many of its bytes there are, or the line that breaks its rule.
 //!
-//! Laws: the history of given bytes is one, and so is the broken line; a front of a true run's text has no broken line, and
-//! its history is a front of the run's.
+//! Laws: the history of given bytes is one, and so are the broken line and the tail; a front of a true run's text has no broken
+//! line, and its history is a front of the run's.
 #![tactic(auto)]
 
 mod entries;

@@ -10,6 +10,8 @@ use Rattle.dm_base.specs.declared.ids.ActId.{ActId}
 use Rattle.dm_lintim.specs.declared.fault.FileFault.{FileFault}
 use Rattle.dm_lintim.specs.Files.{ReadsEvents, ReadsActivities, ReadsDelays}
 use Rattle.dm_lintim.proofs.LawLemmas.{events_one, activities_one, delays_one}
+use Rattle.dm_network.specs.declared.parts.NetFault.{NetFault}
+use Rattle.dm_network.specs.declared.parts.NetFault.TheVariants.{TooMany, DoubleEvent, DoubleActivity, UnknownEvent as NamesUnknown, ZeroHeadway, Cycle, OutOfMemory as NoNetworkMemory}
 use Rattle.dm_network.specs.Net.{Net}
 use Rattle.dm_rows.specs.declared.messages.StartFault.{StartFault}
 use Rattle.dm_rows.specs.declared.messages.StartFault.TheVariants.{UnknownEvent, UnknownActivity, OutOfMemory}
@@ -178,6 +180,20 @@ module _ (net : Net) (events activities : List DelayRow) where
   start_one (Err f) (Ok y) p q = start_clash f p.1 p.0 q.events_known q.activities_known
   start_one (Err f) (Err g) p q = start_fault_one f g p.1 q.1 p.0 q.0
 
+same_fault : (f : NetFault) → SameFault f f
+same_fault TooMany = refl
+same_fault (DoubleEvent i) = refl
+same_fault (DoubleActivity i) = refl
+same_fault (NamesUnknown i) = refl
+same_fault (ZeroHeadway i) = refl
+same_fault (Cycle ids) = tt
+same_fault NoNetworkMemory = refl
+
+pub same_flaw : (f : InputFlaw) → SameFlaw f f
+same_flaw (InFile file why) = refl
+same_flaw (Network f) = same_fault f
+same_flaw (Start f) = refl
+
 -- ---- the whole
 
 module _ (told : Told) (asked : FilesAsked) (known : IsSome told) where
@@ -236,6 +252,9 @@ module _ (told : Told) (asked : FilesAsked) (known : IsSome told) where
   ]
 
   module _ (flaw : InputFlaw) (first : OpeningAnswer told asked (Err flaw)) where
+    place_events : EventsAnswer told asked (Err flaw) → stage_place (stage_of flaw) ≡ 0
+    place_events e = place_of_file (ReadsEvents asked.columns.events) (events_one asked.columns.events) told (file_name asked Events) Events flaw e
+
     place_activities : ActivitiesAnswer told asked (Err flaw) → stage_place (stage_of flaw) ≡ 1
     place_activities a = place_of_file (ReadsActivities asked.columns.activities) (activities_one asked.columns.activities) told (file_name asked Activities) Activities flaw a
 

@@ -1,15 +1,18 @@
 -- Listed events, and times that were published last.
-use Rattle.std.proofs.Common.{◌≡◌, ℕ, ◌+◌, ◌<◌, ◌≤◌, List, [], ◌∷◌, ◌++◌, length, get_or, refl, sym, ap, subst, ◌∙◌, inl, inr, arith}
+use Rattle.std.proofs.Common.{◌≡◌, ℕ, ◌+◌, ◌<◌, ◌≤◌, ◌⊎◌, List, [], ◌∷◌, ◌++◌, length, get_or, set, refl, sym, ap, subst, ◌∙◌, inl, inr, arith}
 use Rattle.std.specs.Prelude.{All, Contains}
 use Rattle.std.specs.List.{range_with_len}
-use Rattle.std.proofs.lemmas.List.{get_or-map, get_or_default, length-map}
+use Rattle.std.proofs.lemmas.Bool.{cases_eq}
+use Rattle.std.proofs.lemmas.Grind.{same_number_lists}
+use Rattle.std.proofs.lemmas.List.{get_or-map, get_or_default, length-map, length-set, get_or-set_same, get_or-set_other}
 use Rattle.std.proofs.lemmas.List.Elements.{All-map, Contains-get_or}
 use Rattle.std.proofs.lemmas.List.FromFn.{length-range_with_len, get_or-range_with_len, length-map-range_with_len, map-range_with_len_more}
 use Rattle.std.proofs.lemmas.List.Sorted.{All-permutation, Contains-permutation, length_permutation}
+use Rattle.dm_rows.specs.Timetable.{time_at}
 use Rattle.dm_network.specs.Net.{Net, event_at}
 use Rattle.dm_marks.specs.Moved.{ListsMoved}
 use Rattle.dm_publish.specs.declared.changes.Listed.{Listed}
-use Rattle.dm_publish.specs.Inside.Changes.{no_listed, StandsIn, ListsChanges}
+use Rattle.dm_publish.specs.Inside.Changes.{no_listed, place_at, StandsFrom, StandsIn, ListsChanges, AreWritten}
 use Rattle.dm_publish.specs.Inside.Grouping.{listed_at, lists, AreListed, AreGrouped}
 
 -- ---- events that are listed
@@ -85,3 +88,40 @@ module _ (net : Net) (places : List ℕ) (listed : List Listed) (h : AreListed n
         }
 
 -- ---- times that are written
+
+pub written_none : (last x : List ℕ) (listed : List Listed) → length last ≡ length x → ListsChanges last x listed → AreWritten last x listed 0
+written_none last x listed size h =
+    record { size = size; each = λ i lt. elim (h.each i lt) [ inl s ↦ inl s | inr l ↦ inr l.same ] }
+
+pub written_next : (now x : List ℕ) (listed : List Listed) (k p : ℕ) → p ≡ place_at listed k → k < length listed → p < length x → AreWritten now x listed k → AreWritten (set now p (time_at x p)) x listed (k + 1)
+written_next now x listed k p is within below h =
+    let size : length (set now p (time_at x p)) ≡ length now = length-set now p (time_at x p) in
+    let was = h.size in
+    record { size = size ∙ was; each = next }
+  where
+    next : (i : ℕ) → i < length x → StandsFrom listed (k + 1) i ⊎ (time_at (set now p (time_at x p)) i ≡ time_at x i)
+    next i lt =
+        let size = h.size in
+        elim (cases_eq i p) [
+          | inl same ↦ inr (subst (λ (j : ℕ). time_at (set now p (time_at x p)) j ≡ time_at x j) (sym same) (get_or-set_same now p (time_at x p) 0 (omega arith)))
+          | inr ne ↦ elim (h.each i lt) [
+            | inl s ↦ inl (later s ne)
+            | inr e ↦ inr (get_or-set_other now p i (time_at x p) 0 ne ∙ e)
+          ]
+        ]
+      where
+        later : StandsFrom listed k i → (i ≡ p → ⊥) → StandsFrom listed (k + 1) i
+        later s ne =
+            let from = s.from in
+            elim (cases_eq s.at k) [
+              | inl here ↦ absurd (ne (sym s.is ∙ (ap (place_at listed) here ∙ sym is)))
+              | inr other ↦ record { at = s.at; from = omega (arith, other); within = s.within; is = s.is }
+            ]
+
+pub written_all : (now x : List ℕ) (listed : List Listed) (k : ℕ) → k ≡ length listed → AreWritten now x listed k → now ≡ x
+written_all now x listed k over h =
+    let size = h.size in
+    same_number_lists now x h.size (λ i lt. elim (h.each i (omega arith)) [
+      | inl s ↦ let from = s.from in let within = s.within in absurd (omega arith)
+      | inr e ↦ e
+    ])
