@@ -32,10 +32,10 @@ goes_nowhere desk legal = record { setting = refl; later = ([], append-nil desk.
 
 -- ---- one item more
 
-abbrev line_in : DueItem → ℕ
+abbrev pub line_in : DueItem → ℕ
 line_in (item here heard) = here
 
-line_of_due : (x : LogItem) → line_in (due_of x) ≡ line_of x
+pub line_of_due : (x : LogItem) → line_in (due_of x) ≡ line_of x
 line_of_due (Malformed here) = refl
 line_of_due (Answered here said reply) = refl
 
@@ -44,7 +44,7 @@ low_last line n [] low all = low
 low_last line n (x ∷ items) low all =
     low_last (line_of x) n items (All-head (λ answered. line_of answered ≤ n) x items all) (All-tail (λ answered. line_of answered ≤ n) x items all)
 
-follows_between : (last first final : ℕ) (k : Kind) → last ≤ first → IsBetween first final k → Follows last k
+pub follows_between : (last first final : ℕ) (k : Kind) → last ≤ first → IsBetween first final k → Follows last k
 follows_between last first final free low between = tt
 follows_between last first final (told n) low between = omega (arith, between.0)
 follows_between last first final (entered n) low between = omega (arith, between.0)
@@ -76,7 +76,7 @@ on_and_on a b c one two = record {
   legal = two.legal;
 }
 
-more_then : (a b c : DeskValue) (one two : List LogItem) → AnswersMore a b one → AnswersMore b c two → AnswersMore a c (one ++ two)
+pub more_then : (a b c : DeskValue) (one two : List LogItem) → AnswersMore a b one → AnswersMore b c two → AnswersMore a c (one ++ two)
 more_then a b c one two first second =
     let up = no_shorter a.seen b.seen first.goes_on.later in
     let on = no_shorter b.seen c.seen second.goes_on.later in

@@ -2,5 +2,6 @@
 pub mod Desks
 pub mod Planning
 pub mod Answered
+pub mod Fed
 -- What the answer to one line does: checked, and not to be believed.
 pub mod Inside
