@@ -12,8 +12,8 @@ use crate::day::Day;
 use crate::sweeping::set_floors;
 use dm_base::Secs;
 use dm_priced::PricedTimetable;
-use dm_schedule::{Scheduled, scheduled_before};
 use dm_rows::floor_of;
+use dm_schedule::{Scheduled, scheduled_before};
 
 /// Gives each event its floor by the rows, where each had it by the same rows at an earlier clock. Unless the clock is taken
 /// back, an event that is scheduled at it or later has its floor already: a look at each other one finds those to change.

@@ -151,7 +151,11 @@ fn put_item<K: Sink>(sink: &mut K, page: &mut Page, item: &LogItem) -> Result<()
 
 /// Prints the items of a log, as they stand in a run's text of version 2, behind all that was printed through the page before. A
 /// write fault comes only where a write failed.
-pub fn put_items<K: Sink>(sink: &mut K, page: &mut Page, items: &[LogItem]) -> Result<(), WriteFault>
+pub fn put_items<K: Sink>(
+    sink: &mut K,
+    page: &mut Page,
+    items: &[LogItem],
+) -> Result<(), WriteFault>
     requires { All IsSpelledItem items.now }
     ensures { Prints K.taken K.faults sink.old sink.new page.old page.new result (flat_map (item_text 2) items.now) }
 {
