@@ -3,7 +3,7 @@
 
 A DAY is TRAINS:NUMBER, a day of bench/day.py after its 500 delays, or TRAINS:NUMBER:FROM:TO, the choices of a window of it, or
 SHAPE:NUMBER, a network of tools/shapes.py with delays of tools/scenarios.py. By default they are days of 20 to 2,000 trains with the
-numbers 1 to 9, and windows of 10, 20 and 40 minutes on days of 2,000 trains. The penalty is 3600 and a plan has 16,384 nodes. CBC and
+numbers 1 to 9, windows of 10, 20 and 40 minutes on days of 2,000 trains, and a day of each shape. The penalty is 3600 and a plan has 16,384 nodes. CBC and
 GLPK (Debian's coinor-cbc and glpk-utils) solve the programme of tools/to_mps.py, each for --limit seconds at most (60), CBC of processor,
 GLPK of the clock; GLPK with all of its cuts. Where one of them is not there its column says so.
 
@@ -44,6 +44,7 @@ SIZES = [20, 40, 100, 200, 500, 2000]
 WINDOWS = [(start, start + 60 * minutes) for minutes in (10, 20, 40) for start in (30_000, 50_000, 70_000)]
 USUAL = [f'{trains}:{number}' for trains in SIZES for number in range(1, 10)]
 USUAL += [f'2000:{number}:{start}:{end}' for start, end in WINDOWS for number in (1, 7)]
+USUAL += [f'{shape}:1' for shape in ('single', 'hub', 'ring', 'mesh')]
 SOLVERS = ('CBC', 'GLPK')
 
 

@@ -165,7 +165,7 @@ class Playing(InFolder):
     def test_window_each_time(self):
         net = read_network(network('connection'))
         played = Played(net, Rows(net), ahead=drawn_day(Lines(net), Drawing('line', 0, lambda draws: 60), 1, 1))
-        replanned(self.program, played, 100, 300, Replanning(100, 100))
+        replanned(self.program, played, 100, 300, Replanning(100, 100, back=100))
         self.assertEqual(self.program.judged(played.lines), 7)
         self.assertEqual(played.lines.count('first 5 3'), 1)
         self.assertGreater(read(self.folder, 'asked').count('--'), 2)
