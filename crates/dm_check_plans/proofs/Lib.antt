@@ -10,4 +10,3 @@ pub mod Visited
 pub mod Chosen
 pub mod Told
 pub mod Whole
-pub mod Walking
