@@ -1,9 +1,13 @@
 #!/usr/bin/env python3
-"""Tells a region's server what the boards of its neighbours show: relay.py BOUNDARY.. --region N [--feed FILE] < lines of boards
+"""Tells a region's server what the boards of its neighbours show:
+
+    mosquitto_sub -F '%t %p' -t board/M/+ .. | relay.py BOUNDARY.. --region N --topics --feed FILE
+    relay.py BOUNDARY.. --region N < lines of boards
 
 Each BOUNDARY is a table of cut activities that split.py makes of a region; those that lead into region N count. Lines `event; time`,
 as boards in files have them, or `event; time, event; time, ..`, as board.py writes them, are read from standard input as they come,
-those of all neighbours in any order. For each event of region N that has to wait, a line `delay event E D` is written at once, where
+those of all neighbours in any order. With --topics each line begins with the topic that it came on, board/M/S, and a space, and region
+M is believed for its own events alone. For each event of region N that has to wait, a line `delay event E D` is written at once, where
 D is by how much the least time that the told times and the bounds of the cut activities allow exceeds its schedule: a later time, and
 a correction down, too. Nothing is written where nothing changes, so a line that is told twice does no harm. One relay a region has to
 know all tables: a delay replaces the one before.
@@ -12,8 +16,8 @@ With --feed the lines are put behind those of a file, from which `tail -n +1 -f 
 puts its own. A relay that is started again reads there what the region was told before it. As long as it has not heard of all events
 that an event waits for, it tells no less than that. Without --feed the lines go to standard output, and nothing was told before.
 
-A line that is broken off is waited for. A line of another form, and one that asks for a delay above 1,000,000 seconds, is skipped; the
-first few are told on standard error, and at the end how many there were.
+A line that is broken off is waited for. A line of another form, a time that a region tells of an event of another, and one that asks
+for a delay above 1,000,000 seconds, is skipped; the first few are told on standard error, and at the end how many there were.
 """
 from __future__ import annotations
 
@@ -22,12 +26,13 @@ import os
 import re
 import sys
 from collections import defaultdict
-from typing import BinaryIO, Callable, Iterable, Iterator
+from dataclasses import dataclass
+from typing import BinaryIO, Callable, Iterable, Iterator, Optional
 
-from board import Skipped, times_of, whole_lines
+from board import NUMBER, Skipped, times_of, whole_lines
 from files import speak_utf8
 from railway import LARGEST_DELAY, BadFile, text_of
-from runtext import heard
+from runtext import heard as heard_in_feed
 from split import MOST_REGIONS, Cut
 from words import whole_between
 
@@ -39,10 +44,14 @@ def read_boundary(name: str) -> list[Cut]:
         if line.startswith('#') or not line.strip():
             continue
         fields = line.split(';')
-        if len(fields) != 5 or not all(re.fullmatch('[0-9]{1,20}', field) for field in fields):
-            raise BadFile(name, number, 'this is no record of five numbers')
+        if len(fields) != len(Cut._fields) or not all(re.fullmatch('[0-9]{1,20}', field) for field in fields):
+            raise BadFile(name, number, f'this is no record of {len(Cut._fields)} numbers')
         cuts.append(Cut(*map(int, fields)))
     return cuts
+
+
+# The topic of a board, with its region.
+TOPIC = re.compile(b'board/(%b)/[^ ]+ ' % NUMBER)
 
 
 class Relay:
@@ -76,15 +85,40 @@ class Relay:
                 yield there, delay
 
 
-def relay(told: Relay, file: BinaryIO, write: Callable[[str], None], skipped: Skipped) -> None:
+@dataclass
+class Heard:
+    """What a line tells: times of events, and the region that says so, where its topic tells."""
+    times: list[tuple[int, int]]
+    region: Optional[int] = None
+
+
+def heard_in(line: Optional[bytes], has_topic: bool) -> Optional[Heard]:
+    """What is heard in a line, or None where it is of another form."""
+    found = TOPIC.match(line or b'') if has_topic else None
+    times = times_of(line[found.end():] if found else line)
+    return None if times is None or has_topic and not found else Heard(times, int(found[1]) if found else None)
+
+
+def believed(told: Relay, heard: Heard, number: int, skipped: Skipped) -> Iterator[tuple[int, int]]:
+    """The times of a line that its region may tell."""
+    for event, time in heard.times:
+        cuts = told.behind.get(event, ())
+        if heard.region is None or all(cut.home == heard.region for cut in cuts):
+            yield event, time
+        else:
+            skipped.skip(number, f'region {heard.region} tells a time of event {event}, which is not its own')
+
+
+def relay(told: Relay, file: BinaryIO, has_topics: bool, write: Callable[[str], None], skipped: Skipped) -> None:
     """Writes what each line asks for."""
     number = 0
     for lines in whole_lines(file):
         for number, line in enumerate(lines, number + 1):
-            times = times_of(line)
-            if times is None:
-                skipped.skip(number, 'it is no line `event; time`')
-            for event, delay in told.tell(times or ()):
+            heard = heard_in(line, has_topics)
+            if heard is None:
+                skipped.skip(number, 'it is no line `event; time`' + (' behind a topic' if has_topics else ''))
+                continue
+            for event, delay in told.tell(believed(told, heard, number, skipped)):
                 if delay > LARGEST_DELAY:
                     skipped.skip(number, f'the delay of event {event} would be {delay} seconds, and may be {LARGEST_DELAY}')
                 else:
@@ -108,7 +142,7 @@ class FeedFile:
     def told(self) -> Iterator[tuple[int, int]]:
         """The delays of events that its lines tell."""
         for line in self.text.split('\n'):
-            said = heard(line.removesuffix('\r'))
+            said = heard_in_feed(line.removesuffix('\r'))
             if said is not None and said[0] == 'delay event' and said[2] <= LARGEST_DELAY:
                 yield said[1], said[2]
 
@@ -121,6 +155,7 @@ def main() -> None:
     words = argparse.ArgumentParser(description=__doc__, formatter_class=argparse.RawDescriptionHelpFormatter)
     words.add_argument('boundaries', metavar='BOUNDARY', nargs='+', help='a Boundary.csv of a neighbour')
     words.add_argument('--region', type=whole_between(1, MOST_REGIONS), required=True, metavar='N', help='the region that is told')
+    words.add_argument('--topics', action='store_true', help='each line begins with its topic, board/M/S')
     words.add_argument('--feed', metavar='FILE', help='the file of lines that feeds the region; standard output by default')
     given = words.parse_args()
     speak_utf8()
@@ -129,7 +164,7 @@ def main() -> None:
         cuts = [cut for name in given.boundaries for cut in read_boundary(name) if cut.region == given.region]
         feed = FeedFile(given.feed) if given.feed else None
         told = Relay(cuts, feed.told() if feed else ())
-        relay(told, sys.stdin.buffer, feed.write if feed else lambda line: print(line, end='', flush=True), skipped)
+        relay(told, sys.stdin.buffer, given.topics, feed.write if feed else lambda line: print(line, end='', flush=True), skipped)
     except BadFile as fault:
         print(f'relay.py: {fault}', file=sys.stderr)
         sys.exit(2)

@@ -6,9 +6,9 @@ stops may be cut, and every other one holds its events together; so the parts ar
 their least stops, are put together into N regions of about as many events each; without it each part is a region.
 
 DIR/region-1, region-2 and so on get a folder `net` with the two files of a network, and `Boundary.csv` with a record for each
-activity that was cut and whose tail is in the region: `event here;region there;event there;lower bound;scheduled time there`. No
-event is lost, and each activity stands in one region or in one table. A change that is cut is kept for ever, as a wait is: a table
-knows no choices.
+activity that was cut and whose tail is in the region: `event here;region here;region there;event there;lower bound;scheduled time
+there`. No event is lost, and each activity stands in one region or in one table. A change that is cut is kept for ever, as a wait
+is: a table knows no choices. More regions than there are parts are refused.
 
 A cut that would part the two events of a pair is refused, with the ids of its headways: status 2, as for files that are no network.
 """
@@ -26,8 +26,9 @@ MOST_REGIONS = 100_000
 
 
 class Cut(NamedTuple):
-    """An activity that was cut: the event at its tail here, and region, event, bound and schedule at its head."""
+    """An activity that was cut: the event at its tail and its region, and region, event, bound and schedule at its head."""
     here: int
+    home: int
     region: int
     there: int
     lower: int
@@ -115,12 +116,12 @@ def split(network, region_of):
             here.activities.append(activity)
         else:
             there = network.events[head]
-            here.cuts.append(Cut(activity.tail, region_of[head], there.id, activity.lower, there.time))
+            here.cuts.append(Cut(activity.tail, region_of[tail], region_of[head], there.id, activity.lower, there.time))
     return regions
 
 
 def boundary_text(cuts):
-    lines = ['# event here;region there;event there;lower bound;scheduled time there\n']
+    lines = ['# event here;region here;region there;event there;lower bound;scheduled time there\n']
     return ''.join(lines + [f'{";".join(map(str, cut))}\n' for cut in cuts])
 
 

@@ -173,7 +173,8 @@ class Region:
         open(self.lines, 'ab').close()
         boards = ','.join(map(str, self.stops))
         with open(self.text, 'wb') as out:
-            self.dispatcher = self.play.start([program, 'run', 'net', 'feed', '--batch=1', f'--boards={boards}'], cwd=self.folder, stdout=out)
+            words = [program, 'run', 'net', 'feed', '--batch=1', f'--boards={boards}']
+            self.dispatcher = self.play.start(words, cwd=self.folder, stdout=out)
         with open(feed, 'wb', buffering=0) as into:
             self.tail = self.play.start(['tail', '-n', '+1', '-f', self.lines], stdout=into)
         for at in self.stops:
@@ -187,10 +188,11 @@ class Region:
         """Starts what puts lines into the feed: those of the control room, and the relay that tells the neighbours' times."""
         with open(self.lines, 'ab', buffering=0) as lines:
             room = self.play.start(self.client('mosquitto_sub', 'feed', '-c', '-t', f'feed/{self.number}'), stdout=lines)
-        words = [sys.executable, os.path.join(TOOLS, 'relay.py'), *self.boundaries, '--region', str(self.number), '--feed', self.lines]
+        words = [sys.executable, os.path.join(TOOLS, 'relay.py'), *self.boundaries, '--region', str(self.number)]
+        words += ['--topics', '--feed', self.lines]
         boards = [word for other in self.neighbours for word in ('-t', f'board/{other}/+')]
         with open(self.said, 'ab') as said:
-            self.hearing = [room, *self.play.pipe(self.client('mosquitto_sub', 'relay', '-c', *boards), words, said=said)]
+            self.hearing = [room, *self.play.pipe(self.client('mosquitto_sub', 'relay', '-c', '-F', '%t %p', *boards), words, said=said)]
 
     def hear_no_more(self):
         stop(self.hearing)

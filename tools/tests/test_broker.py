@@ -16,7 +16,9 @@ sys.path.insert(0, os.path.join(TOP, 'examples', 'regions'))
 from play import Broker, stop  # noqa: E402
 
 IS_THERE = all(map(shutil.which, ('mosquitto', 'mosquitto_passwd', 'mosquitto_pub', 'mosquitto_sub')))
-CUTS = [Cut(1, 2, 9, 60, 1000), Cut(2, 2, 9, 30, 1000), Cut(3, 2, 10, 0, 1000)]
+CUTS = [Cut(1, 1, 2, 9, 60, 1000), Cut(2, 1, 2, 9, 30, 1000), Cut(3, 3, 2, 10, 0, 1000)]
+
+BOARDS = ['-q', '1', '-F', '%t %p', '-t', 'board/1/+', '-t', 'board/3/+']
 
 
 def free_port():
@@ -64,13 +66,16 @@ class OverBroker(unittest.TestCase):
 
     def relay(self):
         """Starts the relay of region 2."""
-        with open(self.name('Boundary.csv'), 'w', encoding='ascii') as file:
-            file.write(boundary_text(CUTS))
-        heard = self.start(self.broker.client('region-2', 'mosquitto_sub', '-i', 'relay-2', '-c', '-q', '1', '-t', 'board/1/+'), stdout=subprocess.PIPE)
-        words = [sys.executable, os.path.join(TOOLS, 'relay.py'), self.name('Boundary.csv'), '--region=2', '--feed', self.name('lines')]
-        relay = self.start(words, stdin=heard.stdout)
+        heard = self.start(self.broker.client('region-2', 'mosquitto_sub', '-i', 'relay-2', '-c', *BOARDS), stdout=subprocess.PIPE)
+        relay = self.start(self.relay_words(), stdin=heard.stdout)
         heard.stdout.close()
         return [heard, relay]
+
+    def relay_words(self):
+        with open(self.name('Boundary.csv'), 'w', encoding='ascii') as file:
+            file.write(boundary_text(CUTS))
+        words = ['--region=2', '--topics', '--feed', self.name('lines')]
+        return [sys.executable, os.path.join(TOOLS, 'relay.py'), self.name('Boundary.csv'), *words]
 
     def until(self, name, lines):
         """Waits until these lines stand in a file."""
@@ -89,18 +94,17 @@ class Away(OverBroker):
         stop(relay)
         # One board goes on and comes back, another is told for the first time; of one nothing is retained.
         self.say('region-1', 'board/1/6', '1; 1400, 2; 1270', '1; 900, 2; 900')
-        self.say('region-1', 'board/1/7', '3; 1005', words=())
+        self.say('region-3', 'board/3/7', '3; 1005, 1; 5000', words=())
         relay = self.relay()
         self.until_last({9: 0, 10: 5})
         stop(relay)
         # A relay that has never been there has the retained lines alone, and what the region was told.
         with open(self.name('lines'), 'w', encoding='ascii') as file:
             file.write('delay event 9 300\n')
-        command = self.broker.client('region-2', 'mosquitto_sub', '-q', '1', '-t', 'board/+/+', '-C', '1')
+        command = self.broker.client('region-2', 'mosquitto_sub', '-C', '1', *BOARDS)
         retained = subprocess.run(command, capture_output=True).stdout
-        self.assertEqual(retained, b'1; 900, 2; 900\n')
-        words = [sys.executable, os.path.join(TOOLS, 'relay.py'), self.name('Boundary.csv'), '--region=2', '--feed', self.name('lines')]
-        subprocess.run(words, input=retained, check=True)
+        self.assertEqual(retained, b'board/1/6 1; 900, 2; 900\n')
+        subprocess.run(self.relay_words(), input=retained, check=True)
         self.assertEqual(self.read('lines'), 'delay event 9 300\ndelay event 9 0\n')
 
     def until_last(self, due):

@@ -124,7 +124,7 @@ class Relays(unittest.TestCase):
             self.assertEqual(came, due)
 
 
-CUTS = [Cut(1, 2, 9, 60, 1000), Cut(2, 2, 9, 30, 1000), Cut(3, 2, 10, 0, 1000)]
+CUTS = [Cut(1, 1, 2, 9, 60, 1000), Cut(2, 1, 2, 9, 30, 1000), Cut(3, 3, 2, 10, 0, 1000)]
 
 
 class Lines(unittest.TestCase):
@@ -166,6 +166,19 @@ class Lines(unittest.TestCase):
         lines = said.splitlines()
         self.assertEqual((lines[0], lines[5:]), ('relay.py: line 1 is skipped: it is no line `event; time`', ['relay.py: lines skipped: 11']))
 
+    def test_a_region_is_believed_for_its_own_events_alone(self):
+        lines = [b'board/1/6 1; 950, 3; 1500, 77; 5', b'board/3/8 1; 1500, 3; 1007', b'board/2/6 2; 1500']
+        lines += [b'1; 1500', b'feed/1/x 1; 1500', b'board/1/6 ', b'']
+        out, said = self.relayed(b'\n'.join(lines), '--topics')
+        self.assertEqual(out, 'delay event 9 10\ndelay event 10 7\n')
+        self.assertEqual(said.splitlines()[:4], [
+            'relay.py: line 1 is skipped: region 1 tells a time of event 3, which is not its own',
+            'relay.py: line 2 is skipped: region 3 tells a time of event 1, which is not its own',
+            'relay.py: line 3 is skipped: region 2 tells a time of event 2, which is not its own',
+            'relay.py: line 4 is skipped: it is no line `event; time` behind a topic',
+        ])
+        self.assertEqual(said.splitlines()[-1], 'relay.py: lines skipped: 6')
+
     def test_delay_that_is_too_long_is_skipped(self):
         out, said = self.relayed(b'1; 99999999999\n1; 950\n')
         self.assertEqual(out, 'delay event 9 10\n')
@@ -174,7 +187,7 @@ class Lines(unittest.TestCase):
     def test_table_of_another_form(self):
         for field in '\u00b2', '9' * 5000, '-1', '':
             with open(self.table, 'w', encoding='latin-1') as file:
-                file.write(f'{boundary_text(CUTS)}1;2;{field};4;5\n')
+                file.write(f'{boundary_text(CUTS)}1;2;{field};4;5;6\n')
             with self.assertRaises(BadFile) as caught:
                 read_boundary(self.table)
             self.assertEqual(caught.exception.line, 5)
@@ -199,7 +212,8 @@ class Lines(unittest.TestCase):
         pipe = f'{self.feed}.pipe'
         os.mkfifo(pipe)
         for name in os.path.dirname(self.feed), os.path.join(self.feed, 'x'), pipe:
-            done = subprocess.run([sys.executable, os.path.join(TOOLS, 'relay.py'), self.table, '--region=2', '--feed', name], input=b'', capture_output=True)
+            words = [sys.executable, os.path.join(TOOLS, 'relay.py'), self.table, '--region=2', '--feed', name]
+            done = subprocess.run(words, input=b'', capture_output=True)
             self.assertEqual((done.returncode, done.stderr.count(b'\n')), (2, 1), done.stderr)
 
     def test_whole_boards(self):
