@@ -2,9 +2,10 @@
 import os
 import re
 
-from feeds import DATE, SMALL, write_feed
+from feeds import SMALL, write_feed
 from folders import read
 from gtfs import seconds_of
+from samples import lines_of_run
 from test_gtfs import InNetwork, trips_and_times
 
 import to_gtfs
@@ -15,14 +16,12 @@ class Back(InNetwork):
     def late(self, messages, *options):
         """What is said, and the lines of stop_times.txt, after the messages of a run over the network."""
         net = read_network(self.net)
-        rows, entries = Rows(net), []
-        for message in messages:
-            refusal, rows = admit(net, rows, len(entries), message)
+        rows = Rows(net)
+        for entries, message in enumerate(messages):
+            refusal, rows = admit(net, rows, entries, message)
             self.assertIsNone(refusal)
-            entries.append(f'entry {len(entries) + 1} feed 1 line {len(entries) + 1} {" ".join(map(str, message))}')
         times = times_of(net, rows)
-        lines = ['dm-run 2', 'penalty 0', 'feeds 1', f'entries {len(entries)}', *entries, 'feed 1 0', 'end', 'boards 0', 'times 0']
-        lines += [*(f'{event.id}; {time}' for event, time in zip(net.events, times)), f'cost {cost_of(net, rows, times, 0)}', 'done']
+        lines = lines_of_run(net, messages, times, cost_of(net, rows, times, 0))
         folder = write_feed(os.path.join(self.folder, f'run{len(os.listdir(self.folder))}'), {'text': lines})
         out = os.path.join(self.folder, 'late')
         status, said = self.call(to_gtfs, self.net, os.path.join(folder, 'text'), out, *options)

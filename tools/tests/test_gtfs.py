@@ -8,7 +8,7 @@ from unittest import mock
 
 from feeds import DATE, EXAMPLE, SHIPPED, SMALL, large_feed, write_feed, zipped
 from folders import InFolder, read
-from samples import CASES, TOP, network, text
+from samples import CASES, TOP, lines_of_run, network, text
 
 import from_gtfs
 import to_gtfs
@@ -400,10 +400,7 @@ class Back(InNetwork):
 
     def test_times_of_the_timetable_come_back_from_a_day_on_time(self):
         _, said = self.made({})
-        net = read_network(self.net)
-        lines = ['dm-run 2', 'penalty 0', 'feeds 1', 'entries 0', 'feed 1 0', 'end', 'boards 0', 'times 0']
-        lines += [*(f'{event.id}; {event.time}' for event in net.events), 'cost 0', 'done']
-        write_feed(os.path.join(self.folder, 'run'), {'text': lines})
+        write_feed(os.path.join(self.folder, 'run'), {'text': lines_of_run(read_network(self.net))})
         self.assertEqual(self.late(self.net, os.path.join(self.folder, 'run', 'text')), (0, ''))
         self.assertEqual(read(self.folder, 'late', 'stop_times.txt').splitlines(), SMALL['stop_times.txt'])
 

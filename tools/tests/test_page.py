@@ -8,7 +8,7 @@ import unittest
 
 from browser import CHROMIUM, MISSING, Browser
 from hostile import HOSTILE
-from samples import CASES, network, text
+from samples import CASES, lines_of_run, network, text
 
 from names import in_print
 from railway import Activity, Event, Network, network_files
@@ -16,13 +16,7 @@ from scene import read_scene
 from view import page
 
 DAY = os.path.join(CASES, 'networks', 'forty_trains', 'net')
-DAY_TEXT = text('text_of_two_control_rooms').replace('text_of_two_control_rooms/text', 'text_of_two_control_rooms/t')
-
-
-def text_on_time(net):
-    """The text of a run over a network in which nothing is told."""
-    lines = ['dm-run 2', 'penalty 0', 'feeds 1', 'entries 0', 'feed 1 0', 'end', 'boards 0', f'times {len(net.events)}']
-    return '\n'.join([*lines, *(f'{event.id}; {event.time}' for event in net.events), 'cost 0', 'done', ''])
+DAY_TEXT = os.path.join(CASES, 'runs', 'text_of_two_control_rooms', 't')
 
 
 def ten_lines():
@@ -162,7 +156,7 @@ class Reach(InBrowser):
     def test_trains_that_are_not_drawn_are_found_and_told(self):
         net = ten_lines()
         files = network_files(net.events, net.activities)
-        folder = self.written('ten', {**files, 'text': text_on_time(net), 'Trains.csv': '17;East 9;e9\n'})
+        folder = self.written('ten', {**files, 'text': '\n'.join([*lines_of_run(net), '']), 'Trains.csv': '17;East 9;e9\n'})
         self.show(folder, os.path.join(folder, 'text'))
         self.assertEqual(self.browser.value("document.querySelectorAll('#lines option').length"), 8)
         self.assertIn('These are the 8 busiest lines; there are more. 2 of 18 trains run on no line that is drawn',
@@ -175,7 +169,7 @@ class Reach(InBrowser):
 
     def test_a_network_without_events_has_a_page(self):
         net = Network([], [])
-        folder = self.written('empty', {**network_files([], []), 'text': text_on_time(net)})
+        folder = self.written('empty', {**network_files([], []), 'text': '\n'.join([*lines_of_run(net), ''])})
         self.show(folder, os.path.join(folder, 'text'))
         self.assertEqual(self.find('x'), 'Nothing is called “x”.')
 
