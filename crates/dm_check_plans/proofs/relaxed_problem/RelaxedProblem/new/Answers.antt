@@ -3,7 +3,7 @@ use Rattle.std.specs.Prelude.{replicate}
 use Rattle.std.proofs.lemmas.List.{length-replicate}
 use Rattle.dm_marks.specs.Places.{PlaceSetValue}
 use Rattle.dm_rows.specs.Relax.{is_relaxed_active}
-use Rattle.dm_check_times.specs.KeptCosts.{KeptCostValue, IsPricedFor}
+use Rattle.dm_check_times.specs.KeptCosts.{IsPricedFor}
 use Rattle.dm_check_plans.specs.Inside.RelaxedProblems.{IsRelaxedProblemOf}
 use Rattle.dm_paths.specs.Flags.{AreFlags, is_flagged}
 use Rattle.dm_check_plans.proofs.Turned.{begins}
@@ -14,10 +14,9 @@ returns-clause-problem c =
     let net = c.args.net.now in
     let rows = c.args.rows.now in
     let none : c.in_ok-charged.charged.items ≡ replicate c.activities.result false = search rules in
-    subst (λ (k : KeptCostValue). IsRelaxedProblemOf net rows (record { path = c.new.result.items; changes = c.in_ok-all_undecided.field-0.changes.items; pairs = c.in_ok-all_undecided.field-0.pairs.items; charged = c.in_ok-charged.charged.items; timetable = c.in_ok-new.field-0; kept_cost = k; moved = c.in_ok-new-2.field-0; is_noted = false; places = c.in_ok-changes_of.field-0.items })) (sym c.kept_cost.view_is)
-    (begins net rows _ _ c.in_ok-charged.charged.items c.in_ok-new.field-0 c.in_ok-kept_cost.kept_cost c.in_ok-new-2.field-0 c.in_ok-changes_of.field-0.items c.new.result.items c.new.ensures.items
+    begins net rows _ _ c.in_ok-charged.charged.items c.in_ok-new.field-0 c.in_ok-kept_cost.kept_cost c.in_ok-new-2.field-0 c.in_ok-changes_of.field-0.items c.new.result.items c.new.ensures.items
     c.in_ok-all_undecided.ensures.changes c.in_ok-all_undecided.ensures.pairs
     (none ∙ ap (λ (n : ℕ). replicate n false) c.activities.ensures.count) c.in_ok-new.ensures.timetable c.in_ok-new.ensures.rows
     (subst (λ (f : List Bool). AreFlags (is_relaxed_active net rows []) (length net.activities) f) (sym c.in_ok-new.ensures.held) c.in_ok-held.ensures) c.in_ok-kept_cost.ensures.kept
     (subst (λ (f : List Bool). IsPricedFor net rows (is_flagged f) c.in_ok-kept_cost.kept_cost) c.deref.ensures.value c.in_ok-kept_cost.ensures.priced) c.in_ok-changes_of.ensures
-    (ap (λ (set : PlaceSetValue). length set.flags) c.in_ok-new-2.ensures ∙ (length-replicate _ false ∙ c.events.ensures.count)))
+    (ap (λ (set : PlaceSetValue). length set.flags) c.in_ok-new-2.ensures ∙ (length-replicate _ false ∙ c.events.ensures.count))
