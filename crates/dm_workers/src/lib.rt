@@ -23,8 +23,8 @@
 //!
 //! A worker makes at most its share of branchings, (budget - 1) / (2 * workers), and all together at most about 64: a day that
 //! has not ended by then gains nothing from them. Where more than 64 choices are violated at the root they start and end, and
-//! expand no node. `search` waits for its threads, so it promises if it returns. A gate is passed at point 3 when a worker starts, 5 before each node that it expands, 4 when it ends,
-//! with the worker's number from 1.
+//! expand no node. `search` waits for its threads, so it promises if it returns. A gate is passed at point 3 when a worker starts,
+//! 5 before each node that it expands, 4 when it ends, with the worker's number from 1.
 #![tactic(auto)]
 
 mod expanding;
