@@ -46,8 +46,9 @@ impl Drop for AnsweredDay<'_> {
 
 /// Answers feeds over a server of these rows, at a penalty in seconds for each passenger, until each has ended, in rounds of so
 /// many lines a feed. Each feed may have so many plans. In a round each feed has a thread of its own where two or more are still
-/// read and one can be made; else the caller answers it. A feed that could not be opened is `None`. Boards are shown the times before the first round, and after each
-/// round those that have moved. Want of memory may come at any point up to the end of the last round.
+/// read and one can be made; else the caller answers it. A feed that could not be opened is `None`. Boards are shown the times
+/// before the first round, and after each round those that have moved. Want of memory may come at any point up to the end of the
+/// last round.
 pub fn answer_at_once<
     'n,
     R: Threads + Wait + Sync,
@@ -99,7 +100,7 @@ pub fn answer_at_once<
     Ok(AnsweredDay {
         table,
         logs,
-        publisher: display.into_publisher(),
+        publisher: display.publisher,
     })
 }
 

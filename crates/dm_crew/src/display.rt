@@ -16,6 +16,7 @@ use std::alloc::{AllocError, Global};
 use std::sync::Wait;
 
 /// What boards are shown: the publisher, and the times of one moment.
+#[derive(Drop)]
 pub struct Display<'n> {
     pub net: &'n Network,
     pub publisher: Publisher,
@@ -28,18 +29,6 @@ pub struct Display<'n> {
 
     /// Room for the places of events whose times have moved since.
     pub listed: Vec<usize>,
-}
-
-impl Drop for Display<'_> {
-    fn drop(self) {
-        let Display {
-            net: _,
-            publisher: _,
-            times: _,
-            entries: _,
-            listed: _,
-        } = self;
-    }
 }
 
 impl<'n> Display<'n> {
@@ -56,20 +45,6 @@ impl<'n> Display<'n> {
             entries: 0,
             listed: Vec::with_capacity(alloc, net.events())?,
         })
-    }
-
-    /// The publisher, with the notes of boards whose show has failed.
-    pub fn into_publisher(self) -> Publisher
-        ensures { result ≡ self.entry.publisher }
-    {
-        let Display {
-            net: _,
-            publisher,
-            times: _,
-            entries: _,
-            listed: _,
-        } = self;
-        publisher
     }
 
     /// Shows boards the times after the history that a pass then sees, whatever they have shown. Where there are none, nobody
