@@ -175,10 +175,10 @@ module _ (version plans : ℕ) (start : RowsValue) (run : Run) (text : List ℕ)
       omega (arith, within, entries_are)
 
 pub fronts_are_followed : FrontsAreFollowed
-fronts_are_followed version start run text front rest history is e followed =
-    let carries = carries_longer version start run text is front rest history e followed.carried in
+fronts_are_followed version plans start run text front rest history is e followed =
+    let carries = carries_longer version plans start run text is front rest history e followed.carried in
     record {
-      no_fault = λ k line fault. run_unbroken version start run text is k line
+      no_fault = λ k line fault. run_unbroken version plans start run text is k line
           (subst (λ (t : List ℕ). IsFrontFault run.net start run.penalty t k line) (sym e) (fault_stays run.net start run.penalty front rest k line fault));
-      front = carries_front run.net start run.penalty text history run.history (penalty_low version start run text is) (none_longer version start run text is history carries) carries (inr (run_stands version start run text is));
+      front = carries_front run.net start run.penalty text history run.history (penalty_low version plans start run text is) (none_longer version plans start run text is history carries) carries (inr (run_stands version plans start run text is));
     }
