@@ -2,10 +2,10 @@
 """Sets plans of the server beside solutions of CBC and GLPK: python3 bench/against.py DISPATCHER [DAY ..] [--limit=S] [--csv=FILE]
 
 A DAY is TRAINS:NUMBER, a day of bench/day.py after its 500 delays, or TRAINS:NUMBER:FROM:TO, the choices of a window of it, or
-SHAPE:NUMBER, a network of tools/shapes.py with delays of tools/scenarios.py. By default they are days of 20 to 2,000 trains with the
-numbers 1 to 9, windows of 10, 20 and 40 minutes on days of 2,000 trains, and a day of each shape. The penalty is 3600 and a plan has 16,384 nodes. CBC and
-GLPK (Debian's coinor-cbc and glpk-utils) solve the programme of tools/to_mps.py, each for --limit seconds at most (60), CBC of processor,
-GLPK of the clock; GLPK with all of its cuts. Where one of them is not there its column says so.
+SHAPE:NUMBER, a network of tools/shapes.py with delays as tools/scenarios.py draws them. By default they are days of 20 to 2,000
+trains with the numbers 1 to 9, windows of 10, 20 and 40 minutes on days of 2,000 trains, and a day of each shape. The penalty is 3600
+and a plan has 16,384 nodes. CBC and GLPK (Debian's coinor-cbc and glpk-utils) solve the programme of tools/to_mps.py, each for --limit
+seconds at most (60), CBC of processor, GLPK of the clock; GLPK with all of its cuts. Where one is not there its column says so.
 
 Each line of the table printed has the cost in millions, the bound and the gap where it is not proved to be the least, the seconds of
 processor (of a run with the plan less one without; of a window the whole command; of a solver without to_mps.py) and the most memory.

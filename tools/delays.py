@@ -12,7 +12,7 @@ from dataclasses import dataclass
 from random import Random
 from typing import Callable, NamedTuple
 
-from railway import BadFile, Network, text_of
+from railway import BadFile, Event, Network, text_of
 from scene import trains_of
 
 KINDS = ('delays', 'slow', 'blocked', 'line', 'mixed')
@@ -99,7 +99,7 @@ class Lines:
         times = [event.time for event in self.network.events]
         return min(times), max(times)
 
-    def tail(self, drive: int):
+    def tail(self, drive: int) -> Event:
         """The event at which a drive begins."""
         return self.network.events[self.network.tails[drive]]
 

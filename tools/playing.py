@@ -9,7 +9,7 @@ import os
 import resource
 import subprocess
 from dataclasses import dataclass, field
-from typing import Optional, Sequence
+from typing import Callable, Optional, Sequence
 
 from choices import choices_in
 from decide import in_turn, spoken
@@ -164,7 +164,10 @@ class Replanning:
     back: int = 3600
 
 
-def replanned(program: Program, played: Played, start: int, end: int, how: Replanning, watch=lambda now, entered: None) -> None:
+def replanned(
+    program: Program, played: Played, start: int, end: int, how: Replanning,
+    watch: Callable[[int, int], None] = lambda now, entered: None,
+) -> None:
     """Plays a day from one time to another; what is not told by the end is told then.
 
     Without a clock the feed of the day has no passed events; each question has those that matter, so that a day of any size fits.

@@ -15,7 +15,7 @@ from __future__ import annotations
 import heapq
 import math
 from dataclasses import dataclass
-from typing import Iterable, NamedTuple, Optional
+from typing import Callable, Iterable, NamedTuple, Optional
 
 from railway import (
     Network, Problem, Rows, active_activities, cost_charging, floor_of, free_choices, least_times, span_of,
@@ -237,7 +237,7 @@ def components(behind: list[list[Way]]) -> list[list[int]]:
     return found
 
 
-def caps_by_cost(times: Times):
+def caps_by_cost(times: Times) -> Callable[[int], float]:
     """A function from an event to a time behind which it makes choices cost more than the rows do."""
     problem, low = times.problem, times.low
     network = problem.network
