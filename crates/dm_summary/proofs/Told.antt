@@ -1,5 +1,8 @@
 -- The summary of a day from what its table tells.
-use Rattle.std.proofs.Common.{ℕ, ◌≡◌, ◌≤◌, List, [], length, sym, ap, ◌∙◌, subst, arith}
+use Rattle.std.proofs.Common.{ℕ, ◌≡◌, ◌≤◌, List, [], length, Option, None, sym, ap, ◌∙◌, subst, inl, inr, arith}
+use Rattle.std.specs.Prelude.{replicate}
+use Rattle.std.proofs.lemmas.Bool.{cases_lt}
+use Rattle.std.proofs.lemmas.List.{get_or_past, get_or-replicate, length-replicate}
 use Rattle.std.specs.List.{All}
 use Rattle.dm_gen.specs.Trains.{events_of}
 use Rattle.dm_gen.specs.Activities.{activities_of}
@@ -12,11 +15,11 @@ use Rattle.dm_network.specs.Build.{IsBuiltFrom}
 use Rattle.dm_network.specs.Net.{Net}
 use Rattle.dm_report.specs.declared.summaries.Summary.{Summary}
 use Rattle.dm_rows.specs.Cost.{cost_of}
-use Rattle.dm_rows.specs.Rows.{RowsValue, start_rows_of}
+use Rattle.dm_rows.specs.Rows.{RowsValue, passed_at, start_rows_of}
 use Rattle.dm_rows.specs.History.{rows_at, IsLegal}
 use Rattle.dm_table.specs.Value.{TableValue, IsTable}
 use Rattle.dm_summary.specs.Summed.{IsSummaryOf}
-use Rattle.dm_summary.specs.Inside.Lines.{IsOpened, HasEntered, IsSummaryIn, IsSummaryOver}
+use Rattle.dm_summary.specs.Inside.Lines.{IsOpened, HasEntered, IsSummaryIn, IsSummaryOver, NonePassed}
 
 pub summary_is : (number trains penalty : ℕ) (net : Net) (opened table : TableValue) (summary : Summary) → IsBuiltFrom (events_of trains) (activities_of trains) net
     → IsOpened net penalty opened → HasEntered opened (feed_of number trains) table → IsTable table → IsSummaryIn table summary → IsSummaryOf number trains penalty summary
@@ -60,3 +63,11 @@ lines_delay number trains net lines some built are = subst (All (DelaysEventOf n
 pub still_delay : (net : Net) (penalty : ℕ) (opened : TableValue) (lines : List Line) → IsOpened net penalty opened → All (DelaysEventOf net) lines
     → All (DelaysEventOf opened.network) lines
 still_delay net penalty opened lines o delays = subst (λ (n : Net). All (DelaysEventOf n) lines) (sym o.network) delays
+
+-- no event has passed where a day begins
+pub none_passed_at_start : (net : Net) (price : ℕ) (table : TableValue) → IsOpened net price table → NonePassed table.rows
+none_passed_at_start net price table o i =
+    ap (λ (r : RowsValue). passed_at r i) o.rows ∙ elim (cases_lt i (length net.events)) [
+      | inl below ↦ get_or-replicate (length net.events) i None None below
+      | inr past ↦ get_or_past (replicate (length net.events) None) i None (omega (arith, length-replicate {A = Option ℕ} (length net.events) None))
+    ]
