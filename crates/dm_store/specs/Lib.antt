@@ -1,0 +1,6 @@
+pub mod Blocks
+pub mod Calls
+pub mod Inside
+pub mod Journals
+pub mod Laws
+pub mod Worked

@@ -1,0 +1,253 @@
+//! A store over a real folder. Nothing is told of it.
+ghost use Rattle.std.specs.Prelude.{◌≡◌, ◌≤◌};
+ghost use Rattle.dm_outside.specs.Faults.{HasRisen};
+ghost use Rattle.dm_store.specs.Calls.{HasCause};
+
+use crate::{Store, StoreError};
+use std::alloc::{AllocError, Global};
+use std::fs::{File, OpenOptions};
+use std::io;
+use std::io::{Read as _, Seek as _, SeekFrom, Write as _};
+use std::marker::Model;
+use std::rt::Files;
+
+/// Why the store of a folder was not opened.
+#[derive(Clone, Copy, Debug, PartialEq, Eq)]
+pub enum OpenError {
+    /// There was no memory.
+    OutOfMemory,
+    /// Another server has the folder.
+    Locked,
+    /// The folder or a file of it cannot be opened or made.
+    Failed,
+}
+
+impl From<AllocError> for OpenError {
+    fn from(_: AllocError) -> OpenError {
+        OpenError::OutOfMemory
+    }
+}
+
+impl From<io::Error> for OpenError {
+    fn from(_: io::Error) -> OpenError {
+        OpenError::Failed
+    }
+}
+
+/// A store over a folder, with its files `lock`, `journal`, and `reply-1.txt` and so on. It keeps the lock as long as it
+/// lives.
+#[derive(Drop)]
+pub struct FileStore<R: Files<File = File> + Drop> {
+    files: R,
+    alloc: Global,
+    path: String,
+    folder: File,
+    lock: File,
+    journal: File,
+    replies: Vec<File>,
+    faults: u64,
+}
+
+impl<R: Files<File = File> + Drop> Model for FileStore<R> {
+    ghost use Rattle.std.specs.Prelude.{ℕ};
+
+    ghost Value = { ℕ };
+
+    ghost view = { λ store. store.faults };
+}
+
+/// Opens a file to read and to write, and makes it where it is not there.
+fn open_or_make<R: Files<File = File>>(files: &R, path: &str) -> io::Result<File> {
+    let mut how = OpenOptions::new();
+    how.read(true);
+    how.write(true);
+    how.create(true);
+    how.open(files, path)
+}
+
+/// Opens a file to append to it, and makes it where it is not there.
+fn open_to_append<R: Files<File = File>>(files: &R, path: &str) -> io::Result<File> {
+    let mut how = OpenOptions::new();
+    how.append(true);
+    how.create(true);
+    how.open(files, path)
+}
+
+/// All the bytes of a file.
+fn read_whole(alloc: Global, file: &mut File) -> Result<Vec<u8>, StoreError> {
+    let Ok(about) = file.metadata() else {
+        return Err(StoreError::Failed);
+    };
+    let Ok(len) = usize::try_from(about.len()) else {
+        return Err(StoreError::OutOfMemory);
+    };
+    let mut bytes = zeros(alloc, len)?;
+    let Ok(_) = file.seek(SeekFrom::Start(0)) else {
+        return Err(StoreError::Failed);
+    };
+    let Ok(()) = file.read_exact(&mut bytes) else {
+        return Err(StoreError::Failed);
+    };
+    Ok(bytes)
+}
+
+/// So many zeros.
+fn zeros(alloc: Global, len: usize) -> Result<Vec<u8>, AllocError> {
+    vec![in alloc; 0u8; len]
+}
+
+/// Writes the bytes from an offset on.
+fn write_from(file: &mut File, at: usize, bytes: &[u8]) -> io::Result<()> {
+    file.seek(SeekFrom::Start(at as u64))?;
+    file.write_all(bytes)
+}
+
+/// Puts a file anew: the text is written and synced under another name, which then takes the file's place.
+fn put_anew<R: Files<File = File>>(
+    files: &R,
+    folder: &File,
+    new: &str,
+    path: &str,
+    text: &[u8],
+) -> io::Result<File> {
+    let mut file = File::create(files, new)?;
+    file.write_all(text)?;
+    file.sync_all()?;
+    files.rename(new, path)?;
+    folder.sync_all()?;
+    open_to_append(files, path)
+}
+
+/// The path of the reply file of a feed; feeds count from 0 and files from 1.
+fn reply_path(alloc: Global, folder: &str, feed: usize) -> Result<String, AllocError> {
+    let file = feed as u128 + 1;
+    format!(in alloc; "{folder}/reply-{file}.txt")
+}
+
+impl<R: Files<File = File> + Drop> FileStore<R> {
+    /// Locks the folder and opens its files, of so many feeds; what is not there is made. `Locked` comes where another server
+    /// has it, and nothing but the lock's file was made then.
+    pub fn open(
+        alloc: Global,
+        files: R,
+        path: String,
+        feeds: u32,
+    ) -> Result<FileStore<R>, OpenError> {
+        let name = format!(in alloc; "{path}/lock")?;
+        let lock = open_or_make(&files, &name)?;
+        if lock.try_lock().is_err() {
+            return Err(OpenError::Locked);
+        }
+        let name = format!(in alloc; "{path}/journal")?;
+        let journal = open_or_make(&files, &name)?;
+        let mut replies = Vec::new(alloc);
+        for feed in 0..feeds {
+            let name = reply_path(alloc, &path, feed as usize)?;
+            replies
+                .push(open_to_append(&files, &name)?)
+                .map_err(AllocError::from)?;
+        }
+        let folder = File::open(&files, &path)?;
+        folder.sync_all()?;
+        Ok(FileStore {
+            files,
+            alloc,
+            path,
+            folder,
+            lock,
+            journal,
+            replies,
+            faults: 0,
+        })
+    }
+
+    // One fault more: the count stands at its last value.
+    fn fault(&mut self) -> StoreError
+        ensures failed { result ≡ StoreError.Failed }
+        ensures risen { HasRisen self.old self.new }
+        ensures later { self.old ≤ self.new }
+    {
+        self.faults = self.faults.saturating_add(1);
+        StoreError::Failed
+    }
+
+    // The answer of a call of the system.
+    fn told(&mut self, answer: io::Result<()>) -> Result<(), StoreError>
+        ensures { HasCause self.old self.new result }
+    {
+        match answer {
+            Ok(()) => Ok(()),
+            Err(_) => Err(self.fault()),
+        }
+    }
+}
+
+impl<R: Files<File = File> + Drop> Store for FileStore<R> {
+    ghost use Rattle.std.specs.Prelude.{[]};
+
+    ghost tells = { λ _. ⊥ };
+
+    ghost seen = { λ _. [] };
+
+    ghost shown = { λ _. [] };
+
+    ghost may_leave = { λ _ _. ⊥ };
+
+    ghost moment = { λ _. 0 };
+
+    ghost left_since = { λ _ _ _. ⊥ };
+
+    ghost faults = { λ count. count };
+
+    ghost shows_now = { λ store image told left. absurd told };
+
+    ghost counts_now = { λ store t image told le left. absurd told };
+
+    ghost only_now = { λ store image told left. absurd told };
+
+    fn read(&mut self, alloc: Global) -> Result<Vec<u8>, StoreError> {
+        match read_whole(alloc, &mut self.journal) {
+            Ok(bytes) => Ok(bytes),
+            Err(StoreError::OutOfMemory) => Err(StoreError::OutOfMemory),
+            Err(_) => Err(self.fault()),
+        }
+    }
+
+    fn write_at(&mut self, at: usize, bytes: &[u8]) -> Result<(), StoreError> {
+        let answer = write_from(&mut self.journal, at, bytes);
+        self.told(answer)
+    }
+
+    fn cut(&mut self, len: usize) -> Result<(), StoreError> {
+        let answer = self.journal.set_len(len as u64);
+        self.told(answer)
+    }
+
+    fn sync(&mut self) -> Result<(), StoreError> {
+        let answer = self.journal.sync_data();
+        self.told(answer)
+    }
+
+    fn show(&mut self, feed: usize, bytes: &[u8]) -> Result<(), StoreError> {
+        let Some(file) = self.replies.get_mut(feed) else {
+            return Err(self.fault());
+        };
+        let answer = file.write_all(bytes);
+        self.told(answer)
+    }
+
+    fn renew(&mut self, feed: usize, text: &[u8]) -> Result<(), StoreError> {
+        if feed >= self.replies.len() {
+            return Err(self.fault());
+        }
+        let path = reply_path(self.alloc, &self.path, feed)?;
+        let new = format!(in self.alloc; "{path}.new")?;
+        match put_anew(&self.files, &self.folder, &new, &path, text) {
+            Ok(file) => {
+                self.replies[feed] = file;
+                Ok(())
+            }
+            Err(_) => Err(self.fault()),
+        }
+    }
+}
