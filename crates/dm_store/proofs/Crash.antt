@@ -1,16 +1,16 @@
 -- What a crash leaves of a journal in each stage of a commit and of a recovery.
-use Rattle.std.proofs.Common.{◌≡◌, ◌≢◌, ◌⊎◌, inl, inr, ℕ, zero, suc, ◌+◌, ◌-◌, ◌^◌, ◌<◌, ◌≤◌, max, Bool, true, false, cond, not, ◌||◌, eqb, List, [], ◌∷◌, ◌++◌, length, get_or, take, drop, refl, sym, ◌∙◌, ap, subst, arith, append_assoc, append-nil, length-append, length-drop, take-append-drop}
+use Rattle.std.proofs.Common.{◌≡◌, ◌≢◌, inl, inr, ℕ, zero, suc, ◌+◌, ◌-◌, ◌^◌, ◌<◌, ◌≤◌, Bool, true, false, ◌||◌, eqb, List, [], ◌∷◌, ◌++◌, length, get_or, take, drop, refl, sym, ◌∙◌, ap, arith, append_assoc, append-nil, length-append, length-drop, take-append-drop}
 use Rattle.std.specs.Char.{is_ascii_digit, IsAsciiDigit}
 use Rattle.std.specs.Fmt.{decimal}
 use Rattle.std.specs.List.{flat_map}
-use Rattle.std.proofs.lemmas.Bool.{cases_eq, eq-eqb, ne_eqb}
+use Rattle.std.proofs.lemmas.Bool.{cases_eq, ne_eqb}
 use Rattle.std.proofs.lemmas.Bool.Decides.{nat_tests}
 use Rattle.std.proofs.lemmas.List.{take_at, drop_at, drop_more, take_all, drop_all, append_cancel_left}
 use Rattle.std.proofs.lemmas.Grind.{flat_map-append}
 use Rattle.std.proofs.Math.Seq.{take-append-add}
 use Rattle.dm_base.proofs.Decimals.{IsDigits-decimal}
-use Rattle.dm_store.specs.Blocks.{block, behind_gate, IsEnd, Stands, at_rest, is_new, is_crash_end}
-use Rattle.dm_store.specs.Calls.{Image, Torn, Cut, OnJournal, written}
+use Rattle.dm_store.specs.Blocks.{block, behind_gate, IsEnd, at_rest, is_new, is_crash_end}
+use Rattle.dm_store.specs.Calls.{Image, Torn, Cut, written}
 use Rattle.dm_store.specs.Journals.{HasCrashEnd, Keeps, IsBeforeOrAfter, StillKeeps}
 use Rattle.dm_store.specs.Inside.Stages.{Stepped}
 use Rattle.dm_store.proofs.Standing.{end_shut, end_short, end_front}

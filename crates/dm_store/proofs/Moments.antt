@@ -1,8 +1,8 @@
 -- What a crash leaves while a sequence of calls goes on.
-use Rattle.std.proofs.Common.{◌≡◌, ◌⊎◌, inl, inr, ⊎_elim, ℕ, ◌<◌, ◌≤◌, List, Result, OnOk, Err, refl, sym, ◌∙◌, subst, arith}
+use Rattle.std.proofs.Common.{◌≡◌, inl, inr, ⊎_elim, ℕ, ◌≤◌, List, ◌∙◌, subst, arith}
 use Rattle.dm_outside.specs.Faults.{HasRisen}
-use Rattle.dm_store.specs.Calls.{Image, OnJournal, After, Follows, AddsNone, LeavesJournal, Elapses, LeavesOnly, Goes}
-use Rattle.dm_store.specs.Inside.Stages.{IsSettled, Stepped}
+use Rattle.dm_store.specs.Calls.{Image, OnJournal, Elapses, LeavesOnly}
+use Rattle.dm_store.specs.Inside.Stages.{Stepped}
 
 -- a count that rose late has risen
 pub risen_late : (first before now : ℕ) → first ≤ before → HasRisen before now → HasRisen first now

@@ -1,11 +1,9 @@
 -- A block in front of a file: read where one stands there, and nowhere else.
-use Rattle.std.proofs.Common.{◌≡◌, ◌≢◌, ℕ, zero, suc, ◌+◌, ◌-◌, ◌^◌, ◌<◌, ◌≤◌, Bool, true, false, List, [], ◌∷◌, ◌++◌, codes, length, take, drop, Option, Some, None, Bor, MatchOption, refl, sym, ap, arith, ◌∙◌, append_assoc, length-append, take-append-drop}
-use Rattle.std.specs.Option.{option_map}
+use Rattle.std.proofs.Common.{◌≡◌, ℕ, ◌^◌, ◌<◌, ◌≤◌, List, ◌∷◌, ◌++◌, codes, length, Some, None, refl, sym, ap, arith, ◌∙◌, append_assoc, length-append}
 use Rattle.std.specs.Fmt.{decimal}
-use Rattle.std.proofs.lemmas.List.{take_at, drop_at, append_cancel_right}
 use Rattle.dm_text.specs.Inside.Parts.{behind, number_in_front}
 use Rattle.dm_text.proofs.Reading.{behind_back, behind_is, number_back, number_is}
-use Rattle.dm_store.specs.Blocks.{block, behind_gate, open_gate, IsEnd}
+use Rattle.dm_store.specs.Blocks.{block, behind_gate}
 
 none_some : {A : Type 0} {x : A} → None ≡ Some x → ⊥
 none_some e = cc

@@ -1,10 +1,10 @@
 -- What a crash leaves while a block is committed, and while a journal is recovered, one call after the other.
-use Rattle.std.proofs.Common.{◌≡◌, ℕ, ◌+◌, ◌<◌, ◌≤◌, ◌^◌, Bool, true, List, [], ◌∷◌, ◌++◌, length, take, Vec, Result, Ok, Err, Some, refl, sym, ◌∙◌, ap, subst, arith}
+use Rattle.std.proofs.Common.{◌≡◌, ℕ, ◌+◌, ◌<◌, ◌^◌, List, ◌++◌, length, Vec, Result, Ok, Err, Some, refl, sym, ◌∙◌, subst}
 use Rattle.std.specs.List.{flat_map}
 use Rattle.std.specs.Result.{IsErrAnd}
 use Rattle.std.specs.declared.alloc.Global.{Global}
-use Rattle.dm_store.specs.Blocks.{block, behind_gate, at_rest, IsEnd, Stands, refusal}
-use Rattle.dm_store.specs.Calls.{Image, Torn, Cut, LeavesJournal, LeavesOnly, AddsNone, Goes, IsOfStore, written}
+use Rattle.dm_store.specs.Blocks.{block, at_rest, IsEnd, refusal}
+use Rattle.dm_store.specs.Calls.{Image, Torn, Cut, LeavesJournal, LeavesOnly, AddsNone, Goes, IsOfStore}
 use Rattle.dm_store.specs.Journals.{IsFound, IsAtRest, IsBeforeOrAfter, StillKeeps, IsRefusal, IsJudged}
 use Rattle.dm_store.specs.Inside.Stages.{IsSettled, IsStage, Stepped, ReadsBlocks, IsRead}
 use Rattle.dm_store.specs.declared.faults.StoreError.{StoreError}

@@ -7,7 +7,6 @@ use Rattle.std.proofs.lemmas.List.{take_at, drop_at}
 use Rattle.std.proofs.lemmas.Grind.{flat_map-append}
 use Rattle.dm_text.specs.Inside.Parts.{behind, number_in_front}
 use Rattle.dm_store.specs.Blocks.{block, behind_gate, IsEnd, Stands, ReadsBlock, version, refusal, is_crash_end}
-use Rattle.dm_store.specs.declared.faults.StoreError.{StoreError}
 use Rattle.dm_store.specs.declared.faults.StoreError.TheVariants.{OtherVersion, Broken}
 use Rattle.dm_store.proofs.Reading.{Reads, block_reads, is_block}
 

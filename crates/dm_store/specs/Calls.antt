@@ -1,6 +1,6 @@
 -- What the calls of a store do, and what a crash at any moment may leave. A store is seen through functions that its trait
 -- names: what a read returns, what was shown, what a crash may leave, the moment, and the faults.
-use Rattle.std.specs.Prelude.{◌≡◌, ◌⊎◌, ℕ, ◌+◌, ◌<◌, ◌≤◌, max, List, [], ◌++◌, length, take, drop, Result, IsErrOf, IfErr, ⊤, slice_set, slice_index_or}
+use Rattle.std.specs.Prelude.{◌≡◌, ◌⊎◌, ℕ, ◌+◌, ◌≤◌, max, List, [], ◌++◌, length, take, drop, Result, IsErrOf, IfErr, ⊤, slice_set, slice_index_or}
 use Rattle.dm_outside.specs.Faults.{HasRisen}
 use Rattle.dm_store.specs.declared.faults.StoreError.{StoreError}
 use Rattle.dm_store.specs.declared.faults.StoreError.TheVariants.{OutOfMemory, Failed}

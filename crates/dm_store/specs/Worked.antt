@@ -1,5 +1,5 @@
 -- A journal of two blocks, as worked out by hand.
-use Rattle.std.specs.Prelude.{◌≡◌, ℕ, List, [], ◌∷◌, ◌++◌, codes}
+use Rattle.std.specs.Prelude.{◌≡◌, ℕ, List, [], ◌∷◌, codes}
 use Rattle.dm_store.specs.Blocks.{at_rest}
 
 -- the head, with the penalty, the plans of a feed and the number of feeds

@@ -5,7 +5,7 @@ ghost use Rattle.dm_store.specs.Calls.{HasCause};
 
 use crate::{Store, StoreError};
 use std::alloc::{AllocError, Global};
-use std::fs::{File, OpenOptions};
+use std::fs::{File, OpenOptions, TryLockError};
 use std::io;
 use std::io::{Read as _, Seek as _, SeekFrom, Write as _};
 use std::marker::Model;
@@ -135,8 +135,10 @@ impl<R: Files<File = File> + Drop> FileStore<R> {
     ) -> Result<FileStore<R>, OpenError> {
         let name = format!(in alloc; "{path}/lock")?;
         let lock = open_or_make(&files, &name)?;
-        if lock.try_lock().is_err() {
-            return Err(OpenError::Locked);
+        match lock.try_lock() {
+            Ok(()) => {}
+            Err(TryLockError::WouldBlock) => return Err(OpenError::Locked),
+            Err(TryLockError::Error(_)) => return Err(OpenError::Failed),
         }
         let name = format!(in alloc; "{path}/journal")?;
         let journal = open_or_make(&files, &name)?;

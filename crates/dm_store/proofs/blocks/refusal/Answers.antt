@@ -1,4 +1,4 @@
-use Rattle.std.proofs.Common.{◌<◌, ◌^◌, true, false, length, sym, arith}
+use Rattle.std.proofs.Common.{◌<◌, ◌^◌, true, false, length, arith}
 use Rattle.dm_store.proofs.Standing.{other_version, right_version}
 use Rattle.dm_store.proofs.blocks.refusal.Goals as goal
 

@@ -1,4 +1,4 @@
-use Rattle.std.proofs.Common.{◌≡◌, length, drop, refl, sym, ◌∙◌, ap}
+use Rattle.std.proofs.Common.{◌≡◌, length, refl, sym, ◌∙◌, ap}
 use Rattle.std.specs.List.{flat_map}
 use Rattle.std.proofs.lemmas.List.{take_rest}
 use Rattle.dm_store.specs.Blocks.{block, refusal}

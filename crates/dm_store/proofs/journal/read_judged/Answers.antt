@@ -1,4 +1,4 @@
-use Rattle.std.proofs.Common.{sym, ◌∙◌, subst}
+use Rattle.std.proofs.Common.{◌∙◌, subst}
 use Rattle.dm_store.specs.Inside.Stages.{ReadsBlocks}
 use Rattle.dm_store.proofs.Sequences.{read_stage, of_store}
 use Rattle.dm_store.proofs.journal.read_judged.Goals as goal

@@ -1,4 +1,4 @@
-use Rattle.std.proofs.Common.{◌≡◌, ◌+◌, ◌<◌, ◌≤◌, ◌^◌, [], ◌∷◌, ◌++◌, length, sym, ◌∙◌, ap, arith}
+use Rattle.std.proofs.Common.{◌+◌, ◌<◌, ◌≤◌, ◌^◌, [], ◌∷◌, ◌++◌, length, ◌∙◌, ap, arith}
 use Rattle.dm_store.specs.Blocks.{at_rest}
 use Rattle.dm_store.specs.Calls.{written}
 use Rattle.dm_store.proofs.Crash.{length-rest, with_block, length-with_block, written_behind, written_gate, length-one_more}

@@ -1,4 +1,4 @@
-use Rattle.std.proofs.Common.{◌≡◌, ◌≤◌, length, take, sym, ◌∙◌, ap, arith}
+use Rattle.std.proofs.Common.{◌≤◌, length, take, ◌∙◌, ap, arith}
 use Rattle.std.specs.List.{flat_map}
 use Rattle.dm_store.specs.Blocks.{block}
 use Rattle.dm_store.proofs.Crash.{blocks_fit, cut_done, written_end}
