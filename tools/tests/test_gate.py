@@ -45,7 +45,7 @@ class Processes(unittest.TestCase):
     def test_tests_and_edits_apart(self):
         meter, words = Meter(), ['rattle', 'check', '--crate-name', 'high', 'src/lib.rt']
         self.look(meter, (5, 1, (100, 0, 0, 0), [*words, '--test'], '/copy/crates/high'),
-                  (6, 1, (200, 0, 0, 0), words, '/tmp/rt-edit-4-abc'), (7, 1, (300, 0, 0, 0), words, '/tmp/rt-edit-4-def'))
+                  (6, 1, (200, 0, 0, 0), words, '/elsewhere/rt-edit-4-abc'), (7, 1, (300, 0, 0, 0), words, '/elsewhere/rt-edit-4-def'))
         self.assertEqual(meter.costs(), {'high': {'tests': 1.0, 'edits': 5.0}})
 
     def test_other_programs_and_other_runs_cost_nothing(self):
