@@ -1,0 +1,122 @@
+"""Compares the map of docs/ARCHITECTURE.md with crates.txt, and tells what differs.
+
+    python3 bench/architecture.py [--page FILE] [--crates FILE]
+
+Each crate of crates.txt must stand in the map, the page's block of lines `CRATE: CRATE..`, and must have one row in the page's table
+or be named in the paragraph that begins with `Tests:`. Each edge of the map must stand in that crate's line of crates.txt, and each
+crate of that line must be reached along edges of the map. The page must name no crate that crates.txt does not have. In a name two
+points stand for any letters: `dm_.._cases` is every crate of cases. Status 0 where nothing differs, else 1.
+"""
+
+import argparse
+import re
+import sys
+from collections import Counter
+from dataclasses import dataclass, field
+from pathlib import Path
+
+REPOSITORY = Path(__file__).resolve().parent.parent
+
+NAMED = re.compile(r"\bdm_(?:\w|\.\.(?=\w))+")
+CELL = re.compile(r"([\w.]+)(?::\s*(.*))?")
+ROW = re.compile(r"\| `(\w+)` \|")
+
+
+@dataclass
+class Page:
+    """What a page says of crates: the edges of its map, the crates of its table's rows and of its tests, and all that it names."""
+
+    edges: dict[str, set[str]] = field(default_factory=dict)
+    rows: list[str] = field(default_factory=list)
+    tests: set[str] = field(default_factory=set)
+    named: set[str] = field(default_factory=set)
+
+
+def crates_of(text: str) -> dict[str, set[str]]:
+    """The crates of a crates.txt, each with the crates of its line."""
+    crates: dict[str, set[str]] = {}
+    for line in text.splitlines():
+        head, colon, listed = line.partition(":")
+        if colon and not line.startswith("#"):
+            crates[head.split()[0]] = set(listed.split())
+    return crates
+
+
+def is_pattern(name: str) -> bool:
+    return ".." in name
+
+
+def covers(written: str, crate: str) -> bool:
+    """Whether the name, as a page writes it, is that of the crate or stands for it."""
+    return re.fullmatch(r"\w+".join(map(re.escape, written.split(".."))), crate) is not None
+
+
+def map_cells(line: str, crates: dict[str, set[str]]) -> list[tuple[str, set[str]]]:
+    """The crates of a line of the map with their edges; none of a line that is a heading."""
+    cells = []
+    for cell in re.split(r"\s{2,}", line.strip()):
+        found = CELL.fullmatch(cell)
+        if found and (found[1] in crates or found[1].startswith("dm_")):
+            cells.append((found[1], set() if is_pattern(found[1]) else set((found[2] or "").split())))
+    return cells
+
+
+def page_of(text: str, crates: dict[str, set[str]]) -> Page:
+    page = Page(named=set(NAMED.findall(text)))
+    in_block = in_tests = False
+    for line in text.splitlines():
+        if line.startswith("```"):
+            in_block = not in_block
+        elif in_block:
+            for name, edges in map_cells(line, crates):
+                page.edges.setdefault(name, set()).update(edges)
+        in_tests = bool(line) and (in_tests or line.startswith("Tests:"))
+        if in_tests:
+            page.tests.update(NAMED.findall(line))
+        if row := ROW.match(line):
+            page.rows.append(row[1])
+    return page
+
+
+def reached(page: Page, crate: str) -> set[str]:
+    """All crates to which the map's edges lead from one."""
+    found: set[str] = set()
+    left = [crate]
+    while left:
+        nearest = page.edges.get(left.pop(), set()) - found
+        found |= nearest
+        left += nearest
+    return found
+
+
+def differences(page: Page, crates: dict[str, set[str]]) -> list[str]:
+    """What differs, a line each."""
+    told = []
+    for crate, listed in crates.items():
+        if not any(covers(name, crate) for name in page.edges):
+            told.append(f"{crate} does not stand in the map")
+        if crate not in page.rows and not any(covers(name, crate) for name in page.tests):
+            told.append(f"{crate} has no row in the table and is not named among the tests")
+        if crate in page.edges:
+            told += [f"{crate} names {other}, to which no edges of the map lead" for other in sorted(listed - reached(page, crate))]
+    for name, edges in page.edges.items():
+        told += [f"the map draws {name}: {other}, which {name} does not name" for other in sorted(edges - crates.get(name, edges))]
+    told += [f"{name} has {rows} rows in the table" for name, rows in Counter(page.rows).items() if rows > 1]
+    unknown = {name for name in page.named | set(page.rows) if not any(covers(name, crate) for crate in crates)}
+    return told + [f"{name} is no crate" for name in sorted(unknown)]
+
+
+def main() -> int:
+    parser = argparse.ArgumentParser(description=__doc__, formatter_class=argparse.RawDescriptionHelpFormatter)
+    parser.add_argument("--page", type=Path, default=REPOSITORY / "docs/ARCHITECTURE.md")
+    parser.add_argument("--crates", type=Path, default=REPOSITORY / "crates.txt")
+    asked = parser.parse_args()
+    crates = crates_of(asked.crates.read_text(encoding="utf-8"))
+    told = differences(page_of(asked.page.read_text(encoding="utf-8"), crates), crates)
+    for line in told:
+        print(line)
+    return 1 if told else 0
+
+
+if __name__ == "__main__":
+    sys.exit(main())

@@ -1,0 +1,83 @@
+"""Where a page's map and table of crates differ from the list of crates."""
+import contextlib
+import io
+import os
+import sys
+import unittest
+from unittest import mock
+
+from folders import InFolder
+from samples import TOP
+
+sys.path.insert(0, os.path.join(TOP, 'bench'))
+
+import architecture
+
+CRATES = '''# Each crate, and the crates that it stands on.
+dm_low: csv
+dm_high may_wait=2: dm_low csv
+dm_high_cases: dm_high dm_low
+'''
+
+PAGE = '''# The map
+
+```text
+the ground: numbers
+
+dm_low: csv     dm_high: dm_low
+
+tests
+
+dm_.._cases: what their tests call
+```
+
+| Crate | What it gives |
+|---|---|
+| `dm_low` | numbers |
+| `dm_high` | `Sum`, over those of `dm_low` |
+
+Tests: `dm_high_cases`, with
+worked sums.
+'''
+
+
+class Compared(InFolder):
+    def compared(self, page=PAGE, crates=CRATES):
+        for name, text in (('page', page), ('crates', crates)):
+            with open(os.path.join(self.folder, name), 'w', encoding='utf-8') as file:
+                file.write(text)
+        words = ['architecture', '--page', os.path.join(self.folder, 'page'), '--crates', os.path.join(self.folder, 'crates')]
+        printed = io.StringIO()
+        with mock.patch.object(sys, 'argv', words), contextlib.redirect_stdout(printed):
+            status = architecture.main()
+        return status, printed.getvalue().splitlines()
+
+    def test_a_true_page(self):
+        self.assertEqual(self.compared(), (0, []))
+
+    def test_a_crate_that_the_page_forgets(self):
+        self.assertEqual(self.compared(crates=CRATES + 'dm_new: dm_low\n'), (1, [
+            'dm_new does not stand in the map', 'dm_new has no row in the table and is not named among the tests']))
+
+    def test_a_crate_that_went(self):
+        self.assertEqual(self.compared(page=PAGE.replace('numbers |', 'numbers, as `dm_old` had them |')), (1, ['dm_old is no crate']))
+
+    def test_an_edge_that_is_not_there(self):
+        self.assertEqual(self.compared(page=PAGE.replace('dm_low: csv ', 'dm_low: csv memchr ')), (1, [
+            'the map draws dm_low: memchr, which dm_low does not name']))
+
+    def test_a_crate_to_which_no_edge_leads(self):
+        self.assertEqual(self.compared(page=PAGE.replace('dm_high: dm_low', 'dm_high')), (1, [
+            'dm_high names csv, to which no edges of the map lead', 'dm_high names dm_low, to which no edges of the map lead']))
+
+    def test_a_row_twice(self):
+        self.assertEqual(self.compared(page=PAGE.replace('| `dm_high`', '| `dm_low` | digits |\n| `dm_high`')), (1, [
+            'dm_low has 2 rows in the table']))
+
+    def test_a_test_that_is_named_nowhere(self):
+        self.assertEqual(self.compared(page=PAGE.replace('`dm_high_cases`', 'programs')), (1, [
+            'dm_high_cases has no row in the table and is not named among the tests']))
+
+
+if __name__ == '__main__':
+    unittest.main()
