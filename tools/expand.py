@@ -8,17 +8,18 @@ from __future__ import annotations
 import graphlib
 from bisect import bisect_left
 from collections import Counter, defaultdict
-from dataclasses import dataclass, field
+from dataclasses import dataclass, field, replace
 from fractions import Fraction
-from itertools import islice
+from itertools import chain, islice
 from typing import Iterable, Iterator, NamedTuple, Optional
 
-from gtfs import Call, Day, Told, Transfers, Trip, clock
+from gtfs import Call, Day, End, Told, Transfer, Transfers, Trip, clock
 from railway import Activity, Event
 
 MOST_EVENTS = 100_000
 MOST_ACTIVITIES = 500_000
 ONE_PASSENGER = 1000
+WHOLE_DAY = 24 * 3600
 
 
 class Refused(Exception):
@@ -26,14 +27,35 @@ class Refused(Exception):
 
 
 @dataclass(frozen=True)
+class Headways:
+    """The seconds between departures: by two stations and the kind of vehicle, by two stations, by the kind, or else the usual ones.
+
+    What is not said of stations or of the kind is empty in a key; 0 seconds make none.
+    """
+    usual: int
+    said: dict[tuple[str, str, str], int] = field(default_factory=dict)
+
+    def between(self, start: str, end: str, kind: str) -> tuple[int, bool]:
+        """The seconds, and whether they are said."""
+        for key in (start, end, kind), (start, end, ''), ('', '', kind):
+            if key in self.said:
+                return self.said[key], True
+        return self.usual, False
+
+
+@dataclass(frozen=True)
 class Rules:
-    """How long activities take; times in seconds, shares of one. No headways are made where theirs is None."""
+    """How long activities take; times in seconds, shares of one. No headways are made where theirs are None.
+
+    `guaranteed` are the passengers of a guaranteed connection, in thousandths, or None where they are as those of other changes.
+    """
     reserve: Fraction
     dwell: int
     turn: int
     longest_change: int
-    headway: Optional[int]
+    headways: Optional[Headways]
     changing: Fraction
+    guaranteed: Optional[int] = None
 
 
 @dataclass(frozen=True)
@@ -69,6 +91,7 @@ class Train:
     repeats: bool
     is_exact: bool = True
     moments: list[Moment] = field(default_factory=list)
+    linked: set[str] = field(default_factory=set)
 
     @property
     def begins(self) -> int:
@@ -88,6 +111,8 @@ class Train:
 
     def shares_vehicle(self, other: Train) -> bool:
         block = self.trip.block
+        if other.name in self.linked:
+            return True
         return block != '' and block == other.trip.block and not (self.repeats or other.repeats)
 
 
@@ -99,12 +124,18 @@ class Moment:
     call: Call
     beyond: str
 
+    @property
+    def end(self) -> End:
+        trip = self.train.trip
+        return End(self.call.stop, trip.id, trip.route.id)
 
-def trains_of(day: Day, window: Window, notes: Notes) -> list[Train]:
-    """The trains of a day that run within a window, in the order in which they begin; Refused where they have too many events."""
+
+def trains_of(day: Day, before: Optional[Day], window: Window, notes: Notes) -> list[Train]:
+    """The trains of a day, and of the one before, that run within a window, in the order in which they begin; Refused where they have
+    too many events."""
     trains: list[Train] = []
     events: Counter[str] = Counter()
-    for train in all_trains(day, notes):
+    for train in chain(all_trains(day, notes), past_midnight(before, notes) if before else ()):
         if window.has(train):
             events[train.trip.route.id] += train.events
             if events.total() <= MOST_EVENTS:
@@ -140,11 +171,28 @@ def all_trains(day: Day, notes: Notes) -> Iterator[Train]:
                 yield Train(name, trip, start - trip.calls[0].departure, True, start in exact)
 
 
+def past_midnight(before: Day, notes: Notes) -> Iterator[Train]:
+    """The trains of the day before, from the first stop on that they leave past midnight, by the clock of the day."""
+    for train in all_trains(before, Notes()):
+        shift = train.shift - WHOLE_DAY
+        calls = [call for call in train.trip.calls if call.departure + shift >= 0]
+        if len(calls) > 1:
+            notes.besides['trains of the service day before that run past midnight'] += 1
+            notes.left_out['calls before midnight of trains of the service day before'] += len(train.trip.calls) - len(calls)
+            trip = train.trip
+            block = trip.block and f'{trip.block}@{trip.day_before}'
+            frequency = train.name.removeprefix(trip.id)
+            name = f'{trip.id}@{trip.day_before}{frequency}'
+            yield Train(name, replace(trip, calls=calls, block=block), shift, train.repeats, train.is_exact)
+
+
 @dataclass
 class Passengers:
-    """How many passengers leave a trip at a stop, in thousandths; one at each arrival where nothing is told."""
+    """How many passengers leave a trip at a stop, in thousandths, and how many of them change to another trip there; one at each arrival
+    and each change where nothing is told."""
     numbers: Optional[dict[tuple[str, str], int]] = None
-    used: set[tuple[str, str]] = field(default_factory=set)
+    changes: dict[tuple[str, str, str], int] = field(default_factory=dict)
+    used: set[tuple[str, ...]] = field(default_factory=set)
 
     def leaving(self, train: Train, call: Call, left: set[str], notes: Notes) -> int:
         """How many leave at a call, where passengers have left the train at some stops before."""
@@ -164,8 +212,21 @@ class Passengers:
         notes.besides['arrivals without a number of passengers, which count as none'] += 1
         return 0
 
-    def changing(self, arrival: Event, share: Fraction) -> int:
-        return ONE_PASSENGER if self.numbers is None else int(arrival.weight * share)
+    def changing(self, arrival: Moment, departure: Moment, rules: Rules, is_guaranteed: bool) -> int:
+        """How many change from an arrival to a departure."""
+        for train in arrival.train.name, arrival.train.trip.id:
+            for other in departure.train.name, departure.train.trip.id:
+                key = train, arrival.call.stop, other
+                if key in self.changes:
+                    self.used.add(key)
+                    return self.changes[key]
+        if is_guaranteed and rules.guaranteed is not None:
+            return rules.guaranteed
+        return ONE_PASSENGER if self.numbers is None else int(arrival.event.weight * rules.changing)
+
+    @property
+    def unused(self) -> int:
+        return len(self.numbers or ()) + len(self.changes) - len(self.used)
 
 
 def give_moments(trains: list[Train], stations: dict[str, str], passengers: Passengers, notes: Notes) -> dict[str, int]:
@@ -190,12 +251,13 @@ def give_moments(trains: list[Train], stations: dict[str, str], passengers: Pass
 
 
 class Link(NamedTuple):
-    """An activity that has no number yet, with its ends."""
+    """An activity that has no number yet, with its ends, and for a change where it came from."""
     kind: str
     tail: Moment
     head: Moment
     lower: int
     weight: int = 0
+    origin: str = ''
 
     @property
     def ends(self) -> tuple[int, int]:
@@ -217,8 +279,9 @@ def runs(trains: list[Train], rules: Rules) -> Iterator[Link]:
                 yield Link('wait', tail, head, min(rules.dwell, scheduled))
 
 
-def turnarounds(trains: list[Train], rules: Rules, notes: Notes) -> Iterator[Link]:
+def turnarounds(trains: list[Train], linked: list[Transfer], passengers: Passengers, rules: Rules, notes: Notes) -> Iterator[Link]:
     """From the last event of a train to the first of the next one with its vehicle."""
+    yield from linked_trips(trains, linked, passengers, rules, notes)
     blocks: dict[str, list[Train]] = defaultdict(list)
     for train in trains:
         if train.trip.block and train.repeats:
@@ -227,33 +290,153 @@ def turnarounds(trains: list[Train], rules: Rules, notes: Notes) -> Iterator[Lin
             blocks[train.trip.block].append(train)
     for block in blocks.values():
         for before, after in zip(block, block[1:]):
+            if after.name in before.linked:
+                continue
             if after.begins < before.ends:
                 notes.left_out['turnarounds between trips of a block that overlap'] += 1
                 continue
-            link = Link('turnaround', before.moments[-1], after.moments[0], min(rules.turn, after.begins - before.ends))
-            if link.tail.event.stop != link.head.event.stop:
-                notes.besides['turnarounds that lead from one station to another'] += 1
-            if link.lower < rules.turn:
-                notes.besides['turnarounds for which the timetable has less time than --turn'] += 1
-            yield link
+            yield turnaround(before, after, rules.turn, 0, notes)
+
+
+def turnaround(before: Train, after: Train, least: int, weight: int, notes: Notes) -> Link:
+    link = Link('turnaround', before.moments[-1], after.moments[0], min(least, after.begins - before.ends), weight)
+    if link.tail.event.stop != link.head.event.stop:
+        notes.besides['turnarounds that lead from one station to another'] += 1
+    if link.lower < least:
+        notes.besides['turnarounds for which the timetable has less time than --turn'] += 1
+    return link
+
+
+def linked_trips(trains: list[Train], linked: list[Transfer], passengers: Passengers, rules: Rules, notes: Notes) -> Iterator[Link]:
+    """Turnarounds between trips of one vehicle by transfers.txt: passengers stay in their seats (type 4), or have to get out (5)."""
+    by_trip = trains_by_trip(trains)
+    for row in linked:
+        pairs = same_day(by_trip, row)
+        if not pairs:
+            notes.left_out['rows of transfers.txt for trips that do not run, or are not chosen'] += 1
+        for before, after in pairs:
+            if before.repeats or after.repeats:
+                notes.left_out['turnarounds of trains that a frequency made'] += 1
+            elif after.begins < before.ends:
+                notes.left_out['in-seat transfers to trips that begin before the others end'] += 1
+            elif after.name not in before.linked:
+                before.linked.add(after.name)
+                after.linked.add(before.name)
+                rides = row.kind == 4
+                notes.besides['turnarounds that passengers ride' if rides else 'turnarounds of linked trips at which all get out'] += 1
+                link = turnaround(before, after, rules.dwell if rides else rules.turn, 0, notes)
+                yield link._replace(weight=passengers.changing(link.tail, link.head, rules, False) if rides else 0)
+
+
+def trains_by_trip(trains: list[Train]) -> dict[str, list[Train]]:
+    by_trip: dict[str, list[Train]] = defaultdict(list)
+    for train in trains:
+        by_trip[train.trip.id].append(train)
+    return by_trip
+
+
+def same_day(by_trip: dict[str, list[Train]], row: Transfer) -> list[tuple[Train, Train]]:
+    """The trains of the two trips of a row that are of the same service day."""
+    first, second = (by_trip.get(end.trip, []) for end in row.ends)
+    return [(one, other) for one in first for other in second if one.trip.day_before == other.trip.day_before]
+
+
+# ---- Changes
+
+Departures = dict[str, dict[tuple[str, str], list[Moment]]]
+
+
+@dataclass(frozen=True)
+class Changing:
+    """What changes are made of: the departures of each station by route and direction, and the rules."""
+    departures: Departures
+    passengers: Passengers
+    transfers: Transfers
+    rules: Rules
+
+    def link(self, arrival: Moment, departure: Moment, least: int, row: Optional[Transfer], is_guaranteed: bool = False) -> Link:
+        weight = self.passengers.changing(arrival, departure, self.rules, is_guaranteed)
+        origin = '--change' if row is None else f'transfers.txt, line {row.line}'
+        return Link('change', arrival, departure, least, weight, f'guaranteed: {origin}' if is_guaranteed else origin)
+
+    def stations_from(self, station: str) -> list[str]:
+        return [station, *sorted(self.transfers.walks.get(station, ()))]
 
 
 def changes(
-    trains: list[Train], stations: dict[str, str], passengers: Passengers, transfers: Transfers, rules: Rules,
+    trains: list[Train], stations: dict[str, str], passengers: Passengers, transfers: Transfers, rules: Rules, notes: Notes,
 ) -> Iterator[Link]:
-    """From each arrival to the next departure of each other route and direction at its station that can be reached."""
-    departures: dict[int, dict[tuple[str, str], list[Moment]]] = defaultdict(lambda: defaultdict(list))
+    """Guaranteed connections; and from each arrival to the next departure of each other route and direction that can be reached at its
+    station, or at one to which transfers lead."""
+    departures: Departures = defaultdict(lambda: defaultdict(list))
     for moment in sorted(moments(trains), key=time_of):
         if moment.event.kind == 'departure' and moment.call.boards:
-            trip = moment.train.trip
-            direction = trip.direction or stations[trip.calls[-1].stop]
-            departures[moment.event.stop][trip.route.id, direction].append(moment)
+            departures[stations[moment.call.stop]][towards(moment.train, stations)].append(moment)
+    changing = Changing(departures, passengers, transfers, rules)
+    promised: dict[int, list[Link]] = defaultdict(list)
+    for link in guaranteed(trains, changing, notes):
+        promised[link.tail.event.id].append(link)
     for arrival in moments(trains):
         if arrival.event.kind == 'arrival' and arrival.call.leaves:
-            for (route, _), others in departures[arrival.event.stop].items():
-                found = None if route == arrival.train.trip.route.id else next_departure(arrival, others, transfers, rules)
+            links = promised.get(arrival.event.id, [])
+            yield from links
+            yield from next_changes(arrival, changing, {towards(link.head.train, stations) for link in links})
+
+
+def towards(train: Train, stations: dict[str, str]) -> tuple[str, str]:
+    """The route of a train, and its direction or last station."""
+    trip = train.trip
+    return trip.route.id, trip.direction or stations[trip.calls[-1].stop]
+
+
+def next_changes(arrival: Moment, changing: Changing, done: set[tuple[str, str]]) -> Iterator[Link]:
+    """The changes from an arrival to the next departures, one for each route and direction that is not done."""
+    for station in changing.stations_from(changing.transfers.stations[arrival.call.stop]):
+        for way, others in changing.departures.get(station, {}).items():
+            if way[0] != arrival.train.trip.route.id and way not in done:
+                found = next_departure(arrival, others, changing.transfers, changing.rules)
                 if found is not None:
-                    yield Link('change', arrival, *found, passengers.changing(arrival.event, rules.changing))
+                    done.add(way)
+                    yield changing.link(arrival, *found)
+
+
+def guaranteed(trains: list[Train], changing: Changing, notes: Notes) -> Iterator[Link]:
+    """The connections between two trips that are guaranteed, each from an arrival to the first departure that is not before it."""
+    by_trip = trains_by_trip(trains)
+    for row in changing.transfers.promised:
+        pairs = same_day(by_trip, row)
+        if not pairs:
+            notes.left_out['rows of transfers.txt for trips that do not run, or are not chosen'] += 1
+        taken: set[int] = set()
+        for one, other in sorted(pairs, key=lambda pair: (pair[0].begins, pair[1].begins)):
+            found = met(one, other, row, changing)
+            if found is None or found[0].event.id in taken:
+                continue
+            arrival, departure = found
+            taken.add(arrival.event.id)
+            scheduled = departure.event.time - arrival.event.time
+            if row.least > scheduled:
+                notes.besides['guaranteed connections for which the timetable has less time than their min_transfer_time'] += 1
+            notes.besides['guaranteed connections'] += 1
+            yield changing.link(arrival, departure, min(row.least, scheduled), row, True)
+        if pairs and not taken:
+            notes.left_out['guaranteed connections at which the trains do not meet, or are one vehicle'] += 1
+
+
+def met(one: Train, other: Train, row: Transfer, changing: Changing) -> Optional[tuple[Moment, Moment]]:
+    """The first arrival of a train at the stop of a row, and the first departure of another one, not before it, from its stop there."""
+    stations = changing.transfers.stations
+
+    def at(moment: Moment, kind: str, stop: str) -> bool:
+        return moment.event.kind == kind and stop in (moment.call.stop, stations[moment.call.stop])
+
+    if one is other or one.shares_vehicle(other):
+        return None
+    for arrival in one.moments:
+        for departure in other.moments if at(arrival, 'arrival', row.ends[0].stop) and arrival.call.leaves else ():
+            if at(departure, 'departure', row.ends[1].stop) and departure.call.boards and departure.event.time >= arrival.event.time:
+                return arrival, departure
+    return None
 
 
 def moments(trains: list[Train]) -> Iterator[Moment]:
@@ -267,16 +450,17 @@ def time_of(moment: Moment) -> int:
 
 def next_departure(
     arrival: Moment, departures: list[Moment], transfers: Transfers, rules: Rules,
-) -> Optional[tuple[Moment, int]]:
-    """The first of these departures that an arrival reaches, and how long the change takes at least."""
+) -> Optional[tuple[Moment, int, Optional[Transfer]]]:
+    """The first of these departures that an arrival reaches, how long the change takes at least, and the row that says so."""
+    end = arrival.end
     for place in range(bisect_left(departures, arrival.event.time, key=time_of), len(departures)):
         departure = departures[place]
         scheduled = departure.event.time - arrival.event.time
         if scheduled > rules.longest_change:
             return None
-        least = transfers.between(arrival.call.stop, departure.call.stop)
+        least, row = transfers.between(end, departure.end)
         if least is not None and least <= scheduled and not leads_back(arrival, departure):
-            return departure, least
+            return departure, least, row
     return None
 
 
@@ -285,24 +469,33 @@ def leads_back(arrival: Moment, departure: Moment) -> bool:
     return departure.beyond == arrival.beyond or arrival.train.shares_vehicle(departure.train)
 
 
-def headways(trains: list[Train], headway: int, notes: Notes) -> Iterator[Link]:
+def headways(trains: list[Train], stations: dict[str, str], rule: Headways, notes: Notes) -> Iterator[Link]:
     """Both ways between departures of one kind of vehicle that follow each other from one station to the next."""
-    legs: dict[tuple[int, str, str], list[Moment]] = defaultdict(list)
+    legs: dict[tuple[str, str, str], list[Moment]] = defaultdict(list)
     for moment in sorted(moments(trains), key=time_of):
         if moment.event.kind == 'departure':
-            legs[moment.event.stop, moment.beyond, moment.train.trip.route.kind].append(moment)
-    for leg in legs.values():
-        for first, second in zip(leg, leg[1:]):
-            if first.train is second.train or first.train.shares_vehicle(second.train):
-                notes.left_out['headways between two trips of one vehicle'] += 1
-            elif first.event.time == second.event.time:
-                notes.left_out['headways between departures at the same time'] += 1
-            else:
-                lower = min(headway, second.event.time - first.event.time)
-                if lower < headway:
-                    notes.besides['headways for which the timetable has less time than --headway'] += 1
-                yield Link('headway', first, second, lower)
-                yield Link('headway', second, first, lower)
+            legs[stations[moment.call.stop], moment.beyond, moment.train.trip.route.kind].append(moment)
+    for ends, leg in legs.items():
+        headway, is_said = rule.between(*ends)
+        if headway:
+            yield from headways_of(leg, headway, is_said, notes)
+        else:
+            notes.left_out['stretches for which --headways says 0 seconds'] += 1
+
+
+def headways_of(leg: list[Moment], headway: int, is_said: bool, notes: Notes) -> Iterator[Link]:
+    for first, second in zip(leg, leg[1:]):
+        if first.train is second.train or first.train.shares_vehicle(second.train):
+            notes.left_out['headways between two trips of one vehicle'] += 1
+        elif first.event.time == second.event.time:
+            notes.left_out['headways between departures at the same time'] += 1
+        else:
+            lower = min(headway, second.event.time - first.event.time)
+            if lower < headway:
+                notes.besides['headways for which the timetable has less time than --headway'] += 1
+            notes.besides['pairs of headways as --headways says'] += is_said
+            yield Link('headway', first, second, lower)
+            yield Link('headway', second, first, lower)
 
 
 def without_circles(links: list[Link], notes: Notes) -> list[Link]:
@@ -328,11 +521,12 @@ def without_circles(links: list[Link], notes: Notes) -> list[Link]:
 
 @dataclass
 class Expanded:
-    """The network of trains, the number of each station, and how many changes begin at each."""
+    """The network of trains, the number of each station, the changes by number, and how many begin at each station."""
     trains: list[Train]
     stations: dict[str, int]
     events: list[Event]
     activities: list[Activity]
+    changes: list[tuple[int, Link]]
     changes_at: Counter[int]
 
 
@@ -341,10 +535,10 @@ def expand(
 ) -> Expanded:
     """The network of trains; Refused where it has too many activities."""
     numbers = give_moments(trains, stations, passengers, notes)
-    links = [*runs(trains, rules), *turnarounds(trains, rules, notes)]
-    links += some(changes(trains, stations, passengers, transfers, rules))
-    if rules.headway is not None:
-        links += some(headways(trains, rules.headway, notes))
+    links = [*runs(trains, rules), *turnarounds(trains, transfers.linked, passengers, rules, notes)]
+    links += some(changes(trains, stations, passengers, transfers, rules, notes))
+    if rules.headways is not None:
+        links += some(headways(trains, stations, rules.headways, notes))
     links = without_circles(links, notes)
     if len(links) > MOST_ACTIVITIES:
         raise Refused(
@@ -355,8 +549,9 @@ def expand(
         Activity(number, link.kind, *link.ends, link.lower, link.weight)
         for number, link in enumerate(links, 1)
     ]
-    changes_at = Counter(link.tail.event.stop for link in links if link.kind == 'change')
-    return Expanded(trains, numbers, [moment.event for moment in moments(trains)], activities, changes_at)
+    numbered = [(number, link) for number, link in enumerate(links, 1) if link.kind == 'change']
+    changes_at = Counter(link.tail.event.stop for _, link in numbered)
+    return Expanded(trains, numbers, [moment.event for moment in moments(trains)], activities, numbered, changes_at)
 
 
 def some(links: Iterable[Link]) -> Iterator[Link]:

@@ -4,20 +4,24 @@
     python3 tools/from_gtfs.py FEED DATE DIR [OPTION..]
 
 FEED is a zip file or a folder, and DATE a service day, as 20261128. DIR gets the two files of a network, Events-expanded.giv and
-Activities-expanded.giv, and three files that say what its numbers stand for: Stops.csv, Events.csv and Trains.csv. A service day
-runs past midnight, and its times count on: 25:10:00. A trip of frequencies.txt becomes one train for each departure, named as
-TRIP@06:30:00.
+Activities-expanded.giv, and files that say what its numbers stand for: Stops.csv, Events.csv, Trains.csv, Changes.csv and Day.csv. A
+service day runs past midnight, and its times count on: 25:10:00. A trip of frequencies.txt becomes one train for each departure, named
+as TRIP@06:30:00. With --day-before the trains of the service day before that run past midnight are there, from their first stop behind
+it on, named as TRIP@20261127.
 
   events       each departure and arrival of a trip; a stop of the network is a station (parent_station)
   drives       at least the scheduled time less --reserve
   waits        at least --dwell seconds, or the scheduled ones where these are fewer
-  turnarounds  between trips of one block_id, at least --turn seconds, or the scheduled ones where these are fewer
-  changes      from an arrival to the next departure of each other route and direction at the station that leaves at most
-               --longest-change seconds later and not before the change is made, which takes the min_transfer_time of
-               transfers.txt or else --change seconds; never to a train of the same route or vehicle, nor to one that goes next to
-               the station from which the arriving train has come
+  turnarounds  between trips of one block_id, at least --turn seconds, or the scheduled ones where these are fewer; and between
+               trips that transfers.txt links: where passengers stay in their seats (type 4) --dwell seconds are enough
+  changes      from an arrival to the next departure of each other route and direction at the station, or at one to which
+               transfers.txt leads, that leaves at most --longest-change seconds later and not before the change is made, which takes
+               the min_transfer_time of transfers.txt or else --change seconds; never to a train of the same route or vehicle, nor to
+               one that goes next to the station from which the arriving train has come. Of rows of transfers.txt those for trips go
+               before those for routes, and these before those for stops. A row of type 1 for two trips is a guaranteed connection:
+               it is made whatever the routes are and however long it takes
   headways     both ways between departures of one kind of vehicle (rail, bus ..) that follow each other from one station to the
-               next, --headway seconds, or the scheduled ones where these are fewer
+               next, --headway seconds, those of --headways, or the scheduled ones where these are fewer
 
 What a feed has and a network cannot hold is told on standard error, with how many there are of everything. The status is 0; or 2,
 and no file is written, where the words or the feed are not as they should be, or where the network would be too large.
@@ -29,18 +33,18 @@ import re
 import sys
 from collections import Counter
 from dataclasses import dataclass
-from datetime import date
+from datetime import date, timedelta
 from fractions import Fraction
 from typing import Iterator, Optional, Sequence
 
-from expand import Expanded, Notes, Passengers, Refused, Rules, Window, expand, trains_of
+from expand import Expanded, Headways, Link, Notes, Passengers, Refused, Rules, Window, expand, trains_of
 from files import write_all
 from gtfs import (
-    TYPES, Feed, Route, Stops, clock, date_of, read_day, read_routes, read_rows, read_services, read_stops,
-    read_transfers, told_as,
+    TYPES, Day, Feed, Route, Stops, clock, date_of, read_day, read_routes, read_rows, read_services, read_stops,
+    read_transfers, read_zone, told_as,
 )
-from names import EventName, StopName, TrainName, in_print
-from railway import KINDS, BadFile, in_one_line, network_files
+from names import ChangeName, DayName, EventName, StopName, TrainName, in_print
+from railway import KINDS, BadFile, decimal, in_one_line, network_files
 from words import time_of_day, whole_between
 
 LONGEST_BOUND = 1_000_000
@@ -49,6 +53,9 @@ STATIONS_SHOWN = 20
 
 # The longest line that is told.
 LONGEST_LINE = 1000
+
+# The columns of Changes.csv.
+CHANGES = ('id', 'from trip', 'to trip', 'stop', 'bound', 'weight', 'came from', 'to stop')
 
 # Later than all times of a day.
 EVER = 10 ** 9
@@ -108,8 +115,12 @@ def add_choices(words: argparse.ArgumentParser) -> None:
     words.add_argument('--routes', metavar='NAMES', type=names_of_routes, help='routes by id or short name, with commas (all)')
     words.add_argument('--from', metavar='TIME', type=time_of_day, dest='start', default=0, help='trains that run then or later')
     words.add_argument('--to', metavar='TIME', type=time_of_day, dest='end', default=EVER, help='trains that run then or earlier')
-    words.add_argument('--passengers', metavar='FILE', help='trip_id,stop_id,number: how many leave a trip at a stop (1 each)')
+    words.add_argument('--day-before', action='store_true', help='trains of the service day before that run past midnight, too')
+    numbers = 'trip_id,stop_id,number: how many leave a trip at a stop (1 each); with to_trip_id, how many of them change to it'
+    words.add_argument('--passengers', metavar='FILE', help=numbers)
     words.add_argument('--changing', metavar='SHARE', type=share, default='10%', help='of these, how many take each change (10%%)')
+    guaranteed = 'how many take a guaranteed connection (as other changes)'
+    words.add_argument('--guaranteed', metavar='NUMBER', type=passengers_given, help=guaranteed)
 
 
 def add_rules(words: argparse.ArgumentParser) -> None:
@@ -118,6 +129,8 @@ def add_rules(words: argparse.ArgumentParser) -> None:
     for name, usual in ('dwell', 30), ('turn', 300), ('change', 180), ('longest-change', 1800), ('headway', 120):
         seconds = whole_between(1 if name == 'headway' else 0, LONGEST_BOUND)
         words.add_argument(f'--{name}', metavar='SECONDS', type=seconds, default=usual, help=f'({usual})')
+    stretches = 'from_stop_id,to_stop_id,seconds[,type]: headways by stretch, by kind of vehicle, or both; 0 for none'
+    words.add_argument('--headways', metavar='FILE', help=stretches)
     words.add_argument('--no-headways', action='store_true', help='make no headways')
 
 
@@ -147,17 +160,54 @@ def read_passengers(name: Optional[str], feed: Feed, stops: Stops) -> Passengers
     if name is None:
         return Passengers()
     numbers: dict[tuple[str, str], int] = {}
+    changes: dict[tuple[str, str, str], int] = {}
     with told_as(name), open(name, 'rb') as file:
         for row in read_rows(name, file, ['trip_id', 'stop_id', 'number']):
             key = row.text('trip_id'), row.text('stop_id')
             if key[1] not in stops.stations:
                 raise row.fault('stop_id', f'{feed.name} has no stop {key[1]}')
-            if key in numbers:
-                raise row.fault('stop_id', f'trip {key[0]} and stop {key[1]} stand twice')
-            numbers[key] = passengers_of(row['number'])
-            if not 0 <= numbers[key] <= MOST_PASSENGERS * 1000:
+            number = passengers_of(row['number'])
+            if not 0 <= number <= MOST_PASSENGERS * 1000:
                 raise row.fault('number', f'"{row["number"]}" is no number from 0 to {MOST_PASSENGERS}')
-    return Passengers(numbers)
+            other = row['to_trip_id']
+            if key in numbers and not other or (*key, other) in changes:
+                raise row.fault('stop_id', f'trip {key[0]} and stop {key[1]} stand twice')
+            if other:
+                changes[*key, other] = number
+            else:
+                numbers[key] = number
+    return Passengers(numbers, changes)
+
+
+def read_headways(name: Optional[str], feed: Feed, stops: Stops, usual: int) -> Headways:
+    """The seconds of a file by stretch and kind of vehicle."""
+    rule = Headways(usual)
+    if name is None:
+        return rule
+    with told_as(name), open(name, 'rb') as file:
+        for row in read_rows(name, file, ['from_stop_id', 'to_stop_id', 'seconds']):
+            ends = row['from_stop_id'], row['to_stop_id']
+            if not any(ends) and not row['type']:
+                raise row.fault('type', 'neither stops nor a kind of vehicle')
+            for column, stop in zip(('from_stop_id', 'to_stop_id'), ends):
+                if stop not in stops.stations and any(ends):
+                    raise row.fault(column, f'{feed.name} has no stop {stop}')
+            if row['type'] and row['type'] not in TYPES and not re.fullmatch('[0-9]{1,4}', row['type']):
+                raise row.fault('type', f'"{row["type"]}" is neither a number nor one of {", ".join(TYPES)}')
+            kind = Route('', '', int(row['type'])).kind if row['type'].isdecimal() else row['type']
+            key = (*(stops.stations.get(stop, '') for stop in ends), kind)
+            if key in rule.said:
+                raise row.fault('from_stop_id', 'this stretch stands twice')
+            rule.said[key] = row.number('seconds', LONGEST_BOUND)
+    return rule
+
+
+def passengers_given(text: str) -> int:
+    """Reads a number of passengers, in thousandths."""
+    number = passengers_of(text)
+    if not 0 <= number <= MOST_PASSENGERS * 1000:
+        raise argparse.ArgumentTypeError(f'"{text}" is no number from 0 to {MOST_PASSENGERS}')
+    return number
 
 
 def passengers_of(text: str) -> int:
@@ -173,6 +223,7 @@ class Made:
     stops: Stops
     expanded: Expanded
     notes: Notes
+    day: Optional[DayName] = None
 
 
 def make(feed: Feed, words: argparse.Namespace) -> Made:
@@ -181,22 +232,26 @@ def make(feed: Feed, words: argparse.Namespace) -> Made:
     chosen = chosen_routes(feed, routes, words.types, words.routes)
     day = read_day(feed, stops, services, routes, chosen)
     notes = Notes(day.left_out)
-    trains = trains_of(day, Window(words.start, words.end), notes)
+    before = day_before(feed, stops, routes, chosen, words.date) if words.day_before else None
+    trains = trains_of(day, before, Window(words.start, words.end), notes)
     if not trains:
         running = len(services.running)
         raise Refused(f'{feed.name} has no train on {words.date} that is chosen: {running} services run then, and {services.span()}')
     passengers = read_passengers(words.passengers, feed, stops)
-    transfers = read_transfers(feed, stops, words.change)
-    expanded = expand(trains, stops.stations, passengers, transfers, rules_of(words), notes)
+    transfers = read_transfers(feed, stops, routes, words.change)
+    headways = None if words.no_headways else read_headways(words.headways, feed, stops, words.headway)
+    rules = Rules(words.reserve, words.dwell, words.turn, words.longest_change, headways, words.changing, words.guaranteed)
+    expanded = expand(trains, stops.stations, passengers, transfers, rules, notes)
     notes.left_out.take(transfers.left_out)
-    notes.left_out['numbers of passengers of which no arrival is there'] += len(passengers.numbers or ()) - len(passengers.used)
+    notes.left_out['numbers of passengers of which no arrival is there'] += passengers.unused
     notes.besides['times between two stops with times, spread evenly'] += day.timed_between
-    return Made(stops, expanded, notes)
+    return Made(stops, expanded, notes, DayName(str(words.date), read_zone(feed)))
 
 
-def rules_of(words: argparse.Namespace) -> Rules:
-    headway = None if words.no_headways else words.headway
-    return Rules(words.reserve, words.dwell, words.turn, words.longest_change, headway, words.changing)
+def day_before(feed: Feed, stops: Stops, routes: dict[str, Route], chosen: set[str], day: date) -> Day:
+    """The trips of the service day before a day."""
+    before = day - timedelta(days=1)
+    return read_day(feed, stops, read_services(feed, before), routes, chosen, before.strftime('%Y%m%d'))
 
 
 # ---- What is written
@@ -220,12 +275,22 @@ def texts_of(made: Made) -> dict[str, str]:
         )
         for train in expanded.trains for one in train.moments
     ]
+    days = {} if made.day is None else {'Day.csv': in_print(DayName._fields, [made.day])}
     return {
         **network_files(expanded.events, expanded.activities),
+        **days,
         'Stops.csv': in_print(['id', *StopName._fields[1:]], stops),
         'Events.csv': in_print(EventName._fields, events),
         'Trains.csv': in_print(['first event', *TrainName._fields[1:]], trains),
+        'Changes.csv': in_print(CHANGES, (change_name(*one) for one in expanded.changes)),
     }
+
+
+def change_name(number: int, link: Link) -> ChangeName:
+    tail, head = link.tail, link.head
+    return ChangeName(
+        number, tail.train.name, head.train.name, tail.call.stop, link.lower, decimal(link.weight), link.origin, head.call.stop,
+    )
 
 
 def summary(made: Made, words: argparse.Namespace) -> Iterator[str]:

@@ -15,7 +15,7 @@ from contextlib import contextmanager
 from dataclasses import dataclass, field
 from datetime import date
 from functools import lru_cache
-from typing import BinaryIO, Collection, Iterable, Iterator, Optional
+from typing import BinaryIO, Collection, Iterable, Iterator, NamedTuple, Optional
 
 from quoted import is_text, quoted_records
 from railway import BadFile
@@ -346,6 +346,7 @@ class Call:
 
 @dataclass
 class Trip:
+    """A trip; one of the service day before names that day, as 20261223."""
     id: str
     route: Route
     direction: str
@@ -353,6 +354,7 @@ class Trip:
     headsign: str
     block: str
     calls: list[Call] = field(default_factory=list)
+    day_before: str = ''
 
 
 @dataclass(frozen=True)
@@ -388,8 +390,10 @@ def read_routes(feed: Feed) -> dict[str, Route]:
     return routes
 
 
-def read_day(feed: Feed, stops: Stops, services: Services, routes: dict[str, Route], chosen: Collection[str]) -> Day:
-    """The trips of the chosen routes on the day of the services."""
+def read_day(
+    feed: Feed, stops: Stops, services: Services, routes: dict[str, Route], chosen: Collection[str], day_before: str = '',
+) -> Day:
+    """The trips of the chosen routes on the day of the services, which may be the one before."""
     day = Day({}, {}, Told())
     others: set[str] = set()
     for row in feed.rows('trips.txt', ['route_id', 'service_id', 'trip_id']):
@@ -407,6 +411,7 @@ def read_day(feed: Feed, stops: Stops, services: Services, routes: dict[str, Rou
             others.add(trip)
         else:
             day.trips[trip] = trip_of(row, routes)
+            day.trips[trip].day_before = day_before
     read_calls(feed, stops, day, others)
     read_frequencies(feed, day, others)
     return day
@@ -502,44 +507,109 @@ def read_frequencies(feed: Feed, day: Day, others: set[str]) -> None:
 
 # ---- Transfers
 
+# What a row may name of the train that arrives and of the one that leaves, the most special first: of the rows that are true of two
+# trains, the first in this order holds.
+RANKS = (
+    ('trip', 'trip'), ('trip', 'route'), ('route', 'trip'), ('trip', ''), ('', 'trip'), ('route', 'route'), ('route', ''), ('', 'route'),
+    ('', ''),
+)
+
+
+class End(NamedTuple):
+    """Where a train is left or boarded, and its trip and route."""
+    stop: str
+    trip: str
+    route: str
+
+    def named(self, what: str) -> str:
+        """The trip or the route, or nothing."""
+        return self.trip if what == 'trip' else self.route if what == 'route' else ''
+
+
+@dataclass(frozen=True)
+class Transfer:
+    """What a row says: its type, how long a change takes at least, or None where there is none, its line, and what it names."""
+    kind: int
+    least: Optional[int]
+    line: int
+    ends: tuple[End, End]
+
 
 @dataclass
 class Transfers:
-    """How long a change takes at least between two stops of a station: `usual` seconds where `said` names none of their pairs.
+    """How long a change takes at least: what rows say, by what they name, and within a station else `usual` seconds.
 
-    What is said is by pairs of stops and stations; None says that there is no change.
+    `walks` are the other stations to which rows lead from a station, `promised` the connections between two trips that are guaranteed,
+    and `linked` the trips that one vehicle runs one after the other, with passengers (type 4) or without (5).
     """
     usual: int
     stations: dict[str, str]
-    said: dict[tuple[str, str], Optional[int]]
-    left_out: Told
+    said: dict[tuple[str, str], dict[tuple[str, ...], Transfer]] = field(default_factory=dict)
+    walks: dict[str, set[str]] = field(default_factory=dict)
+    promised: list[Transfer] = field(default_factory=list)
+    linked: list[Transfer] = field(default_factory=list)
+    left_out: Told = field(default_factory=Told)
 
-    def between(self, stop: str, other: str) -> Optional[int]:
-        station = self.stations[stop]
-        for pair in (stop, other), (stop, station), (station, other), (station, station):
-            if pair in self.said:
-                return self.said[pair]
-        return self.usual
+    def between(self, arriving: End, leaving: End) -> tuple[Optional[int], Optional[Transfer]]:
+        """How long a change takes at least, or None where there is none, and the row that says so, if one does."""
+        stop, other = arriving.stop, leaving.stop
+        station, beyond = self.stations[stop], self.stations[other]
+        for rank in RANKS:
+            rows = self.said.get(rank)
+            if not rows:
+                continue
+            names = arriving.named(rank[0]), leaving.named(rank[1])
+            for pair in (stop, other), (stop, beyond), (station, other), (station, beyond):
+                found = rows.get((*pair, *names))
+                if found is not None:
+                    return found.least, found
+        return (self.usual if station == beyond else None), None
+
+    def take(self, rank: tuple[str, str], row: Row, transfer: Transfer) -> None:
+        """Takes in a row for changes."""
+        ends = transfer.ends
+        key = ends[0].stop, ends[1].stop, ends[0].named(rank[0]), ends[1].named(rank[1])
+        rows = self.said.setdefault(rank, {})
+        if key in rows:
+            self.left_out.row('rows of transfers.txt for what a later row is for, too', row)
+        rows[key] = transfer
+        start, end = (self.stations[end.stop] for end in ends)
+        if transfer.least is not None and start != end:
+            self.walks.setdefault(start, set()).add(end)
+        if rank == RANKS[0]:
+            self.promised = [one for one in self.promised if one.ends != ends] + [transfer] * (transfer.kind == 1)
 
 
-def read_transfers(feed: Feed, stops: Stops, usual: int) -> Transfers:
-    transfers = Transfers(usual, stops.stations, {}, Told())
+def read_transfers(feed: Feed, stops: Stops, routes: Collection[str], usual: int) -> Transfers:
+    transfers = Transfers(usual, stops.stations)
     for row in feed.rows_if_any('transfers.txt', ['transfer_type']):
         kind = row.number('transfer_type', 5, 0)
-        if kind > 3 or any(row[f'{end}_{of}_id'] for end in ('from', 'to') for of in ('trip', 'route')):
-            transfers.left_out.row('rows of transfers.txt that are for single trips or routes', row)
-            continue
-        ends = tuple(row.text(column) for column in ('from_stop_id', 'to_stop_id'))
-        for column, stop in zip(('from_stop_id', 'to_stop_id'), ends):
-            if stop not in stops.stations:
-                raise row.fault(column, f'there is no stop {stop}')
-        if stops.stations[ends[0]] != stops.stations[ends[1]]:
-            transfers.left_out.row('rows of transfers.txt between two stations', row)
+        ends = end_of(row, 'from', kind, stops, routes), end_of(row, 'to', kind, stops, routes)
+        if kind > 3:
+            transfers.linked.append(Transfer(kind, None, row.line, ends))
         elif kind == 2 and not row['min_transfer_time']:
             transfers.left_out.row('rows of transfers.txt of type 2 without a min_transfer_time', row)
         else:
-            transfers.said[ends] = least_change(row, kind, usual)
+            rank = rank_of(ends[0]), rank_of(ends[1])
+            transfers.take(rank, row, Transfer(kind, least_change(row, kind, usual), row.line, ends))
     return transfers
+
+
+def end_of(row: Row, side: str, kind: int, stops: Stops, routes: Collection[str]) -> End:
+    """What a row names of one of two trains: for a vehicle that goes on the trip, and for a change at least the stop."""
+    column = f'{side}_stop_id'
+    stop = row.text(column) if kind <= 3 else row[column]
+    if stop and stop not in stops.stations:
+        raise row.fault(column, f'there is no stop {stop}')
+    route = row[f'{side}_route_id']
+    if route and route not in routes:
+        raise row.fault(f'{side}_route_id', f'there is no route {route}')
+    return End(stop, row.text(f'{side}_trip_id') if kind > 3 else row[f'{side}_trip_id'], route)
+
+
+def rank_of(end: End) -> str:
+    """What a row names of a train beside the stop; a trip goes before its route."""
+    return 'trip' if end.trip else 'route' if end.route else ''
 
 
 def least_change(row: Row, kind: int, usual: int) -> Optional[int]:
@@ -549,3 +619,11 @@ def least_change(row: Row, kind: int, usual: int) -> Optional[int]:
     if kind == 2:
         return row.number('min_transfer_time', LATEST)
     return row.number('min_transfer_time', LATEST, 0 if kind == 1 else usual)
+
+
+# ---- The time zone
+
+
+def read_zone(feed: Feed) -> str:
+    """The time zone of the feed's agencies, or nothing where none is told."""
+    return next((row.name('agency_timezone') for row in feed.rows_if_any('agency.txt', []) if row['agency_timezone']), '')

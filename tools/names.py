@@ -1,6 +1,6 @@
 """What the numbers of a network stand for: its stops, events and trains by the names of a timetable.
 
-`Stops.csv`, `Events.csv` and `Trains.csv` stand beside the two files of a network, in UTF-8, a record a line, with semicolons
+`Stops.csv`, `Events.csv`, `Trains.csv`, `Changes.csv` and `Day.csv` stand beside the two files of a network, in UTF-8, a record a line, with semicolons
 between the fields and quotes around one that needs them; lines that begin with `#` are comments. Of stops and trains two columns
 are enough: a number, and how it is called.
 """
@@ -9,6 +9,7 @@ from __future__ import annotations
 import csv
 import io
 import os
+import re
 from typing import Callable, Iterable, NamedTuple, TypeVar
 
 from quoted import is_text, quoted_records
@@ -42,6 +43,37 @@ class TrainName(NamedTuple):
     direction: str
     headsign: str
     block: str
+
+
+class ChangeName(NamedTuple):
+    """A change: the trips and the stops that it leads from and to, the seconds that it takes, its passengers, and where it came from."""
+    change: int
+    trip: str
+    next_trip: str
+    stop: str
+    lower: int
+    passengers: str
+    origin: str
+    next_stop: str
+
+
+class DayName(NamedTuple):
+    """The service day of a network, as 2026-12-24, and the time zone that its times are in."""
+    day: str
+    zone: str
+
+
+class NamedTrip(NamedTuple):
+    """The trip of a train, its service day where it is the one before, as 20261127, and when it leaves where a frequency made it."""
+    trip: str
+    day: str
+    start: str
+
+
+def named_trip(name: str) -> NamedTrip:
+    """What the name of a train tells, as TRIP, TRIP@06:30:00, TRIP@20261127 or TRIP@20261127@25:10:00."""
+    found = re.fullmatch('(.*?)(?:@([0-9]{8}))?(?:@([0-9]{2,3}:[0-9]{2}:[0-9]{2}))?', name, re.DOTALL)
+    return NamedTrip(*(part or '' for part in found.groups()))
 
 
 def in_print(columns: Iterable[str], rows: Iterable[Iterable[object]]) -> str:
@@ -106,3 +138,17 @@ def read_events(folder: str) -> list[EventName]:
 def read_trains(folder: str) -> list[TrainName]:
     rows = records(folder, 'Trains.csv', lambda event, *names: TrainName(whole(event), *names))
     return [row for _, row in rows]
+
+
+def read_changes(folder: str) -> list[ChangeName]:
+    def change(number: str, trip: str, next_trip: str, stop: str, lower: str, *rest: str) -> ChangeName:
+        passengers, origin, next_stop = rest
+        return ChangeName(whole(number), trip, next_trip, stop, whole(lower), passengers, origin, next_stop)
+    return [row for _, row in records(folder, 'Changes.csv', change)]
+
+
+def read_day_name(folder: str) -> DayName:
+    """The service day of a network; nothing where no file names it."""
+    if not os.path.exists(os.path.join(folder, 'Day.csv')):
+        return DayName('', '')
+    return next((row for _, row in records(folder, 'Day.csv', DayName)), DayName('', ''))

@@ -20,7 +20,7 @@ from fractions import Fraction
 from random import Random
 from typing import Iterable, Optional, Sequence
 
-from expand import Expanded, Notes, Passengers, Refused, Rules, Train, expand
+from expand import Expanded, Headways, Notes, Passengers, Refused, Rules, Train, expand
 from files import write_all
 from from_gtfs import Made, texts_of
 from gtfs import Call, Route, Stops, Transfers, Trip
@@ -177,10 +177,11 @@ def made(shape: str, sizes: Sizes) -> Made:
     stations = {call.stop: call.stop for one in trips for call in one.calls}
     numbers = {(one.id, call.stop): TEN_PASSENGERS for one in trips for call in one.calls}
     headway = {'single': None, 'hub': 60}.get(shape, 120)
-    rules = Rules(Fraction(7, 100), 30, 300, 900, headway, Fraction(1, 10))
+    headways = None if headway is None else Headways(headway)
+    rules = Rules(Fraction(7, 100), 30, 300, 900, headways, Fraction(1, 10))
     notes = Notes()
     trains = sorted((Train(one.id, one, 0, False) for one in trips), key=lambda train: (train.begins, train.name))
-    expanded = expand(trains, stations, Passengers(numbers), Transfers(120, stations, {}, Counter()), rules, notes)
+    expanded = expand(trains, stations, Passengers(numbers), Transfers(120, stations), rules, notes)
     if shape == 'single':
         expanded.activities += sections_of(expanded)
     return Made(Stops(stations, {stop: stop for stop in stations}), expanded, notes)

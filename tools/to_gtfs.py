@@ -30,7 +30,7 @@ from typing import Iterable, Optional, Sequence
 
 from files import write_all
 from gtfs import Feed, clock
-from names import EventName, TrainName, read_events, read_trains
+from names import EventName, TrainName, named_trip, read_events, read_trains
 from railway import BadFile, Event, in_one_line, read_network
 from runtext import Bad, read_run
 
@@ -113,7 +113,7 @@ def stays_of(name: Optional[str], trips: Iterable[str]) -> dict[str, Stay]:
                 known = ends.setdefault(row['trip_id'], [call, call])
                 ends[row['trip_id']] = [min(known[0], call), max(known[1], call)]
     stays = {trip: Stay(first[1], last[1]) for trip, (first, last) in ends.items()}
-    return {trip: stays.get(trip) or stays.get(trip.rpartition('@')[0], Stay()) for trip in trips}
+    return {trip: stays.get(trip) or stays.get(named_trip(trip).trip, Stay()) for trip in trips}
 
 
 def calls_of(happenings: list[Happening], stay: Stay) -> Iterable[tuple[object, ...]]:

@@ -58,7 +58,8 @@ class ShippedFeed(InNetwork):
         for source in sources:
             status, said = self.call(from_gtfs, source, '2026-12-24', self.net, f'--passengers={PASSENGERS}')
             self.assertEqual(status, 0, said)
-            self.assertEqual(sorted(os.listdir(self.net)), NET_FILES)
+            self.assertEqual(sorted(os.listdir(self.net)), sorted([*NET_FILES, 'Changes.csv', 'Day.csv']))
+            self.assertEqual(read(self.net, 'Day.csv'), '# day;zone\n2026-12-24;Europe/Berlin\n')
             for name in NET_FILES:
                 self.assertEqual(read(self.net, name), read(network('six_stations'), name), name)
         self.assertEqual(said.splitlines(), SAID)
@@ -207,10 +208,8 @@ class Activities(InNetwork):
         self.assertEqual(with_transfers('B,B,2,360,')[0], [('r1 B1', 'g2 B3', 360)])
         self.assertEqual(with_transfers('B1,B,3,,')[0], [])
         self.assertEqual(with_transfers('B,B2,1,,')[0], [('r1 B1', 'g1 B2', 0)])
-        changes, said = with_transfers('B1,B2,2,900,r1', 'A,C,2,100,')
-        self.assertEqual(changes, [('r1 B1', 'g1 B2', 180)])
-        self.assertIn('left out: rows of transfers.txt that are for single trips or routes: 1', said)
-        self.assertIn('left out: rows of transfers.txt between two stations: 1', said)
+        changes, _ = with_transfers('B1,B2,2,900,r1', 'A,C,2,100,')
+        self.assertEqual(changes, [('r1 B1', 'g2 B3', 180)])
 
     def test_nobody_changes_where_passengers_may_not_leave_or_board(self):
         files = trips_and_times('r1 R 0 - A 08:00 B 08:10', 'g1 G 0 - B 08:20 C 08:30')
