@@ -53,10 +53,10 @@ def edit(name, old, new):
     return lambda program: change(name, old, new)
 
 
-def text(words, change_text=lambda data: data):
+def text(words, change_text=lambda data: data, lines=b'delay event 1 60\n'):
     """Makes the text of a run in `text`."""
     def make(program):
-        write('f', b'delay event 1 60\n')
+        write('f', lines)
         made = subprocess.run([program, 'run', 'net', 'f', *words], capture_output=True, check=True)
         write('text', change_text(made.stdout))
     return make
@@ -84,6 +84,7 @@ USAGE = [
     Case('empty value', [*RUN, '--batch='], 2, ['word 4: --batch wants a value, as --batch=16', LIST]),
     Case('number too small', [*RUN, '--batch=0'], 2, ['word 4: --batch takes 1 to 1000000', LIST]),
     Case('number too large', [*RUN, '--penalty=1000001'], 2, ['word 4: --penalty takes 0 to 1000000', LIST]),
+    Case('too many plans', [*RUN, '--plans=4097'], 2, ['word 4: --plans takes 1 to 4096', LIST]),
     Case('no number', [*RUN, '--penalty=1h'], 2, ['word 4: --penalty takes 0 to 1000000', LIST]),
     Case('given twice', [*RUN, '--batch=1', '--batch=1'], 2, ['word 5: --batch is given twice', LIST]),
     Case('unknown option', [*RUN, '--quiet'], 2, ['word 4: "--quiet" is no option; `dispatcher --help` lists them', LIST]),
@@ -106,6 +107,10 @@ TEXTS = [
     Case('another penalty', ['check', 'net', 'text'], 1,
          ['text line 2: the line has not the form that must stand there',
           'line 2: the text\'s penalty is not the one of these words, which is 3600: give --penalty=10'], text(['--penalty=10'])),
+    Case('fewer plans than the run had', ['check', 'net', 'text', '--plans=1'], 1,
+         ['text line 8: the plan, or its tree, is not true of the rows at its entry',
+          'line 8: are the network, its columns, the delays at the start and --plans=1 those of the run, and the text unchanged?'],
+         text([], lines=b'plan 1\nplan 1\n')),
     Case('line ends of Windows', ['check', 'net', 'text'], 1,
          ['text line 1: the line has not the form that must stand there',
           'line 1: the text has the line ends of Windows, CR before LF: a run writes LF alone'],
