@@ -4,7 +4,7 @@ from __future__ import annotations
 import io
 import os
 import sys
-from typing import Iterable
+from typing import Iterable, Mapping
 
 from railway import BadFile
 
@@ -15,8 +15,8 @@ def speak_utf8() -> None:
         sys.stdout.reconfigure(encoding='utf-8', errors='surrogateescape', newline='\n')
 
 
-def write_all(folder: str, texts: dict[str, str]) -> None:
-    """Writes each text under its name in a folder, which is made where it is not there; BadFile where one cannot be written.
+def write_all(folder: str, texts: Mapping[str, str | bytes]) -> None:
+    """Writes each text, or bytes, under its name in a folder, which is made where it is not there; BadFile where one cannot be written.
 
     A file that stood there before is replaced, but only where all could be written.
     """
@@ -25,8 +25,8 @@ def write_all(folder: str, texts: dict[str, str]) -> None:
     try:
         os.makedirs(folder, exist_ok=True)
         for name, text in texts.items():
-            with open(parts[name], 'w', encoding='utf-8', newline='') as file:
-                file.write(text)
+            with open(parts[name], 'wb') as file:
+                file.write(text if isinstance(text, bytes) else text.encode())
         for name, part in parts.items():
             os.replace(part, os.path.join(folder, name))
     except OSError as error:

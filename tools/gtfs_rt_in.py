@@ -1,0 +1,340 @@
+#!/usr/bin/env python3
+"""Reads TripUpdates and VehiclePositions of GTFS-Realtime, and appends what they tell to a feed:
+
+    python3 tools/gtfs_rt_in.py NET FEEDFILE SOURCE.. [--text TEXT] [--zone ZONE] [--every SECONDS]
+
+NET is a network that from_gtfs.py made. FEEDFILE is a feed of the program, which may be missing; a SOURCE is a file with a FeedMessage,
+or the URL (http, https) of one. Sources are read once, in their order; with --every again and again, so many seconds apart.
+
+What is told is set beside what the network shows after the entries of TEXT, the text of a run, and after the lines of FEEDFILE. A call
+that is told later than it would be by all that stands before it is a source delay, `delay event E S`; so a train that is late at each
+later call has one. A source delay that is larger than what is told now is put down. A call that is past is `pass E T`, and the time of
+the header is `now T`.
+
+On standard error stands a line for each thing that cannot be said or that is not as it should be: calls that are skipped, trips that
+are cancelled, trips and calls that the network has not, messages that are out of order or come twice, times that fall; and what they
+come to. The status is 0; or 2 where a file is not as it should be.
+"""
+from __future__ import annotations
+
+import argparse
+import hashlib
+import os
+import sys
+import time
+import urllib.request
+from collections import Counter
+from dataclasses import dataclass, field
+from typing import Iterator, Optional, Sequence
+
+from gtfs_rt_out import read_text
+from names import EventName
+from protobuf import LONGEST_FILE, BadMessage, Message, decode
+from railway import (
+    LARGEST_DELAY, LARGEST_PASSED, BadFile, Network, Rows, active_activities, apply, in_one_line, read_network, refusal_at_once, span_of,
+)
+from realtime import NO_DATA, SKIPPED, STOPPED_AT, TRIPS_GONE, TRIPS_TAKEN, Named, by_key, key_of, read_named
+from runtext import due_items
+
+TIMEOUT = 30
+QUESTIONS = ('time', 'cost', 'read', 'plan', 'adopt')
+
+
+@dataclass
+class Said:
+    """What is told to people: each line once, and how often what was found."""
+    counts: Counter[str] = field(default_factory=Counter)
+    lines: set[str] = field(default_factory=set)
+
+    def tell(self, what: str, which: str) -> None:
+        self.counts[what] += 1
+        line = f'gtfs_rt_in: {what}: {in_one_line(which)}'
+        if line not in self.lines:
+            self.lines.add(line)
+            print(line, file=sys.stderr)
+
+
+@dataclass
+class Told:
+    """What a message tells of events, by place: when they happen; and which have happened, at the latest at a time."""
+    times: dict[int, int] = field(default_factory=dict)
+    past: dict[int, int] = field(default_factory=dict)
+
+
+@dataclass
+class Listener:
+    """A network with what has been told of it, and until when."""
+    network: Network
+    named: Named
+    rows: Rows
+    said: Said
+    latest: dict[str, int] = field(default_factory=dict)
+    seen: set[bytes] = field(default_factory=set)
+
+    def __post_init__(self) -> None:
+        self.trains = by_key(self.named)
+
+    # -- Trips and calls
+
+    def train_of(self, trip: Message) -> Optional[int]:
+        """The train of a TripDescriptor, which runs; None where it is said why not."""
+        key = key_of(trip, self.named.day)
+        relation = trip.get('schedule_relationship', 0)
+        train = self.trains.get(key, self.trains.get((*key[:2], '')))
+        what = ' '.join(part for part in key if part)
+        if train is None or relation not in TRIPS_TAKEN | set(TRIPS_GONE):
+            self.said.tell('trips that the network has not', what)
+            return None
+        if relation in TRIPS_GONE:
+            self.said.tell(f'trips that are {TRIPS_GONE[relation]}, which nothing can be said of', what)
+            return None
+        return train
+
+    def is_new(self, kind: str, stamp: int, what: str) -> bool:
+        """Whether nothing newer of this kind was told."""
+        if stamp < self.latest.get(kind, self.rows.clock + self.named.begin if self.rows.clock else 0):
+            self.said.tell('messages out of order', f'{what} of {stamp}')
+            return False
+        self.latest[kind] = stamp
+        return True
+
+    def events_at(self, train: int, sequence: object, stop: object, behind: int) -> list[EventName]:
+        """The events of a train at a call, by its place in the trip or else by the first such stop not before another place."""
+        events = self.named.events[train]
+        if sequence is None:
+            sequence = next((one.sequence for one in events if one.stop == stop and one.sequence >= behind), None)
+        return [one for one in events if one.sequence == sequence]
+
+    # -- Messages
+
+    def take_update(self, update: Message, told: Told, now: int) -> None:
+        train = self.train_of(update.get('trip', {}))
+        if train is None:
+            return
+        trip = self.named.trains[train].trip
+        if not self.is_new(f'update of {trip}', int(update.get('timestamp', now + self.named.begin)), f'an update of {trip}'):
+            return
+        last, behind = None, 0
+        for call in update.get('stop_time_update', ()):
+            events = self.events_at(train, call.get('stop_sequence'), call.get('stop_id'), behind)
+            where = f'{trip}, call {call.get("stop_sequence", call.get("stop_id", ""))}'
+            if not events:
+                self.said.tell('calls that the network has not', where)
+                continue
+            behind = events[0].sequence
+            relation = call.get('schedule_relationship', 0)
+            if relation == SKIPPED:
+                self.said.tell('calls that are skipped, which nothing can be said of', where)
+            if relation in (SKIPPED, NO_DATA):
+                continue
+            for name in events:
+                last = self.take_time(name, call.get(name.kind), last, told, where)
+
+    def take_time(self, name: EventName, said: Optional[Message], last: Optional[int], told: Told, where: str) -> Optional[int]:
+        """Takes in the time of an event; the last time that is told of the train."""
+        place = self.network.event_place[name.event]
+        if said is None or not said.keys() & {'time', 'delay'}:
+            return last
+        at = said['time'] - self.named.begin if said.get('time') else self.network.events[place].time + said.get('delay', 0)
+        if last is not None and at < last:
+            self.said.tell('times that fall', f'{where}, {name.kind}')
+            return last
+        if not 0 <= at <= LARGEST_PASSED:
+            self.said.tell('times outside of the service day', f'{where}, {name.kind}')
+            return last
+        told.times[place] = at
+        return at
+
+    def take_vehicle(self, vehicle: Message, told: Told, now: int) -> None:
+        if 'trip' not in vehicle:
+            self.said.tell('vehicles without a trip', str(vehicle.get('vehicle', '')))
+            return
+        train = self.train_of(vehicle['trip'])
+        if train is None:
+            return
+        trip = self.named.trains[train].trip
+        stamp = int(vehicle.get('timestamp', now + self.named.begin))
+        if not self.is_new(f'vehicle of {trip}', stamp, f'the vehicle of {trip}'):
+            return
+        at = self.events_at(train, vehicle.get('current_stop_sequence'), vehicle.get('stop_id'), 0)
+        if not at:
+            self.said.tell('calls that the network has not', f'{trip}, its vehicle')
+            return
+        for name in self.named.events[train]:
+            has_arrived = vehicle.get('current_status', 2) == STOPPED_AT and name.sequence == at[0].sequence and name.kind == 'arrival'
+            if name.sequence < at[0].sequence or has_arrived:
+                told.past[self.network.event_place[name.event]] = min(now, stamp - self.named.begin)
+
+    def take(self, data: bytes, source: str) -> list[str]:
+        """The lines of a feed for what a message tells beside what is known."""
+        digest = hashlib.sha256(data).digest()
+        if digest in self.seen:
+            self.said.tell('messages that come twice', source)
+            return []
+        self.seen.add(digest)
+        message = decode(data)
+        stamp = int(message.get('header', {}).get('timestamp', 0))
+        now = stamp - self.named.begin
+        if not 0 <= now <= LARGEST_PASSED:
+            self.said.tell('messages of another day, or without a time', source)
+            return []
+        told = Told()
+        entities = [one for one in message.get('entity', ()) if not one.get('is_deleted')]
+        for kind, take in ('trip_update', self.take_update), ('vehicle', self.take_vehicle):
+            parts = [one[kind] for one in entities if kind in one]
+            if parts and self.is_new(kind, stamp, source):
+                for part in parts:
+                    take(part, told, now)
+        return self.lines_of(told, now)
+
+    # -- What is new
+
+    def lines_of(self, told: Told, now: int) -> list[str]:
+        """Source delays for what is told late or less late than it would be, then what is past, then the clock."""
+        lines: list[str] = []
+        clock_then = max(now, self.rows.clock)
+        past = {place: at for place, at in told.times.items() if at <= now}
+        for place in told.past:
+            past.setdefault(place, -1)
+        ahead = {place: at for place, at in told.times.items() if place not in past}
+        for place, at in self.swept(past, ahead, clock_then, told):
+            event = self.network.events[place]
+            kind = 'delay event' if place in ahead else 'pass'
+            message = (kind, event.id, at)
+            if refusal_at_once(self.network, self.rows, message) is None:
+                apply(self.network, self.rows, message)
+                lines.append(' '.join(map(str, message)))
+        if clock_then > self.rows.clock:
+            self.rows.clock = clock_then
+            lines.append(f'now {clock_then}')
+        return lines
+
+    def swept(self, past: dict[int, int], ahead: dict[int, int], now: int, told: Told) -> Iterator[tuple[int, int]]:
+        """By place: the times of events that are past, and the source delays that are other than before; in an order in which nothing
+        stands before what it rests on."""
+        network, rows = self.network, self.rows
+        after = rows.copy()
+        for place in past:
+            if after.passed[place] is None:
+                after.passed[place] = 0
+        held = active_activities(network, after)
+        waits_for = [0] * len(network.events)
+        for place, head in enumerate(network.heads):
+            waits_for[head] += held[place]
+        base = [event.time for event in network.events]
+        ready = [place for place, count in enumerate(waits_for) if not count]
+        for place in ready:
+            told_before = rows.passed[place]
+            if told_before is not None:
+                base[place] = told_before
+            elif place in past:
+                shown = max(base[place], network.events[place].time + rows.event_delays[place])
+                base[place] = past[place] if past[place] >= 0 else min(shown, told.past[place])
+                yield place, base[place]
+            else:
+                scheduled, delay = network.events[place].time, rows.event_delays[place]
+                base[place] = max(base[place], now)
+                if place in ahead and max(base[place], scheduled + delay) != ahead[place]:
+                    fresh = ahead[place] - scheduled if ahead[place] > base[place] else 0
+                    if fresh != delay and (fresh or scheduled + delay > base[place]):
+                        delay = min(fresh, LARGEST_DELAY)
+                        yield place, delay
+                    if ahead[place] < base[place]:
+                        self.said.counts['calls told earlier than they can be by what stands before them'] += 1
+                base[place] = max(base[place], scheduled + delay)
+            for activity in network.out_of[place]:
+                if held[activity]:
+                    head = network.heads[activity]
+                    base[head] = max(base[head], base[place] + span_of(network, rows, activity))
+                    waits_for[head] -= 1
+                    if not waits_for[head]:
+                        ready.append(head)
+
+
+# ---- Files and sources
+
+
+def known_rows(network: Network, feed: str, text: Optional[str]) -> Rows:
+    """The rows after the entries of a text and the lines of a feed, of which those that are refused say nothing."""
+    rows = Rows(network)
+    messages = [entry.message for entry in read_text(text, len(network.events)).journal] if text else []
+    if os.path.exists(feed):
+        with open(feed, encoding='latin-1', newline='') as file:
+            messages += [said for _, said in due_items(file.read()) if said is not None]
+    for message in messages:
+        is_said = message[0] not in QUESTIONS or message[0] == 'adopt' and len(message) > 1
+        if is_said and refusal_at_once(network, rows, message) is None:
+            apply(network, rows, message)
+    return rows
+
+
+def read_source(source: str) -> bytes:
+    """The bytes of a file or of what a URL gives."""
+    try:
+        if source.startswith(('http://', 'https://')):
+            with urllib.request.urlopen(source, timeout=TIMEOUT) as answer:
+                data = answer.read(LONGEST_FILE + 1)
+        else:
+            with open(source, 'rb') as file:
+                data = file.read(LONGEST_FILE + 1)
+    except OSError as error:
+        raise BadFile(source, None, str(error.strerror or error)) from error
+    if len(data) > LONGEST_FILE:
+        raise BadFile(source, None, f'this is longer than {LONGEST_FILE} bytes')
+    return data
+
+
+def append(feed: str, lines: list[str]) -> None:
+    """Appends lines to a feed, all in one write."""
+    try:
+        with open(feed, 'ab+') as file:
+            size = file.seek(0, os.SEEK_END)
+            file.seek(max(0, size - 1))
+            begin = b'\n' if size and file.read(1) != b'\n' else b''
+            file.write(begin + ''.join(f'{line}\n' for line in lines).encode())
+    except OSError as error:
+        raise BadFile(feed, None, error.strerror or 'cannot be written') from error
+
+
+def listen(listener: Listener, feed: str, source: str) -> bool:
+    """Takes what a source gives now; whether it could be read."""
+    try:
+        lines = listener.take(read_source(source), source)
+    except (BadFile, BadMessage) as error:
+        what = str(error) if isinstance(error, BadFile) else f'{source}: this is no message ({error})'
+        listener.said.tell('sources that cannot be read', what)
+        return False
+    if lines:
+        append(feed, lines)
+    return True
+
+
+def main(given: Optional[Sequence[str]] = None) -> int:
+    words = argparse.ArgumentParser(
+        description=__doc__, formatter_class=argparse.RawDescriptionHelpFormatter, allow_abbrev=False,
+    )
+    words.add_argument('net', metavar='NET', help='the folder of a network, with its names')
+    words.add_argument('feed', metavar='FEEDFILE', help='the feed to which lines are appended')
+    words.add_argument('sources', metavar='SOURCE', nargs='+', help='files, or URLs of http and https')
+    words.add_argument('--text', metavar='TEXT', help='the text of a run, which says what is known besides')
+    words.add_argument('--zone', metavar='ZONE', help='the time zone, as Europe/Berlin (that of Day.csv)')
+    words.add_argument('--every', metavar='SECONDS', type=int, help='read the sources again, so many seconds apart')
+    read = words.parse_args(given)
+    try:
+        network = read_network(read.net)
+        listener = Listener(network, read_named(read.net, read.zone), known_rows(network, read.feed, read.text), Said())
+        could = [listen(listener, read.feed, source) for source in read.sources]
+        while read.every:
+            time.sleep(read.every)
+            for source in read.sources:
+                listen(listener, read.feed, source)
+    except BadFile as error:
+        print(f'gtfs_rt_in: {error}', file=sys.stderr)
+        return 2
+    for what, count in sorted(listener.said.counts.items()):
+        print(f'gtfs_rt_in: {what}: {count} in all', file=sys.stderr)
+    return 0 if all(could) else 2
+
+
+if __name__ == '__main__':
+    sys.exit(main())

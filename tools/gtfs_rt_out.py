@@ -1,0 +1,161 @@
+#!/usr/bin/env python3
+"""Writes the disposition timetable of a run as GTFS-Realtime:
+
+    python3 tools/gtfs_rt_out.py NET TEXT OUT.pb [--zone ZONE] [--now SECONDS]
+
+NET is a network that from_gtfs.py made, and TEXT the text of a run over it. OUT.pb gets a FeedMessage, by a rename: a TripUpdate for
+each train, with the delay and the time of each call, or NO_DATA where nothing has been told of the train and no other one holds it up;
+and an Alert for each change that is dropped and whose train has not left. Its time is that of the run's last `now`, or that of --now
+(seconds of the world), or else that of this computer. The status is 0; or 2, and no file is written, where a file is not as it should
+be.
+"""
+from __future__ import annotations
+
+import argparse
+import os
+import sys
+import time
+from typing import Iterator, Optional, Sequence
+
+from files import write_all
+from find import Found, all_changes
+from protobuf import Message, encode
+from railway import BadFile, Network, in_one_line, read_network
+from realtime import NO_DATA, SCHEDULED, Named, descriptor, read_named
+from runtext import Bad, Run, read_run
+from to_gtfs import Happening, without_falls
+
+VERSION, FULL_DATASET = '2.0', 0
+UNKNOWN_CAUSE, OTHER_EFFECT = 1, 7
+
+
+def read_text(name: str, events: int) -> Run:
+    """The run of a text; BadFile where it is no whole one."""
+    try:
+        with open(name, 'rb') as file:
+            return read_run(file.read(), events)
+    except OSError as error:
+        raise BadFile(name, None, error.strerror or 'cannot be read') from error
+    except Bad as error:
+        line, kind = error.args
+        raise BadFile(name, line, f'this is no text of a run over the network ({kind})') from error
+
+
+def events_told(network: Network, run: Run) -> set[int]:
+    """The events of which a delay or a pass was told; of an activity its head."""
+    told: set[int] = set()
+    for entry in run.journal:
+        kind, *values = entry.message
+        if kind in ('delay event', 'pass'):
+            told.add(values[0])
+        elif kind == 'delay activity':
+            told.add(network.activities[network.activity_place[values[0]]].head)
+    return told
+
+
+def dropped(run: Run) -> set[int]:
+    """The changes that are dropped after all entries."""
+    found: set[int] = set()
+    for entry in run.journal:
+        for decision in entry.message[1] if entry.message[0] == 'adopt' else [entry.message]:
+            if decision[0] == 'drop':
+                found.add(decision[1])
+            elif decision[0] == 'keep':
+                found.discard(decision[1])
+    return found
+
+
+def passed(run: Run) -> set[int]:
+    """The events that have passed after all entries."""
+    found: set[int] = set()
+    for entry in run.journal:
+        if entry.message[0] == 'pass':
+            found.add(entry.message[1])
+        elif entry.message[0] == 'recall':
+            found.discard(entry.message[1])
+    return found
+
+
+def calls_of(happenings: list[Happening], begin: int, is_known: bool) -> list[Message]:
+    """The StopTimeUpdates of a train, in the order of its calls."""
+    calls: dict[int, Message] = {}
+    for one in happenings:
+        relation = SCHEDULED if is_known else NO_DATA
+        call = calls.setdefault(one.name.sequence, {
+            'stop_sequence': one.name.sequence, 'stop_id': one.name.stop, 'schedule_relationship': relation})
+        if is_known:
+            call[one.name.kind] = {'delay': one.delay, 'time': begin + one.time}
+    return [call for _, call in sorted(calls.items())]
+
+
+def updates(named: Named, network: Network, run: Run, now: int) -> Iterator[Message]:
+    told = events_told(network, run)
+    scheduled = {event.id: event.time for event in network.events}
+    for number, train in named.trains.items():
+        happenings = [Happening(name, scheduled[name.event], run.times[name.event]) for name in named.events[number]]
+        is_known = any(one.delay or one.name.event in told for one in happenings)
+        without_falls(happenings)
+        calls = calls_of(happenings, named.begin, is_known)
+        yield {'id': f'trip-{number}', 'trip_update': {
+            'trip': descriptor(train, named.day), 'stop_time_update': calls, 'timestamp': now}}
+
+
+def in_english(text: str) -> Message:
+    return {'translation': [{'text': text, 'language': 'en'}]}
+
+
+def alert(found: Found, named: Named, leaves: int) -> Message:
+    """What passengers of a change that is dropped are told, until the train has left."""
+    trips = [
+        {'trip': descriptor(train, named.day), 'stop_id': stop}
+        for train, stop in ((found.train, found.change.stop), (found.next_train, found.change.next_stop))
+    ]
+    head = f'{found.train.name}: no connection to {found.next_train.name} at {found.station}'
+    text = f'{found.next_train.name} does not wait at {found.station} for {found.train.name}.'
+    return {
+        'active_period': [{'end': named.begin + leaves}], 'informed_entity': trips, 'cause': UNKNOWN_CAUSE, 'effect': OTHER_EFFECT,
+        'header_text': in_english(head), 'description_text': in_english(text),
+    }
+
+
+def message_of(net: str, text: str, zone: Optional[str], now: Optional[int]) -> Message:
+    network, named = read_network(net), read_named(net, zone)
+    run = read_text(text, len(network.events))
+    for events in named.events.values():
+        for name in events:
+            if name.event not in network.event_place:
+                raise BadFile(os.path.join(net, 'Events.csv'), None, f'event {name.event} is not in the network')
+    if now is None:
+        clocks = [entry.message[1] for entry in run.journal if entry.message[0] == 'now']
+        now = named.begin + clocks[-1] if clocks else int(time.time())
+    gone, missed = passed(run), dropped(run)
+    alerts = [
+        {'id': f'change-{found.change.change}', 'alert': alert(found, named, run.times[found.departure.event])}
+        for found in (all_changes(net) if missed else ())
+        if found.change.change in missed and found.departure.event not in gone
+    ]
+    header = {'gtfs_realtime_version': VERSION, 'incrementality': FULL_DATASET, 'timestamp': now}
+    return {'header': header, 'entity': [*updates(named, network, run, now), *alerts]}
+
+
+def main(given: Optional[Sequence[str]] = None) -> int:
+    words = argparse.ArgumentParser(
+        description=__doc__, formatter_class=argparse.RawDescriptionHelpFormatter, allow_abbrev=False,
+    )
+    words.add_argument('net', metavar='NET', help='the folder of a network, with its names')
+    words.add_argument('text', metavar='TEXT', help='the text of a run over it')
+    words.add_argument('out', metavar='OUT.pb', help='the file that is written')
+    words.add_argument('--zone', metavar='ZONE', help='the time zone, as Europe/Berlin (that of Day.csv)')
+    words.add_argument('--now', metavar='SECONDS', type=int, help='the time of the message')
+    read = words.parse_args(given)
+    try:
+        data = encode(message_of(read.net, read.text, read.zone, read.now))
+        write_all(os.path.dirname(read.out) or '.', {os.path.basename(read.out): data})
+    except (BadFile, KeyError) as error:
+        print(f'gtfs_rt_out: {in_one_line(str(error), 1000)}', file=sys.stderr)
+        return 2
+    return 0
+
+
+if __name__ == '__main__':
+    sys.exit(main())

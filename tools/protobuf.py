@@ -1,0 +1,150 @@
+"""Messages of GTFS-Realtime in the wire format of protocol buffers, read and written: the part of it that the schema needs.
+
+A message is a dict from names of fields to values; a field that may stand many times is a list. The tables below have the numbers of
+the published schema (https://gtfs.org/documentation/realtime/proto/); fields that are not in them are passed over.
+"""
+from __future__ import annotations
+
+from typing import Any
+
+Message = dict[str, Any]
+
+# The largest file that is read.
+LONGEST_FILE = 1 << 26
+
+# Fields by number: the name, and the kind, which is a scalar or another table; `*` where the field may stand many times.
+SCHEMA: dict[str, dict[int, tuple[str, str]]] = {
+    'FeedMessage': {1: ('header', 'FeedHeader'), 2: ('entity', '*FeedEntity')},
+    'FeedHeader': {1: ('gtfs_realtime_version', 'text'), 2: ('incrementality', 'number'), 3: ('timestamp', 'number')},
+    'FeedEntity': {
+        1: ('id', 'text'), 2: ('is_deleted', 'number'), 3: ('trip_update', 'TripUpdate'), 4: ('vehicle', 'VehiclePosition'),
+        5: ('alert', 'Alert'),
+    },
+    'TripUpdate': {1: ('trip', 'TripDescriptor'), 2: ('stop_time_update', '*StopTimeUpdate'), 4: ('timestamp', 'number')},
+    'StopTimeUpdate': {
+        1: ('stop_sequence', 'number'), 2: ('arrival', 'StopTimeEvent'), 3: ('departure', 'StopTimeEvent'), 4: ('stop_id', 'text'),
+        5: ('schedule_relationship', 'number'),
+    },
+    'StopTimeEvent': {1: ('delay', 'signed'), 2: ('time', 'signed')},
+    'VehiclePosition': {
+        1: ('trip', 'TripDescriptor'), 3: ('current_stop_sequence', 'number'), 4: ('current_status', 'number'),
+        5: ('timestamp', 'number'), 7: ('stop_id', 'text'),
+    },
+    'Alert': {
+        1: ('active_period', '*TimeRange'), 5: ('informed_entity', '*EntitySelector'), 6: ('cause', 'number'), 7: ('effect', 'number'),
+        10: ('header_text', 'TranslatedString'), 11: ('description_text', 'TranslatedString'),
+    },
+    'TimeRange': {1: ('start', 'number'), 2: ('end', 'number')},
+    'EntitySelector': {4: ('trip', 'TripDescriptor'), 5: ('stop_id', 'text')},
+    'TranslatedString': {1: ('translation', '*Translation')},
+    'Translation': {1: ('text', 'text'), 2: ('language', 'text')},
+    'TripDescriptor': {
+        1: ('trip_id', 'text'), 2: ('start_time', 'text'), 3: ('start_date', 'text'), 4: ('schedule_relationship', 'number'),
+        5: ('route_id', 'text'),
+    },
+}
+BY_NAME = {kind: {name: (number, what) for number, (name, what) in fields.items()} for kind, fields in SCHEMA.items()}
+
+VARINT, FIXED64, BYTES, FIXED32 = 0, 1, 2, 5
+WIDTHS = {FIXED64: 8, FIXED32: 4}
+
+
+class BadMessage(Exception):
+    """Bytes are no message."""
+
+
+# ---- Writing
+
+
+def varint(number: int) -> bytes:
+    """A number below 2^64, seven bits a byte, the lowest first; a negative one as the one that is larger by 2^64."""
+    number &= (1 << 64) - 1
+    if number < 128:
+        return bytes((number,))
+    out = bytearray()
+    while number > 127:
+        out.append(number & 127 | 128)
+        number >>= 7
+    out.append(number)
+    return bytes(out)
+
+
+def encode(message: Message, kind: str = 'FeedMessage') -> bytes:
+    """The bytes of a message; KeyError where it has a field that the schema has not."""
+    fields = BY_NAME[kind]
+    out = bytearray()
+    for name, value in message.items():
+        number, what = fields[name]
+        is_many = what[0] == '*'
+        for one in value if is_many else (value,):
+            if what in ('number', 'signed'):
+                out += varint(number << 3 | VARINT) + varint(one)
+            else:
+                part = one.encode() if what == 'text' else encode(one, what.lstrip('*'))
+                out += varint(number << 3 | BYTES) + varint(len(part)) + part
+    return bytes(out)
+
+
+# ---- Reading
+
+
+def read_varint(data: bytes, place: int, end: int) -> tuple[int, int]:
+    """The number that begins at a place, and the place behind it."""
+    number = 0
+    for shift in range(0, 70, 7):
+        if place >= end:
+            raise BadMessage('it ends within a number')
+        byte = data[place]
+        place += 1
+        number |= (byte & 127) << shift
+        if byte < 128:
+            return number & (1 << 64) - 1, place
+    raise BadMessage(f'a number of more than ten bytes ends at byte {place}')
+
+
+def end_of_field(data: bytes, wire: int, place: int, end: int) -> tuple[int, int]:
+    """The begin and the end of what stands in a field that is no number."""
+    if wire == BYTES:
+        length, place = read_varint(data, place, end)
+    elif wire in WIDTHS:
+        length = WIDTHS[wire]
+    else:
+        raise BadMessage(f'wire type {wire} before byte {place}')
+    if length > end - place:
+        raise BadMessage(f'a field at byte {place} is longer than its message')
+    return place, place + length
+
+
+def decode(data: bytes, kind: str = 'FeedMessage', place: int = 0, end: int | None = None) -> Message:
+    """The message that bytes are; BadMessage where they are none."""
+    end = len(data) if end is None else end
+    fields, message = SCHEMA[kind], {}
+    while place < end:
+        tag, place = read_varint(data, place, end)
+        name, what = fields.get(tag >> 3, ('', ''))
+        wire = tag & 7
+        if wire == VARINT:
+            value, place = read_varint(data, place, end)
+            if what == 'signed' and value >> 63:
+                value -= 1 << 64
+            begin = place
+        else:
+            begin, place = end_of_field(data, wire, place, end)
+        if not name:
+            continue
+        if (wire == VARINT) != (what in ('number', 'signed')) or wire in WIDTHS:
+            raise BadMessage(f'field {name} of {kind} has wire type {wire}')
+        if wire == BYTES:
+            value = text_of(data[begin:place], name) if what == 'text' else decode(data, what.lstrip('*'), begin, place)
+        if what[0] == '*':
+            message.setdefault(name, []).append(value)
+        else:
+            message[name] = value
+    return message
+
+
+def text_of(data: bytes, name: str) -> str:
+    try:
+        return data.decode()
+    except UnicodeDecodeError as error:
+        raise BadMessage(f'field {name} is not in UTF-8') from error

@@ -1,0 +1,199 @@
+"""GTFS-Realtime both ways: the wire format beside an independent decoder, what a run writes, and what of a message is new."""
+import os
+import re
+import shutil
+import subprocess
+import unittest
+
+from feeds import DATE, write_feed
+from folders import read
+from samples import lines_of_run, network, text
+from test_gtfs import InNetwork, trips_and_times
+
+import gtfs_rt_in
+import gtfs_rt_out
+from protobuf import BadMessage, decode, encode, varint
+from railway import Rows, admit, cost_of, read_network, times_of
+from realtime import beginning
+
+# Midnight of 24 December 2026 in Berlin, worked out by `date -d '2026-12-24 00:00 +0100' +%s`.
+MIDNIGHT = 1798066800
+
+
+class WireFormat(unittest.TestCase):
+    def test_bytes_are_those_of_the_standard(self):
+        self.assertEqual(varint(300), b'\xac\x02')
+        self.assertEqual(varint(-1), b'\xff' * 9 + b'\x01')
+        message = {'header': {'gtfs_realtime_version': '2.0', 'timestamp': 150}}
+        self.assertEqual(encode(message), b'\x0a\x08\x0a\x032.0\x18\x96\x01')
+        self.assertEqual(decode(encode(message)), message)
+
+    def test_negative_delays_come_back(self):
+        self.assertEqual(decode(encode({'delay': -60, 'time': 5}, 'StopTimeEvent'), 'StopTimeEvent'), {'delay': -60, 'time': 5})
+
+    def test_unknown_fields_are_passed_over(self):
+        known = encode({'id': 'x'}, 'FeedEntity')
+        self.assertEqual(decode(b'\xf8\x07\x01' + b'\xfd\x07abcd' + b'\xf9\x07abcdefgh' + known + b'\xfa\x07\x02hi', 'FeedEntity'), {'id': 'x'})
+
+    def test_broken_ones_are_told(self):
+        for data in b'\x0a', b'\x0a\x05ab', b'\x08\x01', b'\x0b', b'\x0a\x02\x0a\xff', b'\xff' * 11, b'\x12\x03\x0a\x01\xff':
+            with self.subTest(data), self.assertRaises(BadMessage):
+                decode(data)
+
+
+def call(sequence, **times):
+    return {'stop_sequence': sequence, **{kind: {'time': MIDNIGHT + at} for kind, at in times.items()}}
+
+
+class Realtime(InNetwork):
+    def setUp(self):
+        super().setUp()
+        agency = ['agency_name,agency_url,agency_timezone', 'X,https://example.org,Europe/Berlin']
+        self.made({**trips_and_times('r1 R 0 - A 08:00 B 08:10 C 08:30', 'g1 G 0 - B 08:15 C 08:40'), 'agency.txt': agency}, '--reserve=0%')
+        self.feed = os.path.join(self.folder, 'feed')
+        self.count = 0
+
+    def heard(self, now, *entities, options=()):
+        """What is said, and the lines of the feed, after a message."""
+        self.count += 1
+        name = os.path.join(self.folder, f'm{self.count}')
+        entity = [{'id': str(number), **one} for number, one in enumerate(entities)]
+        with open(name, 'wb') as file:
+            file.write(encode({'header': {'gtfs_realtime_version': '2.0', 'timestamp': MIDNIGHT + now}, 'entity': entity}))
+        self.last = name
+        status, said = self.call(gtfs_rt_in, self.net, self.feed, name, *options)
+        self.assertEqual(status, 0, said)
+        return said, read(self.feed).splitlines() if os.path.exists(self.feed) else []
+
+    @staticmethod
+    def update(trip, *calls, **more):
+        return {'trip_update': {'trip': {'trip_id': trip, **more}, 'stop_time_update': list(calls)}}
+
+
+class In(Realtime):
+    # r1: event 1 leaves A 28800, 2 arrives B 29400, 3 leaves B 29400, 4 arrives C 30600; g1: 5 leaves B 29700, 6 arrives C 31200.
+    def test_train_that_is_late_at_each_call_is_one_delay(self):
+        said, lines = self.heard(28700, self.update('r1', call(1, departure=29100), call(2, arrival=29700, departure=29700), call(3, arrival=30900)))
+        self.assertEqual((said, lines), ('', ['delay event 1 300', 'now 28700']))
+
+    def test_only_the_difference_is_new(self):
+        self.heard(28700, self.update('r1', call(1, departure=29100), call(2, arrival=29700)))
+        _, lines = self.heard(28710, self.update('r1', call(1, departure=29100), call(2, arrival=29760, departure=29760), call(3, arrival=30960)))
+        self.assertEqual(lines[2:], ['delay event 2 360', 'now 28710'])
+        _, lines = self.heard(28720, self.update('r1', call(1, departure=28860), call(2, arrival=29460)))
+        self.assertEqual(lines[4:], ['delay event 1 60', 'delay event 2 0', 'now 28720'])
+
+    def test_calls_that_are_past_have_passed(self):
+        _, lines = self.heard(29500, self.update('r1', call(1, departure=28830), call(2, arrival=29430, departure=29600)))
+        self.assertEqual(lines, ['pass 1 28830', 'pass 2 29430', 'delay event 3 200', 'now 29500'])
+
+    def test_vehicle_at_a_stop_has_passed_what_is_before(self):
+        vehicle = {'trip': {'trip_id': 'r1'}, 'current_stop_sequence': 2, 'current_status': 1, 'timestamp': MIDNIGHT + 29450}
+        _, lines = self.heard(29460, {'vehicle': vehicle})
+        self.assertEqual(lines, ['pass 1 28800', 'pass 2 29400', 'now 29460'])
+
+    def test_text_of_a_run_says_what_is_known(self):
+        net = read_network(self.net)
+        rows = admit(net, Rows(net), 0, ('delay event', 1, 300))[1]
+        times = times_of(net, rows)
+        run = write_feed(os.path.join(self.folder, 'run'), {'text': lines_of_run(net, [('delay event', 1, 300)], times, cost_of(net, rows, times, 0))})
+        _, lines = self.heard(28700, self.update('r1', call(2, arrival=29700)), options=[f'--text={run}/text'])
+        self.assertEqual(lines, ['now 28700'])
+
+    def test_what_cannot_be_said_is_told_by_name(self):
+        skipped = {'stop_sequence': 2, 'schedule_relationship': 1}
+        said, lines = self.heard(
+            28000, self.update('r1', skipped), self.update('g1', schedule_relationship=3), self.update('x9', call(1, departure=28800)),
+            self.update('r1', call(7, arrival=28800)), {'is_deleted': 1, **self.update('x8')})
+        self.assertEqual(lines, ['now 28000'])
+        for line in ('calls that are skipped, which nothing can be said of: r1, call 2', 'trips that are cancelled, which nothing can be said of: g1 20261224',
+                     'trips that the network has not: x9 20261224', 'calls that the network has not: r1, call 7'):
+            self.assertIn(f'gtfs_rt_in: {line}\n', said)
+        self.assertNotIn('x8', said)
+
+    def test_times_that_fall_say_nothing(self):
+        said, lines = self.heard(28000, self.update('r1', call(1, departure=29100), call(2, arrival=29000)))
+        self.assertEqual(lines, ['delay event 1 300', 'now 28000'])
+        self.assertIn('times that fall: r1, call 2, arrival\n', said)
+
+    def test_messages_out_of_order_or_twice_say_nothing(self):
+        _, lines = self.heard(28000, self.update('r1', call(1, departure=29100)))
+        said, after = self.heard(27000, self.update('r1', call(1, departure=29500)))
+        self.assertEqual(after, lines)
+        self.assertIn('messages out of order: ', said)
+        status, said = self.call(gtfs_rt_in, self.net, self.feed, self.last, self.last)
+        self.assertIn('messages that come twice: ', said)
+        self.assertEqual(read(self.feed).splitlines(), lines)
+
+    def test_broken_message_is_told(self):
+        write_feed(os.path.join(self.folder, 'bad'), {'m': b'\x0a\x05ab'})
+        status, said = self.call(gtfs_rt_in, self.net, self.feed, os.path.join(self.folder, 'bad', 'm'))
+        self.assertEqual(status, 2)
+        self.assertIn('this is no message (a field at byte 2 is longer than its message)', said)
+        self.assertFalse(os.path.exists(self.feed))
+
+
+class Out(Realtime):
+    def written(self, *messages):
+        net = read_network(self.net)
+        rows = Rows(net)
+        for count, message in enumerate(messages):
+            refusal, rows = admit(net, rows, count, message)
+            self.assertIsNone(refusal)
+        times = times_of(net, rows)
+        folder = write_feed(os.path.join(self.folder, 'run'), {'text': lines_of_run(net, messages, times, cost_of(net, rows, times, 0))})
+        out = os.path.join(self.folder, 'out.pb')
+        self.assertEqual(self.call(gtfs_rt_out, self.net, os.path.join(folder, 'text'), out), (0, ''))
+        with open(out, 'rb') as file:
+            return file.read()
+
+    def test_calls_have_delays_and_times_or_nothing_is_known(self):
+        message = decode(self.written(('delay event', 1, 60), ('now', 28000)))
+        self.assertEqual(message['header'], {'gtfs_realtime_version': '2.0', 'incrementality': 0, 'timestamp': MIDNIGHT + 28000})
+        late, other = (one['trip_update'] for one in message['entity'])
+        self.assertEqual(late['trip'], {'trip_id': 'r1', 'start_date': DATE, 'schedule_relationship': 0})
+        self.assertEqual([call.get('arrival', {}).get('delay') for call in late['stop_time_update']], [None, 60, 60])
+        self.assertEqual(late['stop_time_update'][1], {
+            'stop_sequence': 2, 'stop_id': 'B', 'schedule_relationship': 0, 'arrival': {'delay': 60, 'time': MIDNIGHT + 29460},
+            'departure': {'delay': 60, 'time': MIDNIGHT + 29460}})
+        self.assertEqual([call['schedule_relationship'] for call in other['stop_time_update']], [2, 2])
+        self.assertNotIn('departure', other['stop_time_update'][0])
+
+    def test_dropped_changes_are_alerts(self):
+        change = next(one for one in read_network(self.net).activities if one.kind == 'change')
+        alert, = (one['alert'] for one in decode(self.written(('drop', change.id), ('now', 28000)))['entity'] if 'alert' in one)
+        self.assertEqual([(one['trip']['trip_id'], one['stop_id']) for one in alert['informed_entity']], [('r1', 'B'), ('g1', 'B')])
+        self.assertEqual(alert['header_text']['translation'][0]['text'], 'Red 08:00: no connection to Green 08:15 at Boll')
+        self.assertEqual(alert['active_period'], [{'end': MIDNIGHT + 29700}])
+        gone = decode(self.written_again(('drop', change.id), ('pass', change.head, 29700), ('now', 29700)))
+        self.assertEqual([one for one in gone['entity'] if 'alert' in one], [])
+
+    def written_again(self, *messages):
+        shutil.rmtree(os.path.join(self.folder, 'run'))
+        return self.written(*messages)
+
+    def test_what_comes_out_goes_in_as_the_same_delay(self):
+        data = self.written(('delay event', 1, 60), ('now', 28000))
+        name = os.path.join(self.folder, 'out.pb')
+        self.assertTrue(data)
+        self.assertEqual(self.call(gtfs_rt_in, self.net, self.feed, name), (0, ''))
+        self.assertEqual(read(self.feed).splitlines(), ['delay event 1 60', 'now 28000'])
+
+    @unittest.skipUnless(shutil.which('protoc'), 'protoc (protobuf-compiler of Debian) is not here')
+    def test_an_independent_decoder_reads_the_same(self):
+        data = self.written(('delay event', 1, 60), ('now', 28000))
+        told = subprocess.run(['protoc', '--decode_raw'], input=data, capture_output=True, check=True).stdout.decode()
+        told = re.sub(r'\s+', ' ', told)
+        self.assertTrue(told.startswith(f'1 {{ 1: "2.0" 2: 0 3: {MIDNIGHT + 28000} }} 2 {{ 1: "trip-1" 3 {{ 1 {{ 1: "r1" 3: "{DATE}" 4: 0 }} '), told)
+        self.assertIn(f'2 {{ 1: 2 4: "B" 5: 0 2 {{ 1: 60 2: {MIDNIGHT + 29460} }} 3 {{ 1: 60 2: {MIDNIGHT + 29460} }} }}', told)
+
+
+class Days(unittest.TestCase):
+    def test_begin_twelve_hours_before_noon(self):
+        self.assertEqual(beginning('2026-12-24', 'Europe/Berlin'), MIDNIGHT)
+        # On 29 March 2026 clocks go forward: noon is eleven hours behind midnight, so that day begins at 23:00 of the day before.
+        self.assertEqual(beginning('2026-03-29', 'Europe/Berlin') - beginning('2026-03-28', 'Europe/Berlin'), 23 * 3600)
+
+
+if __name__ == '__main__':
+    unittest.main()
