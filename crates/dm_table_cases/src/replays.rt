@@ -86,11 +86,9 @@ pub fn refused(alloc: Global) -> Result<(), Failure> {
 fn replay_unknown(alloc: Global, net: &Network) -> Result<(), Failure> {
     let start = rows_on_time(alloc, net)?;
     let unknown = entries(alloc, LATE, Message::Drop(ActId(9)))?;
-    let due = ReplayFault::Refused(1, Refusal::UnknownActivity(ActId(9)));
-    if fault_of(alloc, net, &start, &unknown) == Some(due) {
-        Ok(())
-    } else {
-        Err(Failure::Differs(1))
+    match fault_of(alloc, net, &start, &unknown) {
+        Some(ReplayFault::Refused(1, Refusal::UnknownActivity(ActId(9)))) => Ok(()),
+        _ => Err(Failure::Differs(1)),
     }
 }
 
