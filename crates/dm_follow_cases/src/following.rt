@@ -10,7 +10,7 @@ use std::alloc::Global;
 const PENALTY: u64 = 10;
 
 /// What is held after a text, and the line that breaks its rule.
-#[derive(Clone, Copy, PartialEq, Eq, Debug)]
+#[derive(Clone, Copy, PartialEq, Eq)]
 pub struct Standing {
     pub entries: u32,
     pub tail: Tail,

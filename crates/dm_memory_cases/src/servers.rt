@@ -54,11 +54,8 @@ fn posted<'n, R: Wait>(
     match post(rt, server, pass) {
         Ok(number) => Ok(number),
         Err(refused) => {
-            let none = At {
-                entry: 0,
-                why: Refusal::OutOfMemory,
-            };
-            is_due(refused == none, 0)?;
+            let At { entry, why } = refused;
+            is_due(entry == 0 && why == Refusal::OutOfMemory, 0)?;
             post(rt, server, pass).map_err(|_refused| Failure::Differs(1))
         }
     }

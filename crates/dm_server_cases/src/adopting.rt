@@ -33,7 +33,7 @@ impl Case for AdoptsPlan {
     const ENTRIES: u32 = 2;
 
     fn comes_out<R: Wait + AllocGlobal>(rt: &R, served: &mut Served<'_>) -> Result<bool, Failure> {
-        let entered = served.post(rt, LATE) == Ok(1);
+        let entered = matches!(served.post(rt, LATE), Ok(1));
         let before = stands_after(rt, served, 1, Decided::Kept);
         let answers = adopt_twice(rt, served);
         let after = stands_after(rt, served, 2, Decided::Dropped);

@@ -17,7 +17,7 @@ impl Case for AnswersAfterDelay {
     const ENTRIES: u32 = 1;
 
     fn comes_out<R: Wait + AllocGlobal>(rt: &R, served: &mut Served<'_>) -> Result<bool, Failure> {
-        let entered = served.post(rt, LATE) == Ok(1);
+        let entered = matches!(served.post(rt, LATE), Ok(1));
         let told = tells_times(rt, served);
         let counted = counts(rt, served);
         let copied = copies_times(rt, served);

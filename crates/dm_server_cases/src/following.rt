@@ -50,7 +50,7 @@ fn moves_all<'n, R: Wait>(
     ensures { IsSame pass.old pass.new }
 {
     let opened = server.copy_times(rt, pass, times);
-    let entered = post(rt, server, pass, LATE) == Ok(1);
+    let entered = matches!(post(rt, server, pass, LATE), Ok(1));
     let entry = server.follow_times(rt, pass, times, opened, listed);
     let all = times.as_slice() == TIMES.as_slice() && listed.len() == 6;
     let last = server.follow_times(rt, pass, times, entry, listed);

@@ -15,7 +15,7 @@ impl Case for ReadsAfterJoin {
 
     fn comes_out<R: Wait + AllocGlobal>(rt: &R, served: &mut Served<'_>) -> Result<bool, Failure> {
         let second = served.server.split(&mut served.pass);
-        let entered = post(rt, &served.server, &mut served.pass, LATE) == Ok(1);
+        let entered = matches!(post(rt, &served.server, &mut served.pass, LATE), Ok(1));
         served.server.join(&mut served.pass, second);
         let told = served.time(rt, 6) == Some((365, 1));
         Ok(entered && told)

@@ -26,11 +26,19 @@ fn refused<R: Wait>(rt: &R, served: &mut Served<'_>) -> u32 {
     let mut refused: u32 = 0;
     for number in 0..CASES {
         let (message, why) = case(number);
-        if served.post(rt, message) == Err(At { entry: 0, why }) {
+        if is_refused(served.post(rt, message), why) {
             refused = refused.saturating_add(1);
         }
     }
     refused
+}
+
+/// Whether a message was refused at once, for this reason.
+fn is_refused(told: Result<u32, At<Refusal>>, due: Refusal) -> bool {
+    match told {
+        Err(At { entry, why }) => entry == 0 && why == due,
+        Ok(_number) => false,
+    }
 }
 
 /// A message and why it is refused.
