@@ -89,13 +89,13 @@ class RowsLeftOut(InNetwork):
         self.assertIn(what, said)
 
     def test_first_rows_of_a_zip_file_and_of_a_folder_are_told_alike(self):
-        files = {**SMALL, 'transfers.txt': ['from_stop_id,to_stop_id,transfer_type,min_transfer_time', 'A,B,2,60']}
+        files = {**SMALL, 'transfers.txt': ['from_stop_id,to_stop_id,transfer_type,min_transfer_time', 'A,B,2,']}
         folder = write_feed(os.path.join(self.folder, 'feed'), files)
         with zipfile.ZipFile(os.path.join(self.folder, 'feed.zip'), 'w') as archive:
             for name in os.listdir(folder):
                 archive.write(os.path.join(folder, name), name)
         for feed in folder, f'{folder}.zip':
-            self.assertIn('left out: rows of transfers.txt between two stations: 1 (first: transfers.txt, line 2)',
+            self.assertIn('left out: rows of transfers.txt of type 2 without a min_transfer_time: 1 (first: transfers.txt, line 2)',
                           self.call(from_gtfs, feed, DATE, self.net)[1])
 
 
