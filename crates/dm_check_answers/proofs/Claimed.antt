@@ -17,24 +17,7 @@ use Rattle.dm_check_answers.specs.declared.known.Known.{Known}
 abbrev IsTrue : Setting → List Entry → Answered → Type 0
 IsTrue s history a = IsTrueClaim s history a.said (reply_of a.answer)
 
--- of no claims
-pub none_known : (s : Setting) (history : List Entry) (claims : List Answered) (verdicts : List (Option Bool)) → claims ≡ [] → AreRightly s history claims verdicts
-none_known s history claims verdicts none k c got =
-    let size : length claims ≡ 0 = ap (λ (xs : List Answered). length xs) none in
-    let past : slice_get claims k ≡ None = slice_get_past claims k (omega arith) in
-    let both : None ≡ Some c = sym past ∙ got in
-    absurd cc
-
 module _ (s : Setting) (history : List Entry) (claims : List Answered) where
-  -- where no verdict was found
-  pub none_judged : (verdicts : List (Option Bool)) (n : ℕ) → verdicts ≡ replicate n None → AreRightly s history claims verdicts
-  none_judged verdicts n none k c got =
-      subst (λ (vs : List (Option Bool)). IfSome (slice_index_or vs k None) (Tells (IsTrue s history c))) (sym none)
-      (elim (cases_lt k n) [
-        | inl below ↦ subst (λ (o : Option Bool). IfSome o (Tells (IsTrue s history c))) (sym (get_or-replicate n k None None below)) tt
-        | inr past ↦ subst (λ (o : Option Bool). IfSome o (Tells (IsTrue s history c))) (sym (get_or_past (replicate n None) k None (subst (λ (m : ℕ). m ≤ k) (sym (length-replicate n None)) past))) tt
-      ])
-
   -- one verdict more
   pub one_judged : (verdicts : List (Option Bool)) (place : ℕ) (c : Answered) (b : Bool) → place < length verdicts → slice_get claims place ≡ Some c → Tells (IsTrue s history c) b → AreRightly s history claims verdicts →
       AreRightly s history claims (slice_set verdicts place (Some b))
@@ -49,12 +32,6 @@ module _ (s : Setting) (history : List Entry) (claims : List Answered) where
             subst (λ (o : Option Bool). IfSome o (Tells (IsTrue s history d))) (sym set) (subst (λ (x : Answered). Tells (IsTrue s history x) b) same tells)
         | inr ne ↦ subst (λ (o : Option Bool). IfSome o (Tells (IsTrue s history d))) (sym (get_or-set_other verdicts place k (Some b) None ne)) (rightly k d got)
       ]
-
-  -- what is known of the claim at a place
-  pub known_tells : (verdicts : List (Option Bool)) (k : ℕ) (said : Line) (answer : Answer) (o : Option Bool) → AreRightly s history claims verdicts → slice_get claims k ≡ Some (record { said = said; answer = answer }) →
-      o ≡ slice_index_or verdicts k None → IfSome o (Tells (IsTrueClaim s history said (reply_of answer)))
-  known_tells verdicts k said answer o rightly at found =
-      subst (λ (v : Option Bool). IfSome v (Tells (IsTrueClaim s history said (reply_of answer)))) (sym found) (rightly k (record { said = said; answer = answer }) at)
 
 -- the same claims and verdicts are known still
 pub still_known : (s : Setting) (history : List Entry) (old new : Known) → new.claims ≡ old.claims → new.verdicts ≡ old.verdicts → IsKnown s history old → IsKnown s history new

@@ -13,17 +13,6 @@ use Rattle.dm_paths.specs.RowsRead.{IsAmong}
 use Rattle.dm_paths.proofs.Changing.{its_pair, no_pair}
 use Rattle.dm_paths.proofs.RowsRead.{among_next}
 
--- one flag that is set
-pub set_one : (flags : List Bool) (a n : ℕ) (value : Bool) → a < length flags → AreSetWhere (λ b. b == a) value n flags (slice_set flags a value)
-set_one flags a n value below = record {
-  size = length-set flags a value;
-  each = λ b lt. elim (cases_eq b a) [
-    | inl is ↦ ap (is_flagged (slice_set flags a value)) is ∙ get_or-set_same flags a value false below
-        ∙ sym (cond-true (b == a) value (is_flagged flags b) (eq-eqb b a is))
-    | inr ne ↦ get_or-set_other flags a b value false ne ∙ sym (cond-false (b == a) value (is_flagged flags b) (ne_eqb b a ne))
-  ];
-}
-
 module _ (net : Net) (p : ℕ) (row : List ℕ) (value : Bool) where
   pub none_turned : (flags : List Bool) → HasTurned net p row 0 value flags flags
   none_turned flags = record { size = refl; same = λ b. inl refl; done = λ b (k, lt, is) its. absurd (omega arith) }

@@ -80,7 +80,3 @@ module _ (net : Net) (rows : RowsValue) (path : List Decision) where
     | inl c ↦ record { cycle = c.cycle; is_cycle = c.is_cycle }
     | inr none ↦ absurd (some none)
   ]
-
-pub on_ok_three : {V E : Type 0} (r : Result V E) (P Q R S : Type 0) → (P → Q → R → S) → OnOk r P → OnOk r Q → OnOk r R → OnOk r S
-on_ok_three (Ok v) P Q R S f p q s = f p q s
-on_ok_three (Err e) P Q R S f p q s = tt

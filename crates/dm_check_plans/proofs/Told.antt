@@ -42,9 +42,6 @@ one_own net rows penalty a b p q =
     p.cost ∙ ap (λ (x : List ℕ). cost_of net rows x penalty) (one_least net rows _ p.times q.times p.least q.least) ∙ sym q.cost
 
 module _ (net : Net) (rows : RowsValue) (penalty budget : ℕ) (path : List Decision) where
-  task : Task
-  task = whole_task net rows penalty budget
-
   -- where some timetable is least there is no cycle
   least_has_none : IsNetwork net → (x : List ℕ) → IsRelaxedLeast net rows path x → HasNoRelaxedCycle net rows path
   least_has_none network x least =
@@ -64,9 +61,6 @@ module _ (net : Net) (rows : RowsValue) (penalty budget : ℕ) (path : List Deci
   cycle_told network some plan_cost Hole false e = λ t. t
 
   module _ (times : List ℕ) (least : IsRelaxedLeast net rows path times) where
-    own : ℕ
-    own = relaxed_cost_of net rows path times penalty
-
     one_cost : (c : ℕ) → RelaxedCosts net rows path penalty c → c ≡ relaxed_cost_of net rows path times penalty
     one_cost c costs =
         costs.cost ∙ ap (λ (x : List ℕ). relaxed_cost_of net rows path x penalty)

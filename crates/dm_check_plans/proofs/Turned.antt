@@ -149,11 +149,6 @@ none_dropped false kept passed = refl
 pub none_charged : (net : Net) (rows : RowsValue) (a : ℕ) → is_relaxed_dropped net rows [] a ≡ false
 none_charged net rows a = none_dropped (is_change (activity_at net a).kind) (kept_at rows a) (has_passed rows (activity_at net a).head)
 
--- what is no change is charged for nowhere
-pub no_change_charged : (net : Net) (rows : RowsValue) (path : List Decision) (a : ℕ) → is_change (activity_at net a).kind ≡ false → is_relaxed_dropped net rows path a ≡ false
-no_change_charged net rows path a other =
-    ap (λ (b : Bool). (b && not (kept_at (with_decisions net rows path) a) && not (has_passed (with_decisions net rows path) (activity_at net a).head)) && not (is_undecided_change net rows path a)) other
-
 -- where nothing is decided
 pub begins : (net : Net) (rows : RowsValue) (changes pairs charged : List Bool) (timetable : HeldTimetableValue) (cost : KeptCostValue) (moved : PlaceSetValue) (places : List ℕ) (path : List Decision) → path ≡ [] →
     AreFlags (is_undecided_change net rows []) (length net.activities) changes → AreFlags (is_undecided_pair net rows []) (length net.pairs) pairs →

@@ -21,14 +21,6 @@ use Rattle.dm_check_times.specs.Changes.{AreChangesTo}
 use Rattle.dm_paths.specs.Flags.{is_flagged, AreFlags}
 use Rattle.dm_check_plans.specs.Inside.Violations.{NoneFlagged, NoneFlaggedAmong, AreFlagsOfChanges}
 
--- one more place that is not flagged, or does not meet the test
-pub next_flagged : (flags : List Bool) (test : ℕ → Bool) (n : ℕ) → NoneFlagged flags test n → (is_flagged flags n && test n) ≡ false → NoneFlagged flags test (n + 1)
-next_flagged flags test n none here k lt =
-    elim (cases_lt k n) [
-      | inl early ↦ none k early
-      | inr past ↦ let is : k ≡ n = omega arith in subst (λ (j : ℕ). (is_flagged flags j && test j) ≡ false) (sym is) here
-    ]
-
 -- a choice is violated exactly where it is flagged at its place and unkept there
 module _ (net : Net) (network : IsNetwork net) (rows : RowsValue) (path : List Decision) (x : List ℕ) (choice : Choice) (place : ChoicePlace) (is : IsPlaceOf net choice place)
     (changes pairs : List Bool) (are_changes : AreFlags (is_undecided_change net rows path) (length net.activities) changes)

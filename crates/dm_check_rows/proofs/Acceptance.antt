@@ -63,22 +63,6 @@ entered net m change was now known stays kept still priced priced_still t new co
   settled = λ is. absurd cc;
 }
 
--- rows whose least timetable is computed
-pub settles : (net : Net) (rows : RowsValue) (t : KeptTimetableValue) (cost : KeptCostValue) (moved : PlaceSetValue) (priced : Bool) (schedule : List Scheduled) → IsSized net rows → IsScheduleOf net schedule → IsKeptCostOf net cost → IsPriced net rows cost priced → IsNoted t cost moved priced → length moved.flags ≡ length net.events → IsSettledFor net rows t →
-    AreCheckedRowsOf net (record { rows = rows; is_free = true; is_kept = true; is_priced = priced; is_settled = false; schedule = schedule; timetable = t; kept_cost = cost; moved = moved })
-settles net rows t cost moved priced schedule sized scheduled is_cost is_priced noted as_many settled = record {
-  sized = sized;
-  free = λ _. settled.no_cycle;
-  schedule = scheduled;
-  room = settled.timetable.room;
-  kept = λ _. record { timetable = settled.timetable; agrees = settled.agrees };
-  cost = is_cost;
-  priced = is_priced;
-  noted = noted;
-  as_many_moved = as_many;
-  settled = λ is. absurd cc;
-}
-
 -- rows of which a cycle is found: the weights of the cost stay, where what has moved is noted
 pub unsettled : (net : Net) (rows : RowsValue) (free kept priced settled still : Bool) (schedule : List Scheduled) (t new : KeptTimetableValue) (cost : KeptCostValue) (moved now : PlaceSetValue) →
     AreCheckedRowsOf net (record { rows = rows; is_free = free; is_kept = kept; is_priced = priced; is_settled = settled; schedule = schedule; timetable = t; kept_cost = cost; moved = moved }) →

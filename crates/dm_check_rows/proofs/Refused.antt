@@ -54,18 +54,3 @@ one_refusal net rows n m r s said once other = one_cause net rows m r s said onc
 pub told_at_once : (net : Net) (rows : RowsValue) (n : ℕ) (m : Message) (r s : Refusal) (b : Bool) → IsSaid m → RefusesAtOnce net rows m r → Tells (r ≡ s) b → Tells (Refuses net rows n m s) b
 told_at_once net rows n m r s true said once same = subst (λ (x : Refusal). Refuses net rows n m x) same (refuses_at_once net rows n m r once)
 told_at_once net rows n m r s false said once differs = λ other. differs (one_refusal net rows n m r s said once other)
-
--- ---- after what nothing refuses at once
-
-no_cycle_then : (net : Net) (rows : RowsValue) (n : ℕ) (m : Message) → (IsNow m → ⊥) → Refuses net rows n m (refusal.Full ENTRIES) → HasNoCycle net (after net rows m)
-no_cycle_then net rows n m other refuses = by refuses.1
-  where
-    by : IsNow m ⊎ HasNoCycle net (after net rows m) → HasNoCycle net (after net rows m)
-    by (inl now) = absurd (other now)
-    by (inr none) = none
-
-pub full_told : {E : Type 0} (net : Net) (rows : RowsValue) (n : ℕ) (m : Message) (result : Result Bool E) → n ≡ ENTRIES → PassesAtOnce net rows m → (IsNow m → ⊥) →
-    IfOk result (Tells (HasNoCycle net (after net rows m))) → IfOk result (Tells (Refuses net rows n m (refusal.Full ENTRIES)))
-full_told net rows n m (Ok true) full passes other none = (passes, inr none, full, sym full)
-full_told net rows n m (Ok false) full passes other some = λ refuses. some (no_cycle_then net rows n m other refuses)
-full_told net rows n m (Err fault) full passes other told = tt

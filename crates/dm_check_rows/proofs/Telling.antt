@@ -10,13 +10,6 @@ use Rattle.dm_check_rows.specs.Claims.{IsTimeOf, Tells}
 one_time : (net : Net) (rows : RowsValue) (x y : List ℕ) → IsLeast net rows x → IsLeast net rows y → (i : ℕ) → i < length net.events → time_at x i ≡ time_at y i
 one_time net rows x y p q i below = let a = p.earliest y q.meets i below in let b = q.earliest x p.meets i below in omega arith
 
-pub time_told : (net : Net) (rows : RowsValue) (times : List ℕ) (i time : ℕ) (b : Bool) → b ≡ eqb (time_at times i) time → IsLeast net rows times → i < length net.events → Tells (IsTimeOf net rows i time) b
-time_told net rows times i time true e least below = record { times = times; least = least; is_time = sym (eqb-true (time_at times i) time (sym e)) }
-time_told net rows times i time false e least below = λ other.
-    let same : time_at times i ≡ time = one_time net rows times other.times least other.least i below ∙ sym other.is_time in
-    let yes : eqb (time_at times i) time ≡ true = eq-eqb (time_at times i) time same in
-    absurd (let f : false ≡ true = e ∙ yes in cc)
-
 -- one timetable is least, as a list
 pub one_least : (net : Net) (rows : RowsValue) (x y : List ℕ) → IsLeast net rows x → IsLeast net rows y → x ≡ y
 one_least net rows x y p q = ext_get_or 0 x y (p.meets.size ∙ sym q.meets.size) (λ i below. one_time net rows x y p q i (let s = p.meets.size in omega arith))

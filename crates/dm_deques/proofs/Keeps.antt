@@ -46,12 +46,6 @@ module _ {T : Type 0} (fits : T → Type 0) where
   abbrev Holds : List T → List (Account T) → Type 0
   Holds = Balanced fits
 
-  pub opens : Holds [] (fresh true ∷ [])
-  opens = record { balance = λ h. refl; one_puts = refl; others = first; fit = All-nil fits } where
-    first : (i : ℕ) (v : Account T) → get_elem? (fresh true ∷ []) i ≡ some v → Bare v
-    first zero v e none = ap (λ (u : Account T). u.put) (sym (some-injective (fresh true) v e))
-    first (suc i) v e none = absurd (some-ne-none v (sym e))
-
   -- where one account changes by as much as the tasks do, what was balanced still is
   rebalanced : (port : ℕ) (v w : Account T) (before items : List T) (views : List (Account T)) → get_elem? views port ≡ some v → Holds before views → w.puts ≡ v.puts → Bare w
       → ((h : T → ℕ) → sum_by h w.put + (sum_by h v.taken + sum_by h before) ≡ sum_by h v.put + (sum_by h w.taken + sum_by h items)) → All fits items → Holds items (set views port w)
@@ -89,9 +83,6 @@ module _ {T : Type 0} (fits : T → Type 0) where
     taken_off port v xs items (xs ++ items) views at b (λ h. omega (arith, sum_by-append h xs items)) (all_right fits xs items b.fit),
     (refl, all_left fits xs items b.fit),
   )
-
-  pub finds : (port : ℕ) (v : Account T) → Finds Holds port v (WasEmpty fits v)
-  finds port v views b at = record { accounts = views; place = port; stands = at; balanced = b }
 
   pub admits : Admits Holds (fresh false)
   admits items views b =

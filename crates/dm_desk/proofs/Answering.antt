@@ -220,13 +220,3 @@ module _ {S : Type 0} where
   }
 
 -- ---- what is heard in a due line
-
-due_heard : (text : List ℕ) (heard : Heard) → Hears text heard → (IsQuiet text → ⊥) → IsDueHeard heard
-due_heard text Blank hears due = due hears
-due_heard text (Spoken said) hears due = hears.spelled
-due_heard text Unheard hears due = tt
-
-pub due_is_heard : {S : Type 0} (left : S → Option (List ℕ)) (before now : ReaderValue S) (here : ℕ) (heard : Heard) → IsOpen before → (before.stop ≡ None → GivesDue left before now here heard)
-    → IfSome before.stop (λ first. (Due here heard ≡ Stop first) × (now ≡ before)) → IsDueHeard heard
-due_is_heard left before now here heard is_open gives stays =
-    let due = gives (not_stopped before now here heard is_open stays) in due_heard due.text heard due.hears due.is_due

@@ -243,11 +243,6 @@ none_answered part passed desk feed items legal are_true = record {
   size = refl;
 }
 
-pub is_heard : (text : List ℕ) (heard : Heard) → Hears text heard → IsHeard heard
-is_heard text Blank hears = tt
-is_heard text (Spoken said) hears = hears.spelled
-is_heard text Unheard hears = tt
-
 pub fewer_left : (rest behind : List ℕ) (heard : Heard) → HearsFirst rest heard behind → length behind < length rest
 fewer_left rest behind heard h = omega (arith, ap length h.cut, length-append (ended h.line) behind, length-append h.line (10 ∷ []))
 

@@ -180,20 +180,6 @@ module _ (net : Net) (events activities : List DelayRow) where
   start_one (Err f) (Ok y) p q = start_clash f p.1 p.0 q.events_known q.activities_known
   start_one (Err f) (Err g) p q = start_fault_one f g p.1 q.1 p.0 q.0
 
-same_fault : (f : NetFault) → SameFault f f
-same_fault TooMany = refl
-same_fault (DoubleEvent i) = refl
-same_fault (DoubleActivity i) = refl
-same_fault (NamesUnknown i) = refl
-same_fault (ZeroHeadway i) = refl
-same_fault (Cycle ids) = tt
-same_fault NoNetworkMemory = refl
-
-pub same_flaw : (f : InputFlaw) → SameFlaw f f
-same_flaw (InFile file why) = refl
-same_flaw (Network f) = same_fault f
-same_flaw (Start f) = refl
-
 -- ---- the whole
 
 module _ (told : Told) (asked : FilesAsked) (known : IsSome told) where
@@ -252,9 +238,6 @@ module _ (told : Told) (asked : FilesAsked) (known : IsSome told) where
   ]
 
   module _ (flaw : InputFlaw) (first : OpeningAnswer told asked (Err flaw)) where
-    place_events : EventsAnswer told asked (Err flaw) → stage_place (stage_of flaw) ≡ 0
-    place_events e = place_of_file (ReadsEvents asked.columns.events) (events_one asked.columns.events) told (file_name asked Events) Events flaw e
-
     place_activities : ActivitiesAnswer told asked (Err flaw) → stage_place (stage_of flaw) ≡ 1
     place_activities a = place_of_file (ReadsActivities asked.columns.activities) (activities_one asked.columns.activities) told (file_name asked Activities) Activities flaw a
 

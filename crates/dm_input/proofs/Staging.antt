@@ -64,15 +64,6 @@ stops_at told is_sound asked file (Some name) Reads (ReadFault at) named passes 
 stops_at told is_sound asked file (Some name) Reads NoMemory named passes refuses h = tt
 
 module _ (told : Told) (is_sound : List ℕ → Type 0) (asked : FilesAsked) where
-  pub stops_events : (stop : InputStop) → StopsAtFile told is_sound (file_name asked Events) Events (ReadsEvents asked.columns.events) stop → StopsOpening told is_sound asked stop
-  stops_events stop h = stops_at told is_sound asked Events (file_name asked Events) (ReadsEvents asked.columns.events) stop refl tt (λ flaw e. inl (inl e)) h
-
-  pub stops_activities : (events : List EventRow) (stop : InputStop) → EventsAnswer told asked (Ok events)
-      → StopsAtFile told is_sound (file_name asked Activities) Activities (ReadsActivities asked.columns.activities) stop → StopsOpening told is_sound asked stop
-  stops_activities events stop e h =
-      stops_at told is_sound asked Activities (file_name asked Activities) (ReadsActivities asked.columns.activities) stop refl (events, e)
-      (λ flaw a. inl (inr (events, e, inl a))) h
-
   pub stops_event_delays : (events : List EventRow) (activities : List ActRow) (stop : InputStop) → EventsAnswer told asked (Ok events) → ActivitiesAnswer told asked (Ok activities)
       → StopsAtFile told is_sound (file_name asked EventDelays) EventDelays ReadsDelays stop → StopsOpening told is_sound asked stop
   stops_event_delays events activities stop e a h =

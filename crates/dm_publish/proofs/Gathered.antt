@@ -84,9 +84,6 @@ module _ (net : Net) (x : List ℕ) (network : IsNetwork net) where
         no_none (Some shown) = λ all. empty
 
     module _ (part : List Listed) (k : ℕ) (here : IsAtStop net stop (place_at part k)) (before : (j : ℕ) → j < k → IsAtStop net stop (place_at part j)) where
-      id_at : ℕ → ℕ
-      id_at j = (event_at net (place_at part j)).id.0
-
       -- an event that stands with its time
       pub gathered_standing : (told : Option (ℕ → Option ℕ)) (changes : List (ℕ × ℕ)) → Gathers net x stop told part k changes →
           TellsTime told (event_at net (place_at part k)).id.0 (time_at x (place_at part k)) true → Gathers net x stop told part (k + 1) changes

@@ -4,11 +4,6 @@ use Rattle.dm_outside.specs.Faults.{HasRisen}
 use Rattle.dm_store.specs.Calls.{Image, OnJournal, Elapses, LeavesOnly}
 use Rattle.dm_store.specs.Inside.Stages.{Stepped}
 
--- a count that rose late has risen
-pub risen_late : (first before now : ℕ) → first ≤ before → HasRisen before now → HasRisen first now
-risen_late first before now le (inl less) = inl (omega arith)
-risen_late first before now le (inr last) = inr last
-
 module _ {S : Type 0} (moment : S → ℕ) (left_since : S → ℕ → Image → Type 0) where
   -- before the first call
   pub started : (old : S) (P : Image → Type 0) → ((image : Image) → left_since old (moment old) image → P image) → LeavesOnly moment left_since old old P
@@ -37,10 +32,3 @@ module _ {S : Type 0} (moment : S → ℕ) (left_since : S → ℕ → Image →
     each = λ image left. more image (leaves.each image left);
     before = λ t image le left. ⊎_elim (λ was. inl was) (λ h. inr (more image h)) (leaves.before t image le left);
   }
-
--- the image that a settled store leaves is stepped from
-pub stepped : (step : List ℕ → List ℕ → Type 0) (file : List ℕ) (shown : List (List ℕ)) (from image : Image) → from.journal ≡ file → from.shown ≡ shown → OnJournal step from image → Stepped step file shown image
-stepped step file shown from image is same on = record {
-  journal = subst (λ (f : List ℕ). step f image.journal) is on.journal;
-  same = on.same ∙ same;
-}

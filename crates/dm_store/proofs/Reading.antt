@@ -5,9 +5,6 @@ use Rattle.dm_text.specs.Inside.Parts.{behind, number_in_front}
 use Rattle.dm_text.proofs.Reading.{behind_back, behind_is, number_back, number_is}
 use Rattle.dm_store.specs.Blocks.{block, behind_gate}
 
-none_some : {A : Type 0} {x : A} → None ≡ Some x → ⊥
-none_some e = cc
-
 -- what is read is a block
 pub is_block : (file a b c content rest : List ℕ) (n : ℕ) → behind (codes "+") file ≡ Some a → number_in_front (length file) a ≡ Some (n, b) →
     behind (codes "\n") b ≡ Some c → length content ≡ n → c ≡ content ++ rest → length file < 2 ^ 64 → file ≡ block content ++ rest
