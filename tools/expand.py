@@ -10,20 +10,30 @@ from bisect import bisect_left
 from collections import Counter, defaultdict
 from dataclasses import dataclass, field, replace
 from fractions import Fraction
+from functools import cached_property
 from itertools import chain, islice
-from typing import Iterable, Iterator, NamedTuple, Optional
+from typing import Callable, Iterable, Iterator, NamedTuple, Optional
 
+from cuts import in_words, stations_that_part
 from gtfs import Call, Day, End, Told, Transfer, Transfers, Trip, clock
 from railway import Activity, Event
 
-MOST_EVENTS = 100_000
-MOST_ACTIVITIES = 500_000
 ONE_PASSENGER = 1000
 WHOLE_DAY = 24 * 3600
 
 
 class Refused(Exception):
     """There is no network that the program would load."""
+
+
+@dataclass(frozen=True)
+class Limits:
+    """The most events and activities of a network; by default those of the program."""
+    events: int = 100_000
+    activities: int = 500_000
+
+
+PROGRAM = Limits()
 
 
 @dataclass(frozen=True)
@@ -48,6 +58,7 @@ class Rules:
     """How long activities take; times in seconds, shares of one. No headways are made where theirs are None.
 
     `guaranteed` are the passengers of a guaranteed connection, in thousandths, or None where they are as those of other changes.
+    `single` are the seconds between an arrival from a single track and a departure into it, by the two stations at its ends.
     """
     reserve: Fraction
     dwell: int
@@ -56,6 +67,7 @@ class Rules:
     headways: Optional[Headways]
     changing: Fraction
     guaranteed: Optional[int] = None
+    single: dict[frozenset[str], int] = field(default_factory=dict)
 
 
 @dataclass(frozen=True)
@@ -105,6 +117,11 @@ class Train:
     def events(self) -> int:
         return 2 * len(self.trip.calls) - 2
 
+    @cached_property
+    def stations(self) -> set[str]:
+        """Where it calls."""
+        return {moment.beyond for moment in self.moments}
+
     @property
     def label(self) -> str:
         return f'{self.trip.route.name} {self.trip.short_name or clock(self.begins)[:-3]}'
@@ -130,24 +147,29 @@ class Moment:
         return End(self.call.stop, trip.id, trip.route.id)
 
 
-def trains_of(day: Day, before: Optional[Day], window: Window, notes: Notes) -> list[Train]:
-    """The trains of a day, and of the one before, that run within a window, in the order in which they begin; Refused where they have
+def trains_of(
+    day: Day, before: Optional[Day], window: Window, stations: dict[str, str], notes: Notes, limits: Limits,
+) -> list[Train]:
+    """The trips of a day, and of the one before, that run within a window, in the order in which they begin; Refused where they have
     too many events."""
     trains: list[Train] = []
     events: Counter[str] = Counter()
+    ways: Counter[tuple[str, ...]] = Counter()
     for train in chain(all_trains(day, notes), past_midnight(before, notes) if before else ()):
         if window.has(train):
             events[train.trip.route.id] += train.events
-            if events.total() <= MOST_EVENTS:
+            ways[tuple(stations[call.stop] for call in train.trip.calls)] += 1
+            if events.total() <= limits.events:
                 trains.append(train)
-                notes.besides['trains of frequencies without exact times, which leave about so often'] += not train.is_exact
+            notes.besides['trains of frequencies without exact times, which leave about so often'] += not train.is_exact
         else:
             notes.left_out['trains outside of --from and --to'] += 1
-    if events.total() > MOST_EVENTS:
+    if events.total() > limits.events:
         most = ', '.join(f'{route} {count}' for route, count in events.most_common(5))
         raise Refused(
-            f'the network would have {events.total()} events, and may have {MOST_EVENTS}: choose routes by --routes= '
-            f'(most events: {most}), or a part of the day by --from= and --to='
+            f'the network would have {events.total()} events, and may have {limits.events}: choose routes by --routes= '
+            f'(most events: {most}), or a part of the day by --from= and --to=; or cut it into regions by tools/split.py with --date='
+            f'{in_words(stations_that_part(ways))}'
         )
     trains.sort(key=lambda train: (train.begins, train.name))
     return trains
@@ -362,6 +384,20 @@ class Changing:
     def stations_from(self, station: str) -> list[str]:
         return [station, *sorted(self.transfers.walks.get(station, ()))]
 
+    def reached(
+        self, arrival: Moment, departures: list[Moment], is_wanted: Callable[[Moment, Moment], bool],
+    ) -> Iterator[tuple[Moment, int, Optional[Transfer]]]:
+        """The departures that are wanted and that an arrival reaches, how long the change takes at least, and the row that says so."""
+        for place in range(bisect_left(departures, arrival.event.time, key=time_of), len(departures)):
+            departure = departures[place]
+            scheduled = departure.event.time - arrival.event.time
+            if scheduled > self.rules.longest_change:
+                return
+            if is_wanted(arrival, departure):
+                least, row = self.transfers.between(arrival.end, departure.end)
+                if least is not None and least <= scheduled:
+                    yield departure, least, row
+
 
 def changes(
     trains: list[Train], stations: dict[str, str], passengers: Passengers, transfers: Transfers, rules: Rules, notes: Notes,
@@ -380,7 +416,7 @@ def changes(
         if arrival.event.kind == 'arrival' and arrival.call.leaves:
             links = promised.get(arrival.event.id, [])
             yield from links
-            yield from next_changes(arrival, changing, {towards(link.head.train, stations) for link in links})
+            yield from next_changes(arrival, changing, {towards(link.head.train, stations) for link in links}, notes)
 
 
 def towards(train: Train, stations: dict[str, str]) -> tuple[str, str]:
@@ -389,14 +425,24 @@ def towards(train: Train, stations: dict[str, str]) -> tuple[str, str]:
     return trip.route.id, trip.direction or stations[trip.calls[-1].stop]
 
 
-def next_changes(arrival: Moment, changing: Changing, done: set[tuple[str, str]]) -> Iterator[Link]:
-    """The changes from an arrival to the next departures, one for each route and direction that is not done."""
+def next_changes(arrival: Moment, changing: Changing, done: set[tuple[str, str]], notes: Notes) -> Iterator[Link]:
+    """The changes from an arrival to the next departures, one for each route and direction that is not done; and within its own route
+    one for each station to which another branch leads."""
+    branches: set[str] = set()
     for station in changing.stations_from(changing.transfers.stations[arrival.call.stop]):
         for way, others in changing.departures.get(station, {}).items():
-            if way[0] != arrival.train.trip.route.id and way not in done:
-                found = next_departure(arrival, others, changing.transfers, changing.rules)
+            if way in done:
+                continue
+            if way[0] != arrival.train.trip.route.id:
+                found = next(changing.reached(arrival, others, leads_on), None)
                 if found is not None:
                     done.add(way)
+                    yield changing.link(arrival, *found)
+                continue
+            for found in changing.reached(arrival, others, is_other_branch):
+                if found[0].beyond not in branches:
+                    branches.add(found[0].beyond)
+                    notes.besides['changes between branches of one route'] += 1
                     yield changing.link(arrival, *found)
 
 
@@ -448,25 +494,15 @@ def time_of(moment: Moment) -> int:
     return moment.event.time
 
 
-def next_departure(
-    arrival: Moment, departures: list[Moment], transfers: Transfers, rules: Rules,
-) -> Optional[tuple[Moment, int, Optional[Transfer]]]:
-    """The first of these departures that an arrival reaches, how long the change takes at least, and the row that says so."""
-    end = arrival.end
-    for place in range(bisect_left(departures, arrival.event.time, key=time_of), len(departures)):
-        departure = departures[place]
-        scheduled = departure.event.time - arrival.event.time
-        if scheduled > rules.longest_change:
-            return None
-        least, row = transfers.between(end, departure.end)
-        if least is not None and least <= scheduled and not leads_back(arrival, departure):
-            return departure, least, row
-    return None
+def leads_on(arrival: Moment, departure: Moment) -> bool:
+    """Whether a departure is of another vehicle, and does not lead to the station that the arriving train has come from."""
+    return departure.beyond != arrival.beyond and not arrival.train.shares_vehicle(departure.train)
 
 
-def leads_back(arrival: Moment, departure: Moment) -> bool:
-    """Whether a departure leads to the station that the arriving train has come from, or is of the vehicle that arrives."""
-    return departure.beyond == arrival.beyond or arrival.train.shares_vehicle(departure.train)
+def is_other_branch(arrival: Moment, departure: Moment) -> bool:
+    """Whether two trains of one route come from, and lead to, where the other one does not call."""
+    comes, goes = arrival.train, departure.train
+    return departure.beyond not in comes.stations and arrival.beyond not in goes.stations and not comes.shares_vehicle(goes)
 
 
 def headways(trains: list[Train], stations: dict[str, str], rule: Headways, notes: Notes) -> Iterator[Link]:
@@ -496,6 +532,62 @@ def headways_of(leg: list[Moment], headway: int, is_said: bool, notes: Notes) ->
             notes.besides['pairs of headways as --headways says'] += is_said
             yield Link('headway', first, second, lower)
             yield Link('headway', second, first, lower)
+
+
+def meetings(trains: list[Train], single: dict[frozenset[str], int], notes: Notes) -> Iterator[Link]:
+    """Both ways between departures of one kind of vehicle into a single track from its two ends: of each the last from the other end
+    before it, and the first behind it."""
+    tracks: dict[tuple[frozenset[str], str], list[Drive]] = defaultdict(list)
+    for train in trains:
+        for departure, arrival in zip(train.moments[::2], train.moments[1::2]):
+            ends = frozenset((departure.beyond, arrival.beyond))
+            if ends in single:
+                tracks[ends, train.trip.route.kind].append(Drive(departure, arrival.event.time - departure.event.time))
+    for (ends, _), drives in tracks.items():
+        drives.sort(key=lambda drive: drive.departure.event.time)
+        for first, second in opposed(drives):
+            yield from meeting(first, second, single[ends], notes)
+    for ends in single.keys() - {ends for ends, _ in tracks}:
+        notes.left_out['stretches of --single-track on which no train runs'] += 1
+
+
+class Drive(NamedTuple):
+    """A departure into a stretch, and how long the timetable has the train on it."""
+    departure: Moment
+    takes: int
+
+
+def opposed(drives: list[Drive]) -> Iterator[tuple[Drive, Drive]]:
+    """Of drives in the order of time, each with the last one before it that leads the other way, and with the first one behind it."""
+    latest: dict[str, Drive] = {}
+    waiting: list[Drive] = []
+    for drive in drives:
+        beyond = drive.departure.beyond
+        before = next((one for end, one in latest.items() if end != beyond), None)
+        if waiting and waiting[0].departure.beyond != beyond:
+            yield from ((one, drive) for one in waiting)
+            waiting = []
+        elif before is not None:
+            yield before, drive
+        latest[beyond] = drive
+        waiting.append(drive)
+
+
+def meeting(first: Drive, second: Drive, clear: int, notes: Notes) -> Iterator[Link]:
+    """The pair of two drives on a single track: the other train leaves when the first one has come through and the track is clear."""
+    tail, head = first.departure, second.departure
+    scheduled = head.event.time - tail.event.time
+    if tail.train is head.train or tail.train.shares_vehicle(head.train):
+        notes.left_out['pairs on a single track of two trips of one vehicle'] += 1
+    elif scheduled == 0:
+        notes.left_out['pairs on a single track of trains that leave at the same time'] += 1
+    else:
+        lower = max(1, first.takes + clear)
+        if lower > scheduled:
+            notes.besides['pairs on a single track for which the timetable has less time than the drive and --single-track'] += 1
+        notes.besides['pairs on a single track, of trains that come from its two ends'] += 1
+        yield Link('headway', tail, head, min(lower, scheduled))
+        yield Link('headway', head, tail, max(1, second.takes + clear))
 
 
 def without_circles(links: list[Link], notes: Notes) -> list[Link]:
@@ -532,17 +624,24 @@ class Expanded:
 
 def expand(
     trains: list[Train], stations: dict[str, str], passengers: Passengers, transfers: Transfers, rules: Rules, notes: Notes,
+    limits: Limits = PROGRAM,
 ) -> Expanded:
     """The network of trains; Refused where it has too many activities."""
     numbers = give_moments(trains, stations, passengers, notes)
+
+    def some(made: Iterable[Link]) -> Iterator[Link]:
+        """As many activities as are needed to see that there are too many."""
+        return islice(made, limits.activities + 1)
+
     links = [*runs(trains, rules), *turnarounds(trains, transfers.linked, passengers, rules, notes)]
     links += some(changes(trains, stations, passengers, transfers, rules, notes))
     if rules.headways is not None:
         links += some(headways(trains, stations, rules.headways, notes))
+    links += some(meetings(trains, rules.single, notes))
     links = without_circles(links, notes)
-    if len(links) > MOST_ACTIVITIES:
+    if len(links) > limits.activities:
         raise Refused(
-            f'the network would have more than {MOST_ACTIVITIES} activities: leave out changes by a shorter --longest-change=, '
+            f'the network would have more than {limits.activities} activities: leave out changes by a shorter --longest-change=, '
             'headways by --no-headways, or trips by --routes=, --from= and --to='
         )
     activities = [
@@ -552,8 +651,3 @@ def expand(
     numbered = [(number, link) for number, link in enumerate(links, 1) if link.kind == 'change']
     changes_at = Counter(link.tail.event.stop for _, link in numbered)
     return Expanded(trains, numbers, [moment.event for moment in moments(trains)], activities, numbered, changes_at)
-
-
-def some(links: Iterable[Link]) -> Iterator[Link]:
-    """As many activities as are needed to see that there are too many."""
-    return islice(links, MOST_ACTIVITIES + 1)

@@ -21,7 +21,9 @@ it on, named as TRIP@20261127.
                before those for routes, and these before those for stops. A row of type 1 for two trips is a guaranteed connection:
                it is made whatever the routes are and however long it takes
   headways     both ways between departures of one kind of vehicle (rail, bus ..) that follow each other from one station to the
-               next, --headway seconds, those of --headways, or the scheduled ones where these are fewer
+               next, --headway seconds, those of --headways, or the scheduled ones where these are fewer; on a stretch of
+               --single-track also between departures from its two ends: the second train leaves when the first one has come
+               through and the seconds of the file are over
 
 What a feed has and a network cannot hold is told on standard error, with how many there are of everything. The status is 0; or 2,
 and no file is written, where the words or the feed are not as they should be, or where the network would be too large.
@@ -37,10 +39,10 @@ from datetime import date, timedelta
 from fractions import Fraction
 from typing import Iterator, Optional, Sequence
 
-from expand import Expanded, Headways, Link, Notes, Passengers, Refused, Rules, Window, expand, trains_of
+from expand import PROGRAM, Expanded, Headways, Limits, Link, Notes, Passengers, Refused, Rules, Window, expand, trains_of
 from files import write_all
 from gtfs import (
-    TYPES, Day, Feed, Route, Stops, clock, date_of, read_day, read_routes, read_rows, read_services, read_stops,
+    TYPES, Day, Feed, Route, Row, Stops, clock, date_of, read_day, read_routes, read_rows, read_services, read_stops,
     read_transfers, read_zone, told_as,
 )
 from names import ChangeName, DayName, EventName, StopName, TrainName, in_print
@@ -131,6 +133,8 @@ def add_rules(words: argparse.ArgumentParser) -> None:
         words.add_argument(f'--{name}', metavar='SECONDS', type=seconds, default=usual, help=f'({usual})')
     stretches = 'from_stop_id,to_stop_id,seconds[,type]: headways by stretch, by kind of vehicle, or both; 0 for none'
     words.add_argument('--headways', metavar='FILE', help=stretches)
+    single = 'from_stop_id,to_stop_id,seconds: stretches with one track, and the seconds until it is clear for the other direction'
+    words.add_argument('--single-track', metavar='FILE', help=single)
     words.add_argument('--no-headways', action='store_true', help='make no headways')
 
 
@@ -189,9 +193,8 @@ def read_headways(name: Optional[str], feed: Feed, stops: Stops, usual: int) -> 
             ends = row['from_stop_id'], row['to_stop_id']
             if not any(ends) and not row['type']:
                 raise row.fault('type', 'neither stops nor a kind of vehicle')
-            for column, stop in zip(('from_stop_id', 'to_stop_id'), ends):
-                if stop not in stops.stations and any(ends):
-                    raise row.fault(column, f'{feed.name} has no stop {stop}')
+            if any(ends):
+                stretch_of(row, feed, stops)
             if row['type'] and row['type'] not in TYPES and not re.fullmatch('[0-9]{1,4}', row['type']):
                 raise row.fault('type', f'"{row["type"]}" is neither a number nor one of {", ".join(TYPES)}')
             kind = Route('', '', int(row['type'])).kind if row['type'].isdecimal() else row['type']
@@ -200,6 +203,30 @@ def read_headways(name: Optional[str], feed: Feed, stops: Stops, usual: int) -> 
                 raise row.fault('from_stop_id', 'this stretch stands twice')
             rule.said[key] = row.number('seconds', LONGEST_BOUND)
     return rule
+
+
+def stretch_of(row: Row, feed: Feed, stops: Stops) -> tuple[str, str]:
+    """The two stations that a row names."""
+    for column in 'from_stop_id', 'to_stop_id':
+        if row[column] not in stops.stations:
+            raise row.fault(column, f'{feed.name} has no stop {row[column]}')
+    return stops.stations[row['from_stop_id']], stops.stations[row['to_stop_id']]
+
+
+def read_single_track(name: Optional[str], feed: Feed, stops: Stops) -> dict[frozenset[str], int]:
+    """The seconds of a file by the two ends of a stretch."""
+    single: dict[frozenset[str], int] = {}
+    if name is None:
+        return single
+    with told_as(name), open(name, 'rb') as file:
+        for row in read_rows(name, file, ['from_stop_id', 'to_stop_id', 'seconds']):
+            ends = frozenset(stretch_of(row, feed, stops))
+            if len(ends) < 2:
+                raise row.fault('to_stop_id', 'this is the station where the stretch begins')
+            if ends in single:
+                raise row.fault('from_stop_id', 'this stretch stands twice')
+            single[ends] = row.number('seconds', LONGEST_BOUND)
+    return single
 
 
 def passengers_given(text: str) -> int:
@@ -226,22 +253,23 @@ class Made:
     day: Optional[DayName] = None
 
 
-def make(feed: Feed, words: argparse.Namespace) -> Made:
+def make(feed: Feed, words: argparse.Namespace, limits: Limits) -> Made:
     """The network that the words ask for."""
     stops, routes, services = read_stops(feed), read_routes(feed), read_services(feed, words.date)
     chosen = chosen_routes(feed, routes, words.types, words.routes)
     day = read_day(feed, stops, services, routes, chosen)
     notes = Notes(day.left_out)
     before = day_before(feed, stops, routes, chosen, words.date) if words.day_before else None
-    trains = trains_of(day, before, Window(words.start, words.end), notes)
+    trains = trains_of(day, before, Window(words.start, words.end), stops.stations, notes, limits)
     if not trains:
         running = len(services.running)
         raise Refused(f'{feed.name} has no train on {words.date} that is chosen: {running} services run then, and {services.span()}')
     passengers = read_passengers(words.passengers, feed, stops)
     transfers = read_transfers(feed, stops, routes, words.change)
     headways = None if words.no_headways else read_headways(words.headways, feed, stops, words.headway)
-    rules = Rules(words.reserve, words.dwell, words.turn, words.longest_change, headways, words.changing, words.guaranteed)
-    expanded = expand(trains, stops.stations, passengers, transfers, rules, notes)
+    single = read_single_track(words.single_track, feed, stops)
+    rules = Rules(words.reserve, words.dwell, words.turn, words.longest_change, headways, words.changing, words.guaranteed, single)
+    expanded = expand(trains, stops.stations, passengers, transfers, rules, notes, limits)
     notes.left_out.take(transfers.left_out)
     notes.left_out['numbers of passengers of which no arrival is there'] += passengers.unused
     notes.besides['times between two stops with times, spread evenly'] += day.timed_between
@@ -320,7 +348,7 @@ def main(given: Optional[Sequence[str]] = None) -> int:
     words = words_read(given)
     try:
         with Feed(words.feed) as feed:
-            made = make(feed, words)
+            made = make(feed, words, PROGRAM)
         write_all(words.folder, texts_of(made))
     except (BadFile, Refused) as error:
         print(f'from_gtfs: {in_one_line(str(error), LONGEST_LINE)}', file=sys.stderr)

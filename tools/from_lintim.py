@@ -28,7 +28,7 @@ from dataclasses import dataclass, field
 from fractions import Fraction
 from typing import Iterator, NamedTuple, Optional, Sequence
 
-from expand import MOST_ACTIVITIES, MOST_EVENTS, Notes, Refused
+from expand import PROGRAM, Notes, Refused
 from files import write_all
 from gtfs import Row
 from names import StopName, in_print
@@ -161,9 +161,9 @@ class Network:
     periodic_activities: dict[int, int]
 
     def check_size(self) -> None:
-        if len(self.events) > MOST_EVENTS or len(self.activities) > MOST_ACTIVITIES:
+        if len(self.events) > PROGRAM.events or len(self.activities) > PROGRAM.activities:
             raise Refused(
-                f'the network would have more than {MOST_EVENTS} events or {MOST_ACTIVITIES} activities; with --period choose a '
+                f'the network would have more than {PROGRAM.events} events or {PROGRAM.activities} activities; with --period choose a '
                 'shorter stretch by --from= and --to='
             )
 

@@ -2,27 +2,40 @@
 """Cuts a network at boundary stops into regions, each for a server of its own: split.py NET STOPS DIR [--regions N]
 
 NET is the folder of a network, STOPS the ids of the boundary stops, with commas between. An activity between two events at boundary
-stops may be cut, and every other one holds its events together; so the parts are told. With --regions the parts, in the order of
-their least stops, are put together into N regions of about as many events each; without it each part is a region.
+stops may be cut, but for drives and pairs of headways; every other one holds its events together, and so the parts are told. With
+--regions the parts, in the order of their least stops, are put together into N regions of about as many events each; without it each
+part is a region.
 
 DIR/region-1, region-2 and so on get a folder `net` with the two files of a network, and `Boundary.csv` with a record for each
 activity that was cut and whose tail is in the region: `event here;region here;region there;event there;lower bound;scheduled time
 there`. No event is lost, and each activity stands in one region or in one table. A change that is cut is kept for ever, as a wait
 is: a table knows no choices. More regions than there are parts are refused.
 
-A cut that would part the two events of a pair is refused, with the ids of its headways: status 2, as for files that are no network.
+With --date=DAY NET is a timetable in GTFS, which may be too large for one network: split.py FEED STOPS DIR --date=DAY [OPTION..]. STOPS
+are its stop_ids then, and further options are those of from_gtfs.py. Each region's folder gets the files of names, too.
+
+A region that is too large for the program is refused: status 2, as for files that are no network.
 """
+from __future__ import annotations
+
 import argparse
 import os
 import sys
-from typing import NamedTuple
+from collections import Counter
+from dataclasses import replace
+from typing import NamedTuple, Optional, Sequence
 
+import from_gtfs
+from expand import PROGRAM, Expanded, Limits, Refused
 from files import speak_utf8, write_all
-from railway import BadFile, Network, network_files, read_network
+from gtfs import Feed
+from railway import Activity, BadFile, Event, Network, network_files, read_network
 from words import stops_of, whole_between
 
-
 MOST_REGIONS = 100_000
+
+# The largest timetable that is cut.
+LARGEST = Limits(2_000_000, 10_000_000)
 
 
 class Cut(NamedTuple):
@@ -37,9 +50,9 @@ class Cut(NamedTuple):
 
 class Region(NamedTuple):
     """The events and activities of a region, and the activities that were cut behind its events."""
-    events: list
-    activities: list
-    cuts: list
+    events: list[Event]
+    activities: list[Activity]
+    cuts: list[Cut]
 
 
 # ---- Parts
@@ -48,44 +61,39 @@ class Region(NamedTuple):
 class Parts:
     """Which events are held together: each event leads to one that stands for its part."""
 
-    def __init__(self, count):
+    def __init__(self, count: int) -> None:
         self.above = list(range(count))
 
-    def part_of(self, place):
+    def part_of(self, place: int) -> int:
         while self.above[place] != place:
             self.above[place] = self.above[self.above[place]]
             place = self.above[place]
         return place
 
-    def hold(self, one, other):
+    def hold(self, one: int, other: int) -> None:
         self.above[self.part_of(one)] = self.part_of(other)
 
 
-def may_be_cut(network, boundary, place):
-    """Whether both events of an activity are at boundary stops."""
+def may_be_cut(network: Network, boundary: set[int], place: int) -> bool:
+    """Whether both events of an activity are at boundary stops, and it is neither a drive nor of a pair."""
+    if network.activities[place].kind == 'drive' or network.pair_of_activity(place) is not None:
+        return False
     return all(network.events[end].stop in boundary for end in (network.tails[place], network.heads[place]))
 
 
-def parts_of(network, boundary):
+def parts_of(network: Network, boundary: set[int]) -> list[int]:
     """For each event, by place, the event that stands for its part."""
     parts = Parts(len(network.events))
     for place in range(len(network.activities)):
-        if not may_be_cut(network, boundary, place) or network.activities[place].kind == 'drive':
+        if not may_be_cut(network, boundary, place):
             parts.hold(network.tails[place], network.heads[place])
     return [parts.part_of(place) for place in range(len(network.events))]
 
 
-def refuse_parted_pairs(network, folder, region_of):
-    """BadFile where the two events of a pair fall into two regions."""
-    for ends in network.pairs:
-        if region_of[ends[0]] != region_of[ends[1]]:
-            ids = [network.activities[place].id for way in (ends, ends[::-1]) for place in network.headways[way]]
-            raise BadFile(folder, None, f'the cut would part the pair of headways {" ".join(map(str, ids))}')
-
-
-def regions_of(network, parts, count):
+def regions_of(network: Network, parts: list[int], count: Optional[int]) -> list[int]:
     """For each event, by place, its region from 1: the parts in the order of their least stops, about as many events in each."""
-    sizes, stops = {}, {}
+    sizes: dict[int, int] = {}
+    stops: dict[int, int] = {}
     for place, part in enumerate(parts):
         sizes[part] = sizes.get(part, 0) + 1
         stops[part] = min(stops.get(part, network.events[place].stop), network.events[place].stop)
@@ -104,7 +112,7 @@ def regions_of(network, parts, count):
     return [region[part] for part in parts]
 
 
-def split(network, region_of):
+def split(network: Network, region_of: list[int]) -> dict[int, Region]:
     """The regions by number."""
     regions = {number: Region([], [], []) for number in sorted(set(region_of))}
     for place, event in enumerate(network.events):
@@ -120,47 +128,108 @@ def split(network, region_of):
     return regions
 
 
-def boundary_text(cuts):
+def boundary_text(cuts: list[Cut]) -> str:
     lines = ['# event here;region here;region there;event there;lower bound;scheduled time there\n']
     return ''.join(lines + [f'{";".join(map(str, cut))}\n' for cut in cuts])
 
 
-def write_regions(regions, folder):
-    """Writes the files of each region."""
+def refuse_large_ones(regions: dict[int, Region]) -> None:
+    """Refused where the program would not load a region."""
     for number, region in regions.items():
-        files = network_files(region.events, region.activities)
+        if len(region.events) > PROGRAM.events or len(region.activities) > PROGRAM.activities:
+            raise Refused(
+                f'region {number} would have {len(region.events)} events and {len(region.activities)} activities, and may have '
+                f'{PROGRAM.events} and {PROGRAM.activities}: choose more regions, or more boundary stops'
+            )
+
+
+def write_regions(regions: dict[int, Region], folder: str, made: Optional[from_gtfs.Made]) -> None:
+    """Writes the files of each region; those of names, too, where the network was made of a feed."""
+    for number, region in regions.items():
+        files = network_files(region.events, region.activities) if made is None else from_gtfs.texts_of(named(made, region))
         write_all(os.path.join(folder, f'region-{number}', 'net'), files)
         write_all(os.path.join(folder, f'region-{number}'), {'Boundary.csv': boundary_text(region.cuts)})
 
 
-def make_all(given):
-    network: Network = read_network(given.net)
-    boundary = set(given.stops)
+def named(made: from_gtfs.Made, region: Region) -> from_gtfs.Made:
+    """What was made of a feed, as far as it is in a region: of each train the events that are there."""
+    events, stops = {event.id for event in region.events}, {event.stop for event in region.events}
+    trains = [replace(train, moments=[one for one in train.moments if one.event.id in events]) for train in made.expanded.trains]
+    stations = {station: number for station, number in made.expanded.stations.items() if number in stops}
+    changes = [(number, link) for number, link in made.expanded.changes if events.issuperset(link.ends)]
+    here = [train for train in trains if train.moments]
+    return replace(made, expanded=Expanded(here, stations, region.events, region.activities, changes, Counter()))
+
+
+# ---- What is cut
+
+
+def stops_of_network(network: Network, folder: str, said: str) -> set[int]:
+    """The boundary stops of a network, of which each is to have events."""
+    try:
+        stops = stops_of(said)
+    except argparse.ArgumentTypeError as error:
+        raise Refused(str(error)) from error
     known = {event.stop for event in network.events}
-    for stop in given.stops:
+    for stop in stops:
         if stop not in known:
-            raise BadFile(given.net, None, f'no event is at stop {stop}')
+            raise BadFile(folder, None, f'no event is at stop {stop}')
+    return set(stops)
+
+
+def stops_of_feed(made: from_gtfs.Made, name: str, said: str) -> set[int]:
+    """The numbers of the stations of stop_ids."""
+    numbers = [made.expanded.stations.get(made.stops.stations.get(stop, '')) for stop in said.split(',')]
+    for stop, number in zip(said.split(','), numbers):
+        if number is None:
+            raise BadFile(name, None, f'no train calls at stop {stop}')
+    return {number for number in numbers if number is not None}
+
+
+def made_of_feed(name: str, date: str, options: Sequence[str]) -> from_gtfs.Made:
+    words = from_gtfs.words_read([name, date, '', *options])
+    with Feed(name) as feed:
+        made = from_gtfs.make(feed, words, LARGEST)
+    for line in from_gtfs.summary(made, words):
+        print(line, file=sys.stderr)
+    return made
+
+
+def cut(given: argparse.Namespace, options: Sequence[str]) -> None:
+    if given.date is None:
+        made, network = None, read_network(given.net)
+        boundary = stops_of_network(network, given.net, given.stops)
+    else:
+        made = made_of_feed(given.net, given.date, options)
+        network = Network(made.expanded.events, made.expanded.activities)
+        boundary = stops_of_feed(made, given.net, given.stops)
     region_of = regions_of(network, parts_of(network, boundary), given.regions)
-    refuse_parted_pairs(network, given.net, region_of)
     regions = split(network, region_of)
-    write_regions(regions, given.dir)
+    refuse_large_ones(regions)
+    write_regions(regions, given.dir, made)
     for number, region in regions.items():
         print(f'region {number}: {len(region.events)} events, {len(region.activities)} activities, {len(region.cuts)} cut')
 
 
-def main():
-    words = argparse.ArgumentParser(description=__doc__, formatter_class=argparse.RawDescriptionHelpFormatter)
-    words.add_argument('net', metavar='NET', help='folder with Events-expanded.giv and Activities-expanded.giv')
-    words.add_argument('stops', metavar='STOPS', type=stops_of, help='ids of the boundary stops, as 6,17')
+def main(asked: Optional[Sequence[str]] = None) -> int:
+    words = argparse.ArgumentParser(
+        description=__doc__, formatter_class=argparse.RawDescriptionHelpFormatter, allow_abbrev=False)
+    words.add_argument('net', metavar='NET', help='folder with Events-expanded.giv and Activities-expanded.giv, or with --date a feed')
+    words.add_argument('stops', metavar='STOPS', help='ids of the boundary stops, as 6,17')
     words.add_argument('dir', metavar='DIR', help='where the regions go')
     words.add_argument('--regions', type=whole_between(1, MOST_REGIONS), metavar='N', help='how many regions; by default each part is one')
+    words.add_argument('--date', metavar='DAY', help='a service day of a timetable in GTFS, as 20261224')
+    given, options = words.parse_known_args(asked)
+    if options and given.date is None:
+        words.error(f'unrecognized arguments: {" ".join(options)}')
     speak_utf8()
     try:
-        make_all(words.parse_args())
-    except BadFile as fault:
+        cut(given, options)
+    except (BadFile, Refused) as fault:
         print(f'split.py: {fault}', file=sys.stderr)
-        sys.exit(2)
+        return 2
+    return 0
 
 
 if __name__ == '__main__':
-    main()
+    sys.exit(main())

@@ -199,6 +199,79 @@ class Stretches(InNetwork):
                 self.assertIn(what, said)
 
 
+class Branches(Connections):
+    """Trains of one route from A and from D, which share the way from B to C."""
+    TRIPS = ['r1 R 0 - A 08:00 B 08:10 C 08:20', 'r2 R 1 - C 08:05 B 08:15 D 08:25', 'r3 R 1 - C 08:25 B 08:35 D 08:45', 'r4 R 1 - C 08:10 B 08:20 A 08:30']
+
+    def test_have_a_change_from_one_to_the_other(self):
+        changes, said = self.changes(trips=self.TRIPS)
+        self.assertEqual(changes, [('r1 B', 'r2 B', 180)])
+        self.assertIn('besides: changes between branches of one route: 1', said)
+
+    def test_of_more_stations_each_has_its_own(self):
+        changes, _ = self.changes(trips=[*self.TRIPS, 'r5 R 1 - C 08:15 B 08:25 E 08:35'])
+        self.assertEqual(changes, [('r1 B', 'r2 B', 180), ('r1 B', 'r5 B', 180)])
+
+    def test_are_forbidden_by_rows_as_others_are(self):
+        self.assertEqual(self.changes('B,B,r1,r2,,,3,', trips=self.TRIPS)[0], [('r1 B', 'r3 B', 180)])
+        self.assertEqual(self.changes('B,B,,,R,R,3,', trips=self.TRIPS)[0], [])
+
+    def test_parts_of_a_route_meet_unless_they_are_one_vehicle(self):
+        self.assertEqual(self.changes(trips=['r1 R 0 - A 08:00 B 08:10', 'r2 R 0 - B 08:20 C 08:30'])[0], [('r1 B', 'r2 B', 180)])
+        self.assertEqual(self.changes(trips=['r1 R 0 V A 08:00 B 08:10', 'r2 R 0 V B 08:20 C 08:30'])[0], [])
+
+
+class SingleTrack(InNetwork):
+    def pairs(self, *trips, row='A,B,60', options=('--no-headways',)):
+        folder = write_feed(os.path.join(self.folder, f's{len(os.listdir(self.folder))}'), {'s': ['from_stop_id,to_stop_id,seconds', row]})
+        net, said = self.made(trips_and_times(*trips), f'--single-track={folder}/s', *options)
+        self.assertEqual(times_of(net, Rows(net)), [event.time for event in net.events])
+        self.assertEqual(len(net.pairs) * 2, len(self.activities(net, 'headway')))
+        return self.activities(net, 'headway'), said
+
+    def test_joins_trains_from_both_ends(self):
+        # Ten minutes on the track, and one until it is clear; r2 needs twelve.
+        pairs, said = self.pairs('r1 R 0 - A 08:00 B 08:10', 'r2 R 1 - B 08:20 A 08:32')
+        self.assertEqual(pairs, [('r1 A', 'r2 B', 660), ('r2 B', 'r1 A', 780)])
+        self.assertIn('besides: pairs on a single track, of trains that come from its two ends: 1', said)
+        self.assertEqual(self.pairs('r1 R 0 - A 08:00 B 08:10', 'r2 R 1 - B 08:20 A 08:32', row='B,A,0')[0], [
+            ('r1 A', 'r2 B', 600), ('r2 B', 'r1 A', 720)])
+
+    def test_joins_each_with_the_last_before_and_the_first_behind(self):
+        pairs, _ = self.pairs(
+            'r1 R 0 - A 08:00 B 08:10', 'r2 R 0 - A 08:05 B 08:15', 'r3 R 1 - B 08:30 A 08:40', 'r4 R 1 - B 08:35 A 08:45', 'r5 R 0 - A 09:00 B 09:10')
+        self.assertEqual([(one, other) for one, other, _ in pairs[::2]], [
+            ('r1 A', 'r3 B'), ('r2 A', 'r3 B'), ('r2 A', 'r4 B'), ('r3 B', 'r5 A'), ('r4 B', 'r5 A')])
+
+    def test_never_asks_for_more_than_the_timetable_has(self):
+        pairs, said = self.pairs('r1 R 0 - A 08:00 B 08:10', 'r2 R 1 - B 08:07 A 08:17')
+        self.assertEqual(pairs, [('r1 A', 'r2 B', 420), ('r2 B', 'r1 A', 660)])
+        self.assertIn('besides: pairs on a single track for which the timetable has less time than the drive and --single-track: 1', said)
+
+    def test_what_makes_no_pair_is_told(self):
+        pairs, said = self.pairs('r1 R 0 - A 08:00 B 08:10', 'r2 R 1 - B 08:00 A 08:10')
+        self.assertEqual(pairs, [])
+        self.assertIn('left out: pairs on a single track of trains that leave at the same time: 1', said)
+        pairs, said = self.pairs('r1 R 0 V A 08:00 B 08:10', 'r2 R 1 V B 08:20 A 08:30')
+        self.assertEqual(pairs, [])
+        self.assertIn('left out: pairs on a single track of two trips of one vehicle: 1', said)
+        self.assertIn('left out: stretches of --single-track on which no train runs: 1', self.pairs('r1 R 0 - A 08:00 C 08:10')[1])
+
+    def test_stands_beside_headways_of_one_direction(self):
+        pairs, _ = self.pairs('r1 R 0 - A 08:00 B 08:10', 'r2 R 0 - A 08:30 B 08:40', 'r3 R 1 - B 08:15 A 08:25', options=())
+        self.assertEqual(pairs[::2], [('r1 A', 'r2 A', 120), ('r1 A', 'r3 B', 660), ('r3 B', 'r2 A', 660)])
+
+    def test_broken_files_are_told(self):
+        for rows, what in ((['A,X,0'], 'column to_stop_id: '), (['A,A,0'], 'column to_stop_id: this is the station'), (['A,B,x'], 'column seconds'),
+                           (['A,B,0', 'B,A,0'], 'line 3: column from_stop_id: this stretch stands twice')):
+            with self.subTest(rows):
+                folder = write_feed(os.path.join(self.folder, f'f{len(os.listdir(self.folder))}'), {'s': ['from_stop_id,to_stop_id,seconds', *rows]})
+                feed = write_feed(os.path.join(folder, 'feed'), SMALL)
+                status, said = self.call(from_gtfs, feed, DATE, self.net, f'--single-track={folder}/s')
+                self.assertEqual(status, 2)
+                self.assertIn(what, said)
+
+
 class Find(InNetwork):
     def setUp(self):
         super().setUp()

@@ -13,6 +13,7 @@ from samples import CASES, TOP, lines_of_run, network, text
 import from_gtfs
 import to_gtfs
 from diagram import drawing
+from expand import Limits
 from names import read_events, read_labels, read_stops, read_trains
 from railway import Rows, cost_of, read_network, times_of
 from scene import read_scene
@@ -185,10 +186,11 @@ class Activities(InNetwork):
     def test_changes_lead_to_both_directions_of_another_route(self):
         changes, _ = self.changes(
             [], 'r1 R 0 - A 08:00 B 08:10', 'g1 G 0 - B 08:20 C 08:30',
-            'g2 G 1 - B 08:25 D 08:35', 'r2 R 0 - B 08:15 C 08:25',
+            'g2 G 1 - B 08:25 D 08:35', 'r2 R 0 - A 08:05 B 08:15 C 08:25',
             **{'stops.txt': [*SMALL['stops.txt'], 'D,Dorn,']},
         )
-        self.assertEqual(changes, [('r1 B', 'g1 B', 180), ('r1 B', 'g2 B', 180)])
+        due = [('r1 B', 'g1 B', 180), ('r1 B', 'g2 B', 180), ('r2 B', 'g1 B', 180), ('r2 B', 'g2 B', 180)]
+        self.assertEqual(changes, due)
 
     def test_changes_never_lead_back(self):
         changes, _ = self.changes(
@@ -276,7 +278,7 @@ class LargeFeeds(InNetwork):
 
     def test_too_many_activities_are_refused(self):
         feed = write_feed(os.path.join(self.folder, 'feed'), SMALL)
-        with mock.patch('expand.MOST_ACTIVITIES', 2):
+        with mock.patch('from_gtfs.PROGRAM', Limits(activities=2)):
             status, said = self.call(from_gtfs, feed, DATE, self.net)
         self.assertEqual(status, 2)
         self.assertIn('the network would have more than 2 activities: leave out changes by a shorter --longest-change=', said)

@@ -1,16 +1,26 @@
 """Networks cut into regions: nothing is lost, and relays that have come to rest give the times of the whole."""
+import contextlib
+import io
 import os
 import random
 import subprocess
 import sys
 import tempfile
 import unittest
+from unittest import mock
 
+from feeds import DATE, SMALL, write_feed
+from folders import InFolder, read
 from samples import CASES, TOOLS, network
+from test_gtfs import trips_and_times
 
+import from_gtfs
+import split as split_tool
+from expand import Limits
+from names import read_events, read_stops, read_trains
 from railway import BadFile, Network, Rows, apply, read_network, times_of
 from relay import Relay, read_boundary
-from split import Cut, boundary_text, parts_of, refuse_parted_pairs, regions_of, split
+from split import Cut, boundary_text, parts_of, regions_of, split
 
 MIDDLES = {11 * line + 6 for line in range(8)}
 
@@ -59,11 +69,10 @@ class Cuts(unittest.TestCase):
             self.assertEqual(sorted(cuts), sorted((activity.tail, activity.head) for activity in rest))
             self.assertEqual(len(kept) + len(cuts), len(whole.activities))
 
-    def test_pair_that_would_be_parted(self):
+    def test_pair_is_never_cut(self):
         whole = read_network(network('connection'))
-        with self.assertRaises(BadFile) as caught:
-            refuse_parted_pairs(whole, 'net', regions_of(whole, parts_of(whole, {2}), None))
-        self.assertIn('pair of headways 6 7', str(caught.exception))
+        regions = split(whole, regions_of(whole, parts_of(whole, {2}), None))
+        self.assertEqual([{6, 7} <= {one.id for one in region.activities} for region in regions.values()].count(True), 1)
 
     def test_every_number_of_regions_gets_as_many(self):
         whole = day()
@@ -92,6 +101,76 @@ class Cuts(unittest.TestCase):
             events = [len(read_network(os.path.join(folder, f'region-{number}', 'net')).events) for number in (1, 2)]
             self.assertEqual(events, [400, 400])
             self.assertTrue(read_boundary(os.path.join(folder, 'region-1', 'Boundary.csv')))
+
+
+class Feeds(InFolder):
+    """A line from A over B, C and D to E, with two trains each way, and another one that crosses it in C."""
+    TRIPS = [
+        'r1 R 0 - A 08:00 B 08:10 C 08:20 D 08:30 E 08:40', 'r2 R 0 - A 08:30 B 08:40 C 08:50 D 09:00 E 09:10',
+        'r3 R 1 - E 08:05 D 08:15 C 08:25 B 08:35 A 08:45', 'r4 R 1 - E 08:35 D 08:45 C 08:55 B 09:05 A 09:15', 'g1 G 0 - F 08:10 C 08:28 G 08:50',
+    ]
+
+    def setUp(self):
+        super().setUp()
+        stops = [SMALL['stops.txt'][0], *(f'{stop},{stop},' for stop in 'ABCDEFG')]
+        self.feed = write_feed(os.path.join(self.folder, 'feed'), {**SMALL, **trips_and_times(*self.TRIPS), 'stops.txt': stops})
+
+    def cut(self, *words):
+        out = io.StringIO()
+        with contextlib.redirect_stdout(out):
+            status, said = self.call(split_tool, self.feed, *words)
+        return status, out.getvalue().splitlines(), said
+
+    def test_are_cut_as_their_networks_are(self):
+        self.assertEqual(self.call(from_gtfs, self.feed, DATE, self.net)[0], 0)
+        whole, folder = read_network(self.net), os.path.join(self.folder, 'regions')
+        status, lines, said = self.cut('C', folder, f'--date={DATE}')
+        self.assertEqual(status, 0, said)
+        # In each direction A and B with two trains into C or from there, so D and E; the drive from F, and that to G.
+        sizes = [int(line.split()[2]) for line in lines]
+        self.assertEqual(sorted(sizes), [2, 2, 8, 8, 8, 8])
+        nets = [read_network(os.path.join(folder, f'region-{number}', 'net')) for number in range(1, 7)]
+        self.assertEqual([len(net.events) for net in nets], sizes)
+        self.assertEqual(sorted(event for net in nets for event in net.events), whole.events)
+        cuts = [cut for number in range(1, 7) for cut in read_boundary(os.path.join(folder, f'region-{number}', 'Boundary.csv'))]
+        self.assertEqual(len(cuts) + sum(len(net.activities) for net in nets), len(whole.activities))
+        self.assertIn('stations 7, events 36', said)
+
+    def test_regions_have_names(self):
+        folder = os.path.join(self.folder, 'regions')
+        self.assertEqual(self.cut('C', folder, f'--date={DATE}', '--regions=1')[0], 0)
+        self.assertEqual(self.call(from_gtfs, self.feed, DATE, self.net)[0], 0)
+        for name in 'Events.csv', 'Trains.csv', 'Stops.csv', 'Changes.csv', 'Day.csv', 'Activities-expanded.giv':
+            self.assertEqual(read(folder, 'region-1', 'net', name), read(self.net, name))
+        self.assertEqual(self.cut('C', folder, f'--date={DATE}')[0], 0)
+        for number in range(1, 7):
+            net = os.path.join(folder, f'region-{number}', 'net')
+            ids = {event.id for event in read_network(net).events}
+            self.assertEqual({name.event for name in read_events(net)}, ids)
+            self.assertLessEqual({train.event for train in read_trains(net)}, ids)
+            if 'A' in read_stops(net).values() and 1 in ids:
+                self.assertEqual([(train.name, train.trip) for train in read_trains(net)], [('Red 08:00', 'r1'), ('Red 08:30', 'r2')])
+                self.assertEqual(sorted(read_stops(net).values()), ['A', 'B', 'C'])
+
+    def test_too_large_ones_are_told_where_to_cut_and_then_are_cut(self):
+        with mock.patch('from_gtfs.PROGRAM', Limits(events=20)):
+            status, said = self.call(from_gtfs, self.feed, DATE, self.net)
+        self.assertEqual(status, 2)
+        self.assertIn('or cut it into regions by tools/split.py with --date= (stations, and the events of the parts without them: '
+                      'C: parts of 16, 16, 2; ', said)
+        with mock.patch('split.PROGRAM', Limits(events=20)):
+            self.assertEqual(self.cut('C', os.path.join(self.folder, 'regions'), f'--date={DATE}')[0], 0)
+            status, _, said = self.cut('B', os.path.join(self.folder, 'more'), f'--date={DATE}')
+        self.assertEqual(status, 2)
+        self.assertRegex(said, 'split.py: region [0-9] would have [0-9]+ events and .* choose more regions, or more boundary stops')
+
+    def test_words_that_are_wrong_are_told(self):
+        for words, what in ((['X', 'out', f'--date={DATE}'], 'no train calls at stop X'), (['C', 'out', '--no-headways'], 'unrecognized arguments'),
+                            (['C', 'out', '--date=20261301'], 'is no date'), (['C', 'out', f'--date={DATE}', '--regions=9'], '9 is above 6')):
+            with self.subTest(words):
+                status, _, said = self.cut(*words)
+                self.assertEqual(status, 2)
+                self.assertIn(what, said)
 
 
 class Relays(unittest.TestCase):
