@@ -2,3 +2,4 @@ pub mod WordLists
 pub mod Stopping
 pub mod OneCommand
 pub mod Asking
+pub mod ServerWords

@@ -44,7 +44,7 @@ batch_one words a b p q =
     number_or_one q.value _ _ _ a b (subst (λ (v : Option (List ℕ)). IsNumberOr v _ _ _ a) same p.is) q.is
 
 -- an option gives one number
-option_one : (option : List ℕ) (least most standard : ℕ) (words : List (List ℕ)) (a b : ℕ) → HasNumber option least most standard words a → HasNumber option least most standard words b → a ≡ b
+pub option_one : (option : List ℕ) (least most standard : ℕ) (words : List (List ℕ)) (a b : ℕ) → HasNumber option least most standard words a → HasNumber option least most standard words b → a ≡ b
 option_one option least most standard words a b p q =
     let same = given_one option words p.value q.value p.given q.given in
     number_or_one q.value _ _ _ a b (subst (λ (v : Option (List ℕ)). IsNumberOr v _ _ _ a) same p.is) q.is
@@ -53,7 +53,7 @@ stops_one : (given : Option (List ℕ)) (a b : List ℕ) → AreBoards given a �
 stops_one None a b p q = p ∙ sym q
 stops_one (Some text) a b p q = spell_one _ a b p.spelled q.spelled
 
-boards_one : (words : List (List ℕ)) (a b : List ℕ) → HasBoards words a → HasBoards words b → a ≡ b
+pub boards_one : (words : List (List ℕ)) (a b : List ℕ) → HasBoards words a → HasBoards words b → a ≡ b
 boards_one words a b p q =
     let same = given_one boards_option words p.value q.value p.given q.given in
     stops_one q.value a b (subst (λ (v : Option (List ℕ)). AreBoards v a) same p.are) q.are
@@ -67,7 +67,7 @@ read_is a b e = cc
 pub first_name : (a c : List ℕ) (b d : List (List ℕ)) → a ∷ b ≡ c ∷ d → a ≡ c
 first_name a c b d e = cc
 
-later_names : (a c : List ℕ) (b d : List (List ℕ)) → a ∷ b ≡ c ∷ d → b ≡ d
+pub later_names : (a c : List ℕ) (b d : List (List ℕ)) → a ∷ b ≡ c ∷ d → b ≡ d
 later_names a c b d e = cc
 
 pub second_name : (a b c d : List ℕ) → a ∷ b ∷ [] ≡ c ∷ d ∷ [] → b ≡ d
@@ -82,7 +82,7 @@ files_are x y folder penalty plans columns events activities =
     ∙ (ap (λ v. record y { event_delays = v; activity_delays = x.activity_delays }) events
     ∙ ap (λ v. record y { activity_delays = v }) activities))))
 
-files_one : (words : List (List ℕ)) (x y : FilesAsked) → x.folder ≡ y.folder → AsksFiles words x → AsksFiles words y → x ≡ y
+pub files_one : (words : List (List ℕ)) (x y : FilesAsked) → x.folder ≡ y.folder → AsksFiles words x → AsksFiles words y → x ≡ y
 files_one words x y folder p q =
     let events = given_one event_columns_option words p.events q.events p.gives_events q.gives_events in
     let activities = given_one activity_columns_option words p.activities q.activities p.gives_activities q.gives_activities in
@@ -94,7 +94,7 @@ files_one words x y folder p q =
     (given_one event_delays_option words x.event_delays y.event_delays p.gives_event_delays q.gives_event_delays)
     (given_one activity_delays_option words x.activity_delays y.activity_delays p.gives_activity_delays q.gives_activity_delays)
 
-run_is : (x y : RunAsked) → x.files ≡ y.files → x.feeds ≡ y.feeds → x.batch ≡ y.batch → x.workers ≡ y.workers → x.boards ≡ y.boards → x ≡ y
+pub run_is : (x y : RunAsked) → x.files ≡ y.files → x.feeds ≡ y.feeds → x.batch ≡ y.batch → x.workers ≡ y.workers → x.boards ≡ y.boards → x ≡ y
 run_is x y files feeds batch workers boards =
     ap (λ v. record x { files = v }) files
     ∙ (ap (λ v. record x { files = y.files; feeds = v }) feeds

@@ -1,9 +1,11 @@
--- Names, options and stops, what words ask for, and what their readers are seen as.
+-- Names, options and stops, what words ask for, and what their readers are seen as; then the same of a server's words.
 pub mod Options
 pub mod Stops
 pub mod Values
 pub mod Queries
 pub mod Words
 pub mod Asked
+pub mod Serving
+pub mod ServerAsked
 -- States of loops: checked, and not to be believed.
 pub mod Inside

@@ -81,7 +81,7 @@ fn batch_of(words: &[String]) -> Option<u64>
 }
 
 /// The stops of the boards.
-fn stops_of(words: &[String]) -> Option<Stops>
+pub fn stops_of(words: &[String]) -> Option<Stops>
     ensures { MatchOption result ((stops : List ℕ) → HasBoards (map string_bytes words.now) stops → ⊥)
         (λ stops. HasBoards (map string_bytes words.now) stops) }
 {
