@@ -1,11 +1,12 @@
 #!/usr/bin/env python3
-"""Sets plans of the server beside solutions of CBC and GLPK: python3 bench/against.py DISPATCHER [DAY ..] [--limit=S] [--csv=FILE]
+"""Sets plans of the server beside solutions of CBC and GLPK: python3 bench/against.py DISPATCHER [DAY ..] [OPTION..]
 
 A DAY is TRAINS:NUMBER, a day of bench/day.py after its 500 delays, or TRAINS:NUMBER:FROM:TO, the choices of a window of it, or
 SHAPE:NUMBER, a network of tools/shapes.py with delays as tools/scenarios.py draws them. By default they are days of 20 to 2,000
 trains with the numbers 1 to 9, windows of 10, 20 and 40 minutes on days of 2,000 trains, and a day of each shape. The penalty is 3600
 and a plan has 16,384 nodes. CBC and GLPK (Debian's coinor-cbc and glpk-utils) solve the programme of tools/to_mps.py, each for --limit
-seconds at most (60), CBC of processor, GLPK of the clock; GLPK with all of its cuts. Where one is not there its column says so.
+seconds at most (60), CBC of processor, GLPK of the clock; GLPK with all of its cuts. Where one is not there its column says so; with
+--solvers=CBC that one alone is asked.
 
 Each line of the table printed has the cost in millions, the bound and the gap where it is not proved to be the least, the seconds of
 processor (of a run with the plan less one without; of a window the whole command; of a solver without to_mps.py) and the most memory.
@@ -201,8 +202,8 @@ def prepared(day: str, folder: str) -> tuple[str, list[str], Optional[Window]]:
     return (*delays_of_shape(kind, int(numbers[0]), folder), window)
 
 
-def compared(program: str, day: str, limit: int) -> dict[str, Optional[Found]]:
-    """What the three find of a day."""
+def compared(program: str, day: str, limit: int, solvers: Sequence[str]) -> dict[str, Optional[Found]]:
+    """What the server and solvers find of a day."""
     with tempfile.TemporaryDirectory() as folder:
         net, delays, window = prepared(day, folder)
         server = Server(program, net, folder)
@@ -213,7 +214,7 @@ def compared(program: str, day: str, limit: int) -> dict[str, Optional[Found]]:
         programme = programme_of(posed)
         server.written('programme.mps', mps_text(programme).splitlines())
         ours = planned(server, delays) if window is None else windowed(server, delays, window, network, rows)
-        return {'dispatch': ours} | {solver: solved(server, delays, solver, limit, posed, programme) for solver in SOLVERS}
+        return {'dispatch': ours} | {solver: solved(server, delays, solver, limit, posed, programme) for solver in solvers}
 
 
 def contradictions(found: dict[str, Optional[Found]]) -> list[str]:
@@ -236,14 +237,18 @@ def main() -> int:
     words.add_argument('dispatcher', metavar='DISPATCHER', help='the built program')
     words.add_argument('days', nargs='*', metavar='DAY', help='TRAINS:NUMBER, TRAINS:NUMBER:FROM:TO or SHAPE:NUMBER')
     words.add_argument('--limit', type=int, default=60, metavar='S', help='seconds for each solver and day')
+    words.add_argument('--solvers', default=','.join(SOLVERS), metavar='S,S', help=f'({",".join(SOLVERS)})')
     words.add_argument('--csv', metavar='FILE', help='where the numbers go, too')
     given = words.parse_args()
+    solvers = given.solvers.split(',')
+    if not set(solvers) <= set(SOLVERS):
+        words.error(f'--solvers: some of {", ".join(SOLVERS)}')
     rows = [('day', 'program', *Found._fields)]
     faults = 0
-    print('| Day | dispatch | CBC | GLPK |\n|---|---|---|---|')
+    print(f'| Day | dispatch | {" | ".join(solvers)} |\n|---|---' + '|---' * len(solvers) + '|')
     for day in given.days or USUAL:
         try:
-            found = compared(os.path.abspath(given.dispatcher), day, given.limit)
+            found = compared(os.path.abspath(given.dispatcher), day, given.limit, solvers)
         except Fault as fault:
             print(f'{day}: {fault}', flush=True)
             faults += 1

@@ -20,7 +20,7 @@ from dataclasses import dataclass, field
 from pathlib import Path
 
 REPOSITORY = Path(__file__).resolve().parent.parent
-PAGES = ["README.md", "docs/OPERATING.md", "docs/TUTORIAL.md", "docs/GTFS.md", "docs/GTFS_RULES.md"]
+PAGES = ["README.md", "docs/OPERATING.md", "docs/TUTORIAL.md", "docs/GTFS.md", "docs/GTFS_RULES.md", "docs/REALTIME.md"]
 STARTS = {"docs/TUTORIAL.md": "crates/dispatcher"}
 LEFT_OUT = re.compile(r"\brt \w|\.ci/run|\b(FOLDER|FILE|DIR|DM_SPEED)\b")
 TRIES = 5

@@ -211,11 +211,11 @@ class Listener:
 
     def swept(self, past: dict[int, int], ahead: dict[int, int], now: int, told: Told) -> Iterator[tuple[int, int]]:
         """By place: the times of events that are past, and the source delays that are other than before; in an order in which nothing
-        stands before what it rests on."""
+        stands before what it rests on. What is past at a time that nobody told was when all that stands before it allows."""
         network, rows = self.network, self.rows
         after = rows.copy()
-        for place in past:
-            if after.passed[place] is None:
+        for place, at in past.items():
+            if at >= 0 and after.passed[place] is None:
                 after.passed[place] = 0
         held = active_activities(network, after)
         waits_for = [0] * len(network.events)

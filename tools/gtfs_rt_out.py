@@ -76,15 +76,17 @@ def passed(run: Run) -> set[int]:
     return found
 
 
-def calls_of(happenings: list[Happening], begin: int, is_known: bool) -> list[Message]:
-    """The StopTimeUpdates of a train, in the order of its calls."""
+def calls_of(happenings: list[Happening], begin: int, is_known: bool, repeats: bool) -> list[Message]:
+    """The StopTimeUpdates of a train, in the order of its calls; without delays where a frequency made it, for it may have no times to
+    be late against."""
     calls: dict[int, Message] = {}
     for one in happenings:
         relation = SCHEDULED if is_known else NO_DATA
         call = calls.setdefault(one.name.sequence, {
             'stop_sequence': one.name.sequence, 'stop_id': one.name.stop, 'schedule_relationship': relation})
         if is_known:
-            call[one.name.kind] = {'delay': one.delay, 'time': begin + one.time}
+            delay = {} if repeats else {'delay': one.delay}
+            call[one.name.kind] = {**delay, 'time': begin + one.time}
     return [call for _, call in sorted(calls.items())]
 
 
@@ -95,9 +97,9 @@ def updates(named: Named, network: Network, run: Run, now: int) -> Iterator[Mess
         happenings = [Happening(name, scheduled[name.event], run.times[name.event]) for name in named.events[number]]
         is_known = any(one.delay or one.name.event in told for one in happenings)
         without_falls(happenings)
-        calls = calls_of(happenings, named.begin, is_known)
-        yield {'id': f'trip-{number}', 'trip_update': {
-            'trip': descriptor(train, named.day), 'stop_time_update': calls, 'timestamp': now}}
+        trip = descriptor(train, named.day)
+        calls = calls_of(happenings, named.begin, is_known, 'start_time' in trip)
+        yield {'id': f'trip-{number}', 'trip_update': {'trip': trip, 'stop_time_update': calls, 'timestamp': now}}
 
 
 def in_english(text: str) -> Message:

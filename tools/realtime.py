@@ -47,10 +47,12 @@ def read_named(net: str, zone: Optional[str] = None) -> Named:
 
 
 def descriptor(train: TrainName, day: str) -> dict[str, object]:
-    """The TripDescriptor of a train."""
+    """The TripDescriptor of a train. It does not call one that a frequency made scheduled: the standard forbids that where the
+    frequency has no exact times."""
     named = named_trip(train.trip)
-    start = {'start_time': named.start} if named.start else {}
-    return {'trip_id': named.trip, **start, 'start_date': named.day or day, 'schedule_relationship': SCHEDULED}
+    if named.start:
+        return {'trip_id': named.trip, 'start_time': named.start, 'start_date': named.day or day}
+    return {'trip_id': named.trip, 'start_date': named.day or day, 'schedule_relationship': SCHEDULED}
 
 
 def key_of(trip: dict[str, object], day: str) -> tuple[str, str, str]:

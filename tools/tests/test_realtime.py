@@ -7,12 +7,12 @@ import unittest
 
 from feeds import DATE, write_feed
 from folders import read
-from samples import lines_of_run, network, text
+from samples import TOOLS, lines_of_run
 from test_gtfs import InNetwork, trips_and_times
 
 import gtfs_rt_in
 import gtfs_rt_out
-from protobuf import BadMessage, decode, encode, varint
+from protobuf import SCHEMA, BadMessage, decode, encode, varint
 from railway import Rows, admit, cost_of, read_network, times_of
 from realtime import beginning
 
@@ -92,6 +92,14 @@ class In(Realtime):
         _, lines = self.heard(29460, {'vehicle': vehicle})
         self.assertEqual(lines, ['pass 1 28800', 'pass 2 29400', 'now 29460'])
 
+    def test_vehicle_of_a_late_train_has_passed_when_it_was_shown_to(self):
+        # r1 leaves A 300 seconds late, so it comes to B at 29700; g1 waits for its passengers, who need 180 seconds, until 29880.
+        self.heard(28700, self.update('r1', call(1, departure=29100), call(2, arrival=29700)))
+        def vehicle(trip, sequence):
+            return {'vehicle': {'trip': {'trip_id': trip}, 'current_stop_sequence': sequence}}
+        self.assertEqual(self.heard(29940, vehicle('r1', 3))[1][2:], ['pass 1 29100', 'pass 2 29700', 'pass 3 29700', 'now 29940'])
+        self.assertEqual(self.heard(29950, vehicle('g1', 2))[1][6:], ['pass 5 29880', 'now 29950'])
+
     def test_text_of_a_run_says_what_is_known(self):
         net = read_network(self.net)
         rows = admit(net, Rows(net), 0, ('delay event', 1, 300))[1]
@@ -159,6 +167,19 @@ class Out(Realtime):
         self.assertEqual([call['schedule_relationship'] for call in other['stop_time_update']], [2, 2])
         self.assertNotIn('departure', other['stop_time_update'][0])
 
+    def test_trains_of_frequencies_are_told_by_their_times_alone(self):
+        shutil.rmtree(self.net)
+        frequencies = ['trip_id,start_time,end_time,headway_secs', 'r1,08:00:00,08:10:00,300']
+        agency = ['agency_name,agency_url,agency_timezone', 'X,https://example.org,Europe/Berlin']
+        self.made({**trips_and_times('r1 R 0 - A 07:00 B 07:10'), 'agency.txt': agency, 'frequencies.txt': frequencies})
+        first, second = (one['trip_update'] for one in decode(self.written(('delay event', 1, 60), ('now', 28000)))['entity'])
+        self.assertEqual(first['trip'], {'trip_id': 'r1', 'start_time': '08:00:00', 'start_date': DATE})
+        self.assertEqual(first['stop_time_update'][0]['departure'], {'time': MIDNIGHT + 28860})
+        self.assertEqual(second['trip']['start_time'], '08:05:00')
+        # What comes out goes in again, by the time at which the train begins.
+        self.assertEqual(self.call(gtfs_rt_in, self.net, self.feed, os.path.join(self.folder, 'out.pb')), (0, ''))
+        self.assertEqual(read(self.feed).splitlines(), ['delay event 1 60', 'now 28000'])
+
     def test_dropped_changes_are_alerts(self):
         change = next(one for one in read_network(self.net).activities if one.kind == 'change')
         alert, = (one['alert'] for one in decode(self.written(('drop', change.id), ('now', 28000)))['entity'] if 'alert' in one)
@@ -186,6 +207,41 @@ class Out(Realtime):
         told = re.sub(r'\s+', ' ', told)
         self.assertTrue(told.startswith(f'1 {{ 1: "2.0" 2: 0 3: {MIDNIGHT + 28000} }} 2 {{ 1: "trip-1" 3 {{ 1 {{ 1: "r1" 3: "{DATE}" 4: 0 }} '), told)
         self.assertIn(f'2 {{ 1: 2 4: "B" 5: 0 2 {{ 1: 60 2: {MIDNIGHT + 29460} }} 3 {{ 1: 60 2: {MIDNIGHT + 29460} }} }}', told)
+
+
+class Schema(unittest.TestCase):
+    """The table of the reader and the file for protoc say the same."""
+    KINDS = {'string': 'text', 'int32': 'signed', 'int64': 'signed', 'uint32': 'number', 'uint64': 'number', 'bool': 'number'}
+
+    def messages(self):
+        """The fields of each message of the file, as the table has them; an enumeration is a number."""
+        found, way, enums = {}, [], set()
+        for line in read(TOOLS, 'gtfs-realtime.proto').splitlines():
+            words = line.replace(';', ' ').split()
+            if words[:1] == ['enum']:
+                enums.add(words[1])
+            if words[:1] in (['message'], ['enum']) and not line.rstrip().endswith('}'):
+                way.append(words[1])
+                found.setdefault(words[1], {})
+            elif words[:1] == ['}']:
+                way.pop()
+            elif words[:1] and words[0] in ('optional', 'required', 'repeated'):
+                kind = 'number' if words[1] in enums else self.KINDS.get(words[1], words[1])
+                found[way[-1]][int(words[4])] = (words[2], ('*' if words[0] == 'repeated' else '') + kind)
+        return {name: fields for name, fields in found.items() if fields}
+
+    def test_is_that_of_the_file_for_protoc(self):
+        self.assertEqual(self.messages(), SCHEMA)
+
+    @unittest.skipUnless(shutil.which('protoc'), 'protoc (protobuf-compiler of Debian) is not here')
+    def test_protoc_reads_what_is_written(self):
+        data = encode({'header': {'gtfs_realtime_version': '2.0', 'timestamp': 7}, 'entity': [{'id': 'x', 'trip_update': {
+            'trip': {'trip_id': 't'}, 'stop_time_update': [{'stop_sequence': 3, 'arrival': {'delay': -5}, 'schedule_relationship': 0}]}}]})
+        words = ['protoc', '--decode=transit_realtime.FeedMessage', f'--proto_path={TOOLS}', os.path.join(TOOLS, 'gtfs-realtime.proto')]
+        told = subprocess.run(words, input=data, capture_output=True, check=True).stdout.decode()
+        self.assertEqual(re.sub(r'\s+', ' ', told), (
+            'header { gtfs_realtime_version: "2.0" timestamp: 7 } entity { id: "x" trip_update { trip { trip_id: "t" } '
+            'stop_time_update { stop_sequence: 3 arrival { delay: -5 } schedule_relationship: SCHEDULED } } } '))
 
 
 class Days(unittest.TestCase):

@@ -1,0 +1,535 @@
+#!/usr/bin/env python3
+"""Plays a morning of three lines with GTFS-Realtime in and out, and compares each minute with the truth:
+
+    python3 bench/morning.py DISPATCHER [--number=S] [--until=10:00] [FOLDER]
+
+A small simulator makes a timetable in GTFS of three lines that meet in one station, with guaranteed connections, and draws source
+delays from --number. Trains run by its own rules, which know neither networks nor the program: a train drives in 93 hundredths of the
+scheduled time at least, stands 30 seconds, turns in 300, keeps 120 behind the train before it, and waits for guaranteed connections;
+for any other it waits 300 seconds at most, and then the change is dropped. A delay becomes known before its train is late or while it
+stands, and some are corrected later.
+
+Each minute the simulator tells what an agency knows, in a FeedMessage: the trains that run, with the times at which they were where;
+trains of two lines with a delay of their own also with the times that it expects; and those of the third line by the places of their
+vehicles. gtfs_rt_in.py appends that to the feed, the program runs, gtfs_rt_out.py writes TripUpdates, and `protoc --decode` (Debian's
+protobuf-compiler), which shares no code with the tools, reads them by tools/gtfs-realtime.proto. Each call of each train has to be at
+the time that the simulator expects then, and each dropped change is an alert until its train has left.
+
+The status is 1 where something differs; the first differences of each minute are printed. With a FOLDER the files stay there.
+"""
+from __future__ import annotations
+
+import argparse
+import contextlib
+import io
+import os
+import random
+import re
+import subprocess
+import sys
+import tempfile
+import time
+from dataclasses import dataclass, field
+from typing import Callable, Iterator, NamedTuple, Optional
+
+TOP = os.path.join(os.path.dirname(os.path.abspath(__file__)), '..')
+sys.path.insert(0, os.path.join(TOP, 'tools'))
+
+import from_gtfs  # noqa: E402
+import gtfs_rt_in  # noqa: E402
+import gtfs_rt_out  # noqa: E402
+from files import write_all  # noqa: E402
+from gtfs import clock  # noqa: E402
+from names import read_changes  # noqa: E402
+from protobuf import Message, encode  # noqa: E402
+from words import time_of_day, whole_between  # noqa: E402
+
+DATE, ZONE = '20261124', 'Europe/Berlin'
+# Midnight of that day in Berlin, by `date -d '2026-11-24 00:00 +0100' +%s`.
+MIDNIGHT = 1795474800
+PROTO = os.path.join(TOP, 'tools', 'gtfs-realtime.proto')
+
+BEGIN, END = 6 * 3600, 9 * 3600
+DWELL, TURN, HEADWAY, CHANGE, LONGEST_CHANGE, PATIENCE = 30, 300, 120, 180, 1800, 300
+DELAYS, CORRECTED = 24, 6
+SHOWN = 5
+
+Answer = Callable[[str, str, str], None]
+
+
+# ---- The timetable
+
+
+@dataclass
+class Train:
+    """A trip: its line, direction, vehicle and stations, and the scheduled times by event."""
+    name: str
+    line: str
+    direction: int
+    vehicle: str
+    stations: list[str]
+    times: dict[Event, int] = field(default_factory=dict)
+
+    @property
+    def events(self) -> list[Event]:
+        return list(self.times)
+
+
+class Event(NamedTuple):
+    """An arrival or a departure of a train at the call of a number, from 0."""
+    train: str
+    call: int
+    kind: str
+
+
+class Bound(NamedTuple):
+    """An event is so many seconds behind another one."""
+    before: Event
+    after: Event
+    seconds: int
+
+
+class Connection(NamedTuple):
+    """A change from a train that arrives to one that leaves."""
+    bound: Bound
+    is_guaranteed: bool
+
+
+LINES = {
+    'A': (['A1', 'A2', 'Mid', 'A4', 'A5'], [420, 540, 360, 600], 1200, 0),
+    'B': (['B1', 'B2', 'B3', 'Mid', 'B5'], [300, 480, 420, 540], 1500, 300),
+    'C': (['C1', 'C2', 'Mid', 'C4'], [660, 480, 720], 1800, 120),
+}
+
+
+def trains_of_morning() -> list[Train]:
+    """Each line both ways; in B a train that has come to the end goes back as the next one that leaves five minutes later or more."""
+    trains = []
+    for line, (stations, drives, every, start) in LINES.items():
+        for direction in (0, 1):
+            way, legs = (stations, drives) if direction == 0 else (stations[::-1], drives[::-1])
+            for number, begin in enumerate(range(BEGIN + start + 90 * direction, END, every)):
+                train = Train(f'{line}{direction}-{number}', line, direction, '', way)
+                at = begin
+                for call, drive in enumerate(legs):
+                    train.times[Event(train.name, call, 'departure')] = at
+                    at += drive
+                    train.times[Event(train.name, call + 1, 'arrival')] = at
+                    at += 120 if way[call + 1] == 'Mid' else 60
+                trains.append(train)
+    couple(trains)
+    return trains
+
+
+def ends_of(train: Train) -> tuple[int, int]:
+    times = list(train.times.values())
+    return times[0], times[-1]
+
+
+def couple(trains: list[Train]) -> None:
+    """Gives the trains of line B their vehicles."""
+    free: list[tuple[int, int, str]] = []
+    for train in sorted((one for one in trains if one.line == 'B'), key=ends_of):
+        begin, end = ends_of(train)
+        found = next((one for one in sorted(free) if one[1] != train.direction and one[0] + TURN <= begin), None)
+        if found:
+            free.remove(found)
+        train.vehicle = found[2] if found else f'V{train.name}'
+        free.append((end, train.direction, train.vehicle))
+
+
+def guaranteed_pairs(trains: list[Train]) -> list[tuple[str, str]]:
+    """Each second train of A to its end has a guaranteed connection to the next one of C back."""
+    found = []
+    for train in trains:
+        if train.line == 'A' and train.direction == 0 and int(train.name[3:]) % 2 == 0:
+            arrives = train.times[Event(train.name, train.stations.index('Mid'), 'arrival')]
+            others = [(at_middle(one), one.name) for one in trains if one.line == 'C' and one.direction == 1]
+            after = min((one for one in others if one[0] >= arrives + 120), default=None)
+            if after:
+                found.append((train.name, after[1]))
+    return found
+
+
+def at_middle(train: Train) -> int:
+    """When a train leaves the station where the lines meet."""
+    return train.times[Event(train.name, train.stations.index('Mid'), 'departure')]
+
+
+def feed_files(trains: list[Train], pairs: list[tuple[str, str]]) -> dict[str, str]:
+    """The timetable in GTFS."""
+    stations = sorted({station for train in trains for station in train.stations})
+    trips = [f'{one.line},daily,{one.name},{one.direction},{one.vehicle}' for one in trains]
+    calls = [
+        f'{train.name},{clock(arrival)},{clock(departure)},{station},{call + 1}'
+        for train in trains for call, station in enumerate(train.stations)
+        for arrival, departure in [both_times(train, call)]
+    ]
+    tables = {
+        'agency': ['agency_id,agency_name,agency_url,agency_timezone', f'M,Morning,https://example.org,{ZONE}'],
+        'stops': ['stop_id,stop_name', *(f'{station},{station}' for station in stations)],
+        'routes': ['route_id,route_short_name,route_type', *(f'{line},{line},2' for line in LINES)],
+        'calendar_dates': ['service_id,date,exception_type', f'daily,{DATE},1'],
+        'trips': ['route_id,service_id,trip_id,direction_id,block_id', *trips],
+        'stop_times': ['trip_id,arrival_time,departure_time,stop_id,stop_sequence', *calls],
+        'transfers': ['from_stop_id,to_stop_id,from_trip_id,to_trip_id,transfer_type,min_transfer_time',
+                      *(f'Mid,Mid,{one},{other},1,120' for one, other in pairs)],
+    }
+    return {f'{name}.txt': ''.join(f'{line}\n' for line in lines) for name, lines in tables.items()}
+
+
+def both_times(train: Train, call: int) -> tuple[int, int]:
+    arrival, departure = (train.times.get(Event(train.name, call, kind)) for kind in ('arrival', 'departure'))
+    return arrival or departure or 0, departure or arrival or 0
+
+
+# ---- The simulator
+
+
+def bounds_of(trains: list[Train]) -> Iterator[Bound]:
+    """What holds between the events of trains, whatever is decided."""
+    vehicles: dict[str, list[Train]] = {}
+    legs: dict[tuple[str, str], list[tuple[int, Event]]] = {}
+    for train in trains:
+        if train.vehicle:
+            vehicles.setdefault(train.vehicle, []).append(train)
+        for before, after in zip(train.events, train.events[1:]):
+            scheduled = train.times[after] - train.times[before]
+            drives = before.kind == 'departure'
+            yield Bound(before, after, scheduled - scheduled * 7 // 100 if drives else min(DWELL, scheduled))
+            if drives:
+                leg = train.stations[before.call], train.stations[after.call]
+                legs.setdefault(leg, []).append((train.times[before], before))
+    for one in vehicles.values():
+        one.sort(key=ends_of)
+        for first, second in zip(one, one[1:]):
+            yield Bound(first.events[-1], second.events[0], min(TURN, ends_of(second)[0] - ends_of(first)[1]))
+    for leg in legs.values():
+        leg.sort()
+        for (at, before), (then, after) in zip(leg, leg[1:]):
+            yield Bound(before, after, min(HEADWAY, then - at))
+
+
+def connections_of(trains: list[Train], pairs: list[tuple[str, str]]) -> Iterator[Connection]:
+    """From each train to the next one of each other line and direction; a guaranteed one goes before others of its direction."""
+    promised = dict(pairs)
+    for train in trains:
+        call = train.stations.index('Mid')
+        arrival = Event(train.name, call, 'arrival')
+        for line in LINES:
+            for direction in (0, 1) if line != train.line else ():
+                others = sorted((at_middle(one), one) for one in trains if (one.line, one.direction) == (line, direction))
+                wanted = promised.get(train.name)
+                guaranteed = next((one for _, one in others if one.name == wanted), None)
+                reached = (one for at, one in others if CHANGE <= at - train.times[arrival] <= LONGEST_CHANGE)
+                other = guaranteed or next(reached, None)
+                if other is not None:
+                    departure = Event(other.name, other.stations.index('Mid'), 'departure')
+                    yield Connection(Bound(arrival, departure, 120 if guaranteed else CHANGE), guaranteed is not None)
+
+
+@dataclass
+class Delay:
+    """An event is so much later than scheduled; told from a time on, and for a while larger than it is."""
+    event: Event
+    seconds: int
+    known: int
+    at_first: int
+    corrected: int
+
+    def told(self, now: int) -> int:
+        return 0 if now < self.known else self.at_first if now < self.corrected else self.seconds
+
+
+def drawn_delays(trains: list[Train], number: int) -> list[Delay]:
+    """Source delays of trains of A and B, each of another train; known twenty minutes before, or while the train stands already."""
+    draws = random.Random(number)
+    late = draws.sample([train for train in trains if train.line != 'C'], DELAYS)
+    delays = []
+    for count, train in enumerate(late):
+        event = draws.choice(train.events)
+        seconds = draws.randrange(60, 900, 5)
+        known = train.times[event] - draws.randrange(-seconds // 2, 1200)
+        corrected = known + draws.randrange(120, 600) if count < CORRECTED else 0
+        delays.append(Delay(event, seconds, known, seconds + 300 if corrected else seconds, min(corrected, train.times[event])))
+    return delays
+
+
+@dataclass
+class World:
+    """The railway: what is scheduled, what holds, what was decided, and what has happened by now."""
+    trains: list[Train]
+    bounds: list[Bound]
+    connections: list[Connection]
+    delays: list[Delay]
+    now: int = 0
+    happened: dict[Event, int] = field(default_factory=dict)
+    dropped: set[Connection] = field(default_factory=set)
+
+    def __post_init__(self) -> None:
+        self.scheduled = {event: at for train in self.trains for event, at in train.times.items()}
+        self.order = sorted(self.scheduled, key=lambda event: (self.scheduled[event], event.call, event.kind))
+
+    def expected(self, told: Callable[[Delay], int]) -> dict[Event, int]:
+        """When each event happens, by the delays as they are told; what has not happened yet happens now at the earliest."""
+        late = {delay.event: told(delay) for delay in self.delays}
+        held = [*self.bounds, *(one.bound for one in self.connections if one not in self.dropped)]
+        into: dict[Event, list[Bound]] = {}
+        for bound in held:
+            into.setdefault(bound.after, []).append(bound)
+        times: dict[Event, int] = {}
+        changes = True
+        while changes:
+            changes = False
+            for event in self.order:
+                at = self.happened.get(event)
+                if at is None:
+                    behind = [times[bound.before] + bound.seconds for bound in into.get(event, ()) if bound.before in times]
+                    at = max(self.scheduled[event] + late.get(event, 0), self.now, *behind)
+                if times.get(event) != at:
+                    times[event] = at
+                    changes = True
+        return times
+
+    def known(self) -> dict[Event, int]:
+        return self.expected(lambda delay: delay.told(self.now))
+
+    def go_to(self, now: int) -> None:
+        """Lets everything happen until a time."""
+        for event, at in self.expected(lambda delay: delay.seconds).items():
+            if at <= now:
+                self.happened.setdefault(event, at)
+        self.now = now
+
+    def decide(self) -> list[Connection]:
+        """Drops the connections for which a train would wait too long, the longest wait first; each changes the others."""
+        given_up: list[Connection] = []
+        while True:
+            times = self.known()
+            waits = [(times[one.bound.before] + one.bound.seconds - self.leaves(one, times), one) for one in self.open_ones()]
+            longest = max(waits, default=None)
+            if longest is None or longest[0] <= PATIENCE:
+                return given_up
+            self.dropped.add(longest[1])
+            given_up.append(longest[1])
+
+    def leaves(self, connection: Connection, times: dict[Event, int]) -> int:
+        """When the train of a connection would leave without it."""
+        departure = connection.bound.after
+        self.dropped.add(connection)
+        at = self.known()[departure]
+        self.dropped.remove(connection)
+        return min(at, times[departure])
+
+    def open_ones(self) -> list[Connection]:
+        return [
+            one for one in self.connections
+            if not one.is_guaranteed and one not in self.dropped and one.bound.after not in self.happened
+            and self.scheduled[one.bound.after] - self.now < LONGEST_CHANGE
+        ]
+
+
+# ---- What an agency tells
+
+
+def message_of(world: World) -> Message:
+    """The FeedMessage of a minute."""
+    times = world.known()
+    late = {delay.event.train for delay in world.delays if delay.told(world.now)}
+    entities = []
+    for train in world.trains:
+        has_begun = any(event in world.happened for event in train.events)
+        trip = {'trip_id': train.name, 'start_date': DATE}
+        if train.line == 'C' and has_begun:
+            entities.append({'id': train.name, 'vehicle': place_of(world, train) | {'trip': trip}})
+        elif train.line != 'C' and (has_begun or train.name in late):
+            events = [one for one in train.events if one in world.happened or train.name in late and times[one] > world.now]
+            entities.append({'id': train.name, 'trip_update': {'trip': trip, 'stop_time_update': calls_of(events, times)}})
+    header = {'gtfs_realtime_version': '2.0', 'incrementality': 0, 'timestamp': MIDNIGHT + world.now}
+    return {'header': header, 'entity': entities}
+
+
+def calls_of(events: list[Event], times: dict[Event, int]) -> list[Message]:
+    calls: dict[int, Message] = {}
+    for event in events:
+        call = calls.setdefault(event.call, {'stop_sequence': event.call + 1})
+        call[event.kind] = {'time': MIDNIGHT + times[event]}
+    return [calls[call] for call in sorted(calls)]
+
+
+def place_of(world: World, train: Train) -> Message:
+    """Where a vehicle is: at the call of its last arrival, or on the way to the one behind its last departure."""
+    last = [event for event in train.events if event in world.happened][-1]
+    stands = last.kind == 'arrival'
+    return {'current_stop_sequence': last.call + (1 if stands else 2), 'current_status': 1 if stands else 2,
+            'timestamp': MIDNIGHT + world.now}
+
+
+# ---- What comes out
+
+
+class Seen(NamedTuple):
+    """What a message shows: the time of each event, the calls of which nothing is known, and the changes with an alert."""
+    times: dict[Event, int]
+    unknown: set[tuple[str, int]]
+    alerts: set[tuple[str, str]]
+    now: int
+
+
+def decoded(name: str) -> list[tuple[int, str, str]]:
+    """The lines of a message as protoc prints it: how deep they stand, their field, and their value."""
+    with open(name, 'rb') as file:
+        words = ['protoc', '--decode=transit_realtime.FeedMessage', f'--proto_path={os.path.dirname(PROTO)}', PROTO]
+        told = subprocess.run(words, stdin=file, capture_output=True, check=True, text=True).stdout
+    lines = []
+    for line in told.splitlines():
+        found = re.fullmatch(r'( *)(\w+)(?: \{|: (.*))', line)
+        if found:
+            lines.append((len(found[1]) // 2, found[2], (found[3] or '').strip('"')))
+    return lines
+
+
+def seen(name: str) -> Seen:
+    """What a file of GTFS-Realtime shows."""
+    times: dict[Event, int] = {}
+    unknown: set[tuple[str, int]] = set()
+    alerts: set[tuple[str, str]] = set()
+    trips: list[str] = []
+    now, trip, call, kind, is_alert = 0, '', 0, '', False
+    for depth, field_name, value in [*decoded(name), (0, 'entity', '')]:
+        if depth == 0:
+            if is_alert:
+                alerts.add((trips[0], trips[1]))
+            trips, is_alert = [], False
+        elif field_name == 'timestamp' and depth == 1 and not now:
+            now = int(value)
+        elif field_name == 'alert':
+            is_alert = True
+        elif field_name == 'trip_id':
+            trip = value
+            trips.append(value)
+        elif field_name == 'stop_sequence':
+            call = int(value) - 1
+        elif field_name in ('arrival', 'departure'):
+            kind = field_name
+        elif field_name == 'time':
+            times[Event(trip, call, kind)] = int(value) - MIDNIGHT
+        elif (field_name, value) == ('schedule_relationship', 'NO_DATA'):
+            unknown.add((trip, call))
+    return Seen(times, unknown, alerts, now)
+
+
+def differences(world: World, shown: Seen) -> Iterator[str]:
+    """Where what is shown differs from what is expected; of what nothing is known it has to be on time."""
+    if shown.now != MIDNIGHT + world.now:
+        yield f'the header is of {shown.now}'
+    for event, at in world.known().items():
+        due = world.scheduled[event] if (event.train, event.call) in shown.unknown else shown.times.get(event)
+        if due != at:
+            yield f'{event.train}, call {event.call + 1}, {event.kind}: {due and clock(due)}, and {clock(at)} is expected'
+    alerts = {(one.bound.before.train, one.bound.after.train) for one in world.dropped if one.bound.after not in world.happened}
+    for pair in sorted(alerts ^ shown.alerts):
+        yield f'the change from {pair[0]} to {pair[1]}: an alert in one of the two alone'
+
+
+# ---- The morning
+
+
+@dataclass
+class Played:
+    """What a morning came to."""
+    minutes: int = 0
+    calls: int = 0
+    differ: int = 0
+    slowest: float = 0
+    lines: list[str] = field(default_factory=list)
+    dropped: int = 0
+
+
+class Broken(Exception):
+    """A tool ended with a status other than 0."""
+
+
+def call(tool: Callable[[list[str]], int], *words: str) -> str:
+    """What a tool says on standard error."""
+    said = io.StringIO()
+    with contextlib.redirect_stderr(said):
+        status = tool(list(words))
+    if status:
+        raise Broken(said.getvalue())
+    return said.getvalue()
+
+
+def world_of(number: int) -> tuple[World, dict[str, str]]:
+    """The railway of a number, and its timetable."""
+    trains = trains_of_morning()
+    pairs = guaranteed_pairs(trains)
+    world = World(trains, list(bounds_of(trains)), list(connections_of(trains, pairs)), drawn_delays(trains, number))
+    return world, feed_files(trains, pairs)
+
+
+def played(answer: Answer, world: World, timetable: dict[str, str], folder: str, until: int, every: int = 60) -> Played:
+    """Plays a morning minute by minute, or in longer steps, each by the tools and an answer to the feed."""
+    source, net, feed, text, heard, out = (os.path.join(folder, name) for name in ('gtfs', 'net', 'feed', 'text', 'in.pb', 'out.pb'))
+    write_all(source, timetable)
+    call(from_gtfs.main, source, DATE, net)
+    numbers = {(change.trip, change.next_trip): change.change for change in read_changes(net)}
+    come = Played()
+    for now in range(BEGIN - 600, until + 1, every):
+        world.go_to(now)
+        given_up = world.decide()
+        with open(feed, 'a', encoding='ascii') as file:
+            file.writelines(f'drop {numbers[one.bound.before.train, one.bound.after.train]}\n' for one in given_up)
+        write_all(folder, {'in.pb': encode(message_of(world))})
+        began = time.process_time()
+        said = call(gtfs_rt_in.main, net, feed, heard)
+        answer(net, feed, text)
+        call(gtfs_rt_out.main, net, text, out)
+        come.slowest = max(come.slowest, time.process_time() - began)
+        told = [*([said.strip()] if said else []), *differences(world, seen(out))]
+        for line in told[:SHOWN]:
+            print(f'{clock(now)}: {line}')
+        come.minutes += 1
+        come.calls += len(world.scheduled)
+        come.differ += len(told)
+        come.dropped += len(given_up)
+    with open(feed, encoding='ascii') as file:
+        come.lines = file.read().splitlines()
+    return come
+
+
+def by_program(name: str) -> Answer:
+    def answer(net: str, feed: str, text: str) -> None:
+        with open(text, 'wb') as file:
+            subprocess.run([name, 'run', net, feed], stdout=file, stderr=subprocess.DEVNULL, check=True)
+        subprocess.run([name, 'check', net, text], stdout=subprocess.DEVNULL, check=True)
+    return answer
+
+
+def report(world: World, come: Played) -> Iterator[str]:
+    kinds = [line.rsplit(' ', 2)[0] if line.startswith('delay') else line.split()[0] for line in come.lines]
+    late = sum(at > world.scheduled[event] for event, at in world.known().items())
+    yield f'{len(world.trains)} trains, {len(world.scheduled)} events, {len(world.connections)} connections, {len(world.delays)} delays'
+    yield f'{late} events were late, {come.dropped} connections were dropped'
+    yield (f'lines of the feed: {kinds.count("delay event")} delays, {kinds.count("pass")} passes, {kinds.count("now")} clocks, '
+           f'{kinds.count("drop")} drops')
+    yield f'{come.minutes} minutes, {come.calls} times compared, {come.differ} differ; the slowest minute took {come.slowest:.2f} s here'
+
+
+def main() -> int:
+    words = argparse.ArgumentParser(description=__doc__, formatter_class=argparse.RawDescriptionHelpFormatter)
+    words.add_argument('dispatcher', metavar='DISPATCHER', help='the built program')
+    words.add_argument('folder', nargs='?', metavar='FOLDER', help='where the files stay')
+    words.add_argument('--number', type=whole_between(0, 999_999_999), default=1, metavar='S', help='from which delays are drawn (1)')
+    words.add_argument('--until', type=time_of_day, default=10 * 3600, metavar='TIME', help='the last minute (10:00)')
+    given = words.parse_args()
+    world, timetable = world_of(given.number)
+    with tempfile.TemporaryDirectory() as other:
+        come = played(by_program(os.path.abspath(given.dispatcher)), world, timetable, given.folder or other, given.until)
+    for line in report(world, come):
+        print(line)
+    return 1 if come.differ else 0
+
+
+if __name__ == '__main__':
+    sys.exit(main())

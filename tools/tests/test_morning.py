@@ -1,0 +1,129 @@
+"""A morning with GTFS-Realtime in and out: the simulator's own rules, and the updates of the six stations."""
+import glob
+import os
+import shutil
+import subprocess
+import sys
+import tempfile
+import unittest
+
+from feeds import DATE, EXAMPLE, SHIPPED
+from folders import InFolder, read
+from samples import TOOLS, TOP, lines_of_run
+
+sys.path.insert(0, os.path.join(TOP, 'bench'))
+
+import from_gtfs  # noqa: E402
+import gtfs_rt_in  # noqa: E402
+import morning  # noqa: E402
+from railway import Rows, admit, cost_of, read_network, times_of  # noqa: E402
+from runtext import heard  # noqa: E402
+
+HAS_PROTOC = unittest.skipUnless(shutil.which('protoc'), 'protoc (protobuf-compiler of Debian) is not here')
+
+
+def rows_after(net, feed):
+    """The messages of a feed and the rows after them, by the second reading of the rules; none is refused."""
+    rows, messages = Rows(net), [heard(line) for line in read(feed).splitlines()]
+    for count, message in enumerate(messages):
+        refusal, rows = admit(net, rows, count, message)
+        assert refusal is None, (message, refusal)
+    return messages, rows
+
+
+def answer(folder, feed, text):
+    """Writes the text of a run of a feed without the program."""
+    net = read_network(folder)
+    messages, rows = rows_after(net, feed)
+    times = times_of(net, rows)
+    with open(text, 'w', encoding='ascii') as file:
+        file.writelines(f'{line}\n' for line in lines_of_run(net, messages, times, cost_of(net, rows, times, 0)))
+
+
+class Simulator(unittest.TestCase):
+    def test_world_waits_and_gives_up(self):
+        """Two trains that meet: the one that leaves waits, by the bound of the change, and no longer than it has patience."""
+        late, other = morning.Event('x', 1, 'arrival'), morning.Event('y', 0, 'departure')
+        trains = [
+            morning.Train('x', 'A', 0, '', ['P', 'Mid'], {morning.Event('x', 0, 'departure'): 1000, late: 1600}),
+            morning.Train('y', 'B', 0, '', ['Mid', 'Q'], {other: 1800, morning.Event('y', 1, 'arrival'): 2400}),
+        ]
+        change = morning.Connection(morning.Bound(late, other, 180), False)
+        world = morning.World(trains, list(morning.bounds_of(trains)), [change], [morning.Delay(late, 300, 1500, 300, 0)])
+        world.go_to(1440)
+        self.assertEqual(world.known()[other], 1800)
+        world.go_to(1500)
+        self.assertEqual((world.known()[other], world.decide()), (2080, []))
+        self.assertEqual(world.known()[morning.Event('y', 1, 'arrival')], 2638)
+        world.delays[0].seconds = world.delays[0].at_first = 600
+        self.assertEqual(world.decide(), [change])
+        self.assertEqual(world.known()[other], 1800)
+        world.go_to(2000)
+        self.assertEqual(world.happened, {morning.Event('x', 0, 'departure'): 1000, other: 1800})
+        self.assertEqual(world.known()[late], 2200)
+
+    @HAS_PROTOC
+    def test_what_comes_out_is_what_it_expects(self):
+        world, timetable = morning.world_of(1)
+        with tempfile.TemporaryDirectory() as folder:
+            come = morning.played(answer, world, timetable, folder, 8 * 3600, 1200)
+        self.assertEqual((come.minutes, come.differ), (7, 0))
+        self.assertEqual(come.calls, 7 * len(world.scheduled))
+        self.assertTrue(any(line.startswith('delay event') for line in come.lines))
+
+    @HAS_PROTOC
+    def test_what_differs_is_told(self):
+        world, timetable = morning.world_of(1)
+
+        def forgets(folder, feed, text):
+            lines = [line for line in read(feed).splitlines() if not line.startswith('delay')]
+            with open(feed, 'w', encoding='ascii') as file:
+                file.writelines(f'{line}\n' for line in lines)
+            answer(folder, feed, text)
+
+        with tempfile.TemporaryDirectory() as folder, open(os.devnull, 'w', encoding='ascii') as nowhere:
+            printed, sys.stdout = sys.stdout, nowhere
+            try:
+                come = morning.played(forgets, world, timetable, folder, 7 * 3600, 1800)
+            finally:
+                sys.stdout = printed
+        self.assertGreater(come.differ, 0)
+
+
+class SixStations(InFolder):
+    """The updates of examples/six_stations: each line of the feed was worked out by hand."""
+    DUE = {
+        '0830': 'pass 1 28800|pass 2 30000|pass 3 30060|pass 7 30000|pass 11 30300|now 30600',
+        '0850': 'pass 4 31200|pass 8 31080|pass 9 31560|pass 12 31500|delay event 5 600|now 31800',
+        '0915': ('pass 5 31920|pass 6 32925|pass 10 32700|pass 13 32040|pass 14 33120|pass 15 32100|pass 16 33300|pass 23 33225|'
+                 'delay event 19 480|now 33300'),
+        '0940': 'pass 17 33360|pass 18 34500|pass 19 33360|pass 20 34380|pass 21 34470|pass 24 34230|pass 25 34260|now 34800',
+    }
+
+    @HAS_PROTOC
+    def test_say_what_is_new(self):
+        self.call(from_gtfs, SHIPPED, DATE, self.net)
+        net, feed, count = read_network(self.net), os.path.join(self.folder, 'feed'), 0
+        for name in sorted(glob.glob(os.path.join(EXAMPLE, 'updates', '*.txt'))):
+            told = os.path.basename(name)[:4]
+            message = os.path.join(self.folder, f'{told}.pb')
+            with open(name, 'rb') as file, open(message, 'wb') as out:
+                words = ['protoc', '--encode=transit_realtime.FeedMessage', f'--proto_path={TOOLS}', 'gtfs-realtime.proto']
+                subprocess.run(words, stdin=file, stdout=out, check=True)
+            self.assertEqual(self.call(gtfs_rt_in, self.net, feed, message), (0, ''))
+            lines = read(feed).splitlines()[count:]
+            self.assertEqual((sorted(lines), lines[-1]), (sorted(self.DUE[told].split('|')), self.DUE[told].split('|')[-1]))
+            times = dict(zip((event.id for event in net.events), times_of(net, rows_after(net, feed)[1])))
+            if told == '0850':
+                # S 3 keeps two minutes behind RE 1, and RB 2 waits for RE 1's way back: 9:08:45 + 5:00 + 16:45 + 4:00.
+                self.assertEqual((times[13], times[23], times[21]), (32040, 33225, 34470))
+            if told == '0915':
+                self.assertEqual(times[25], 34365 + 240)
+                with open(feed, 'a', encoding='ascii') as file:
+                    file.write('drop 36\n')
+                self.assertEqual(times_of(net, rows_after(net, feed)[1])[24], 34260)
+            count = len(read(feed).splitlines())
+
+
+if __name__ == '__main__':
+    unittest.main()
