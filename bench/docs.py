@@ -3,7 +3,7 @@
     python3 bench/docs.py DISPATCHER [PAGE..]
 
 DISPATCHER is a built program. Each page runs in a copy of the repository of its own, its `sh` blocks one after the other in one
-working directory, with the program as `dispatcher` and as crates/dispatcher/out/dispatcher. Each block that is no `sh` block must
+working directory, with the script at the top as `dispatcher` and the program as crates/dispatcher/out/dispatcher. Each block that is no `sh` block must
 stand, its lines in their order, in what the page's commands printed or wrote so far, or in a file that the page names; or it is
 written, where the paragraph above it names a file that is not there. A text that depends on
 how two feeds come out is tried again, up to five times. Blocks that prove or build, or that name a place to fill in, are left out.
@@ -51,7 +51,7 @@ class Session:
         """Runs a block's commands; the fault, if they ended with a status that is no answer."""
         told = self.root / ".folder"
         script = "\n".join([*block.lines, "status=$?", f"pwd > {told}", "exit $status"])
-        environment = dict(os.environ, PATH=f"{self.root}/crates/dispatcher/out:{os.environ['PATH']}")
+        environment = dict(os.environ, PATH=f"{self.root}:{os.environ['PATH']}")
         try:
             ran = subprocess.run(
                 ["bash", "-c", script.replace("DISPATCHER", f"{self.root}/crates/dispatcher/out/dispatcher")],
