@@ -1,0 +1,153 @@
+//! The items of a round, read line by line.
+ghost use Rattle.std.specs.Prelude.{◌≡◌};
+ghost use Rattle.dm_text.specs.Judging.{Line};
+ghost use Rattle.dm_records.specs.RunLines.{planned};
+ghost use Rattle.dm_records.specs.Readings.{opening_of, item_of};
+ghost use Rattle.dm_cert.specs.PlansRead.{Answers, cut_line, misshapen_line};
+ghost use Rattle.dm_tape.specs.Told.{IsFirstLine, TellsNodesOf, TellsBehind, TellsItem, fault_of, plan_item};
+ghost use Rattle.dm_tape.specs.Inside.Typed.{line_of_front, IsFrontOf};
+
+use crate::typed::{Front, front_in};
+use dm_base::Items;
+use dm_cert::{CertFault, CertKind, LogItem, Reply, read_choices, read_tree};
+use dm_records::{LogLine, PlanLine, item_line};
+use dm_rows::Decision;
+use dm_text::Lines;
+use dm_tree::{Plan, Tree};
+use std::alloc::{AllocError, Global};
+
+/// The version of run texts whose items rounds have.
+const VERSION: u32 = 2;
+
+/// There is not enough memory.
+pub(crate) const WANT_OF_MEMORY: CertFault = CertFault {
+    line: 0,
+    kind: CertKind::OutOfMemory,
+};
+
+/// The next line, which should be the first of an item.
+fn front_at(alloc: Global, lines: &mut Lines) -> Result<Front, CertFault>
+    ensures { Answers (Line cut_line misshapen_line IsFirstLine) line_of_front lines.old lines.new result }
+{
+    let number = lines.line();
+    let Some(bytes) = lines.next_line() else {
+        return Err(CertFault {
+            line: number,
+            kind: CertKind::Truncated,
+        });
+    };
+    let form = CertFault {
+        line: number,
+        kind: CertKind::Form,
+    };
+    let line = match item_line(alloc, VERSION, bytes) {
+        Ok(line) => line,
+        Err(AllocError) => return Err(WANT_OF_MEMORY),
+    };
+    let Some(line) = line else {
+        return Err(form);
+    };
+    typed(alloc, line, form)
+}
+
+/// What the line says, or this fault where a value in it is too large.
+fn typed(alloc: Global, line: LogLine, form: CertFault) -> Result<Front, CertFault>
+    ensures { IsFrontOf (item_of line) form result }
+{
+    let front = match front_in(alloc, line) {
+        Ok(front) => front,
+        Err(AllocError) => return Err(WANT_OF_MEMORY),
+    };
+    let Some(front) = front else {
+        return Err(form);
+    };
+    Ok(front)
+}
+
+/// Where the fault of a plan's lines is told, whose item begins at this line.
+fn fault_of(first: u32, fault: CertFault) -> CertFault
+    ensures { result ≡ fault_of first fault }
+{
+    match fault.kind {
+        CertKind::NotATree => CertFault {
+            line: first,
+            kind: CertKind::NotATree,
+        },
+        _ => fault,
+    }
+}
+
+/// The tree of a plan, whose item begins at this line and which has so many nodes.
+fn tree_at(alloc: Global, lines: &mut Lines, first: u32, size: u128) -> Result<Tree, CertFault>
+    ensures { Answers (TellsNodesOf first size) (λ tree. tree) lines.old lines.new result }
+{
+    match read_tree(alloc, VERSION, lines, size) {
+        Ok(tree) => Ok(tree),
+        Err(fault) => Err(fault_of(first, fault)),
+    }
+}
+
+/// The item whose first line, this one, opened a plan.
+fn plan_behind(
+    alloc: Global,
+    lines: &mut Lines,
+    first: u32,
+    opening: PlanLine,
+) -> Result<LogItem, CertFault>
+    ensures { Answers (TellsBehind first (planned (opening_of opening))) (λ item. item) lines.old lines.new result }
+{
+    let (choices, size) = (opening.choices, opening.size);
+    let choices = match read_choices(alloc, lines, choices) {
+        Ok(choices) => choices,
+        Err(fault) => return Err(fault),
+    };
+    let tree = match tree_at(alloc, lines, first, size) {
+        Ok(tree) => tree,
+        Err(fault) => return Err(fault),
+    };
+    Ok(plan_item(opening, Items::from_vec(choices), tree))
+}
+
+/// The item that answers with this plan.
+fn plan_item(opening: PlanLine, choices: Items<Decision>, tree: Tree) -> LogItem
+    ensures { result ≡ plan_item (opening_of opening) choices tree }
+{
+    let PlanLine {
+        line,
+        said,
+        entry,
+        mark,
+        cost,
+        bound,
+        choices: _,
+        size: _,
+    } = opening;
+    let plan = Plan {
+        entry,
+        choices,
+        cost,
+        bound,
+        mark,
+        tree,
+    };
+    LogItem::Answered {
+        line,
+        said,
+        reply: Reply::Planned(plan),
+    }
+}
+
+/// The next item.
+pub(crate) fn item_at(alloc: Global, lines: &mut Lines) -> Result<LogItem, CertFault>
+    ensures { Answers TellsItem (λ item. item) lines.old lines.new result }
+{
+    let first = lines.line();
+    let front = match front_at(alloc, lines) {
+        Ok(front) => front,
+        Err(fault) => return Err(fault),
+    };
+    match front {
+        Front::Whole(item) => Ok(item),
+        Front::Plan(opening) => plan_behind(alloc, lines, first, opening),
+    }
+}
