@@ -1,0 +1,95 @@
+//! Entries and plans that a table takes.
+
+ghost use Rattle.std.specs.Prelude.{◌≡◌, ◌<◌, ℕ, length, IfOk, IfErr, OnErr};
+ghost use Rattle.dm_desk.specs.Desks.{AdoptsPlan};
+ghost use Rattle.dm_table.specs.Answers.{RefusesPost};
+ghost use Rattle.dm_table.specs.Value.{HasRoomFor};
+ghost use Rattle.dm_table_desk.specs.Tables.{desk_of};
+ghost use Rattle.dm_table_desk.specs.Inside.Entering.{Gains, IsSameDesk, IsRefusedAfter, IsTrueAt};
+
+use dm_base::limits::ENTRIES;
+use dm_base::{Items, Steps};
+use dm_rows::{Decision, Entry, Message, Refusal};
+use dm_table::Table;
+use dm_tree::{AdoptRefusal, Plan};
+use std::alloc::{AllocError, Global};
+use std::marker::Brand;
+use std::sync::ledger::{Blank, Ledger};
+
+/// Enters a message, or says why it is refused after the history.
+pub(crate) fn enter(table: &mut Table<'_>, entry: Entry) -> Result<u32, Refusal>
+    ensures gains { IfOk result (Gains table.old table.new entry) }
+    ensures stays { OnErr result (IsSameDesk table.old table.new) }
+    ensures refused { IfErr result (IsRefusedAfter table.old entry.message) }
+{
+    table.sound();
+    match table.reserve(&entry.message) {
+        Ok(()) => post_with::<Brand>(table, entry, Blank::new(1)),
+        Err(AllocError) => Err(Refusal::OutOfMemory),
+    }
+}
+
+/// Enters a message for which there is room, for a ledger that nothing reads.
+fn post_with<L: Ledger>(table: &mut Table<'_>, entry: Entry, blank: Blank) -> Result<u32, Refusal>
+    requires room { HasRoomFor table.old entry.message }
+    requires name { blank.name ≡ L.name }
+    requires parts { blank.parts ≡ L.parts }
+    requires has_a_part { 0 < blank.parts }
+    ensures gains { IfOk result (Gains table.old table.new entry) }
+    ensures stays { OnErr result (table.new ≡ table.old) }
+    ensures refused { IfErr result (RefusesPost table.old.network table.old.rows (length table.old.history) entry.message) }
+{
+    let mut steps = Steps::<L>::new(blank);
+    table.post(entry, &mut steps)
+}
+
+/// Adopts a plan, or says why it is not adopted after the history.
+pub(crate) fn adopt(
+    alloc: Global,
+    table: &mut Table<'_>,
+    plan: &Plan,
+    feed: u32,
+    line: u32,
+) -> Result<u32, AdoptRefusal>
+    requires { IsTrueAt table.old plan.now }
+    ensures { (plans : ℕ) → AdoptsPlan (desk_of plans table.old) (desk_of plans table.new) plan.now feed line result }
+{
+    table.sound();
+    table.network().sound();
+    let now = table.len();
+    if plan.entry < now {
+        return Err(AdoptRefusal::Old { now });
+    }
+    if now == ENTRIES {
+        return Err(AdoptRefusal::Full { now });
+    }
+    let Ok(choices) = copy_of(alloc, plan.choices.as_slice()) else {
+        return Err(AdoptRefusal::OutOfMemory);
+    };
+    let message = Message::Adopt(choices);
+    let entry = Entry {
+        feed,
+        line,
+        message,
+    };
+    match enter(table, entry) {
+        Ok(number) => Ok(number),
+        Err(why) => Err(want_of_memory(why)),
+    }
+}
+
+/// The answer to a plan whose message nothing but want of memory refuses.
+fn want_of_memory(refusal: Refusal) -> AdoptRefusal
+    requires { refusal ≡ Refusal.OutOfMemory }
+    ensures { result ≡ AdoptRefusal.OutOfMemory }
+{
+    prove!(matches!(refusal, Refusal::OutOfMemory));
+    AdoptRefusal::OutOfMemory
+}
+
+/// Equal decisions.
+fn copy_of(alloc: Global, decisions: &[Decision]) -> Result<Items<Decision>, AllocError>
+    ensures { IfOk result (λ items. items ≡ decisions.now) }
+{
+    Ok(Items::from_vec(Vec::from_slice(alloc, decisions)?))
+}
