@@ -19,8 +19,9 @@ from typing import Iterator, Optional, Sequence
 
 from files import write_all
 from find import Found, all_changes
+from gtfs import seconds_of
 from protobuf import Message, encode
-from railway import BadFile, Network, in_one_line, read_network
+from railway import BadFile, in_one_line, read_network
 from realtime import NO_DATA, SCHEDULED, Named, descriptor, read_named
 from runtext import Bad, Run, read_run
 from to_gtfs import Happening, without_falls
@@ -41,15 +42,12 @@ def read_text(name: str, events: int) -> Run:
         raise BadFile(name, line, f'this is no text of a run over the network ({kind})') from error
 
 
-def events_told(network: Network, run: Run) -> set[int]:
-    """The events of which a delay or a pass was told; of an activity its head."""
-    told: set[int] = set()
-    for entry in run.journal:
-        kind, *values = entry.message
-        if kind in ('delay event', 'pass'):
-            told.add(values[0])
-        elif kind == 'delay activity':
-            told.add(network.activities[network.activity_place[values[0]]].head)
+def events_told(net: str, run: Run) -> set[int]:
+    """The events of which a delay or a pass was told; of an activity its head, for which alone the network is read."""
+    told = {entry.message[1] for entry in run.journal if entry.message[0] in ('delay event', 'pass')}
+    delayed = {entry.message[1] for entry in run.journal if entry.message[0] == 'delay activity'}
+    if delayed:
+        told.update(activity.head for activity in read_network(net).activities if activity.id in delayed)
     return told
 
 
@@ -90,11 +88,10 @@ def calls_of(happenings: list[Happening], begin: int, is_known: bool, repeats: b
     return [call for _, call in sorted(calls.items())]
 
 
-def updates(named: Named, network: Network, run: Run, now: int) -> Iterator[Message]:
-    told = events_told(network, run)
-    scheduled = {event.id: event.time for event in network.events}
+def updates(named: Named, told: set[int], run: Run, now: int) -> Iterator[Message]:
+    """A TripUpdate of each train, where so much was told of events."""
     for number, train in named.trains.items():
-        happenings = [Happening(name, scheduled[name.event], run.times[name.event]) for name in named.events[number]]
+        happenings = [Happening(name, seconds_of(name.time) or 0, run.times[name.event]) for name in named.events[number]]
         is_known = any(one.delay or one.name.event in told for one in happenings)
         without_falls(happenings)
         trip = descriptor(train, named.day)
@@ -121,12 +118,12 @@ def alert(found: Found, named: Named, leaves: int) -> Message:
 
 
 def message_of(net: str, text: str, zone: Optional[str], now: Optional[int]) -> Message:
-    network, named = read_network(net), read_named(net, zone)
-    run = read_text(text, len(network.events))
-    for events in named.events.values():
-        for name in events:
-            if name.event not in network.event_place:
-                raise BadFile(os.path.join(net, 'Events.csv'), None, f'event {name.event} is not in the network')
+    named = read_named(net, zone)
+    names = [name for events in named.events.values() for name in events]
+    run = read_text(text, len(names))
+    for name in names:
+        if name.event not in run.times or seconds_of(name.time) is None:
+            raise BadFile(os.path.join(net, 'Events.csv'), None, f'event {name.event} is not of the text, or has no time')
     if now is None:
         clocks = [entry.message[1] for entry in run.journal if entry.message[0] == 'now']
         now = named.begin + clocks[-1] if clocks else int(time.time())
@@ -137,7 +134,7 @@ def message_of(net: str, text: str, zone: Optional[str], now: Optional[int]) -> 
         if found.change.change in missed and found.departure.event not in gone
     ]
     header = {'gtfs_realtime_version': VERSION, 'incrementality': FULL_DATASET, 'timestamp': now}
-    return {'header': header, 'entity': [*updates(named, network, run, now), *alerts]}
+    return {'header': header, 'entity': [*updates(named, events_told(net, run), run, now), *alerts]}
 
 
 def main(given: Optional[Sequence[str]] = None) -> int:

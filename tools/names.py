@@ -96,10 +96,10 @@ def records(folder: str, name: str, row: Callable[..., Named]) -> list[tuple[int
 
 def made(path: str, line: int, fields: list[str], row: Callable[..., Named]) -> Named:
     """What `row` makes of the fields of a record."""
-    if not all(map(is_text, fields)):
+    if not is_text(''.join(fields)):
         raise BadFile(path, line, 'this is not in UTF-8')
     try:
-        return row(*map(str.strip, fields))
+        return row(*[field.strip() for field in fields])
     except (TypeError, ValueError) as error:
         raise BadFile(path, line, 'this is no record of the file') from error
 

@@ -5,14 +5,15 @@ the published schema (https://gtfs.org/documentation/realtime/proto/); fields th
 """
 from __future__ import annotations
 
-from typing import Any
+from typing import Any, NamedTuple
 
 Message = dict[str, Any]
 
 # The largest file that is read.
 LONGEST_FILE = 1 << 26
 
-# Fields by number: the name, and the kind, which is a scalar or another table; `*` where the field may stand many times.
+# Fields by number: the name, and the kind, which is a scalar or another table; `*` where it may stand many times, which
+# messages alone may.
 SCHEMA: dict[str, dict[int, tuple[str, str]]] = {
     'FeedMessage': {1: ('header', 'FeedHeader'), 2: ('entity', '*FeedEntity')},
     'FeedHeader': {1: ('gtfs_realtime_version', 'text'), 2: ('incrementality', 'number'), 3: ('timestamp', 'number')},
@@ -43,10 +44,10 @@ SCHEMA: dict[str, dict[int, tuple[str, str]]] = {
         5: ('route_id', 'text'),
     },
 }
-BY_NAME = {kind: {name: (number, what) for number, (name, what) in fields.items()} for kind, fields in SCHEMA.items()}
 
 VARINT, FIXED64, BYTES, FIXED32 = 0, 1, 2, 5
 WIDTHS = {FIXED64: 8, FIXED32: 4}
+SCALARS = ('number', 'signed')
 
 
 class BadMessage(Exception):
@@ -55,12 +56,14 @@ class BadMessage(Exception):
 
 # ---- Writing
 
+SMALL = [bytes((number,)) for number in range(128)]
+
 
 def varint(number: int) -> bytes:
     """A number below 2^64, seven bits a byte, the lowest first; a negative one as the one that is larger by 2^64."""
+    if 0 <= number < 128:
+        return SMALL[number]
     number &= (1 << 64) - 1
-    if number < 128:
-        return bytes((number,))
     out = bytearray()
     while number > 127:
         out.append(number & 127 | 128)
@@ -69,20 +72,35 @@ def varint(number: int) -> bytes:
     return bytes(out)
 
 
+class Field(NamedTuple):
+    """How a field is written: the bytes before each value, whether it may stand many times, and what it is."""
+    tag: bytes
+    is_many: bool
+    what: str
+
+
+BY_NAME = {
+    kind: {
+        name: Field(varint(number << 3 | (VARINT if what in SCALARS else BYTES)), what[0] == '*', what.lstrip('*'))
+        for number, (name, what) in fields.items()
+    }
+    for kind, fields in SCHEMA.items()
+}
+
+
 def encode(message: Message, kind: str = 'FeedMessage') -> bytes:
     """The bytes of a message; KeyError where it has a field that the schema has not."""
     fields = BY_NAME[kind]
-    out = bytearray()
+    parts: list[bytes] = []
     for name, value in message.items():
-        number, what = fields[name]
-        is_many = what[0] == '*'
+        tag, is_many, what = fields[name]
         for one in value if is_many else (value,):
-            if what in ('number', 'signed'):
-                out += varint(number << 3 | VARINT) + varint(one)
+            if what in SCALARS:
+                parts += (tag, varint(one))
             else:
-                part = one.encode() if what == 'text' else encode(one, what.lstrip('*'))
-                out += varint(number << 3 | BYTES) + varint(len(part)) + part
-    return bytes(out)
+                part = one.encode() if what == 'text' else encode(one, what)
+                parts += (tag, varint(len(part)), part)
+    return b''.join(parts)
 
 
 # ---- Reading
@@ -90,6 +108,8 @@ def encode(message: Message, kind: str = 'FeedMessage') -> bytes:
 
 def read_varint(data: bytes, place: int, end: int) -> tuple[int, int]:
     """The number that begins at a place, and the place behind it."""
+    if place < end and data[place] < 128:
+        return data[place], place + 1
     number = 0
     for shift in range(0, 70, 7):
         if place >= end:
@@ -118,26 +138,26 @@ def end_of_field(data: bytes, wire: int, place: int, end: int) -> tuple[int, int
 def decode(data: bytes, kind: str = 'FeedMessage', place: int = 0, end: int | None = None) -> Message:
     """The message that bytes are; BadMessage where they are none."""
     end = len(data) if end is None else end
-    fields, message = SCHEMA[kind], {}
+    fields = SCHEMA[kind]
+    message: Message = {}
     while place < end:
         tag, place = read_varint(data, place, end)
-        name, what = fields.get(tag >> 3, ('', ''))
         wire = tag & 7
+        name, what = fields.get(tag >> 3, ('', ''))
         if wire == VARINT:
             value, place = read_varint(data, place, end)
             if what == 'signed' and value >> 63:
                 value -= 1 << 64
-            begin = place
         else:
             begin, place = end_of_field(data, wire, place, end)
         if not name:
             continue
-        if (wire == VARINT) != (what in ('number', 'signed')) or wire in WIDTHS:
+        if (wire == VARINT) != (what in SCALARS) or wire in WIDTHS:
             raise BadMessage(f'field {name} of {kind} has wire type {wire}')
-        if wire == BYTES:
-            value = text_of(data[begin:place], name) if what == 'text' else decode(data, what.lstrip('*'), begin, place)
         if what[0] == '*':
-            message.setdefault(name, []).append(value)
+            message.setdefault(name, []).append(decode(data, what[1:], begin, place))
+        elif wire == BYTES:
+            message[name] = text_of(data[begin:place], name) if what == 'text' else decode(data, what, begin, place)
         else:
             message[name] = value
     return message

@@ -345,7 +345,14 @@ def read_whole_item(text, version):
     return item._replace(answer=item.answer._replace(value=read_plan(text, version, item.answer)))
 
 
+# The usual form of a time, tried before the words are taken apart: these lines are most of a text.
+TIME = re.compile(b'(0|[1-9][0-9]{0,8}); (0|[1-9][0-9]{0,37})')
+
+
 def read_time(text):
+    if text.number < len(text.lines) and (found := TIME.fullmatch(text.lines[text.number])):
+        text.number += 1
+        return int(found[1]), int(found[2])
     words = text.words()
     numbers = fits([words[0][:-1], *words[1:]], [ID, NUMBER])
     text.demand(words[0].endswith(';') and numbers is not None, 'form')

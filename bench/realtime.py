@@ -1,0 +1,68 @@
+#!/usr/bin/env python3
+"""Measures the converters of GTFS-Realtime: python3 bench/realtime.py DISPATCHER [--trips=2630]
+
+A timetable of so many trips by twenty calls is made, a network of 38 events a trip, which may have 100,000; and a day on which a
+hundred trains are late. Printed are the seconds of processor and the most memory of gtfs_rt_out.py, which writes all trips, of
+gtfs_rt_in.py, which reads that message beside an empty feed and beside the feed of the day, and of gtfs_rt_in.py with a message of
+3,000 trips, of which it tells those that the network has not.
+"""
+from __future__ import annotations
+
+import argparse
+import os
+import subprocess
+import sys
+import tempfile
+
+TOP = os.path.join(os.path.dirname(os.path.abspath(__file__)), '..')
+sys.path[:0] = [os.path.join(TOP, 'tools'), os.path.join(TOP, 'tools', 'tests')]
+
+from feeds import DATE, large_feed, write_feed  # noqa: E402
+from measured import Measured, measured  # noqa: E402
+from protobuf import decode, encode  # noqa: E402
+from words import whole_between  # noqa: E402
+
+CALLS, LATE, NOW, IN_MESSAGE = 20, 100, 28_800, 3_000
+
+
+def tool(name: str, *words: str) -> Measured:
+    """What a tool takes, started as people start it."""
+    return measured([sys.executable, os.path.join(TOP, 'tools', name), *words])
+
+
+def shown(what: str, done: Measured) -> None:
+    print(f'{what}: {done.seconds:.2f} s, {done.megabytes:.0f} MB, status {done.status}', flush=True)
+
+
+def main() -> int:
+    words = argparse.ArgumentParser(description=__doc__, formatter_class=argparse.RawDescriptionHelpFormatter)
+    words.add_argument('dispatcher', metavar='DISPATCHER', help='the built program')
+    words.add_argument('--trips', type=whole_between(1, 2_631), default=2_630, metavar='N', help='(2630)')
+    given = words.parse_args()
+    with tempfile.TemporaryDirectory() as folder:
+        source, net, feed, text, out, more = (os.path.join(folder, name) for name in ('gtfs', 'net', 'feed', 'text', 'out.pb', 'more.pb'))
+        agency = ['agency_name,agency_url,agency_timezone', 'X,https://example.org,Europe/Berlin']
+        write_feed(source, {**large_feed(given.trips, CALLS), 'agency.txt': agency})
+        shown('from_gtfs.py', tool('from_gtfs.py', source, DATE, net))
+        with open(feed, 'w', encoding='ascii') as file:
+            file.writelines(f'delay event {1 + 38 * (number * given.trips // LATE)} 300\n' for number in range(LATE))
+            file.write(f'now {NOW}\n')
+        with open(text, 'wb') as file:
+            subprocess.run([given.dispatcher, 'run', net, feed], stdout=file, stderr=subprocess.DEVNULL, check=True)
+        shown('gtfs_rt_out.py', tool('gtfs_rt_out.py', net, text, out))
+        shown('gtfs_rt_in.py, an empty feed', tool('gtfs_rt_in.py', net, os.path.join(folder, 'empty'), out))
+        shown('gtfs_rt_in.py, the feed of the day', tool('gtfs_rt_in.py', net, feed, out))
+        with open(out, 'rb') as file:
+            message = decode(file.read())
+        updates = message['entity']
+        for number in range(given.trips, IN_MESSAGE):
+            update = updates[number % given.trips]['trip_update']
+            updates.append({'id': f'more-{number}', 'trip_update': {**update, 'trip': {'trip_id': f'T{number}', 'start_date': DATE}}})
+        with open(more, 'wb') as file:
+            file.write(encode(message))
+        shown(f'gtfs_rt_in.py, {len(updates)} trips by {CALLS} calls in {os.path.getsize(more)} bytes', tool('gtfs_rt_in.py', net, feed, more))
+    return 0
+
+
+if __name__ == '__main__':
+    sys.exit(main())
