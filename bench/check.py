@@ -14,63 +14,68 @@ times as below, the memory by 2.5.
 With COUNTRY, one record of the text of four feeds is replaced at the front, in the middle and at the end of the logs: each such text is
 judged in no more than 1.1 times the time of the good one. A ratio over its bound is marked, and the status is then 1.
 """
+from __future__ import annotations
+
 import os
-import subprocess
 import sys
+from typing import Container, NamedTuple
+
+from here import add_program, command_line
+from measured import measured
 
 MEMORY = 2.5
 REPLACED = 1.1
 
-# Name, feeds, bound, and how often it is timed.
-DAY = [('delays', ['full'], 0.8, 3), ('mixed', ['mixed'], 1.3, 3), ('plans', ['plans'], 1.2, 1)]
-ONE_FEED = [(name, [name], 1.5, 3) for name in ('questions', 'delays', 'activity-delays', 'drops', 'keeps')]
-FEEDS = [(f'{many} feeds', [f'feed{feed % 16 + 1}' for feed in range(many)], 1.5, 1) for many in (1, 4, 16, 64)]
+
+class Row(NamedTuple):
+    """Feeds, the bound of their ratio, and how often they are timed."""
+    name: str
+    feeds: list[str]
+    bound: float
+    repeats: int
 
 
-def used(command, folder, output):
-    """The processor seconds of a command whose output goes into a file, the most memory in kilobytes, and its status."""
-    with open(os.path.join(folder, output), 'w') as file:
-        process = subprocess.Popen(command, cwd=folder, stdout=file)
-        _, status, usage = os.wait4(process.pid, 0)
-    process.returncode = os.waitstatus_to_exitcode(status)
-    return usage.ru_utime + usage.ru_stime, usage.ru_maxrss, process.returncode
+DAY = [Row('delays', ['full'], 0.8, 3), Row('mixed', ['mixed'], 1.3, 3), Row('plans', ['plans'], 1.2, 1)]
+ONE_FEED = [Row(name, [name], 1.5, 3) for name in ('questions', 'delays', 'activity-delays', 'drops', 'keeps')]
+FEEDS = [Row(f'{many} feeds', [f'feed{feed % 16 + 1}' for feed in range(many)], 1.5, 1) for many in (1, 4, 16, 64)]
 
 
-def least(command, folder, output, repeats, statuses):
-    """The least of as many measurements. Only these statuses are right."""
-    measured = [used(command, folder, output) for _ in range(repeats)]
-    for _, _, status in measured:
-        if status not in statuses:
-            sys.exit(f'{" ".join(command)} ended with {status}')
-    return min(time for time, _, _ in measured), max(memory for _, memory, _ in measured)
+def least(command: list[str], folder: str, output: str, repeats: int, statuses: Container[int]) -> tuple[float, float]:
+    """The least seconds and the most megabytes of as many measurements. Only these statuses are right."""
+    taken = [measured(command, folder=folder, output=output) for _ in range(repeats)]
+    for each in taken:
+        if each.status not in statuses:
+            sys.exit(f'{" ".join(command)} ended with {each.status}')
+    return min(each.seconds for each in taken), max(each.megabytes for each in taken)
 
 
-def verdict_of(folder):
+def verdict_of(folder: str) -> str:
     with open(os.path.join(folder, 'verdict')) as file:
         return file.read().strip()
 
 
 class Bench:
-    def __init__(self, program):
-        self.program = os.path.abspath(program)
+    def __init__(self, program: str) -> None:
+        self.program = program
         self.over = False
 
-    def mark(self, value, bound):
+    def mark(self, value: float, bound: float) -> str:
         self.over = self.over or value > bound
         return '  over' if value > bound else ''
 
-    def check(self, folder, text, repeats):
+    def check(self, folder: str, text: str, repeats: int) -> tuple[float, float]:
         command = [self.program, 'check', 'net', text, '--penalty=3600']
         return least(command, folder, 'verdict', repeats, (0, 1))
 
-    def row(self, folder, name, feeds, bound, repeats):
+    def row(self, folder: str, row: Row) -> None:
+        name, feeds, bound, repeats = row
         run, run_memory = least([self.program, 'run', 'net', '--penalty=3600', *feeds], folder, 'text', repeats, (0,))
         check, check_memory = self.check(folder, 'text', repeats)
         ratio, memory = check / run, check_memory / run_memory
         print(f'{name:<16}run {run:8.3f} s  check {check:8.3f} s{ratio:8.2f} of {bound}{self.mark(ratio, bound)}'
               f'  memory{memory:6.2f} of {MEMORY}{self.mark(memory, MEMORY)}  {verdict_of(folder)}', flush=True)
 
-    def replaced(self, folder, feeds):
+    def replaced(self, folder: str, feeds: list[str]) -> None:
         least([self.program, 'run', 'net', '--penalty=3600', *feeds], folder, 'text', 1, (0,))
         good, _ = self.check(folder, 'text', 1)
         with open(os.path.join(folder, 'text')) as file:
@@ -86,15 +91,19 @@ class Bench:
                   f'{self.mark(check / good, REPLACED)}  {verdict_of(folder)}', flush=True)
 
 
-def main():
-    day, program = sys.argv[1:3]
-    bench = Bench(program)
+def main() -> None:
+    words = command_line(__doc__)
+    words.add_argument('day', metavar='DAY')
+    add_program(words)
+    words.add_argument('countries', metavar='COUNTRY', nargs='*')
+    given = words.parse_args()
+    bench = Bench(given.program)
     for row in DAY:
-        bench.row(day, *row)
-    for country in sys.argv[3:]:
+        bench.row(given.day, row)
+    for country in given.countries:
         for row in ONE_FEED + FEEDS:
-            bench.row(country, *row)
-        bench.replaced(country, FEEDS[1][1])
+            bench.row(country, row)
+        bench.replaced(country, FEEDS[1].feeds)
     sys.exit(1 if bench.over else 0)
 
 

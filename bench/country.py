@@ -11,11 +11,20 @@ activities, of which 310,000 are changes and 95,000 headways in pairs; and, draw
 
 A train leaves every 12 seconds. Every fortieth train shares its tracks, and changes lead to departures 3 to 30 minutes later.
 """
+from __future__ import annotations
+
 import bisect
 import os
-import sys
+from itertools import chain
+from typing import Iterator
 
-from day import FEED, Draws
+from here import command_line
+from day import Draws, write_feed
+from giv import write_records
+from network import Activity, Event
+
+# The kind, tail, head, bound and weight of an activity.
+Row = tuple[str, int, int, int, int]
 
 TRAINS = 5_000
 LEGS = 10
@@ -24,23 +33,23 @@ HEADWAYS = 47_500
 APART = 40
 
 
-def departure(train, leg):
+def departure(train: int, leg: int) -> int:
     return 20 * train + 2 * leg + 1
 
 
-def scheduled(train, leg):
+def scheduled(train: int, leg: int) -> int:
     return 21_600 + 12 * train + 400 * leg
 
 
-def events():
+def events() -> Iterator[Event]:
     for train in range(TRAINS):
         for leg in range(LEGS):
             stop = 11 * (train % APART) + leg + 1
-            yield f'{departure(train, leg)}; 0; "departure"; {scheduled(train, leg)}; 0; {stop}\n'
-            yield f'{departure(train, leg) + 1}; 0; "arrival"; {scheduled(train, leg) + 330}; 10; {stop + 1}\n'
+            yield Event(departure(train, leg), 'departure', scheduled(train, leg), 0, stop)
+            yield Event(departure(train, leg) + 1, 'arrival', scheduled(train, leg) + 330, 10_000, stop + 1)
 
 
-def runs():
+def runs() -> Iterator[Row]:
     """Drives and waits: kind, tail, head, bound and weight."""
     for train in range(TRAINS):
         for leg in range(LEGS):
@@ -49,15 +58,15 @@ def runs():
             yield 'wait', departure(train, leg) + 1, departure(train, leg + 1), 40, 0
 
 
-def headways():
+def headways() -> Iterator[Row]:
     pairs = ((train, leg) for train in range(TRAINS - APART) for leg in range(LEGS))
     for _, (train, leg) in zip(range(HEADWAYS), pairs):
-        ends = departure(train, leg), departure(train + APART, leg)
-        yield 'headway', *ends, 120, 0
-        yield 'headway', *ends[::-1], 120, 0
+        first, second = departure(train, leg), departure(train + APART, leg)
+        yield 'headway', first, second, 120, 0
+        yield 'headway', second, first, 120, 0
 
 
-def changes(draws):
+def changes(draws: Draws) -> Iterator[Row]:
     """Changes from arrivals drawn to departures drawn among those 180 to 1,800 seconds later."""
     departures = sorted((scheduled(train, leg), departure(train, leg)) for train in range(TRAINS) for leg in range(LEGS))
     count = 0
@@ -67,25 +76,18 @@ def changes(draws):
         first, last = (bisect.bisect(departures, (time + wait, 0)) for wait in (180, 1_800))
         if first < last:
             count += 1
-            yield 'change', departure(train, leg) + 1, departures[first + draws.below(last - first)][1], 60, 1
+            yield 'change', departure(train, leg) + 1, departures[first + draws.below(last - first)][1], 60, 1_000
 
 
-def write_network(draws, folder):
+def write_network(draws: Draws, folder: str) -> list[int]:
     """Writes the files, and answers the ids of the changes."""
-    os.makedirs(folder, exist_ok=True)
-    with open(os.path.join(folder, 'Events-expanded.giv'), 'w', encoding='ascii') as file:
-        file.writelines(events())
-    ids = []
-    with open(os.path.join(folder, 'Activities-expanded.giv'), 'w', encoding='ascii') as file:
-        rows = (row for rows in (runs(), headways(), changes(draws)) for row in rows)
-        for number, (kind, tail, head, lower, weight) in enumerate(rows, 1):
-            file.write(f'{number}; 0; "{kind}"; {tail}; {head}; {lower}; 0; {weight}\n')
-            if kind == 'change':
-                ids.append(number)
-    return ids
+    rows = chain(runs(), headways(), changes(draws))
+    activities = [Activity(number, *row) for number, row in enumerate(rows, 1)]
+    write_records(folder, events(), activities)
+    return [activity.id for activity in activities if activity.kind == 'change']
 
 
-def lines(draws, changes_of, kind):
+def lines(draws: Draws, changes_of: list[int], kind: str) -> Iterator[str]:
     """Lines of a kind without end."""
     while True:
         if kind == 'delays':
@@ -98,28 +100,19 @@ def lines(draws, changes_of, kind):
             yield 'cost\n' if draws.below(2) else f'time {draws.below(20 * TRAINS) + 1}\n'
 
 
-def mixed(draws, changes_of):
+def mixed(draws: Draws, changes_of: list[int]) -> Iterator[str]:
     kinds = ['delays', 'activity-delays', 'drops', 'drops', 'keeps', 'keeps', 'questions', 'questions', 'questions']
     sources = {kind: lines(draws, changes_of, kind) for kind in kinds}
     while True:
         yield next(sources[kinds[draws.below(len(kinds))]])
 
 
-def write_feed(folder, name, drawn, count=None):
-    """Writes so many lines, or as many as a feed holds."""
-    taken, size = [], 0
-    for line in drawn:
-        size += len(line)
-        if size > FEED or len(taken) == count:
-            break
-        taken.append(line)
-    with open(os.path.join(folder, name), 'w', encoding='ascii') as file:
-        file.writelines(taken)
-
-
-def main():
-    number, folder = int(sys.argv[1]), sys.argv[2]
-    draws = Draws(number)
+def main() -> None:
+    words = command_line(__doc__)
+    words.add_argument('number', metavar='NUMBER', type=int)
+    words.add_argument('folder', metavar='FOLDER')
+    given = words.parse_args()
+    folder, draws = given.folder, Draws(given.number)
     changes_of = write_network(draws, os.path.join(folder, 'net'))
     write_feed(folder, 'empty', iter(()))
     for feed in range(1, 17):

@@ -12,6 +12,8 @@ processors). Of each run
 
 What differs is printed with the folder of its feeds, which is left there, and the status is then 1.
 """
+from __future__ import annotations
+
 import argparse
 import os
 import subprocess
@@ -19,13 +21,12 @@ import sys
 import tempfile
 import time
 from concurrent.futures import ThreadPoolExecutor
+from typing import Optional
 
+from here import add_program, command_line
 from day import Draws, mixed, write_day, write_feed
 from fuzz import keeps_rounds
-
-sys.path.insert(0, os.path.join(os.path.dirname(os.path.abspath(__file__)), '..', 'tools'))
-
-from runtext import Bad, read_run  # noqa: E402
+from runtext import Bad, read_run
 
 RUNS = 10_000
 TRAINS = 20
@@ -36,7 +37,7 @@ BATCHES = (1, 3, 16, 1_000)
 SECONDS = 60
 
 
-def answer(program, folder, words):
+def answer(program: str, folder: str, words: list[str]) -> Optional[tuple[int, bytes]]:
     """The status of a command and what it prints; None where it does not end in time."""
     try:
         done = subprocess.run([program, *words], cwd=folder, stdout=subprocess.PIPE, stderr=subprocess.DEVNULL, timeout=SECONDS)
@@ -45,7 +46,7 @@ def answer(program, folder, words):
     return done.returncode, done.stdout
 
 
-def fault_of_text(text, batch):
+def fault_of_text(text: bytes, batch: int) -> Optional[str]:
     """What is wrong with the logs of a text, or None."""
     try:
         run = read_run(text, EVENTS)
@@ -59,7 +60,7 @@ def fault_of_text(text, batch):
     return None if keeps_rounds(run.logs, batch) else 'the logs do not keep to rounds'
 
 
-def fault_of_run(program, net, folder, number):
+def fault_of_run(program: str, net: str, folder: str, number: int) -> Optional[str]:
     """What is wrong with a run, or None."""
     names = [f'feed-{feed}' for feed in range(1, FEEDS + 1)]
     for feed, name in enumerate(names):
@@ -80,7 +81,7 @@ def fault_of_run(program, net, folder, number):
     return fault_of_text(text, batch)
 
 
-def tried(program, net, number):
+def tried(program: str, net: str, number: int) -> bool:
     """Tries a run. It is false where something differs, which is printed."""
     with tempfile.TemporaryDirectory() as folder:
         fault = fault_of_run(program, net, folder, number)
@@ -92,15 +93,15 @@ def tried(program, net, number):
     return fault is None
 
 
-def arguments():
-    words = argparse.ArgumentParser(description=__doc__, formatter_class=argparse.RawDescriptionHelpFormatter)
-    words.add_argument('program', metavar='DISPATCHER', type=os.path.abspath)
+def arguments() -> argparse.Namespace:
+    words = command_line(__doc__)
+    add_program(words)
     words.add_argument('runs', metavar='RUNS', nargs='?', type=int, default=RUNS)
     words.add_argument('--beside', metavar='N', type=int, default=os.cpu_count())
     return words.parse_args()
 
 
-def main():
+def main() -> None:
     given = arguments()
     begun = time.monotonic()
     with tempfile.TemporaryDirectory() as day, ThreadPoolExecutor(given.beside) as pool:

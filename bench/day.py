@@ -14,8 +14,14 @@ FOLDER gets net/Events-expanded.giv, net/Activities-expanded.giv and these feeds
 The trains run alike, 30 seconds apart, over ten legs each. Every eighth train shares its tracks, so the departures of its
 legs are headway pairs; a change joins each train to the next.
 """
+from __future__ import annotations
+
 import os
-import sys
+from typing import Iterable, Iterator, Optional
+
+from here import command_line
+from giv import write_records
+from network import Activity, Event
 
 MASK = 2**64 - 1
 
@@ -26,33 +32,39 @@ FEED = 262_144
 class Draws:
     """Numbers drawn from a first one."""
 
-    def __init__(self, number):
+    def __init__(self, number: int) -> None:
         self.state = number
 
-    def below(self, limit):
+    def below(self, limit: int) -> int:
         self.state = (self.state * 6364136223846793005 + 1442695040888963407) & MASK
         return (self.state >> 33) % limit
 
 
-def departure(train, leg):
+def departure(train: int, leg: int) -> int:
     return 20 * train + 2 * leg + 1
 
 
-def scheduled(train, leg):
+def scheduled(train: int, leg: int) -> int:
     return 21600 + 30 * train + 400 * leg
 
 
-def events(trains):
+def events(trains: int) -> Iterator[Event]:
     for train in range(trains):
         for leg in range(10):
             event, time = departure(train, leg), scheduled(train, leg)
             stop = 11 * (train % 8) + leg + 1
-            yield f'{event}; 0; "departure"; {time}; 0; {stop}\n'
-            yield f'{event + 1}; 0; "arrival"; {time + 330}; 10; {stop + 1}\n'
+            yield Event(event, 'departure', time, 0, stop)
+            yield Event(event + 1, 'arrival', time + 330, 10_000, stop + 1)
 
 
-def activities(trains):
-    """Each activity's kind, tail, head, bound and weight, in ascending id from 1."""
+def activities(trains: int) -> Iterator[Activity]:
+    """The activities, whose ids ascend from 1."""
+    for number, row in enumerate(activity_rows(trains), 1):
+        yield Activity(number, *row)
+
+
+def activity_rows(trains: int) -> Iterator[tuple[str, int, int, int, int]]:
+    """Each activity's kind, tail, head, bound and weight."""
     for train in range(trains):
         for leg in range(10):
             yield 'drive', departure(train, leg), departure(train, leg) + 1, 300, 0
@@ -64,28 +76,23 @@ def activities(trains):
             yield 'headway', first, second, 120, 0
             yield 'headway', second, first, 120, 0
     for train in range(trains - 1):
-        yield 'change', departure(train, 4) + 1, departure(train + 1, 5), 60, 5
+        yield 'change', departure(train, 4) + 1, departure(train + 1, 5), 60, 5_000
 
 
-def activity_lines(trains):
-    for number, (kind, tail, head, lower, weight) in enumerate(activities(trains), 1):
-        yield f'{number}; 0; "{kind}"; {tail}; {head}; {lower}; 0; {weight}\n'
-
-
-def delays(draws, trains):
+def delays(draws: Draws, trains: int) -> Iterator[str]:
     while True:
         event = draws.below(20 * trains) + 1
         yield f'delay event {event} {draws.below(900) + 1}\n'
 
 
-def a_train(draws, trains):
+def a_train(draws: Draws, trains: int) -> tuple[int, int]:
     return draws.below(trains), draws.below(10)
 
 
-def mixed(draws, trains):
+def mixed(draws: Draws, trains: int) -> Iterator[str]:
     count = sum(1 for _ in activities(trains))
     clock = 21600
-    passed = []
+    passed: list[int] = []
     while True:
         train, leg = a_train(draws, trains)
         kind = draws.below(12)
@@ -115,7 +122,7 @@ def mixed(draws, trains):
             yield f'time {departure(train, leg) + 1}\n'
 
 
-def plans(draws, trains):
+def plans(draws: Draws, trains: int) -> Iterator[str]:
     source = delays(draws, trains)
     for number in range(1, 129):
         yield next(source)
@@ -125,12 +132,12 @@ def plans(draws, trains):
             yield 'cost\n'
 
 
-def questions(draws, trains):
+def questions(draws: Draws, trains: int) -> Iterator[str]:
     while True:
         yield 'cost\n' if draws.below(4) == 0 else f'time {draws.below(20 * trains) + 1}\n'
 
 
-def write_feed(folder, name, lines, count=None):
+def write_feed(folder: str, name: str, lines: Iterable[str], count: Optional[int] = None) -> None:
     """The first lines, `count` of them at most, that a feed may hold."""
     size = 0
     with open(os.path.join(folder, name), 'w') as file:
@@ -141,13 +148,8 @@ def write_feed(folder, name, lines, count=None):
             file.write(line)
 
 
-def write_day(number, trains, folder):
-    net = os.path.join(folder, 'net')
-    os.makedirs(net, exist_ok=True)
-    with open(os.path.join(net, 'Events-expanded.giv'), 'w') as file:
-        file.writelines(events(trains))
-    with open(os.path.join(net, 'Activities-expanded.giv'), 'w') as file:
-        file.writelines(activity_lines(trains))
+def write_day(number: int, trains: int, folder: str) -> None:
+    write_records(os.path.join(folder, 'net'), events(trains), activities(trains))
     write_feed(folder, 'empty', [])
     write_feed(folder, 'delays', delays(Draws(number), trains), 500)
     write_feed(folder, 'full', delays(Draws(number), trains))
@@ -156,8 +158,13 @@ def write_day(number, trains, folder):
     write_feed(folder, 'questions', questions(Draws(number), trains))
 
 
-def main():
-    write_day(int(sys.argv[1]), int(sys.argv[2]), sys.argv[3])
+def main() -> None:
+    words = command_line(__doc__)
+    words.add_argument('number', metavar='NUMBER', type=int)
+    words.add_argument('trains', metavar='TRAINS', type=int)
+    words.add_argument('folder', metavar='FOLDER')
+    given = words.parse_args()
+    write_day(given.number, given.trains, given.folder)
 
 
 if __name__ == '__main__':

@@ -18,6 +18,7 @@ import sys
 import tempfile
 from dataclasses import dataclass, field
 from pathlib import Path
+from typing import Iterator
 
 REPOSITORY = Path(__file__).resolve().parent.parent
 PAGES = ["README.md", "docs/OPERATING.md", "docs/TUTORIAL.md", "docs/GTFS.md", "docs/GTFS_RULES.md", "docs/REALTIME.md"]
@@ -77,7 +78,7 @@ class Session:
         (self.folder / new[0]).write_text("\n".join(block.lines) + "\n", encoding="utf-8")
         return True
 
-    def texts(self, page: str, since: float):
+    def texts(self, page: str, since: float) -> Iterator[str]:
         yield from reversed(self.printed)
         names = {Path(name).name for name in re.findall(r"`([\w./-]+)`", page)}
         for path in self.root.rglob("*"):

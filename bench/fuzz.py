@@ -16,6 +16,8 @@ it is the file `text` there. The status is then 1.
 
 Left out: boards, delay files, column words, more than three feeds, and feeds that cannot be read or are too long.
 """
+from __future__ import annotations
+
 import os
 import random
 import re
@@ -24,10 +26,14 @@ import subprocess
 import sys
 import tempfile
 from collections import Counter
+from typing import Callable, Optional, Protocol, Sequence
 
+from here import add_program, command_line
+from giv import ACTIVITIES, EVENTS, activity_record, event_record
 from judge import Judge, in_print, verdict_on
-from railway import Activity, Event, Network, Rows, decimal, times_of, ways_of
-from runtext import due_items, read_form, read_node
+from network import Activity, Event, Network
+from railway import Path, Rows, times_of, ways_of
+from runtext import Item, due_items, read_node
 
 # Changed texts of each number.
 CHANGED = 12
@@ -55,7 +61,7 @@ ALIKE = [
 # ---- Drawn networks
 
 
-def drawn_events(draws):
+def drawn_events(draws: random.Random) -> list[Event]:
     count = draws.randint(0, 9) if draws.random() < 0.9 else draws.randint(10, 16)
     return [
         Event(
@@ -66,7 +72,7 @@ def drawn_events(draws):
     ]
 
 
-def drawn_ends(draws, events, kind):
+def drawn_ends(draws: random.Random, events: list[Event], kind: str) -> tuple[int, int]:
     """The ids of two different events, mostly in the order of their times, or of a single one twice."""
     if len(events) < 2:
         return events[0].id, events[0].id
@@ -77,11 +83,11 @@ def drawn_ends(draws, events, kind):
     return ordered[first].id, ordered[second].id
 
 
-def drawn_activities(draws, events):
+def drawn_activities(draws: random.Random, events: list[Event]) -> list[Activity]:
     """Activities of all kinds; most headways have an opposite."""
     count = draws.randint(0, 3 * len(events))
     numbers = iter(draws.sample(range(1, 200), 2 * count))
-    activities = []
+    activities: list[Activity] = []
     for _ in range(count):
         kind = draws.choice(['drive', 'wait', 'turnaround', 'change', 'change', 'headway', 'headway', 'headway'])
         tail, head = drawn_ends(draws, events, kind)
@@ -92,7 +98,7 @@ def drawn_activities(draws, events):
     return activities
 
 
-def drawn_network(draws):
+def drawn_network(draws: random.Random) -> Network:
     """The first drawn network without a cycle at the start."""
     while True:
         events = drawn_events(draws)
@@ -101,20 +107,14 @@ def drawn_network(draws):
             return network
 
 
-def write_network(draws, network, folder):
+def write_network(draws: random.Random, network: Network, folder: str) -> None:
     """Writes the files of a network, whose records stand in any order."""
     os.makedirs(folder)
-    words = {'departure': '"departure"', 'arrival': 'Arrival'}
-    events = [
-        f'{event.id}; 0; {words[event.kind]}; {event.time}; {decimal(event.weight)}; {event.stop}\n' for event in network.events
-    ]
-    activities = [
-        f'{activity.id}; 0; "{activity.kind}"; {activity.tail}; {activity.head}; {activity.lower}; 9; {decimal(activity.weight)}\n'
-        for activity in network.activities
-    ]
-    for name, lines in ('Events', events), ('Activities', activities):
+    events = [event_record(event).replace('"arrival"', 'Arrival') for event in network.events]
+    activities = [activity_record(activity, upper=9) for activity in network.activities]
+    for name, lines in (EVENTS, events), (ACTIVITIES, activities):
         draws.shuffle(lines)
-        with open(os.path.join(folder, f'{name}-expanded.giv'), 'w') as file:
+        with open(os.path.join(folder, name), 'w', encoding='ascii') as file:
             file.writelines(['# note\n', *lines])
 
 
@@ -124,46 +124,46 @@ def write_network(draws, network, folder):
 class Lines:
     """Draws lines that name what a network has, and now and then what it has not."""
 
-    def __init__(self, draws, network):
+    def __init__(self, draws: random.Random, network: Network) -> None:
         self.draws = draws
         self.events = [event.id for event in network.events] or [1]
         self.activities = [activity.id for activity in network.activities] or [1]
         self.changes = [activity.id for activity in network.activities if activity.kind == 'change'] or self.activities
-        self.pairs = [tuple(network.events[place].id for place in pair) for pair in network.pairs] or [(1, 2)]
+        self.pairs = [(network.events[one].id, network.events[other].id) for one, other in network.pairs] or [(1, 2)]
         self.clock = 0
 
-    def event(self):
+    def event(self) -> int:
         return self.draws.choice(self.events) if self.draws.random() < 0.95 else self.draws.randint(0, 45)
 
-    def activity(self):
+    def activity(self) -> int:
         return self.draws.choice(self.activities) if self.draws.random() < 0.95 else self.draws.randint(0, 205)
 
-    def change(self):
+    def change(self) -> int:
         return self.draws.choice(self.changes) if self.draws.random() < 0.9 else self.activity()
 
-    def delay(self):
+    def delay(self) -> int:
         return self.draws.choice([0, 0, self.draws.randint(1, 40), self.draws.randint(1, 40), 1000000, 1000001])
 
-    def passed(self):
+    def passed(self) -> int:
         usual = [self.draws.randint(0, 90) for _ in range(3)]
         return self.draws.choice([*usual, 2000000000, 2000000001])
 
-    def first(self):
+    def first(self) -> str:
         first, second = self.draws.choice(self.pairs)
         if self.draws.random() < 0.05:
             first, second = self.event(), self.event()
         return f'first {first} {second}' if self.draws.random() < 0.5 else f'first {second} {first}'
 
-    def now(self):
+    def now(self) -> str:
         self.clock = max(0, self.clock + self.draws.randint(-3, 12))
         return f'now {self.clock}'
 
-    def plan(self):
+    def plan(self) -> str:
         return f'plan {self.draws.choice([0, 1, 2, 3, 4, 5, 7, 9, 15, 50, 300, 4097, 16384, 16385])}'
 
-    def line(self):
+    def line(self) -> str:
         """One line; the numbers say how often each kind comes."""
-        kinds = {
+        kinds: dict[Callable[[], str], int] = {
             lambda: f'delay event {self.event()} {self.delay()}': 20,
             lambda: f'delay activity {self.activity()} {self.delay()}': 8,
             lambda: f'pass {self.event()} {self.passed()}': 10,
@@ -183,7 +183,7 @@ class Lines:
         return drawn()
 
 
-def drawn_feed(draws, network):
+def drawn_feed(draws: random.Random, network: Network) -> str:
     lines = Lines(draws, network)
     return '\n'.join(lines.line() for _ in range(draws.randint(0, 25))) + draws.choice(['', '\n'])
 
@@ -191,7 +191,14 @@ def drawn_feed(draws, network):
 # ---- What a run of feeds comes to
 
 
-def keeps_rounds(logs, batch):
+class HasItems(Protocol):
+    """The log of a feed, as it is read or as it is judged."""
+
+    @property
+    def items(self) -> list[Item]: ...
+
+
+def keeps_rounds(logs: Sequence[HasItems], batch: int) -> bool:
     """Whether no entry number of an earlier round is above one of a later round."""
     top = 0
     longest = max(len(log.items) for log in logs)
@@ -204,7 +211,7 @@ def keeps_rounds(logs, batch):
     return True
 
 
-def fault_of_run(judge, feeds, batch, text):
+def fault_of_run(judge: Judge, feeds: list[str], batch: int, text: bytes) -> Optional[str]:
     """What is wrong with the text of a run of feeds, or None."""
     told = judge.judge(text)
     if told[0] != 'good' or judge.version != 2:
@@ -218,9 +225,10 @@ def fault_of_run(judge, feeds, batch, text):
 # ---- Changed texts
 
 
-def by_leaves(text):
+def by_leaves(text: bytes) -> bytes:
     """A text of version 2 in version 1: the leaves of its plans, each with its path, in place of the nodes."""
-    lines, paths = [], []
+    lines: list[str] = []
+    paths: list[Path] = []
     for line in text.decode().replace('dm-run 2', 'dm-run 1', 1).split('\n'):
         node = read_node(line.split(' '))
         if ' nodes ' in line:
@@ -238,14 +246,14 @@ def by_leaves(text):
     return '\n'.join(lines).encode()
 
 
-def with_number_changed(draws, text):
+def with_number_changed(draws: random.Random, text: bytes) -> bytes:
     found = draws.choice(list(re.finditer(rb'[0-9]+', text)))
     value = int(found.group())
     other = draws.choice([value + 1, max(0, value - 1), value * 2, draws.choice(ODD_NUMBERS)])
     return text[:found.start()] + str(other).encode() + text[found.end():]
 
 
-def with_lines_changed(draws, text):
+def with_lines_changed(draws: random.Random, text: bytes) -> bytes:
     """With a line left out, one put before another, or one swapped with the next."""
     lines = text.split(b'\n')
     place = draws.randrange(len(lines) - 1) if len(lines) > 1 else 0
@@ -254,7 +262,7 @@ def with_lines_changed(draws, text):
     return b'\n'.join(lines)
 
 
-def with_word_changed(draws, text):
+def with_word_changed(draws: random.Random, text: bytes) -> bytes:
     lines = text.split(b'\n')
     place = draws.randrange(len(lines))
     words = lines[place].split(b' ')
@@ -263,7 +271,7 @@ def with_word_changed(draws, text):
     return b'\n'.join(lines)
 
 
-def with_another_alike(draws, text):
+def with_another_alike(draws: random.Random, text: bytes) -> bytes:
     """With something in place of what has the same form, where there is such a thing."""
     pattern, other = draws.choice(ALIKE)
     found = list(re.finditer(pattern, text, flags=re.MULTILINE))
@@ -273,16 +281,16 @@ def with_another_alike(draws, text):
     return text[:match.start()] + match.expand(other) + text[match.end():]
 
 
-def with_byte_changed(draws, text):
+def with_byte_changed(draws: random.Random, text: bytes) -> bytes:
     place = draws.randrange(len(text))
     return text[:place] + bytes([draws.choice(b' \n0159ax;->\xff')]) + text[place + 1:]
 
 
-def front(draws, text):
+def front(draws: random.Random, text: bytes) -> bytes:
     return text[:draws.randrange(len(text) + 1)]
 
 
-def with_end_or_version_changed(draws, text):
+def with_end_or_version_changed(draws: random.Random, text: bytes) -> bytes:
     other = text.replace(b'dm-run 2', b'dm-run 1', 1) if text.startswith(b'dm-run 2') else text.replace(b'dm-run 1', b'dm-run 2', 1)
     return draws.choice([other, text + b'x', text + b'\n', text + b'x\n'])
 
@@ -293,7 +301,7 @@ CHANGES = {
 }
 
 
-def changed(draws, text):
+def changed(draws: random.Random, text: bytes) -> bytes:
     """A text with one change, now and then with two."""
     for _ in range(1 if draws.random() < 0.8 else 2):
         change, = draws.choices(list(CHANGES), list(CHANGES.values()))
@@ -308,16 +316,16 @@ def changed(draws, text):
 class Fuzz:
     """Runs and checks of a program in a folder, and what they came to."""
 
-    def __init__(self, program):
+    def __init__(self, program: str) -> None:
         self.program = program
-        self.counts = Counter()
+        self.counts: Counter[str] = Counter()
 
-    def call(self, folder, *words):
+    def call(self, folder: str, *words: str) -> tuple[int, bytes]:
         """The status and the output of the program."""
         done = subprocess.run([self.program, *words], cwd=folder, capture_output=True, timeout=SECONDS, check=False)
         return done.returncode, done.stdout
 
-    def fault_of_check(self, folder, network, penalty, text):
+    def fault_of_check(self, folder: str, network: Network, penalty: int, text: bytes) -> Optional[str]:
         """How the verdict of the program on a text differs from that of the judge, or None."""
         with open(os.path.join(folder, 'text'), 'wb') as file:
             file.write(text)
@@ -327,7 +335,7 @@ class Fuzz:
         self.counts['good' if verdict[0] == 'good' else verdict[2]] += 1
         return None if told == due else f'judged {due}, told {told}'
 
-    def fault_of(self, number, folder):
+    def fault_of(self, number: int, folder: str) -> Optional[str]:
         """What differs in the network, the feeds and the texts of a number, or None."""
         draws = random.Random(number)
         network = drawn_network(draws)
@@ -351,10 +359,14 @@ class Fuzz:
         return fault or next((other for other in faults if other is not None), None)
 
 
-def main():
-    fuzz = Fuzz(os.path.abspath(sys.argv[1]))
-    differing = 0
-    for number in range(int(sys.argv[2]), int(sys.argv[3])):
+def main() -> None:
+    words = command_line(__doc__)
+    add_program(words)
+    words.add_argument('begin', metavar='FROM', type=int)
+    words.add_argument('end', metavar='TO', type=int)
+    given = words.parse_args()
+    fuzz, differing = Fuzz(given.program), 0
+    for number in range(given.begin, given.end):
         folder = tempfile.mkdtemp(prefix='fuzz-')
         fault = fuzz.fault_of(number, folder)
         if fault is None:

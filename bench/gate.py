@@ -16,7 +16,7 @@ import os
 import subprocess
 import sys
 import time
-from collections import Counter
+from collections import defaultdict
 from collections.abc import Iterable, Mapping
 from contextlib import suppress
 from dataclasses import dataclass
@@ -27,6 +27,9 @@ PERIOD = 1.0
 
 # What a crate's processor time goes to.
 KINDS = ('proof', 'tests', 'edits')
+
+# Seconds by kind.
+Costs = defaultdict[str, float]
 
 
 @dataclass(frozen=True)
@@ -106,22 +109,22 @@ class Meter:
 
     def look(self, processes: Mapping[int, Process]) -> None:
         """Notes what processes have cost so far; what a job of another one costs counts to that one."""
-        sums: Counter[int] = Counter()
+        sums: dict[int, float] = {}
         for pid, process in processes.items():
             top = pid
             while processes[top].parent in processes:
                 top = processes[top].parent
-            sums[top] += process.seconds
+            sums[top] = sums.get(top, 0.0) + process.seconds
         for top, seconds in sums.items():
             process = processes[top]
             before = self.seen.get((top, process.begun), (process, 0.0))[1]
             self.seen[top, process.begun] = process, max(before, seconds)
 
-    def costs(self) -> dict[str, Counter[str]]:
+    def costs(self) -> dict[str, Costs]:
         """The seconds of each crate, by kind."""
-        found: dict[str, Counter[str]] = {}
+        found: dict[str, Costs] = {}
         for process, seconds in self.seen.values():
-            found.setdefault(process.crate, Counter())[process.kind] += seconds
+            found.setdefault(process.crate, Costs(float))[process.kind] += seconds
         return found
 
 
@@ -158,13 +161,18 @@ def read_parts(top: Path, names: Iterable[str]) -> list[Part]:
     return parts
 
 
+def dearest(kinds: Costs, most: int) -> list[tuple[str, float]]:
+    """The kinds that cost most, and what."""
+    return sorted(kinds.items(), key=lambda it: -it[1])[:most]
+
+
 def part_rows(parts: Iterable[Part], most: int) -> list[str]:
     """The table of crates, the dearest first, and of the dearest parts."""
-    crates: dict[str, Counter[str]] = {}
+    crates: dict[str, Costs] = {}
     for part in parts:
-        crates.setdefault(part.crate, Counter())[part.kind] += part.seconds
-    rows = sorted(crates.items(), key=lambda it: (-it[1].total(), it[0]))
-    lines = [f'{name:22}{kinds.total():7.0f} s  ' + '  '.join(f'{kind} {seconds:.0f}' for kind, seconds in kinds.most_common(4))
+        crates.setdefault(part.crate, Costs(float))[part.kind] += part.seconds
+    rows = sorted(crates.items(), key=lambda it: (-sum(it[1].values()), it[0]))
+    lines = [f'{name:22}{sum(kinds.values()):7.0f} s  ' + '  '.join(f'{kind} {seconds:.0f}' for kind, seconds in dearest(kinds, 4))
              for name, kinds in rows]
     dearest = sorted(parts, key=lambda it: (-it.seconds, it.crate, it.name))[:most]
     return [*lines, '', *(f'{it.seconds:7.1f} s  {it.crate:22}{it.name}' for it in dearest)]

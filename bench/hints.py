@@ -5,67 +5,85 @@ DISPATCHER is a built dispatcher. Each case runs it in a folder of its own on th
 and the lines that the standard error must have in their order, without `dispatcher: ` in front; `...` stands for any lines. What is
 said of a run that is all well is nothing. The status is 1 where a case differs.
 """
+from __future__ import annotations
+
 import os
 import resource
 import shutil
 import subprocess
 import sys
 import tempfile
+from typing import Callable, NamedTuple, Optional
 
-HERE = os.path.dirname(os.path.abspath(__file__))
-NET = os.path.join(os.path.dirname(HERE), 'crates', 'dispatcher', 'data', 'net')
+from here import TOP, add_program, command_line
+
+NET = os.path.join(TOP, 'crates', 'dispatcher', 'data', 'net')
 EVENTS, ACTIVITIES = 'net/Events-expanded.giv', 'net/Activities-expanded.giv'
 NET_BYTES = sum(os.path.getsize(os.path.join(NET, os.path.basename(name))) for name in (EVENTS, ACTIVITIES))
+
+# What is done in the folder of a case before its call, by the program where it is needed.
+Making = Callable[[str], object]
+
 LIST = '`dispatcher --help` lists all commands and options'
 EVENT_WORDS = 'id,periodic-id,type,time,weight,stop'
 
 
-def read(name):
+def read(name: str) -> bytes:
     with open(name, 'rb') as file:
         return file.read()
 
 
-def write(name, data):
+def write(name: str, data: bytes) -> None:
     with open(name, 'wb') as file:
         file.write(data)
 
 
-def change(name, old, new):
+def change(name: str, old: bytes, new: bytes) -> None:
     """Puts a text in the place of another, which stands in the file once."""
     data = read(name)
     assert data.count(old) == 1, (name, old)
     write(name, data.replace(old, new))
 
 
-class Case:
+class Case(NamedTuple):
     """A call with what is due: its words, its status and the lines of its standard error."""
+    name: str
+    words: list[str]
+    status: int
+    lines: list[str]
+    before: Optional[Making] = None
+    memory: Optional[int] = None
+    out: Optional[str] = None
 
-    def __init__(self, name, words, status, lines, before=None, memory=None, out=None):
-        self.name, self.words, self.status, self.lines = name, words, status, lines
-        self.before, self.memory, self.out = before, memory, out
 
-
-def feed(data):
+def feed(data: bytes) -> Making:
     return lambda program: write('f', data)
 
 
-def edit(name, old, new):
+def edit(name: str, old: bytes, new: bytes) -> Making:
     return lambda program: change(name, old, new)
 
 
-def text(words, change_text=lambda data: data, lines=b'delay event 1 60\n'):
+def text(words: list[str], change_text: Callable[[bytes], bytes] = lambda data: data, lines: bytes = b'delay event 1 60\n') -> Making:
     """Makes the text of a run in `text`."""
-    def make(program):
+    def make(program: str) -> None:
         write('f', lines)
         made = subprocess.run([program, 'run', 'net', 'f', *words], capture_output=True, check=True)
         write('text', change_text(made.stdout))
     return make
 
 
-def make_sparse(name, size):
-    def make(program):
+def make_sparse(name: str, size: int) -> Making:
+    def make(program: str) -> None:
         with open(name, 'wb') as file:
             file.truncate(size)
+    return make
+
+
+def into_folder(name: str) -> Making:
+    def make(program: str) -> None:
+        os.remove(name)
+        os.mkdir(name)
     return make
 
 
@@ -169,7 +187,7 @@ FILES = [
     Case('file too long', RUN, 3, [f'{EVENTS} has 67108865 bytes, and a file may have 67108864'], make_sparse(EVENTS, 67108865)),
     Case('no such folder', ['run', 'nets', 'f'], 4, ['nets/Events-expanded.giv: No such file or directory (os error 2)']),
     Case('a folder', RUN, 4, [f'{EVENTS} is a folder, and a file is wanted'],
-         lambda program: (os.remove(EVENTS), os.mkdir(EVENTS))),
+         into_folder(EVENTS)),
 ]
 
 FEEDS = [
@@ -220,7 +238,7 @@ ENDS = [
 ]
 
 
-def call(case, program):
+def call(case: Case, program: str) -> tuple[int, list[str]]:
     """The status and the lines of the standard error of a case, in the folder where it is."""
     limit = (lambda: resource.setrlimit(resource.RLIMIT_AS, (case.memory, case.memory))) if case.memory else None
     with open(case.out or os.devnull, 'w') as out:
@@ -228,7 +246,7 @@ def call(case, program):
     return done.returncode, done.stderr.decode().splitlines()
 
 
-def is_due(lines, due):
+def is_due(lines: list[str], due: list[str]) -> bool:
     """Whether lines are the due ones, where `...` stands for any."""
     if not due:
         return not lines
@@ -237,7 +255,7 @@ def is_due(lines, due):
     return bool(lines) and lines[0] == due[0] and is_due(lines[1:], due[1:])
 
 
-def differs(case, program):
+def differs(case: Case, program: str) -> Optional[str]:
     """What differs in a case, or nothing."""
     if case.before:
         case.before(program)
@@ -251,8 +269,10 @@ def differs(case, program):
     return None if is_due(said, case.lines) else f'said {said}, due {case.lines}'
 
 
-def main():
-    program = os.path.abspath(sys.argv[1])
+def main() -> None:
+    words = command_line(__doc__)
+    add_program(words)
+    program = words.parse_args().program
     bad = 0
     cases = USAGE + TEXTS + FILES + FEEDS + ENDS
     for case in cases:

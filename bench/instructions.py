@@ -12,6 +12,8 @@ less that of the first row:
     mixed     a full feed of mixed lines, beyond         170
     check     the text of the delays, beyond loading     45
 """
+from __future__ import annotations
+
 import argparse
 import os
 import re
@@ -21,8 +23,10 @@ import sys
 import tempfile
 from typing import NamedTuple
 
-HERE = os.path.dirname(os.path.abspath(__file__))
-NUMBER, TRAINS = '7', '2000'
+from here import command_line, whole_path
+import day
+
+NUMBER, TRAINS = 7, 2_000
 PENALTY = '--penalty=3600'
 
 # The text that is checked.
@@ -32,28 +36,28 @@ TEXT = 'text'
 class Row(NamedTuple):
     """Words of a run, whether loading is taken off, and the bound, in millions of instructions."""
     name: str
-    words: list
+    words: list[str]
     is_beyond: bool
     bound: int
 
 
 ROWS = [
     Row('load', ['run', 'net', PENALTY, 'empty'], False, 230),
-    Row('gen', ['gen', NUMBER, TRAINS, PENALTY], False, 75),
+    Row('gen', ['gen', str(NUMBER), str(TRAINS), PENALTY], False, 75),
     Row('delays', ['run', 'net', PENALTY, 'full'], True, 70),
     Row('mixed', ['run', 'net', PENALTY, 'mixed'], True, 170),
     Row('check', ['check', 'net', PENALTY, TEXT], True, 45),
 ]
 
 
-def write_day(program, folder):
+def write_day(program: str, folder: str) -> None:
     """Writes the day, and the text of its delays."""
-    subprocess.run([sys.executable, os.path.join(HERE, 'day.py'), NUMBER, TRAINS, folder], check=True)
+    day.write_day(NUMBER, TRAINS, folder)
     with open(os.path.join(folder, TEXT), 'wb') as file:
         subprocess.run([program, 'run', 'net', PENALTY, 'full'], cwd=folder, stdout=file, stderr=subprocess.DEVNULL, check=True)
 
 
-def counted(program, folder, words):
+def counted(program: str, folder: str, words: list[str]) -> float:
     """How many millions of instructions a run takes, of all its threads."""
     counts = os.path.join(folder, 'counts')
     command = ['valgrind', '--tool=callgrind', f'--callgrind-out-file={counts}', program, *words]
@@ -61,33 +65,36 @@ def counted(program, folder, words):
     if done.returncode != 0:
         raise SystemExit(f'{" ".join(command)} ended with {done.returncode}:\n{done.stderr}')
     with open(counts, encoding='utf-8') as file:
-        return int(re.search('^totals: ([0-9]+)$', file.read(), re.MULTILINE)[1]) / 1e6
+        found = re.search('^totals: ([0-9]+)$', file.read(), re.MULTILINE)
+    if found is None:
+        raise SystemExit(f'{" ".join(command)} left no count')
+    return int(found[1]) / 1e6
 
 
-def counts_of(program, folder):
+def counts_of(program: str, folder: str) -> dict[str, float]:
     """The counts of all rows."""
-    counts = {}
+    counts: dict[str, float] = {}
     for row in ROWS:
         counts[row.name] = counted(program, folder, row.words) - (counts['load'] if row.is_beyond else 0)
     return counts
 
 
-def arguments():
-    words = argparse.ArgumentParser(description=__doc__, formatter_class=argparse.RawDescriptionHelpFormatter)
-    words.add_argument('dispatcher', metavar='DISPATCHER', type=os.path.abspath)
-    words.add_argument('before', metavar='BEFORE', nargs='?', type=os.path.abspath)
+def arguments() -> argparse.Namespace:
+    words = command_line(__doc__)
+    words.add_argument('dispatcher', metavar='DISPATCHER', type=whole_path)
+    words.add_argument('before', metavar='BEFORE', nargs='?', type=whole_path)
     given = words.parse_args()
     if shutil.which('valgrind') is None:
         words.error('there is no valgrind here')
     return given
 
 
-def main():
+def main() -> None:
     given = arguments()
     with tempfile.TemporaryDirectory() as folder:
         write_day(given.dispatcher, folder)
         now = counts_of(given.dispatcher, folder)
-        before = counts_of(given.before, folder) if given.before else None
+        before = counts_of(given.before, folder) if given.before else {}
     print('row      millions  bound' + ('  before  ratio' if before else ''))
     for row in ROWS:
         beside = f'{before[row.name]:8.1f}{now[row.name] / before[row.name]:7.2f}' if before else ''

@@ -11,19 +11,20 @@ differs; the status is then 1. docs/FORMATS.md says how a text is written, and d
 Left out: the refusals of words, files and networks (tools/railway.py takes the files to be good), the options for the order of columns,
 and the refusal of a text that is too long.
 """
-import argparse
+from __future__ import annotations
+
 import os
 import re
 import sys
-from typing import NamedTuple
+from typing import Any, NamedTuple, Optional
 
-sys.path.insert(0, os.path.join(os.path.dirname(os.path.abspath(__file__)), '..', 'tools'))
-
-from railway import (  # noqa: E402
-    MOST_ENTRIES, Network, Rows, admit, cost_of, is_cycle, is_true_plan, read_delays, read_network, times_of,
-)
-from runtext import (  # noqa: E402
-    ID, MESSAGES, MOST_BOARDS, MOST_FEEDS, MOST_NODES, NUMBER, STANDARD_PLANS, Bad, Text, fits, read_item, read_message, read_plan,
+from here import command_line
+from giv import read_delays, read_network
+from network import Network
+from railway import MOST_ENTRIES, Message, Plan, Refusal, Rows, admit, cost_of, is_cycle, is_true_plan, sound_times
+from runtext import (
+    ID, MESSAGES, MOST_BOARDS, MOST_FEEDS, MOST_NODES, NUMBER, STANDARD_PLANS, Answer, Bad, Item, Said, Text, fits, read_item,
+    read_message, read_plan,
 )
 
 # What replaces each byte where every byte of a text is judged.
@@ -32,20 +33,23 @@ BYTES = [b'\n', b' ', b'0', b'7', b'z']
 
 # ---- Verdicts
 
+# ('good', ENTRIES, PLANS) or ('bad', LINE, KIND).
+Verdict = tuple[Any, ...]
+
 
 class Log:
     """The items of a feed so far, with the last line and entry that they tell, the latest plan, and how many there were."""
 
-    def __init__(self, feed):
+    def __init__(self, feed: int) -> None:
         self.feed = feed
-        self.items = []
-        self.stop = None
+        self.items: list[Item] = []
+        self.stop = ''
         self.line = 0
         self.entry = 0
-        self.plan = None
+        self.plan: Optional[Plan] = None
         self.plans = 0
 
-    def add(self, item):
+    def add(self, item: Item) -> None:
         self.items.append(item)
         self.line = item.line
         if item.answer and item.answer.entry is not None:
@@ -58,18 +62,18 @@ class Log:
 class Judge:
     """Judges one text of a run over a network from rows at the start, and keeps what it has read and found true."""
 
-    def __init__(self, network, start, penalty, plans=STANDARD_PLANS):
+    def __init__(self, network: Network, start: Rows, penalty: int, plans: int = STANDARD_PLANS) -> None:
         self.network = network
         self.penalty = penalty
         self.plans = plans
-        self.version = None
-        self.history = []
+        self.version = 0
+        self.history: list[tuple[int, int, Message]] = []
         self.rows = [start]
-        self.logs = []
-        self.named = set()
-        self.times = {}
+        self.logs: list[Log] = []
+        self.named: set[int] = set()
+        self.times: dict[int, list[int]] = {}
 
-    def judge(self, text):
+    def judge(self, text: bytes) -> Verdict:
         """('good', ENTRIES, PLANS) or ('bad', LINE, KIND)."""
         lines = Text(text)
         try:
@@ -78,7 +82,7 @@ class Judge:
             return ('bad', *bad.args)
         return ('good', len(self.history), sum(log.plans for log in self.logs))
 
-    def read_journal(self, text):
+    def read_journal(self, text: Text) -> int:
         """Reads the header and the entries; Bad at the first line that breaks its rule. How many feeds there are."""
         self.version, = text.read('dm-run', 2)
         text.demand(self.version > 0, 'form')
@@ -90,7 +94,7 @@ class Judge:
             self.read_entry(text, feeds)
         return feeds
 
-    def read_run(self, text):
+    def read_run(self, text: Text) -> None:
         """Reads the whole text; Bad at the first record that breaks its rule."""
         feeds = self.read_journal(text)
         for feed in range(1, feeds + 1):
@@ -101,20 +105,18 @@ class Judge:
         if text.has_more():
             raise Bad(text.number + 1, 'form')
 
-    def read_entry(self, text, feeds):
+    def read_entry(self, text: Text, feeds: int) -> None:
         words = text.words()
-        numbers = fits(words[:6], ['entry', ID, 'feed', NUMBER, 'line', ID])
-        message = read_message(words[6:])
-        text.demand(numbers is not None and message is not None, 'form')
-        number, feed, line = numbers
+        number, feed, line = text.sure(fits(words[:6], ['entry', ID, 'feed', NUMBER, 'line', ID]))
+        message = text.sure(read_message(words[6:]))
         count = len(self.history)
         text.demand(number == count + 1 and feed <= feeds and line >= 1, 'entry')
         refusal, after = admit(self.network, self.rows[-1], count, message)
         text.demand(refusal is None, 'entry')
         self.history.append((feed, line, message))
-        self.rows.append(after)
+        self.rows.append(text.sure(after))
 
-    def read_log(self, text, feed):
+    def read_log(self, text: Text, feed: int) -> None:
         number, count = text.read('feed', NUMBER, NUMBER)
         text.demand(number == feed, 'form')
         log = Log(feed)
@@ -125,21 +127,19 @@ class Judge:
         log.stop = words[0]
         self.logs.append(log)
 
-    def read_item(self, text, log):
-        item = read_item(text.words(), self.version)
-        record = text.number
-        text.demand(item is not None, 'form')
-        has_plan = item.answer is not None and item.answer.kind == 'plan'
-        if has_plan:
-            plan = read_plan(text, self.version, item.answer)
-            item = item._replace(answer=item.answer._replace(value=plan))
+    def read_item(self, text: Text, log: Log) -> None:
+        item = text.sure(read_item(text.words(), self.version))
+        record, answer = text.number, item.answer
+        has_plan = answer is not None and answer.kind == 'plan'
+        if answer is not None and has_plan:
+            item = item._replace(answer=answer._replace(value=read_plan(text, self.version, answer)))
         if not self.is_true_item(log, item):
             raise Bad(record, 'plan' if has_plan else 'reply')
         log.add(item)
-        if item.answer and item.answer.kind == 'ok':
-            self.named.add(item.answer.entry)
+        if answer is not None and answer.kind == 'ok':
+            self.named.add(text.sure(answer.entry))
 
-    def read_boards(self, text):
+    def read_boards(self, text: Text) -> None:
         boards, = text.read('boards', MOST_BOARDS)
         text.demand(len(self.named) == len(self.history), 'unnamed')
         places, last = set(), 0
@@ -150,120 +150,122 @@ class Judge:
             places.add(place)
             last = entry
 
-    def read_timetable(self, text):
+    def read_timetable(self, text: Text) -> None:
         entries = len(self.history)
         text.demand(text.read('times', NUMBER) == (entries,), 'form')
         for event, time in zip(self.network.events, self.times_at(entries)):
             words = text.words()
-            numbers = fits([words[0][:-1], *words[1:]], [ID, NUMBER])
-            text.demand(words[0].endswith(';') and numbers is not None, 'form')
-            text.demand(numbers == (event.id, time), 'time')
+            text.demand(words[0].endswith(';'), 'form')
+            text.demand(text.sure(fits([words[0][:-1], *words[1:]], [ID, NUMBER])) == (event.id, time), 'time')
         text.demand(text.read('cost', NUMBER) == (self.cost_at(entries),), 'cost')
 
-    def times_at(self, entry):
+    def times_at(self, entry: int) -> list[int]:
         """The least timetable after so many entries."""
         if entry not in self.times:
-            self.times[entry] = times_of(self.network, self.rows[entry])
+            self.times[entry] = sound_times(self.network, self.rows[entry])
         return self.times[entry]
 
-    def cost_at(self, entry):
+    def cost_at(self, entry: int) -> int:
         return cost_of(self.network, self.rows[entry], self.times_at(entry), self.penalty)
 
-    def is_true_item(self, log, item):
+    def is_true_item(self, log: Log, item: Item) -> bool:
         """Whether an item is true and in order behind the items of its log."""
         if item.line <= log.line:
             return False
-        answer = item.answer
-        if answer is None:
+        said, answer = item.said, item.answer
+        if said is None or answer is None:
             return True
-        if answer.entry is None:
-            return self.is_true_without_entry(log, item.said, answer)
-        if not log.entry <= answer.entry <= len(self.history):
+        entry = answer.entry
+        if entry is None:
+            return self.is_true_without_entry(log, said, answer)
+        if not log.entry <= entry <= len(self.history):
             return False
         if answer.kind == 'ok':
-            return self.is_entered(log, item)
+            return self.is_entered(log, item.line, said, entry)
         if answer.kind == 'refused':
-            return self.is_refused(log, item.said, answer)
+            return self.is_refused(log, said, entry, answer.value)
         if answer.kind == 'plan':
-            return self.is_planned(log, item.said, answer)
-        return self.is_told(log, item.said, answer)
+            return self.is_planned(log, said, entry, answer.value)
+        return self.is_told(log, said, entry, answer)
 
-    def may_have(self, nodes):
+    def may_have(self, nodes: int) -> bool:
         return 1 <= nodes <= MOST_NODES[self.version]
 
-    def is_true_without_entry(self, log, said, answer):
+    def is_true_without_entry(self, log: Log, said: Said, answer: Answer) -> bool:
         if answer.kind == 'noplan':
             return said == ('adopt',) and log.plan is None
         if said[0] != 'plan':
             return False
         if answer.kind == 'plans':
             return self.may_have(said[1]) and log.plans == self.plans
-        return said[1] == answer.value and not self.may_have(said[1])
+        nodes: int = said[1]
+        return nodes == answer.value and not self.may_have(nodes)
 
-    def is_entered(self, log, item):
+    def is_entered(self, log: Log, at: int, said: Said, entry: int) -> bool:
         """Whether the line became the entry that its answer tells."""
-        entry = item.answer.entry
         if entry <= log.entry:
             return False
         feed, line, message = self.history[entry - 1]
-        if (feed, line) != (log.feed, item.line):
+        if (feed, line) != (log.feed, at):
             return False
-        if item.said == ('adopt',):
+        if said == ('adopt',):
             return log.plan is not None and message == ('adopt', log.plan.choices) and entry == log.plan.entry + 1
-        return message == item.said
+        return message == said
 
-    def is_told(self, log, said, answer):
+    def is_told(self, log: Log, said: Said, entry: int, answer: Answer) -> bool:
         """Whether a question is answered as the rows at that entry have it, or an adoption by entries behind those of the plan."""
         if answer.kind == 'old':
-            return said == ('adopt',) and log.plan is not None and answer.entry > log.plan.entry
+            return said == ('adopt',) and log.plan is not None and entry > log.plan.entry
         if said[0] != answer.kind:
             return False
         if answer.kind == 'cost':
-            return answer.value == self.cost_at(answer.entry)
+            cost: int = answer.value
+            return cost == self.cost_at(entry)
         if answer.kind == 'time':
             place = self.network.event_place.get(said[1])
-            return place is not None and answer.value == self.times_at(answer.entry)[place]
+            time: int = answer.value
+            return place is not None and time == self.times_at(entry)[place]
         return True
 
-    def is_refused(self, log, said, answer):
+    def is_refused(self, log: Log, said: Said, entry: int, reason: Refusal) -> bool:
         """Whether a message, a question for a time or an adoption is refused so."""
         if said == ('adopt',):
-            is_last = log.plan is not None and answer.entry == log.plan.entry == MOST_ENTRIES
-            return answer.value == ('full',) and is_last
+            is_last = log.plan is not None and entry == log.plan.entry == MOST_ENTRIES
+            return reason == ('full',) and is_last
         if said[0] == 'time':
-            return answer.value == ('unknown-event', said[1]) and said[1] not in self.network.event_place
+            return reason == ('unknown-event', said[1]) and said[1] not in self.network.event_place
         if said[0] not in MESSAGES:
             return False
-        refusal, after = admit(self.network, self.rows[answer.entry], answer.entry, said)
-        if refusal == ('cycle',):
-            return answer.value[0] == 'cycle' and is_cycle(self.network, after, answer.value[1])
-        return answer.value == refusal
+        refusal, after = admit(self.network, self.rows[entry], entry, said)
+        if after is not None and refusal == ('cycle',):
+            return reason[0] == 'cycle' and is_cycle(self.network, after, reason[1])
+        return reason == refusal
 
-    def is_planned(self, log, said, answer):
+    def is_planned(self, log: Log, said: Said, entry: int, plan: Plan) -> bool:
         """Whether a request for a plan may have one, and is answered by one that is true."""
         if said[0] != 'plan' or not self.may_have(said[1]) or log.plans >= self.plans:
             return False
-        return is_true_plan(self.network, self.rows[answer.entry], self.penalty, said[1], answer.value)
+        return is_true_plan(self.network, self.rows[entry], self.penalty, said[1], plan)
 
 
-def verdict_on(network, start, penalty, text, plans=STANDARD_PLANS):
+def verdict_on(network: Network, start: Rows, penalty: int, text: bytes, plans: int = STANDARD_PLANS) -> Verdict:
     """What is told of a text: ('good', ENTRIES, PLANS) or ('bad', LINE, KIND)."""
     return Judge(network, start, penalty, plans).judge(text)
 
 
-def in_print(verdict):
+def in_print(verdict: Verdict) -> str:
     return ' '.join(map(str, verdict))
 
 
 # ---- Cases
 
 
-def read_bytes(*names):
+def read_bytes(*names: str) -> bytes:
     with open(os.path.join(*names), 'rb') as file:
         return file.read()
 
 
-def written_out(text):
+def written_out(text: bytes) -> bytes:
     """The text of a file, in which a line `*N LINE` stands for N lines."""
     return re.sub(rb'^\*([0-9]+) (.*\n)', lambda found: int(found[1]) * found[2], text, flags=re.MULTILINE)
 
@@ -276,11 +278,11 @@ class Case(NamedTuple):
     penalty: int
     plans: int
 
-    def told(self, text):
+    def told(self, text: bytes) -> str:
         return in_print(verdict_on(self.network, Rows(self.network), self.penalty, text, self.plans))
 
 
-def differences(folder, case):
+def differences(folder: str, case: Case) -> list[str]:
     """A line for each text of a case (itself, its fronts, or with a byte replaced) of which something else is told than is due."""
     text = written_out(read_bytes(folder, 'texts', case.name))
     if case.due == 'every front truncated':
@@ -295,7 +297,7 @@ def differences(folder, case):
     return [f'{case.name} {k}: stored {due}, judged {told}' for k, (due, told) in enumerate(pairs) if due != told]
 
 
-def judge_cases(folder):
+def judge_cases(folder: str) -> bool:
     """Prints each stored verdict that differs; whether all agree."""
     count, differing = 0, 0
     for line in read_bytes(folder, 'cases').decode().splitlines():
@@ -313,8 +315,9 @@ def judge_cases(folder):
     return differing == 0
 
 
-def main():
-    words = argparse.ArgumentParser(description='Judges texts of runs.', allow_abbrev=False)
+def main() -> None:
+    words = command_line(__doc__)
+    words.allow_abbrev = False
     words.add_argument('--cases', metavar='FOLDER')
     words.add_argument('--penalty', type=int, default=3600)
     words.add_argument('--plans', type=int, default=STANDARD_PLANS)

@@ -14,68 +14,80 @@ is checked and its journal followed:
 A row has the seconds of processor and the most megabytes of each command at either size. Where one ends otherwise than it should,
 or needs more than 2.3 times the memory at twice the size, a line says so and the status is then 1.
 """
+from __future__ import annotations
+
 import os
-import resource
-import subprocess
 import sys
 import tempfile
+from typing import Callable
+
+from here import add_program, command_line
+from day import FEED
+from giv import write_records
+from measured import Measured, measured
+from network import Activity, Event
 
 EVENTS = 100_000
 FEEDS = 64
-FEED = 262_144
 DEPTH = 8_191
 TEXT = 536_870_912
 STACK = 8 << 20
 GROWTH = 2.3
 
+# The kind, time and passengers of an event; the kind, tail, head, bound and passengers of an activity.
+Events = list[tuple[str, int, int]]
+Activities = list[tuple[str, int, int, int, int]]
 
-def write_net(folder, events, activities):
-    """Writes the files of a network: events as (time, weight) of ids from 1, activities as (kind, tail, head, bound, weight)."""
-    os.makedirs(os.path.join(folder, 'net'), exist_ok=True)
-    with open(os.path.join(folder, 'net', 'Events-expanded.giv'), 'w') as file:
-        for id_, (kind, when, weight) in enumerate(events, 1):
-            file.write(f'{id_}; 0; "{kind}"; {when}; {weight}; 1\n')
-    with open(os.path.join(folder, 'net', 'Activities-expanded.giv'), 'w') as file:
-        for id_, (kind, tail, head, bound, weight) in enumerate(activities, 1):
-            file.write(f'{id_}; 0; "{kind}"; {tail}; {head}; {bound}; 0; {weight}\n')
+# Writes the files of a case at a share of its size, and answers the names of its feeds.
+Making = Callable[[str, int], list[str]]
 
 
-def write_feeds(folder, feeds):
+def write_net(folder: str, events: Events, activities: Activities) -> None:
+    """Writes the files of a network, whose ids ascend from 1."""
+    write_records(
+        os.path.join(folder, 'net'),
+        (Event(number, kind, time, 1000 * weight, 1) for number, (kind, time, weight) in enumerate(events, 1)),
+        (Activity(number, kind, tail, head, lower, 1000 * weight)
+         for number, (kind, tail, head, lower, weight) in enumerate(activities, 1)),
+    )
+
+
+def write_feeds(folder: str, feeds: list[tuple[str, str]]) -> list[str]:
     for name, text in feeds:
         with open(os.path.join(folder, name), 'w') as file:
             file.write(text)
     return [name for name, _ in feeds]
 
 
-def kind_at(place):
+def kind_at(place: int) -> str:
     return 'arrival' if place % 2 else 'departure'
 
 
-def chain(count, id_at):
+def chain(count: int, id_at: Callable[[int], int]) -> tuple[Events, Activities]:
     """The events and activities of a chain, of which the event at each place has the id of that place."""
-    events = [None] * count
+    events = [('', 0, 0)] * count
     for place in range(count):
         events[id_at(place) - 1] = kind_at(place), 10 * place, 1
     activities = [('drive' if place % 2 == 0 else 'wait', id_at(place), id_at(place + 1), 10, 1) for place in range(count - 1)]
     return events, activities
 
 
-def along(folder, part):
+def along(folder: str, part: int) -> list[str]:
     count = EVENTS // part
     write_net(folder, *chain(count, lambda place: place + 1))
     return write_feeds(folder, [('f', f'delay event 1 60\ntime {count}\ncost\n')])
 
 
-def against(folder, part):
+def against(folder: str, part: int) -> list[str]:
     count = EVENTS // part
     write_net(folder, *chain(count, lambda place: count - place))
     return write_feeds(folder, [('f', f'delay event {count} 60\ntime 1\ncost\n')])
 
 
-def broad(folder, part):
+def broad(folder: str, part: int) -> list[str]:
     count = EVENTS // part
     events = [(kind_at(place), 10 * place, 1) for place in range(count)]
-    activities = []
+    activities: Activities = []
     for place in range(count):
         for step in range(1, 6):
             head = (place + 2 * step - 1) % count
@@ -86,7 +98,7 @@ def broad(folder, part):
     return write_feeds(folder, [('f', 'delay event 1 60\nplan 1\ncost\n')])
 
 
-def feeds(folder, part):
+def feeds(folder: str, part: int) -> list[str]:
     write_net(folder, *chain(1_000, lambda place: place + 1))
     names = []
     for number in range(1, FEEDS + 1):
@@ -102,7 +114,7 @@ def feeds(folder, part):
     return names
 
 
-def deep(folder, part):
+def deep(folder: str, part: int) -> list[str]:
     """A late train with a change to each of many others, which is dear to keep, and cheap to drop."""
     count = (DEPTH + 1) // part - 1
     events = [('departure', 100, 0), ('arrival', 200, 0)]
@@ -115,7 +127,7 @@ def deep(folder, part):
     return write_feeds(folder, [('f', 'delay event 1 600\nplan 16384\n')])
 
 
-def lines_within(size):
+def lines_within(size: int) -> int:
     """How many malformed lines, numbered from 1, a log has in so many bytes."""
     count, digits = 0, 1
     while True:
@@ -125,7 +137,7 @@ def lines_within(size):
         count, size, digits = count + many, size - many * each, digits + 1
 
 
-def long(folder, part):
+def long(folder: str, part: int) -> list[str]:
     """Writes the text itself, so that there are no feeds."""
     events = 4
     write_net(folder, *chain(events, lambda place: place + 1))
@@ -143,54 +155,47 @@ def long(folder, part):
 CASES = {'along': along, 'against': against, 'broad': broad, 'feeds': feeds, 'deep': deep, 'long': long}
 
 
-def limited():
-    resource.setrlimit(resource.RLIMIT_STACK, (STACK, STACK))
-
-
-def timed(program, words, folder, output):
-    """The status, the seconds of processor and the most megabytes of a command, whose output goes into a file."""
-    with open(os.path.join(folder, output), 'wb') as file:
-        child = subprocess.Popen([program, *words], cwd=folder, stdout=file, preexec_fn=limited)
-        _, status, used = os.wait4(child.pid, 0)
-        child.returncode = os.waitstatus_to_exitcode(status)
-    return child.returncode, used.ru_utime + used.ru_stime, used.ru_maxrss / 1024
-
-
-def sized(program, make, part):
-    """What a case comes to at a size: (command, status, seconds, megabytes) of each command, and the text's megabytes."""
+def sized(program: str, make: Making, part: int) -> tuple[dict[str, Measured], float]:
+    """What each command takes at a size of a case, and the text's megabytes."""
     with tempfile.TemporaryDirectory() as folder:
         names = make(folder, part)
-        ends = []
+        ends = {}
         if names:
-            ends.append(('run', *timed(program, ['run', 'net', '--penalty=10', '--batch=100000', *names], folder, 'text')))
+            words = [program, 'run', 'net', '--penalty=10', '--batch=100000', *names]
+            ends['run'] = measured(words, folder=folder, output='text', stack=STACK)
         for command in ('check', 'follow'):
-            ends.append((command, *timed(program, [command, 'net', '--penalty=10', 'text'], folder, 'answer')))
+            words = [program, command, 'net', '--penalty=10', 'text']
+            ends[command] = measured(words, folder=folder, output='answer', stack=STACK)
         size = os.path.getsize(os.path.join(folder, 'text')) / 1e6
     return ends, size
 
 
-def judge(program, name):
+def judge(program: str, name: str) -> bool:
     """Whether a case ends as it should; prints its rows."""
     (half, _), (whole, size) = sized(program, CASES[name], 2), sized(program, CASES[name], 1)
     good = True
-    for (what, *less), (_, *more) in zip(half, whole):
-        seconds = f'{less[1]:8.2f} s {more[1]:8.2f} s'
-        memory = f'{less[2]:8.0f} MB {more[2]:8.0f} MB'
+    for what, less in half.items():
+        more = whole[what]
+        seconds = f'{less.seconds:8.2f} s {more.seconds:8.2f} s'
+        memory = f'{less.megabytes:8.0f} MB {more.megabytes:8.0f} MB'
         print(f'{name:<8} {what:<7}{seconds}  {memory}   text {size:.1f} MB', flush=True)
-        if (less[0], more[0]) != (0, 0):
-            print(f'{name}: {what} ends with status {less[0]} at half the size and {more[0]} at the whole')
+        if (less.status, more.status) != (0, 0):
+            print(f'{name}: {what} ends with status {less.status} at half the size and {more.status} at the whole')
             good = False
-        if more[2] > GROWTH * less[2]:
-            print(f'{name}: {what} needs {more[2] / less[2]:.1f} times the memory at twice the size')
+        if more.megabytes > GROWTH * less.megabytes:
+            print(f'{name}: {what} needs {more.megabytes / less.megabytes:.1f} times the memory at twice the size')
             good = False
     return good
 
 
-def main():
-    if len(sys.argv) < 2 or any(name not in CASES for name in sys.argv[2:]):
-        sys.exit(__doc__)
-    program = os.path.abspath(sys.argv[1])
-    good = [judge(program, name) for name in sys.argv[2:] or CASES]
+def main() -> None:
+    words = command_line(__doc__)
+    add_program(words)
+    words.add_argument('cases', metavar='CASE', nargs='*', help=', '.join(CASES))
+    given = words.parse_args()
+    if unknown := [name for name in given.cases if name not in CASES]:
+        words.error(f'"{unknown[0]}" is no case; cases are {", ".join(CASES)}')
+    good = [judge(given.program, name) for name in given.cases or CASES]
     sys.exit(0 if all(good) else 1)
 
 

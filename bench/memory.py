@@ -14,13 +14,17 @@ for memory is refused, it is to print the same.
 Memory is refused by a library of a few lines that stands before malloc and realloc: it wants a C compiler, `cc`, and a system that
 takes LD_PRELOAD.
 """
+from __future__ import annotations
+
 import os
 import shutil
 import subprocess
 import sys
 import tempfile
 from itertools import islice
+from typing import Optional
 
+from here import TOP, command_line, whole_path
 from day import Draws, delays, write_day
 
 SHIM = r'''
@@ -79,7 +83,7 @@ MOST = 100_000
 SECONDS = 60
 
 
-def done(program, words, folder, shim, number):
+def done(program: str, words: list[str], folder: str, shim: str, number: int) -> tuple[Optional[int], bytes, bool]:
     """The status and the text of a run whose call of this number is refused, and whether there was such a call. The status of a run
     that does not end is None."""
     mark = os.path.join(folder, 'came')
@@ -94,7 +98,7 @@ def done(program, words, folder, shim, number):
     return ran.returncode, ran.stdout, os.path.exists(mark)
 
 
-def is_good(program, words, folder, text):
+def is_good(program: str, words: list[str], folder: str, text: bytes) -> bool:
     """Whether `check` tells the text of a search by several workers good."""
     if not any(word.startswith('--workers') for word in words):
         return False
@@ -104,7 +108,7 @@ def is_good(program, words, folder, text):
     return told.returncode == 0
 
 
-def judge(program, name, folder, shim):
+def judge(program: str, name: str, folder: str, shim: str) -> bool:
     """Whether all ends of a case are as they should be; prints its row."""
     words, feed = CASES[name]
     with open(os.path.join(folder, 'feed'), 'wb') as file:
@@ -129,7 +133,7 @@ def judge(program, name, folder, shim):
     return others == 0
 
 
-def judge_calls(program, folder, shim):
+def judge_calls(program: str, folder: str, shim: str) -> bool:
     """Whether a program that makes its calls again prints the same, whichever call for memory is refused; prints its row."""
     due = done(program, [], folder, shim, 0)[:2]
     others = 0
@@ -145,22 +149,16 @@ def judge_calls(program, folder, shim):
     return others == 0
 
 
-def built(folder):
+def built(folder: str) -> str:
     """The library that refuses memory."""
     shim = os.path.join(folder, 'refusing.so')
     subprocess.run(['cc', '-shared', '-fPIC', '-O1', '-x', 'c', '-', '-o', shim, '-ldl'], input=SHIM.encode(), check=True)
     return shim
 
 
-def main():
-    if len(sys.argv) == 3 and sys.argv[1] == '--calls':
-        with tempfile.TemporaryDirectory() as folder:
-            sys.exit(0 if judge_calls(os.path.abspath(sys.argv[2]), folder, built(folder)) else 1)
-    if len(sys.argv) < 2 or any(name not in CASES for name in sys.argv[2:]):
-        sys.exit(__doc__)
-    program = os.path.abspath(sys.argv[1])
-    names = sys.argv[2:] or list(CASES)
-    example = os.path.join(os.path.dirname(os.path.dirname(os.path.abspath(__file__))), 'examples', 'connection')
+def judge_all(program: str, names: list[str]) -> list[bool]:
+    """Whether each case ends as it should."""
+    example = os.path.join(TOP, 'examples', 'connection')
     with tempfile.TemporaryDirectory() as folder:
         shutil.copytree(os.path.join(example, 'net'), os.path.join(folder, 'net'))
         write_day(7, TRAINS, os.path.join(folder, 'made'))
@@ -170,7 +168,23 @@ def main():
             file.write(CASES['plan'][1])
         with open(os.path.join(folder, 'text'), 'wb') as file:
             subprocess.run([program, 'run', 'net', 'feed', '--penalty=10'], cwd=folder, stdout=file, check=True)
-        good = [judge(program, name, folder, shim) for name in names]
+        return [judge(program, name, folder, shim) for name in names]
+
+
+def main() -> None:
+    words = command_line(__doc__)
+    words.add_argument('program', metavar='DISPATCHER', nargs='?', type=whole_path, help='the built program')
+    words.add_argument('cases', metavar='CASE', nargs='*', help=', '.join(CASES))
+    words.add_argument('--calls', metavar='PROGRAM', type=whole_path, help='the built program of dm_memory_cases')
+    given = words.parse_args()
+    if given.calls:
+        with tempfile.TemporaryDirectory() as folder:
+            sys.exit(0 if judge_calls(given.calls, folder, built(folder)) else 1)
+    if given.program is None:
+        words.error('there is to be a DISPATCHER, or --calls')
+    if unknown := [name for name in given.cases if name not in CASES]:
+        words.error(f'"{unknown[0]}" is no case; cases are {", ".join(CASES)}')
+    good = judge_all(given.program, given.cases or list(CASES))
     sys.exit(0 if all(good) else 1)
 
 

@@ -8,10 +8,15 @@ is above the best that is known, where it is.
 
 The last line is of the largest day with number 7: `plan 4096` and `adopt` behind each eighth of the delays.
 """
+from __future__ import annotations
+
 import os
-import subprocess
-import sys
 import tempfile
+from typing import Iterable
+
+from here import add_program, command_line
+from day import write_day
+from measured import Measured, measured
 
 TRAINS = [20, 40, 100, 200, 500, 2000]
 
@@ -26,20 +31,16 @@ BEST = {
 }
 
 
-def run(program, folder, feed):
-    """The text of a run, the seconds of processor and the megabytes that it took."""
+def run(program: str, folder: str, feed: str) -> Measured:
+    """What a run takes, and its text."""
     words = [program, 'run', os.path.join(folder, 'net'), '--penalty=3600', feed]
-    with tempfile.TemporaryFile() as out:
-        child = subprocess.Popen(words, stdout=out)
-        _, status, used = os.wait4(child.pid, 0)
-        child.returncode = os.waitstatus_to_exitcode(status)
-        if child.returncode != 0:
-            raise SystemExit(f'{words} ended with {child.returncode}')
-        out.seek(0)
-        return out.read().decode(), used.ru_utime + used.ru_stime, used.ru_maxrss / 1024
+    taken = measured(words)
+    if taken.status != 0:
+        raise SystemExit(f'{words} ended with {taken.status}')
+    return taken
 
 
-def plan_of(text):
+def plan_of(text: str) -> list[str]:
     """The words behind `plan` in the line that answers the plan."""
     for line in text.splitlines():
         words = line.split()
@@ -48,23 +49,23 @@ def plan_of(text):
     raise SystemExit('no plan')
 
 
-def write(folder, name, lines):
+def write(folder: str, name: str, lines: Iterable[str]) -> str:
     path = os.path.join(folder, name)
     with open(path, 'w') as file:
         file.writelines(lines)
     return path
 
 
-def adopting(delays, plans):
+def adopting(delays: list[str], plans: int) -> list[str]:
     """The delays in so many parts, each followed by a plan of 4,096 nodes and its adoption."""
-    lines = []
+    lines: list[str] = []
     for k in range(plans):
         lines += delays[k * len(delays) // plans:(k + 1) * len(delays) // plans]
         lines += ['plan 4096\n', 'adopt\n']
     return lines
 
 
-def behind(trains, number, cost):
+def behind(trains: int, number: int, cost: float) -> str:
     """How far a cost is above the best that is known, as the end of a line."""
     if trains not in BEST or cost <= BEST[trains][number - 1]:
         return ''
@@ -72,34 +73,37 @@ def behind(trains, number, cost):
     return f'  {100 * (cost - best) / best:.4f} % above {best:.2f}'
 
 
-def day(program, trains, number, last):
+def day(program: str, trains: int, number: int, last: bool) -> bool:
     """Prints the line of a day. It is false where the plan costs more than the best that is known."""
     with tempfile.TemporaryDirectory() as folder:
-        script = os.path.join(os.path.dirname(os.path.abspath(__file__)), 'day.py')
-        subprocess.run([sys.executable, script, str(number), str(trains), folder], check=True)
+        write_day(number, trains, folder)
         feed = os.path.join(folder, 'delays')
         with open(feed) as file:
             delays = file.readlines()
-        _, without, _ = run(program, folder, feed)
-        text, whole, memory = run(program, folder, write(folder, 'plan', delays + ['plan 16384\n']))
-        mark, *rest = plan_of(text)
+        without = run(program, folder, feed).seconds
+        taken = run(program, folder, write(folder, 'plan', delays + ['plan 16384\n']))
+        mark, *rest = plan_of(taken.printed)
         values = dict(zip(rest[0::2], rest[1::2]))
         above = behind(trains, number, int(values['cost']) / 1e6)
         print(f'{trains:6} {number:6} {mark:8} {int(values["cost"]) / 1e6:9.2f} {int(values["bound"]) / 1e6:9.2f} '
-              f'{values["nodes"]:>6} {whole - without:6.2f} s {memory:4.0f} MB{above}')
+              f'{values["nodes"]:>6} {taken.seconds - without:6.2f} s {taken.megabytes:4.0f} MB{above}')
         if last:
-            _, whole, memory = run(program, folder, write(folder, 'adopted', adopting(delays, 8)))
-            print(f'{trains:6} {number:6} 8 plans of 4096 nodes, adopted          {whole - without:6.2f} s {memory:4.0f} MB')
+            taken = run(program, folder, write(folder, 'adopted', adopting(delays, 8)))
+            print(f'{trains:6} {number:6} 8 plans of 4096 nodes, adopted          '
+                  f'{taken.seconds - without:6.2f} s {taken.megabytes:4.0f} MB')
         return not above
 
 
-def main():
+def main() -> None:
+    words = command_line(__doc__)
+    add_program(words)
+    words.add_argument('trains', metavar='TRAINS', nargs='*', type=int, default=TRAINS)
+    given = words.parse_args()
     print('trains number mark          cost     bound  nodes      time memory')
-    trains = [int(word) for word in sys.argv[2:]] or TRAINS
     short = 0
-    for count in trains:
+    for count in given.trains:
         for number in range(1, 10):
-            short += not day(sys.argv[1], count, number, count == trains[-1] and number == 7)
+            short += not day(given.program, count, number, count == given.trains[-1] and number == 7)
     print(f'{short} plans cost more than the best that is known')
 
 

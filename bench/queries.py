@@ -15,6 +15,8 @@ of its files, and the status is then 1.
 
 Left out: delay files, column words, texts that are too long, and faults of reading and writing.
 """
+from __future__ import annotations
+
 import itertools
 import math
 import os
@@ -24,12 +26,15 @@ import subprocess
 import sys
 import tempfile
 from collections import Counter
-from typing import NamedTuple
+from typing import Callable, NamedTuple, Optional, Sequence
 
+from here import add_program, command_line
 from fuzz import changed, drawn_feed, drawn_network, front, write_network
 from judge import Judge
+from network import Choice, Network
 from railway import (
-    Rows, choice_of, cost_of, free_choices, is_cycle, is_met, is_true_plan, span_of, times_of, ways_of, with_decisions,
+    Decision, Rows, choice_of, cost_of, free_choices, is_cycle, is_met, is_true_plan, sound_times, span_of, times_of, ways_of,
+    with_decisions,
 )
 from runtext import Answer, Bad, Text, read_plan, read_plan_head
 
@@ -38,16 +43,19 @@ CHANGED = 6
 FEW_CHOICES = 8
 SECONDS = 100
 
+# The status of the program and what it prints.
+Answered = tuple[int, str]
+
 
 class Journal(NamedTuple):
     """What a text carries at its front: the rows at the start and after each entry, the line that is bad, with its kind, and the line
     that is torn, with how many bytes of it there are; None where there is none."""
-    rows: list
-    bad: object
-    torn: object
+    rows: list[Rows]
+    bad: Optional[tuple[int, str]]
+    torn: Optional[tuple[int, int]]
 
 
-def journal_of(network, penalty, text):
+def journal_of(network: Network, penalty: int, text: bytes) -> Journal:
     judge, lines = Judge(network, Rows(network), penalty), Text(text)
     try:
         judge.read_journal(lines)
@@ -57,29 +65,33 @@ def journal_of(network, penalty, text):
     return Journal(judge.rows, None, None)
 
 
-def lines_of(*lines):
+def lines_of(*lines: str) -> str:
     return ''.join(f'{line}\n' for line in lines)
 
 
-def spelled(decision):
+def spelled(decision: Decision) -> str:
     return ' '.join(map(str, decision))
 
 
-def text_without_times(journal):
+def bad_text(bad: tuple[int, str]) -> Answered:
+    return 1, lines_of(f'bad {bad[0]} {bad[1]}')
+
+
+def text_without_times(journal: Journal) -> Optional[Answered]:
     """The status and the text where a question wants the whole journal, and it is not whole; else None."""
     if journal.bad is not None:
-        return 1, lines_of(f'bad {journal.bad[0]} {journal.bad[1]}')
+        return bad_text(journal.bad)
     return None if journal.torn is None else (1, lines_of(f'bad {journal.torn[0]} truncated'))
 
 
 # ---- follow
 
 
-def followed(network, penalty, journal):
+def followed(network: Network, penalty: int, journal: Journal) -> Answered:
     if journal.bad is not None:
-        return text_without_times(journal)
+        return bad_text(journal.bad)
     rows = journal.rows[-1]
-    times = times_of(network, rows)
+    times = sound_times(network, rows)
     tail = 'tail whole' if journal.torn is None else f'tail torn {journal.torn[0]} {journal.torn[1]}'
     shown = [f'{event.id}; {time}' for event, time in zip(network.events, times)]
     return 0, lines_of(f'entries {len(journal.rows) - 1}', tail, *shown, f'cost {cost_of(network, rows, times, penalty)}')
@@ -90,15 +102,15 @@ def followed(network, penalty, journal):
 
 class Travel(NamedTuple):
     """A question for journeys over rows and their times."""
-    network: object
+    network: Network
     rows: Rows
-    times: list
+    times: list[int]
     start: int
     end: int
     after: int
     most: int
 
-    def is_usable(self, place):
+    def is_usable(self, place: int) -> bool:
         network, times = self.network, self.times
         kind, head = network.activities[place].kind, network.heads[place]
         if times[head] < times[network.tails[place]] or kind not in ('drive', 'wait', 'change'):
@@ -106,17 +118,17 @@ class Travel(NamedTuple):
         caught = is_met(network, self.rows, times, place) and (self.rows.kept[place] or self.rows.passed[head] is not None)
         return kind != 'change' or caught
 
-    def begins(self, place):
+    def begins(self, place: int) -> bool:
         event = self.network.events[place]
         return event.kind == 'departure' and event.stop == self.start and self.times[place] >= self.after
 
-    def ends(self, place):
+    def ends(self, place: int) -> bool:
         event = self.network.events[place]
         return event.kind == 'arrival' and event.stop == self.end
 
-    def fewest_changes(self):
+    def fewest_changes(self) -> list[float]:
         """The fewest changes of a way to each event, by place; without end where there is none."""
-        fewest = [0 if self.begins(place) else math.inf for place in range(len(self.network.events))]
+        fewest: list[float] = [0 if self.begins(place) else math.inf for place in range(len(self.network.events))]
         for _ in self.network.events:
             for place, activity in enumerate(self.network.activities):
                 if self.is_usable(place):
@@ -124,19 +136,20 @@ class Travel(NamedTuple):
                     fewest[head] = min(fewest[head], fewest[tail] + (activity.kind == 'change'))
         return fewest
 
-    def unbeaten(self):
+    def unbeaten(self) -> list[tuple[int, int]]:
         """The changes and arrivals that no walk beats, the fewest changes first."""
-        fewest, found = self.fewest_changes(), []
+        fewest = self.fewest_changes()
+        found: list[tuple[int, int]] = []
         for changes in range(self.most + 1):
             arrivals = [self.times[place] for place, count in enumerate(fewest) if count == changes and self.ends(place)]
             if arrivals and (not found or min(arrivals) < found[-1][1]):
                 found.append((changes, min(arrivals)))
         return found
 
-    def is_walk(self, ids, arrival, changes):
+    def is_walk(self, ids: Sequence[int], arrival: int, changes: int) -> bool:
         network = self.network
-        places = [network.activity_place.get(number) for number in ids]
-        if not places or None in places or not all(map(self.is_usable, places)):
+        places = [network.activity_place[number] for number in ids if number in network.activity_place]
+        if not places or len(places) < len(ids) or not all(map(self.is_usable, places)):
             return False
         if any(network.heads[one] != network.tails[other] for one, other in zip(places, places[1:])):
             return False
@@ -145,7 +158,7 @@ class Travel(NamedTuple):
                 and sum(network.activities[place].kind == 'change' for place in places) == changes)
 
 
-def fault_of_journeys(travel, text):
+def fault_of_journeys(travel: Travel, text: str) -> Optional[str]:
     """What is wrong with the journeys of a text, or None."""
     first, *lines = text.splitlines()
     found = []
@@ -163,7 +176,7 @@ def fault_of_journeys(travel, text):
 # ---- rules
 
 
-def ruled(network, rows, limit):
+def ruled(network: Network, rows: Rows, limit: Optional[int]) -> Rows:
     """The rows as a rule has them: no train more than `limit` seconds later for a change, or None where any time will do."""
     free = [network.activity_place[choice[1]] for choice in free_choices(network, rows) if choice[0] == 'change']
     free.sort(key=lambda place: (network.events[network.heads[place]].time, network.activities[place].head, network.activities[place].id))
@@ -171,7 +184,7 @@ def ruled(network, rows, limit):
     for place in free:
         now.kept[place] = False
     for place in free:
-        times, kept = times_of(network, now), now.copy()
+        times, kept = sound_times(network, now), now.copy()
         kept.kept[place] = True
         ready = times[network.tails[place]] + span_of(network, now, place)
         if times_of(network, kept) is not None and (limit is None or ready <= times[network.heads[place]] + limit):
@@ -179,7 +192,7 @@ def ruled(network, rows, limit):
     return now
 
 
-def rule_lines(network, penalty, rows, rule):
+def rule_lines(network: Network, penalty: int, rows: Rows, rule: str) -> tuple[list[str], int]:
     """The lines of a rule, and what it costs."""
     limit = {'never': 0, 'always': None}.get(rule, int(rule) if rule.isdigit() else 0)
     now = ruled(network, rows, limit)
@@ -187,11 +200,11 @@ def rule_lines(network, penalty, rows, rule):
         f'choice {"keep" if kept else "drop"} {activity.id}'
         for activity, kept, before in zip(network.activities, now.kept, rows.kept) if kept != before
     ]
-    cost = cost_of(network, now, times_of(network, now), penalty)
+    cost = cost_of(network, now, sound_times(network, now), penalty)
     return [f'rule {rule} cost {cost} choices {len(choices)}', *choices], cost
 
 
-def least_cost(network, penalty, rows):
+def least_cost(network: Network, penalty: int, rows: Rows) -> Optional[int]:
     """The least that any decisions of the free choices cost, or None where there are too many to try."""
     free = free_choices(network, rows)
     if len(free) > FEW_CHOICES:
@@ -205,14 +218,14 @@ def least_cost(network, penalty, rows):
     return min(costs)
 
 
-def fault_of_rule(network, penalty, rows, rule, text):
+def fault_of_rule(network: Network, penalty: int, rows: Rows, rule: str, text: str) -> Optional[str]:
     """What is wrong with the text of a rule, or None."""
     due, cost = rule_lines(network, penalty, rows, rule)
     *lines, plan, gap = text.splitlines()
     if lines != due:
         return f'due {due}'
-    word, mark, _, plan_cost, _, bound = plan.split()
-    plan_cost, bound = int(plan_cost), int(bound)
+    word, mark, _, costs, _, bounds = plan.split()
+    plan_cost, bound = int(costs), int(bounds)
     if word != 'plan' or gap != f'gap {cost - bound}' or bound > min(cost, plan_cost) or (mark == 'optimal') != (bound == plan_cost):
         return 'the plan or the gap'
     least = least_cost(network, penalty, rows)
@@ -227,18 +240,17 @@ class Window(NamedTuple):
     begin: int
     end: int
     budget: int
-    at: object
+    at: Optional[int]
 
-    def holds(self, network, choice):
+    def holds(self, network: Network, choice: Choice) -> bool:
         """Whether a choice's change has its head, or its pair both events, in the window."""
-        if choice[0] == 'change':
-            events = [network.activities[network.activity_place[choice[1]]].head]
-        else:
-            events = choice[1:]
+        is_change = choice[0] == 'change'
+        events = [network.activities[network.activity_place[choice[1]]].head] if is_change else choice[1:]
         return all(self.begin <= network.events[network.event_place[event]].time <= self.end for event in events)
 
 
-def fault_of_carried(network, penalty, rows, entries, choices, lines):
+def fault_of_carried(network: Network, penalty: int, rows: Rows, entries: int, choices: Sequence[Decision],
+                     lines: list[str]) -> Optional[str]:
     """What is wrong with the lines of a plan that is carried over to rows, or None."""
     free = set(free_choices(network, rows))
     barred = next((choice for choice in choices if choice_of(choice) not in free), None)
@@ -257,7 +269,7 @@ def fault_of_carried(network, penalty, rows, entries, choices, lines):
     return None if lines == due else f'due {due}'
 
 
-def fault_of_window(network, penalty, journal, window, text):
+def fault_of_window(network: Network, penalty: int, journal: Journal, window: Window, text: str) -> Optional[str]:
     """What is wrong with the text of a window, or None."""
     last = len(journal.rows) - 1
     at = last if window.at is None else window.at
@@ -283,22 +295,22 @@ def fault_of_window(network, penalty, journal, window, text):
 class Asking:
     """Asks a program about the texts of a network's runs at a penalty."""
 
-    def __init__(self, program, counts, network, penalty, folder):
+    def __init__(self, program: str, counts: Counter[str], network: Network, penalty: int, folder: str) -> None:
         self.program, self.counts = program, counts
         self.network, self.penalty, self.folder = network, penalty, folder
 
-    def call(self, *words):
+    def call(self, *words: object) -> Answered:
         """The status and the output of the program."""
-        words = [self.program, *map(str, words), f'--penalty={self.penalty}']
-        done = subprocess.run(words, cwd=self.folder, stdout=subprocess.PIPE, stderr=subprocess.DEVNULL, timeout=SECONDS, check=False)
+        command = [self.program, *map(str, words), f'--penalty={self.penalty}']
+        done = subprocess.run(command, cwd=self.folder, stdout=subprocess.PIPE, stderr=subprocess.DEVNULL, timeout=SECONDS, check=False)
         return done.returncode, done.stdout.decode('latin-1')
 
-    def follow(self, draws, journal):
+    def follow(self, draws: random.Random, journal: Journal) -> Optional[str]:
         due = followed(self.network, self.penalty, journal)
         told = self.call('follow', 'net', 'text')
         return None if told == due else f'due {due}, told {told}'
 
-    def wanting_all(self, journal, words, fault_of):
+    def wanting_all(self, journal: Journal, words: Sequence[object], fault_of: Callable[[str], Optional[str]]) -> Optional[str]:
         """A question that wants the whole journal: `fault_of` says what is wrong with its text."""
         status, text = self.call(*words)
         due = text_without_times(journal)
@@ -307,22 +319,22 @@ class Asking:
         fault = f'status {status}' if status != 0 else fault_of(text)
         return None if fault is None else f'{words}: {fault}; told {text}'
 
-    def journey(self, draws, journal):
+    def journey(self, draws: random.Random, journal: Journal) -> Optional[str]:
         events = self.network.events
         starts, ends = ([event.stop for event in events if event.kind == kind] + [9] for kind in ('departure', 'arrival'))
         start, end, after, most = draws.choice(starts), draws.choice(ends), draws.randint(0, 30), draws.choice([0, 1, 2, 4, 4, 8])
         rows = journal.rows[-1]
-        travel = Travel(self.network, rows, times_of(self.network, rows), start, end, after, most)
+        travel = Travel(self.network, rows, sound_times(self.network, rows), start, end, after, most)
         self.counts['journeys'] += len(travel.unbeaten())
         words = ['journey', 'net', 'text', start, end, after, *([] if most == 4 else [f'--changes={most}'])]
         return self.wanting_all(journal, words, lambda text: fault_of_journeys(travel, text))
 
-    def rules(self, draws, journal):
+    def rules(self, draws: random.Random, journal: Journal) -> Optional[str]:
         rule = draws.choice(['never', 'always', '0', '1', str(draws.randint(2, 40)), '1000000'])
         words = ['rules', 'net', 'text', rule, draws.choice([1, 2, 3, 7, 50, 1000])]
         return self.wanting_all(journal, words, lambda text: fault_of_rule(self.network, self.penalty, journal.rows[-1], rule, text))
 
-    def window(self, draws, journal):
+    def window(self, draws: random.Random, journal: Journal) -> Optional[str]:
         begin, last = draws.randint(0, 60), len(journal.rows) - 1
         window = Window(begin, begin + draws.randint(0, 60), draws.choice([1, 2, 3, 7, 50, 1000]), draws.choice([None, draws.randint(0, last + 1)]))
         words = ['window', 'net', 'text', window.begin, window.end, window.budget, *([] if window.at is None else [f'--at={window.at}'])]
@@ -331,7 +343,7 @@ class Asking:
             return None if told == (3, lines_of(f'refused entry {window.at}')) else f'{words}: told {told}'
         return self.wanting_all(journal, words, lambda text: fault_of_window(self.network, self.penalty, journal, window, text))
 
-    def fault_of(self, draws, commands, text):
+    def fault_of(self, draws: random.Random, commands: Sequence[str], text: bytes) -> Optional[str]:
         """What differs in what a text is asked, or None."""
         with open(os.path.join(self.folder, 'text'), 'wb') as file:
             file.write(text)
@@ -344,7 +356,7 @@ class Asking:
         return None
 
 
-def fault_of_number(program, commands, counts, number, folder):
+def fault_of_number(program: str, commands: Sequence[str], counts: Counter[str], number: int, folder: str) -> Optional[str]:
     """What differs in the network, the feeds and the texts of a number, or None."""
     draws = random.Random(number)
     network = drawn_network(draws)
@@ -354,27 +366,32 @@ def fault_of_number(program, commands, counts, number, folder):
     for name in names:
         with open(os.path.join(folder, name), 'w', newline='') as file:
             file.write(drawn_feed(draws, network))
-    status, text = asking.call('run', 'net', *names)
+    status, told = asking.call('run', 'net', *names)
     if status != 0:
         return f'the run ends with {status}'
-    text = text.encode('latin-1')
+    text = told.encode('latin-1')
     texts = [text, front(draws, text), *(changed(draws, text) for _ in range(CHANGED))]
     faults = (asking.fault_of(draws, commands, other) for other in texts)
     return next((fault for fault in faults if fault is not None), None)
 
 
-def commands_of(program):
+def commands_of(program: str) -> list[str]:
     """Which of the questions the usage line of a program names."""
     usage = subprocess.run([program], capture_output=True, text=True, check=False).stdout
     return [name for name in ('follow', 'window', 'rules', 'journey') if f'| {name} ' in usage]
 
 
-def main():
-    program, counts, differing = os.path.abspath(sys.argv[1]), Counter(), 0
-    commands = commands_of(program)
-    for number in range(int(sys.argv[2]), int(sys.argv[3])):
+def main() -> None:
+    words = command_line(__doc__)
+    add_program(words)
+    words.add_argument('begin', metavar='FROM', type=int)
+    words.add_argument('end', metavar='TO', type=int)
+    given = words.parse_args()
+    counts: Counter[str] = Counter()
+    differing, commands = 0, commands_of(given.program)
+    for number in range(given.begin, given.end):
         folder = tempfile.mkdtemp(prefix='queries-')
-        fault = fault_of_number(program, commands, counts, number, folder)
+        fault = fault_of_number(given.program, commands, counts, number, folder)
         if fault is None:
             shutil.rmtree(folder)
         else:

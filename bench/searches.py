@@ -6,10 +6,14 @@ workers search a plan of 16,384 nodes. It ends with status 0 within a minute, an
 printed with the folder of its text, which is left there, and the status is then 1. The last line tells how many plans there were, and
 their costs and bounds.
 """
+from __future__ import annotations
+
 import os
 import sys
 import tempfile
+from typing import Optional
 
+from here import add_program, command_line
 from crowd import answer
 from day import write_day
 from plans import plan_of, write
@@ -20,7 +24,7 @@ WORKERS = 16
 GOOD = b'good 500 1\n'
 
 
-def fault_of(program, folder, came):
+def fault_of(program: str, folder: str, came: Optional[tuple[int, bytes]]) -> Optional[str]:
     """What is wrong with what a run came to, or None."""
     if came is None:
         return 'it does not end in time'
@@ -33,11 +37,11 @@ def fault_of(program, folder, came):
     return None if told == (0, GOOD) else f'the check tells {told}'
 
 
-def searched(program, folder, number):
+def searched(program: str, folder: str, number: int) -> Optional[str]:
     """The words of a run's plan. They are none where something differs, which is printed."""
     came = answer(program, folder, ['run', 'net', '--penalty=3600', f'--workers={WORKERS}', 'feed'])
     fault = fault_of(program, folder, came)
-    if fault is None:
+    if came is not None and fault is None:
         return ' '.join(plan_of(came[1].decode()))
     kept = tempfile.mkdtemp()
     write(kept, 'text', [came[1].decode(errors='replace')] if came else [])
@@ -45,17 +49,17 @@ def searched(program, folder, number):
     return None
 
 
-def main():
-    if not 2 <= len(sys.argv) <= 3:
-        sys.exit(__doc__)
-    program = os.path.abspath(sys.argv[1])
-    runs = int(sys.argv[2]) if len(sys.argv) == 3 else RUNS
+def main() -> None:
+    words = command_line(__doc__)
+    add_program(words)
+    words.add_argument('runs', metavar='RUNS', nargs='?', type=int, default=RUNS)
+    given = words.parse_args()
     with tempfile.TemporaryDirectory() as folder:
         write_day(7, TRAINS, folder)
         with open(os.path.join(folder, 'delays')) as file:
             write(folder, 'feed', [*file, 'plan 16384\n'])
-        plans = [searched(program, folder, number) for number in range(1, runs + 1)]
-    print(f'{plans.count(None)} of {runs} differ; the plans:', ', '.join(sorted({plan for plan in plans if plan})))
+        plans = [searched(given.program, folder, number) for number in range(1, given.runs + 1)]
+    print(f'{plans.count(None)} of {given.runs} differ; the plans:', ', '.join(sorted({plan for plan in plans if plan})))
     sys.exit(None in plans)
 
 

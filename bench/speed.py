@@ -22,13 +22,15 @@ the program does.
 A ratio over its bound is marked, and the status is then 1. Behind these stand the ratios of the processor times where feeds work
 at once, which have no bound.
 """
+from __future__ import annotations
+
 import argparse
 import os
-import resource
-import subprocess
 import sys
-import time
-from typing import NamedTuple
+from typing import Iterator, Mapping, Optional
+
+from here import command_line, whole_path
+from measured import Measured, measured
 
 REPEATS = 15
 COUNTRY_REPEATS = 3
@@ -43,13 +45,15 @@ SPLITS = (4, 16, 64)
 COUNTRY_BOUNDS = {16: 2.1, 64: 2.9}
 
 
-def part_names(count):
+def part_names(count: int) -> list[str]:
     """The names of the feeds that the full feed is split into."""
     return [f'part-{number}-of-{count}' for number in range(1, count + 1)]
 
 
+NO_WORDS: list[str] = []
+
 # Name, feeds, further words.
-RUNS = [
+RUNS: list[tuple[str, list[str], list[str]]] = [
     ('empty', ['empty'], []),
     ('few', ['delays'], []),
     ('delays', ['full'], []),
@@ -57,23 +61,12 @@ RUNS = [
     ('questions', ['questions'], []),
     ('boards', ['full'], ['--boards=' + ','.join(str(stop) for stop in BOARDS)]),
     ('rounds', ['full'], ['--batch=1000']),
-    *((str(count), part_names(count), []) for count in SPLITS),
+    *((str(count), part_names(count), NO_WORDS) for count in SPLITS),
     *((f'{count}-1000', part_names(count), ['--batch=1000']) for count in SPLITS),
 ]
 
 
-class Taken(NamedTuple):
-    """The seconds of a run: of the program, of the system for it, and by the clock."""
-    user: float
-    system: float
-    wall: float
-
-    @property
-    def processor(self):
-        return self.user + self.system
-
-
-def split_full(folder):
+def split_full(folder: str) -> None:
     """Splits the full feed into feeds of as many lines in all."""
     with open(os.path.join(folder, 'full')) as file:
         lines = file.readlines()
@@ -83,47 +76,45 @@ def split_full(folder):
                 file.writelines(lines[number::count])
 
 
-def board_files(folder):
+def board_files(folder: str) -> list[str]:
     return [os.path.join(folder, 'net', f'board-{stop}.txt') for stop in BOARDS]
 
 
-def empty_boards(folder):
+def empty_boards(folder: str) -> None:
     """Empties the files of boards, which a run goes on in. They are not taken away: to make a file where one was
     just taken away costs a file system far more than to go on in one."""
     for path in board_files(folder):
         open(path, 'w').close()
 
 
-def remove_boards(folder):
+def remove_boards(folder: str) -> None:
     """Takes the files of boards away."""
     for path in board_files(folder):
         if os.path.exists(path):
             os.remove(path)
 
 
-def timed(program, folder, feeds, words):
+def timed(program: str, folder: str, feeds: list[str], words: list[str]) -> Measured:
     """What a run takes."""
     command = [program, 'run', 'net', '--penalty=3600'] + words + feeds
-    before = resource.getrusage(resource.RUSAGE_CHILDREN)
-    start = time.monotonic()
-    subprocess.run(command, cwd=folder, stdout=subprocess.DEVNULL, check=True)
-    wall = time.monotonic() - start
-    after = resource.getrusage(resource.RUSAGE_CHILDREN)
-    return Taken(after.ru_utime - before.ru_utime, after.ru_stime - before.ru_stime, wall)
+    taken = measured(command, folder=folder, output=os.devnull)
+    if taken.status != 0:
+        raise SystemExit(f'{command} ended with {taken.status}')
+    return taken
 
 
-def least_of(run, known):
+def least_of(run: Measured, known: Optional[Measured]) -> Measured:
     """What took the least processor time, with the least time by the clock."""
     if known is None:
         return run
-    quicker = min(run, known, key=lambda taken: taken.processor)
+    quicker = min(run, known, key=lambda taken: taken.seconds)
     return quicker._replace(wall=min(run.wall, known.wall))
 
 
-def least(programs, folder):
+def least(programs: list[str], folder: str) -> list[dict[str, Measured]]:
     """The least that each program takes for each row. All run in turn, again and again, so that a machine that is slower for a while
     is so for all of them."""
-    seconds = [{} for _ in programs]
+    seconds: list[dict[str, Measured]] = [{} for _ in programs]
     for _ in range(REPEATS):
         for name, feeds, words in RUNS:
             for taken, program in zip(seconds, programs):
@@ -133,13 +124,13 @@ def least(programs, folder):
     return seconds
 
 
-def country_feeds(count):
+def country_feeds(count: int) -> list[str]:
     return [f'feed{number % 16 + 1}' for number in range(count)]
 
 
-def least_of_country(program, folder):
+def least_of_country(program: str, folder: str) -> dict[str, Measured]:
     """The least that one, 16 and 64 feeds of a country take."""
-    taken = {}
+    taken: dict[str, Measured] = {}
     for _ in range(COUNTRY_REPEATS):
         for count in (1, *COUNTRY_BOUNDS):
             run = timed(program, folder, country_feeds(count), ['--batch=1000'])
@@ -147,17 +138,17 @@ def least_of_country(program, folder):
     return taken
 
 
-def print_table(title, seconds, unit):
+def print_table(title: str, seconds: Mapping[str, Measured], unit: str) -> None:
     print(f'{title}:{"processor":>21}{"system":>9}{"wall":>9}{"ratio":>8}')
     for name, taken in seconds.items():
-        ratio = taken.processor / seconds[unit].processor
-        print(f'  {name:<16}{taken.processor:>10.3f} s{taken.system:>7.3f} s{taken.wall:>7.3f} s{ratio:>8.2f}')
+        ratio = taken.seconds / seconds[unit].seconds
+        print(f'  {name:<16}{taken.seconds:>10.3f} s{taken.system:>7.3f} s{taken.wall:>7.3f} s{ratio:>8.2f}')
 
 
-def ratios_of_day(seconds):
+def ratios_of_day(seconds: list[dict[str, Measured]]) -> list[tuple[str, float, float]]:
     """The name, the ratio and the bound of what is bounded, of the program and the one before it, where there is one."""
     now = seconds[0]
-    used = {name: taken.processor for name, taken in now.items()}
+    used = {name: taken.seconds for name, taken in now.items()}
     ratios = [
         ('delays', used['delays'] / used['empty'], 2.0),
         ('mixed', used['mixed'] / used['empty'], 2.5),
@@ -167,12 +158,12 @@ def ratios_of_day(seconds):
         ('boards', used['boards'] / used['delays'], 1.5),
     ]
     for before in seconds[1:]:
-        ratios.append(('rounds', used['rounds'] / before['rounds'].processor, 1.1))
-        ratios.append(('default', used['delays'] / before['delays'].processor, 1.5))
+        ratios.append(('rounds', used['rounds'] / before['rounds'].seconds, 1.1))
+        ratios.append(('default', used['delays'] / before['delays'].seconds, 1.5))
     return ratios
 
 
-def ratios_of_country(taken):
+def ratios_of_country(taken: Mapping[str, Measured]) -> Iterator[tuple[str, float, float]]:
     one = taken['country-1']
     for count, bound in COUNTRY_BOUNDS.items():
         many = taken[f'country-{count}']
@@ -180,15 +171,15 @@ def ratios_of_country(taken):
         yield f'system-{count}', many.system / many.user, 0.1
 
 
-def arguments():
-    words = argparse.ArgumentParser(description=__doc__, formatter_class=argparse.RawDescriptionHelpFormatter)
+def arguments() -> argparse.Namespace:
+    words = command_line(__doc__)
     words.add_argument('folder', metavar='FOLDER')
-    words.add_argument('programs', metavar='DISPATCHER', nargs='+', type=os.path.abspath)
+    words.add_argument('programs', metavar='DISPATCHER', nargs='+', type=whole_path)
     words.add_argument('--country', metavar='COUNTRY')
     return words.parse_args()
 
 
-def main():
+def main() -> None:
     given = arguments()
     split_full(given.folder)
     seconds = least(given.programs, given.folder)
@@ -203,7 +194,7 @@ def main():
         print(f'{name:<12}{ratio:6.2f} of {bound}{"  over" if ratio > bound else ""}')
     for count in SPLITS:
         for name, one in ((str(count), 'delays'), (f'{count}-1000', 'rounds')):
-            print(f'{name:<12}{seconds[0][name].processor / seconds[0][one].processor:6.2f} of processor time')
+            print(f'{name:<12}{seconds[0][name].seconds / seconds[0][one].seconds:6.2f} of processor time')
     sys.exit(any(ratio > bound for _, ratio, bound in ratios))
 
 

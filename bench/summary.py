@@ -5,44 +5,44 @@ It delays the events of the day as the first 500 lines of the feed `delays` say,
 bind until nothing moves, and prints the seven lines of `gen`. With the path of the program it also compares them with what
 `PROGRAM gen` prints, and what a run of the day's files and that feed comes to with what `PROGRAM run` prints.
 """
+from __future__ import annotations
+
 import subprocess
-import sys
 import tempfile
 from collections import deque
+from typing import Iterable, Mapping
 
+from here import command_line
 import day
+from network import Activity
 
 # Lines of the generator's feed.
 LINES = 500
 
 
-def said(number, trains):
+def said(number: int, trains: int) -> list[str]:
     """The lines of the feed."""
     lines = day.delays(day.Draws(number), trains)
     return [next(lines).rstrip('\n') for _ in range(LINES)]
 
 
-def delayed(number, trains):
+def delayed(number: int, trains: int) -> dict[int, int]:
     """The delay of each delayed event: the last one that a line gives it."""
     words = [line.split() for line in said(number, trains)]
     return {int(event): int(delay) for _, _, event, delay in words}
 
 
-def planned(trains):
-    """Each event's scheduled time and weight."""
-    events = {}
-    for line in day.events(trains):
-        event, _, _, time, weight, _ = line.split(';')
-        events[int(event)] = int(time), int(weight)
-    return events
+def planned(trains: int) -> dict[int, tuple[int, int]]:
+    """Each event's scheduled time and weight, in thousandths of passengers."""
+    return {event.id: (event.time, event.weight) for event in day.events(trains)}
 
 
-def least_times(events, delays, activities):
+def least_times(events: Mapping[int, tuple[int, int]], delays: Mapping[int, int], activities: Iterable[Activity]) -> dict[int, int]:
     times = {event: time + delays.get(event, 0) for event, (time, _) in events.items()}
-    behind = {event: [] for event in events}
-    for kind, tail, head, lower, _ in activities:
-        if kind != 'headway' or events[tail][0] < events[head][0]:
-            behind[tail].append((head, lower))
+    behind: dict[int, list[tuple[int, int]]] = {event: [] for event in events}
+    for activity in activities:
+        if activity.kind != 'headway' or events[activity.tail][0] < events[activity.head][0]:
+            behind[activity.tail].append((activity.head, activity.lower))
     moved = deque(events)
     while moved:
         tail = moved.popleft()
@@ -53,17 +53,17 @@ def least_times(events, delays, activities):
     return times
 
 
-def cost_of(events, times):
+def cost_of(events: Mapping[int, tuple[int, int]], times: Mapping[int, int]) -> int:
     """No change is dropped, so that the penalty is charged for none."""
-    return sum(1000 * weight * (times[event] - time) for event, (time, weight) in events.items())
+    return sum(weight * (times[event] - time) for event, (time, weight) in events.items())
 
 
-def summary(number, trains):
+def summary(number: int, trains: int) -> str:
     events = planned(trains)
     activities = list(day.activities(trains))
     times = least_times(events, delayed(number, trains), activities)
-    headways = sum(1 for activity in activities if activity[0] == 'headway')
-    changes = sum(1 for activity in activities if activity[0] == 'change')
+    headways = sum(1 for activity in activities if activity.kind == 'headway')
+    changes = sum(1 for activity in activities if activity.kind == 'change')
     numbers = {
         'dm-gen': 1,
         'events': len(events),
@@ -76,7 +76,7 @@ def summary(number, trains):
     return ''.join(f'{name} {value}\n' for name, value in numbers.items())
 
 
-def run_text(number, trains, penalty):
+def run_text(number: int, trains: int, penalty: int) -> str:
     """What a run of the day's files and the feed prints."""
     events = planned(trains)
     times = least_times(events, delayed(number, trains), list(day.activities(trains)))
@@ -92,11 +92,11 @@ def run_text(number, trains, penalty):
     ])
 
 
-def printed(program, *words):
+def printed(program: str, *words: str) -> str:
     return subprocess.run([program, *words], capture_output=True, check=True, text=True).stdout
 
 
-def compare(number, trains, penalty, program):
+def compare(number: int, trains: int, penalty: int, program: str) -> None:
     told = printed(program, 'gen', str(number), str(trains), f'--penalty={penalty}')
     assert told == summary(number, trains), 'gen prints another summary'
     with tempfile.TemporaryDirectory() as folder:
@@ -106,12 +106,16 @@ def compare(number, trains, penalty, program):
     print('gen and run print the same')
 
 
-def main():
-    number, trains = int(sys.argv[1]), int(sys.argv[2])
-    penalty = sys.argv[3] if len(sys.argv) > 3 else '3600'
-    print(summary(number, trains), end='')
-    if len(sys.argv) > 4:
-        compare(number, trains, penalty, sys.argv[4])
+def main() -> None:
+    words = command_line(__doc__)
+    words.add_argument('number', metavar='NUMBER', type=int)
+    words.add_argument('trains', metavar='TRAINS', type=int)
+    words.add_argument('penalty', metavar='PENALTY', nargs='?', type=int, default=3600)
+    words.add_argument('program', metavar='PROGRAM', nargs='?', help='the built program')
+    given = words.parse_args()
+    print(summary(given.number, given.trains), end='')
+    if given.program:
+        compare(given.number, given.trains, given.penalty, given.program)
 
 
 if __name__ == '__main__':

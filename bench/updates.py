@@ -5,36 +5,33 @@ DM_SPEED is a built dm_speed. Each row makes COUNT changes of a kind, a million 
 nanoseconds of processor time for each, less those of a day without changes. `pass` passes and recalls the last event of a day, and
 `apart` one of a pair between whose events 20,000 others stand.
 """
-import os
-import resource
-import subprocess
-import sys
+from __future__ import annotations
+
+
+from here import command_line, whole_path
+from measured import measured
 
 REPEATS = 3
 
 KINDS = ['still', 'event', 'train', 'order', 'choice', 'pass', 'apart', 'decision']
 
 
-def timed(words):
+def timed(words: list[str]) -> float:
     """The least processor seconds of a run."""
-    least = None
-    for _ in range(REPEATS):
-        before = resource.getrusage(resource.RUSAGE_CHILDREN)
-        subprocess.run(words, check=True, stdout=subprocess.DEVNULL)
-        after = resource.getrusage(resource.RUSAGE_CHILDREN)
-        taken = after.ru_utime + after.ru_stime - before.ru_utime - before.ru_stime
-        least = taken if least is None else min(least, taken)
-    return least
+    runs = [measured(words) for _ in range(REPEATS)]
+    if any(run.status != 0 for run in runs):
+        raise SystemExit(f'{words} ended with {runs[0].status}')
+    return min(run.seconds for run in runs)
 
 
-def main():
-    if len(sys.argv) not in (2, 3):
-        sys.exit(__doc__)
-    program = os.path.abspath(sys.argv[1])
-    count = int(sys.argv[2]) if len(sys.argv) == 3 else 1_000_000
+def main() -> None:
+    words = command_line(__doc__)
+    words.add_argument('program', metavar='DM_SPEED', type=whole_path, help='the built program of dm_speed')
+    words.add_argument('count', metavar='COUNT', nargs='?', type=int, default=1_000_000)
+    given = words.parse_args()
     for kind in KINDS:
-        taken = timed([program, str(count), kind]) - timed([program, '0', kind])
-        print(f'{kind:10} {1e9 * taken / count:8.0f} ns')
+        taken = timed([given.program, str(given.count), kind]) - timed([given.program, '0', kind])
+        print(f'{kind:10} {1e9 * taken / given.count:8.0f} ns')
 
 
 if __name__ == '__main__':

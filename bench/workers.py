@@ -7,14 +7,15 @@ time by the clock counts, less that of the delays alone. Of 2,000 trains two wor
 of one. A plan of several workers costs no more, and its bound is lower by at most 0.02 %. What is over its bound is marked, and the
 status is then 1. Run it on a machine that does nothing else and has four processors.
 """
-import argparse
+from __future__ import annotations
+
 import os
-import subprocess
 import sys
 import tempfile
-import time
-from typing import NamedTuple
+from typing import Iterator, NamedTuple
 
+from here import add_program, command_line
+from measured import measured
 from day import write_day
 from plans import plan_of, write
 
@@ -36,22 +37,25 @@ class Searched(NamedTuple):
     seconds: float
 
 
-def timed(program, folder, feed, workers):
+def timed(program: str, folder: str, feed: str, workers: int) -> tuple[str, float]:
     """The text of a run, and its seconds by the clock."""
     words = [program, 'run', os.path.join(folder, 'net'), '--penalty=3600', f'--workers={workers}', feed]
-    begun = time.monotonic()
-    done = subprocess.run(words, stdout=subprocess.PIPE, check=True, text=True)
-    return done.stdout, time.monotonic() - begun
+    taken = measured(words)
+    if taken.status != 0:
+        raise SystemExit(f'{words} ended with {taken.status}')
+    return taken.printed, taken.wall
 
 
-def searched(program, trains):
+def searched(program: str, trains: int) -> dict[int, Searched]:
     """What each number of workers comes to on a day."""
     with tempfile.TemporaryDirectory() as folder:
         write_day(NUMBER, trains, folder)
         delays = os.path.join(folder, 'delays')
         with open(delays, encoding='ascii') as file:
             planned = write(folder, 'planned', [*file, 'plan 16384\n'])
-        alone, least, texts = [], {workers: [] for workers in WORKERS}, {}
+        alone: list[float] = []
+        least: dict[int, list[float]] = {workers: [] for workers in WORKERS}
+        texts: dict[int, str] = {}
         for _ in range(REPEATS):
             alone.append(timed(program, folder, delays, 1)[1])
             for workers in WORKERS:
@@ -65,7 +69,7 @@ def searched(program, trains):
     return plans
 
 
-def faults_of(trains, workers, plan, one):
+def faults_of(trains: int, workers: int, plan: Searched, one: Searched) -> Iterator[str]:
     """In what a plan is over its bounds beside that of one worker."""
     if trains == BOUNDED and plan.seconds > RATIOS[workers] * one.seconds:
         yield f'over {RATIOS[workers]}'
@@ -75,7 +79,7 @@ def faults_of(trains, workers, plan, one):
         yield 'bound too low'
 
 
-def print_day(program, trains):
+def print_day(program: str, trains: int) -> bool:
     """Prints the lines of a day, and says whether none is over its bounds."""
     plans = searched(program, trains)
     one, good = plans[1], True
@@ -87,9 +91,9 @@ def print_day(program, trains):
     return good
 
 
-def main():
-    words = argparse.ArgumentParser(description=__doc__, formatter_class=argparse.RawDescriptionHelpFormatter)
-    words.add_argument('program', metavar='DISPATCHER', type=os.path.abspath)
+def main() -> None:
+    words = command_line(__doc__)
+    add_program(words)
     words.add_argument('trains', metavar='TRAINS', nargs='*', type=int, default=TRAINS)
     given = words.parse_args()
     print('trains workers      cost     bound      time ratio')

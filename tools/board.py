@@ -9,10 +9,12 @@ A line of another form is skipped; the first few are told on standard error, and
 """
 from __future__ import annotations
 
-import argparse
 import re
 import sys
-from typing import BinaryIO, Iterator, Optional
+from io import BufferedIOBase
+from typing import Iterator, Optional
+
+from words import command_line
 
 # A number has so many digits at most, a line so many bytes: enough for all events of a network.
 NUMBER = b'[0-9]{1,20}'
@@ -41,7 +43,7 @@ class Skipped:
             print(f'{self.script}: lines skipped: {self.count}', file=sys.stderr, flush=True)
 
 
-def whole_lines(file: BinaryIO) -> Iterator[list[Optional[bytes]]]:
+def whole_lines(file: BufferedIOBase) -> Iterator[list[Optional[bytes]]]:
     """The lines of a file that have come together, without their ends; None for one that is too long. What is broken off is no line."""
     rest, is_long = b'', False
     while chunk := file.read1(1 << 16):
@@ -61,7 +63,7 @@ def times_of(line: Optional[bytes]) -> Optional[list[tuple[int, int]]]:
     return [(int(event), int(time)) for event, time in TIME.findall(line)]
 
 
-def whole_boards(file: BinaryIO, skipped: Skipped) -> Iterator[str]:
+def whole_boards(file: BufferedIOBase, skipped: Skipped) -> Iterator[str]:
     """A line of all times whenever some have changed."""
     times: dict[int, int] = {}
     number = 0
@@ -77,11 +79,17 @@ def whole_boards(file: BinaryIO, skipped: Skipped) -> Iterator[str]:
             yield ', '.join(f'{event}; {time}' for event, time in times.items())
 
 
+def standard_input() -> BufferedIOBase:
+    """The bytes of standard input, as they come."""
+    assert isinstance(sys.stdin.buffer, BufferedIOBase)
+    return sys.stdin.buffer
+
+
 def main() -> None:
-    argparse.ArgumentParser(description=__doc__, formatter_class=argparse.RawDescriptionHelpFormatter).parse_args()
+    command_line(__doc__).parse_args()
     skipped = Skipped('board.py')
     try:
-        for line in whole_boards(sys.stdin.buffer, skipped):
+        for line in whole_boards(standard_input(), skipped):
             print(line, flush=True)
     except BrokenPipeError:
         sys.exit(1)

@@ -13,13 +13,11 @@ import argparse
 import sys
 from typing import Iterator
 
-from railway import MOST_ENTRIES, Plan
+from railway import MOST_ENTRIES, Decision, Plan
 from runtext import (
     DECISIONS, MOST_FEEDS, NUMBER, VALUE, Answer, Bad, Text, fits, read_form, read_journal, read_log, read_plan, read_plan_head,
 )
 from words import whole_between
-
-Decision = tuple[str | int, ...]
 
 
 class NoPlan(Exception):
@@ -53,12 +51,11 @@ def choices_carried(text: Text) -> tuple[Decision, ...]:
     if numbers is None:
         text.demand(words[0] == 'rebased' and words[2:3] == ['refused'], 'form')
         raise NoPlan(f'the plan could not be carried over: {" ".join(words[3:])}')
-    choices = []
+    choices: list[Decision] = []
     for _ in range(numbers[2]):
         words = text.words()
-        decision = read_form(DECISIONS, words[1:])
-        text.demand(words[0] == 'choice' and decision is not None, 'form')
-        choices.append(decision)
+        text.demand(words[0] == 'choice', 'form')
+        choices.append(text.sure(read_form(DECISIONS, words[1:])))
     return tuple(choices)
 
 

@@ -10,9 +10,8 @@ from __future__ import annotations
 from fractions import Fraction
 from typing import Sequence
 
-from railway import Network, Rows, active_activities, with_decisions
-
-Decision = tuple
+from network import Network
+from railway import Decision, Rows, active_activities, with_decisions
 
 # Events stand so far apart, less a part drawn from their place, that no two pairs meet at once.
 APART = 1 << 40
@@ -43,7 +42,9 @@ def order_of(network: Network, rows: Rows) -> list[int]:
 def in_turn(network: Network, rows: Rows, decisions: Sequence[Decision]) -> list[Decision]:
     """The decisions by which rows without a cycle differ, in an order in which none closes a cycle; with all of them there is none."""
     after = with_decisions(network, rows, decisions)
-    drops, keeps, turns = [], [], []
+    drops: list[Decision] = []
+    keeps: list[Decision] = []
+    turns: list[tuple[Decision, int, int]] = []
     for decision in decisions:
         if decision[0] != 'first':
             kept = decision[0] == 'keep'
@@ -51,7 +52,7 @@ def in_turn(network: Network, rows: Rows, decisions: Sequence[Decision]) -> list
                 (keeps if kept else drops).append(decision)
         else:
             first, second = (network.event_place[event] for event in decision[1:])
-            if rows.first[network.pair_of(first, second)] != first:
+            if rows.first[network.pair_at(first, second)] != first:
                 turns.append((decision, first, second))
     if turns:
         before, then = order_of(network, with_decisions(network, rows, drops)), order_of(network, after)

@@ -12,7 +12,9 @@ from dataclasses import dataclass
 from random import Random
 from typing import Callable, NamedTuple
 
-from railway import BadFile, Event, Network, text_of
+from files import BadFile, text_of
+from network import Event, Network
+from railway import Message
 from scene import trains_of
 
 KINDS = ('delays', 'slow', 'blocked', 'line', 'mixed')
@@ -26,7 +28,7 @@ APART = 120
 class Told(NamedTuple):
     """A message, and from when on it is known."""
     time: int
-    message: tuple
+    message: Message
 
 
 @dataclass(frozen=True)
@@ -47,10 +49,12 @@ def size_of(text: str) -> Callable[[Random], float]:
     """Reads a distribution: exponential:MEAN, lognormal:MEDIAN:SIGMA, or histogram:FILE with lines FROM;TO;COUNT. ValueError else."""
     kind, *rest = text.split(':', 1)
     numbers = re.fullmatch(r'([0-9.]+)(?::([0-9.]+))?', rest[0]) if rest else None
-    if kind == 'exponential' and numbers and not numbers[2] and float(numbers[1]) > 0:
-        return lambda draws: draws.expovariate(1 / float(numbers[1]))
-    if kind == 'lognormal' and numbers and numbers[2] and float(numbers[1]) > 0:
-        return lambda draws: draws.lognormvariate(math.log(float(numbers[1])), float(numbers[2]))
+    middle = float(numbers[1]) if numbers and kind != 'histogram' else 0.0
+    if kind == 'exponential' and numbers and not numbers[2] and middle > 0:
+        return lambda draws: draws.expovariate(1 / middle)
+    if kind == 'lognormal' and numbers and numbers[2] and middle > 0:
+        sigma = float(numbers[2])
+        return lambda draws: draws.lognormvariate(math.log(middle), sigma)
     if kind == 'histogram' and rest:
         return histogram(rest[0])
     raise ValueError(f'"{text}" is neither exponential:MEAN, lognormal:MEDIAN:SIGMA nor histogram:FILE')

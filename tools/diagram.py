@@ -10,15 +10,16 @@ NET/Trains.csv (`first event;name`), where these files are there.
 
 Without --line the line is the one whose stretches most trains run over; the other lines are told on standard error.
 """
+from __future__ import annotations
+
 import argparse
 import sys
-from typing import NamedTuple
+from typing import Callable, Container, Iterable, Iterator, NamedTuple, Optional, Sequence
 
-from files import speak_utf8
+from files import BadFile, speak_utf8
 from markup import escaped
-from railway import BadFile
 from scene import CLASSES, Scene, clock_time, counted, distances, lateness_class, lines_of, links_of, read_scene, span_of_times, turned_pairs
-from words import stops_of
+from words import add_run, command_line, stops_of
 
 # Colours that differ in lightness as well as in hue: on time, and the classes of lateness.
 COLOURS = ('#2f6db3', '#b8860b', '#d95f02', '#b2182b', '#5b0b3b')
@@ -41,36 +42,40 @@ DARK_STYLE = '''
 
 LEFT, RIGHT, TOP, BOTTOM = 130, 20, 64, 112
 
+# The stretches of a train on a line, lists of places; trains by number with theirs.
+Stretches = list[list[int]]
+Trains = list[tuple[int, Stretches]]
+
 # At most so many lines are told.
 MOST_LINES = 12
 
 
 class Frame(NamedTuple):
     """Where the stops of a line stand, and how time runs across: from `begin` to `end`, `scale` units a second."""
-    rows: dict
+    rows: dict[int, int]
     height: int
     begin: int
     end: int
     scale: float
 
     @property
-    def width(self):
+    def width(self) -> int:
         return round((self.end - self.begin) * self.scale)
 
-    def x(self, time):
+    def x(self, time: int) -> int:
         return LEFT + round((min(max(time, self.begin), self.end) - self.begin) * self.scale)
 
-    def y(self, stop):
+    def y(self, stop: int) -> int:
         return self.rows[stop]
 
-    def shows(self, time):
+    def shows(self, time: int) -> bool:
         return self.begin <= time <= self.end
 
 
 # ---- The frame
 
 
-def trains_on(scene: Scene, rows):
+def trains_on(scene: Scene, rows: Container[int]) -> Trains:
     """The trains that run between two stops of the line, each with its stretches there: lists of places."""
     found = []
     for number, train in enumerate(scene.trains):
@@ -87,7 +92,7 @@ def trains_on(scene: Scene, rows):
     return found
 
 
-def scale_of(scene, trains, begin, end):
+def scale_of(scene: Scene, trains: Trains, begin: int, end: int) -> float:
     """Units a second: as many as let trains that follow each other be told apart, within 700 to 9,000 units in all."""
     starts = sorted(scene.scheduled(stretches[0][0]) for _, stretches in trains)
     gaps = sorted(after - before for before, after in zip(starts, starts[1:]) if after > before)
@@ -96,7 +101,7 @@ def scale_of(scene, trains, begin, end):
     return min(max(10 / gap, 700 / length), max(9000, 700) / length, 2.0)
 
 
-def frame_of(scene, line, begin, end):
+def frame_of(scene: Scene, line: Sequence[int], begin: Optional[int], end: Optional[int]) -> tuple[Frame, Trains]:
     """The frame of a line, whose times are those of its trains where none are given."""
     shares = distances(scene.network, scene.trains, line)
     height = max(220, min(44 * (len(line) - 1), 900))
@@ -112,7 +117,7 @@ def frame_of(scene, line, begin, end):
 # ---- Paths
 
 
-def path_data(points):
+def path_data(points: Iterable[tuple[int, int]]) -> str:
     """The points of a path, each from the one before it."""
     (x, y), *rest = points
     parts = [f'M{x} {y}']
@@ -122,7 +127,7 @@ def path_data(points):
     return ''.join(parts)
 
 
-def within(frame, scene, stretch, times):
+def within(frame: Frame, scene: Scene, stretch: Iterable[int], times: Callable[[int], int]) -> list[list[tuple[int, int, int]]]:
     """The points of a stretch whose times lie in the frame, in runs without a gap."""
     runs, points = [], []
     for place in stretch:
@@ -134,14 +139,14 @@ def within(frame, scene, stretch, times):
     return [run for run in runs + [points] if len(run) > 1]
 
 
-def scheduled_path(frame, scene, stretches):
+def scheduled_path(frame: Frame, scene: Scene, stretches: Stretches) -> str:
     return ''.join(
         path_data([(x, y) for _, x, y in run])
         for stretch in stretches for run in within(frame, scene, stretch, scene.scheduled)
     )
 
 
-def coloured_paths(frame, scene, stretches):
+def coloured_paths(frame: Frame, scene: Scene, stretches: Stretches) -> list[str]:
     """The data of a train's paths by class of lateness; each leg has the class of its later end."""
     data = [''] * len(CLASSES)
     for stretch in stretches:
@@ -157,7 +162,7 @@ def coloured_paths(frame, scene, stretches):
     return data
 
 
-def train_marks(frame, scene, trains):
+def train_marks(frame: Frame, scene: Scene, trains: Trains) -> Iterator[str]:
     """The paths of all trains, the scheduled ones below."""
     for number, stretches in trains:
         data = scheduled_path(frame, scene, stretches)
@@ -174,9 +179,9 @@ def train_marks(frame, scene, trains):
             yield f'<g class="train" data-t="{number}"><title>{title}</title>{paths}</g>'
 
 
-def train_names(frame, scene, trains):
+def train_names(frame: Frame, scene: Scene, trains: Trains) -> Iterator[str]:
     """The names of trains at their first stop on the line, where there is room behind the name before."""
-    taken = {}
+    taken: dict[int, int] = {}
     for number, stretches in trains:
         place = stretches[0][0]
         name = scene.train_label(number)
@@ -193,11 +198,11 @@ def train_names(frame, scene, trains):
 # ---- Marks
 
 
-def cross(x, y):
+def cross(x: float, y: float) -> str:
     return f'<path class="cross" d="M{x - 4} {y - 4}l8 8m0-8l-8 8"/>'
 
 
-def link_marks(frame, scene):
+def link_marks(frame: Frame, scene: Scene) -> Iterator[str]:
     """The changes that begin or end on the line: links between its trains, and stubs to others."""
     for link in links_of(scene):
         ends = [place for place in (link.tail, link.head) if scene.stop(place) in frame.rows]
@@ -215,7 +220,7 @@ def link_marks(frame, scene):
         yield f'<g class="link" data-a="{link.id}"><title>change {link.id}: {link.state}</title><path class="{link.state}" d="{data}"/>{mark}</g>'
 
 
-def pair_marks(frame, scene):
+def pair_marks(frame: Frame, scene: Scene) -> Iterator[str]:
     """A diamond at each pair whose order was turned, between its two events."""
     for first, second in turned_pairs(scene):
         if scene.stop(first) not in frame.rows or not frame.shows(scene.times[first]):
@@ -226,7 +231,7 @@ def pair_marks(frame, scene):
         yield f'<path class="turned" d="M{x} {y - 6}l6 6l-6 6l-6-6z"><title>order of {ids} turned</title></path>'
 
 
-def passed_marks(frame, scene):
+def passed_marks(frame: Frame, scene: Scene) -> Iterator[str]:
     for place, time in enumerate(scene.rows.passed):
         if time is not None and scene.stop(place) in frame.rows and frame.shows(time):
             event = scene.network.events[place].id
@@ -234,7 +239,7 @@ def passed_marks(frame, scene):
                    f'<title>event {event} passed at {clock_time(time, True)}</title></circle>')
 
 
-def clock_mark(frame, scene):
+def clock_mark(frame: Frame, scene: Scene) -> Iterator[str]:
     clock = scene.rows.clock
     if clock and frame.shows(clock):
         x = frame.x(clock)
@@ -245,7 +250,7 @@ def clock_mark(frame, scene):
 # ---- The page around
 
 
-def time_steps(frame):
+def time_steps(frame: Frame) -> tuple[int, int]:
     """The seconds between thin lines and between strong ones: at least 9 and 60 units apart."""
     for thin, strong in ((60, 300), (60, 600), (300, 900), (600, 3600), (1800, 3600), (3600, 7200), (7200, 21600), (21600, 86400)):
         if thin * frame.scale >= 9 and strong * frame.scale >= 60:
@@ -253,7 +258,7 @@ def time_steps(frame):
     return 86400, 86400
 
 
-def grid(frame, scene):
+def grid(frame: Frame, scene: Scene) -> Iterator[str]:
     """The lines of stops and of times with their labels."""
     for stop, y in frame.rows.items():
         yield f'<line class="stop" x1="{LEFT}" x2="{LEFT + frame.width}" y1="{y}" y2="{y}"/>'
@@ -266,7 +271,7 @@ def grid(frame, scene):
             yield f'<text x="{x}" y="{TOP + frame.height + 18}" text-anchor="middle">{clock_time(time)}</text>'
 
 
-def legend(frame):
+def legend(frame: Frame) -> Iterator[str]:
     """What the marks mean, in two rows."""
     y = TOP + frame.height + 46
     samples = [('<path class="plan" d="M0 0h22"/>', 'scheduled')]
@@ -281,27 +286,27 @@ def legend(frame):
     yield from legend_row(samples, y + 24)
 
 
-def legend_row(samples, y):
+def legend_row(samples: Iterable[tuple[str, str]], y: int) -> Iterator[str]:
     x = LEFT
     for mark, name in samples:
         yield f'<g transform="translate({x} {y})">{mark}</g><text x="{x + 28}" y="{y + 4}">{name}</text>'
         x += 48 + 7 * len(name)
 
 
-def colour_rules(colours):
+def colour_rules(colours: Iterable[str]) -> str:
     return ''.join(f'.l{kind}{{stroke:{colour}}}' for kind, colour in enumerate(colours))
 
 
-def style():
+def style() -> str:
     return STYLE + colour_rules(COLOURS) + DARK_STYLE[:-2] + colour_rules(DARK) + '}'
 
 
-def title_of(scene, line):
+def title_of(scene: Scene, line: Sequence[int]) -> str:
     ends = f'{scene.stop_name(line[0])} to {scene.stop_name(line[-1])}'
     return f'{ends}: times after {counted(len(scene.run.journal), "entry", "entries")}'
 
 
-def drawing(scene, line, begin=None, end=None):
+def drawing(scene: Scene, line: Sequence[int], begin: Optional[int] = None, end: Optional[int] = None) -> Iterator[str]:
     """The SVG of a line, as pieces of text."""
     frame, trains = frame_of(scene, line, begin, end)
     width = max(LEFT + frame.width + RIGHT, 820)
@@ -319,19 +324,16 @@ def drawing(scene, line, begin=None, end=None):
 # ---- Words
 
 
-def arguments():
-    words = argparse.ArgumentParser(description=__doc__, formatter_class=argparse.RawDescriptionHelpFormatter)
-    words.add_argument('net', metavar='NET', help='folder with Events-expanded.giv and Activities-expanded.giv')
-    words.add_argument('text', metavar='TEXT', help='the text of a run over it')
+def arguments() -> argparse.ArgumentParser:
+    words = command_line(__doc__)
+    add_run(words)
     words.add_argument('--line', type=stops_of, metavar='S1,S2,..', help='ids of the stops of the line, in their order')
     words.add_argument('--from', dest='begin', type=int, metavar='T', help='first time, in seconds')
     words.add_argument('--to', dest='end', type=int, metavar='T', help='last time, in seconds')
-    words.add_argument('--event-delays', metavar='NAME', help='delays of events at the start, as given to the run')
-    words.add_argument('--activity-delays', metavar='NAME', help='delays of activities at the start, as given to the run')
     return words
 
 
-def chosen_line(scene, line):
+def chosen_line(scene: Scene, line: Optional[list[int]]) -> list[int]:
     """The line asked for, or the busiest one; the others are told on standard error."""
     known = {event.stop for event in scene.network.events}
     if line is not None:
@@ -347,7 +349,7 @@ def chosen_line(scene, line):
     return lines[0]
 
 
-def main():
+def main() -> None:
     given = arguments().parse_args()
     speak_utf8()
     try:

@@ -14,6 +14,8 @@ commands `rules` and `run` are called, some forty times, and how far they are st
 
 The status is 2 where a file or a text is not good, or the program says that it is not, and no picture is written then.
 """
+from __future__ import annotations
+
 import argparse
 import csv
 import io
@@ -24,11 +26,12 @@ import sys
 import tempfile
 from collections import defaultdict
 from html import escape
-from typing import NamedTuple
+from typing import Callable, Iterable, Iterator, NamedTuple, Sequence
 
-from files import write_all
-from railway import BadFile
-from scene import clock_time, read_scene, read_text, rows_of
+from files import BadFile, write_all
+from runtext import Run
+from scene import Scene, clock_time, read_scene, read_text, rows_of
+from words import add_delays, add_network, command_line
 
 WAITS = range(0, 901, 30)
 BUDGETS = [64 << doubling for doubling in range(9)]
@@ -50,14 +53,14 @@ BOUND = 'stroke-width="2" stroke-dasharray="6 4"'
 class Curve(NamedTuple):
     """A line of a picture: its name, its points, and how it is drawn, so that lines that lie over each other are still told apart."""
     name: str
-    points: list
+    points: list[tuple[int, int]]
     style: str = POINTS
 
 
 class Figure(NamedTuple):
     """A picture and the rows of its table, the first of which names the columns."""
     svg: str
-    rows: list
+    rows: Sequence[Iterable[object]]
 
 
 class Ruled(NamedTuple):
@@ -70,7 +73,7 @@ class Ruled(NamedTuple):
     command: str
 
 
-def progress(text):
+def progress(text: str) -> None:
     """Tells whoever sits at a terminal how far things are."""
     if sys.stderr.isatty():
         print(text, end='', file=sys.stderr, flush=True)
@@ -79,11 +82,11 @@ def progress(text):
 class Study:
     """The program over a network and a text, and how many of its commands were called."""
 
-    def __init__(self, program, net, text, options):
+    def __init__(self, program: str, net: str, text: str, options: list[str]) -> None:
         self.program, self.net, self.text, self.options = program, net, text, options
         self.called = 0
 
-    def call(self, *words):
+    def call(self, *words: str) -> tuple[str, str]:
         """A command, and what it prints; BadFile where it ends with another status than 0."""
         command = [self.program, *words, *self.options]
         self.called += 1
@@ -97,7 +100,7 @@ class Study:
             raise BadFile(shlex.join(command), None, f'it ends with status {done.returncode}: {said}')
         return shlex.join(command), done.stdout
 
-    def ruled(self, rule, budget):
+    def ruled(self, rule: object, budget: int) -> Ruled:
         """What a rule comes to, and a plan of this budget."""
         command, told = self.call('rules', self.net, self.text, str(rule), str(budget))
         lines = {words[0]: words for words in map(str.split, told.splitlines())}
@@ -111,11 +114,22 @@ class Study:
 
 # ---- Pictures
 
+
+class Axes(NamedTuple):
+    """Where numbers lie in a picture, which of them are marked, and how they are called."""
+    x_of: Callable[[int], int]
+    y_of: Callable[[int], int]
+    xs: Sequence[int]
+    ys: Sequence[int]
+    x_name: Callable[[int], str]
+    y_name: Callable[[int], str]
+
+
 WIDTH, HEIGHT, LEFT, TOP, RIGHT, BOTTOM = 760, 420, 90, 50, 190, 60
 COLOURS = ('#2f6db3', '#d95f02', '#00735c', '#5b0b3b', '#b8860b')
 
 
-def ticks(low, high, most=6):
+def ticks(low: int, high: int, most: int = 6) -> list[int]:
     """Round numbers from low to high, at most so many."""
     if high <= low:
         return [low]
@@ -125,7 +139,7 @@ def ticks(low, high, most=6):
     return [tick for tick in range(-(-low // step) * step, high + 1, step)]
 
 
-def axes(frame, title, across, up):
+def axes(frame: Axes, title: str, across: str, up: str) -> Iterator[str]:
     x_of, y_of, xs, ys, x_name, y_name = frame
     yield f'<text x="{LEFT}" y="26" class="title">{escape(title)}</text>'
     for tick in ys:
@@ -139,7 +153,7 @@ def axes(frame, title, across, up):
     yield f'<text x="18" y="{TOP - 8}">{escape(up)}</text>'
 
 
-def curve_marks(frame, curves):
+def curve_marks(frame: Axes, curves: Sequence[Curve]) -> list[str]:
     """The lines, the wide ones below the others, and the legend."""
     x_of, y_of = frame[:2]
     marks = []
@@ -155,23 +169,31 @@ def curve_marks(frame, curves):
     return [mark for _, mark in sorted(marks)]
 
 
-def hours(low, high, most=8):
+def hours(low: int, high: int, most: int = 8) -> list[int]:
     """Full hours from low to high, in seconds, at most so many."""
     step = 3600 * max(1, -(-(high - low) // (3600 * most)))
     return list(range(-(-low // step) * step, high + 1, step))
 
 
-def picture(title, across, up, curves, x_name=str, y_name=str, x_at=lambda x: x, x_ticks=ticks):
-    """A picture of curves; `x_at` says how far a number lies across, `x_name` and `y_name` how numbers are called."""
+class Scale(NamedTuple):
+    """How numbers are called along an axis, how far they lie, and which of many are marked."""
+    name: Callable[[int], str] = str
+    at: Callable[[int], float] = float
+    ticks: Callable[[int, int], list[int]] = ticks
+
+
+def picture(title: str, across: str, up: str, curves: Sequence[Curve], x_scale: Scale = Scale(), y_scale: Scale = Scale()) -> str:
+    """A picture of curves."""
+    x_at = x_scale.at
     xs = [x for curve in curves for x, _ in curve.points]
     ys = [y for curve in curves for _, y in curve.points]
     low, high = min(ys), max(max(ys), min(ys) + 1)
     low = 0 if low < (high - low) * 3 else low - (high - low) // 10
     first, last = x_at(min(xs)), max(x_at(max(xs)), x_at(min(xs)) + 1e-9)
-    def x_of(x): return round(LEFT + (x_at(x) - first) / (last - first) * (WIDTH - RIGHT - LEFT))
-    def y_of(y): return round(HEIGHT - BOTTOM - (y - low) / (high - low) * (HEIGHT - BOTTOM - TOP))
-    marked = sorted(set(xs)) if len(set(xs)) <= 9 else x_ticks(min(xs), max(xs))
-    frame = (x_of, y_of, marked, ticks(low, high), x_name, y_name)
+    def x_of(x: int) -> int: return round(LEFT + (x_at(x) - first) / (last - first) * (WIDTH - RIGHT - LEFT))
+    def y_of(y: int) -> int: return round(HEIGHT - BOTTOM - (y - low) / (high - low) * (HEIGHT - BOTTOM - TOP))
+    marked = sorted(set(xs)) if len(set(xs)) <= 9 else x_scale.ticks(min(xs), max(xs))
+    frame = Axes(x_of, y_of, marked, ticks(low, high), x_scale.name, y_scale.name)
     parts = [*axes(frame, title, across, up), *curve_marks(frame, curves)]
     return (f'<svg xmlns="http://www.w3.org/2000/svg" viewBox="0 0 {WIDTH} {HEIGHT}" width="{WIDTH}" height="{HEIGHT}" role="img" '
             f'aria-label="{escape(title)}"><style>text{{font:12px system-ui,sans-serif;fill:#222}}.title{{font-size:15px;font-weight:600}}'
@@ -179,44 +201,44 @@ def picture(title, across, up, curves, x_name=str, y_name=str, x_at=lambda x: x,
             + '\n'.join(parts) + '</svg>\n')
 
 
-def millions(cost):
+def millions(cost: int) -> str:
     return f'{cost / 1e6:g}'
 
 
 # ---- Figures
 
 
-def rules_figure(study):
+def rules_figure(study: Study) -> Figure:
     """The curves of fixed rules beside a plan and its bound."""
     waits = [(wait, study.ruled(wait, BUDGET)) for wait in WAITS]
     never, always = study.ruled('never', BUDGET), study.ruled('always', BUDGET)
     ends = WAITS[0], WAITS[-1]
-    def level(cost): return [(end, cost) for end in ends]
+    def level(cost: int) -> list[tuple[int, int]]: return [(end, cost) for end in ends]
     curves = [
         Curve('wait at most', [(wait, ruled.cost) for wait, ruled in waits]), Curve('never', level(never.cost), LEVEL),
         Curve('always', level(always.cost), LEVEL), Curve('plan', level(never.plan_cost), LEVEL),
         Curve('proved bound', level(never.bound), BOUND),
     ]
-    rows = [('rule', 'cost', 'choices', 'plan cost', 'plan bound', 'gap', 'command')]
+    rows: list[Iterable[object]] = [('rule', 'cost', 'choices', 'plan cost', 'plan bound', 'gap', 'command')]
     rows += [(name, *ruled) for name, ruled in [('never', never), *waits, ('always', always)]]
     title = 'Waiting rules against a proved bound'
-    return Figure(picture(title, 'seconds that a train waits at most', 'cost (millions)', curves, y_name=millions), rows)
+    return Figure(picture(title, 'seconds that a train waits at most', 'cost (millions)', curves, y_scale=Scale(millions)), rows)
 
 
-def budgets_figure(study):
+def budgets_figure(study: Study) -> Figure:
     """The curves of cost and bound by the budget of a plan."""
     plans = [(budget, study.ruled('never', budget)) for budget in BUDGETS]
     curves = [
         Curve('cost', [(budget, ruled.plan_cost) for budget, ruled in plans]),
         Curve('proved bound', [(budget, ruled.bound) for budget, ruled in plans], BOUND),
     ]
-    rows = [('budget', 'cost', 'bound', 'command')]
+    rows: list[Iterable[object]] = [('budget', 'cost', 'bound', 'command')]
     rows += [(budget, ruled.plan_cost, ruled.bound, ruled.command) for budget, ruled in plans]
     title = 'A plan by its budget'
-    return Figure(picture(title, 'budget of nodes', 'cost (millions)', curves, y_name=millions, x_at=lambda x: x.bit_length()), rows)
+    return Figure(picture(title, 'budget of nodes', 'cost (millions)', curves, Scale(at=int.bit_length), Scale(millions)), rows)
 
 
-def feed_of(scene):
+def feed_of(scene: Scene) -> list[str]:
     """Lines by which a feed brings start rows to those of a scene; what may be refused at first stands twice."""
     network, start, rows = scene.network, scene.start, scene.rows
     lines = []
@@ -236,7 +258,7 @@ def feed_of(scene):
     return lines + ([f'now {rows.clock}'] if rows.clock else [])
 
 
-def quarters(scene, times):
+def quarters(scene: Scene, times: Sequence[int]) -> list[tuple[int, int]]:
     """The mean lateness, in seconds, of the arrivals scheduled in each quarter of an hour."""
     late = defaultdict(list)
     for event, time in zip(scene.network.events, times):
@@ -245,7 +267,7 @@ def quarters(scene, times):
     return [(quarter, round(sum(times) / len(times))) for quarter, times in sorted(late.items())]
 
 
-def adopted(study, scene, feed):
+def adopted(study: Study, scene: Scene, feed: str) -> tuple[Run, str]:
     """The run of a feed that adopts a plan, and the command that made it; BadFile where the rows before are not those of the scene."""
     command, told = study.call('run', study.net, feed)
     with tempfile.TemporaryDirectory() as folder:
@@ -259,7 +281,7 @@ def adopted(study, scene, feed):
     return run, command
 
 
-def lateness_figure(study, scene, folder):
+def lateness_figure(study: Study, scene: Scene, folder: str) -> Figure:
     """The curves of lateness before and after a plan is adopted, by a feed that is left in the folder."""
     feed = '\n'.join([*feed_of(scene), f'plan {BUDGET}', 'adopt']) + '\n'
     if len(feed) > FEED:
@@ -268,20 +290,20 @@ def lateness_figure(study, scene, folder):
     after, command = adopted(study, scene, os.path.join(folder, 'feed'))
     before, planned = quarters(scene, scene.times), quarters(scene, [after.times[event.id] for event in scene.network.events])
     curves = [Curve('before', before), Curve('with the plan', planned)]
-    rows = [('from', 'before', 'with the plan', 'command')]
+    rows: list[Iterable[object]] = [('from', 'before', 'with the plan', 'command')]
     rows += [(quarter, late, then, command) for (quarter, late), (_, then) in zip(before, planned)]
     title = 'Lateness of arrivals before and after a plan is adopted'
-    return Figure(picture(title, 'time of day', 'seconds late (mean)', curves, x_name=clock_time, x_ticks=hours), rows)
+    return Figure(picture(title, 'time of day', 'seconds late (mean)', curves, Scale(clock_time, ticks=hours)), rows)
 
 
-def table(rows):
+def table(rows: Iterable[Iterable[object]]) -> str:
     """Rows as the text of a table."""
     text = io.StringIO()
     csv.writer(text, lineterminator='\n').writerows(rows)
     return text.getvalue()
 
 
-def make_all(given):
+def make_all(given: argparse.Namespace) -> None:
     scene = read_scene(given.net, given.text, given.event_delays, given.activity_delays)
     if not any(event.kind == 'arrival' for event in scene.network.events):
         raise BadFile(given.net, None, 'nothing arrives there')
@@ -294,14 +316,13 @@ def make_all(given):
               | {f'{name}.csv': table(figure.rows) for name, figure in figures.items()})
 
 
-def main():
-    words = argparse.ArgumentParser(description=__doc__, formatter_class=argparse.RawDescriptionHelpFormatter)
-    words.add_argument('net', metavar='NET', help='folder with Events-expanded.giv and Activities-expanded.giv')
+def main() -> None:
+    words = command_line(__doc__)
+    add_network(words)
     words.add_argument('text', metavar='TEXT', help='the text of a run over it')
     words.add_argument('folder', metavar='FOLDER', help='where the figures go')
     words.add_argument('--dispatcher', default='dispatcher', metavar='PROGRAM', help='the built program')
-    words.add_argument('--event-delays', metavar='NAME', help='delays of events at the start, as given to the run')
-    words.add_argument('--activity-delays', metavar='NAME', help='delays of activities at the start, as given to the run')
+    add_delays(words)
     given = words.parse_args()
     try:
         make_all(given)

@@ -1,12 +1,38 @@
-"""Files that are written all or not at all, and standard output in UTF-8."""
+"""Files that are read whole, files that are written all or not at all, what is told of a bad one, and standard output in UTF-8."""
 from __future__ import annotations
 
 import io
 import os
 import sys
-from typing import Iterable, Mapping
+from typing import Iterable, Mapping, Optional
 
-from railway import BadFile
+
+def in_one_line(text: str, most: int = 300) -> str:
+    """Text of a file as it is told to people: what cannot be printed as its number, and of a long one its ends."""
+    if len(text) > most:
+        text = f'{text[:most - 100]} .. {text[-90:]}'
+    return ''.join(one if one.isprintable() else one.encode('unicode_escape').decode() for one in text)
+
+
+class BadFile(Exception):
+    """A file is not what it should be: its name, the number of the line, from 1, or None, and what is wrong there."""
+
+    def __init__(self, name: str, line: Optional[int], what: str) -> None:
+        super().__init__(name, line, what)
+        self.name, self.line, self.what = name, line, what
+
+    def __str__(self) -> str:
+        where = self.name if self.line is None else f'{self.name}, line {self.line}'
+        return f'{in_one_line(where)}: {in_one_line(self.what)}'
+
+
+def text_of(name: str) -> str:
+    """The text of a file, a character a byte; BadFile where it cannot be read."""
+    try:
+        with open(name, encoding='latin-1', newline='') as file:
+            return file.read()
+    except OSError as error:
+        raise BadFile(name, None, error.strerror or 'cannot be read') from error
 
 
 def speak_utf8() -> None:

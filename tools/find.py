@@ -11,7 +11,6 @@ The status is 0, 1 where there is no such change, or 2 where a file is not as it
 """
 from __future__ import annotations
 
-import argparse
 import sys
 from dataclasses import dataclass
 from typing import Iterator, Optional, Sequence
@@ -19,6 +18,7 @@ from typing import Iterator, Optional, Sequence
 from files import speak_utf8
 from names import ChangeName, EventName, TrainName, read_changes, read_events, read_stops, read_trains
 from railway import BadFile, in_one_line, read_network
+from words import command_line
 
 
 @dataclass(frozen=True)
@@ -73,9 +73,7 @@ def find(net: str, train: str, next_train: str, stop: Optional[str]) -> list[Fou
 
 
 def main(given: Optional[Sequence[str]] = None) -> int:
-    words = argparse.ArgumentParser(
-        description=__doc__, formatter_class=argparse.RawDescriptionHelpFormatter, allow_abbrev=False,
-    )
+    words = command_line(__doc__, allow_abbrev=False)
     words.add_argument('net', metavar='NET', help='the folder of a network, with its names')
     words.add_argument('train', metavar='FROM', help='the train that arrives')
     words.add_argument('next_train', metavar='TO', help='the train that leaves')

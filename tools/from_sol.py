@@ -12,16 +12,21 @@ from __future__ import annotations
 
 import argparse
 import sys
-from typing import Iterator, Optional, Sequence
+from typing import Iterable, Iterator, Optional, Sequence
 
 from decide import in_turn, spoken
+from files import BadFile
+from giv import read_delays
+from network import Network
 from programme import choices_in
-from railway import BadFile, Network, Rows, apply, read_delays
+from railway import Rows, apply
+from runtext import Entry
 from solution import decisions_of, read_solution
 from to_mps import add_rows_words, add_window_words, read_rows, window_of
+from words import command_line
 
 
-def said_again(network: Network, rows: Rows, journal: list) -> Iterator[str]:
+def said_again(network: Network, rows: Rows, journal: Iterable[Entry]) -> Iterator[str]:
     """The entries of a journal as lines of a feed, from the rows at the start, which they change."""
     for entry in journal:
         if entry.message[0] == 'adopt':
@@ -46,7 +51,7 @@ def lines_of_solution(given: argparse.Namespace, words: argparse.ArgumentParser)
 
 
 def main(asked: Optional[Sequence[str]] = None) -> None:
-    words = argparse.ArgumentParser(description=__doc__, formatter_class=argparse.RawDescriptionHelpFormatter)
+    words = command_line(__doc__)
     add_rows_words(words)
     words.add_argument('solution', metavar='SOLUTION', help='the file of a solution of CBC or GLPK')
     add_window_words(words)

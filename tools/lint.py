@@ -12,18 +12,20 @@ NET is the folder of a network, each FEED a file of lines. What is found stands 
 
 Status 0 where nothing is odd, 1 where something is, 2 where a file is none of a network.
 """
-import argparse
+from __future__ import annotations
+
 import os
 import sys
 from collections import Counter
-from typing import NamedTuple
+from typing import Iterable, Iterator, NamedTuple, Optional
 
-from files import speak_utf8
+from files import BadFile, in_one_line, speak_utf8, text_of
+from giv import ACTIVITIES, EVENTS, activity_row, event_row, rows_of_file
 from names import numbered
-from railway import (
-    LARGEST_DELAY, LARGEST_PASSED, BadFile, Network, activity_row, event_row, in_one_line, rows_of_file, text_of,
-)
-from runtext import due_items
+from network import Activity, Event, Network
+from railway import LARGEST_DELAY, LARGEST_PASSED
+from runtext import Said, due_items
+from words import add_network, command_line
 
 DAY = 86_400
 
@@ -43,30 +45,30 @@ class Files(NamedTuple):
     """A network, the folder of its files, and the lines of its events and activities by id."""
     network: Network
     folder: str
-    event_lines: dict
-    activity_lines: dict
+    event_lines: dict[int, int]
+    activity_lines: dict[int, int]
 
-    def at_event(self, kind, event, what):
-        return Oddity(kind, os.path.join(self.folder, 'Events-expanded.giv'), self.event_lines[event.id], f'event {event.id}: {what}')
+    def at_event(self, kind: str, event: Event, what: str) -> Oddity:
+        return Oddity(kind, os.path.join(self.folder, EVENTS), self.event_lines[event.id], f'event {event.id}: {what}')
 
-    def at_activity(self, kind, activity, what):
-        name = os.path.join(self.folder, 'Activities-expanded.giv')
+    def at_activity(self, kind: str, activity: Activity, what: str) -> Oddity:
+        name = os.path.join(self.folder, ACTIVITIES)
         return Oddity(kind, name, self.activity_lines[activity.id], f'{activity.kind} {activity.id}: {what}')
 
-    def ends(self, place):
+    def ends(self, place: int) -> tuple[Event, Event]:
         """The events at the tail and the head of an activity."""
         return self.network.events[self.network.tails[place]], self.network.events[self.network.heads[place]]
 
 
-def read_files(folder):
+def read_files(folder: str) -> Files:
     """The network of a folder with the lines of its records; BadFile where it is none."""
-    events = list(rows_of_file(folder, 'Events-expanded.giv', event_row))
-    activities = list(rows_of_file(folder, 'Activities-expanded.giv', activity_row))
+    events = list(rows_of_file(folder, EVENTS, event_row))
+    activities = list(rows_of_file(folder, ACTIVITIES, activity_row))
     known = {event.id for _, event in events}
     for line, activity in activities:
         for end in (activity.tail, activity.head):
             if end not in known:
-                raise BadFile(os.path.join(folder, 'Activities-expanded.giv'), line, f'there is no event {end}')
+                raise BadFile(os.path.join(folder, ACTIVITIES), line, f'there is no event {end}')
     network = Network([event for _, event in events], [activity for _, activity in activities])
     return Files(
         network, folder, {event.id: line for line, event in events}, {activity.id: line for line, activity in activities},
@@ -76,7 +78,7 @@ def read_files(folder):
 # ---- Networks
 
 
-def schedule_oddities(files):
+def schedule_oddities(files: Files) -> Iterator[Oddity]:
     """Activities that run back in time, and those shorter than their bounds."""
     for place, activity in enumerate(files.network.activities):
         tail, head = files.ends(place)
@@ -91,7 +93,7 @@ def schedule_oddities(files):
             yield files.at_activity('short', activity, f'its schedule is {-slack} s below its bound of {activity.lower} s')
 
 
-def swapped_columns(files):
+def swapped_columns(files: Files) -> Iterator[Oddity]:
     """Columns whose numbers look like those of another, told once."""
     network = files.network
     drives = [place for place, activity in enumerate(network.activities) if activity.kind == 'drive']
@@ -104,7 +106,7 @@ def swapped_columns(files):
         yield files.at_event('swapped', heavy[0], 'most events have more passengers than seconds: are time and weight swapped?')
 
 
-def jumps(files):
+def jumps(files: Files) -> Iterator[Oddity]:
     """Trains that wait from one stop to another, or drive from a stop to itself."""
     for place, activity in enumerate(files.network.activities):
         tail, head = files.ends(place)
@@ -114,7 +116,7 @@ def jumps(files):
             yield files.at_activity('jump', activity, f'the train drives from stop {tail.stop} to the same stop')
 
 
-def kind_oddities(files):
+def kind_oddities(files: Files) -> Iterator[Oddity]:
     """Drives, waits and changes between events of another kind than a train has there."""
     due = {'drive': ('departure', 'arrival'), 'wait': ('arrival', 'departure'), 'change': ('arrival', 'departure')}
     for place, activity in enumerate(files.network.activities):
@@ -123,20 +125,20 @@ def kind_oddities(files):
             yield files.at_activity('kinds', activity, f'it leads from {ends[0]} to {ends[1]}')
 
 
-def long_changes(files):
+def long_changes(files: Files) -> Iterator[Oddity]:
     for place, activity in enumerate(files.network.activities):
         tail, head = files.ends(place)
         if activity.kind == 'change' and head.time - tail.time > DAY:
             yield files.at_activity('long', activity, f'passengers would wait {head.time - tail.time} s, more than a day')
 
 
-def one_way_headways(files):
+def one_way_headways(files: Files) -> Iterator[Oddity]:
     for place, activity in enumerate(files.network.activities):
         if activity.kind == 'headway' and files.network.pair_of_activity(place) is None:
             yield files.at_activity('one-way', activity, 'no headway leads the other way, so the order of these trains is fixed')
 
 
-def empty_stops(files):
+def empty_stops(files: Files) -> Iterator[Oddity]:
     """Stops that Stops.csv names and no event is at."""
     used = {event.stop for event in files.network.events}
     for line, stop, name in numbered(files.folder, 'Stops.csv'):
@@ -147,7 +149,7 @@ def empty_stops(files):
 # ---- Feeds
 
 
-def guess(line):
+def guess(line: str) -> str:
     """Why a line may be malformed, or nothing."""
     reasons = [
         ('ï»¿' in line, 'a byte order mark stands before it'), ('\t' in line, 'a tab separates nothing'),
@@ -157,7 +159,7 @@ def guess(line):
     return next((f': {reason}' for holds, reason in reasons if holds), '')
 
 
-def ids_of(network, said):
+def ids_of(network: Network, said: Said) -> Optional[str]:
     """What a line names that the network has not, in words."""
     kind, *numbers = said
     if kind in ('delay activity', 'keep', 'drop'):
@@ -176,7 +178,7 @@ def ids_of(network, said):
     return None
 
 
-def range_of(said):
+def range_of(said: Said) -> Optional[str]:
     """What number of a line is above its limit, in words."""
     largest = {'delay event': LARGEST_DELAY, 'delay activity': LARGEST_DELAY, 'pass': LARGEST_PASSED, 'now': LARGEST_PASSED}
     if said[0] in largest and said[-1] > largest[said[0]]:
@@ -186,7 +188,7 @@ def range_of(said):
     return None
 
 
-def feed_oddities(network, name):
+def feed_oddities(network: Network, name: str) -> Iterator[Oddity]:
     """The lines of a feed that are malformed or will be refused."""
     text = text_of(name)
     lines = text.split('\n')
@@ -202,16 +204,16 @@ def feed_oddities(network, name):
 # ---- Words
 
 
-def oddities(files, feeds):
+def oddities(files: Files, feeds: Iterable[str]) -> Iterator[Oddity]:
     for find in (swapped_columns, schedule_oddities, jumps, kind_oddities, one_way_headways, long_changes, empty_stops):
         yield from find(files)
     for feed in feeds:
         yield from feed_oddities(files.network, feed)
 
 
-def tell(found):
+def tell(found: Iterable[Oddity]) -> int:
     """Prints what was found, of each kind and file at most so many lines."""
-    told = Counter()
+    told: Counter[tuple[str, str]] = Counter()
     for odd in found:
         told[odd.kind, odd.name] += 1
         if told[odd.kind, odd.name] <= MOST:
@@ -222,9 +224,9 @@ def tell(found):
     return sum(told.values())
 
 
-def main():
-    words = argparse.ArgumentParser(description=__doc__, formatter_class=argparse.RawDescriptionHelpFormatter)
-    words.add_argument('net', metavar='NET', help='folder with Events-expanded.giv and Activities-expanded.giv')
+def main() -> None:
+    words = command_line(__doc__)
+    add_network(words)
     words.add_argument('feeds', metavar='FEED', nargs='*', help='a file of feed lines')
     given = words.parse_args()
     speak_utf8()

@@ -7,11 +7,12 @@ that is defined nowhere, or not in the file that its table names, is told; the s
 """
 from __future__ import annotations
 
-import argparse
 import re
 import sys
 from pathlib import Path
 from typing import NamedTuple, Optional, Sequence
+
+from words import command_line
 
 REPOSITORY = Path(__file__).resolve().parent.parent
 HEADING = '## Index'
@@ -116,7 +117,7 @@ def filled(entries: Sequence[str]) -> list[str]:
 
 
 def main(asked: Optional[Sequence[str]] = None) -> int:
-    words = argparse.ArgumentParser(description=__doc__, formatter_class=argparse.RawDescriptionHelpFormatter)
+    words = command_line(__doc__)
     words.add_argument('--check', action='store_true', help='write nothing, tell whether the index stands')
     words.add_argument('--repository', type=Path, default=REPOSITORY, metavar='FOLDER', help='where docs and crates are')
     given = words.parse_args(asked)

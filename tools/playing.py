@@ -14,7 +14,9 @@ from typing import Callable, Optional, Sequence
 from choices import choices_in
 from decide import in_turn, spoken
 from delays import Told
-from railway import BadFile, Network, Rows, apply, refusal_at_once, times_of
+from files import BadFile
+from network import Network
+from railway import Decision, Message, Rows, apply, refusal_at_once, sound_times
 from runtext import DECISIONS, Bad, read_form
 
 # The most bytes of a feed.
@@ -77,7 +79,7 @@ class Program:
             raise BadFile(self.path(name), None, f'check says: {verdict.strip()}')
         return int(text.splitlines()[-2].split()[1])
 
-    def window(self, start: int, end: int, budget: int) -> list[tuple]:
+    def window(self, start: int, end: int, budget: int) -> list[Decision]:
         """The choices that the plan of a window behind the text makes."""
         told = self.call('window', self.net, self.path('text'), str(max(0, start)), str(end), str(budget))
         try:
@@ -85,7 +87,7 @@ class Program:
         except Bad as bad:
             raise BadFile(self.name, bad.args[0], 'this is no line of a window') from bad
 
-    def ruled(self, rule: str) -> list[tuple]:
+    def ruled(self, rule: str) -> list[Decision]:
         """The choices that a waiting rule makes behind the text."""
         told = self.call('rules', self.net, self.path('text'), rule, '1')
         forms = [read_form(DECISIONS, line.split()[1:]) for line in told.splitlines() if line.startswith('choice ')]
@@ -101,7 +103,7 @@ class Played:
     lines: list[str] = field(default_factory=list)
     ahead: list[Told] = field(default_factory=list)
 
-    def say(self, message: tuple) -> None:
+    def say(self, message: Message) -> None:
         self.lines.append(' '.join(map(str, message)))
         apply(self.network, self.rows, message)
 
@@ -118,12 +120,12 @@ class Played:
 
     def let_pass(self, now: int) -> None:
         """What has happened by now passes at its time, and the clock goes on."""
-        for message in self.passing(now, times_of(self.network, self.rows), 0):
+        for message in self.passing(now, sound_times(self.network, self.rows), 0):
             self.say(message)
         if now > self.rows.clock:
             self.say(('now', now))
 
-    def passing(self, now: int, times: Sequence[int], since: int) -> list[tuple]:
+    def passing(self, now: int, times: Sequence[int], since: int) -> list[Message]:
         """What has happened by now of the events that are scheduled since some time, in the order of their times."""
         events = self.network.events
         happened = [(at, place) for place, at in enumerate(times)
@@ -140,12 +142,12 @@ class Played:
 
     def hold_back(self, now: int, before: Sequence[int]) -> None:
         """What had not happened by now, and which choices would let happen before, is delayed until now."""
-        after = times_of(self.network, self.rows)
+        after = sound_times(self.network, self.rows)
         for event, was, will_be in zip(self.network.events, before, after):
             if was > now > will_be:
                 self.say(('delay event', event.id, now - event.time))
 
-    def enter(self, decisions: Sequence[tuple]) -> int:
+    def enter(self, decisions: Sequence[Decision]) -> int:
         """Says choices, in an order in which none closes a cycle; how many."""
         turns = in_turn(self.network, self.rows, decisions)
         self.lines += spoken(turns)
@@ -175,7 +177,7 @@ def replanned(
     for now in range(start, end + how.back + 1, how.every):
         played.tell(now)
         if played.lines:
-            times = times_of(played.network, played.rows)
+            times = sound_times(played.network, played.rows)
             program.run(played.lines if played.clock else played.question(now, times, now - how.back))
             entered = played.enter(program.window(now - how.back, now + how.ahead, how.budget))
             if entered and not played.clock:

@@ -17,11 +17,8 @@ import math
 from dataclasses import dataclass
 from typing import Callable, Iterable, NamedTuple, Optional
 
-from railway import (
-    Network, Problem, Rows, active_activities, cost_charging, floor_of, free_choices, least_times, span_of,
-)
-
-Choice = tuple
+from network import Choice, Network
+from railway import Problem, Rows, active_activities, cost_charging, floor_of, free_choices, least_times, span_of
 
 # How many events behind one are looked at for what its lateness costs, and how often times are narrowed.
 BEHIND = 64
@@ -125,6 +122,7 @@ def times_between(problem: Posed) -> Times:
     """Between which times events lie in choices that cost at most what the rows do."""
     network, rows = problem.network, problem.rows
     low = least_times(network, rows, problem.held)
+    assert low is not None, 'what is held whatever is chosen has a cycle'
     arcs = [problem.way([place]) for place, held in enumerate(problem.held) if held]
     times = Times(problem, low, [], arcs, dict(problem.changes), dict(problem.pairs), {}, {})
     for _ in range(ROUNDS):
@@ -190,7 +188,7 @@ def most_times(times: Times) -> list[int]:
                     longest[way.head] = max(longest[way.head], way.span)
         top = max(high[place] for place in members) + sum(longest.values()) - min(longest.values())
         for place in members:
-            high[place] = max(min(top, caps(place)), low[place]) if top > low[place] else low[place]
+            high[place] = max(int(min(top, caps(place))), low[place]) if top > low[place] else low[place]
         for tail in members:
             for way in behind[tail]:
                 if way.head not in inside:
@@ -221,7 +219,7 @@ def components(behind: list[list[Way]]) -> list[list[int]]:
                 if calls:
                     reach[calls[-1][0]] = min(reach[calls[-1][0]], reach[place])
                 if reach[place] == number[place]:
-                    members = []
+                    members: list[int] = []
                     while not members or members[-1] != place:
                         members.append(stack.pop())
                         is_open[members[-1]] = False
@@ -245,7 +243,8 @@ def caps_by_cost(times: Times) -> Callable[[int], float]:
     behind = arcs_by_tail(len(low), times.arcs)
 
     def cap(place: int) -> float:
-        slacks, queue, seen = [], [(0, place)], set()
+        slacks: list[tuple[int, int]] = []
+        queue, seen = [(0, place)], set[int]()
         while queue and len(seen) < BEHIND:
             slack, event = heapq.heappop(queue)
             if event in seen:

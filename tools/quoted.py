@@ -5,7 +5,7 @@ import csv
 import io
 from typing import BinaryIO, Iterator
 
-from railway import BadFile
+from files import BadFile
 
 # The most characters of a record, so that no file is held in memory as one.
 LONGEST_RECORD = 1_000_000
@@ -21,7 +21,8 @@ class Lines:
         self.begin()
 
     def begin(self) -> None:
-        self.first, self.left, self.record = self.number + 1, LONGEST_RECORD, []
+        self.first, self.left = self.number + 1, LONGEST_RECORD
+        self.record: list[str] = []
 
     def __iter__(self) -> Lines:
         return self

@@ -12,82 +12,40 @@ Messages, decisions, choices, refusals and nodes are tuples of a kind and what i
 Left out: the files are to be in the standard order of columns, and limits, cycles and headways without a bound are not tested. A
 line that is no record of its file is told by `BadFile`.
 """
-import os
-import re
-from typing import NamedTuple
+from __future__ import annotations
+
+from typing import Any, Iterable, NamedTuple, Optional, Sequence
+
+from files import BadFile, in_one_line, text_of
+from giv import activity_row, decimal, event_row, network_files, read_delays, read_network, records, rows_of_file, whole
+from network import KINDS, Activity, Choice, Event, Network
+
+__all__ = [
+    'BadFile', 'in_one_line', 'text_of', 'activity_row', 'decimal', 'event_row', 'network_files', 'read_delays', 'read_network', 'records',
+    'rows_of_file', 'whole', 'KINDS', 'Activity', 'Choice', 'Event', 'Network',
+]
 
 MOST_ENTRIES = 1_000_000
 LARGEST_DELAY = 1_000_000
 LARGEST_PASSED = 2_000_000_000
-KINDS = ('drive', 'wait', 'turnaround', 'change', 'headway')
 
+Message = tuple[Any, ...]
+Decision = tuple[Any, ...]
+Refusal = tuple[Any, ...]
+Node = tuple[Any, ...]
 
-class Event(NamedTuple):
-    id: int
-    kind: str
-    time: int
-    weight: int
-    stop: int
-
-
-class Activity(NamedTuple):
-    """An activity, whose tail and head are ids of events."""
-    id: int
-    kind: str
-    tail: int
-    head: int
-    lower: int
-    weight: int
-
-
-class Network:
-    """Events and activities in ascending order of ids, and the pairs of events that headways join both ways, by place."""
-
-    def __init__(self, events, activities):
-        self.events = sorted(events)
-        self.activities = sorted(activities)
-        self.event_place = {event.id: place for place, event in enumerate(self.events)}
-        self.activity_place = {activity.id: place for place, activity in enumerate(self.activities)}
-        self.tails = [self.event_place[activity.tail] for activity in self.activities]
-        self.heads = [self.event_place[activity.head] for activity in self.activities]
-        self.out_of = [[] for _ in self.events]
-        self.headways = {}
-        for place, activity in enumerate(self.activities):
-            self.out_of[self.tails[place]].append(place)
-            if activity.kind == 'headway':
-                self.headways.setdefault((self.tails[place], self.heads[place]), []).append(place)
-        self.pairs = sorted(ends for ends in self.headways if ends[0] < ends[1] and ends[::-1] in self.headways)
-        self.pair_place = {pair: place for place, pair in enumerate(self.pairs)}
-
-    def pair_of(self, first, second):
-        """The place of the pair of two events, by place, or None."""
-        return self.pair_place.get((min(first, second), max(first, second)))
-
-    def pair_of_activity(self, place):
-        """The place of the pair that a headway belongs to, or None."""
-        if self.activities[place].kind != 'headway':
-            return None
-        return self.pair_of(self.tails[place], self.heads[place])
-
-    def pair_choice(self, pair):
-        """The choice of a pair."""
-        return ('pair', *(self.events[place].id for place in self.pairs[pair]))
-
-    def choice_of_activity(self, place):
-        """The choice that an activity hangs on, or None."""
-        if self.activities[place].kind == 'change':
-            return ('change', self.activities[place].id)
-        pair = self.pair_of_activity(place)
-        return None if pair is None else self.pair_choice(pair)
+# The decisions that lead from the root of a tree to a node.
+Path = tuple[Decision, ...]
 
 
 class Rows:
     """What a day has told so far: delays, passed times, kept changes and the first event of each pair, by place, and the clock."""
 
-    def __init__(self, network, event_delays=(), activity_delays=()):
+    def __init__(self, network: Network, event_delays: Iterable[tuple[int, int]] = (),
+                 activity_delays: Iterable[tuple[int, int]] = ()) -> None:
         self.event_delays = [0] * len(network.events)
         self.activity_delays = [0] * len(network.activities)
-        self.passed = [None] * len(network.events)
+        self.passed: list[Optional[int]] = [None] * len(network.events)
         self.kept = [True] * len(network.activities)
         self.first = [min(pair, key=lambda place: (network.events[place].time, place)) for pair in network.pairs]
         self.clock = 0
@@ -96,7 +54,7 @@ class Rows:
         for activity, delay in activity_delays:
             self.activity_delays[network.activity_place[activity]] = delay
 
-    def copy(self):
+    def copy(self) -> Rows:
         other = object.__new__(Rows)
         other.event_delays = self.event_delays[:]
         other.activity_delays = self.activity_delays[:]
@@ -106,148 +64,18 @@ class Rows:
         other.clock = self.clock
         return other
 
-    def decide(self, network, decision):
+    def decide(self, network: Network, decision: Decision) -> None:
         if decision[0] == 'first':
             first, second = (network.event_place[event] for event in decision[1:])
-            self.first[network.pair_of(first, second)] = first
+            self.first[network.pair_at(first, second)] = first
         else:
             self.kept[network.activity_place[decision[1]]] = decision[0] == 'keep'
-
-
-# ---- Files
-
-
-def in_one_line(text, most=300):
-    """Text of a file as it is told to people: what cannot be printed as its number, and of a long one its ends."""
-    if len(text) > most:
-        text = f'{text[:most - 100]} .. {text[-90:]}'
-    return ''.join(one if one.isprintable() else one.encode('unicode_escape').decode() for one in text)
-
-
-class BadFile(Exception):
-    """A file is not what it should be: its name, the number of the line, from 1, or None, and what is wrong there."""
-
-    def __init__(self, name, line, what):
-        super().__init__(name, line, what)
-        self.name, self.line, self.what = name, line, what
-
-    def __str__(self):
-        where = self.name if self.line is None else f'{self.name}, line {self.line}'
-        return f'{in_one_line(where)}: {in_one_line(self.what)}'
-
-
-def text_of(name):
-    """The text of a file, a character a byte; BadFile where it cannot be read."""
-    try:
-        with open(name, encoding='latin-1', newline='') as file:
-            return file.read()
-    except OSError as error:
-        raise BadFile(name, None, error.strerror or 'cannot be read') from error
-
-
-def taken(field):
-    """A field without the spaces and tabs around it, and then without one pair of quotes."""
-    field = field.strip(' \t')
-    if len(field) >= 2 and field[0] == field[-1] == '"':
-        return field[1:-1]
-    return field
-
-
-def records(folder, name):
-    """The number of the line and the fields of each record of a file."""
-    lines = re.split('\r\n|\r|\n', text_of(os.path.join(folder, name)))
-    for number, line in enumerate(lines, 1):
-        fields = [taken(field) for field in line.split(';')]
-        if not fields[0].startswith('#') and fields != ['']:
-            yield number, fields
-
-
-def rows_of_file(folder, name, row):
-    """What `row` makes of the fields of each record, with the number of its line; BadFile where it makes nothing."""
-    for number, fields in records(folder, name):
-        try:
-            yield number, row(*fields)
-        except (TypeError, ValueError) as error:
-            raise BadFile(os.path.join(folder, name), number, 'this is no record of the file') from error
-
-
-def thousandths(text):
-    """A decimal number in thousandths; further digits are dropped."""
-    if not re.fullmatch(r'[0-9]+(\.[0-9]*)?', text):
-        raise ValueError(text)
-    passengers, _, decimals = text.partition('.')
-    return int(passengers) * 1000 + int((decimals + '000')[:3])
-
-
-def whole(text):
-    """The number that decimal digits spell."""
-    if not re.fullmatch('[0-9]+', text):
-        raise ValueError(text)
-    return int(text)
-
-
-def one_of(kinds, text):
-    """A type word in small letters."""
-    if text.lower() not in kinds:
-        raise ValueError(text)
-    return text.lower()
-
-
-def event_row(number, _, kind, time, weight, stop):
-    return Event(whole(number), one_of(('departure', 'arrival'), kind), whole(time), thousandths(weight), whole(stop))
-
-
-def activity_row(number, _, kind, tail, head, lower, __, weight):
-    return Activity(whole(number), one_of(KINDS, kind), whole(tail), whole(head), whole(lower), thousandths(weight))
-
-
-def read_network(folder):
-    """The network of a folder's files in the standard order of columns; BadFile where they are none."""
-    events = [event for _, event in rows_of_file(folder, 'Events-expanded.giv', event_row)]
-    known = {event.id for event in events}
-    activities = []
-    for line, activity in rows_of_file(folder, 'Activities-expanded.giv', activity_row):
-        for end in (activity.tail, activity.head):
-            if end not in known:
-                raise BadFile(os.path.join(folder, 'Activities-expanded.giv'), line, f'there is no event {end}')
-        activities.append(activity)
-    return Network(events, activities)
-
-
-def read_delays(folder, name):
-    """The ids and delays of a delay file, of which the last one of an id holds; none where there is no name."""
-    rows = rows_of_file(folder, name, lambda number, delay: (whole(number), whole(delay))) if name else []
-    return [row for _, row in rows]
-
-
-def decimal(weight):
-    """A weight in print, as passengers."""
-    passengers, rest = divmod(weight, 1000)
-    return f'{passengers}.{rest:03}' if rest else str(passengers)
-
-
-def network_files(events, activities, periodic_events=None, periodic_activities=None):
-    """The texts of a network's files by name, in the standard order of columns; periodic ids by id, or 0."""
-    periodic_events, periodic_activities = periodic_events or {}, periodic_activities or {}
-    event_lines = [
-        f'{event.id}; {periodic_events.get(event.id, 0)}; "{event.kind}"; {event.time}; {decimal(event.weight)}; {event.stop}\n'
-        for event in events
-    ]
-    activity_lines = [
-        f'{number}; {periodic_activities.get(number, 0)}; "{kind}"; {tail}; {head}; {lower}; 0; {decimal(weight)}\n'
-        for number, kind, tail, head, lower, weight in activities
-    ]
-    return {
-        'Events-expanded.giv': '# event-id; periodic-id; type; time; passengers; stop-id\n' + ''.join(event_lines),
-        'Activities-expanded.giv': '# activity-id; periodic-id; type; tail; head; lower; upper; passengers\n'
-        + ''.join(activity_lines),
-    }
 
 
 # ---- Times and costs
 
 
-def is_active(network, rows, place):
+def is_active(network: Network, rows: Rows, place: int) -> bool:
     tail, head = network.tails[place], network.heads[place]
     if rows.passed[head] is not None:
         return False
@@ -257,23 +85,24 @@ def is_active(network, rows, place):
     return rows.kept[place]
 
 
-def active_activities(network, rows):
+def active_activities(network: Network, rows: Rows) -> list[bool]:
     """Whether each activity is active."""
     return [is_active(network, rows, place) for place in range(len(network.activities))]
 
 
-def floor_of(network, rows, place):
+def floor_of(network: Network, rows: Rows, place: int) -> int:
     """The passed time of an event, or else the earliest one that its schedule, its delay and the clock allow."""
-    if rows.passed[place] is not None:
-        return rows.passed[place]
+    passed = rows.passed[place]
+    if passed is not None:
+        return passed
     return max(network.events[place].time + rows.event_delays[place], rows.clock)
 
 
-def span_of(network, rows, place):
+def span_of(network: Network, rows: Rows, place: int) -> int:
     return network.activities[place].lower + rows.activity_delays[place]
 
 
-def least_times(network, rows, held):
+def least_times(network: Network, rows: Rows, held: Sequence[bool]) -> Optional[list[int]]:
     """The least timetable that holds these activities, or None where they have a cycle."""
     waits_for = [0] * len(network.events)
     for place, head in enumerate(network.heads):
@@ -291,17 +120,24 @@ def least_times(network, rows, held):
     return times if len(settled) == len(times) else None
 
 
-def times_of(network, rows):
+def times_of(network: Network, rows: Rows) -> Optional[list[int]]:
     """The least timetable of rows, or None where they have a cycle."""
     return least_times(network, rows, active_activities(network, rows))
 
 
-def is_met(network, rows, times, place):
+def sound_times(network: Network, rows: Rows) -> list[int]:
+    """The least timetable of rows that have no cycle."""
+    times = times_of(network, rows)
+    assert times is not None, 'these rows have a cycle'
+    return times
+
+
+def is_met(network: Network, rows: Rows, times: Sequence[int], place: int) -> bool:
     """Whether the head of an activity is late enough after its tail."""
     return times[network.heads[place]] >= times[network.tails[place]] + span_of(network, rows, place)
 
 
-def cost_charging(network, rows, times, penalty, charged):
+def cost_charging(network: Network, rows: Rows, times: Sequence[int], penalty: int, charged: Sequence[bool]) -> int:
     """What lateness at arrivals costs, and the penalty for charged changes and for those whose passed head comes too early."""
     cost = 0
     for event, time in zip(network.events, times):
@@ -315,7 +151,7 @@ def cost_charging(network, rows, times, penalty, charged):
     return cost
 
 
-def cost_of(network, rows, times, penalty):
+def cost_of(network: Network, rows: Rows, times: Sequence[int], penalty: int) -> int:
     """What rows cost at these times: each dropped change is charged for."""
     return cost_charging(network, rows, times, penalty, [not kept for kept in rows.kept])
 
@@ -323,7 +159,7 @@ def cost_of(network, rows, times, penalty):
 # ---- Refusals
 
 
-def passed_refusal(network, rows, places):
+def passed_refusal(network: Network, rows: Rows, places: Iterable[int]) -> Optional[Refusal]:
     """The refusal of the first of these events that has passed, or None."""
     for place in places:
         if rows.passed[place] is not None:
@@ -331,7 +167,7 @@ def passed_refusal(network, rows, places):
     return None
 
 
-def decision_refusal(network, rows, decision):
+def decision_refusal(network: Network, rows: Rows, decision: Decision) -> Optional[Refusal]:
     """The first refusal of a decision, or None."""
     kind, *ids = decision
     if kind != 'first':
@@ -350,7 +186,7 @@ def decision_refusal(network, rows, decision):
     return passed_refusal(network, rows, places)
 
 
-def event_refusal(network, rows, message):
+def event_refusal(network: Network, rows: Rows, message: Message) -> Optional[Refusal]:
     """The first refusal of a delay of an event, of a pass or of a recall, or None."""
     kind, event = message[:2]
     if kind != 'recall' and message[2] > (LARGEST_PASSED if kind == 'pass' else LARGEST_DELAY):
@@ -363,7 +199,7 @@ def event_refusal(network, rows, message):
     return ('not-passed', event) if rows.passed[place] is None else None
 
 
-def activity_refusal(network, rows, message):
+def activity_refusal(network: Network, rows: Rows, message: Message) -> Optional[Refusal]:
     """The first refusal of a delay of an activity, or None."""
     _, activity, delay = message
     if delay > LARGEST_DELAY:
@@ -373,14 +209,14 @@ def activity_refusal(network, rows, message):
     return passed_refusal(network, rows, [network.heads[network.activity_place[activity]]])
 
 
-def clock_refusal(rows, message):
+def clock_refusal(rows: Rows, message: Message) -> Optional[Refusal]:
     """The first refusal of a clock, or None."""
     if message[1] > LARGEST_PASSED:
         return ('range', message[1])
     return ('back', rows.clock) if message[1] < rows.clock else None
 
 
-def refusal_at_once(network, rows, message):
+def refusal_at_once(network: Network, rows: Rows, message: Message) -> Optional[Refusal]:
     """The first refusal by numbers, ids, passed events and the clock, or None."""
     kind = message[0]
     if kind == 'adopt':
@@ -395,7 +231,7 @@ def refusal_at_once(network, rows, message):
     return event_refusal(network, rows, message)
 
 
-def apply(network, rows, message):
+def apply(network: Network, rows: Rows, message: Message) -> None:
     """Makes in rows the change of a message that nothing refuses at once."""
     kind = message[0]
     if kind == 'delay event':
@@ -413,14 +249,14 @@ def apply(network, rows, message):
             rows.decide(network, decision)
 
 
-def rows_after(network, rows, message):
+def rows_after(network: Network, rows: Rows, message: Message) -> Rows:
     """The rows after a message that nothing refuses at once."""
     after = rows.copy()
     apply(network, after, message)
     return after
 
 
-def admit(network, rows, count, message):
+def admit(network: Network, rows: Rows, count: int, message: Message) -> tuple[Optional[Refusal], Optional[Rows]]:
     """The first refusal of a message at so many entries, or None, and the rows after it, where nothing refuses it at once.
 
     The refusal of a cycle names none: ('cycle',). Which lists are cycles of the rows after it, `is_cycle` tells.
@@ -434,7 +270,7 @@ def admit(network, rows, count, message):
     return ('full',) if count == MOST_ENTRIES else None, after
 
 
-def is_cycle(network, rows, activities):
+def is_cycle(network: Network, rows: Rows, activities: Sequence[int]) -> bool:
     """Whether these activities, by id, are active and each leads to the next one, the last to the first."""
     if not activities or any(activity not in network.activity_place for activity in activities):
         return False
@@ -450,19 +286,19 @@ def is_cycle(network, rows, activities):
 class Plan(NamedTuple):
     """A plan of the rows at an entry; its nodes stand in preorder, or are None where its leaves are no whole tree."""
     entry: int
-    choices: tuple
+    choices: tuple[Decision, ...]
     cost: int
     bound: int
     mark: str
-    nodes: list
+    nodes: Optional[list[Node]]
 
 
 class Relaxed(NamedTuple):
     cost: int
-    violated: set
+    violated: set[Choice]
 
 
-def free_choices(network, rows):
+def free_choices(network: Network, rows: Rows) -> list[Choice]:
     """The changes whose heads have not passed, and then the pairs of which neither event has."""
     changes = [
         ('change', activity.id) for place, activity in enumerate(network.activities)
@@ -475,21 +311,21 @@ def free_choices(network, rows):
     return changes + pairs
 
 
-def choice_of(decision):
+def choice_of(decision: Decision) -> Choice:
     """The choice that a decision decides."""
     if decision[0] == 'first':
         return ('pair', min(decision[1:]), max(decision[1:]))
     return ('change', decision[1])
 
 
-def ways_of(choice):
+def ways_of(choice: Choice) -> tuple[Decision, Decision]:
     """The two decisions of a choice, in the order of the trees below it."""
     if choice[0] == 'change':
         return ('keep', choice[1]), ('drop', choice[1])
     return ('first', choice[1], choice[2]), ('first', choice[2], choice[1])
 
 
-def with_decisions(network, rows, decisions):
+def with_decisions(network: Network, rows: Rows, decisions: Iterable[Decision]) -> Rows:
     decided = rows.copy()
     for decision in decisions:
         decided.decide(network, decision)
@@ -500,25 +336,25 @@ class Problem:
     """What a plan is of: rows with what they cost at a penalty, and the free choices that it may make, which are all of them where none
     are given; the others stay as the rows have them."""
 
-    def __init__(self, network, rows, penalty, allowed=None):
+    def __init__(self, network: Network, rows: Rows, penalty: int, allowed: Optional[list[Choice]] = None) -> None:
         self.network = network
         self.rows = rows
         self.penalty = penalty
         self.free = free_choices(network, rows) if allowed is None else allowed
-        self.cost = cost_of(network, rows, times_of(network, rows), penalty)
+        self.cost = cost_of(network, rows, sound_times(network, rows), penalty)
 
-    def is_violated(self, rows, times, choice):
+    def is_violated(self, rows: Rows, times: Sequence[int], choice: Choice) -> bool:
         """Whether times do not keep a choice: a change is not met, or in neither direction of a pair all headways are."""
         network = self.network
         if choice[0] == 'change':
             return not is_met(network, rows, times, network.activity_place[choice[1]])
-        ends = tuple(network.event_place[event] for event in choice[1:])
+        one, other = (network.event_place[event] for event in choice[1:])
         return not any(
             all(is_met(network, rows, times, place) for place in network.headways[direction])
-            for direction in (ends, ends[::-1])
+            for direction in ((one, other), (other, one))
         )
 
-    def relaxed(self, path):
+    def relaxed(self, path: Path) -> Optional[Relaxed]:
         """The relaxed problem of a path, in which what it leaves undecided binds and costs nothing; None where it has a cycle."""
         network = self.network
         undecided = set(self.free) - {choice_of(decision) for decision in path}
@@ -534,16 +370,17 @@ class Problem:
         cost = cost_charging(network, rows, times, self.penalty, charged)
         return Relaxed(cost, {choice for choice in undecided if self.is_violated(rows, times, choice)})
 
-    def differs(self, decision):
+    def differs(self, decision: Decision) -> bool:
         """Whether a decision of a free choice is not what the rows have."""
         network, rows = self.network, self.rows
         if decision[0] != 'first':
-            return rows.kept[network.activity_place[decision[1]]] != (decision[0] == 'keep')
+            keeps: bool = decision[0] == 'keep'
+            return rows.kept[network.activity_place[decision[1]]] != keeps
         first, second = (network.event_place[event] for event in decision[1:])
-        return rows.first[network.pair_of(first, second)] != first
+        return rows.first[network.pair_at(first, second)] != first
 
 
-def are_true_choices(problem, plan):
+def are_true_choices(problem: Problem, plan: Plan) -> bool:
     """Whether the choices are free, stand in order, differ from the rows, have no cycle and cost what the plan says."""
     order = {choice: place for place, choice in enumerate(problem.free)}
     last = -1
@@ -558,7 +395,7 @@ def are_true_choices(problem, plan):
     return times is not None and cost_of(network, rows, times, problem.penalty) == plan.cost
 
 
-def is_true_node(problem, plan, path, node):
+def is_true_node(problem: Problem, plan: Plan, path: Path, node: Node) -> bool:
     """Whether a node says the truth of the relaxed problem of its path."""
     kind, *said = node
     relaxed = problem.relaxed(path)
@@ -568,12 +405,15 @@ def is_true_node(problem, plan, path, node):
         return said[0] in relaxed.violated and relaxed.cost < problem.cost
     if relaxed.cost != said[0]:
         return False
-    return said[0] >= plan.cost if kind == 'bound' else said[0] < plan.cost and bool(relaxed.violated)
+    bound: int = said[0]
+    return bound >= plan.cost if kind == 'bound' else bound < plan.cost and bool(relaxed.violated)
 
 
-def is_true_tree(problem, plan):
+def is_true_tree(problem: Problem, plan: Plan) -> bool:
     """Whether the nodes are one whole tree, each of whose nodes says the truth."""
-    paths = [()]
+    if plan.nodes is None:
+        return False
+    paths: list[Path] = [()]
     for node in plan.nodes:
         if not paths or not is_true_node(problem, plan, paths[-1], node):
             return False
@@ -584,7 +424,7 @@ def is_true_tree(problem, plan):
     return not paths
 
 
-def is_true_plan(network, rows, penalty, budget, plan, allowed=None):
+def is_true_plan(network: Network, rows: Rows, penalty: int, budget: int, plan: Plan, allowed: Optional[list[Choice]] = None) -> bool:
     """Whether a plan is true of rows at a penalty, for a budget of nodes, with these choices alone where some are given."""
     problem = Problem(network, rows, penalty, allowed)
     if plan.nodes is None or len(plan.nodes) > budget:

@@ -21,20 +21,20 @@ for a delay above 1,000,000 seconds, is skipped; the first few are told on stand
 """
 from __future__ import annotations
 
-import argparse
 import os
 import re
 import sys
 from collections import defaultdict
 from dataclasses import dataclass
-from typing import BinaryIO, Callable, Iterable, Iterator, Optional
+from io import BufferedIOBase
+from typing import Callable, Iterable, Iterator, Optional
 
-from board import NUMBER, Skipped, times_of, whole_lines
-from files import speak_utf8
-from railway import LARGEST_DELAY, BadFile, text_of
+from board import NUMBER, Skipped, standard_input, times_of, whole_lines
+from files import BadFile, speak_utf8, text_of
+from railway import LARGEST_DELAY
 from runtext import heard as heard_in_feed
 from split import MOST_REGIONS, Cut
-from words import whole_between
+from words import command_line, whole_between
 
 
 def read_boundary(name: str) -> list[Cut]:
@@ -94,8 +94,8 @@ class Heard:
 
 def heard_in(line: Optional[bytes], has_topic: bool) -> Optional[Heard]:
     """What is heard in a line, or None where it is of another form."""
-    found = TOPIC.match(line or b'') if has_topic else None
-    times = times_of(line[found.end():] if found else line)
+    found = TOPIC.match(line) if line is not None and has_topic else None
+    times = times_of(line[found.end():] if line is not None and found else line)
     return None if times is None or has_topic and not found else Heard(times, int(found[1]) if found else None)
 
 
@@ -109,7 +109,7 @@ def believed(told: Relay, heard: Heard, number: int, skipped: Skipped) -> Iterat
             skipped.skip(number, f'region {heard.region} tells a time of event {event}, which is not its own')
 
 
-def relay(told: Relay, file: BinaryIO, has_topics: bool, write: Callable[[str], None], skipped: Skipped) -> None:
+def relay(told: Relay, file: BufferedIOBase, has_topics: bool, write: Callable[[str], None], skipped: Skipped) -> None:
     """Writes what each line asks for."""
     number = 0
     for lines in whole_lines(file):
@@ -152,7 +152,7 @@ class FeedFile:
 
 
 def main() -> None:
-    words = argparse.ArgumentParser(description=__doc__, formatter_class=argparse.RawDescriptionHelpFormatter)
+    words = command_line(__doc__)
     words.add_argument('boundaries', metavar='BOUNDARY', nargs='+', help='a Boundary.csv of a neighbour')
     words.add_argument('--region', type=whole_between(1, MOST_REGIONS), required=True, metavar='N', help='the region that is told')
     words.add_argument('--topics', action='store_true', help='each line begins with its topic, board/M/S')
@@ -164,7 +164,7 @@ def main() -> None:
         cuts = [cut for name in given.boundaries for cut in read_boundary(name) if cut.region == given.region]
         feed = FeedFile(given.feed) if given.feed else None
         told = Relay(cuts, feed.told() if feed else ())
-        relay(told, sys.stdin.buffer, given.topics, feed.write if feed else lambda line: print(line, end='', flush=True), skipped)
+        relay(told, standard_input(), given.topics, feed.write if feed else lambda line: print(line, end='', flush=True), skipped)
     except BadFile as fault:
         print(f'relay.py: {fault}', file=sys.stderr)
         sys.exit(2)

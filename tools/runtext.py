@@ -3,10 +3,12 @@
 docs/FORMATS.md says how a text is written. What is read here is the form alone; whether it is true is for bench/judge.py, which
 reads by the same functions. Messages, decisions, refusals and nodes are tuples of a kind and what it names, as in railway.py.
 """
-import re
-from typing import NamedTuple, Optional
+from __future__ import annotations
 
-from railway import MOST_ENTRIES, Plan, choice_of, ways_of
+import re
+from typing import Any, Iterable, Mapping, NamedTuple, Optional, Sequence, TypeVar
+
+from railway import MOST_ENTRIES, Decision, Message, Node, Path, Plan, Refusal, choice_of, ways_of
 
 # The largest ids (and lines and entries), values of feed lines, and other numbers in print.
 ID = 2 ** 32 - 1
@@ -19,19 +21,31 @@ MOST_BOARDS = 64
 STANDARD_PLANS = 16
 MOST_NODES = {1: 4096, 2: 16384}
 
+# What a line of a feed says: a kind and its numbers.
+Said = tuple[Any, ...]
+
+# What a blank line or a comment says.
+NOTHING: Said = ('nothing',)
+
+# Kinds of lines or records, and the largest numbers behind their words; a word, or the largest number that may stand in its place.
+Forms = Mapping[str, Sequence[int]]
+Pattern = str | int
+
+Value = TypeVar('Value')
+
 # What stands behind the words of each kind.
-DECISIONS = {'keep': [ID], 'drop': [ID], 'first': [ID, ID]}
-MESSAGES = {
+DECISIONS: Forms = {'keep': [ID], 'drop': [ID], 'first': [ID, ID]}
+MESSAGES: Forms = {
     'delay event': [ID, VALUE], 'delay activity': [ID, VALUE], 'pass': [ID, VALUE], 'recall': [ID], 'now': [VALUE], **DECISIONS,
 }
-LINES = {**MESSAGES, 'time': [ID], 'cost': [], 'read': [], 'plan': [VALUE], 'adopt': []}
-REASONS = {
+LINES: Forms = {**MESSAGES, 'time': [ID], 'cost': [], 'read': [], 'plan': [VALUE], 'adopt': []}
+REASONS: Forms = {
     'range': [NUMBER], 'unknown-event': [ID], 'unknown-activity': [ID], 'unknown-change': [ID], 'unknown-pair': [ID, ID],
     'passed': [ID, NUMBER], 'not-passed': [ID], 'back': [NUMBER], 'full': [],
 }
-ANSWERS = {'ok': [], 'read': [], 'old': [], 'time': [NUMBER], 'cost': [NUMBER]}
-ANSWERS_WITHOUT_ENTRY = {'noplan': [], 'plans': [], 'range': [NUMBER]}
-NODES = {'cycle': [], 'bound': [NUMBER], 'open': [NUMBER], 'inner change': [ID], 'inner pair': [ID, ID]}
+ANSWERS: Forms = {'ok': [], 'read': [], 'old': [], 'time': [NUMBER], 'cost': [NUMBER]}
+ANSWERS_WITHOUT_ENTRY: Forms = {'noplan': [], 'plans': [], 'range': [NUMBER]}
+NODES: Forms = {'cycle': [], 'bound': [NUMBER], 'open': [NUMBER], 'inner change': [ID], 'inner pair': [ID, ID]}
 
 
 class Bad(Exception):
@@ -42,13 +56,13 @@ class Answer(NamedTuple):
     """An answer, the entry at which it was given, where it tells one, and what else it says: a number, a refusal or a plan."""
     kind: str
     entry: Optional[int] = None
-    value: object = None
+    value: Any = None
 
 
 class Item(NamedTuple):
     """A log item: what the line said and its answer, or neither where the line is malformed."""
     line: int
-    said: Optional[tuple]
+    said: Optional[Said]
     answer: Optional[Answer]
 
 
@@ -64,29 +78,30 @@ class PlanHead(NamedTuple):
 # ---- Words and lines
 
 
-def number_of(word, largest):
+def number_of(word: str, largest: int) -> Optional[int]:
     """The number that a word spells, without zeros in front and not above the largest, or None."""
     if not re.fullmatch('0|[1-9][0-9]{0,38}', word) or int(word) > largest:
         return None
     return int(word)
 
 
-def fits(words, pattern):
+def fits(words: Sequence[str], pattern: Sequence[Pattern]) -> Optional[tuple[int, ...]]:
     """The numbers in words that fit a pattern of words and of largest numbers, or None where they do not."""
     if len(words) != len(pattern):
         return None
     numbers = []
     for word, part in zip(words, pattern):
         if isinstance(part, int):
-            numbers.append(number_of(word, part))
-            if numbers[-1] is None:
+            number = number_of(word, part)
+            if number is None:
                 return None
+            numbers.append(number)
         elif word != part:
             return None
     return tuple(numbers)
 
 
-def read_form(forms, words):
+def read_form(forms: Forms, words: Sequence[str]) -> Optional[tuple[Any, ...]]:
     """The kind of the words with its numbers, or None where they are of none of these forms."""
     for kind, largest in forms.items():
         numbers = fits(words, [*kind.split(), *largest])
@@ -95,7 +110,7 @@ def read_form(forms, words):
     return None
 
 
-def read_decisions(words):
+def read_decisions(words: Sequence[str]) -> Optional[tuple[Decision, ...]]:
     """The decisions that stand in words one after the other, or None."""
     decisions = []
     place = 0
@@ -109,7 +124,7 @@ def read_decisions(words):
     return tuple(decisions)
 
 
-def read_message(words):
+def read_message(words: Sequence[str]) -> Optional[Message]:
     """The message that words spell, or None."""
     if words[:1] != ['adopt']:
         return read_form(MESSAGES, words)
@@ -117,7 +132,7 @@ def read_message(words):
     return None if decisions is None else ('adopt', decisions)
 
 
-def read_reason(words):
+def read_reason(words: Sequence[str]) -> Optional[Refusal]:
     """The refusal that words spell, or None; that of a cycle is ('cycle', ids)."""
     if words[:1] != ['cycle']:
         return read_form(REASONS, words)
@@ -125,7 +140,7 @@ def read_reason(words):
     return ('cycle', ids) if ids else None
 
 
-def read_plan_head(words, version):
+def read_plan_head(words: Sequence[str], version: int) -> Optional[PlanHead]:
     """What the words of a plan's first line tell, or None."""
     for mark in ('optimal', 'open'):
         numbers = fits(words, [
@@ -136,7 +151,7 @@ def read_plan_head(words, version):
     return None
 
 
-def read_answer(words, version):
+def read_answer(words: Sequence[str], version: int) -> Optional[Answer]:
     """The answer that words spell, or None; of a plan its first line alone."""
     form = read_form(ANSWERS_WITHOUT_ENTRY, words)
     if form is not None:
@@ -154,7 +169,7 @@ def read_answer(words, version):
     return None if form is None else Answer(form[0], entry, *form[1:])
 
 
-def read_item(words, version):
+def read_item(words: Sequence[str], version: int) -> Optional[Item]:
     """The log item that words spell, or None; of a plan its first line alone."""
     line = number_of(words[0], ID)
     if line is None:
@@ -168,31 +183,31 @@ def read_item(words, version):
     return None if said is None or answer is None else Item(line, said, answer)
 
 
-def heard(line):
-    """What is heard in a line of a feed, None where it is malformed, or 'nothing' where it is blank or a comment."""
+def heard(line: str) -> Optional[Said]:
+    """What is heard in a line of a feed, None where it is malformed, or NOTHING where it is blank or a comment."""
     if len(line) > LONGEST_LINE:
         return None
     words = [word for word in line.split(' ') if word]
     if not words or words[0].startswith('#'):
-        return 'nothing'
+        return NOTHING
     return read_form(LINES, [re.sub('^0+(?=[0-9])', '', word) if word.isdecimal() else word for word in words])
 
 
-def due_items(feed):
+def due_items(feed: str) -> list[tuple[int, Optional[Said]]]:
     """The due lines of a feed, each with its number and what is heard in it."""
     *lines, rest = feed.split('\n')
     lines = [line.removesuffix('\r') for line in lines] + ([rest] if rest else [])
-    return [(number, heard(line)) for number, line in enumerate(lines, 1) if heard(line) != 'nothing']
+    return [(number, said) for number, line in enumerate(lines, 1) if (said := heard(line)) != NOTHING]
 
 
 class Text:
     """The lines of a text, read one after the other."""
 
-    def __init__(self, text):
+    def __init__(self, text: bytes) -> None:
         *self.lines, self.rest = text.split(b'\n')
         self.number = 0
 
-    def words(self):
+    def words(self) -> list[str]:
         """The words of the next line, with one space between; Bad where the line is cut or is no such words."""
         self.number += 1
         if self.number > len(self.lines):
@@ -201,18 +216,22 @@ class Text:
         self.demand(all(re.fullmatch(b'[!-~]+', word) for word in words), 'form')
         return [word.decode() for word in words]
 
-    def read(self, *pattern):
+    def read(self, *pattern: Pattern) -> tuple[int, ...]:
         """The numbers in the next line, which has to fit the pattern."""
-        numbers = fits(self.words(), pattern)
-        self.demand(numbers is not None, 'form')
-        return numbers
+        return self.sure(fits(self.words(), pattern))
 
-    def demand(self, holds, kind):
+    def sure(self, value: Optional[Value], kind: str = 'form') -> Value:
+        """A value that has been read, or Bad of this kind where there is none."""
+        if value is None:
+            raise Bad(self.number, kind)
+        return value
+
+    def demand(self, holds: bool, kind: str) -> None:
         """Bad of this kind at the line read last unless this holds."""
         if not holds:
             raise Bad(self.number, kind)
 
-    def has_more(self):
+    def has_more(self) -> bool:
         """Whether anything stands behind the line read last."""
         return self.number < len(self.lines) or self.rest != b''
 
@@ -220,7 +239,7 @@ class Text:
 # ---- Plans in print
 
 
-def read_node(words):
+def read_node(words: Sequence[str]) -> Optional[Node]:
     """The node of a line in version 2, or None."""
     form = read_form(NODES, words)
     if form is None or not form[0].startswith('inner'):
@@ -230,7 +249,7 @@ def read_node(words):
     return ('inner', (form[0].split()[1], *form[1:]))
 
 
-def read_leaf(words):
+def read_leaf(words: Sequence[str]) -> Optional[tuple[Node, Path]]:
     """The leaf of a line in version 1, which is a node with its path, or None."""
     size = 2 if words[:2] == ['leaf', 'cycle'] else 3
     node = read_form({'leaf cycle': [], 'leaf bound': [NUMBER], 'leaf open': [NUMBER]}, words[:size])
@@ -238,9 +257,10 @@ def read_leaf(words):
     return None if node is None or path is None else ((node[0].split()[1], *node[1:]), path)
 
 
-def nodes_of(leaves):
+def nodes_of(leaves: Iterable[tuple[Node, Path]]) -> Optional[list[Node]]:
     """The nodes in preorder of the least tree that has these leaves in order, or None where there is none."""
-    nodes, paths = [], [()]
+    nodes: list[Node] = []
+    paths: list[Path] = [()]
     for leaf, path in leaves:
         if not paths:
             return None
@@ -258,20 +278,21 @@ def nodes_of(leaves):
     return None if paths else nodes
 
 
-def read_plan(text, version, answer):
+def read_plan(text: Text, version: int, answer: Answer) -> Plan:
     """The plan whose first line was read last, from its other lines."""
     head = answer.value
-    choices, nodes = [], []
+    choices: list[Decision] = []
     for _ in range(head.choices):
         words = text.words()
-        decision = read_form(DECISIONS, words[1:])
-        text.demand(words[0] == 'choice' and decision is not None, 'form')
-        choices.append(decision)
-    for _ in range(head.nodes):
-        node = read_leaf(text.words()) if version == 1 else read_node(text.words())
-        text.demand(node is not None, 'form')
-        nodes.append(node)
-    return Plan(answer.entry, tuple(choices), head.cost, head.bound, head.mark, nodes_of(nodes) if version == 1 else nodes)
+        text.demand(words[0] == 'choice', 'form')
+        choices.append(text.sure(read_form(DECISIONS, words[1:])))
+    nodes: Optional[list[Node]]
+    if version == 1:
+        nodes = nodes_of([text.sure(read_leaf(text.words())) for _ in range(head.nodes)])
+    else:
+        nodes = [text.sure(read_node(text.words())) for _ in range(head.nodes)]
+    return Plan(text.sure(answer.entry), tuple(choices), head.cost, head.bound, head.mark, nodes)
+
 
 # ---- Whole texts
 
@@ -280,12 +301,12 @@ class Entry(NamedTuple):
     """An entry of the journal: the feed and the line that it came from, and its message."""
     feed: int
     line: int
-    message: tuple
+    message: Message
 
 
 class FeedLog(NamedTuple):
     """The items of a feed, and how it ended: `end`, `fault` or `long`."""
-    items: list
+    items: list[Item]
     stop: str
 
 
@@ -300,14 +321,14 @@ class Run(NamedTuple):
     """What a whole text tells. The times are by id of the event; the cost is that after all entries."""
     version: int
     penalty: int
-    journal: list
-    logs: list
-    notes: list
-    times: dict
+    journal: list[Entry]
+    logs: list[FeedLog]
+    notes: list[BoardNote]
+    times: dict[int, int]
     cost: int
 
 
-def read_journal(text):
+def read_journal(text: Text) -> tuple[int, int, int, list[Entry]]:
     """The version, the penalty, the number of feeds and the entries at the front of a text."""
     version, = text.read('dm-run', 2)
     text.demand(version > 0, 'form')
@@ -318,15 +339,13 @@ def read_journal(text):
     return version, penalty, feeds, [read_entry(text) for _ in range(entries)]
 
 
-def read_entry(text):
+def read_entry(text: Text) -> Entry:
     words = text.words()
-    numbers = fits(words[:6], ['entry', ID, 'feed', NUMBER, 'line', ID])
-    message = read_message(words[6:])
-    text.demand(numbers is not None and message is not None, 'form')
-    return Entry(numbers[1], numbers[2], message)
+    _, feed, line = text.sure(fits(words[:6], ['entry', ID, 'feed', NUMBER, 'line', ID]))
+    return Entry(feed, line, text.sure(read_message(words[6:])))
 
 
-def read_log(text, version, feed):
+def read_log(text: Text, version: int, feed: int) -> FeedLog:
     """The log of a feed."""
     number, count = text.read('feed', NUMBER, NUMBER)
     text.demand(number == feed, 'form')
@@ -336,10 +355,9 @@ def read_log(text, version, feed):
     return FeedLog(items, words[0])
 
 
-def read_whole_item(text, version):
+def read_whole_item(text: Text, version: int) -> Item:
     """A log item, with the plan's other lines where it tells one."""
-    item = read_item(text.words(), version)
-    text.demand(item is not None, 'form')
+    item = text.sure(read_item(text.words(), version))
     if item.answer is None or item.answer.kind != 'plan':
         return item
     return item._replace(answer=item.answer._replace(value=read_plan(text, version, item.answer)))
@@ -349,17 +367,17 @@ def read_whole_item(text, version):
 TIME = re.compile(b'(0|[1-9][0-9]{0,8}); (0|[1-9][0-9]{0,37})')
 
 
-def read_time(text):
+def read_time(text: Text) -> tuple[int, int]:
     if text.number < len(text.lines) and (found := TIME.fullmatch(text.lines[text.number])):
         text.number += 1
         return int(found[1]), int(found[2])
     words = text.words()
-    numbers = fits([words[0][:-1], *words[1:]], [ID, NUMBER])
-    text.demand(words[0].endswith(';') and numbers is not None, 'form')
-    return numbers
+    text.demand(words[0].endswith(';'), 'form')
+    event, time = text.sure(fits([words[0][:-1], *words[1:]], [ID, NUMBER]))
+    return event, time
 
 
-def read_run(data, events):
+def read_run(data: bytes, events: int) -> Run:
     """The run that the bytes of a whole text tell, over a network of so many events; Bad at the first line of another form."""
     text = Text(data)
     version, penalty, feeds, journal = read_journal(text)

@@ -26,7 +26,7 @@ from delays import KINDS, Drawing, Lines, Told, drawn_day, size_of
 from files import write_all
 from playing import FEED, Played, Program, Replanning, replanned
 from railway import BadFile, Network, Rows, read_network
-from words import whole_between
+from words import add_network, command_line, whole_between
 
 
 def add_drawing_words(words: argparse.ArgumentParser) -> None:
@@ -82,8 +82,8 @@ def made(given: argparse.Namespace, drawing: Drawing) -> None:
 
 
 def main(asked: Optional[Sequence[str]] = None) -> None:
-    words = argparse.ArgumentParser(description=__doc__, formatter_class=argparse.RawDescriptionHelpFormatter)
-    words.add_argument('net', metavar='NET', help='folder with Events-expanded.giv and Activities-expanded.giv')
+    words = command_line(__doc__)
+    add_network(words)
     words.add_argument('folder', metavar='FOLDER', help='where the days go')
     add_drawing_words(words)
     words.add_argument('--no-clock', action='store_true', help='let nothing pass')

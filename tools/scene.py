@@ -3,11 +3,16 @@
 A train is a list of events by place, each led to the next by a drive or a wait. A line is a list of stops; its stations lie as far
 apart as the trains are scheduled to drive between them. Times are in seconds.
 """
-from collections import Counter, defaultdict
-from typing import NamedTuple
+from __future__ import annotations
 
+from collections import Counter, defaultdict
+from typing import Iterable, NamedTuple, Optional, Sequence
+
+from files import BadFile, text_of
+from giv import read_delays, read_network
 from names import read_labels, read_stops, read_trips
-from railway import BadFile, Network, Rows, apply, cost_of, is_met, read_delays, read_network, refusal_at_once, text_of
+from network import Network
+from railway import Rows, apply, cost_of, is_met, refusal_at_once
 from runtext import Bad, Run, read_run
 
 # The largest lateness of each class but the last, in seconds, and how the classes are called.
@@ -24,34 +29,34 @@ class Scene(NamedTuple):
     run: Run
     start: Rows
     rows: Rows
-    times: list
-    trains: list
-    names: dict
-    labels: dict
-    trips: dict
+    times: list[int]
+    trains: list[list[int]]
+    names: dict[int, str]
+    labels: dict[int, str]
+    trips: dict[int, str]
 
-    def stop(self, place):
+    def stop(self, place: int) -> int:
         return self.network.events[place].stop
 
-    def scheduled(self, place):
+    def scheduled(self, place: int) -> int:
         return self.network.events[place].time
 
-    def lateness(self, place):
+    def lateness(self, place: int) -> int:
         return max(0, self.times[place] - self.scheduled(place))
 
-    def stop_name(self, stop):
+    def stop_name(self, stop: int) -> str:
         return self.names.get(stop) or f'Stop {stop}'
 
-    def first_event(self, train):
+    def first_event(self, train: int) -> int:
         """The id of a train's first event."""
         return self.network.events[self.trains[train][0]].id
 
-    def train_label(self, train):
+    def train_label(self, train: int) -> str:
         first = self.first_event(train)
         return self.labels.get(first) or f'Train {first}'
 
 
-def lateness_class(seconds):
+def lateness_class(seconds: int) -> int:
     """The place of the class of a lateness."""
     return sum(seconds >= largest for largest in LATENESS)
 
@@ -59,7 +64,7 @@ def lateness_class(seconds):
 # ---- Reading
 
 
-def read_text(name, network):
+def read_text(name: str, network: Network) -> Run:
     """The run that a file tells of a network."""
     try:
         return read_run(text_of(name).encode('latin-1'), len(network.events))
@@ -69,7 +74,7 @@ def read_text(name, network):
         raise BadFile(name, line, what) from bad
 
 
-def rows_of(network, start, run, name):
+def rows_of(network: Network, start: Rows, run: Run, name: str) -> Rows:
     """The rows after all entries of a run; BadFile where an entry names what the network has not."""
     rows = start.copy()
     for number, entry in enumerate(run.journal, 1):
@@ -79,7 +84,7 @@ def rows_of(network, start, run, name):
     return rows
 
 
-def read_scene(folder, text, event_delays=None, activity_delays=None):
+def read_scene(folder: str, text: str, event_delays: Optional[str] = None, activity_delays: Optional[str] = None) -> Scene:
     """The scene of a network's folder and a run's text; BadFile where they are none or do not fit."""
     network = read_network(folder)
     start = Rows(network, read_delays(folder, event_delays), read_delays(folder, activity_delays))
@@ -95,7 +100,7 @@ def read_scene(folder, text, event_delays=None, activity_delays=None):
 # ---- Trains and lines
 
 
-def trains_of(network):
+def trains_of(network: Network) -> list[list[int]]:
     """The trains, each a list of the places of its events, by the time and id of their first event."""
     after, led = {}, set()
     for place, activity in enumerate(network.activities):
@@ -114,9 +119,9 @@ def trains_of(network):
     return trains
 
 
-def path_of(network, train):
+def path_of(network: Network, train: Iterable[int]) -> tuple[int, ...]:
     """The stops of a train in order, each once where it waits."""
-    path = []
+    path: list[int] = []
     for place in train:
         stop = network.events[place].stop
         if not path or path[-1] != stop:
@@ -124,23 +129,23 @@ def path_of(network, train):
     return tuple(path)
 
 
-def edges_of(path):
+def edges_of(path: Sequence[int]) -> list[frozenset[int]]:
     return [frozenset(edge) for edge in zip(path, path[1:])]
 
 
-def lines_of(network, trains, most):
+def lines_of(network: Network, trains: Iterable[list[int]], most: int) -> list[list[int]]:
     """The lines that the trains run on, the busiest first: the path whose stretches most trains run over, then of those left.
 
     The stops of a network that has few are one line.
     """
     paths = Counter(path for path in (path_of(network, train) for train in trains) if len(path) > 1)
-    load = Counter()
+    load: Counter[frozenset[int]] = Counter()
     for path, count in paths.items():
         for edge in edges_of(path):
             load[edge] += count
     if len({stop for path in paths for stop in path}) <= FEW_STOPS:
         return [list(dict.fromkeys(stop for path in sorted(paths, key=lambda path: (-len(path), path)) for stop in path))] if paths else []
-    lines = []
+    lines: list[list[int]] = []
     while load and len(lines) < most:
         best = max(paths, key=lambda path: (sum(load[edge] for edge in set(edges_of(path))), paths[path], path))
         covered = [edge for edge in edges_of(best) if load[edge]]
@@ -152,14 +157,14 @@ def lines_of(network, trains, most):
     return lines
 
 
-def distances(network, trains, line):
+def distances(network: Network, trains: Iterable[list[int]], line: Sequence[int]) -> list[float]:
     """How far each stop of a line lies from its first, as the shares of the median scheduled drives; the last lies at 1."""
     place_of = {stop: place for place, stop in enumerate(line)}
     drives = defaultdict(list)
     for train in trains:
         for tail, head in zip(train, train[1:]):
-            ends = [place_of.get(network.events[place].stop) for place in (tail, head)]
-            if None not in ends and abs(ends[0] - ends[1]) == 1:
+            ends = [place_of[stop] for place in (tail, head) if (stop := network.events[place].stop) in place_of]
+            if len(ends) == 2 and abs(ends[0] - ends[1]) == 1:
                 drives[min(ends)].append(abs(network.events[head].time - network.events[tail].time))
     lengths = []
     for place in range(len(line) - 1):
@@ -183,7 +188,7 @@ class Link(NamedTuple):
     state: str
 
 
-def links_of(scene):
+def links_of(scene: Scene) -> list[Link]:
     """The changes of a scene."""
     network, rows = scene.network, scene.rows
     links = []
@@ -197,7 +202,7 @@ def links_of(scene):
     return links
 
 
-def turned_pairs(scene):
+def turned_pairs(scene: Scene) -> list[tuple[int, int]]:
     """The pairs, by the places of their events, of which another event is first than at the start."""
     return [pair for pair, was, now in zip(scene.network.pairs, scene.start.first, scene.rows.first) if was != now]
 
@@ -209,31 +214,31 @@ class CostParts(NamedTuple):
     missed: int
 
 
-def cost_parts(scene):
+def cost_parts(scene: Scene) -> CostParts:
     network = scene.network
     late = sum(event.weight * scene.lateness(place) for place, event in enumerate(network.events) if event.kind == 'arrival')
-    weights = Counter()
+    weights: Counter[str] = Counter()
     for link in links_of(scene):
         weights[link.state] += network.activities[network.activity_place[link.id]].weight
     return CostParts(late, scene.run.penalty * weights['dropped'], scene.run.penalty * weights['missed'])
 
 
-def span_of_times(scene, places):
+def span_of_times(scene: Scene, places: Iterable[int]) -> tuple[int, int]:
     """The earliest and the latest time, scheduled or not, of some events."""
     times = [time for place in places for time in (scene.scheduled(place), scene.times[place])]
     return min(times, default=0), max(times, default=0)
 
 
-def total_cost(scene):
+def total_cost(scene: Scene) -> int:
     return cost_of(scene.network, scene.rows, scene.times, scene.run.penalty)
 
 
-def counted(number, one, more):
+def counted(number: int, one: str, more: str) -> str:
     """A number of things in words."""
     return f'{number} {one if number == 1 else more}'
 
 
-def clock_time(seconds, with_seconds=False):
+def clock_time(seconds: float, with_seconds: bool = False) -> str:
     """A time of day as `6:05`, or `6:05:30`."""
     minutes, rest = divmod(int(seconds), 60)
     text = f'{minutes // 60}:{minutes % 60:02}'

@@ -12,7 +12,6 @@ those of its names.
 """
 from __future__ import annotations
 
-import argparse
 import sys
 from collections import Counter
 from dataclasses import dataclass
@@ -21,11 +20,11 @@ from random import Random
 from typing import Iterable, Optional, Sequence
 
 from expand import Expanded, Headways, Notes, Passengers, Refused, Rules, Train, expand
-from files import write_all
+from files import BadFile, write_all
 from from_gtfs import Made, texts_of
 from gtfs import Call, Route, Stops, Transfers, Trip
-from railway import KINDS, Activity, BadFile
-from words import whole_between
+from network import KINDS, Activity, Event
+from words import command_line, whole_between
 
 BEGIN = 6 * 3600
 RUN, DWELL = 300, 60
@@ -150,7 +149,7 @@ def across(draws: Random, side: int) -> list[tuple[int, int]]:
 
 def sections_of(expanded: Expanded) -> list[Activity]:
     """The headways of a single track, between each departure into a section and those that follow it there, from either end."""
-    sections: dict[frozenset[int], list] = {}
+    sections: dict[frozenset[int], list[Event]] = {}
     lower = RUN - int(RUN * Fraction(7, 100)) + CLEAR
     for train in expanded.trains:
         for tail, head in zip(train.moments[::2], train.moments[1::2]):
@@ -188,7 +187,7 @@ def made(shape: str, sizes: Sizes) -> Made:
 
 
 def main(asked: Optional[Sequence[str]] = None) -> None:
-    words = argparse.ArgumentParser(description=__doc__, formatter_class=argparse.RawDescriptionHelpFormatter)
+    words = command_line(__doc__)
     words.add_argument('shape', metavar='SHAPE', choices=USUAL, help='single, hub, ring or mesh')
     words.add_argument('folder', metavar='FOLDER', help='where the network goes')
     for name, most in ('lines', 400), ('trains', 2_000), ('stations', 1_000), ('number', 999_999_999):

@@ -4,7 +4,9 @@ from __future__ import annotations
 import re
 from typing import NamedTuple, Optional
 
-from railway import BadFile, text_of
+from files import BadFile, text_of
+from network import Choice
+from railway import Decision
 
 # The words with which a solver says that it has found nothing.
 NOTHING = re.compile(r'infeasible|unbounded|undefined|no integer solution|no feasible|empty', re.IGNORECASE)
@@ -70,13 +72,13 @@ def read_solution(name: str) -> Solution:
     return solution
 
 
-def decisions_of(name: str, solution: Solution, choices: list[tuple]) -> list[tuple]:
+def decisions_of(name: str, solution: Solution, choices: list[Choice]) -> list[Decision]:
     """The decision of each choice of a programme; BadFile where the solution is of another one. What it leaves out is 0."""
     named = {'_'.join(map(str, ('drop' if choice[0] == 'change' else 'first', *choice[1:]))): choice for choice in choices}
     for variable in solution.values:
         if not OURS.fullmatch(variable) or variable.startswith(('drop', 'first')) and variable not in named:
             raise BadFile(name, None, f'{variable} is no choice of these rows')
-    decisions: list[tuple] = []
+    decisions: list[Decision] = []
     for variable, choice in named.items():
         is_one = solution.values.get(variable, 0) > 0.5
         if choice[0] == 'change':

@@ -20,7 +20,6 @@ The status is 0; or 2, and no file is written, where a file is not as it should 
 """
 from __future__ import annotations
 
-import argparse
 import csv
 import io
 import os
@@ -33,6 +32,7 @@ from gtfs import Feed, clock
 from names import EventName, TrainName, named_trip, read_events, read_trains
 from railway import BadFile, Event, in_one_line, read_network
 from runtext import Bad, read_run
+from words import command_line
 
 STOP_TIMES = ('trip_id', 'arrival_time', 'departure_time', 'stop_id', 'stop_sequence')
 DELAYS = ('trip_id', 'route', 'headsign', 'departure_delay', 'arrival_delay', 'largest_delay', 'at_stop', 'at_sequence')
@@ -78,8 +78,8 @@ def happenings_by_train(net: str, text: str) -> dict[int, list[Happening]]:
     times = read_times(text, len(events))
     trains: dict[int, list[Happening]] = {}
     for name in read_events(net):
-        for has, what in (events, 'the network'), (times, text):
-            if name.event not in has:
+        for ids, what in (events.keys(), 'the network'), (times.keys(), text):
+            if name.event not in ids:
                 raise BadFile(os.path.join(net, 'Events.csv'), None, f'event {name.event} is not in {what}')
         trains.setdefault(name.train, []).append(Happening(name, events[name.event].time, times[name.event]))
     return trains
@@ -113,7 +113,7 @@ def stays_of(name: Optional[str], trips: Iterable[str]) -> dict[str, Stay]:
                 known = ends.setdefault(row['trip_id'], [call, call])
                 ends[row['trip_id']] = [min(known[0], call), max(known[1], call)]
     stays = {trip: Stay(first[1], last[1]) for trip, (first, last) in ends.items()}
-    return {trip: stays.get(trip) or stays.get(named_trip(trip).trip, Stay()) for trip in trips}
+    return {trip: stays.get(trip, stays.get(named_trip(trip).trip, Stay())) for trip in trips}
 
 
 def calls_of(happenings: list[Happening], stay: Stay) -> Iterable[tuple[object, ...]]:
@@ -157,9 +157,7 @@ def texts_of(net: str, text: str, feed: Optional[str]) -> tuple[dict[str, str], 
 
 
 def main(given: Optional[Sequence[str]] = None) -> int:
-    words = argparse.ArgumentParser(
-        description=__doc__, formatter_class=argparse.RawDescriptionHelpFormatter, allow_abbrev=False,
-    )
+    words = command_line(__doc__, allow_abbrev=False)
     words.add_argument('net', metavar='NET', help='the folder of a network, with its names')
     words.add_argument('text', metavar='TEXT', help='the text of a run over it')
     words.add_argument('folder', metavar='DIR', help='where the files are written')

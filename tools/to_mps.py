@@ -14,24 +14,27 @@ import argparse
 import sys
 from typing import Optional, Sequence
 
+from files import BadFile
+from giv import read_delays, read_network
+from network import Network
 from programme import Posed, Window, lp_text, mps_text, programme_of
-from railway import BadFile, Network, Rows, read_delays, read_network
+from railway import Rows
+from runtext import Entry
 from scene import read_text, rows_of
-from words import whole_between
+from words import add_delays, add_network, command_line, whole_between
 
 LATEST = 1_000_000_000
 
 
 def add_rows_words(words: argparse.ArgumentParser) -> None:
     """The words that name rows: a network, a text, and what the run was given."""
-    words.add_argument('net', metavar='NET', help='folder with Events-expanded.giv and Activities-expanded.giv')
+    add_network(words)
     words.add_argument('text', metavar='TEXT', help='the text of a run over it')
     words.add_argument('--at', type=whole_between(0, 1_000_000), metavar='N', help='after how many entries; all by default')
-    words.add_argument('--event-delays', metavar='NAME', help='delays of events at the start, as given to the run')
-    words.add_argument('--activity-delays', metavar='NAME', help='delays of activities at the start, as given to the run')
+    add_delays(words)
 
 
-def read_rows(given: argparse.Namespace) -> tuple[Network, Rows, list, int]:
+def read_rows(given: argparse.Namespace) -> tuple[Network, Rows, list[Entry], int]:
     """The network, the rows and the entries that words name, and the penalty; BadFile where there are none."""
     network = read_network(given.net)
     start = Rows(network, read_delays(given.net, given.event_delays), read_delays(given.net, given.activity_delays))
@@ -55,7 +58,7 @@ def window_of(words: argparse.ArgumentParser, given: argparse.Namespace) -> Opti
 
 
 def main(asked: Optional[Sequence[str]] = None) -> None:
-    words = argparse.ArgumentParser(description=__doc__, formatter_class=argparse.RawDescriptionHelpFormatter)
+    words = command_line(__doc__)
     add_rows_words(words)
     add_window_words(words)
     words.add_argument('--lp', action='store_true', help='print LP form')

@@ -8,16 +8,21 @@ and pan by mouse, touch and keys; a box that finds a train, a trip, an event or 
 the cost by late arrivals, dropped changes and missed ones. It works by keyboard, in light and dark, and on a narrow screen. Names
 come from NET/Stops.csv and NET/Trains.csv where these are there.
 """
-import argparse
+from __future__ import annotations
+
 import os
 import sys
 from collections import Counter
+from typing import Any, Iterable, Optional, Sequence
 
 from diagram import drawing, style, trains_on
-from files import speak_utf8
+from files import BadFile, speak_utf8
 from markup import escaped, in_script, policy
-from railway import BadFile
-from scene import clock_time, cost_parts, counted, lateness_class, lines_of, read_scene
+from network import Choice
+from railway import Decision, Message, Node, Plan
+from runtext import Answer, Item
+from scene import Scene, clock_time, cost_parts, counted, lateness_class, lines_of, read_scene
+from words import add_run, command_line
 
 # At most so many lines are drawn, nodes of trees shown, and items of a log listed, of longer ones as plain text, which is shorter.
 MOST_LINES = 8
@@ -32,22 +37,22 @@ MOST_DEPTH = 150
 # ---- Words for people
 
 
-def cost_words(cost):
+def cost_words(cost: int) -> str:
     """A cost in passenger minutes."""
     return f'{cost / 60_000:,.1f} passenger minutes'
 
 
-def decision_words(decision):
+def decision_words(decision: Decision) -> str:
     return ' '.join(map(str, decision))
 
 
-def message_words(message):
+def message_words(message: Message) -> str:
     if message[0] == 'adopt' and len(message) > 1:
         return ' '.join(['adopt', *map(decision_words, message[1])])
     return ' '.join(map(str, message))
 
 
-def answer_words(answer):
+def answer_words(answer: Answer) -> str:
     """An answer as it is printed; of a plan its first line."""
     if answer.kind == 'plan':
         plan = answer.value
@@ -64,7 +69,7 @@ def answer_words(answer):
 # ---- Parts of the page
 
 
-def cost_part(scene):
+def cost_part(scene: Scene) -> str:
     parts = cost_parts(scene)
     rows = [('Late arrivals', parts.lateness), ('Dropped changes', parts.dropped), ('Missed changes', parts.missed), ('Cost', scene.run.cost)]
     cells = ''.join(f'<tr><th scope="row">{name}</th><td>{cost_words(cost)}</td><td>{cost:,}</td></tr>' for name, cost in rows)
@@ -72,12 +77,12 @@ def cost_part(scene):
             f'</caption><tbody>{cells}</tbody></table><p class="note">On the right in thousandths of passenger seconds.</p>')
 
 
-def item_words(item):
+def item_words(item: Item) -> tuple[str, str]:
     """What an item of a log says, and what was answered."""
     return 'malformed' if item.said is None else message_words(item.said), '' if item.answer is None else answer_words(item.answer)
 
 
-def log_rows(items):
+def log_rows(items: Sequence[Item]) -> str:
     """Items of a log as a table."""
     rows = []
     for item in items:
@@ -89,13 +94,13 @@ def log_rows(items):
     return f'<div class="scroll" tabindex="0" role="region" aria-label="Lines and answers">{table}</div>'
 
 
-def log_lines(items):
+def log_lines(items: Sequence[Item]) -> str:
     """Items of a log as lines."""
     lines = [f'{item.line} {" -> ".join(filter(None, item_words(item)))}' for item in items]
     return f'<pre class="scroll" tabindex="0">{escaped(chr(10).join(lines))}</pre>'
 
 
-def journal_part(scene):
+def journal_part(scene: Scene) -> str:
     """A table of each feed's lines with their replies."""
     tables = []
     for number, log in enumerate(scene.run.logs, 1):
@@ -107,7 +112,7 @@ def journal_part(scene):
     return ''.join(tables)
 
 
-def depths_of(nodes):
+def depths_of(nodes: Sequence[Node]) -> list[int]:
     """How many nodes lie above each node of a tree in preorder."""
     depths, waiting = [], [0]
     for node in nodes:
@@ -117,7 +122,7 @@ def depths_of(nodes):
     return depths
 
 
-def upper_part(nodes, most):
+def upper_part(nodes: Sequence[Node], most: int) -> list[Node]:
     """The nodes of a tree, in preorder, down to the depth to which there are at most so many; one with nodes below that are left out
     is ('cut', its choice, how many these are)."""
     depths = depths_of(nodes)
@@ -136,7 +141,7 @@ def upper_part(nodes, most):
     return shown
 
 
-def node_words(node):
+def node_words(node: Node) -> str:
     kind, *said = node
     if kind not in ('inner', 'cut'):
         return ' '.join(map(str, node))
@@ -144,16 +149,17 @@ def node_words(node):
     return words if kind == 'inner' else f'{words}, {said[1]:,} nodes below'
 
 
-def ways(choice):
+def ways(choice: Choice) -> tuple[str, str]:
     """The words of the two decisions of a choice."""
     if choice[0] == 'change':
         return f'keep {choice[1]}', f'drop {choice[1]}'
     return f'first {choice[1]} {choice[2]}', f'first {choice[2]} {choice[1]}'
 
 
-def tree_part(nodes):
+def tree_part(nodes: Sequence[Node]) -> str:
     """The tree as lists that fold, from its nodes in preorder; `waiting` has the ways to come, and None where a list ends."""
-    out, waiting = ['<ul class="tree">'], ['']
+    out = ['<ul class="tree">']
+    waiting: list[Optional[str]] = ['']
     for node in nodes:
         while waiting[-1] is None:
             waiting.pop()
@@ -168,28 +174,28 @@ def tree_part(nodes):
     return ''.join([*out, '</ul></details></li>' * len(waiting), '</ul>'])
 
 
-def plan_part(feed, item, most):
+def plan_part(feed: int, line: int, plan: Plan, most: int) -> str:
     """A plan with its choices and its tree, of which at most so many nodes are shown."""
-    plan = item.answer.value
+    nodes = plan.nodes or []
     choices = ''.join(f'<li>{decision_words(choice)}</li>' for choice in plan.choices) or '<li>none: the rows are as good as any</li>'
     gap = 0 if plan.cost == 0 else 100 * (plan.cost - plan.bound) / plan.cost
-    shown = upper_part(plan.nodes, most)
-    left = f'<p class="note">The {len(shown):,} nodes nearest to the root are shown.</p>' if len(shown) < len(plan.nodes) else ''
-    return (f'<details><summary>Feed {feed}, line {item.line}, entry {plan.entry}: {plan.mark}, cost {cost_words(plan.cost)}, '
+    shown = upper_part(nodes, most)
+    left = f'<p class="note">The {len(shown):,} nodes nearest to the root are shown.</p>' if len(shown) < len(nodes) else ''
+    return (f'<details><summary>Feed {feed}, line {line}, entry {plan.entry}: {plan.mark}, cost {cost_words(plan.cost)}, '
             f'proved bound {cost_words(plan.bound)} (gap {gap:.2f} %)</summary><h4>Choices</h4><ul class="choices">{choices}</ul>'
-            f'<h4>Tree of {counted(len(plan.nodes), "node", "nodes")}</h4>{left}{tree_part(shown)}</details>')
+            f'<h4>Tree of {counted(len(nodes), "node", "nodes")}</h4>{left}{tree_part(shown)}</details>')
 
 
-def plans_part(scene):
+def plans_part(scene: Scene) -> str:
     plans = [
-        (feed, item)
+        (feed, item.line, item.answer.value)
         for feed, log in enumerate(scene.run.logs, 1) for item in log.items if item.answer is not None and item.answer.kind == 'plan'
     ]
     most = MOST_NODES // max(1, len(plans))
-    return ''.join(plan_part(feed, item, most) for feed, item in plans) or '<p>No plan was asked for.</p>'
+    return ''.join(plan_part(feed, line, plan, most) for feed, line, plan in plans) or '<p>No plan was asked for.</p>'
 
 
-def lines_part(scene):
+def lines_part(scene: Scene) -> tuple[str, str, str]:
     """The choice between the lines, the drawing of each, of which one is shown, and what is to be said of those left out."""
     found = lines_of(scene.network, scene.trains, MOST_LINES + 1) or [sorted({event.stop for event in scene.network.events})]
     lines = [line for line in found[:MOST_LINES] if line]
@@ -203,7 +209,7 @@ def lines_part(scene):
     return choice, drawings, lines_note(scene, lines, len(found) > MOST_LINES)
 
 
-def lines_note(scene, lines, has_more):
+def lines_note(scene: Scene, lines: Iterable[list[int]], has_more: bool) -> str:
     """What the lines that are drawn leave out."""
     drawn = {number for line in lines for number, _ in trains_on(scene, set(line))}
     missing = len(scene.trains) - len(drawn)
@@ -213,11 +219,11 @@ def lines_note(scene, lines, has_more):
     return f'<p class="note">{said.strip()}</p>' if said else ''
 
 
-def differences(numbers):
+def differences(numbers: Sequence[int]) -> list[int]:
     return [after - before for before, after in zip([0, *numbers], numbers)]
 
 
-def data_of(scene):
+def data_of(scene: Scene) -> dict[str, Any]:
     """What the page's script looks up: events in order of ids, and trains by places, both as differences to the one before."""
     events = scene.network.events
     return {
@@ -231,7 +237,7 @@ def data_of(scene):
     }
 
 
-def page(scene):
+def page(scene: Scene) -> str:
     """The whole page."""
     here = os.path.dirname(os.path.abspath(__file__))
     with open(os.path.join(here, 'view.css'), encoding='utf-8') as css, open(os.path.join(here, 'view.js'), encoding='utf-8') as js:
@@ -265,12 +271,9 @@ def page(scene):
 <script>{script}</script></body></html>'''
 
 
-def main():
-    words = argparse.ArgumentParser(description=__doc__, formatter_class=argparse.RawDescriptionHelpFormatter)
-    words.add_argument('net', metavar='NET', help='folder with Events-expanded.giv and Activities-expanded.giv')
-    words.add_argument('text', metavar='TEXT', help='the text of a run over it')
-    words.add_argument('--event-delays', metavar='NAME', help='delays of events at the start, as given to the run')
-    words.add_argument('--activity-delays', metavar='NAME', help='delays of activities at the start, as given to the run')
+def main() -> None:
+    words = command_line(__doc__)
+    add_run(words)
     given = words.parse_args()
     speak_utf8()
     try:

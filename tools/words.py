@@ -1,11 +1,41 @@
-"""Words of a command line that several tools read; argparse tells what is wrong with one."""
+"""Words of command lines that several tools read; argparse tells what is wrong with one."""
 from __future__ import annotations
 
 import argparse
+import os
 import re
-from typing import Callable
+from typing import Callable, Optional
 
 from gtfs import seconds_of
+
+
+def command_line(page: Optional[str], allow_abbrev: bool = True) -> argparse.ArgumentParser:
+    """The words of a command, whose page is the comment at the head of its script."""
+    return argparse.ArgumentParser(description=page, formatter_class=argparse.RawDescriptionHelpFormatter, allow_abbrev=allow_abbrev)
+
+
+def add_network(words: argparse.ArgumentParser) -> None:
+    words.add_argument('net', metavar='NET', help='folder with Events-expanded.giv and Activities-expanded.giv')
+
+
+def add_delays(words: argparse.ArgumentParser) -> None:
+    words.add_argument('--event-delays', metavar='NAME', help='delays of events at the start, as given to the run')
+    words.add_argument('--activity-delays', metavar='NAME', help='delays of activities at the start, as given to the run')
+
+
+def add_run(words: argparse.ArgumentParser) -> None:
+    """A network, the text of a run over it, and the delays at its start."""
+    add_network(words)
+    words.add_argument('text', metavar='TEXT', help='the text of a run over it')
+    add_delays(words)
+
+
+def whole_path(name: str) -> str:
+    return os.path.abspath(name)
+
+
+def add_program(words: argparse.ArgumentParser) -> None:
+    words.add_argument('program', metavar='DISPATCHER', type=whole_path, help='the built program')
 
 
 def whole_between(least: int, most: int) -> Callable[[str], int]:
