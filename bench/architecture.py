@@ -1,11 +1,14 @@
-"""Compares the map of docs/ARCHITECTURE.md with crates.txt, and tells what differs.
+"""Compares the map of docs/ARCHITECTURE.md, the table of docs/CRATES.md and the tests of docs/CHANGING.md with crates.txt.
 
-    python3 bench/architecture.py [--page FILE] [--crates FILE]
+    python3 bench/architecture.py [--write] [--page FILE].. [--crates FILE]
 
-Each crate of crates.txt must stand in the map, the page's block of lines `CRATE: CRATE..`, and must have one row in the page's table
-or be named in the paragraph that begins with `Tests:`. Each edge of the map must stand in that crate's line of crates.txt, and each
-crate of that line must be reached along edges of the map. The page must name no crate that crates.txt does not have. In a name two
-points stand for any letters: `dm_.._cases` is every crate of cases. Status 0 where nothing differs, else 1.
+Each crate of crates.txt must stand in the map, a block of lines `CRATE: CRATE..`, and must have one row in the table or be named in
+the paragraph that begins with `Tests:`. The map gives each crate its nearest crates, those of its line in crates.txt that no other of
+the line leads to. The pages must name no crate that crates.txt does not have. In a name two points stand for any letters:
+`dm_.._cases` is every crate of cases. Status 0 where nothing differs, else 1.
+
+With --write the edges of the map are written anew, a line for each crate: people say in which wing a crate stands, and the script what
+it stands on.
 """
 
 import argparse
@@ -78,15 +81,30 @@ def page_of(text: str, crates: dict[str, set[str]]) -> Page:
     return page
 
 
-def reached(page: Page, crate: str) -> set[str]:
-    """All crates to which the map's edges lead from one."""
-    found: set[str] = set()
-    left = [crate]
+def nearest(crate: str, crates: dict[str, set[str]]) -> set[str]:
+    """The crates of a crate's line that no other crate of the line leads to."""
+    left = [other for listed in crates[crate] for other in crates.get(listed, ())]
+    beyond: set[str] = set()
     while left:
-        nearest = page.edges.get(left.pop(), set()) - found
-        found |= nearest
-        left += nearest
-    return found
+        other = left.pop()
+        if other not in beyond:
+            beyond.add(other)
+            left += crates.get(other, ())
+    return crates[crate] - beyond
+
+
+def written(text: str, crates: dict[str, set[str]]) -> str:
+    """A page with the edges of its map as they are."""
+    lines = []
+    in_block = False
+    for line in text.splitlines():
+        in_block = in_block != line.startswith("```")
+        cells = map_cells(line, crates) if in_block else []
+        if cells and not any(is_pattern(name) for name, _ in cells):
+            lines += [": ".join(filter(None, [name, " ".join(sorted(nearest(name, crates)))])) for name, _ in cells if name in crates]
+        else:
+            lines.append(line)
+    return "\n".join(lines) + "\n"
 
 
 def differences(page: Page, crates: dict[str, set[str]]) -> list[str]:
@@ -98,9 +116,10 @@ def differences(page: Page, crates: dict[str, set[str]]) -> list[str]:
         if crate not in page.rows and not any(covers(name, crate) for name in page.tests):
             told.append(f"{crate} has no row in the table and is not named among the tests")
         if crate in page.edges:
-            told += [f"{crate} names {other}, to which no edges of the map lead" for other in sorted(listed - reached(page, crate))]
-    for name, edges in page.edges.items():
-        told += [f"the map draws {name}: {other}, which {name} does not name" for other in sorted(edges - crates.get(name, edges))]
+            due = nearest(crate, crates)
+            told += [f"{crate} stands on {other}, and the map does not draw it" for other in sorted(due - page.edges[crate])]
+            told += [f"the map draws {crate}: {other}, which {crate} does not name" for other in sorted(page.edges[crate] - listed)]
+            told += [f"the map draws {crate}: {other}, to which another edge leads" for other in sorted(page.edges[crate] & listed - due)]
     told += [f"{name} has {rows} rows in the table" for name, rows in Counter(page.rows).items() if rows > 1]
     unknown = {name for name in page.named | set(page.rows) if not any(covers(name, crate) for crate in crates)}
     return told + [f"{name} is no crate" for name in sorted(unknown)]
@@ -108,11 +127,16 @@ def differences(page: Page, crates: dict[str, set[str]]) -> list[str]:
 
 def main() -> int:
     parser = argparse.ArgumentParser(description=__doc__, formatter_class=argparse.RawDescriptionHelpFormatter)
-    parser.add_argument("--page", type=Path, default=REPOSITORY / "docs/ARCHITECTURE.md")
+    parser.add_argument("--page", dest="pages", action="append", type=Path, help="a page; by default the three")
+    parser.add_argument("--write", action="store_true", help="write the edges of the map")
     parser.add_argument("--crates", type=Path, default=REPOSITORY / "crates.txt")
     asked = parser.parse_args()
     crates = crates_of(asked.crates.read_text(encoding="utf-8"))
-    told = differences(page_of(asked.page.read_text(encoding="utf-8"), crates), crates)
+    pages = asked.pages or [REPOSITORY / "docs/ARCHITECTURE.md", REPOSITORY / "docs/CRATES.md", REPOSITORY / "docs/CHANGING.md"]
+    if asked.write:
+        for page in pages:
+            page.write_text(written(page.read_text(encoding="utf-8"), crates), encoding="utf-8")
+    told = differences(page_of("\n".join(page.read_text(encoding="utf-8") for page in pages), crates), crates)
     for line in told:
         print(line)
     return 1 if told else 0

@@ -161,7 +161,7 @@ def read_parts(top: Path, names: Iterable[str]) -> list[Part]:
     return parts
 
 
-def dearest(kinds: Costs, most: int) -> list[tuple[str, float]]:
+def most_costly(kinds: Costs, most: int) -> list[tuple[str, float]]:
     """The kinds that cost most, and what."""
     return sorted(kinds.items(), key=lambda it: -it[1])[:most]
 
@@ -172,7 +172,7 @@ def part_rows(parts: Iterable[Part], most: int) -> list[str]:
     for part in parts:
         crates.setdefault(part.crate, Costs(float))[part.kind] += part.seconds
     rows = sorted(crates.items(), key=lambda it: (-sum(it[1].values()), it[0]))
-    lines = [f'{name:22}{sum(kinds.values()):7.0f} s  ' + '  '.join(f'{kind} {seconds:.0f}' for kind, seconds in dearest(kinds, 4))
+    lines = [f'{name:22}{sum(kinds.values()):7.0f} s  ' + '  '.join(f'{kind} {seconds:.0f}' for kind, seconds in most_costly(kinds, 4))
              for name, kinds in rows]
     dearest = sorted(parts, key=lambda it: (-it.seconds, it.crate, it.name))[:most]
     return [*lines, '', *(f'{it.seconds:7.1f} s  {it.crate:22}{it.name}' for it in dearest)]

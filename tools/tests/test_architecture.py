@@ -6,7 +6,7 @@ import sys
 import unittest
 from unittest import mock
 
-from folders import InFolder
+from folders import InFolder, read
 from samples import TOP
 
 sys.path.insert(0, os.path.join(TOP, 'bench'))
@@ -42,11 +42,11 @@ worked sums.
 
 
 class Compared(InFolder):
-    def compared(self, page=PAGE, crates=CRATES):
+    def compared(self, page=PAGE, crates=CRATES, more=()):
         for name, text in (('page', page), ('crates', crates)):
             with open(os.path.join(self.folder, name), 'w', encoding='utf-8') as file:
                 file.write(text)
-        words = ['architecture', '--page', os.path.join(self.folder, 'page'), '--crates', os.path.join(self.folder, 'crates')]
+        words = ['architecture', '--page', os.path.join(self.folder, 'page'), '--crates', os.path.join(self.folder, 'crates'), *more]
         printed = io.StringIO()
         with mock.patch.object(sys, 'argv', words), contextlib.redirect_stdout(printed):
             status = architecture.main()
@@ -68,7 +68,17 @@ class Compared(InFolder):
 
     def test_a_crate_to_which_no_edge_leads(self):
         self.assertEqual(self.compared(page=PAGE.replace('dm_high: dm_low', 'dm_high')), (1, [
-            'dm_high names csv, to which no edges of the map lead', 'dm_high names dm_low, to which no edges of the map lead']))
+            'dm_high stands on dm_low, and the map does not draw it']))
+
+    def test_an_edge_that_another_leads_to(self):
+        self.assertEqual(self.compared(page=PAGE.replace('dm_high: dm_low', 'dm_high: dm_low csv')), (1, [
+            'the map draws dm_high: csv, to which another edge leads']))
+
+    def test_edges_are_written(self):
+        wrong = PAGE.replace('dm_low: csv     dm_high: dm_low', 'dm_low  dm_high: csv memchr')
+        due = PAGE.replace('dm_low: csv     dm_high: dm_low', 'dm_low: csv\ndm_high: dm_low')
+        self.assertEqual(self.compared(page=wrong, more=['--write']), (0, []))
+        self.assertEqual(read(self.folder, 'page'), due)
 
     def test_a_row_twice(self):
         self.assertEqual(self.compared(page=PAGE.replace('| `dm_high`', '| `dm_low` | digits |\n| `dm_high`')), (1, [
