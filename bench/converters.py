@@ -1,5 +1,5 @@
 #!/usr/bin/env python3
-"""Measures the converters of GTFS-Realtime: python3 bench/realtime.py DISPATCHER [--trips=2630]
+"""Measures the converters of GTFS-Realtime: python3 bench/converters.py DISPATCHER [--trips=2630]
 
 A timetable of so many trips by twenty calls is made, a network of 38 events a trip, which may have 100,000; and a day on which a
 hundred trains are late. Printed are the seconds of processor and the most memory of gtfs_rt_out.py, which writes all trips, of
