@@ -13,7 +13,8 @@ processor (of a run with the plan less one without; of a window the whole comman
 What a solver or a window chose is said to the server by tools/from_sol.py's order of lines, so that each cost is the server's, and
 `check` judges each text.
 
-The status is 1 where two that prove the least cost differ, or a bound is above what another found; a line tells it.
+The status is 1 where two that prove the least cost differ, a bound is above what another found, or choices cost more than the solver
+says of them; a line tells it.
 """
 from __future__ import annotations
 
@@ -177,9 +178,15 @@ def solved(server: Server, delays: Sequence[str], solver: str, limit: int, posed
     except BadFile:
         return Found(None, least, False, done.seconds, done.megabytes)
     is_least = 'optimal' in solution.status.lower() and 'non-optimal' not in solution.status.lower()
-    if is_least and round(float(solution.objective or 'nan')) * programme.unit != cost:
-        raise Fault(f'{solver} calls {solution.objective} units of {programme.unit} the least, and its choices cost {cost}')
+    told = told_cost(solution, programme.unit)
+    if told is not None and (cost != told if is_least else cost > told):
+        raise Fault(f'{solver} tells {solution.objective} units of {programme.unit} ({solution.status}), and its choices cost {cost}')
     return Found(cost, cost if is_least else least, is_least, done.seconds, done.megabytes)
+
+
+def told_cost(solution: Solution, unit: int) -> Optional[int]:
+    """What a solver says that its solution costs; where it does not call it the least, its choices may cost less."""
+    return None if solution.objective is None else round(float(solution.objective)) * unit
 
 
 def cost_of_solution(server: Server, delays: Sequence[str], name: str, solution: Solution, posed: Posed) -> int:

@@ -7,7 +7,8 @@ from samples import TOP
 
 sys.path.append(os.path.join(TOP, 'bench'))
 
-from against import Found, cbc_bound, contradictions, glpk_bound, plan_of
+from against import Found, cbc_bound, contradictions, glpk_bound, plan_of, told_cost
+from solution import Solution
 
 CBC = '''Cbc0010I After 0 nodes, 1 on tree, 245843 best solution, best possible 242324.56 (1.19 seconds)
 Result - Stopped on time limit
@@ -29,6 +30,10 @@ class Logs(unittest.TestCase):
         self.assertIsNone(cbc_bound('Result - Optimal solution found\n'))
         self.assertEqual(glpk_bound(GLPK), 135942)
         self.assertEqual(glpk_bound('+   12: mip =     not found yet >=              -inf        (1; 0)\n'), None)
+
+    def test_cost_that_a_solver_tells(self):
+        self.assertEqual(told_cost(Solution('Optimal', '188.00000004', {}), 5000), 940_000)
+        self.assertIsNone(told_cost(Solution('UNDEFINED', None, {}), 5000))
 
     def test_plan_in_a_text(self):
         self.assertEqual(plan_of('2 plan 9 -> 1 plan open cost 12 bound 7 choices 0 nodes 9\n'), ('open', 12, 7))
