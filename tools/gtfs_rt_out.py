@@ -1,20 +1,26 @@
 #!/usr/bin/env python3
 """Writes the disposition timetable of a run as GTFS-Realtime:
 
-    python3 tools/gtfs_rt_out.py NET TEXT OUT.pb [--zone ZONE] [--now SECONDS]
+    python3 tools/gtfs_rt_out.py NET TEXT OUT.pb [--zone ZONE] [--now SECONDS] [--serve PORT] [--every SECONDS]
 
 NET is a network that from_gtfs.py made, and TEXT the text of a run over it. OUT.pb gets a FeedMessage, by a rename: a TripUpdate for
 each train, with the delay and the time of each call, or NO_DATA where nothing has been told of the train and no other one holds it up;
 and an Alert for each change that is dropped and whose train has not left. Its time is that of the run's last `now`, or that of --now
 (seconds of the world), or else that of this computer. The status is 0; or 2, and no file is written, where a file is not as it should
 be.
+
+With --every TEXT is looked at again, so many seconds apart, and where it is another one OUT.pb is written anew; a text that is not
+whole yet leaves OUT.pb as it is. With --serve OUT.pb is handed out besides over HTTP, on this computer alone (127.0.0.1); every ten
+seconds where --every says nothing else.
 """
 from __future__ import annotations
 
 import argparse
 import os
 import sys
+import threading
 import time
+from http.server import BaseHTTPRequestHandler, HTTPServer, ThreadingHTTPServer
 from typing import Iterator, Optional, Sequence
 
 from files import write_all
@@ -25,9 +31,13 @@ from railway import BadFile, in_one_line, read_network
 from realtime import NO_DATA, SCHEDULED, Named, descriptor, read_named
 from runtext import Bad, Run, read_run
 from to_gtfs import Happening, without_falls
+from words import whole_between
 
 VERSION, FULL_DATASET = '2.0', 0
 UNKNOWN_CAUSE, OTHER_EFFECT = 1, 7
+
+# How many seconds a text is left alone that is handed out.
+USUAL = 10
 
 
 def read_text(name: str, events: int) -> Run:
@@ -137,6 +147,63 @@ def message_of(net: str, text: str, zone: Optional[str], now: Optional[int]) -> 
     return {'header': header, 'entity': [*updates(named, events_told(net, run), run, now), *alerts]}
 
 
+# ---- Again and again
+
+
+class Handing(BaseHTTPRequestHandler):
+    """Hands out one file, whatever is asked for."""
+    out = ''
+
+    def do_GET(self) -> None:
+        try:
+            with open(self.out, 'rb') as file:
+                data = file.read()
+        except OSError:
+            self.send_error(404)
+            return
+        self.send_response(200)
+        self.send_header('Content-Type', 'application/x-protobuf')
+        self.send_header('Content-Length', str(len(data)))
+        self.end_headers()
+        self.wfile.write(data)
+
+    def log_message(self, *_: object) -> None:
+        """Says nothing of who asks."""
+
+
+def serving(out: str, port: int) -> HTTPServer:
+    """A server of a file on this computer, which answers from now on."""
+    server = ThreadingHTTPServer(('127.0.0.1', port), type('HandingOut', (Handing,), {'out': out}))
+    threading.Thread(target=server.serve_forever, daemon=True).start()
+    print(f'gtfs_rt_out: http://127.0.0.1:{server.server_port}/ hands out {out}', file=sys.stderr, flush=True)
+    return server
+
+
+def state_of(name: str) -> Optional[tuple[int, int]]:
+    """What tells one state of a file from another."""
+    try:
+        found = os.stat(name)
+    except OSError:
+        return None
+    return found.st_mtime_ns, found.st_size
+
+
+def write_again(read: argparse.Namespace, seen: Optional[tuple[int, int]]) -> Optional[tuple[int, int]]:
+    """Writes the message anew where the text is another one than was seen; what is seen now."""
+    now = state_of(read.text)
+    if now != seen:
+        try:
+            write_message(read)
+        except (BadFile, KeyError) as error:
+            print(f'gtfs_rt_out: {in_one_line(str(error), 1000)}', file=sys.stderr, flush=True)
+    return now
+
+
+def write_message(read: argparse.Namespace) -> None:
+    data = encode(message_of(read.net, read.text, read.zone, read.now))
+    write_all(os.path.dirname(read.out) or '.', {os.path.basename(read.out): data})
+
+
 def main(given: Optional[Sequence[str]] = None) -> int:
     words = argparse.ArgumentParser(
         description=__doc__, formatter_class=argparse.RawDescriptionHelpFormatter, allow_abbrev=False,
@@ -146,12 +213,22 @@ def main(given: Optional[Sequence[str]] = None) -> int:
     words.add_argument('out', metavar='OUT.pb', help='the file that is written')
     words.add_argument('--zone', metavar='ZONE', help='the time zone, as Europe/Berlin (that of Day.csv)')
     words.add_argument('--now', metavar='SECONDS', type=int, help='the time of the message')
+    words.add_argument('--serve', metavar='PORT', type=whole_between(0, 65_535), help='hand OUT.pb out on this port; 0 for a free one')
+    words.add_argument('--every', metavar='SECONDS', type=whole_between(1, 86_400), help='look at TEXT again, so many seconds apart')
     read = words.parse_args(given)
     try:
-        data = encode(message_of(read.net, read.text, read.zone, read.now))
-        write_all(os.path.dirname(read.out) or '.', {os.path.basename(read.out): data})
+        seen = state_of(read.text)
+        write_message(read)
+        if read.serve is not None:
+            serving(read.out, read.serve)
+        while read.every or read.serve is not None:
+            time.sleep(read.every or USUAL)
+            seen = write_again(read, seen)
     except (BadFile, KeyError) as error:
         print(f'gtfs_rt_out: {in_one_line(str(error), 1000)}', file=sys.stderr)
+        return 2
+    except OSError as error:
+        print(f'gtfs_rt_out: port {read.serve}: {error.strerror}', file=sys.stderr)
         return 2
     return 0
 

@@ -1,9 +1,13 @@
 """GTFS-Realtime both ways: the wire format beside an independent decoder, what a run writes, and what of a message is new."""
+import argparse
+import contextlib
+import io
 import os
 import re
 import shutil
 import subprocess
 import unittest
+import urllib.request
 
 from feeds import DATE, write_feed
 from folders import read
@@ -207,6 +211,41 @@ class Out(Realtime):
         told = re.sub(r'\s+', ' ', told)
         self.assertTrue(told.startswith(f'1 {{ 1: "2.0" 2: 0 3: {MIDNIGHT + 28000} }} 2 {{ 1: "trip-1" 3 {{ 1 {{ 1: "r1" 3: "{DATE}" 4: 0 }} '), told)
         self.assertIn(f'2 {{ 1: 2 4: "B" 5: 0 2 {{ 1: 60 2: {MIDNIGHT + 29460} }} 3 {{ 1: 60 2: {MIDNIGHT + 29460} }} }}', told)
+
+
+class Again(Realtime):
+    """A file that is handed out, and taken in from its URL."""
+    written = Out.written
+
+    def test_is_handed_out_and_taken_in(self):
+        self.written(('delay event', 1, 60), ('now', 28000))
+        out = os.path.join(self.folder, 'out.pb')
+        with contextlib.redirect_stderr(io.StringIO()) as said, gtfs_rt_out.serving(out, 0) as server:
+            url = f'http://127.0.0.1:{server.server_port}/'
+            self.assertEqual(said.getvalue(), f'gtfs_rt_out: {url} hands out {out}\n')
+            self.assertEqual(self.call(gtfs_rt_in, self.net, self.feed, url), (0, ''))
+            self.assertEqual(read(self.feed).splitlines(), ['delay event 1 60', 'now 28000'])
+            with urllib.request.urlopen(url) as answer:
+                self.assertEqual(answer.headers['Content-Type'], 'application/x-protobuf')
+            os.remove(out)
+            status, told = self.call(gtfs_rt_in, self.net, self.feed, url)
+            self.assertEqual((status, 'sources that cannot be read: ' in told), (2, True))
+            server.shutdown()
+
+    def test_is_written_anew_where_the_text_is_another_one(self):
+        self.written(('delay event', 1, 60), ('now', 28000))
+        text, out = os.path.join(self.folder, 'run', 'text'), os.path.join(self.folder, 'out.pb')
+        words = argparse.Namespace(net=self.net, text=text, out=out, zone=None, now=None)
+        seen = gtfs_rt_out.write_again(words, None)
+        os.remove(out)
+        self.assertEqual(gtfs_rt_out.write_again(words, seen), seen)
+        self.assertFalse(os.path.exists(out))
+        with contextlib.redirect_stderr(io.StringIO()) as said:
+            with open(text, 'a', encoding='ascii') as file:
+                file.write('half a')
+            self.assertNotEqual(gtfs_rt_out.write_again(words, seen), seen)
+        self.assertFalse(os.path.exists(out))
+        self.assertIn('is no text of a run', said.getvalue())
 
 
 class Schema(unittest.TestCase):
