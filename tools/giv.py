@@ -6,7 +6,8 @@ from __future__ import annotations
 
 import os
 import re
-from typing import Callable, Iterable, Iterator, Mapping, Optional, TypeVar
+from dataclasses import dataclass
+from typing import Callable, Generic, Iterable, Iterator, Mapping, Optional, TypeVar
 
 from files import BadFile, text_of
 from network import KINDS, Activity, Event, Network
@@ -31,20 +32,46 @@ def taken(field: str) -> str:
     return field
 
 
+def lines_of(folder: str, name: str) -> Iterator[tuple[int, str]]:
+    """The lines of a file with their numbers, however they end."""
+    text = text_of(os.path.join(folder, name))
+    yield from enumerate(re.split('\r\n|\r|\n', text) if '\r' in text else text.split('\n'), 1)
+
+
+def fields_of(line: str) -> Optional[list[str]]:
+    """The fields of a record, or None where a line has none."""
+    fields = [taken(field) for field in line.split(';')]
+    return None if fields[0].startswith('#') or fields == [''] else fields
+
+
 def records(folder: str, name: str) -> Iterator[tuple[int, list[str]]]:
     """The number of the line and the fields of each record of a file."""
-    lines = re.split('\r\n|\r|\n', text_of(os.path.join(folder, name)))
-    for number, line in enumerate(lines, 1):
-        fields = [taken(field) for field in line.split(';')]
-        if not fields[0].startswith('#') and fields != ['']:
+    for number, line in lines_of(folder, name):
+        fields = fields_of(line)
+        if fields is not None:
             yield number, fields
 
 
-def rows_of_file(folder: str, name: str, row: Callable[..., Made]) -> Iterator[tuple[int, Made]]:
+@dataclass(frozen=True)
+class Plain(Generic[Made]):
+    """The form in which records are written here, and what is made of such a line: the same as of its fields, at a third of the time."""
+    form: re.Pattern[str]
+    row: Callable[[re.Match[str]], Made]
+
+
+def rows_of_file(
+    folder: str, name: str, row: Callable[..., Made], plain: Optional[Plain[Made]] = None,
+) -> Iterator[tuple[int, Made]]:
     """What `row` makes of the fields of each record, with the number of its line; BadFile where it makes nothing."""
-    for number, fields in records(folder, name):
+    for number, line in lines_of(folder, name):
+        found = plain.form.fullmatch(line) if plain else None
+        if plain and found:
+            yield number, plain.row(found)
+            continue
+        fields = fields_of(line)
         try:
-            yield number, row(*fields)
+            if fields is not None:
+                yield number, row(*fields)
         except (TypeError, ValueError) as error:
             raise BadFile(os.path.join(folder, name), number, 'this is no record of the file') from error
 
@@ -79,12 +106,38 @@ def activity_row(number: str, _: str, kind: str, tail: str, head: str, lower: st
     return Activity(whole(number), one_of(KINDS, kind), whole(tail), whole(head), whole(lower), thousandths(weight))
 
 
+# Each kind as one text, however often it stands in a file.
+ONE_TEXT = {kind: kind for kind in ('departure', 'arrival', *KINDS)}
+
+
+def plain_weight(passengers: str, decimals: Optional[str]) -> int:
+    return 1000 * int(passengers) + int(decimals or 0)
+
+
+def plain_event(found: re.Match[str]) -> Event:
+    number, kind, time, passengers, decimals, stop = found.groups()
+    return Event(int(number), ONE_TEXT[kind], int(time), plain_weight(passengers, decimals), int(stop))
+
+
+def plain_activity(found: re.Match[str]) -> Activity:
+    number, kind, tail, head, lower, passengers, decimals = found.groups()
+    return Activity(int(number), ONE_TEXT[kind], int(tail), int(head), int(lower), plain_weight(passengers, decimals))
+
+
+PLAIN_EVENT = Plain(
+    re.compile(r'([0-9]{1,10}); [0-9]{1,10}; "(departure|arrival)"; ([0-9]{1,10}); ([0-9]{1,9})(?:\.([0-9]{3}))?; ([0-9]{1,10})'), plain_event)
+PLAIN_ACTIVITY = Plain(
+    re.compile(
+        rf'([0-9]{{1,10}}); [0-9]{{1,10}}; "({"|".join(KINDS)})"; ([0-9]{{1,10}}); ([0-9]{{1,10}}); ([0-9]{{1,10}}); [0-9]{{1,10}}; '
+        r'([0-9]{1,9})(?:\.([0-9]{3}))?'), plain_activity)
+
+
 def read_network(folder: str) -> Network:
     """The network of a folder's files in the standard order of columns; BadFile where they are none."""
-    events = [event for _, event in rows_of_file(folder, EVENTS, event_row)]
+    events = [event for _, event in rows_of_file(folder, EVENTS, event_row, PLAIN_EVENT)]
     known = {event.id for event in events}
     activities = []
-    for line, activity in rows_of_file(folder, ACTIVITIES, activity_row):
+    for line, activity in rows_of_file(folder, ACTIVITIES, activity_row, PLAIN_ACTIVITY):
         for end in (activity.tail, activity.head):
             if end not in known:
                 raise BadFile(os.path.join(folder, ACTIVITIES), line, f'there is no event {end}')
