@@ -26,7 +26,7 @@ import re
 import shutil
 import sys
 import tempfile
-from typing import NamedTuple, Optional, Sequence
+from typing import Iterable, NamedTuple, Optional, Sequence
 
 TOP = os.path.join(os.path.dirname(os.path.abspath(__file__)), '..')
 sys.path[:0] = [os.path.join(TOP, 'tools'), os.path.join(TOP, 'bench')]
@@ -250,7 +250,7 @@ def main() -> int:
     solvers = given.solvers.split(',')
     if not set(solvers) <= set(SOLVERS):
         words.error(f'--solvers: some of {", ".join(SOLVERS)}')
-    rows = [('day', 'program', *Found._fields)]
+    rows: list[Iterable[object]] = [('day', 'program', *Found._fields)]
     faults = 0
     print(f'| Day | dispatch | {" | ".join(solvers)} |\n|---|---' + '|---' * len(solvers) + '|')
     for day in given.days or USUAL:

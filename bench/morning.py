@@ -30,7 +30,7 @@ import sys
 import tempfile
 import time
 from dataclasses import dataclass, field
-from typing import Callable, Iterator, NamedTuple, Optional
+from typing import Callable, Iterator, NamedTuple
 
 TOP = os.path.join(os.path.dirname(os.path.abspath(__file__)), '..')
 sys.path.insert(0, os.path.join(TOP, 'tools'))
@@ -204,9 +204,9 @@ def bounds_of(trains: list[Train]) -> Iterator[Bound]:
         one.sort(key=ends_of)
         for first, second in zip(one, one[1:]):
             yield Bound(first.events[-1], second.events[0], min(TURN, ends_of(second)[0] - ends_of(first)[1]))
-    for leg in legs.values():
-        leg.sort()
-        for (at, before), (then, after) in zip(leg, leg[1:]):
+    for departures in legs.values():
+        departures.sort()
+        for (at, before), (then, after) in zip(departures, departures[1:]):
             yield Bound(before, after, min(HEADWAY, then - at))
 
 

@@ -197,8 +197,9 @@ def half_interval(values: list[float]) -> float:
     if free < 1:
         return 0
     z = statistics.NormalDist().inv_cdf(0.975)
-    t = z + (z ** 3 + z) / (4 * free) + (5 * z ** 5 + 16 * z ** 3 + 3 * z) / (96 * free ** 2)
-    return t * statistics.stdev(values) / len(values) ** 0.5
+    t: float = z + (z ** 3 + z) / (4 * free) + (5 * z ** 5 + 16 * z ** 3 + 3 * z) / (96 * free ** 2)
+    half: float = t * statistics.stdev(values) / len(values) ** 0.5
+    return half
 
 
 def mean_in_print(values: Iterable[float], scale: float = 1) -> str:

@@ -461,10 +461,11 @@ def guaranteed(trains: list[Train], changing: Changing, notes: Notes) -> Iterato
             arrival, departure = found
             taken.add(arrival.event.id)
             scheduled = departure.event.time - arrival.event.time
-            if row.least > scheduled:
+            least = scheduled if row.least is None else row.least
+            if least > scheduled:
                 notes.besides['guaranteed connections for which the timetable has less time than their min_transfer_time'] += 1
             notes.besides['guaranteed connections'] += 1
-            yield changing.link(arrival, departure, min(row.least, scheduled), row, True)
+            yield changing.link(arrival, departure, min(least, scheduled), row, True)
         if pairs and not taken:
             notes.left_out['guaranteed connections at which the trains do not meet, or are one vehicle'] += 1
 
@@ -594,7 +595,7 @@ def without_circles(links: list[Link], notes: Notes) -> list[Link]:
     """Without the changes that close a circle of activities that take no time, as where two trains wait for each other."""
     at_once = [link for link in links if link.scheduled == 0]
     while any(link.kind == 'change' for link in at_once):
-        graph = graphlib.TopologicalSorter()
+        graph: graphlib.TopologicalSorter[int] = graphlib.TopologicalSorter()
         for link in at_once:
             graph.add(link.head.event.id, link.tail.event.id)
         try:

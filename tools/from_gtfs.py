@@ -198,7 +198,7 @@ def read_headways(name: Optional[str], feed: Feed, stops: Stops, usual: int) -> 
             if row['type'] and row['type'] not in TYPES and not re.fullmatch('[0-9]{1,4}', row['type']):
                 raise row.fault('type', f'"{row["type"]}" is neither a number nor one of {", ".join(TYPES)}')
             kind = Route('', '', int(row['type'])).kind if row['type'].isdecimal() else row['type']
-            key = (*(stops.stations.get(stop, '') for stop in ends), kind)
+            key = stops.stations.get(ends[0], ''), stops.stations.get(ends[1], ''), kind
             if key in rule.said:
                 raise row.fault('from_stop_id', 'this stretch stands twice')
             rule.said[key] = row.number('seconds', LONGEST_BOUND)

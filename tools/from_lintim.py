@@ -26,7 +26,7 @@ import sys
 from collections import Counter
 from dataclasses import dataclass, field
 from fractions import Fraction
-from typing import Iterator, NamedTuple, Optional, Sequence
+from typing import Iterator, Mapping, NamedTuple, Optional, Sequence
 
 from expand import PROGRAM, Notes, Refused
 from files import write_all
@@ -67,7 +67,7 @@ STOPS = {'id': ('stop-id', 'id'), 'short': ('short-name', 'short'), 'long': ('lo
 # ---- Files
 
 
-def columns_of(name: str, known: dict[str, tuple[str, ...]]) -> list[str]:
+def columns_of(name: str, known: Mapping[str, tuple[str, ...]]) -> list[str]:
     """The columns of a file by its first comment, where that names some; else those that stand there as a rule."""
     first = text_of(name).lstrip().split('\n', 1)[0].strip()
     if first.startswith('#'):
@@ -78,7 +78,7 @@ def columns_of(name: str, known: dict[str, tuple[str, ...]]) -> list[str]:
     return list(known)
 
 
-def rows_of(folder: str, name: str, known: dict[str, tuple[str, ...]], needed: Sequence[str]) -> Iterator[Row]:
+def rows_of(folder: str, name: str, known: Mapping[str, tuple[str, ...]], needed: Sequence[str]) -> Iterator[Row]:
     """The records of a file by column; BadFile where a needed column is missing in one."""
     path = os.path.join(folder, name)
     columns = columns_of(path, known)

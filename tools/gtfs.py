@@ -15,7 +15,7 @@ from contextlib import contextmanager
 from dataclasses import dataclass, field
 from datetime import date
 from functools import lru_cache
-from typing import BinaryIO, Collection, Iterable, Iterator, NamedTuple, Optional
+from typing import IO, Collection, Iterable, Iterator, NamedTuple, Optional
 
 from quoted import is_text, quoted_records
 from railway import BadFile
@@ -100,7 +100,7 @@ class Row:
         return day
 
 
-def read_rows(name: str, file: BinaryIO, required: Iterable[str]) -> Iterator[Row]:
+def read_rows(name: str, file: IO[bytes], required: Iterable[str]) -> Iterator[Row]:
     """The rows of a file, whose first one names the columns."""
     records = quoted_records(name, file)
     _, heading = next(records, (1, []))
@@ -164,10 +164,11 @@ class Feed:
     def fault(self, file: str, line: int, column: str, what: str) -> BadFile:
         return BadFile(os.path.join(self.name, file), line, f'column {column}: {what}')
 
-    def opened(self, file: str) -> BinaryIO:
+    def opened(self, file: str) -> IO[bytes]:
         if self.zip is None:
             return open(os.path.join(self.name, file), 'rb')
-        return self.zip.open(self.inside + file)
+        opened: IO[bytes] = self.zip.open(self.inside + file)
+        return opened
 
 
 @contextmanager
@@ -329,19 +330,27 @@ class Route:
         return next((kind for kind, types in TYPES.items() if self.type in types), str(self.type))
 
 
+# The time of a call that has none yet.
+UNTIMED = -1
+
+
 @dataclass(slots=True)
 class Call:
     """A stop that a trip calls at, whether passengers may board and leave there, and the line of the file that says so.
 
-    A call of a day has both times; while the file is read a time may be missing.
+    A call of a day has both times; while the file is read they may be UNTIMED.
     """
     line: int
     stop: str
     sequence: int
-    arrival: Optional[int]
-    departure: Optional[int]
+    arrival: int
+    departure: int
     boards: bool
     leaves: bool
+
+    @property
+    def is_timed(self) -> bool:
+        return self.arrival != UNTIMED
 
 
 @dataclass
@@ -419,8 +428,8 @@ def read_day(
 
 def trip_of(row: Row, routes: dict[str, Route]) -> Trip:
     direction = row['direction_id'] and str(row.number('direction_id', 1))
-    names = [row.name(column) for column in ('trip_short_name', 'trip_headsign', 'block_id')]
-    return Trip(row['trip_id'], routes[row['route_id']], direction, *names)
+    short_name, headsign, block = (row.name(column) for column in ('trip_short_name', 'trip_headsign', 'block_id'))
+    return Trip(row['trip_id'], routes[row['route_id']], direction, short_name, headsign, block)
 
 
 def read_calls(feed: Feed, stops: Stops, day: Day, others: set[str]) -> None:
@@ -434,33 +443,33 @@ def read_calls(feed: Feed, stops: Stops, day: Day, others: set[str]) -> None:
             day.trips[trip].calls.append(call_of(row, stops))
         elif trip not in others:
             raise row.fault('trip_id', f'there is no trip {trip}')
-    for trip in list(day.trips.values()):
-        if len(trip.calls) < 2:
+    for one in list(day.trips.values()):
+        if len(one.calls) < 2:
             day.left_out['trips with fewer than two stops'] += 1
-            del day.trips[trip.id]
+            del day.trips[one.id]
         else:
-            trip.calls.sort(key=lambda call: call.sequence)
-            check_calls(feed, trip.calls)
-            day.timed_between += fill_times(feed, trip.calls)
+            one.calls.sort(key=lambda call: call.sequence)
+            check_calls(feed, one.calls)
+            day.timed_between += fill_times(feed, one.calls)
 
 
 def call_of(row: Row, stops: Stops) -> Call:
     """The call of a row, at which one time stands for both where one alone is there."""
     if row['stop_id'] not in stops.stations:
         raise row.fault('stop_id', f'there is no stop {row["stop_id"]}')
-    arrival, departure = row.time('arrival_time'), row.time('departure_time')
+    times = [time for time in (row.time('arrival_time'), row.time('departure_time')) if time is not None] or [UNTIMED]
     return Call(
-        row.line, row['stop_id'], row.number('stop_sequence', 10 ** 9), departure if arrival is None else arrival,
-        arrival if departure is None else departure, row.number('pickup_type', 3, 0) != 1, row.number('drop_off_type', 3, 0) != 1,
+        row.line, row['stop_id'], row.number('stop_sequence', 10 ** 9), times[0], times[-1], row.number('pickup_type', 3, 0) != 1,
+        row.number('drop_off_type', 3, 0) != 1,
     )
 
 
 def fill_times(feed: Feed, calls: list[Call]) -> int:
     """Spreads the calls without times evenly between those with times, which do not fall; how many they are."""
     for end in calls[0], calls[-1]:
-        if end.arrival is None:
+        if not end.is_timed:
             raise feed.fault('stop_times.txt', end.line, 'arrival_time', 'the first and the last stop of a trip need a time')
-    known = [place for place, call in enumerate(calls) if call.arrival is not None]
+    known = [place for place, call in enumerate(calls) if call.is_timed]
     for before, after in zip(known, known[1:]):
         start, length = calls[before].departure, calls[after].arrival - calls[before].departure
         for place in range(before + 1, after):
@@ -474,7 +483,7 @@ def check_calls(feed: Feed, calls: list[Call]) -> None:
     for before, call in zip(calls, calls[1:]):
         if call.sequence == before.sequence:
             raise feed.fault('stop_times.txt', call.line, 'stop_sequence', f'{call.sequence} stands twice in the trip')
-    timed = [call for call in calls if call.arrival is not None]
+    timed = [call for call in calls if call.is_timed]
     for call in timed:
         if call.departure < call.arrival:
             what = f'{clock(call.departure)} is before the arrival at {clock(call.arrival)}'
@@ -485,15 +494,19 @@ def check_calls(feed: Feed, calls: list[Call]) -> None:
             raise feed.fault('stop_times.txt', call.line, 'arrival_time', what)
 
 
+def given_time(row: Row, column: str) -> int:
+    time = row.time(column)
+    if time is None:
+        raise row.fault(column, 'nothing stands here')
+    return time
+
+
 def read_frequencies(feed: Feed, day: Day, others: set[str]) -> None:
     """Takes in how trips repeat."""
     for row in feed.rows_if_any('frequencies.txt', ['trip_id', 'start_time', 'end_time', 'headway_secs']):
         trip = row.text('trip_id')
         if trip in day.trips:
-            start, end = row.time('start_time'), row.time('end_time')
-            for column, time in ('start_time', start), ('end_time', end):
-                if time is None:
-                    raise row.fault(column, 'nothing stands here')
+            start, end = given_time(row, 'start_time'), given_time(row, 'end_time')
             every = row.number('headway_secs', LATEST)
             if every == 0:
                 raise row.fault('headway_secs', '0 is no time between two trips')

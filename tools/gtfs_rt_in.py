@@ -135,7 +135,7 @@ class Listener:
         place = self.network.event_place[name.event]
         if said is None or not said.keys() & {'time', 'delay'}:
             return last
-        at = said['time'] - self.named.begin if said.get('time') else self.network.events[place].time + said.get('delay', 0)
+        at: int = said['time'] - self.named.begin if said.get('time') else self.network.events[place].time + said.get('delay', 0)
         if last is not None and at < last:
             self.said.tell('times that fall', f'{where}, {name.kind}')
             return last
@@ -273,7 +273,7 @@ def read_source(source: str) -> bytes:
     try:
         if source.startswith(('http://', 'https://')):
             with urllib.request.urlopen(source, timeout=TIMEOUT) as answer:
-                data = answer.read(LONGEST_FILE + 1)
+                data: bytes = answer.read(LONGEST_FILE + 1)
         else:
             with open(source, 'rb') as file:
                 data = file.read(LONGEST_FILE + 1)

@@ -3,7 +3,7 @@ from __future__ import annotations
 
 import csv
 import io
-from typing import BinaryIO, Iterator
+from typing import IO, Iterator
 
 from files import BadFile
 
@@ -44,7 +44,7 @@ class Lines:
         return line
 
 
-def quoted_records(name: str, file: BinaryIO, delimiter: str = ',', comment: str | None = None) -> Iterator[tuple[int, list[str]]]:
+def quoted_records(name: str, file: IO[bytes], delimiter: str = ',', comment: str | None = None) -> Iterator[tuple[int, list[str]]]:
     """The line and the fields of each record of a file in UTF-8; a byte that is none is a lone half of a pair.
 
     Lines that begin with the comment sign are none of a record. BadFile where a quote does not close, or a record is too long. In a

@@ -1,6 +1,9 @@
 """Feeds for tests: the one that ships, small ones that are written out, and large ones that are made by rule."""
+from __future__ import annotations
+
 import os
 import zipfile
+from typing import Mapping, Union
 
 from samples import TOP
 
@@ -8,8 +11,11 @@ EXAMPLE = os.path.join(TOP, 'examples', 'six_stations')
 SHIPPED = os.path.join(EXAMPLE, 'timetable')
 DATE = '20261224'
 
+# The lines of a file, or its bytes; None where it is not there.
+File = Union[list[str], bytes, None]
+
 # A day of one line between two stations, of which tests replace files.
-SMALL = {
+SMALL: dict[str, list[str]] = {
     'stops.txt': ['stop_id,stop_name,parent_station', 'A,Ahl,', 'B,Boll,', 'C,Calm,'],
     'routes.txt': ['route_id,route_short_name,route_type', 'R,Red,2', 'G,Green,2'],
     'calendar.txt': [
@@ -24,7 +30,7 @@ SMALL = {
 }
 
 
-def write_feed(folder, files):
+def write_feed(folder: str, files: Mapping[str, File]) -> str:
     """Writes a feed of files, each a list of lines or bytes; none where it is None."""
     os.makedirs(folder)
     for name, lines in files.items():
@@ -35,7 +41,7 @@ def write_feed(folder, files):
     return folder
 
 
-def zipped(folder, name, inside=''):
+def zipped(folder: str, name: str, inside: str = '') -> str:
     """Packs the files of a folder into a zip file, in which they stand in another folder."""
     with zipfile.ZipFile(name, 'w') as archive:
         for file in sorted(os.listdir(folder)):
@@ -43,18 +49,18 @@ def zipped(folder, name, inside=''):
     return name
 
 
-def clock(seconds):
+def clock(seconds: int) -> str:
     return f'{seconds // 3600:02}:{seconds // 60 % 60:02}:{seconds % 60:02}'
 
 
-def large_feed(trips, stops=20, routes=20):
+def large_feed(trips: int, stops: int = 20, routes: int = 20) -> dict[str, File]:
     """A feed of so many trips, each over so many stations in a row, of lines that cross where their stations are the same."""
     stop_lines = [f'P{place},Place {place},' for place in range(10 * routes + stops)]
     trip_lines, time_lines = [], []
     for trip in range(trips):
         route, turn = trip % routes, trip // routes
         trip_lines.append(f'R{route},S,T{trip},{turn % 2},B{route}-{turn % 9}')
-        path = range(10 * route, 10 * route + stops)
+        path: list[int] = list(range(10 * route, 10 * route + stops))
         time = 14400 + 600 * turn + 20 * route
         for sequence, place in enumerate(path if turn % 2 == 0 else reversed(path), 1):
             time_lines.append(f'T{trip},{clock(time)},{clock(time + 60)},P{place},{sequence}')
