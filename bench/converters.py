@@ -4,22 +4,29 @@
 A timetable of so many trips by twenty calls is made, a network of 38 events a trip, which may have 100,000; and a day on which a
 hundred trains are late. Printed are the seconds of processor and the most memory of gtfs_rt_out.py, which writes all trips, of
 gtfs_rt_in.py, which reads that message beside an empty feed and beside the feed of the day, and of gtfs_rt_in.py with a message of
-3,000 trips, of which it tells those that the network has not.
+3,000 trips, of which it tells those that the network has not. The last line has the seconds of such a message alone, as it comes to
+gtfs_rt_in.py again and again with --every.
 """
 from __future__ import annotations
 
 import argparse
+import contextlib
+import io
 import os
 import subprocess
 import sys
 import tempfile
+import time
 
 TOP = os.path.join(os.path.dirname(os.path.abspath(__file__)), '..')
 sys.path[:0] = [os.path.join(TOP, 'tools'), os.path.join(TOP, 'tools', 'tests')]
 
 from feeds import DATE, large_feed, write_feed  # noqa: E402
+from giv import read_network  # noqa: E402
+from gtfs_rt_in import Listener, Said, known_rows  # noqa: E402
 from measured import Measured, measured  # noqa: E402
-from protobuf import decode, encode  # noqa: E402
+from protobuf import Message, decode, encode  # noqa: E402
+from realtime import read_named  # noqa: E402
 from words import whole_between  # noqa: E402
 
 CALLS, LATE, NOW, IN_MESSAGE = 20, 100, 28_800, 3_000
@@ -32,6 +39,18 @@ def tool(name: str, *words: str) -> Measured:
 
 def shown(what: str, done: Measured) -> None:
     print(f'{what}: {done.seconds:.2f} s, {done.megabytes:.0f} MB, status {done.status}', flush=True)
+
+
+def further(net: str, feed: str, message: Message) -> float:
+    """The seconds that a message takes which tells, a minute later, the same of each call."""
+    network = read_network(net)
+    listener = Listener(network, read_named(net), known_rows(network, feed, None), Said())
+    data = encode({**message, 'header': {**message['header'], 'timestamp': message['header']['timestamp'] + 60}})
+    with contextlib.redirect_stderr(io.StringIO()):
+        listener.take(encode(message), 'first')
+        began = time.process_time()
+        listener.take(data, 'second')
+    return time.process_time() - began
 
 
 def main() -> int:
@@ -61,6 +80,7 @@ def main() -> int:
         with open(more, 'wb') as file:
             file.write(encode(message))
         shown(f'gtfs_rt_in.py, {len(updates)} trips by {CALLS} calls in {os.path.getsize(more)} bytes', tool('gtfs_rt_in.py', net, feed, more))
+        print(f'gtfs_rt_in.py, a further message of these with --every: {further(net, feed, message):.2f} s')
     return 0
 
 

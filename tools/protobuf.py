@@ -135,32 +135,58 @@ def end_of_field(data: bytes, wire: int, place: int, end: int) -> tuple[int, int
     return place, place + length
 
 
+# The fields of each kind of message by the number with which they begin, which tells the way that they are written, too.
+BY_TAG = {
+    kind: {
+        number << 3 | (VARINT if what in SCALARS else BYTES): (name, what.lstrip('*'), what[0] == '*')
+        for number, (name, what) in fields.items()
+    }
+    for kind, fields in SCHEMA.items()
+}
+
+
 def decode(data: bytes, kind: str = 'FeedMessage', place: int = 0, end: int | None = None) -> Message:
     """The message that bytes are; BadMessage where they are none."""
     end = len(data) if end is None else end
-    fields = SCHEMA[kind]
+    fields = BY_TAG[kind]
     message: Message = {}
     while place < end:
-        tag, place = read_varint(data, place, end)
-        wire = tag & 7
-        name, what = fields.get(tag >> 3, ('', ''))
-        if wire == VARINT:
-            value, place = read_varint(data, place, end)
-            if what == 'signed' and value >> 63:
-                value -= 1 << 64
-        else:
-            begin, place = end_of_field(data, wire, place, end)
-        if not name:
+        # Most numbers are of one byte.
+        tag = data[place]
+        place += 1
+        if tag > 127:
+            tag, place = read_varint(data, place - 1, end)
+        field = fields.get(tag)
+        if field is None:
+            place = behind_other(data, kind, tag, place, end)
             continue
-        if (wire == VARINT) != (what in SCALARS) or wire in WIDTHS:
-            raise BadMessage(f'field {name} of {kind} has wire type {wire}')
-        if what[0] == '*':
-            message.setdefault(name, []).append(decode(data, what[1:], begin, place))
-        elif wire == BYTES:
-            message[name] = text_of(data[begin:place], name) if what == 'text' else decode(data, what, begin, place)
+        name, what, is_many = field
+        size = data[place] if place < end else 128
+        place += 1
+        if size > 127:
+            size, place = read_varint(data, place - 1, end)
+        if what in SCALARS:
+            message[name] = size - (1 << 64) if what == 'signed' and size >> 63 else size
+            continue
+        begin, place = place, place + size
+        if place > end:
+            raise BadMessage(f'a field at byte {begin} is longer than its message')
+        if what == 'text':
+            message[name] = text_of(data[begin:place], name)
+        elif is_many:
+            message.setdefault(name, []).append(decode(data, what, begin, place))
         else:
-            message[name] = value
+            message[name] = decode(data, what, begin, place)
     return message
+
+
+def behind_other(data: bytes, kind: str, tag: int, place: int, end: int) -> int:
+    """The place behind a field that the schema has not; BadMessage where it has it, but is written in another way."""
+    if tag >> 3 in SCHEMA[kind]:
+        raise BadMessage(f'field {SCHEMA[kind][tag >> 3][0]} of {kind} has wire type {tag & 7}')
+    if tag & 7 == VARINT:
+        return read_varint(data, place, end)[1]
+    return end_of_field(data, tag & 7, place, end)[1]
 
 
 def text_of(data: bytes, name: str) -> str:
