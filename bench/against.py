@@ -36,7 +36,10 @@ from day import write_day  # noqa: E402
 from decide import in_turn, spoken  # noqa: E402
 from measured import Measured, measured  # noqa: E402
 from programme import Posed, Programme, Window, mps_text, programme_of  # noqa: E402
-from railway import BadFile, Network, Rows, read_network  # noqa: E402
+from files import BadFile  # noqa: E402
+from giv import read_network  # noqa: E402
+from network import Network  # noqa: E402
+from railway import Rows  # noqa: E402
 from scene import read_text, rows_of  # noqa: E402
 from solution import Solution, decisions_of, read_solution  # noqa: E402
 

@@ -24,7 +24,9 @@ from day import FEED, Draws, write_day  # noqa: E402
 from delays import Drawing, Lines, drawn_day, size_of, told_lines  # noqa: E402
 from files import write_all  # noqa: E402
 from from_gtfs import texts_of  # noqa: E402
-from railway import Network, Rows, free_choices, read_network  # noqa: E402
+from giv import read_network  # noqa: E402
+from network import Network  # noqa: E402
+from railway import Rows, free_choices  # noqa: E402
 from shapes import USUAL, made  # noqa: E402
 
 

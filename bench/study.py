@@ -33,9 +33,11 @@ sys.path.insert(0, os.path.join(os.path.dirname(os.path.abspath(__file__)), '..'
 
 from delays import Drawing, Lines, drawn_day, size_of  # noqa: E402
 from figures import Curve, picture, progress, table  # noqa: E402
-from files import write_all  # noqa: E402
+from files import BadFile, write_all  # noqa: E402
 from playing import Played, Program, Replanning, replanned  # noqa: E402
-from railway import BadFile, Network, Rows, is_met, read_network  # noqa: E402
+from giv import read_network  # noqa: E402
+from network import Network  # noqa: E402
+from railway import Rows, is_met  # noqa: E402
 from scenarios import add_drawing_words, drawing_of  # noqa: E402
 from scene import read_text, rows_of  # noqa: E402
 from words import whole_between  # noqa: E402

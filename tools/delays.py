@@ -175,7 +175,7 @@ def delays_of_shape(shape: str, number: int, folder: str) -> tuple[str, list[str
     """Writes the network of a shape into a folder, and gives its folder and the lines of a drawn day."""
     from files import write_all
     from from_gtfs import texts_of
-    from railway import read_network
+    from giv import read_network
     from shapes import USUAL, made
 
     net = os.path.join(folder, 'net')

@@ -16,7 +16,7 @@ from typing import Callable, Iterable, Iterator, NamedTuple, Optional
 
 from cuts import in_words, stations_that_part
 from gtfs import Call, Day, End, Told, Transfer, Transfers, Trip, clock
-from railway import Activity, Event
+from network import Activity, Event
 
 ONE_PASSENGER = 1000
 WHOLE_DAY = 24 * 3600

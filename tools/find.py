@@ -15,9 +15,9 @@ import sys
 from dataclasses import dataclass
 from typing import Iterator, Optional, Sequence
 
-from files import speak_utf8
+from files import BadFile, in_one_line, speak_utf8
 from names import ChangeName, EventName, TrainName, read_changes, read_events, read_stops, read_trains
-from railway import BadFile, in_one_line, read_network
+from giv import read_network
 from words import command_line
 
 

@@ -40,13 +40,14 @@ from fractions import Fraction
 from typing import Iterator, Optional, Sequence
 
 from expand import PROGRAM, Expanded, Headways, Limits, Link, Notes, Passengers, Refused, Rules, Window, expand, trains_of
-from files import write_all
+from files import BadFile, in_one_line, write_all
 from gtfs import (
     TYPES, Day, Feed, Route, Row, Stops, clock, date_of, read_day, read_routes, read_rows, read_services, read_stops,
     read_transfers, read_zone, told_as,
 )
 from names import ChangeName, DayName, EventName, StopName, TrainName, in_print
-from railway import KINDS, BadFile, decimal, in_one_line, network_files
+from giv import decimal, network_files
+from network import KINDS
 from words import time_of_day, whole_between
 
 LONGEST_BOUND = 1_000_000

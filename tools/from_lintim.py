@@ -29,10 +29,11 @@ from fractions import Fraction
 from typing import Iterator, Mapping, NamedTuple, Optional, Sequence
 
 from expand import PROGRAM, Notes, Refused
-from files import write_all
+from files import BadFile, text_of, write_all
 from gtfs import Row
 from names import StopName, in_print
-from railway import KINDS, Activity, BadFile, Event, network_files, records, text_of
+from giv import network_files, records
+from network import KINDS, Activity, Event
 from words import time_of_day, whole_between
 
 LARGEST_ID = 2 ** 32 - 1

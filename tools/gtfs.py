@@ -18,7 +18,7 @@ from functools import lru_cache
 from typing import IO, Collection, Iterable, Iterator, NamedTuple, Optional
 
 from quoted import is_text, quoted_records
-from railway import BadFile
+from files import BadFile
 
 WEEKDAYS = ('monday', 'tuesday', 'wednesday', 'thursday', 'friday', 'saturday', 'sunday')
 

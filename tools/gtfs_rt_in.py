@@ -30,9 +30,10 @@ from typing import Iterator, Optional, Sequence
 from gtfs_rt_out import read_text
 from names import EventName
 from protobuf import LONGEST_FILE, BadMessage, Message, decode
-from railway import (
-    LARGEST_DELAY, LARGEST_PASSED, BadFile, Network, Rows, active_activities, apply, in_one_line, read_network, refusal_at_once, span_of,
-)
+from files import BadFile, in_one_line
+from giv import read_network
+from network import Network
+from railway import LARGEST_DELAY, LARGEST_PASSED, Rows, active_activities, apply, refusal_at_once, span_of
 from realtime import NO_DATA, SKIPPED, STOPPED_AT, TRIPS_GONE, TRIPS_TAKEN, Named, by_key, key_of, read_named
 from runtext import due_items
 

@@ -23,11 +23,11 @@ import time
 from http.server import BaseHTTPRequestHandler, HTTPServer, ThreadingHTTPServer
 from typing import Iterator, Optional, Sequence
 
-from files import write_all
+from files import BadFile, in_one_line, write_all
 from find import Found, all_changes
 from gtfs import seconds_of
 from protobuf import Message, encode
-from railway import BadFile, in_one_line, read_network
+from giv import read_network
 from realtime import NO_DATA, SCHEDULED, Named, descriptor, read_named
 from runtext import Bad, Run, read_run
 from to_gtfs import Happening, without_falls

@@ -13,7 +13,8 @@ import re
 from typing import Callable, Iterable, NamedTuple, TypeVar
 
 from quoted import is_text, quoted_records
-from railway import BadFile, whole
+from files import BadFile
+from giv import whole
 
 Named = TypeVar('Named')
 

@@ -1,4 +1,4 @@
-"""Networks, rows, refusals, least times, costs and true plans, read anew from the rules.
+"""Rows, refusals, least times, costs and true plans, read anew from the rules.
 
 It shares no code with the program and keeps nothing from one question to the next: times come from a walk along an order of all
 events, costs from all events and activities, and each node of a plan's tree from its whole path. Its words are those of
@@ -9,21 +9,13 @@ Messages, decisions, choices, refusals and nodes are tuples of a kind and what i
 ('adopt', (('drop', 5), ('first', 5, 3))), ('keep', 5), ('change', 5), ('pair', 3, 5), ('passed', 1, 100), ('inner', ('change', 5)),
 ('bound', 940000), ('cycle',).
 
-Left out: the files are to be in the standard order of columns, and limits, cycles and headways without a bound are not tested. A
-line that is no record of its file is told by `BadFile`.
+Left out: limits, cycles and headways without a bound are not tested. Files are read by giv.py, in the standard order of columns.
 """
 from __future__ import annotations
 
 from typing import Any, Iterable, NamedTuple, Optional, Sequence
 
-from files import BadFile, in_one_line, text_of
-from giv import activity_row, decimal, event_row, network_files, read_delays, read_network, records, rows_of_file, whole
-from network import KINDS, Activity, Choice, Event, Network
-
-__all__ = [
-    'BadFile', 'in_one_line', 'text_of', 'activity_row', 'decimal', 'event_row', 'network_files', 'read_delays', 'read_network', 'records',
-    'rows_of_file', 'whole', 'KINDS', 'Activity', 'Choice', 'Event', 'Network',
-]
+from network import Choice, Network
 
 MOST_ENTRIES = 1_000_000
 LARGEST_DELAY = 1_000_000

@@ -7,7 +7,7 @@ from typing import NamedTuple, Optional
 from zoneinfo import ZoneInfo, ZoneInfoNotFoundError
 
 from names import EventName, TrainName, named_trip, read_day_name, read_events, read_trains
-from railway import BadFile
+from files import BadFile
 
 # Of TripDescriptor and of StopTimeUpdate, schedule_relationship.
 SCHEDULED = 0

@@ -23,9 +23,11 @@ import tempfile
 from typing import Optional, Sequence
 
 from delays import KINDS, Drawing, Lines, Told, drawn_day, size_of
-from files import write_all
+from files import BadFile, write_all
 from playing import FEED, Played, Program, Replanning, replanned
-from railway import BadFile, Network, Rows, read_network
+from giv import read_network
+from network import Network
+from railway import Rows
 from words import add_network, command_line, whole_between
 
 

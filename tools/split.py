@@ -27,9 +27,10 @@ from typing import NamedTuple, Optional, Sequence
 
 import from_gtfs
 from expand import PROGRAM, Expanded, Limits, Refused
-from files import speak_utf8, write_all
+from files import BadFile, speak_utf8, write_all
 from gtfs import Feed
-from railway import Activity, BadFile, Event, Network, network_files, read_network
+from giv import network_files, read_network
+from network import Activity, Event, Network
 from words import stops_of, whole_between
 
 MOST_REGIONS = 100_000

@@ -27,10 +27,11 @@ import sys
 from dataclasses import dataclass
 from typing import Iterable, Optional, Sequence
 
-from files import write_all
+from files import BadFile, in_one_line, write_all
 from gtfs import Feed, clock
 from names import EventName, TrainName, named_trip, read_events, read_trains
-from railway import BadFile, Event, in_one_line, read_network
+from giv import read_network
+from network import Event
 from runtext import Bad, read_run
 from words import command_line
 

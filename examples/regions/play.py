@@ -28,7 +28,8 @@ HERE = os.path.dirname(os.path.abspath(__file__))
 TOOLS = os.path.join(HERE, '..', '..', 'tools')
 sys.path.insert(0, TOOLS)
 
-from railway import Rows, read_network, times_of  # noqa: E402
+from giv import read_network  # noqa: E402
+from railway import Rows, times_of  # noqa: E402
 from relay import read_boundary  # noqa: E402
 from runtext import read_run  # noqa: E402
 from scene import rows_of  # noqa: E402

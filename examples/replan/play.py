@@ -21,7 +21,10 @@ sys.path[:0] = [os.path.join(TOP, 'tools'), os.path.join(TOP, 'bench')]
 from day import write_day  # noqa: E402
 from delays import Told  # noqa: E402
 from playing import Played, Program, Replanning, replanned  # noqa: E402
-from railway import BadFile, Network, Rows, read_network  # noqa: E402
+from files import BadFile  # noqa: E402
+from giv import read_network  # noqa: E402
+from network import Network  # noqa: E402
+from railway import Rows  # noqa: E402
 from runtext import heard, read_run  # noqa: E402
 from scene import clock_time  # noqa: E402
 from words import whole_between  # noqa: E402

@@ -5,7 +5,8 @@ from random import Random
 
 from samples import TOOLS  # noqa: F401
 
-from railway import Activity, Event, Network, Rows, refusal_at_once, rows_after, times_of
+from network import Activity, Event, Network
+from railway import Rows, refusal_at_once, rows_after, times_of
 
 
 def drawn_network(draws: Random, trains: int = 4, legs: int = 2) -> Network:

@@ -9,7 +9,8 @@ from samples import lines_of_run
 from test_gtfs import InNetwork, trips_and_times
 
 import to_gtfs
-from railway import Rows, admit, cost_of, read_network, times_of
+from giv import read_network
+from railway import Rows, admit, cost_of, times_of
 
 
 class Back(InNetwork):

@@ -10,7 +10,8 @@ from test_gtfs import PASSENGERS, InNetwork, trips_and_times
 
 import find
 import from_gtfs
-from railway import Rows, read_network, times_of
+from giv import read_network
+from railway import Rows, times_of
 
 HEADING = 'from_stop_id,to_stop_id,from_trip_id,to_trip_id,from_route_id,to_route_id,transfer_type,min_transfer_time'
 STOPS = [SMALL['stops.txt'][0], *(f'{stop},{name},' for stop, name in zip('ABCDEF', ('Ahl', 'Boll', 'Calm', 'Dorn', 'Elm', 'Fall')))]

@@ -15,7 +15,8 @@ import to_gtfs
 from diagram import drawing
 from expand import Limits
 from names import read_events, read_labels, read_stops, read_trains
-from railway import Rows, cost_of, read_network, times_of
+from giv import read_network
+from railway import Rows, cost_of, times_of
 from scene import read_scene
 
 NET_FILES = ['Activities-expanded.giv', 'Events-expanded.giv', 'Events.csv', 'Stops.csv', 'Trains.csv']

@@ -8,7 +8,7 @@ from contextlib import redirect_stdout
 from samples import network
 
 from lint import oddities, read_files, tell
-from railway import BadFile
+from files import BadFile
 
 EVENTS = '''# events
 1; 1; "departure"; 100; 10; 1

@@ -7,7 +7,8 @@ from folders import InFolder, read
 
 import from_lintim
 from names import read_stops
-from railway import Rows, read_delays, read_network, times_of
+from giv import read_delays, read_network
+from railway import Rows, times_of
 
 EVENTS = [
     '# event-id; periodic-id; type; time; passengers; stop-id', '1; 7; "departure"; 28800; 0.0; 4',

@@ -16,7 +16,8 @@ sys.path.insert(0, os.path.join(TOP, 'bench'))
 import from_gtfs  # noqa: E402
 import gtfs_rt_in  # noqa: E402
 import morning  # noqa: E402
-from railway import Rows, admit, cost_of, read_network, times_of  # noqa: E402
+from giv import read_network  # noqa: E402
+from railway import Rows, admit, cost_of, times_of  # noqa: E402
 from runtext import heard  # noqa: E402
 
 HAS_PROTOC = unittest.skipUnless(shutil.which('protoc'), 'protoc (protobuf-compiler of Debian) is not here')

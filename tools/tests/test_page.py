@@ -11,7 +11,8 @@ from hostile import HOSTILE
 from samples import CASES, lines_of_run, network, text
 
 from names import in_print
-from railway import Activity, Event, Network, network_files
+from giv import network_files
+from network import Activity, Event, Network
 from scene import read_scene
 from view import page
 

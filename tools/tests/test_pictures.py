@@ -14,7 +14,7 @@ from samples import TOOLS, network, text
 
 from diagram import drawing, frame_of
 from markup import in_script
-from railway import Activity, Event, Network
+from network import Activity, Event, Network
 from scene import cost_parts, distances, lines_of, links_of, path_of, read_scene, trains_of, turned_pairs
 from view import page, tree_part, upper_part
 

@@ -16,7 +16,7 @@ import from_sol
 import to_mps
 from decide import in_turn
 from programme import Posed, Window, lp_text, mps_text, programme_of
-from railway import BadFile, admit, cost_of, free_choices, times_of, ways_of, with_decisions
+from railway import admit, cost_of, free_choices, times_of, ways_of, with_decisions
 from solution import decisions_of, read_solution
 
 CBC = '''Optimal - objective value 188.00000000

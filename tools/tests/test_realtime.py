@@ -17,7 +17,8 @@ from test_gtfs import InNetwork, trips_and_times
 import gtfs_rt_in
 import gtfs_rt_out
 from protobuf import SCHEMA, BadMessage, decode, encode, varint
-from railway import Rows, admit, cost_of, read_network, times_of
+from giv import read_network
+from railway import Rows, admit, cost_of, times_of
 from realtime import beginning
 
 # Midnight of 24 December 2026 in Berlin, worked out by `date -d '2026-12-24 00:00 +0100' +%s`.

@@ -18,7 +18,10 @@ import from_gtfs
 import split as split_tool
 from expand import Limits
 from names import read_events, read_stops, read_trains
-from railway import BadFile, Network, Rows, apply, read_network, times_of
+from files import BadFile
+from giv import read_network
+from network import Network
+from railway import Rows, apply, times_of
 from relay import Relay, read_boundary
 from split import Cut, boundary_text, parts_of, regions_of, split
 

@@ -9,7 +9,7 @@ from test_gtfs import InNetwork, trips_and_times
 
 import from_gtfs
 from names import read_trains
-from railway import BadFile, in_one_line
+from files import BadFile, in_one_line
 
 FREQUENCIES = 'trip_id,start_time,end_time,headway_secs,exact_times'
 

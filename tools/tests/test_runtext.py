@@ -3,7 +3,8 @@ import unittest
 
 from samples import network, text
 
-from railway import BadFile, read_network
+from files import BadFile
+from giv import read_network
 from runtext import Bad, read_run
 from scene import read_scene
 

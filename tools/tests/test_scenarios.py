@@ -17,7 +17,9 @@ import scenarios
 import shapes
 from delays import KINDS, Drawing, Lines, drawn_day, size_of
 from playing import Played, Program, Replanning, replanned
-from railway import Activity, Event, Network, Rows, apply, read_network, refusal_at_once, times_of
+from giv import read_network
+from network import Activity, Event, Network
+from railway import Rows, apply, refusal_at_once, times_of
 from runtext import due_items
 from shapes import USUAL, made
 
