@@ -46,7 +46,10 @@ pub fn tell_run<R: Eprint + Files<File = File> + AllocGlobal>(
         rest = others;
     }
     tell_refusals(rt, heard)?;
-    tell_boards(rt, &run.files, run.boards.as_slice())
+    let Ok(stops) = run.boards.to_vec(rt.alloc()) else {
+        return Ok(());
+    };
+    tell_boards(rt, &run.files, stops.as_slice())
 }
 
 /// Says what is amiss in a feed.

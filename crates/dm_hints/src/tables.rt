@@ -62,6 +62,10 @@ const AT: u32 = 512;
 
 const PLANS: u32 = 1024;
 
+const HELD: u32 = 2048;
+
+const MINIMAL: u32 = 4096;
+
 const FILES: u32 = PENALTY
     + PLANS
     + EVENT_COLUMNS
@@ -104,7 +108,7 @@ pub const COMMANDS: [CommandTable; 7] = [
         form: "window DIR TEXT FROM TO BUDGET",
         least: 5,
         most: 5,
-        options: FILES + AT,
+        options: FILES + AT + HELD + MINIMAL,
     },
     CommandTable {
         name: "rules",
@@ -123,7 +127,7 @@ pub const COMMANDS: [CommandTable; 7] = [
 ];
 
 /// All options.
-pub const OPTIONS: [OptionTable; 11] = [
+pub const OPTIONS: [OptionTable; 13] = [
     OptionTable {
         bit: PENALTY,
         name: "--penalty=",
@@ -222,6 +226,24 @@ pub const OPTIONS: [OptionTable; 11] = [
         most: 1_000_000,
         has_number: true,
         meaning: "after how many entries a window is planned (all)",
+    },
+    OptionTable {
+        bit: HELD,
+        name: "--held=",
+        example: "--held=5,6",
+        least: 0,
+        most: 0,
+        has_number: false,
+        meaning: "1 to 4096 changes and headways whose choices a window leaves as they are",
+    },
+    OptionTable {
+        bit: MINIMAL,
+        name: "--minimal=",
+        example: "--minimal=60000",
+        least: 0,
+        most: 18_446_744_073_709_551_615,
+        has_number: true,
+        meaning: "gives choices of a window's plan back while that costs no more than this",
     },
 ];
 

@@ -85,6 +85,11 @@ fn tell_text<R: Eprint + Files<File = File>>(rt: &R, name: &str, line: &[u8]) ->
     if line.strip_prefix(b"read fault ") == Some(name.as_bytes()) {
         return tell_reason(rt, name);
     }
+    if line.strip_prefix(b"refused window held ").is_some() {
+        return eprintln!(rt;
+            "dispatcher: --held: the network has no such activity, or it is neither a change nor a headway with one in the other direction"
+        );
+    }
     if line.ends_with(b" too-long") && size_of_file(rt, name) > 536_870_912 {
         let size = size_of_file(rt, name);
         return eprintln!(rt; "dispatcher: {name} has {size} bytes, and a text may have 536870912");

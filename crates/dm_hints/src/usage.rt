@@ -142,6 +142,11 @@ fn tell_lists<R: Eprint>(rt: &R, table: CommandTable, words: &[String]) -> io::R
     if let Err(fault) = Columns::read(EVENT_WORDS, activities) {
         return tell_columns(rt, "--activity-columns", ACTIVITY_WORDS, activities, fault);
     }
+    if table.name == "window" && !value_or("--held=", words, "").is_empty() {
+        return eprintln!(rt;
+            "dispatcher: window takes two times, FROM and TO, of 0 to 1000000000 seconds, TO no earlier than FROM, and a BUDGET of 1 to 16384 nodes; --held takes 1 to 4096 different numbers of activities, as --held=5,6"
+        );
+    }
     if table.name == "window" {
         return eprintln!(rt;
             "dispatcher: window takes two times, FROM and TO, of 0 to 1000000000 seconds, TO no earlier than FROM, and a BUDGET of 1 to 16384 nodes"

@@ -5,7 +5,7 @@ ghost use Rattle.dm_rows.specs.Active.{HasNoCycle};
 ghost use Rattle.dm_rows.specs.Timetable.{IsLeast};
 
 use crate::case::{Case, PENALTY, is_due};
-use dm_base::StopId;
+use dm_base::{Items, StopId};
 use dm_journey::journeys;
 use dm_network::Network;
 use dm_rows::{Rows, Snapshot};
@@ -14,7 +14,7 @@ use dm_search::plan;
 use dm_settle::{NoTimes, Times};
 use dm_times::least;
 use dm_waitrule::{WaitRule, wait_choices};
-use dm_window::window_plan;
+use dm_window::{Window, window_plan};
 use std::alloc::Global;
 
 /// More nodes than the choices of the connection can have.
@@ -44,13 +44,22 @@ impl Case for MakesPlan {
     }
 }
 
+/// The stretch in which both choices are, of which none is held.
+pub fn with_both(alloc: Global) -> Window {
+    Window {
+        from: 200,
+        to: 235,
+        held: Items::from_vec(Vec::new(alloc)),
+    }
+}
+
 /// So does that of the stretch in which both are.
 pub struct MakesWindowPlan;
 
 impl Case for MakesWindowPlan {
     fn come_out(alloc: Global, net: &Network, day: &Snapshot) -> Result<(), Failure> {
         let _times = times_of(alloc, net, &day.rows)?;
-        let plan = window_plan(alloc, net, PENALTY, day, 200, 235, NODES)?;
+        let plan = window_plan(alloc, net, PENALTY, day, &with_both(alloc), NODES)?;
         is_due(plan.cost == 940_000 && plan.bound == 940_000, 0)
     }
 }

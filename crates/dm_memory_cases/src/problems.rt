@@ -4,7 +4,7 @@ ghost use Rattle.dm_rows.specs.Decide.{IsChoiceList};
 ghost use Rattle.dm_rows.specs.Rows.{IsSized};
 
 use crate::case::{Case, LATE, PENALTY, is_due};
-use crate::plans::{NODES, times_of};
+use crate::plans::{NODES, times_of, with_both};
 use dm_base::{ActId, Cost, EventId, Items};
 use dm_network::Network;
 use dm_propagate::Engine;
@@ -109,7 +109,7 @@ fn carries_over(alloc: Global, net: &Network, day: &Snapshot) -> Result<(), Fail
 {
     net.sound();
     let _times = times_of(alloc, net, &day.rows)?;
-    let plan = window_plan(alloc, net, PENALTY, day, 200, 235, NODES)?;
+    let plan = window_plan(alloc, net, PENALTY, day, &with_both(alloc), NODES)?;
     match rebase(alloc, net, PENALTY, day, &plan) {
         Ok(rebased) => is_due(rebased.cost == BEST && rebased.choices == plan.choices, 0),
         Err(RebaseFault::OutOfMemory) => Err(Failure::OutOfMemory),

@@ -7,6 +7,7 @@ use Rattle.dm_rows.specs.declared.rows.Snapshot.{Snapshot}
 use Rattle.dm_rows.specs.History.{rows_at}
 use Rattle.dm_rows.specs.Rows.{RowsValue}
 use Rattle.dm_window.specs.Rebasing.{IsCarriedCycle, IsFirstNotFree, IsRebased}
+use Rattle.dm_window.specs.declared.windows.Window.{Window}
 use Rattle.dm_window.specs.Windows.{IsTrueWindowPlan}
 use Rattle.dm_outlook.specs.declared.outlook.Carried.{Carried}
 use Rattle.dm_outlook.specs.declared.outlook.Carried.TheVariants.{Rebased, NotFree, Cycle}
@@ -37,8 +38,8 @@ IsCarriedFrom net newer penalty choices (Some n) (Some carried) = IsCarried net 
 
 -- The plan is a true one of the window for the rows at the entry that is named, or at the last; where one is named, it is told what
 -- becomes of the plan's choices at the last.
-pub record IsOutlook (net : Net) (start : RowsValue) (penalty : ℕ) (history : List Entry) (from to budget : ℕ) (at : Option ℕ)
-    (outlook : Outlook) : Type 0 where
+pub record IsOutlook (net : Net) (start : RowsValue) (penalty : ℕ) (history : List Entry) (window : Window) (budget : ℕ)
+    (at : Option ℕ) (outlook : Outlook) : Type 0 where
   pub entry : outlook.entry ≡ entry_at at (length history)
-  pub plan : IsTrueWindowPlan net (rows_at net start history (entry_at at (length history))) penalty from to budget outlook.plan
+  pub plan : IsTrueWindowPlan net (rows_at net start history (entry_at at (length history))) penalty window budget outlook.plan
   pub carried : IsCarriedFrom net (newest net start history) penalty outlook.plan.choices at outlook.carried

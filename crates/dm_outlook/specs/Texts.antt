@@ -1,5 +1,5 @@
 -- The text of a plan of a window, and of what becomes of it at the last entry.
-use Rattle.std.specs.Prelude.{ℕ, List, [], ◌∷◌, ◌++◌, length, Option, Some, None, codes}
+use Rattle.std.specs.Prelude.{ℕ, ◌==◌, if◌then◌else◌, List, [], ◌∷◌, ◌++◌, length, Option, Some, None, codes}
 use Rattle.std.specs.Fmt.{decimal}
 use Rattle.std.specs.List.{flat_map}
 use Rattle.dm_base.specs.declared.ids.ActId.{ActId}
@@ -8,6 +8,7 @@ use Rattle.dm_rows.specs.declared.messages.Decision.{Decision}
 use Rattle.dm_feed.specs.Lines.{spelling_of_decision}
 use Rattle.dm_cert.specs.PlanTexts.{choice_text, line_end, spelling_of_plan}
 use Rattle.dm_cert.specs.RunTexts.{spaced_id}
+use Rattle.dm_window.specs.declared.windows.Window.{Window}
 use Rattle.dm_outlook.specs.declared.outlook.Carried.{Carried}
 use Rattle.dm_outlook.specs.declared.outlook.Carried.TheVariants.{Rebased, NotFree, Cycle}
 use Rattle.dm_outlook.specs.declared.outlook.Outlook.{Outlook}
@@ -16,6 +17,13 @@ use Rattle.dm_outlook.specs.declared.outlook.Outlook.{Outlook}
 unfoldable pub window_line : ℕ → ℕ → ℕ → List ℕ
 window_line from to entry =
     joined (codes "window " ∷ decimal from ∷ codes " " ∷ decimal to ∷ codes " entry " ∷ decimal entry ∷ line_end ∷ [])
+
+-- how many choices are held, if some are
+unfoldable pub held_line : ℕ → List ℕ
+held_line many = joined (codes "held " ∷ decimal many ∷ line_end ∷ [])
+
+abbrev pub held_text : ℕ → List ℕ
+held_text many = if many == 0 then [] else held_line many
 
 -- what the rows cost with the choices that are carried over, and these choices
 unfoldable pub rebased_line : ℕ → ℕ → List ℕ
@@ -41,7 +49,8 @@ abbrev pub carried_text : ℕ → Option Carried → List ℕ
 carried_text last None = []
 carried_text last (Some carried) = joined (codes "rebased " ∷ decimal last ∷ []) ++ end_text carried
 
--- a plan of the window from one time to another, and what becomes of it after so many entries
-unfoldable pub outlook_text : ℕ → ℕ → ℕ → Outlook → List ℕ
-outlook_text from to last outlook =
-    window_line from to outlook.entry ++ (spelling_of_plan 2 outlook.plan ++ carried_text last outlook.carried)
+-- a plan of the window, and what becomes of it after so many entries
+unfoldable pub outlook_text : Window → ℕ → Outlook → List ℕ
+outlook_text window last outlook =
+    window_line window.from window.to outlook.entry
+    ++ (held_text (length window.held) ++ (spelling_of_plan 2 outlook.plan ++ carried_text last outlook.carried))

@@ -10,8 +10,8 @@
 //! rows and what these cost with them, or the first choice that is not free any more, or a cycle that they make, each exactly
 //! where it comes (`IsOutlook`). Else it is want of memory.
 //!
-//! `print_outlook` writes exactly the text of all that (`outlook_text`): the window, the plan as in a run text, and what becomes
-//! of it. A write fault comes only where a write failed; the sink has then taken a front of the text, and not all of it. It takes
+//! `print_outlook` writes exactly the text of all that (`outlook_text`): the window, how many choices are held, if some are, the
+//! plan as in a run text, and what becomes of it. A write fault comes only where a write failed; the sink has then taken a front of the text, and not all of it. It takes
 //! no memory.
 #![tactic(auto)]
 

@@ -7,14 +7,14 @@ ghost use Rattle.dm_rows.specs.Rows.{IsSized};
 ghost use Rattle.dm_window.specs.Rebasing.{DecideOnce};
 ghost use Rattle.dm_outlook.specs.Outlooks.{IsCarried, IsOutlook};
 
-use dm_base::{ActId, Items, Secs};
+use dm_base::{ActId, Items};
 use dm_history::replay;
 use dm_network::Network;
 use dm_rows::{Decision, Entry, Rows, Snapshot};
 use dm_table::Table;
 use dm_times::least;
 use dm_tree::Plan;
-use dm_window::{RebaseFault, Rebased, rebase, window_plan};
+use dm_window::{RebaseFault, Rebased, Window, rebase, window_plan};
 use std::alloc::{AllocError, Global};
 
 /// What becomes of a plan's choices in newer rows.
@@ -50,24 +50,23 @@ impl Drop for Outlook {
     }
 }
 
-/// A plan for the window from one scheduled time to another, in seconds, both of them in it, of the rows after so many entries of
-/// a table, at most all, or after all where no number is given; and, where one is, what becomes of the plan after all. The plan's
+/// A plan for a window of the rows after so many entries of a table, at most all, or after all where no number is given; and,
+/// where one is, what becomes of the plan after all. The plan's
 /// tree has at most `budget` nodes; the budget is 1 to 16,384.
 pub fn outlook_of(
     alloc: Global,
     table: &Table<'_>,
-    from: Secs,
-    to: Secs,
+    window: &Window,
     budget: u64,
     at: Option<u32>,
 ) -> Result<Outlook, AllocError>
     requires budget { (1 ≤ budget) × (budget ≤ BUDGET) }
     requires at { IfSome at (λ n. n ≤ length table.now.history) }
-    ensures { IfOk result (IsOutlook table.now.network table.now.start table.now.penalty table.now.history from to budget at) }
+    ensures { IfOk result (IsOutlook table.now.network table.now.start table.now.penalty table.now.history window.now budget at) }
 {
     match at {
-        None => outlook_now(alloc, table, from, to, budget),
-        Some(at) => outlook_then(alloc, table, from, to, budget, at),
+        None => outlook_now(alloc, table, window, budget),
+        Some(at) => outlook_then(alloc, table, window, budget, at),
     }
 }
 
@@ -75,12 +74,11 @@ pub fn outlook_of(
 fn outlook_now(
     alloc: Global,
     table: &Table<'_>,
-    from: Secs,
-    to: Secs,
+    window: &Window,
     budget: u64,
 ) -> Result<Outlook, AllocError>
     requires budget { (1 ≤ budget) × (budget ≤ BUDGET) }
-    ensures { IfOk result (IsOutlook table.now.network table.now.start table.now.penalty table.now.history from to budget None) }
+    ensures { IfOk result (IsOutlook table.now.network table.now.start table.now.penalty table.now.history window.now budget None) }
 {
     table.sound();
     let now = table.copy()?;
@@ -89,8 +87,7 @@ fn outlook_now(
         table.network(),
         table.penalty(),
         &now,
-        from,
-        to,
+        window,
         budget,
     )?;
     Ok(Outlook {
@@ -104,20 +101,19 @@ fn outlook_now(
 fn outlook_then(
     alloc: Global,
     table: &Table<'_>,
-    from: Secs,
-    to: Secs,
+    window: &Window,
     budget: u64,
     at: u32,
 ) -> Result<Outlook, AllocError>
     requires budget { (1 ≤ budget) × (budget ≤ BUDGET) }
     requires at { at ≤ length table.now.history }
-    ensures { IfOk result (IsOutlook table.now.network table.now.start table.now.penalty table.now.history from to budget (Some at)) }
+    ensures { IfOk result (IsOutlook table.now.network table.now.start table.now.penalty table.now.history window.now budget (Some at)) }
 {
     table.sound();
     let net = table.network();
     net.sound();
     let then = rows_then(alloc, table, at)?;
-    let plan = window_plan(alloc, net, table.penalty(), &then, from, to, budget)?;
+    let plan = window_plan(alloc, net, table.penalty(), &then, window, budget)?;
     let now = table.copy()?;
     let carried = carried_to(alloc, net, table.penalty(), &now, &plan)?;
     Ok(Outlook {

@@ -1,28 +1,28 @@
 //! A plan of a window in print.
+ghost use Rattle.std.specs.Prelude.{length};
 ghost use Rattle.dm_outside.specs.Printing.{Prints, Puts};
-ghost use Rattle.dm_outlook.specs.Texts.{barred_text, carried_text, cycle_text, end_text, outlook_text, rebased_text};
+ghost use Rattle.dm_outlook.specs.Texts.{barred_text, carried_text, cycle_text, end_text, held_text, outlook_text, rebased_text};
 
 use crate::outlook::{Carried, Outlook};
-use dm_base::{ActId, Secs};
+use dm_base::ActId;
 use dm_cert::{put_choices, put_number, put_numbers, put_plan};
 use dm_outside::{Page, Sink, WriteFault};
 use dm_report::{put_ids, put_labelled};
 use dm_rows::Decision;
-use dm_window::Rebased;
+use dm_window::{Rebased, Window};
 
-/// Prints a plan of the window from one time to another, in seconds, and what becomes of it at the last entry, which is of this
-/// number. A write fault comes only where a write failed.
+/// Prints a plan of the window, with how many choices were held in it, if some were, and what becomes of it at the last entry, which
+/// is of this number. A write fault comes only where a write failed.
 pub fn print_outlook<K: Sink>(
-    from: Secs,
-    to: Secs,
+    window: &Window,
     last: u32,
     outlook: &Outlook,
     sink: &mut K,
 ) -> Result<(), WriteFault>
-    ensures { Puts K.taken K.faults sink.old sink.new result (outlook_text from to last outlook.now) }
+    ensures { Puts K.taken K.faults sink.old sink.new result (outlook_text window.now last outlook.now) }
 {
     let mut page = Page::new();
-    let Ok(()) = put_outlook(sink, &mut page, from, to, last, outlook) else {
+    let Ok(()) = put_outlook(sink, &mut page, window, last, outlook) else {
         return Err(WriteFault);
     };
     page.finish(sink)
@@ -31,25 +31,45 @@ pub fn print_outlook<K: Sink>(
 fn put_outlook<K: Sink>(
     sink: &mut K,
     page: &mut Page,
-    from: Secs,
-    to: Secs,
+    window: &Window,
     last: u32,
     outlook: &Outlook,
 ) -> Result<(), WriteFault>
-    ensures { Prints K.taken K.faults sink.old sink.new page.old page.new result (outlook_text from to last outlook.now) }
+    ensures { Prints K.taken K.faults sink.old sink.new page.old page.new result (outlook_text window.now last outlook.now) }
 {
     let numbers = [
-        ("window ", from as u128),
-        (" ", to as u128),
+        ("window ", window.from as u128),
+        (" ", window.to as u128),
         (" entry ", outlook.entry as u128),
     ];
     let Ok(()) = put_labelled(sink, page, &numbers, "\n") else {
+        return Err(WriteFault);
+    };
+    let Ok(()) = put_held(sink, page, window) else {
         return Err(WriteFault);
     };
     let Ok(()) = put_plan(sink, page, &outlook.plan) else {
         return Err(WriteFault);
     };
     put_carried(sink, page, last, &outlook.carried)
+}
+
+// Prints how many choices of a window are held, if some are.
+fn put_held<K: Sink>(sink: &mut K, page: &mut Page, window: &Window) -> Result<(), WriteFault>
+    ensures { Prints K.taken K.faults sink.old sink.new page.old page.new result (held_text (length window.now.held)) }
+{
+    put_many(sink, page, window.held.as_slice().len())
+}
+
+#[tactic(auto, unfolding(crate::specs::Texts::held_line))]
+fn put_many<K: Sink>(sink: &mut K, page: &mut Page, many: usize) -> Result<(), WriteFault>
+    ensures { Prints K.taken K.faults sink.old sink.new page.old page.new result (held_text many) }
+{
+    if many == 0 {
+        page.put(sink, &[])
+    } else {
+        put_number(sink, page, "held ", many as u128)
+    }
 }
 
 // Prints what becomes of a plan at the last entry, if that is told.

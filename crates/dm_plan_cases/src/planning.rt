@@ -7,7 +7,7 @@ use crate::day::Day;
 use crate::parts::{Part, plan_from};
 use crate::relaxing::Undecided;
 use crate::wrong::Wrong;
-use dm_base::Secs;
+use dm_base::{Items, Secs};
 use dm_base::limits::{BUDGET, PENALTY};
 use dm_network::Network;
 use dm_rows::{Message, Refusal, Rows, Snapshot, admit};
@@ -15,7 +15,7 @@ use dm_samples::rows_on_time;
 use dm_search::plan;
 use dm_times::least;
 use dm_tree::Plan;
-use dm_window::{RebaseFault, Rebased, rebase, window_plan};
+use dm_window::{RebaseFault, Rebased, Window as OpenWindow, rebase, window_plan};
 use std::alloc::Global;
 use std::marker::Model;
 
@@ -138,6 +138,15 @@ fn heard(alloc: Global, net: &Network, rows: &Rows, message: &Message) -> Result
     Ok(next)
 }
 
+/// A window in which nothing is held.
+fn opened(alloc: Global, window: Window) -> OpenWindow {
+    OpenWindow {
+        from: window.from,
+        to: window.to,
+        held: Items::from_vec(Vec::new(alloc)),
+    }
+}
+
 /// The plan of a window of older rows, carried over to newer ones.
 fn carried_over(
     alloc: Global,
@@ -153,8 +162,8 @@ fn carried_over(
 {
     net.sound();
     let _times = least(alloc, net, &older.rows)?;
-    let Window { from, to } = window;
-    let plan = window_plan(alloc, net, penalty, older, from, to, 100)?;
+    let open = opened(alloc, window);
+    let plan = window_plan(alloc, net, penalty, older, &open, 100)?;
     Ok(rebase(alloc, net, penalty, newer, &plan))
 }
 
@@ -172,8 +181,8 @@ fn planned_in(
     requires budget { (1 ≤ budget) × (budget ≤ BUDGET) }
 {
     let _times = least(alloc, net, &snapshot.rows)?;
-    let Window { from, to } = window;
-    Ok(window_plan(alloc, net, penalty, snapshot, from, to, budget)?)
+    let open = opened(alloc, window);
+    Ok(window_plan(alloc, net, penalty, snapshot, &open, budget)?)
 }
 
 /// A plan that is searched for from nothing.

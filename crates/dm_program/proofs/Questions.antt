@@ -26,6 +26,8 @@ use Rattle.dm_words.specs.Words.{QueryAsked}
 use Rattle.dm_words.specs.declared.queries.Query.{Query}
 use Rattle.dm_words.specs.declared.queries.Query.TheVariants.{Follow, Window, Rules, Journey}
 use Rattle.dm_words.specs.declared.queries.JourneyWords.{JourneyWords}
+use Rattle.dm_window.specs.declared.windows.Window.{Window as AWindow}
+use Rattle.dm_window.specs.Held.{IsFirstWithout}
 use Rattle.dm_words.specs.declared.queries.WindowWords.{WindowWords}
 use Rattle.dm_outlook.specs.Outlooks.{IsOutlook}
 use Rattle.dm_outlook.specs.declared.outlook.Outlook.{Outlook}
@@ -41,7 +43,7 @@ use Rattle.dm_ruling.specs.Texts.{comparison_text}
 use Rattle.dm_program.specs.Ruled.{IsComparisonOf, rule_named}
 use Rattle.dm_program.specs.Travelled.{AreJourneysOf, journeys_text, stop_numbered}
 use Rattle.dm_program.specs.Verdicts.{verdict_line}
-use Rattle.dm_program.specs.Windowed.{IsUnknownEntry, IsWindowOf, unknown_entry_line}
+use Rattle.dm_program.specs.Windowed.{HoldsNoChoice, IsUnknownEntry, IsWindowAsked, IsWindowOf, no_choice_line, unknown_entry_line}
 use Rattle.dm_outlook.specs.Texts.{outlook_text}
 use Rattle.dm_program.specs.Inside.Asking.{AreWalksIn, EndsAsked, EndsOnJournal, EndsOutlook, EndsTravelled, IsWalkIn, state_of, EndsCompared}
 
@@ -89,16 +91,18 @@ module _ (net : Net) (rows : RowsValue) (penalty : ℕ) (bytes : List ℕ) (f : 
       }) whole
 
   -- a plan of a window at one of its entries is one at an entry of the bytes, and so is a number that is above them
-  pub window_told : (asked : WindowWords) (outlook : Outlook) → IsWhole net rows penalty bytes → IfSome asked.at (λ n. n ≤ length f.table.history) →
-      IsOutlook f.table.network f.table.start f.table.penalty f.table.history asked.from asked.to asked.budget asked.at outlook →
-      IsWindowOf asked net rows penalty bytes (outlook_text asked.from asked.to (length f.table.history) outlook)
-  window_told asked outlook whole among answer =
-      on_day (λ n r p. IsWhole n r p bytes → IsWindowOf asked n r p bytes (outlook_text asked.from asked.to (length f.table.history) outlook))
+  pub window_told : (asked : WindowWords) (window : AWindow) (outlook : Outlook) → IsWhole net rows penalty bytes → IfSome asked.at (λ n. n ≤ length f.table.history) →
+      IsWindowAsked f.table.network asked window → IsOutlook f.table.network f.table.start f.table.penalty f.table.history window asked.budget asked.at outlook →
+      IsWindowOf asked net rows penalty bytes (outlook_text window (length f.table.history) outlook)
+  window_told asked window outlook whole among is_asked answer =
+      on_day (λ n r p. IsWhole n r p bytes → IsWindowOf asked n r p bytes (outlook_text window (length f.table.history) outlook))
       (λ all. record {
         whole = all;
         history = f.table.history;
         followed = is.follows.history;
         among = among;
+        window = window;
+        is_asked = is_asked;
         outlook = outlook;
         answer = answer;
         is_text = refl;
@@ -109,6 +113,12 @@ module _ (net : Net) (rows : RowsValue) (penalty : ℕ) (bytes : List ℕ) (f : 
   unknown_told asked n whole named above =
       on_day (λ net r p. IsWhole net r p bytes → IsUnknownEntry asked net r p bytes (unknown_entry_line n))
       (λ all. record { whole = all; history = f.table.history; followed = is.follows.history; n = n; named = named; above = above; is_text = refl }) whole
+
+  pub no_choice_told : (asked : WindowWords) (id : ℕ) → IsWhole net rows penalty bytes → IfSome asked.at (λ n. n ≤ length f.table.history) →
+      IsFirstWithout f.table.network asked.held id → HoldsNoChoice asked net rows penalty bytes (no_choice_line id)
+  no_choice_told asked id whole among first =
+      on_day (λ net r p. IsWhole net r p bytes → HoldsNoChoice asked net r p bytes (no_choice_line id))
+      (λ all. record { whole = all; history = f.table.history; followed = is.follows.history; among = among; id = id; first = first; is_text = refl }) whole
 
   -- a comparison over its rows is one over those of the bytes
   pub comparison_told : (asked : RulesWords) (compared : Comparison) → IsWhole net rows penalty bytes →
@@ -178,10 +188,12 @@ module _ {K : Type 0} (taken : K → Option (List ℕ)) (faults : K → ℕ) (ne
   pub answers_window : (f : FollowerValue) (asked : WindowWords) → IsFollowerOf net rows penalty bytes f → IsWhole net rows penalty bytes → EndsOutlook taken faults asked f.table before now result →
       EndsOnJournal taken faults (Window asked) net rows penalty bytes before now result
   answers_window f asked is whole (inl p) =
-      inl (record { status = Well; text = outlook_text asked.from asked.to (length f.table.history) p.outlook; answers = window_told net rows penalty bytes f is asked p.outlook whole p.among p.answer; ends = p.ends })
+      inl (record { status = Well; text = outlook_text p.window (length f.table.history) p.outlook; answers = window_told net rows penalty bytes f is asked p.window p.outlook whole p.among p.is_asked p.answer; ends = p.ends })
   answers_window f asked is whole (inr (inl u)) =
-      inl (record { status = Refused; text = unknown_entry_line u.n; answers = unknown_told net rows penalty bytes f is asked u.n whole u.named u.above; ends = u.ends })
-  answers_window f asked is whole (inr (inr short)) = inr short
+      inl (record { status = Refused; text = unknown_entry_line u.n; answers = inl (unknown_told net rows penalty bytes f is asked u.n whole u.named u.above); ends = u.ends })
+  answers_window f asked is whole (inr (inr (inl n))) =
+      inl (record { status = Refused; text = no_choice_line n.id; answers = inr (no_choice_told net rows penalty bytes f is asked n.id whole n.among n.first); ends = n.ends })
+  answers_window f asked is whole (inr (inr (inr short))) = inr short
 
   pub answers_rules : (f : FollowerValue) (asked : RulesWords) → IsFollowerOf net rows penalty bytes f → IsWhole net rows penalty bytes → EndsCompared taken faults asked f.table before now result →
       EndsOnJournal taken faults (Rules asked) net rows penalty bytes before now result

@@ -1,6 +1,6 @@
 -- What is printed of what words ask of the journal of a text. Its bytes are those that the shelf tells under its name. It comes after
 -- the files: nothing of them is refused, and they make the network and the rows at the start.
-use Rattle.std.specs.Prelude.{ℕ, ◌≡◌, ◌≤◌, List, length, Option, None, Ok, Err}
+use Rattle.std.specs.Prelude.{ℕ, ◌≡◌, ◌≤◌, ◌⊎◌, List, length, Option, None, Ok, Err}
 use Rattle.dm_base.specs.declared.limits.TheConstants.{TEXT}
 use Rattle.dm_text.specs.Places.{at_start}
 use Rattle.dm_network.specs.Net.{Net}
@@ -21,7 +21,7 @@ use Rattle.dm_program.specs.Followed.{IsStateOf}
 use Rattle.dm_program.specs.Ruled.{IsComparisonOf}
 use Rattle.dm_program.specs.Travelled.{AreJourneysOf}
 use Rattle.dm_program.specs.Verdicts.{verdict_line}
-use Rattle.dm_program.specs.Windowed.{IsUnknownEntry, IsWindowOf}
+use Rattle.dm_program.specs.Windowed.{HoldsNoChoice, IsUnknownEntry, IsWindowOf}
 
 -- ---- journals that are not followed to their end
 
@@ -56,10 +56,12 @@ Answers (Window asked) = IsWindowOf asked
 Answers (Rules asked) = IsComparisonOf asked
 Answers (Journey asked) = AreJourneysOf asked
 
--- the text refuses the question, of a journal that is whole: a window at an entry that there is not; of others nothing is refused
+-- the text refuses the question, of a journal that is whole: a window at an entry that there is not, or an activity that makes no
+-- choice which could be held; of others nothing is refused
 abbrev pub Declines : Query → Net → RowsValue → ℕ → List ℕ → List ℕ → Type 0
 Declines Follow net start penalty bytes text = ⊥
-Declines (Window asked) net start penalty bytes text = IsUnknownEntry asked net start penalty bytes text
+Declines (Window asked) net start penalty bytes text =
+    IsUnknownEntry asked net start penalty bytes text ⊎ HoldsNoChoice asked net start penalty bytes text
 Declines (Rules asked) net start penalty bytes text = ⊥
 Declines (Journey asked) net start penalty bytes text = ⊥
 

@@ -1,5 +1,5 @@
 -- What is printed of a plan of a window, and of what becomes of it at the last entry.
-use Rattle.std.specs.Prelude.{ℕ, ◌≡◌, ◌<◌, ◌≤◌, List, [], ◌∷◌, length, Some, IfSome, codes}
+use Rattle.std.specs.Prelude.{ℕ, ◌≡◌, ◌<◌, ◌≤◌, List, [], ◌∷◌, length, map, Some, IfSome, codes}
 use Rattle.std.specs.Fmt.{decimal}
 use Rattle.dm_outside.specs.Printing.{joined}
 use Rattle.dm_network.specs.Net.{Net}
@@ -10,7 +10,15 @@ use Rattle.dm_input.specs.Lines.{line_end}
 use Rattle.dm_outlook.specs.declared.outlook.Outlook.{Outlook}
 use Rattle.dm_outlook.specs.Outlooks.{IsOutlook}
 use Rattle.dm_outlook.specs.Texts.{outlook_text}
+use Rattle.dm_window.specs.declared.windows.Window.{Window}
+use Rattle.dm_window.specs.Held.{choice_named, IsFirstWithout}
 use Rattle.dm_words.specs.declared.queries.WindowWords.{WindowWords}
+
+-- the window is the one that is asked for: what is held are the choices of the activities that are named
+pub record IsWindowAsked (net : Net) (asked : WindowWords) (window : Window) : Type 0 where
+  pub from : window.from ≡ asked.from
+  pub to : window.to ≡ asked.to
+  pub held : map (choice_named net) asked.held ≡ map Some window.held
 
 -- The text is a plan of the window, after as many entries of the journal as are named, or after all, which stands whole in these
 -- bytes; and, where some are named, what becomes of the plan after all.
@@ -19,9 +27,11 @@ pub record IsWindowOf (asked : WindowWords) (net : Net) (start : RowsValue) (pen
   pub history : List Entry
   pub followed : IsFollowed net start penalty bytes history
   pub among : IfSome asked.at (λ n. n ≤ length history)
+  pub window : Window
+  pub is_asked : IsWindowAsked net asked window
   pub outlook : Outlook
-  pub answer : IsOutlook net start penalty history asked.from asked.to asked.budget asked.at outlook
-  pub is_text : text ≡ outlook_text asked.from asked.to (length history) outlook
+  pub answer : IsOutlook net start penalty history window asked.budget asked.at outlook
+  pub is_text : text ≡ outlook_text window (length history) outlook
 
 unfoldable pub unknown_entry_line : ℕ → List ℕ
 unknown_entry_line n = joined (codes "refused entry " ∷ decimal n ∷ line_end ∷ [])
@@ -35,3 +45,17 @@ pub record IsUnknownEntry (asked : WindowWords) (net : Net) (start : RowsValue) 
   pub named : asked.at ≡ Some n
   pub above : length history < n
   pub is_text : text ≡ unknown_entry_line n
+
+unfoldable pub no_choice_line : ℕ → List ℕ
+no_choice_line id = joined (codes "refused window held " ∷ decimal id ∷ line_end ∷ [])
+
+-- the text says that an activity makes no choice that could be held, the first of those that are named; the journal stands whole, and
+-- has as many entries as are named
+pub record HoldsNoChoice (asked : WindowWords) (net : Net) (start : RowsValue) (penalty : ℕ) (bytes text : List ℕ) : Type 0 where
+  pub whole : IsWhole net start penalty bytes
+  pub history : List Entry
+  pub followed : IsFollowed net start penalty bytes history
+  pub among : IfSome asked.at (λ n. n ≤ length history)
+  pub id : ℕ
+  pub first : IsFirstWithout net asked.held id
+  pub is_text : text ≡ no_choice_line id

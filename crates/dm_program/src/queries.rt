@@ -69,7 +69,7 @@ fn ask_text<R: Threads + Wait + Sync, H: Shelf, K: Sink, G: Hold + Sync>(
     net.sound();
     let penalty = words.files.penalty;
     match read_journal(means.alloc, shelf, words.text, net, rows, penalty) {
-        Ok(journal) => answer_journal(means, &journal, words.query, out),
+        Ok(journal) => answer_journal(means, &journal, &words.query, out),
         Err(TakeFault::ReadFault) => end_unread_text(words.text, out),
         Err(TakeFault::TooLong) => end_long_text(words.text, out),
         Err(TakeFault::OutOfMemory) => Status::NoMemory,
@@ -80,12 +80,12 @@ fn ask_text<R: Threads + Wait + Sync, H: Shelf, K: Sink, G: Hold + Sync>(
 fn answer_journal<R: Threads + Wait + Sync, K: Sink, G: Hold + Sync>(
     means: &Means<'_, R, G>,
     journal: &Journal<'_>,
-    query: Query,
+    query: &Query,
     out: &mut K,
 ) -> Status
-    requires within { IsWithinLimits query }
+    requires within { IsWithinLimits query.now }
     ensures ends { (net : Net) (rows : RowsValue) (penalty : ℕ) (bytes : List ℕ) → IsJournal net rows penalty bytes journal.now
-        → EndsOnJournal K.taken K.faults query net rows penalty bytes out.old out.new result }
+        → EndsOnJournal K.taken K.faults query.now net rows penalty bytes out.old out.new result }
     ensures later { K.faults out.old ≤ K.faults out.new }
 {
     match journal {
@@ -96,8 +96,8 @@ fn answer_journal<R: Threads + Wait + Sync, K: Sink, G: Hold + Sync>(
         },
         Journal::Whole(follower) => match query {
             Query::Follow => end_state(follower, out),
-            Query::Journey(asked) => end_journeys(means.alloc, follower.table(), asked, out),
-            Query::Rules(asked) => end_rules(means, follower.table(), asked, out),
+            Query::Journey(asked) => end_journeys(means.alloc, follower.table(), *asked, out),
+            Query::Rules(asked) => end_rules(means, follower.table(), *asked, out),
             Query::Window(asked) => end_window(means.alloc, follower.table(), asked, out),
         },
     }

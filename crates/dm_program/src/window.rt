@@ -1,9 +1,10 @@
 //! Plans of a window, in print.
-ghost use Rattle.std.specs.Prelude.{◌≡◌, ◌≤◌, length};
+ghost use Rattle.std.specs.Prelude.{◌≡◌, ◌≤◌, length, IfErr, IfOk};
 ghost use Rattle.dm_outlook.specs.Texts.{outlook_text};
 ghost use Rattle.dm_outside.specs.Printing.{Puts};
 ghost use Rattle.dm_program.specs.Ends.{EndsAs};
-ghost use Rattle.dm_program.specs.Windowed.{unknown_entry_line};
+ghost use Rattle.dm_window.specs.Held.{MakesNoChoice};
+ghost use Rattle.dm_program.specs.Windowed.{IsWindowAsked, no_choice_line, unknown_entry_line};
 ghost use Rattle.dm_program.specs.Inside.Asking.{EndsOutlook};
 ghost use Rattle.dm_program.specs.Inside.Stages.{IsWindowWithin};
 
@@ -11,19 +12,22 @@ use crate::status::Status;
 use crate::verdicts::put_number;
 use dm_outlook::{Outlook, outlook_of, print_outlook};
 use dm_outside::{Sink, WriteFault};
+use dm_network::Network;
 use dm_table::Table;
+use dm_window::{HeldFault, Window, held_choices};
 use dm_words::WindowWords;
 use std::alloc::{AllocError, Global};
 
-/// Prints a plan of a window at the entry that is named, and what becomes of it at the last, or at the last where none is named.
+/// Prints a plan of a window at the entry that is named, and what becomes of it at the last, or at the last where none is named;
+/// or says which entry there is not, or which activity makes no choice that could be held.
 pub fn end_window<K: Sink>(
     alloc: Global,
     table: &Table<'_>,
-    asked: WindowWords,
+    asked: &WindowWords,
     out: &mut K,
 ) -> Status
-    requires within { IsWindowWithin asked }
-    ensures ends { EndsOutlook K.taken K.faults asked table.now out.old out.new result }
+    requires within { IsWindowWithin asked.now }
+    ensures ends { EndsOutlook K.taken K.faults asked.now table.now out.old out.new result }
     ensures later { K.faults out.old ≤ K.faults out.new }
 {
     table.sound();
@@ -32,10 +36,48 @@ pub fn end_window<K: Sink>(
             return end_unknown_entry(at, out);
         }
     }
-    match outlook_of(alloc, table, asked.from, asked.to, asked.budget, asked.at) {
-        Ok(outlook) => end_outlook(asked, table.len(), &outlook, out),
+    let window = match window_of(alloc, table.network(), asked) {
+        Ok(window) => window,
+        Err(HeldFault::NoChoice(id)) => return end_no_choice(id, out),
+        Err(HeldFault::OutOfMemory) => return Status::NoMemory,
+    };
+    match outlook_of(alloc, table, &window, asked.budget, asked.at) {
+        Ok(outlook) => end_outlook(&window, table.len(), &outlook, out),
         Err(AllocError) => Status::NoMemory,
     }
+}
+
+/// The window that is asked for, with the choices that are held.
+fn window_of(alloc: Global, net: &Network, asked: &WindowWords) -> Result<Window, HeldFault>
+    ensures window { IfOk result (IsWindowAsked net.now asked.now) }
+    ensures refused { IfErr result (MakesNoChoice net.now asked.now.held) }
+{
+    match held_choices(alloc, net, asked.held.as_slice()) {
+        Ok(held) => Ok(Window {
+            from: asked.from,
+            to: asked.to,
+            held,
+        }),
+        Err(fault) => Err(fault),
+    }
+}
+
+/// Says that an activity makes no choice.
+fn end_no_choice<K: Sink>(id: u32, out: &mut K) -> Status
+    ensures ends { EndsAs K.taken K.faults out.old out.new (no_choice_line id) Status.Refused result }
+    ensures later { K.faults out.old ≤ K.faults out.new }
+{
+    match put_no_choice(out, id) {
+        Ok(()) => Status::Refused,
+        Err(WriteFault) => Status::WriteFault,
+    }
+}
+
+#[tactic(auto, unfolding(crate::specs::Windowed::no_choice_line))]
+fn put_no_choice<K: Sink>(out: &mut K, id: u32) -> Result<(), WriteFault>
+    ensures { Puts K.taken K.faults out.old out.new result (no_choice_line id) }
+{
+    put_number(out, "refused window held ", id as u128)
 }
 
 /// Says that there are fewer entries.
@@ -57,11 +99,11 @@ fn put_unknown_entry<K: Sink>(out: &mut K, at: u32) -> Result<(), WriteFault>
 }
 
 /// Prints a plan, with the number of all entries.
-fn end_outlook<K: Sink>(asked: WindowWords, last: u32, outlook: &Outlook, out: &mut K) -> Status
-    ensures ends { EndsAs K.taken K.faults out.old out.new (outlook_text asked.from asked.to last outlook.now) Status.Ok result }
+fn end_outlook<K: Sink>(window: &Window, last: u32, outlook: &Outlook, out: &mut K) -> Status
+    ensures ends { EndsAs K.taken K.faults out.old out.new (outlook_text window.now last outlook.now) Status.Ok result }
     ensures later { K.faults out.old ≤ K.faults out.new }
 {
-    match print_outlook(asked.from, asked.to, last, outlook, out) {
+    match print_outlook(window, last, outlook, out) {
         Ok(()) => Status::Ok,
         Err(WriteFault) => Status::WriteFault,
     }

@@ -29,6 +29,7 @@ use Rattle.dm_guide.specs.Posed.{choices_beside, task_beside, IsPosed}
 use Rattle.dm_search.specs.Laws.{IsTask}
 use Rattle.dm_search.proofs.Beside.{base_makes_task}
 use Rattle.dm_search.proofs.Optimal.{some_among, some_apart}
+use Rattle.dm_window.specs.declared.windows.Window.{Window}
 use Rattle.dm_window.specs.Windows.{is_change_within, is_pair_within, is_change_in, is_change_outside, is_pair_outside, choices_in, window_base, window_task, IsTrueWindowPlan}
 use Rattle.dm_window.specs.Inside.Standing.{standing_changes, standing_pairs}
 use Rattle.dm_window.proofs.Places.{gathered, kept_of_map, some_places, some_of_both}
@@ -44,14 +45,14 @@ places_below : (test : ℕ → Bool) (n : ℕ) → All (λ i. i < n) (filter tes
 places_below test n = All-filter test (λ i. i < n) (range_with_len 0 n) (all_from (λ i. i < n) (range_with_len 0 n) (range_below n))
 
 -- what is gathered place by place is the base
-pub base_gathered : (net : Net) (rows : RowsValue) (from to : ℕ) (changes all : List Decision) →
-    changes ≡ standing_changes net rows from to (length net.activities) →
-    all ≡ changes ++ standing_pairs net rows from to (length net.pairs) → all ≡ window_base net rows from to
-base_gathered net rows from to changes all e f =
-    let first = gathered (is_change_outside net rows from to) (λ a. change_decision net a (kept_at rows a)) (range_with_len 0 (length net.activities)) in
-    let second = gathered (is_pair_outside net rows from to) (λ p. pair_decision net p (small_first_at rows p)) (range_with_len 0 (length net.pairs)) in
-    f ∙ (ap (λ ds. ds ++ standing_pairs net rows from to (length net.pairs)) (e ∙ first)
-    ∙ ap (λ ds. map (λ a. change_decision net a (kept_at rows a)) (filter (is_change_outside net rows from to) (range_with_len 0 (length net.activities))) ++ ds) second)
+pub base_gathered : (net : Net) (rows : RowsValue) (window : Window) (changes all : List Decision) →
+    changes ≡ standing_changes net rows window (length net.activities) →
+    all ≡ changes ++ standing_pairs net rows window (length net.pairs) → all ≡ window_base net rows window
+base_gathered net rows window changes all e f =
+    let first = gathered (is_change_outside net rows window) (λ a. change_decision net a (kept_at rows a)) (range_with_len 0 (length net.activities)) in
+    let second = gathered (is_pair_outside net rows window) (λ p. pair_decision net p (small_first_at rows p)) (range_with_len 0 (length net.pairs)) in
+    f ∙ (ap (λ ds. ds ++ standing_pairs net rows window (length net.pairs)) (e ∙ first)
+    ∙ ap (λ ds. map (λ a. change_decision net a (kept_at rows a)) (filter (is_change_outside net rows window) (range_with_len 0 (length net.activities))) ++ ds) second)
 
 -- the choice is that of a place that is not within
 record IsOutside (choice : ℕ → Choice) (within : ℕ → Bool) (many : ℕ) (c : Choice) : Type 0 where
@@ -80,7 +81,7 @@ listed_outside as_it_is free within many i below is_free away =
 left_where : (base : List Decision) (c : Choice) (within : Bool) (d : Decision) → (is_decided base c ≡ true → within ≡ false) → (within ≡ false → Contains base d) → choice_of d ≡ c → not (is_decided base c) ≡ within
 left_where base c within d apart listed_there decides = left_exactly (is_decided base c) within apart (λ away. is_decided_by base d c (listed_there away) decides)
 
-module _ (net : Net) (network : IsNetwork net) (rows : RowsValue) (from to : ℕ) where
+module _ (net : Net) (network : IsNetwork net) (rows : RowsValue) (window : Window) where
   abbrev as_it_is : ℕ → Decision
   as_it_is a = change_decision net a (kept_at rows a)
 
@@ -88,28 +89,28 @@ module _ (net : Net) (network : IsNetwork net) (rows : RowsValue) (from to : ℕ
   pair_as_it_is p = pair_decision net p (small_first_at rows p)
 
   abbrev base_changes : List Decision
-  base_changes = map as_it_is (filter (is_change_outside net rows from to) (range_with_len 0 (length net.activities)))
+  base_changes = map as_it_is (filter (is_change_outside net rows window) (range_with_len 0 (length net.activities)))
 
   abbrev base_pairs : List Decision
-  base_pairs = map pair_as_it_is (filter (is_pair_outside net rows from to) (range_with_len 0 (length net.pairs)))
+  base_pairs = map pair_as_it_is (filter (is_pair_outside net rows window) (range_with_len 0 (length net.pairs)))
 
   -- the choices outside the window
   abbrev outside : List Choice
   outside =
-      map (change_choice net) (filter (is_change_outside net rows from to) (range_with_len 0 (length net.activities)))
-      ++ map (pair_choice net) (filter (is_pair_outside net rows from to) (range_with_len 0 (length net.pairs)))
+      map (change_choice net) (filter (is_change_outside net rows window) (range_with_len 0 (length net.activities)))
+      ++ map (pair_choice net) (filter (is_pair_outside net rows window) (range_with_len 0 (length net.pairs)))
 
-  outside_is : map choice_of (window_base net rows from to) ≡ outside
+  outside_is : map choice_of (window_base net rows window) ≡ outside
   outside_is =
-      let changes : List ℕ = filter (is_change_outside net rows from to) (range_with_len 0 (length net.activities)) in
-      let ps : List ℕ = filter (is_pair_outside net rows from to) (range_with_len 0 (length net.pairs)) in
+      let changes : List ℕ = filter (is_change_outside net rows window) (range_with_len 0 (length net.activities)) in
+      let ps : List ℕ = filter (is_pair_outside net rows window) (range_with_len 0 (length net.pairs)) in
       let first : map choice_of base_changes ≡ map (change_choice net) changes =
       map_through as_it_is choice_of (change_choice net) changes (λ k d lt. change_decides net network _ (kept_at rows _)) in
       let second : map choice_of base_pairs ≡ map (pair_choice net) ps =
       map_through pair_as_it_is choice_of (pair_choice net) ps
       (All-weaker (λ p. p < length net.pairs) (λ p. choice_of (pair_as_it_is p) ≡ pair_choice net p)
       (λ p below. pair_decides net network p (small_first_at rows p) below) ps
-      (places_below (is_pair_outside net rows from to) (length net.pairs))) in
+      (places_below (is_pair_outside net rows window) (length net.pairs))) in
       map-append choice_of base_changes base_pairs
       ∙ (ap (λ cs. cs ++ map choice_of base_pairs) first
       ∙ ap (λ cs. map (change_choice net) changes ++ cs) second)
@@ -117,115 +118,115 @@ module _ (net : Net) (network : IsNetwork net) (rows : RowsValue) (from to : ℕ
   outside_some : AreSomeOf (free_choices_of net rows) outside
   outside_some =
       some_of_both (free_changes_of net rows) (free_pairs_of net rows) _ _
-      (some_places (change_choice net) (is_free_change net rows) (λ a. not (is_change_within net from to a)) (range_with_len 0 (length net.activities)))
-      (some_places (pair_choice net) (is_free_pair net rows) (λ p. not (is_pair_within net from to p)) (range_with_len 0 (length net.pairs)))
+      (some_places (change_choice net) (is_free_change net rows) (λ a. not (is_change_within net window a)) (range_with_len 0 (length net.activities)))
+      (some_places (pair_choice net) (is_free_pair net rows) (λ p. not (is_pair_within net window p)) (range_with_len 0 (length net.pairs)))
 
-  base_list : IsChoiceList net rows (window_base net rows from to)
+  base_list : IsChoiceList net rows (window_base net rows window)
   base_list =
-      choice_list_from net rows (window_base net rows from to)
+      choice_list_from net rows (window_base net rows window)
       (subst Apart (sym outside_is) (some_apart (free_choices_of net rows) outside outside_some (free_are_apart net network rows)))
       (λ d h.
       some_among (free_choices_of net rows) outside outside_some (choice_of d)
-      (subst (λ cs. Contains cs (choice_of d)) outside_is (in_map choice_of (window_base net rows from to) d h)))
+      (subst (λ cs. Contains cs (choice_of d)) outside_is (in_map choice_of (window_base net rows window) d h)))
 
-  has_it : (d : Decision) → Contains (window_base net rows from to) d → is_set rows (flip_named net d) ≡ true
+  has_it : (d : Decision) → Contains (window_base net rows window) d → is_set rows (flip_named net d) ≡ true
   has_it d h =
       elim (Contains-append_cases base_changes base_pairs d h) [
         | inl l ↦
-            let f = from_place as_it_is (is_change_outside net rows from to) (length net.activities) d l in
+            let f = from_place as_it_is (is_change_outside net rows window) (length net.activities) d l in
             subst (λ e. is_set rows (flip_named net e) ≡ true) f.is (kept_has net network rows f.place (kept_at rows f.place) f.below refl)
         | inr r ↦
-            let f = from_place pair_as_it_is (is_pair_outside net rows from to) (length net.pairs) d r in
+            let f = from_place pair_as_it_is (is_pair_outside net rows window) (length net.pairs) d r in
             subst (λ e. is_set rows (flip_named net e) ≡ true) f.is (first_has net network rows f.place (small_first_at rows f.place) f.below refl)
       ]
 
   pub window_is_posed : (penalty budget : ℕ) → IsSized net rows → penalty ≤ PENALTY → budget ≤ BUDGET →
-      IsPosed net rows penalty (window_base net rows from to) budget
+      IsPosed net rows penalty (window_base net rows window) budget
   window_is_posed penalty budget sized within few =
       record {
         sized = sized;
         within = within;
         few = few;
         decides = base_list;
-        as_the_rows = all_from (λ d. IsTrue (is_set rows (flip_named net d))) (window_base net rows from to) has_it;
+        as_the_rows = all_from (λ d. IsTrue (is_set rows (flip_named net d))) (window_base net rows window) has_it;
       }
 
   -- a choice that the base decides is that of a change or of a pair outside the window
-  decided_at : (c : Choice) → is_decided (window_base net rows from to) c ≡ true →
-      IsOutside (change_choice net) (is_change_within net from to) (length net.activities) c ⊎ IsOutside (pair_choice net) (is_pair_within net from to) (length net.pairs) c
+  decided_at : (c : Choice) → is_decided (window_base net rows window) c ≡ true →
+      IsOutside (change_choice net) (is_change_within net window) (length net.activities) c ⊎ IsOutside (pair_choice net) (is_pair_within net window) (length net.pairs) c
   decided_at c decided =
-      let e = passes_one (λ d. is_same_choice (choice_of d) c) (window_base net rows from to) decided in
+      let e = passes_one (λ d. is_same_choice (choice_of d) c) (window_base net rows window) decided in
       let same : choice_of e.0 ≡ c = same_choice (choice_of e.0) c e.2 in
       elim (Contains-append_cases base_changes base_pairs e.0 e.1) [
         | inl l ↦
-            inl (from_outside as_it_is (change_choice net) (is_free_change net rows) (is_change_within net from to) (length net.activities) e.0 c
+            inl (from_outside as_it_is (change_choice net) (is_free_change net rows) (is_change_within net window) (length net.activities) e.0 c
             (λ a below. change_decides net network a (kept_at rows a)) l same)
         | inr r ↦
-            inr (from_outside pair_as_it_is (pair_choice net) (is_free_pair net rows) (is_pair_within net from to) (length net.pairs) e.0 c
+            inr (from_outside pair_as_it_is (pair_choice net) (is_free_pair net rows) (is_pair_within net window) (length net.pairs) e.0 c
             (λ p below. pair_decides net network p (small_first_at rows p) below) r same)
       ]
 
   -- so what it decides is outside
-  decided_change : (a : ℕ) → a < length net.activities → is_decided (window_base net rows from to) (change_choice net a) ≡ true →
-      is_change_within net from to a ≡ false
+  decided_change : (a : ℕ) → a < length net.activities → is_decided (window_base net rows window) (change_choice net a) ≡ true →
+      is_change_within net window a ≡ false
   decided_change a below decided =
       elim (decided_at (change_choice net a) decided) [
-        | inl o ↦ ap (is_change_within net from to) (sym (one_change net network o.place a o.below below o.is)) ∙ o.away
+        | inl o ↦ ap (is_change_within net window) (sym (one_change net network o.place a o.below below o.is)) ∙ o.away
         | inr o ↦ let at = o.is in cc
       ]
 
-  decided_pair : (p : ℕ) → p < length net.pairs → is_decided (window_base net rows from to) (pair_choice net p) ≡ true →
-      is_pair_within net from to p ≡ false
+  decided_pair : (p : ℕ) → p < length net.pairs → is_decided (window_base net rows window) (pair_choice net p) ≡ true →
+      is_pair_within net window p ≡ false
   decided_pair p below decided =
       elim (decided_at (pair_choice net p) decided) [
         | inl o ↦ let at = o.is in cc
-        | inr o ↦ ap (is_pair_within net from to) (sym (one_pair net network o.place p o.below below o.is)) ∙ o.away
+        | inr o ↦ ap (is_pair_within net window) (sym (one_pair net network o.place p o.below below o.is)) ∙ o.away
       ]
 
   -- and it decides every free choice that is outside
   change_is_left : (a : ℕ) → a < length net.activities → is_free_change net rows a ≡ true →
-      not (is_decided (window_base net rows from to) (change_choice net a)) ≡ is_change_within net from to a
+      not (is_decided (window_base net rows window) (change_choice net a)) ≡ is_change_within net window a
   change_is_left a below free =
-      left_where (window_base net rows from to) (change_choice net a) (is_change_within net from to a) (as_it_is a) (decided_change a below)
-      (λ o. Contains-append_left base_changes base_pairs (as_it_is a) (listed_outside as_it_is (is_free_change net rows) (is_change_within net from to) (length net.activities) a below free o))
+      left_where (window_base net rows window) (change_choice net a) (is_change_within net window a) (as_it_is a) (decided_change a below)
+      (λ o. Contains-append_left base_changes base_pairs (as_it_is a) (listed_outside as_it_is (is_free_change net rows) (is_change_within net window) (length net.activities) a below free o))
       (change_decides net network a (kept_at rows a))
 
   pair_is_left : (p : ℕ) → p < length net.pairs → is_free_pair net rows p ≡ true →
-      not (is_decided (window_base net rows from to) (pair_choice net p)) ≡ is_pair_within net from to p
+      not (is_decided (window_base net rows window) (pair_choice net p)) ≡ is_pair_within net window p
   pair_is_left p below free =
-      left_where (window_base net rows from to) (pair_choice net p) (is_pair_within net from to p) (pair_as_it_is p) (decided_pair p below)
-      (λ o. Contains-append_right base_changes base_pairs (pair_as_it_is p) (listed_outside pair_as_it_is (is_free_pair net rows) (is_pair_within net from to) (length net.pairs) p below free o))
+      left_where (window_base net rows window) (pair_choice net p) (is_pair_within net window p) (pair_as_it_is p) (decided_pair p below)
+      (λ o. Contains-append_right base_changes base_pairs (pair_as_it_is p) (listed_outside pair_as_it_is (is_free_pair net rows) (is_pair_within net window) (length net.pairs) p below free o))
       (pair_decides net network p (small_first_at rows p) below)
 
-  left_is_inside : choices_beside net rows (window_base net rows from to) ≡ choices_in net rows from to
+  left_is_inside : choices_beside net rows (window_base net rows window) ≡ choices_in net rows window
   left_is_inside =
-      let left : Choice → Bool = λ c. not (is_decided (window_base net rows from to) c) in
+      let left : Choice → Bool = λ c. not (is_decided (window_base net rows window) c) in
       filter-append left (free_changes_of net rows) (free_pairs_of net rows)
       ∙ (ap (λ cs. cs ++ filter left (free_pairs_of net rows))
-      (kept_of_map (change_choice net) (is_free_change net rows) (is_change_within net from to) left (range_with_len 0 (length net.activities))
+      (kept_of_map (change_choice net) (is_free_change net rows) (is_change_within net window) left (range_with_len 0 (length net.activities))
       (λ a h free. change_is_left a (range_below (length net.activities) a h) free))
-      ∙ ap (λ cs. map (change_choice net) (filter (is_change_in net rows from to) (range_with_len 0 (length net.activities))) ++ cs)
-      (kept_of_map (pair_choice net) (is_free_pair net rows) (is_pair_within net from to) left (range_with_len 0 (length net.pairs))
+      ∙ ap (λ cs. map (change_choice net) (filter (is_change_in net rows window) (range_with_len 0 (length net.activities))) ++ cs)
+      (kept_of_map (pair_choice net) (is_free_pair net rows) (is_pair_within net window) left (range_with_len 0 (length net.pairs))
       (λ p h free. pair_is_left p (range_below (length net.pairs) p h) free)))
 
   pub window_beside : (penalty budget : ℕ) →
-      task_beside net rows penalty (window_base net rows from to) budget ≡ window_task net rows penalty from to budget
+      task_beside net rows penalty (window_base net rows window) budget ≡ window_task net rows penalty window budget
   window_beside penalty budget =
       ap (λ (cs : List Choice).
-      record { net = net; rows = rows; penalty = penalty; base = window_base net rows from to; allowed = cs; budget = budget }) left_is_inside
+      record { net = net; rows = rows; penalty = penalty; base = window_base net rows window; allowed = cs; budget = budget }) left_is_inside
 
-  pub window_is_task : IsSized net rows → (penalty budget : ℕ) → IsTask (window_task net rows penalty from to budget)
+  pub window_is_task : IsSized net rows → (penalty budget : ℕ) → IsTask (window_task net rows penalty window budget)
   window_is_task sized penalty budget =
       subst IsTask (window_beside penalty budget)
-      (base_makes_task net rows penalty (window_base net rows from to) budget network sized base_list
-      (all_from (λ d. IsTrue (is_set rows (flip_named net d))) (window_base net rows from to) has_it))
+      (base_makes_task net rows penalty (window_base net rows window) budget network sized base_list
+      (all_from (λ d. IsTrue (is_set rows (flip_named net d))) (window_base net rows window) has_it))
 
-  pub posed_within : (penalty budget : ℕ) (base : List Decision) → base ≡ window_base net rows from to → IsSized net rows → penalty ≤ PENALTY → budget ≤ BUDGET →
+  pub posed_within : (penalty budget : ℕ) (base : List Decision) → base ≡ window_base net rows window → IsSized net rows → penalty ≤ PENALTY → budget ≤ BUDGET →
       IsPosed net rows penalty base budget
   posed_within penalty budget base e sized within few = rw e (window_is_posed penalty budget sized within few)
 
-  pub plan_within : (penalty budget : ℕ) (base : List Decision) (plan : Plan) → base ≡ window_base net rows from to →
-      IsTruePlan (task_beside net rows penalty base budget) plan → IsTrueWindowPlan net rows penalty from to budget plan
+  pub plan_within : (penalty budget : ℕ) (base : List Decision) (plan : Plan) → base ≡ window_base net rows window →
+      IsTruePlan (task_beside net rows penalty base budget) plan → IsTrueWindowPlan net rows penalty window budget plan
   plan_within penalty budget base plan e is =
       subst (λ (t : Task). IsTruePlan t plan) (window_beside penalty budget)
       (subst (λ (b : List Decision). IsTruePlan (task_beside net rows penalty b budget) plan) e is)

@@ -2,3 +2,5 @@ pub mod Places
 pub mod Beside
 pub mod Optimal
 pub mod Carrying
+pub mod Holding
+pub mod Thinning

@@ -7,14 +7,14 @@ use Rattle.dm_window.proofs.Beside.{window_is_task}
 pub window_plans_are_optimal : WindowPlansAreOptimal
 window_plans_are_optimal =
     record {
-      optimal = λ net rows penalty from to budget plan h marked.
-          optimal_is (window_task net rows penalty from to budget) (window_is_task net h.network rows from to h.sized penalty budget) plan h.is marked;
-      bound = λ net rows penalty from to budget plan ds c h costs.
-          bound_is_low (window_task net rows penalty from to budget) (window_is_task net h.network rows from to h.sized penalty budget) plan ds c h.is costs;
-      enough = λ net rows penalty from to budget plan h enough.
-          enough_is_optimal (window_task net rows penalty from to budget) (window_is_task net h.network rows from to h.sized penalty budget) plan h.is enough;
+      optimal = λ net rows penalty window budget plan h marked.
+          optimal_is (window_task net rows penalty window budget) (window_is_task net h.network rows window h.sized penalty budget) plan h.is marked;
+      bound = λ net rows penalty window budget plan ds c h costs.
+          bound_is_low (window_task net rows penalty window budget) (window_is_task net h.network rows window h.sized penalty budget) plan ds c h.is costs;
+      enough = λ net rows penalty window budget plan h enough.
+          enough_is_optimal (window_task net rows penalty window budget) (window_is_task net h.network rows window h.sized penalty budget) plan h.is enough;
     }
 
 pub window_plans_decide_once : WindowPlansDecideOnce
-window_plans_decide_once net rows penalty from to budget plan h =
-    (chosen (window_task net rows penalty from to budget) (window_is_task net h.network rows from to h.sized penalty budget) plan.choices h.is.choices).0.once
+window_plans_decide_once net rows penalty window budget plan h =
+    (chosen (window_task net rows penalty window budget) (window_is_task net h.network rows window h.sized penalty budget) plan.choices h.is.choices).0.once

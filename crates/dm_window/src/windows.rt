@@ -5,36 +5,45 @@ ghost use Rattle.dm_rows.specs.Rows.{IsSized};
 ghost use Rattle.dm_rows.specs.Active.{HasNoCycle};
 ghost use Rattle.dm_window.specs.Windows.{IsTrueWindowPlan};
 
-use crate::standing::{Window, window_base};
-use dm_base::Secs;
+use crate::standing::window_base;
+use dm_base::{Items, Secs};
 use dm_network::Network;
-use dm_rows::Snapshot;
+use dm_rows::{Choice, Snapshot};
 use dm_search::{Task, plan_task};
 use dm_tree::Plan;
 use std::alloc::{AllocError, Global};
 
-/// A true plan for the window of a snapshot's rows, which have no cycle, from one scheduled time to another, in seconds, both of
-/// them in it. It has the snapshot's entry and a tree of at most `budget` nodes, of which there are 1 to 16,384. The penalty is
-/// in seconds for each passenger, at most 1,000,000. Err is want of memory alone.
+/// What a plan may decide: what is scheduled from one time to another, in seconds, both of them in it, but for what is held.
+#[derive(Drop)]
+pub struct Window {
+    pub from: Secs,
+    pub to: Secs,
+
+    /// Choices that stay as the rows have them, whenever they are scheduled. One that is not free is none of the plan's anyway.
+    pub held: Items<Choice>,
+}
+
+/// A true plan for the window of a snapshot's rows, which have no cycle. It has the snapshot's entry and a tree of at most `budget`
+/// nodes, of which there are 1 to 16,384. The penalty is in seconds for each passenger, at most 1,000,000. Err is want of memory
+/// alone.
 pub fn window_plan(
     alloc: Global,
     net: &Network,
     penalty: u64,
     snapshot: &Snapshot,
-    from: Secs,
-    to: Secs,
+    window: &Window,
     budget: u64,
 ) -> Result<Plan, AllocError>
     requires sized { IsSized net.now snapshot.now.rows }
     requires no_cycle { HasNoCycle net.now snapshot.now.rows }
     requires penalty { penalty ≤ PENALTY }
     requires budget { (1 ≤ budget) × (budget ≤ BUDGET) }
-    ensures plan { IfOk result (IsTrueWindowPlan net.now snapshot.now.rows penalty from to budget) }
+    ensures plan { IfOk result (IsTrueWindowPlan net.now snapshot.now.rows penalty window.now budget) }
     ensures entry { IfOk result (λ plan. plan.entry ≡ snapshot.now.entry) }
 {
     net.sound();
     let rows = &snapshot.rows;
-    let base = window_base(alloc, net, rows, Window { from, to })?;
+    let base = window_base(alloc, net, rows, window)?;
     let task = Task {
         alloc,
         net,

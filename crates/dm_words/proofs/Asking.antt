@@ -3,7 +3,7 @@ use Rattle.std.proofs.Common.{◌≡◌, ◌≤◌, ℕ, List, [], ◌∷◌, le
 use Rattle.std.specs.Option.{MatchOption}
 use Rattle.std.specs.Prelude.{Result, Ok, Err, IfOk}
 use Rattle.dm_base.specs.declared.limits.TheConstants.{BOARDS}
-use Rattle.dm_words.specs.Stops.{AreBoards}
+use Rattle.dm_words.specs.Ids.{AreIdsOrNone}
 use Rattle.dm_words.specs.Words.{Command, CheckAsked, GenAsked, RunOf, CheckOf, GenOf, QueryOf, Asks, AsksCheck, AsksGen, AsksNothing, AreStopsOf, boards_of_command}
 use Rattle.dm_words.specs.Asked.{command_of}
 use Rattle.dm_words.specs.declared.command.CommandWords.{CommandWords}
@@ -35,7 +35,7 @@ stops_asked words command stops asks is =
       nothing = λ none. absurd (none command asks);
     }
 
-few_given : (value : Option (List ℕ)) (stops : List ℕ) → AreBoards value stops → length stops ≤ BOARDS
+few_given : (value : Option (List ℕ)) (stops : List ℕ) → AreIdsOrNone BOARDS value stops → length stops ≤ BOARDS
 few_given None stops none = omega (arith, ap length none)
 few_given (Some text) stops are = are.few
 

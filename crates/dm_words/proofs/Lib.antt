@@ -1,5 +1,5 @@
 pub mod WordLists
-pub mod Stopping
+pub mod Numbering
 pub mod OneCommand
 pub mod Asking
 pub mod ServerWords

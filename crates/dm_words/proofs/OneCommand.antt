@@ -4,11 +4,11 @@ use Rattle.std.specs.Char.{IsAsciiDigit}
 use Rattle.dm_lintim.specs.Columns.{FileColumns, ReadsFileColumns}
 use Rattle.dm_lintim.specs.declared.columns.ColumnFault.{ColumnFault}
 use Rattle.dm_lintim.proofs.WordLemmas.{columns_one}
-use Rattle.dm_words.specs.Options.{GivesOption, penalty_option, batch_option, boards_option, event_columns_option, activity_columns_option, event_delays_option, activity_delays_option, at_option}
-use Rattle.dm_words.specs.Stops.{AreBoards}
-use Rattle.dm_words.specs.Values.{IsNumber, IsNumberOr}
+use Rattle.dm_words.specs.Options.{GivesOption, penalty_option, batch_option, boards_option, event_columns_option, activity_columns_option, event_delays_option, activity_delays_option, held_option}
+use Rattle.dm_words.specs.Ids.{AreIdsOrNone}
+use Rattle.dm_words.specs.Values.{IsNumber, IsNumberOr, IsNumberOrNone}
 use Rattle.dm_words.specs.Words.{Command, FilesAsked, RunAsked, CheckAsked, GenAsked, QueryAsked, RunOf, CheckOf, GenOf, QueryOf, Asks, AsksFiles, AsksRun, AsksCheck, AsksGen, AsksQuery, IsPenalty, IsBatch, HasBoards, event_words, activity_words}
-use Rattle.dm_words.specs.Queries.{AsksJourney, AsksOwn, AsksRules, AsksWindow, HasEntry, HasNumber, IsEntryOrNone, IsRule, kind_of, word_of}
+use Rattle.dm_words.specs.Queries.{AsksJourney, AsksOwn, AsksRules, AsksWindow, HasHeld, HasNumber, IsRule, MayHaveNumber, kind_of, word_of}
 use Rattle.dm_words.specs.declared.options.QueryKind.{QueryKind}
 use Rattle.dm_words.specs.declared.options.QueryKind.TheVariants as kind
 use Rattle.dm_words.specs.declared.queries.JourneyWords.{JourneyWords}
@@ -18,7 +18,7 @@ use Rattle.dm_words.specs.declared.queries.Query.TheVariants.{Follow, Window, Ru
 use Rattle.dm_words.specs.declared.queries.RulesWords.{RulesWords}
 use Rattle.dm_words.specs.declared.queries.RuleWord.{RuleWord}
 use Rattle.dm_words.specs.declared.queries.RuleWord.TheVariants.{Never, Always, AtMost}
-use Rattle.dm_words.proofs.Stopping.{spell_one}
+use Rattle.dm_words.proofs.Numbering.{spell_one}
 
 given_one : (option : List ℕ) (words : List (List ℕ)) (a b : Option (List ℕ)) → GivesOption option words a → GivesOption option words b → a ≡ b
 given_one option words None None p q = refl
@@ -49,14 +49,14 @@ option_one option least most standard words a b p q =
     let same = given_one option words p.value q.value p.given q.given in
     number_or_one q.value _ _ _ a b (subst (λ (v : Option (List ℕ)). IsNumberOr v _ _ _ a) same p.is) q.is
 
-stops_one : (given : Option (List ℕ)) (a b : List ℕ) → AreBoards given a → AreBoards given b → a ≡ b
-stops_one None a b p q = p ∙ sym q
-stops_one (Some text) a b p q = spell_one _ a b p.spelled q.spelled
+ids_one : (most : ℕ) (given : Option (List ℕ)) (a b : List ℕ) → AreIdsOrNone most given a → AreIdsOrNone most given b → a ≡ b
+ids_one most None a b p q = p ∙ sym q
+ids_one most (Some text) a b p q = spell_one _ a b p.spelled q.spelled
 
 pub boards_one : (words : List (List ℕ)) (a b : List ℕ) → HasBoards words a → HasBoards words b → a ≡ b
 boards_one words a b p q =
     let same = given_one boards_option words p.value q.value p.given q.given in
-    stops_one q.value a b (subst (λ (v : Option (List ℕ)). AreBoards v a) same p.are) q.are
+    ids_one _ q.value a b (subst (λ (v : Option (List ℕ)). AreIdsOrNone _ v a) same p.are) q.are
 
 abbrev columns_read : FileColumns → Result FileColumns ColumnFault
 columns_read columns = Ok columns
@@ -166,31 +166,39 @@ journey_one names words x y p q =
     (number_one q.after _ _ x.after y.after (subst (λ (t : List ℕ). IsNumber t _ _ x.after) same.2 p.is_after) q.is_after)
     (option_one _ _ _ _ words x.changes y.changes p.changes q.changes)
 
-entry_or_one : (value : Option (List ℕ)) (a b : Option ℕ) → IsEntryOrNone value a → IsEntryOrNone value b → a ≡ b
-entry_or_one None None None p q = refl
-entry_or_one None None (Some b) p q = absurd q
-entry_or_one None (Some a) b p q = absurd p
-entry_or_one (Some text) None b p q = absurd p
-entry_or_one (Some text) (Some a) None p q = absurd q
-entry_or_one (Some text) (Some a) (Some b) p q = ap Some (number_one text _ _ a b p q)
+number_or_none_one : (value : Option (List ℕ)) (most : ℕ) (a b : Option ℕ) → IsNumberOrNone value most a → IsNumberOrNone value most b → a ≡ b
+number_or_none_one None most None None p q = refl
+number_or_none_one None most None (Some b) p q = absurd q
+number_or_none_one None most (Some a) b p q = absurd p
+number_or_none_one (Some text) most None b p q = absurd p
+number_or_none_one (Some text) most (Some a) None p q = absurd q
+number_or_none_one (Some text) most (Some a) (Some b) p q = ap Some (number_one text _ _ a b p q)
 
-entry_one : (words : List (List ℕ)) (a b : Option ℕ) → HasEntry words a → HasEntry words b → a ≡ b
-entry_one words a b p q =
-    let same = given_one at_option words p.value q.value p.given q.given in
-    entry_or_one q.value a b (subst (λ (v : Option (List ℕ)). IsEntryOrNone v a) same p.is) q.is
+may_have_one : (option : List ℕ) (most : ℕ) (words : List (List ℕ)) (a b : Option ℕ) → MayHaveNumber option most words a → MayHaveNumber option most words b → a ≡ b
+may_have_one option most words a b p q =
+    let same = given_one option words p.value q.value p.given q.given in
+    number_or_none_one q.value most a b (subst (λ (v : Option (List ℕ)). IsNumberOrNone v most a) same p.is) q.is
 
-abbrev window_of : ℕ → ℕ → ℕ → Option ℕ → WindowWords
-window_of from to budget at = record { from = from; to = to; budget = budget; at = at }
+held_one : (words : List (List ℕ)) (a b : List ℕ) → HasHeld words a → HasHeld words b → a ≡ b
+held_one words a b p q =
+    let same = given_one held_option words p.value q.value p.given q.given in
+    ids_one _ q.value a b (subst (λ (v : Option (List ℕ)). AreIdsOrNone _ v a) same p.are) q.are
+
+abbrev window_of : List ℕ → Option ℕ → ℕ → ℕ → ℕ → Option ℕ → WindowWords
+window_of held minimal from to budget at =
+    record { from = from; to = to; budget = budget; at = at; held = held; minimal = minimal }
 
 window_one : (names words : List (List ℕ)) (x y : WindowWords) → AsksWindow x names words → AsksWindow y names words → x ≡ y
 window_one names words x y p q =
     let same = three_names p.from p.to p.budget q.from q.to q.budget (sym p.are_names ∙ q.are_names) in
     let to_is : IsNumber q.to x.from _ x.to = subst (λ (t : List ℕ). IsNumber t x.from _ x.to) same.1 p.is_to in
-    four_same window_of x.from y.from x.to y.to x.budget y.budget x.at y.at
+    ap (λ held. window_of held x.minimal x.from x.to x.budget x.at) (held_one words x.held y.held p.held q.held)
+    ∙ (ap (λ minimal. window_of y.held minimal x.from x.to x.budget x.at) (may_have_one _ _ words x.minimal y.minimal p.minimal q.minimal)
+    ∙ four_same (window_of y.held y.minimal) x.from y.from x.to y.to x.budget y.budget x.at y.at
     (number_one q.from _ _ x.from y.from (subst (λ (t : List ℕ). IsNumber t _ _ x.from) same.0 p.is_from) q.is_from)
     (to_is.is ∙ sym q.is_to.is)
     (number_one q.budget _ _ x.budget y.budget (subst (λ (t : List ℕ). IsNumber t _ _ x.budget) same.2 p.is_budget) q.is_budget)
-    (entry_one words x.at y.at p.at q.at)
+    (may_have_one _ _ words x.at y.at p.at q.at))
 
 -- no number is spelled by a letter
 no_number : (word : List ℕ) (least most n letter : ℕ) (letters : List ℕ) → word ≡ letter ∷ letters → 57 < letter → IsNumber word least most n → ⊥

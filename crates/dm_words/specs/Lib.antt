@@ -1,6 +1,6 @@
 -- Names, options and stops, what words ask for, and what their readers are seen as; then the same of a server's words.
 pub mod Options
-pub mod Stops
+pub mod Ids
 pub mod Values
 pub mod Queries
 pub mod Words

@@ -37,6 +37,12 @@ boards_option = codes "--boards="
 abbrev pub at_option : List ℕ
 at_option = codes "--at="
 
+abbrev pub held_option : List ℕ
+held_option = codes "--held="
+
+abbrev pub minimal_option : List ℕ
+minimal_option = codes "--minimal="
+
 abbrev pub changes_option : List ℕ
 changes_option = codes "--changes="
 
@@ -55,7 +61,7 @@ options_of Run = batch_option ∷ workers_option ∷ boards_option ∷ file_opti
 options_of Check = file_options
 options_of Gen = penalty_option ∷ []
 options_of (Query Follow) = file_options
-options_of (Query Window) = at_option ∷ file_options
+options_of (Query Window) = at_option ∷ held_option ∷ minimal_option ∷ file_options
 options_of (Query Rules) = workers_option ∷ file_options
 options_of (Query Journey) = changes_option ∷ file_options
 

@@ -1,9 +1,10 @@
 -- What words may ask of the journal of a text: `follow DIR TEXT`, `window DIR TEXT FROM TO BUDGET`,
 -- `rules DIR TEXT RULE BUDGET` or `journey DIR TEXT FROM TO AFTER`.
-use Rattle.std.specs.Prelude.{ℕ, ◌≡◌, List, [], ◌∷◌, Option, Some, None, codes}
+use Rattle.std.specs.Prelude.{ℕ, ◌≡◌, List, [], ◌∷◌, Option, codes}
 use Rattle.dm_base.specs.declared.limits.TheConstants.{BUDGET, PASSED_TIME, TIME, WORKERS}
-use Rattle.dm_words.specs.Options.{GivesOption, at_option, changes_option, workers_option}
-use Rattle.dm_words.specs.Values.{IsNumber, IsNumberOr}
+use Rattle.dm_words.specs.Options.{GivesOption, at_option, changes_option, held_option, minimal_option, workers_option}
+use Rattle.dm_words.specs.Ids.{AreIdsOrNone}
+use Rattle.dm_words.specs.Values.{IsNumber, IsNumberOr, IsNumberOrNone}
 use Rattle.dm_words.specs.declared.options.QueryKind.{QueryKind}
 use Rattle.dm_words.specs.declared.options.QueryKind.TheVariants as kind
 use Rattle.dm_words.specs.declared.queries.JourneyWords.{JourneyWords}
@@ -13,7 +14,7 @@ use Rattle.dm_words.specs.declared.queries.RulesWords.{RulesWords}
 use Rattle.dm_words.specs.declared.queries.RuleWord.{RuleWord}
 use Rattle.dm_words.specs.declared.queries.RuleWord.TheVariants.{Never, Always, AtMost}
 use Rattle.dm_words.specs.declared.queries.Query.TheVariants.{Follow, Window, Rules, Journey}
-use Rattle.dm_words.specs.declared.queries.TheConstants.{CHANGES, LARGEST_ENTRY, LARGEST_STOP, LONGEST_WAIT, STANDARD_CHANGES, STANDARD_WORKERS}
+use Rattle.dm_words.specs.declared.queries.TheConstants.{CHANGES, HELD, LARGEST_ENTRY, LARGEST_STOP, LARGEST_WORTH, LONGEST_WAIT, STANDARD_CHANGES, STANDARD_WORKERS}
 
 abbrev pub kind_of : Query → QueryKind
 kind_of Follow = kind.Follow
@@ -28,20 +29,28 @@ word_of kind.Window = codes "window"
 word_of kind.Rules = codes "rules"
 word_of kind.Journey = codes "journey"
 
--- the entry that a value names, or none where no value is given
-abbrev pub IsEntryOrNone : Option (List ℕ) → Option ℕ → Type 0
-IsEntryOrNone None None = Unit {0}
-IsEntryOrNone None (Some at) = ⊥
-IsEntryOrNone (Some text) None = ⊥
-IsEntryOrNone (Some text) (Some at) = IsNumber text 0 LARGEST_ENTRY at
+-- the number that the words give an option, up to most, if they give it one
+pub record MayHaveNumber (option : List ℕ) (most : ℕ) (words : List (List ℕ)) (number : Option ℕ) : Type 0 where
+  pub value : Option (List ℕ)
+  pub given : GivesOption option words value
+  pub is : IsNumberOrNone value most number
 
 -- the entry that the words name, if they name one
-pub record HasEntry (words : List (List ℕ)) (at : Option ℕ) : Type 0 where
-  pub value : Option (List ℕ)
-  pub given : GivesOption at_option words value
-  pub is : IsEntryOrNone value at
+abbrev pub HasEntry : List (List ℕ) → Option ℕ → Type 0
+HasEntry words at = MayHaveNumber at_option LARGEST_ENTRY words at
 
--- the names are two times, the second no earlier than the first, and a budget, and the words may name an entry
+-- below which worth the choices of a plan are given back, if the words say it
+abbrev pub HasMinimal : List (List ℕ) → Option ℕ → Type 0
+HasMinimal words minimal = MayHaveNumber minimal_option LARGEST_WORTH words minimal
+
+-- the ids of activities whose choices are held
+pub record HasHeld (words : List (List ℕ)) (held : List ℕ) : Type 0 where
+  pub value : Option (List ℕ)
+  pub given : GivesOption held_option words value
+  pub are : AreIdsOrNone HELD value held
+
+-- the names are two times, the second no earlier than the first, and a budget; the words may name an entry and activities whose
+-- choices are held, and say which choices are given back
 pub record AsksWindow (window : WindowWords) (names words : List (List ℕ)) : Type 0 where
   pub from : List ℕ
   pub to : List ℕ
@@ -51,6 +60,8 @@ pub record AsksWindow (window : WindowWords) (names words : List (List ℕ)) : T
   pub is_to : IsNumber to window.from TIME window.to
   pub is_budget : IsNumber budget 1 BUDGET window.budget
   pub at : HasEntry words window.at
+  pub held : HasHeld words window.held
+  pub minimal : HasMinimal words window.minimal
 
 -- the word of a waiting rule
 abbrev pub IsRule : List ℕ → RuleWord → Type 0

@@ -13,3 +13,10 @@ pub record IsNumber (text : List ℕ) (least most n : ℕ) : Type 0 where
 abbrev pub IsNumberOr : Option (List ℕ) → ℕ → ℕ → ℕ → ℕ → Type 0
 IsNumberOr None least most standard n = n ≡ standard
 IsNumberOr (Some text) least most standard n = IsNumber text least most n
+
+-- the number that an option's value is, up to most, or none where it is not given
+abbrev pub IsNumberOrNone : Option (List ℕ) → ℕ → Option ℕ → Type 0
+IsNumberOrNone None most None = Unit {0}
+IsNumberOrNone None most (Some n) = ⊥
+IsNumberOrNone (Some text) most None = ⊥
+IsNumberOrNone (Some text) most (Some n) = IsNumber text 0 most n

@@ -2,10 +2,10 @@
 -- a text, with options among them.
 use Rattle.std.specs.Prelude.{ℕ, ◌≡◌, ◌≤◌, true, ◌||◌, List, [], ◌∷◌, ◌++◌, length, filter, Option, unwrap_or, Ok, codes}
 use Rattle.std.specs.List.{list_all}
-use Rattle.dm_base.specs.declared.limits.TheConstants.{PENALTY, FEEDS}
+use Rattle.dm_base.specs.declared.limits.TheConstants.{BOARDS, PENALTY, FEEDS}
 use Rattle.dm_lintim.specs.Columns.{FileColumns, ReadsFileColumns}
 use Rattle.dm_words.specs.Options.{GivesOption, activity_columns_option, activity_delays_option, batch_option, boards_option, event_columns_option, event_delays_option, is_name, is_option, options_of, penalty_option, plans_option}
-use Rattle.dm_words.specs.Stops.{AreBoards}
+use Rattle.dm_words.specs.Ids.{AreIdsOrNone}
 use Rattle.dm_words.specs.Values.{IsNumber, IsNumberOr}
 use Rattle.dm_words.specs.Queries.{AsksOwn, HasNumber, HasWorkers, kind_of, word_of}
 use Rattle.dm_words.specs.declared.files.TheConstants.{PLANS, STANDARD_PENALTY, STANDARD_PLANS}
@@ -76,7 +76,7 @@ pub record IsBatch (words : List (List ℕ)) (batch : ℕ) : Type 0 where
 pub record HasBoards (words : List (List ℕ)) (boards : List ℕ) : Type 0 where
   pub value : Option (List ℕ)
   pub given : GivesOption boards_option words value
-  pub are : AreBoards value boards
+  pub are : AreIdsOrNone BOARDS value boards
 
 -- the column words of a file, which stand in the standard order where none are given
 abbrev pub standard_event_words : List ℕ

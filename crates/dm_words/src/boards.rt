@@ -12,7 +12,7 @@ pub fn board_words(alloc: Global, words: &[String]) -> Result<Vec<u32>, AllocErr
     ensures few { IfOk result (λ stops. vec_len stops ≤ BOARDS) }
 {
     match read_words(words) {
-        Some(CommandWords::Run(run)) => Vec::from_slice(alloc, run.boards.as_slice()),
+        Some(CommandWords::Run(run)) => run.boards.to_vec(alloc),
         _ => Ok(Vec::new(alloc)),
     }
 }

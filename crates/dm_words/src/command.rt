@@ -4,12 +4,12 @@ ghost use Rattle.dm_words.specs.Words.{Asks, AsksCheck, AsksGen, AsksNothing, As
 ghost use Rattle.dm_words.specs.Asked.{check_of, command_of, gen_of, query_of, run_of};
 
 use crate::files::{FileWords, number_of, number_or, penalty_of, read_files};
+use crate::ids::{Ids, ids_of};
 use crate::options::{
     BATCH_OPTION, BOARDS_OPTION, Kind, Names, are_known, count_names, given, next_name, two_names,
 };
 use crate::queries::{QueryWords, kind_of_word, read_query, workers_of};
-use crate::stops::{Stops, boards_of};
-use dm_base::limits::FEEDS;
+use dm_base::limits::{BOARDS, FEEDS};
 
 /// The most lines of a feed that are answered in a round, and how many where the words do not say it.
 pub const BATCH: u64 = 1_000_000;
@@ -36,8 +36,8 @@ pub struct RunWords<'a> {
     /// How many workers search for a plan, from 1 to 16.
     pub workers: u32,
 
-    /// The stops of the boards.
-    pub boards: Stops,
+    /// The stops of the boards, at most 64.
+    pub boards: Ids<'a>,
 }
 
 /// The words of a check.
@@ -81,14 +81,14 @@ fn batch_of(words: &[String]) -> Option<u64>
 }
 
 /// The stops of the boards.
-pub fn stops_of(words: &[String]) -> Option<Stops>
+pub fn stops_of(words: &[String]) -> Option<Ids<'_>>
     ensures { MatchOption result ((stops : List ℕ) → HasBoards (map string_bytes words.now) stops → ⊥)
         (λ stops. HasBoards (map string_bytes words.now) stops) }
 {
     let Some(boards) = given(BOARDS_OPTION, words) else {
         return None;
     };
-    boards_of(boards)
+    ids_of(boards, BOARDS)
 }
 
 /// What the words behind `run` ask for.

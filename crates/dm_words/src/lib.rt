@@ -16,16 +16,16 @@
 mod boards;
 mod command;
 mod files;
+mod ids;
 pub mod laws;
 mod options;
 mod queries;
 mod serve;
-mod stops;
 
 pub use boards::board_words;
 pub use command::{CheckWords, CommandWords, GenWords, RunWords, read_words};
 pub use files::FileWords;
+pub use ids::Ids;
 pub use options::Names;
 pub use queries::{JourneyWords, Query, QueryWords, RuleWord, RulesWords, WindowWords};
 pub use serve::{LiveWords, ServeWords, read_serve_words};
-pub use stops::Stops;

@@ -24,6 +24,10 @@ pub const BOARDS_OPTION: &str = "--boards=";
 
 pub const AT_OPTION: &str = "--at=";
 
+pub const HELD_OPTION: &str = "--held=";
+
+pub const MINIMAL_OPTION: &str = "--minimal=";
+
 pub const CHANGES_OPTION: &str = "--changes=";
 
 pub const WORKERS_OPTION: &str = "--workers=";
@@ -88,7 +92,10 @@ fn is_option(kind: Kind, word: &str) -> bool
         Kind::Check | Kind::Query(QueryKind::Follow) => is_file_option(word),
         Kind::Gen => behind(PENALTY_OPTION, word).is_some(),
         Kind::Query(QueryKind::Window) => {
-            behind(AT_OPTION, word).is_some() || is_file_option(word)
+            behind(AT_OPTION, word).is_some()
+                || behind(HELD_OPTION, word).is_some()
+                || behind(MINIMAL_OPTION, word).is_some()
+                || is_file_option(word)
         }
         Kind::Query(QueryKind::Rules) => {
             behind(WORKERS_OPTION, word).is_some() || is_file_option(word)

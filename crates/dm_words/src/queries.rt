@@ -2,13 +2,14 @@
 ghost use Rattle.std.specs.Prelude.{ℕ, ◌≡◌, List, map, filter, string_bytes, Option, MatchOption};
 ghost use Rattle.dm_words.specs.Asked.{query_of};
 ghost use Rattle.dm_words.specs.Options.{is_name};
-ghost use Rattle.dm_words.specs.Queries.{AsksJourney, AsksOwn, AsksRules, AsksWindow, HasChanges, HasEntry, HasWorkers, IsRule, kind_of, word_of};
+ghost use Rattle.dm_words.specs.Queries.{AsksJourney, AsksOwn, AsksRules, AsksWindow, HasChanges, HasEntry, HasHeld, HasMinimal, HasWorkers, IsRule, MayHaveNumber, kind_of, word_of};
 ghost use Rattle.dm_words.specs.Words.{AsksQuery, QueryAsked};
 
 use crate::files::{FileWords, number_of, number_or, read_files};
+use crate::ids::{Ids, ids_of};
 use crate::options::{
-    AT_OPTION, CHANGES_OPTION, Kind, QueryKind, WORKERS_OPTION, are_known, given, next_name,
-    three_names, two_names,
+    AT_OPTION, CHANGES_OPTION, HELD_OPTION, Kind, MINIMAL_OPTION, QueryKind, WORKERS_OPTION,
+    are_known, given, next_name, three_names, two_names,
 };
 use dm_base::limits::{BUDGET, PASSED_TIME, TIME, WORKERS};
 
@@ -17,8 +18,14 @@ pub const CHANGES: u64 = 8;
 
 pub const STANDARD_CHANGES: u64 = 4;
 
+/// The most activities whose choices a window holds.
+pub const HELD: usize = 4_096;
+
 /// The largest number of an entry.
 pub const LARGEST_ENTRY: u64 = 1_000_000;
+
+/// The largest worth below which choices are given back.
+pub const LARGEST_WORTH: u64 = 18_446_744_073_709_551_615;
 
 /// The largest number of a stop.
 pub const LARGEST_STOP: u64 = 4_294_967_295;
@@ -65,8 +72,8 @@ pub struct JourneyWords {
 }
 
 /// A plan of a stretch of scheduled time, in seconds, with both of its ends.
-#[derive(Clone, Copy, PartialEq, Eq, Debug)]
-pub struct WindowWords {
+#[derive(Drop)]
+pub struct WindowWords<'a> {
     /// At most `TIME`, and no later than `to`.
     pub from: u64,
 
@@ -78,16 +85,22 @@ pub struct WindowWords {
 
     /// The entry for whose rows the plan is made, at most 1,000,000, or the last one.
     pub at: Option<u32>,
+
+    /// The ids of activities whose choices are held, at most 4,096.
+    pub held: Ids<'a>,
+
+    /// In thousandths of passenger seconds: choices that are worth less are given back, or none are.
+    pub minimal: Option<u64>,
 }
 
 /// What is asked of a journal.
-#[derive(Clone, Copy, PartialEq, Eq, Debug)]
-pub enum Query {
+#[derive(Drop)]
+pub enum Query<'a> {
     /// The timetable after the entries that the text carries.
     Follow,
 
     /// A plan of a stretch of time.
-    Window(WindowWords),
+    Window(WindowWords<'a>),
 
     /// What a waiting rule chooses after the last entry, beside a plan.
     Rules(RulesWords),
@@ -103,7 +116,7 @@ pub struct QueryWords<'a> {
 
     /// The name of the text, as it is opened.
     pub text: &'a str,
-    pub query: Query,
+    pub query: Query<'a>,
 }
 
 /// What the command word asks of a journal, if it asks something of one.
@@ -217,25 +230,58 @@ fn read_journey(names: &[String], words: &[String]) -> Option<JourneyWords>
     })
 }
 
-/// The entry that the words name, if they name one.
-fn at_of(words: &[String]) -> Option<Option<u32>>
-    ensures { MatchOption result ((at : Option ℕ) → HasEntry (map string_bytes words.now) at → ⊥)
-        (λ at. HasEntry (map string_bytes words.now) at) }
+/// The number that the words give an option, at most `most`, if they give it one.
+fn optional(option: &str, most: u64, words: &[String]) -> Option<Option<u64>>
+    ensures { MatchOption result ((n : Option ℕ) → MayHaveNumber option.now most (map string_bytes words.now) n → ⊥)
+        (λ n. MayHaveNumber option.now most (map string_bytes words.now) n) }
 {
-    let Some(at) = given(AT_OPTION, words) else {
+    let Some(value) = given(option, words) else {
         return None;
     };
-    match at {
-        Some(text) => match number_of(text, 0, LARGEST_ENTRY) {
-            Some(at) => Some(Some(at as u32)),
+    match value {
+        Some(text) => match number_of(text, 0, most) {
+            Some(number) => Some(Some(number)),
             None => None,
         },
         None => Some(None),
     }
 }
 
+/// The entry that the words name, if they name one.
+fn at_of(words: &[String]) -> Option<Option<u32>>
+    ensures { MatchOption result ((at : Option ℕ) → HasEntry (map string_bytes words.now) at → ⊥)
+        (λ at. HasEntry (map string_bytes words.now) at) }
+{
+    let Some(at) = optional(AT_OPTION, LARGEST_ENTRY, words) else {
+        return None;
+    };
+    match at {
+        Some(at) => Some(Some(at as u32)),
+        None => Some(None),
+    }
+}
+
+/// Below which worth choices are given back, if the words say it.
+fn minimal_of(words: &[String]) -> Option<Option<u64>>
+    ensures { MatchOption result ((minimal : Option ℕ) → HasMinimal (map string_bytes words.now) minimal → ⊥)
+        (λ minimal. HasMinimal (map string_bytes words.now) minimal) }
+{
+    optional(MINIMAL_OPTION, LARGEST_WORTH, words)
+}
+
+/// The activities whose choices are held.
+fn held_of(words: &[String]) -> Option<Ids<'_>>
+    ensures { MatchOption result ((held : List ℕ) → HasHeld (map string_bytes words.now) held → ⊥)
+        (λ held. HasHeld (map string_bytes words.now) held) }
+{
+    let Some(held) = given(HELD_OPTION, words) else {
+        return None;
+    };
+    ids_of(held, HELD)
+}
+
 /// The window that the names behind a text, and the options among the words, ask for.
-fn read_window(names: &[String], words: &[String]) -> Option<WindowWords>
+fn read_window<'a>(names: &'a [String], words: &'a [String]) -> Option<WindowWords<'a>>
     ensures { MatchOption result ((window : _)
         → AsksWindow window (filter is_name (map string_bytes names.now)) (map string_bytes words.now) → ⊥)
         (λ window. AsksWindow window (filter is_name (map string_bytes names.now)) (map string_bytes words.now)) }
@@ -255,16 +301,24 @@ fn read_window(names: &[String], words: &[String]) -> Option<WindowWords>
     let Some(at) = at_of(words) else {
         return None;
     };
+    let Some(held) = held_of(words) else {
+        return None;
+    };
+    let Some(minimal) = minimal_of(words) else {
+        return None;
+    };
     Some(WindowWords {
         from,
         to,
         budget,
         at,
+        held,
+        minimal,
     })
 }
 
 /// What the names behind a text, and the options among the words, ask of its journal.
-fn read_own(kind: QueryKind, names: &[String], words: &[String]) -> Option<Query>
+fn read_own<'a>(kind: QueryKind, names: &'a [String], words: &'a [String]) -> Option<Query<'a>>
     ensures { MatchOption result ((query : _) → kind_of query ≡ kind
         → AsksOwn query (filter is_name (map string_bytes names.now)) (map string_bytes words.now) → ⊥)
         (λ query. (kind_of query ≡ kind) × AsksOwn query (filter is_name (map string_bytes names.now)) (map string_bytes words.now)) }

@@ -33,7 +33,9 @@ use Rattle.dm_ruling.specs.Texts.{comparison_text}
 use Rattle.dm_program.specs.Ruled.{rule_named}
 use Rattle.dm_program.specs.Travelled.{journeys_text, stop_numbered}
 use Rattle.dm_program.specs.Verdicts.{long_text_line, unread_text_line}
-use Rattle.dm_program.specs.Windowed.{unknown_entry_line}
+use Rattle.dm_window.specs.declared.windows.Window.{Window}
+use Rattle.dm_window.specs.Held.{IsFirstWithout}
+use Rattle.dm_program.specs.Windowed.{IsWindowAsked, no_choice_line, unknown_entry_line}
 use Rattle.dm_outlook.specs.Texts.{outlook_text}
 use Rattle.dm_program.specs.Inside.Checking.{EndsAtFiles}
 
@@ -69,13 +71,16 @@ pub record PrintsJourneys {K : Type 0} (taken : K → Option (List ℕ)) (faults
 abbrev pub EndsTravelled : {K : Type 0} → (K → Option (List ℕ)) → (K → ℕ) → JourneyWords → TableValue → K → K → Status → Type 0
 EndsTravelled taken faults asked table before now result = PrintsJourneys taken faults asked table before now result ⊎ ((now ≡ before) × (result ≡ NoMemory))
 
--- a plan that answers the question was printed, or that there are fewer entries than are named, or there was not enough memory
+-- a plan that answers the question was printed, or that there are fewer entries than are named, or that an activity makes no choice
+-- which could be held, or there was not enough memory
 pub record PrintsOutlook {K : Type 0} (taken : K → Option (List ℕ)) (faults : K → ℕ) (asked : WindowWords) (table : TableValue) (before now : K) (result : Status) : Type 0 where
   pub is_table : IsTable table
   pub among : IfSome asked.at (λ n. n ≤ length table.history)
+  pub window : Window
+  pub is_asked : IsWindowAsked table.network asked window
   pub outlook : Outlook
-  pub answer : IsOutlook table.network table.start table.penalty table.history asked.from asked.to asked.budget asked.at outlook
-  pub ends : EndsAs taken faults before now (outlook_text asked.from asked.to (length table.history) outlook) Well result
+  pub answer : IsOutlook table.network table.start table.penalty table.history window asked.budget asked.at outlook
+  pub ends : EndsAs taken faults before now (outlook_text window (length table.history) outlook) Well result
 
 pub record PrintsUnknown {K : Type 0} (taken : K → Option (List ℕ)) (faults : K → ℕ) (asked : WindowWords) (table : TableValue) (before now : K) (result : Status) : Type 0 where
   pub n : ℕ
@@ -83,10 +88,17 @@ pub record PrintsUnknown {K : Type 0} (taken : K → Option (List ℕ)) (faults 
   pub above : length table.history < n
   pub ends : EndsAs taken faults before now (unknown_entry_line n) Refused result
 
+pub record PrintsNoChoice {K : Type 0} (taken : K → Option (List ℕ)) (faults : K → ℕ) (asked : WindowWords) (table : TableValue) (before now : K) (result : Status) : Type 0 where
+  pub among : IfSome asked.at (λ n. n ≤ length table.history)
+  pub id : ℕ
+  pub first : IsFirstWithout table.network asked.held id
+  pub ends : EndsAs taken faults before now (no_choice_line id) Refused result
+
 abbrev pub EndsOutlook : {K : Type 0} → (K → Option (List ℕ)) → (K → ℕ) → WindowWords → TableValue → K → K → Status → Type 0
 EndsOutlook taken faults asked table before now result =
     PrintsOutlook taken faults asked table before now result
-    ⊎ (PrintsUnknown taken faults asked table before now result ⊎ ((now ≡ before) × (result ≡ NoMemory)))
+    ⊎ (PrintsUnknown taken faults asked table before now result
+    ⊎ (PrintsNoChoice taken faults asked table before now result ⊎ ((now ≡ before) × (result ≡ NoMemory))))
 
 -- a comparison that answers the question was printed, or there was not enough memory
 pub record PrintsComparison {K : Type 0} (taken : K → Option (List ℕ)) (faults : K → ℕ) (asked : RulesWords) (table : TableValue) (before now : K) (result : Status) : Type 0 where

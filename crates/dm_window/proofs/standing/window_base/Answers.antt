@@ -9,10 +9,9 @@ pub returns : goal.returns
 returns c =
     let net = c.args.net.now in
     let rows = c.args.rows.now in
-    let from = c.args.window.from in
-    let to = c.args.window.to in
+    let window = c.args.window.now in
     IfOk-weaker c.with_standing_pairs.result
-    (λ ds. ds.items ≡ c.in_ok-changes.changes.items ++ standing_pairs net rows from to (length net.pairs))
-    (λ ds. ds.items ≡ window_base net rows from to)
-    (λ ds is. base_gathered net rows from to c.in_ok-changes.changes.items ds.items c.in_ok-changes.ensures is)
+    (λ ds. ds.items ≡ c.in_ok-changes.changes.items ++ standing_pairs net rows window (length net.pairs))
+    (λ ds. ds.items ≡ window_base net rows window)
+    (λ ds is. base_gathered net rows window c.in_ok-changes.changes.items ds.items c.in_ok-changes.ensures is)
     c.with_standing_pairs.ensures

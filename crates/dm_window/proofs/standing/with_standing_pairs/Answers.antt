@@ -6,6 +6,6 @@ use Rattle.dm_window.proofs.standing.with_standing_pairs.Goals as goal
 
 pub loop-p-preserved : goal.loop-p-preserved
 loop-p-preserved c =
-    gathered_more (standing_pair c.args.net.now c.args.rows.now c.args.window.from c.args.window.to) c.args.changes.items c.loop-p.p
+    gathered_more (standing_pair c.args.net.now c.args.rows.now c.args.window.now) c.args.changes.items c.loop-p.p
     c.loop-p.decisions.items _ c.loop-p.invariant
     (c.in_ok-push_some.ensures ∙ ap (λ o. c.loop-p.decisions.items ++ cons_option o []) c.standing_pair.ensures)

@@ -5,7 +5,7 @@ use Rattle.dm_window.proofs.windows.window_plan.Goals as goal
 
 pub plan_task-requires-clause-posed : goal.plan_task-requires-clause-posed
 plan_task-requires-clause-posed c =
-    posed_within _ c.sound.ensures.network _ c.args.from c.args.to _ _ _ (c.deref.ensures.value ∙ c.in_ok-base.ensures) c.requires.sized c.requires.penalty
+    posed_within _ c.sound.ensures.network _ c.args.window.now _ _ _ (c.deref.ensures.value ∙ c.in_ok-base.ensures) c.requires.sized c.requires.penalty
     c.requires.budget.1
 
 pub returns-clause-plan : goal.returns-clause-plan

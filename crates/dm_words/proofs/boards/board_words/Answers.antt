@@ -10,12 +10,12 @@ use Rattle.dm_words.proofs.boards.board_words.Goals as goal
 pub returns-in-Some-Run-clause-stops : goal.returns-in-Some-Run-clause-stops
 returns-in-Some-Run-clause-stops c =
     let boards = ap (λ (words : CommandWords). boards_of_command (command_of words)) (sym c.in-Some-Run.field-0-is) in
-    if_ok_then (λ (v : _). v.items ≡ c.as_slice.result.now) (λ (v : _). AreStopsOf (map string_bytes c.args.words.now) v.items) c.from_slice.result c.from_slice.ensures.items
-    (λ v is. stops_asked (map string_bytes c.args.words.now) _ v.items c.in-Some-Run.ensures (is ∙ (c.as_slice.ensures ∙ boards)))
+    if_ok_then (λ (v : _). v.items ≡ c.in-Some-Run.run'.boards) (λ (v : _). AreStopsOf (map string_bytes c.args.words.now) v.items) c.to_vec.result c.to_vec.ensures
+    (λ v is. stops_asked (map string_bytes c.args.words.now) _ v.items c.in-Some-Run.ensures (is ∙ boards))
 
 pub returns-in-Some-Run-clause-few : goal.returns-in-Some-Run-clause-few
 returns-in-Some-Run-clause-few c =
     let boards = ap (λ (words : CommandWords). boards_of_command (command_of words)) (sym c.in-Some-Run.field-0-is) in
     let few = few_boards (map string_bytes c.args.words.now) _ c.in-Some-Run.ensures in
-    if_ok_then (λ (v : _). v.items ≡ c.as_slice.result.now) (λ (v : _). vec_len v ≤ BOARDS) c.from_slice.result c.from_slice.ensures.items
-    (λ v is. omega (arith, few, ap length (is ∙ (c.as_slice.ensures ∙ boards)), v.ok.0))
+    if_ok_then (λ (v : _). v.items ≡ c.in-Some-Run.run'.boards) (λ (v : _). vec_len v ≤ BOARDS) c.to_vec.result c.to_vec.ensures
+    (λ v is. omega (arith, few, ap length (is ∙ boards), v.ok.0))

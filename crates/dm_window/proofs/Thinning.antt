@@ -1,0 +1,206 @@
+-- Choices that are given back, one after the other.
+use Rattle.std.proofs.Common.{◌≡◌, ℕ, zero, suc, ◌+◌, ◌-◌, ◌<◌, ◌≤◌, List, [], ◌∷◌, ◌++◌, Option, Some, None, length, map, drop, get_or, refl, sym, ap, subst, ◌∙◌, inl, inr, arith, append_assoc}
+use Rattle.std.specs.Prelude.{All, Contains, slice_get, ◌⊎◌}
+use Rattle.std.specs.List.{remove}
+use Rattle.std.proofs.lemmas.Bool.{cases_eq}
+use Rattle.std.proofs.lemmas.List.{drop_more}
+use Rattle.std.proofs.lemmas.Option.{slice_get_within}
+use Rattle.std.proofs.lemmas.List.Elements.{All-contains, All-contains_itself, Contains-append_right}
+use Rattle.dm_network.specs.Net.{Net}
+use Rattle.dm_rows.specs.declared.messages.Choice.{Choice}
+use Rattle.dm_rows.specs.declared.messages.Decision.{Decision}
+use Rattle.dm_rows.specs.Decide.{IsChoiceList, free_choices_of, choice_of}
+use Rattle.dm_rows.specs.Rows.{RowsValue}
+use Rattle.dm_tree.specs.Plans.{AreSomeOf}
+use Rattle.dm_tree.specs.declared.plans.Plan.{Plan}
+use Rattle.dm_paths.proofs.Apart.{Apart, choice_list_from}
+use Rattle.dm_paths.proofs.Lists.{apart_from_once}
+use Rattle.dm_paths.proofs.Setting.{in_front}
+use Rattle.dm_relax.proofs.BoundLaw.{all_from}
+use Rattle.dm_search.proofs.Optimal.{some_apart}
+use Rattle.dm_window.specs.Minimal.{IsPlanOver, IsMinimal, IsWorth, CostsSet, kept_of}
+use Rattle.dm_window.specs.Inside.Thinning.{AreJudged, ExceedEach, Finds, FindsNext, IsJudged, IsThinned, with_worths, worth_of}
+use Rattle.dm_window.specs.declared.thinning.KeptChoice.{KeptChoice}
+use Rattle.dm_window.specs.declared.thinning.Minimal.{Minimal}
+
+-- ---- lists without what stands at a place
+
+removed_none : {X : Type 0} (place : ℕ) → remove {X = X} [] place ≡ []
+removed_none zero = refl
+removed_none (suc place) = refl
+
+some_more : (a : Choice) (allowed chosen : List Choice) → AreSomeOf allowed chosen → AreSomeOf (a ∷ allowed) chosen
+some_more a allowed [] some = tt
+some_more a allowed (c ∷ chosen) some = inr some
+
+some_removed : (allowed chosen : List Choice) (place : ℕ) → AreSomeOf allowed chosen → AreSomeOf allowed (remove chosen place)
+some_removed [] chosen place some = subst (λ (cs : List Choice). remove cs place ≡ []) (sym some) (removed_none place)
+some_removed (a ∷ allowed) [] place some = subst (AreSomeOf (a ∷ allowed)) (sym (removed_none place)) tt
+some_removed (a ∷ allowed) (c ∷ chosen) zero (inl both) = some_more a allowed chosen both.1
+some_removed (a ∷ allowed) (c ∷ chosen) zero (inr later) = some_more a allowed chosen (some_removed allowed (c ∷ chosen) zero later)
+some_removed (a ∷ allowed) (c ∷ chosen) (suc place) (inl both) = inl (both.0, some_removed allowed chosen place both.1)
+some_removed (a ∷ allowed) (c ∷ chosen) (suc place) (inr later) = inr (some_removed allowed (c ∷ chosen) (suc place) later)
+
+all_some : (choices : List Choice) → AreSomeOf choices choices
+all_some [] = refl
+all_some (c ∷ choices) = inl (refl, all_some choices)
+
+in_removed : {X : Type 0} (xs : List X) (place : ℕ) (x : X) → Contains (remove xs place) x → Contains xs x
+in_removed [] place x h = subst (λ ys. Contains ys x) (removed_none place) h
+in_removed (y ∷ xs) zero x h = Contains-append_right (y ∷ []) xs x h
+in_removed (y ∷ xs) (suc place) x h =
+    elim (in_front y x (remove xs place) h) [
+      | inl e ↦ (0, omega arith, e)
+      | inr r ↦ Contains-append_right (y ∷ []) xs x (in_removed xs place x r)
+    ]
+
+map_removed : {X Y : Type 0} (f : X → Y) (xs : List X) (place : ℕ) → map f (remove xs place) ≡ remove (map f xs) place
+map_removed f [] place = ap (map f) (removed_none place) ∙ sym (removed_none place)
+map_removed f (x ∷ xs) zero = refl
+map_removed f (x ∷ xs) (suc place) = ap (λ ys. f x ∷ ys) (map_removed f xs place)
+
+got_pushed : {X : Type 0} (xs : List X) (x y : X) (k : ℕ) → slice_get (xs ++ x ∷ []) k ≡ Some y → (slice_get xs k ≡ Some y) ⊎ ((k ≡ length xs) × (x ≡ y))
+got_pushed [] x y zero h = inr (refl, cc)
+got_pushed [] x y (suc k) h = inl h
+got_pushed (z ∷ xs) x y zero h = inl h
+got_pushed (z ∷ xs) x y (suc k) h =
+    elim (got_pushed xs x y k h) [
+      | inl before ↦ inl before
+      | inr last ↦ inr (ap suc last.0, last.1)
+    ]
+
+-- ---- decisions that are left
+
+module _ (net : Net) (rows : RowsValue) where
+  pub list_removed : (ds : List Decision) (place : ℕ) → IsChoiceList net rows ds → IsChoiceList net rows (remove ds place)
+  list_removed ds place list =
+      choice_list_from net rows (remove ds place)
+      (subst Apart (sym (map_removed choice_of ds place))
+      (some_apart (map choice_of ds) (remove (map choice_of ds) place) (some_removed (map choice_of ds) (map choice_of ds) place (all_some (map choice_of ds)))
+      (apart_from_once ds list.once)))
+      (λ d h. All-contains (λ e. Contains (free_choices_of net rows) (choice_of e)) ds d list.free (in_removed ds place d h))
+
+  module _ (penalty : ℕ) (plan : Plan) (most : ℕ) where
+    pub thinned_none : IsPlanOver net rows penalty plan → IsThinned net rows penalty plan most plan.choices plan.cost
+    thinned_none is =
+        record {
+          among = All-contains_itself plan.choices;
+          in_order = all_some (map choice_of plan.choices);
+          cost = is.cost;
+          near = omega arith;
+        }
+
+    pub thinned_list : (kept : List Decision) (cost : ℕ) → IsPlanOver net rows penalty plan → IsThinned net rows penalty plan most kept cost → IsChoiceList net rows kept
+    thinned_list kept cost is thinned =
+        choice_list_from net rows kept
+        (some_apart (map choice_of plan.choices) (map choice_of kept) thinned.in_order (apart_from_once plan.choices is.list.once))
+        (λ d h.
+        All-contains (λ e. Contains (free_choices_of net rows) (choice_of e)) plan.choices d is.list.free
+        (All-contains (Contains plan.choices) kept d thinned.among h))
+
+    pub thinned_more : (kept : List Decision) (cost place c : ℕ) (costs : List (Option ℕ)) → IsThinned net rows penalty plan most kept cost →
+        AreJudged net rows penalty kept (length kept) costs → slice_get costs place ≡ Some (Some c) → c ≤ plan.cost + most →
+        IsThinned net rows penalty plan most (remove kept place) c
+    thinned_more kept cost place c costs thinned judged at near =
+        record {
+          among = all_from (Contains plan.choices) (remove kept place) (λ d h. All-contains (Contains plan.choices) kept d thinned.among (in_removed kept place d h));
+          in_order = subst (AreSomeOf (map choice_of plan.choices)) (sym (map_removed choice_of kept place)) (some_removed (map choice_of plan.choices) (map choice_of kept) place thinned.in_order);
+          cost = judged.each place (Some c) at;
+          near = near;
+        }
+
+  pub judged_none : (penalty : ℕ) (ds : List Decision) → AreJudged net rows penalty ds 0 []
+  judged_none penalty ds = record { size = refl; each = λ place cost at. absurd cc }
+
+  pub judged_more : (penalty : ℕ) (ds : List Decision) (many : ℕ) (costs : List (Option ℕ)) (cost : Option ℕ) → AreJudged net rows penalty ds many costs →
+      IsJudged net rows penalty (remove ds many) cost → AreJudged net rows penalty ds (many + 1) (costs ++ cost ∷ [])
+  judged_more penalty ds many costs cost judged is =
+      record {
+        size = omega (arith, judged.size);
+        each = λ place other at.
+            elim (got_pushed costs cost other place at) [
+              | inl before ↦ judged.each place other before
+              | inr last ↦
+                  subst (λ (k : ℕ). IsJudged net rows penalty (remove ds k) other) (sym (last.0 ∙ judged.size))
+                  (subst (IsJudged net rows penalty (remove ds many)) last.1 is)
+            ];
+      }
+
+-- ---- the least cost that is not above a limit
+
+module _ (limit : ℕ) (costs : List (Option ℕ)) where
+  above_before : (place : ℕ) → ((c : ℕ) → slice_get costs place ≡ Some (Some c) → limit < c) → Finds limit costs place None → Finds limit costs (place + 1) None
+  above_before place here before k c lt at =
+      elim (cases_eq k place) [
+        | inl same ↦ here c (subst (λ (i : ℕ). slice_get costs i ≡ Some (Some c)) same at)
+        | inr other ↦ before k c (omega arith) at
+      ]
+
+  pub passes_cycle : (place : ℕ) (found : Option (ℕ × ℕ)) → slice_get costs place ≡ Some None → Finds limit costs place found → Finds limit costs (place + 1) found
+  passes_cycle place None at before = above_before place (λ c is. absurd cc) before
+  passes_cycle place (Some found) at before = before
+
+  pub finds_more : (place c : ℕ) (before found : Option (ℕ × ℕ)) → slice_get costs place ≡ Some (Some c) → Finds limit costs place before →
+      FindsNext limit before place c found → Finds limit costs (place + 1) found
+  finds_more place c before None at finds next =
+      above_before place (λ d is. let same : c ≡ d = cc in omega (arith, next.1, same)) (subst (Finds limit costs place) next.0 finds)
+  finds_more place c before (Some found) at finds (inl same) = subst (Finds limit costs place) same finds
+  finds_more place c before (Some found) at finds (inr here) = subst (λ (f : ℕ × ℕ). Finds limit costs (place + 1) (Some f)) (sym here.0) (at, here.1)
+
+  pub found_none : Finds limit costs (length costs) None → ExceedEach limit costs
+  found_none finds place c at = finds place c (slice_get_within costs place (Some c) at) at
+
+-- ---- what each decision is worth
+
+worths_kept : (cost : ℕ) (ds : List Decision) (costs : List (Option ℕ)) → length costs ≡ length ds → map (λ (k : KeptChoice). k.decision) (with_worths cost ds costs) ≡ ds
+worths_kept cost [] costs same = refl
+worths_kept cost (d ∷ ds) [] same = absurd (omega (arith, same))
+worths_kept cost (d ∷ ds) (c ∷ costs) same = ap (λ (es : List Decision). d ∷ es) (worths_kept cost ds costs (omega (arith, same)))
+
+worth_at : (cost : ℕ) (ds : List Decision) (costs : List (Option ℕ)) (place : ℕ) (kept : KeptChoice) → slice_get (with_worths cost ds costs) place ≡ Some kept →
+    (o : Option ℕ) × (slice_get costs place ≡ Some o) × (kept.worth ≡ worth_of cost o)
+worth_at cost [] costs place kept at = absurd cc
+worth_at cost (d ∷ ds) [] place kept at = absurd cc
+worth_at cost (d ∷ ds) (c ∷ costs) zero kept at = (c, refl, cc)
+worth_at cost (d ∷ ds) (c ∷ costs) (suc place) kept at = worth_at cost ds costs place kept at
+
+-- the decision at a place is put behind those before it
+pub worths_more : (cost : ℕ) (ds : List Decision) (costs : List (Option ℕ)) (place : ℕ) (d : Decision) (o : Option ℕ) (done all : List KeptChoice) →
+    place < length ds → place < length costs → d ≡ get_or ds place d → o ≡ get_or costs place o →
+    done ++ with_worths cost (drop place ds) (drop place costs) ≡ all →
+    (done ++ record { decision = d; worth = worth_of cost o } ∷ []) ++ with_worths cost (drop (place + 1) ds) (drop (place + 1) costs) ≡ all
+worths_more cost ds costs place d o done all low below d_is o_is before =
+    let ds_are : drop place ds ≡ d ∷ drop (place + 1) ds = drop_more ds place d low ∙ ap (λ (e : Decision). e ∷ drop (place + 1) ds) (sym d_is) in
+    let costs_are : drop place costs ≡ o ∷ drop (place + 1) costs = drop_more costs place o below ∙ ap (λ (e : Option ℕ). e ∷ drop (place + 1) costs) (sym o_is) in
+    append_assoc done (record { decision = d; worth = worth_of cost o } ∷ []) (with_worths cost (drop (place + 1) ds) (drop (place + 1) costs))
+    ∙ (ap (λ (ks : List KeptChoice). done ++ ks)
+    (ap (λ (es : List Decision). with_worths cost es (o ∷ drop (place + 1) costs)) (sym ds_are) ∙ ap (with_worths cost (drop place ds)) (sym costs_are))
+    ∙ before)
+
+module _ (net : Net) (rows : RowsValue) (penalty : ℕ) (plan : Plan) (most : ℕ) (kept : List Decision) (cost : ℕ) (costs : List (Option ℕ)) where
+  is_worth : (others : List Decision) (o : Option ℕ) → cost ≤ plan.cost + most → IsJudged net rows penalty others o →
+      ((c : ℕ) → o ≡ Some c → plan.cost + most < c) → IsWorth net rows penalty cost (plan.cost + most) others (worth_of cost o)
+  is_worth others None near judged above = judged
+  is_worth others (Some c) near judged above =
+      let limit = above c refl in
+      let sum : c ≡ cost + (c - cost) = omega (arith, limit, near) in (
+        subst (CostsSet net rows penalty others) sum judged,
+        subst (λ (k : ℕ). plan.cost + most < k) sum limit,
+      )
+
+  pub minimal_is : (choices : List KeptChoice) → IsThinned net rows penalty plan most kept cost → AreJudged net rows penalty kept (length kept) costs →
+      ExceedEach (plan.cost + most) costs → choices ≡ with_worths cost kept costs → IsMinimal net rows penalty plan most (record { choices = choices; cost = cost })
+  minimal_is choices thinned judged above is =
+      let same : map (λ (k : KeptChoice). k.decision) choices ≡ kept = ap (map (λ (k : KeptChoice). k.decision)) is ∙ worths_kept cost kept costs judged.size in
+      record {
+        among = subst (All (Contains plan.choices)) (sym same) thinned.among;
+        in_order = subst (λ (ds : List Decision). AreSomeOf (map choice_of plan.choices) (map choice_of ds)) (sym same) thinned.in_order;
+        cost = subst (λ (ds : List Decision). CostsSet net rows penalty ds cost) (sym same) thinned.cost;
+        near = thinned.near;
+        worth = λ place k at.
+            let there = worth_at cost kept costs place k (subst (λ (ks : List KeptChoice). slice_get ks place ≡ Some k) is at) in
+            subst (λ (ds : List Decision). IsWorth net rows penalty cost (plan.cost + most) (remove ds place) k.worth) (sym same)
+            (subst (IsWorth net rows penalty cost (plan.cost + most) (remove kept place)) (sym there.2)
+            (is_worth (remove kept place) there.0 thinned.near (judged.each place there.0 there.1)
+            (λ c e. above place c (there.1 ∙ ap Some e))));
+      }

@@ -1,0 +1,5 @@
+use Rattle.dm_window.proofs.Holding.{holding_more_costs_no_less}
+use Rattle.dm_window.proofs.laws.holding_more_costs_no_less.Goals as goal
+
+pub returns : goal.returns
+returns c = holding_more_costs_no_less

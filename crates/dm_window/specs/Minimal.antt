@@ -1,0 +1,44 @@
+-- Which choices of a plan are kept where those that are worth little are given back.
+use Rattle.std.specs.Prelude.{ℕ, ◌≡◌, ◌+◌, ◌<◌, ◌≤◌, List, Some, All, Contains, map, slice_get}
+use Rattle.std.specs.List.{remove}
+use Rattle.dm_network.specs.Net.{Net}
+use Rattle.dm_rows.specs.declared.messages.Decision.{Decision}
+use Rattle.dm_rows.specs.Active.{HasNoCycle}
+use Rattle.dm_rows.specs.Cost.{Costs}
+use Rattle.dm_rows.specs.Decide.{IsChoiceList, choice_of, with_decisions}
+use Rattle.dm_rows.specs.Rows.{RowsValue}
+use Rattle.dm_tree.specs.Plans.{AreSomeOf}
+use Rattle.dm_tree.specs.declared.plans.Plan.{Plan}
+use Rattle.dm_window.specs.declared.thinning.KeptChoice.{KeptChoice}
+use Rattle.dm_window.specs.declared.thinning.Minimal.{Minimal}
+use Rattle.dm_window.specs.declared.thinning.Worth.{Worth}
+use Rattle.dm_window.specs.declared.thinning.Worth.TheVariants.{Needed, Saves}
+
+-- with these decisions set the rows have no cycle, and cost c
+pub record CostsSet (net : Net) (rows : RowsValue) (penalty : ℕ) (decisions : List Decision) (c : ℕ) : Type 0 where
+  pub no_cycle : HasNoCycle net (with_decisions net rows decisions)
+  pub cost : Costs net (with_decisions net rows decisions) penalty c
+
+-- the decisions of choices of the rows, and what these cost with them
+pub record IsPlanOver (net : Net) (rows : RowsValue) (penalty : ℕ) (plan : Plan) : Type 0 where
+  pub list : IsChoiceList net rows plan.choices
+  pub cost : CostsSet net rows penalty plan.choices plan.cost
+
+-- What a decision of a list that costs c is worth, where the others are these: they make a cycle, or cost so much more than the list
+-- does, and more than a limit.
+abbrev pub IsWorth : Net → RowsValue → ℕ → ℕ → ℕ → List Decision → Worth → Type 0
+IsWorth net rows penalty c limit others Needed = HasNoCycle net (with_decisions net rows others) → ⊥
+IsWorth net rows penalty c limit others (Saves more) = CostsSet net rows penalty others (c + more) × (limit < c + more)
+
+abbrev pub kept_of : Minimal → List Decision
+kept_of minimal = map (λ (kept : KeptChoice). kept.decision) minimal.choices
+
+-- Kept are some of the plan's choices, in its order. With them the rows have no cycle, and cost what is told, at most so much more than
+-- the plan. To leave out any one of them makes a cycle, or costs more than that.
+pub record IsMinimal (net : Net) (rows : RowsValue) (penalty : ℕ) (plan : Plan) (most : ℕ) (minimal : Minimal) : Type 0 where
+  pub among : All (Contains plan.choices) (kept_of minimal)
+  pub in_order : AreSomeOf (map choice_of plan.choices) (map choice_of (kept_of minimal))
+  pub cost : CostsSet net rows penalty (kept_of minimal) minimal.cost
+  pub near : minimal.cost ≤ plan.cost + most
+  pub worth : (place : ℕ) (kept : KeptChoice) → slice_get minimal.choices place ≡ Some kept →
+      IsWorth net rows penalty minimal.cost (plan.cost + most) (remove (kept_of minimal) place) kept.worth

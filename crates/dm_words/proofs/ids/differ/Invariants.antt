@@ -1,0 +1,14 @@
+use Rattle.std.proofs.Common.{◌≡◌, length}
+use Rattle.dm_words.specs.Ids.{are_different}
+use Rattle.std.specs.Prelude.{option_map}
+use Rattle.dm_lintim.specs.Pieces.{pieces_left}
+use Rattle.dm_words.specs.Inside.Pieces.{AreAllIds, numbers_left}
+use Rattle.dm_words.proofs.ids.differ.Given as goal
+
+abbrev pub invariant-loop-id : goal.invariant-loop-id
+invariant-loop-id l =
+    AreAllIds (pieces_left (option_map (λ x. x.now) l.left))
+    × (are_different (numbers_left (option_map (λ x. x.now) l.fn.all)) ≡ are_different (numbers_left (option_map (λ x. x.now) l.left)))
+
+abbrev pub decreases-loop-id : goal.decreases-loop-id
+decreases-loop-id l = length (numbers_left (option_map (λ x. x.now) l.left))
