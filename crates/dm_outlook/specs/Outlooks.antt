@@ -6,7 +6,10 @@ use Rattle.dm_rows.specs.declared.messages.Entry.{Entry}
 use Rattle.dm_rows.specs.declared.rows.Snapshot.{Snapshot}
 use Rattle.dm_rows.specs.History.{rows_at}
 use Rattle.dm_rows.specs.Rows.{RowsValue}
+use Rattle.dm_tree.specs.declared.plans.Plan.{Plan}
+use Rattle.dm_window.specs.Minimal.{IsMinimal}
 use Rattle.dm_window.specs.Rebasing.{IsCarriedCycle, IsFirstNotFree, IsRebased}
+use Rattle.dm_window.specs.declared.thinning.Minimal.{Minimal}
 use Rattle.dm_window.specs.declared.windows.Window.{Window}
 use Rattle.dm_window.specs.Windows.{IsTrueWindowPlan}
 use Rattle.dm_outlook.specs.declared.outlook.Carried.{Carried}
@@ -36,10 +39,18 @@ IsCarriedFrom net newer penalty choices None (Some carried) = ⊥
 IsCarriedFrom net newer penalty choices (Some n) None = ⊥
 IsCarriedFrom net newer penalty choices (Some n) (Some carried) = IsCarried net newer penalty choices carried
 
+-- which of a plan's choices are kept where those that are worth little are given back, if that is asked
+abbrev pub IsMinimalFor : Net → RowsValue → ℕ → Plan → Option ℕ → Option Minimal → Type 0
+IsMinimalFor net rows penalty plan None None = Unit {0}
+IsMinimalFor net rows penalty plan None (Some minimal) = ⊥
+IsMinimalFor net rows penalty plan (Some most) None = ⊥
+IsMinimalFor net rows penalty plan (Some most) (Some minimal) = IsMinimal net rows penalty plan most minimal
+
 -- The plan is a true one of the window for the rows at the entry that is named, or at the last; where one is named, it is told what
--- becomes of the plan's choices at the last.
+-- becomes of the plan's choices at the last; and where it is asked, which are kept if those that are worth little are given back.
 pub record IsOutlook (net : Net) (start : RowsValue) (penalty : ℕ) (history : List Entry) (window : Window) (budget : ℕ)
-    (at : Option ℕ) (outlook : Outlook) : Type 0 where
+    (at most : Option ℕ) (outlook : Outlook) : Type 0 where
   pub entry : outlook.entry ≡ entry_at at (length history)
   pub plan : IsTrueWindowPlan net (rows_at net start history (entry_at at (length history))) penalty window budget outlook.plan
+  pub minimal : IsMinimalFor net (rows_at net start history (entry_at at (length history))) penalty outlook.plan most outlook.minimal
   pub carried : IsCarriedFrom net (newest net start history) penalty outlook.plan.choices at outlook.carried

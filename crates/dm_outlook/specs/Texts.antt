@@ -8,6 +8,10 @@ use Rattle.dm_rows.specs.declared.messages.Decision.{Decision}
 use Rattle.dm_feed.specs.Lines.{spelling_of_decision}
 use Rattle.dm_cert.specs.PlanTexts.{choice_text, line_end, spelling_of_plan}
 use Rattle.dm_cert.specs.RunTexts.{spaced_id}
+use Rattle.dm_window.specs.declared.thinning.KeptChoice.{KeptChoice}
+use Rattle.dm_window.specs.declared.thinning.Minimal.{Minimal}
+use Rattle.dm_window.specs.declared.thinning.Worth.{Worth}
+use Rattle.dm_window.specs.declared.thinning.Worth.TheVariants.{Needed, Saves}
 use Rattle.dm_window.specs.declared.windows.Window.{Window}
 use Rattle.dm_outlook.specs.declared.outlook.Carried.{Carried}
 use Rattle.dm_outlook.specs.declared.outlook.Carried.TheVariants.{Rebased, NotFree, Cycle}
@@ -24,6 +28,26 @@ held_line many = joined (codes "held " ∷ decimal many ∷ line_end ∷ [])
 
 abbrev pub held_text : ℕ → List ℕ
 held_text many = if many == 0 then [] else held_line many
+
+-- what a choice that is kept is worth beside the others
+unfoldable pub worth_text : Worth → List ℕ
+worth_text Needed = codes " needed\n"
+worth_text (Saves more) = joined (codes " saves " ∷ decimal more ∷ line_end ∷ [])
+
+unfoldable pub kept_text : KeptChoice → List ℕ
+kept_text kept = codes "choice" ++ (spelling_of_decision kept.decision ++ worth_text kept.worth)
+
+-- what the rows cost with the choices that are kept, and these choices
+unfoldable pub minimal_line : ℕ → ℕ → List ℕ
+minimal_line cost choices = joined (codes "minimal cost " ∷ decimal cost ∷ codes " choices " ∷ decimal choices ∷ line_end ∷ [])
+
+unfoldable pub thinned_text : ℕ → List KeptChoice → List ℕ
+thinned_text cost choices = minimal_line cost (length choices) ++ flat_map kept_text choices
+
+-- which choices are kept where others are given back, if that is told
+abbrev pub minimal_text : Option Minimal → List ℕ
+minimal_text None = []
+minimal_text (Some minimal) = thinned_text minimal.cost minimal.choices
 
 -- what the rows cost with the choices that are carried over, and these choices
 unfoldable pub rebased_line : ℕ → ℕ → List ℕ
@@ -49,8 +73,12 @@ abbrev pub carried_text : ℕ → Option Carried → List ℕ
 carried_text last None = []
 carried_text last (Some carried) = joined (codes "rebased " ∷ decimal last ∷ []) ++ end_text carried
 
--- a plan of the window, and what becomes of it after so many entries
+-- what is told of a plan behind it
+abbrev pub told_text : ℕ → Outlook → List ℕ
+told_text last outlook = minimal_text outlook.minimal ++ carried_text last outlook.carried
+
+-- a plan of the window, which of its choices are kept where others are given back, and what becomes of it after so many entries
 unfoldable pub outlook_text : Window → ℕ → Outlook → List ℕ
 outlook_text window last outlook =
     window_line window.from window.to outlook.entry
-    ++ (held_text (length window.held) ++ (spelling_of_plan 2 outlook.plan ++ carried_text last outlook.carried))
+    ++ (held_text (length window.held) ++ (spelling_of_plan 2 outlook.plan ++ told_text last outlook))

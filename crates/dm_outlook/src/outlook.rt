@@ -4,8 +4,9 @@ ghost use Rattle.dm_base.specs.declared.limits.TheConstants.{BUDGET, PENALTY};
 ghost use Rattle.dm_rows.specs.Active.{HasNoCycle};
 ghost use Rattle.dm_rows.specs.History.{rows_at};
 ghost use Rattle.dm_rows.specs.Rows.{IsSized};
+ghost use Rattle.dm_window.specs.Minimal.{IsPlanOver};
 ghost use Rattle.dm_window.specs.Rebasing.{DecideOnce};
-ghost use Rattle.dm_outlook.specs.Outlooks.{IsCarried, IsOutlook};
+ghost use Rattle.dm_outlook.specs.Outlooks.{IsCarried, IsMinimalFor, IsOutlook};
 
 use dm_base::{ActId, Items};
 use dm_history::replay;
@@ -14,7 +15,7 @@ use dm_rows::{Decision, Entry, Rows, Snapshot};
 use dm_table::Table;
 use dm_times::least;
 use dm_tree::Plan;
-use dm_window::{RebaseFault, Rebased, Window, rebase, window_plan};
+use dm_window::{Minimal, RebaseFault, Rebased, Window, rebase, thin, window_plan};
 use std::alloc::{AllocError, Global};
 
 /// What becomes of a plan's choices in newer rows.
@@ -36,6 +37,9 @@ pub struct Outlook {
     pub entry: u32,
     pub plan: Plan,
 
+    /// The plan's choices that are kept where others are given back, where that was asked.
+    pub minimal: Option<Minimal>,
+
     /// What becomes of the plan at the last entry, where an entry was named.
     pub carried: Option<Carried>,
 }
@@ -45,28 +49,30 @@ impl Drop for Outlook {
         let Outlook {
             entry: _,
             plan: _,
+            minimal: _,
             carried: _,
         } = self;
     }
 }
 
 /// A plan for a window of the rows after so many entries of a table, at most all, or after all where no number is given; and,
-/// where one is, what becomes of the plan after all. The plan's
-/// tree has at most `budget` nodes; the budget is 1 to 16,384.
+/// where one is, what becomes of the plan after all. The plan's tree has at most `budget` nodes; the budget is 1 to 16,384. With
+/// `most` it is also told which of its choices are kept where the others are given back, for at most so much more than it costs.
 pub fn outlook_of(
     alloc: Global,
     table: &Table<'_>,
     window: &Window,
     budget: u64,
     at: Option<u32>,
+    most: Option<u64>,
 ) -> Result<Outlook, AllocError>
     requires budget { (1 ≤ budget) × (budget ≤ BUDGET) }
     requires at { IfSome at (λ n. n ≤ length table.now.history) }
-    ensures { IfOk result (IsOutlook table.now.network table.now.start table.now.penalty table.now.history window.now budget at) }
+    ensures { IfOk result (IsOutlook table.now.network table.now.start table.now.penalty table.now.history window.now budget at most) }
 {
     match at {
-        None => outlook_now(alloc, table, window, budget),
-        Some(at) => outlook_then(alloc, table, window, budget, at),
+        None => outlook_now(alloc, table, window, budget, most),
+        Some(at) => outlook_then(alloc, table, window, budget, at, most),
     }
 }
 
@@ -76,23 +82,21 @@ fn outlook_now(
     table: &Table<'_>,
     window: &Window,
     budget: u64,
+    most: Option<u64>,
 ) -> Result<Outlook, AllocError>
     requires budget { (1 ≤ budget) × (budget ≤ BUDGET) }
-    ensures { IfOk result (IsOutlook table.now.network table.now.start table.now.penalty table.now.history window.now budget None) }
+    ensures { IfOk result (IsOutlook table.now.network table.now.start table.now.penalty table.now.history window.now budget None most) }
 {
     table.sound();
+    let net = table.network();
+    net.sound();
     let now = table.copy()?;
-    let plan = window_plan(
-        alloc,
-        table.network(),
-        table.penalty(),
-        &now,
-        window,
-        budget,
-    )?;
+    let plan = window_plan(alloc, net, table.penalty(), &now, window, budget)?;
+    let minimal = thinned(alloc, net, table.penalty(), &now.rows, &plan, most)?;
     Ok(Outlook {
         entry: now.entry,
         plan,
+        minimal,
         carried: None,
     })
 }
@@ -104,23 +108,50 @@ fn outlook_then(
     window: &Window,
     budget: u64,
     at: u32,
+    most: Option<u64>,
 ) -> Result<Outlook, AllocError>
     requires budget { (1 ≤ budget) × (budget ≤ BUDGET) }
     requires at { at ≤ length table.now.history }
-    ensures { IfOk result (IsOutlook table.now.network table.now.start table.now.penalty table.now.history window.now budget (Some at)) }
+    ensures { IfOk result (IsOutlook table.now.network table.now.start table.now.penalty table.now.history window.now budget (Some at)
+        most) }
 {
     table.sound();
     let net = table.network();
     net.sound();
     let then = rows_then(alloc, table, at)?;
     let plan = window_plan(alloc, net, table.penalty(), &then, window, budget)?;
+    let minimal = thinned(alloc, net, table.penalty(), &then.rows, &plan, most)?;
     let now = table.copy()?;
     let carried = carried_to(alloc, net, table.penalty(), &now, &plan)?;
     Ok(Outlook {
         entry: at,
         plan,
+        minimal,
         carried: Some(carried),
     })
+}
+
+/// Which choices of a plan are kept where others are given back, if that is asked.
+fn thinned(
+    alloc: Global,
+    net: &Network,
+    penalty: u64,
+    rows: &Rows,
+    plan: &Plan,
+    most: Option<u64>,
+) -> Result<Option<Minimal>, AllocError>
+    requires sized { IsSized net.now rows.now }
+    requires penalty { penalty ≤ PENALTY }
+    requires plan { IsPlanOver net.now rows.now penalty plan.now }
+    ensures { IfOk result (IsMinimalFor net.now rows.now penalty plan.now most) }
+{
+    match most {
+        None => Ok(None),
+        Some(most) => match thin(alloc, net, penalty, rows, plan, most) {
+            Ok(minimal) => Ok(Some(minimal)),
+            Err(AllocError) => Err(AllocError),
+        },
+    }
 }
 
 /// The rows after so many entries, with their number.

@@ -92,7 +92,7 @@ module _ (net : Net) (rows : RowsValue) (penalty : ℕ) (bytes : List ℕ) (f : 
 
   -- a plan of a window at one of its entries is one at an entry of the bytes, and so is a number that is above them
   pub window_told : (asked : WindowWords) (window : AWindow) (outlook : Outlook) → IsWhole net rows penalty bytes → IfSome asked.at (λ n. n ≤ length f.table.history) →
-      IsWindowAsked f.table.network asked window → IsOutlook f.table.network f.table.start f.table.penalty f.table.history window asked.budget asked.at outlook →
+      IsWindowAsked f.table.network asked window → IsOutlook f.table.network f.table.start f.table.penalty f.table.history window asked.budget asked.at asked.minimal outlook →
       IsWindowOf asked net rows penalty bytes (outlook_text window (length f.table.history) outlook)
   window_told asked window outlook whole among is_asked answer =
       on_day (λ n r p. IsWhole n r p bytes → IsWindowOf asked n r p bytes (outlook_text window (length f.table.history) outlook))

@@ -21,7 +21,8 @@ pub record IsWindowAsked (net : Net) (asked : WindowWords) (window : Window) : T
   pub held : map (choice_named net) asked.held ≡ map Some window.held
 
 -- The text is a plan of the window, after as many entries of the journal as are named, or after all, which stands whole in these
--- bytes; and, where some are named, what becomes of the plan after all.
+-- bytes; where it is asked, which of its choices are kept if those that are worth little are given back; and, where entries are named,
+-- what becomes of the plan after all.
 pub record IsWindowOf (asked : WindowWords) (net : Net) (start : RowsValue) (penalty : ℕ) (bytes text : List ℕ) : Type 0 where
   pub whole : IsWhole net start penalty bytes
   pub history : List Entry
@@ -30,7 +31,7 @@ pub record IsWindowOf (asked : WindowWords) (net : Net) (start : RowsValue) (pen
   pub window : Window
   pub is_asked : IsWindowAsked net asked window
   pub outlook : Outlook
-  pub answer : IsOutlook net start penalty history window asked.budget asked.at outlook
+  pub answer : IsOutlook net start penalty history window asked.budget asked.at asked.minimal outlook
   pub is_text : text ≡ outlook_text window (length history) outlook
 
 unfoldable pub unknown_entry_line : ℕ → List ℕ

@@ -80,7 +80,7 @@ fn ask_text<R: Threads + Wait + Sync, H: Shelf, K: Sink, G: Hold + Sync>(
 fn answer_journal<R: Threads + Wait + Sync, K: Sink, G: Hold + Sync>(
     means: &Means<'_, R, G>,
     journal: &Journal<'_>,
-    query: &Query,
+    query: &Query<'_>,
     out: &mut K,
 ) -> Status
     requires within { IsWithinLimits query.now }

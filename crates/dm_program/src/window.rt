@@ -10,9 +10,9 @@ ghost use Rattle.dm_program.specs.Inside.Stages.{IsWindowWithin};
 
 use crate::status::Status;
 use crate::verdicts::put_number;
+use dm_network::Network;
 use dm_outlook::{Outlook, outlook_of, print_outlook};
 use dm_outside::{Sink, WriteFault};
-use dm_network::Network;
 use dm_table::Table;
 use dm_window::{HeldFault, Window, held_choices};
 use dm_words::WindowWords;
@@ -23,7 +23,7 @@ use std::alloc::{AllocError, Global};
 pub fn end_window<K: Sink>(
     alloc: Global,
     table: &Table<'_>,
-    asked: &WindowWords,
+    asked: &WindowWords<'_>,
     out: &mut K,
 ) -> Status
     requires within { IsWindowWithin asked.now }
@@ -41,18 +41,28 @@ pub fn end_window<K: Sink>(
         Err(HeldFault::NoChoice(id)) => return end_no_choice(id, out),
         Err(HeldFault::OutOfMemory) => return Status::NoMemory,
     };
-    match outlook_of(alloc, table, &window, asked.budget, asked.at) {
+    match outlook_of(
+        alloc,
+        table,
+        &window,
+        asked.budget,
+        asked.at,
+        asked.minimal,
+    ) {
         Ok(outlook) => end_outlook(&window, table.len(), &outlook, out),
         Err(AllocError) => Status::NoMemory,
     }
 }
 
 /// The window that is asked for, with the choices that are held.
-fn window_of(alloc: Global, net: &Network, asked: &WindowWords) -> Result<Window, HeldFault>
+fn window_of(alloc: Global, net: &Network, asked: &WindowWords<'_>) -> Result<Window, HeldFault>
     ensures window { IfOk result (IsWindowAsked net.now asked.now) }
     ensures refused { IfErr result (MakesNoChoice net.now asked.now.held) }
 {
-    match held_choices(alloc, net, asked.held.as_slice()) {
+    let Ok(ids) = asked.held.to_vec(alloc) else {
+        return Err(HeldFault::OutOfMemory);
+    };
+    match held_choices(alloc, net, ids.as_slice()) {
         Ok(held) => Ok(Window {
             from: asked.from,
             to: asked.to,

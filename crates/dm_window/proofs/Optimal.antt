@@ -1,7 +1,13 @@
 -- Plans of windows are optimal where they say so, and decide no choice twice.
 use Rattle.dm_search.proofs.Optimal.{optimal_is, bound_is_low, enough_is_optimal, chosen}
+use Rattle.std.proofs.Common.{ℕ}
+use Rattle.dm_network.specs.Net.{Net}
+use Rattle.dm_rows.specs.Rows.{RowsValue}
+use Rattle.dm_tree.specs.declared.plans.Plan.{Plan}
+use Rattle.dm_window.specs.declared.windows.Window.{Window}
+use Rattle.dm_window.specs.Minimal.{IsPlanOver}
 use Rattle.dm_window.specs.Windows.{window_task}
-use Rattle.dm_window.specs.Laws.{WindowPlansAreOptimal, WindowPlansDecideOnce}
+use Rattle.dm_window.specs.Laws.{IsWindowPlanOver, WindowPlansAreOptimal, WindowPlansDecideOnce}
 use Rattle.dm_window.proofs.Beside.{window_is_task}
 
 pub window_plans_are_optimal : WindowPlansAreOptimal
@@ -18,3 +24,13 @@ window_plans_are_optimal =
 pub window_plans_decide_once : WindowPlansDecideOnce
 window_plans_decide_once net rows penalty window budget plan h =
     (chosen (window_task net rows penalty window budget) (window_is_task net h.network rows window h.sized penalty budget) plan.choices h.is.choices).0.once
+
+-- the choices of a plan of a window are decisions over the rows, and cost what it says
+pub window_plan_over : (net : Net) (rows : RowsValue) (penalty : ℕ) (window : Window) (budget : ℕ) (plan : Plan) →
+    IsWindowPlanOver net rows penalty window budget plan → IsPlanOver net rows penalty plan
+window_plan_over net rows penalty window budget plan h =
+    record {
+      list =
+          (chosen (window_task net rows penalty window budget) (window_is_task net h.network rows window h.sized penalty budget) plan.choices h.is.choices).0;
+      cost = record { no_cycle = h.is.cost.no_cycle; cost = h.is.cost.cost };
+    }

@@ -5,7 +5,7 @@ ghost use Rattle.dm_window.specs.Held.{choice_at, choice_named, MakesNoChoice};
 use dm_base::{ActId, ActKind, Items};
 use dm_network::Network;
 use dm_rows::{Choice, choice_of_pair};
-use std::alloc::{AllocError, Global};
+use std::alloc::Global;
 
 /// Why choices cannot be held.
 #[derive(Drop)]
@@ -32,9 +32,9 @@ pub fn held_choices(
         let Some(choice) = choice_named(net, *id) else {
             return Err(HeldFault::NoChoice(*id));
         };
-        if let Err(AllocError) = held.push(choice) {
+        let Ok(()) = held.push(choice) else {
             return Err(HeldFault::OutOfMemory);
-        }
+        };
     }
     Ok(Items::from_vec(held))
 }

@@ -79,7 +79,7 @@ pub record PrintsOutlook {K : Type 0} (taken : K → Option (List ℕ)) (faults 
   pub window : Window
   pub is_asked : IsWindowAsked table.network asked window
   pub outlook : Outlook
-  pub answer : IsOutlook table.network table.start table.penalty table.history window asked.budget asked.at outlook
+  pub answer : IsOutlook table.network table.start table.penalty table.history window asked.budget asked.at asked.minimal outlook
   pub ends : EndsAs taken faults before now (outlook_text window (length table.history) outlook) Well result
 
 pub record PrintsUnknown {K : Type 0} (taken : K → Option (List ℕ)) (faults : K → ℕ) (asked : WindowWords) (table : TableValue) (before now : K) (result : Status) : Type 0 where
