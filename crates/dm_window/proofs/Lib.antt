@@ -3,4 +3,4 @@ pub mod Beside
 pub mod Optimal
 pub mod Carrying
 pub mod Holding
-pub mod Thinning
+pub mod GivenBack

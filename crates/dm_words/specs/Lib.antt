@@ -1,4 +1,4 @@
--- Names, options and stops, what words ask for, and what their readers are seen as; then the same of a server's words.
+-- Names, options and ids, what words ask for, and what their readers are seen as; then the same of a server's words.
 pub mod Options
 pub mod Ids
 pub mod Values
