@@ -116,6 +116,10 @@ USAGE = [
     Case('column twice', [*RUN, '--event-columns=id,type,time,weight,id'], 2, ['--event-columns: "id" stands twice', LIST]),
     Case('column missing', [*RUN, '--activity-columns=id,type,tail,head,lower'], 2,
          ['--activity-columns: "weight" is missing, which the file must have', LIST]),
+    Case('held twice', ['window', 'net', 'f', '0', '9', '1', '--held=5,5'], 2,
+         ['window takes two times, FROM and TO, of 0 to 1000000000 seconds, TO no earlier than FROM, and a BUDGET of 1 to 16384 nodes; '
+          '--held takes 1 to 4096 different numbers of activities, as --held=5,6', LIST]),
+    Case('minimal', ['window', 'net', 'f', '0', '9', '1', '--minimal=-1'], 2, ['word 7: --minimal takes 0 to 18446744073709551615', LIST]),
     Case('boards', [*RUN, '--boards=2,2'], 2, ['--boards takes 1 to 64 different numbers of stops, as --boards=4,2', LIST]),
     Case('generated day', ['gen', '1', '2001'], 2,
          ['gen takes a NUMBER of 0 to 18446744073709551615 and 1 to 2000 TRAINS', LIST]),
@@ -146,6 +150,8 @@ TEXTS = [
                                b'feed 1 2\n1 delay event 1 60 -> 1 ok\n2 time 1 -> 1 time 150\nend\n')),
     Case('no such text', ['check', 'net', 'text'], 4, ['text: No such file or directory (os error 2)']),
     Case('a text that is good', ['check', 'net', 'text'], 0, [], text([])),
+    Case('what cannot be held', ['window', 'net', 'text', '0', '9', '1', '--held=1'], 3,
+         ['--held: the network has no such activity, or it is neither a change nor a headway with one in the other direction'], text([])),
 ]
 
 FILES = [

@@ -8,7 +8,8 @@ a front of it and of texts made from it by small changes, it asks with drawn wor
     journey    each journey is a walk, and their arrivals and changes are those that no walk beats
     rules      the rule's choices and cost, to the byte; the gap is that to the plan's bound; where there are at most eight choices
                none cost less than the bound, nor than a plan that is marked optimal
-    window     the plan is true of the window; what is carried over is to the byte
+    window     the plan is true of the window without what is held; the choices that are kept where others are given back are some of
+               the plan's, cost what is told, and none of them can be left out; what is carried over is to the byte
 
 The second reading shares no code with the program. Each number in which something differs is printed with what does and the folder
 of its files, and the status is then 1.
@@ -26,14 +27,14 @@ import subprocess
 import sys
 import tempfile
 from collections import Counter
-from typing import Callable, NamedTuple, Optional, Sequence
+from typing import Callable, NamedTuple, Optional, Sequence, Union
 
 from here import add_program, command_line
 from fuzz import changed, drawn_feed, drawn_network, front, write_network
 from judge import Judge
 from network import Choice, Network
 from railway import (
-    Decision, Rows, choice_of, cost_of, free_choices, is_cycle, is_met, is_true_plan, sound_times, span_of, times_of, ways_of,
+    Decision, Plan, Rows, choice_of, cost_of, free_choices, is_cycle, is_met, is_true_plan, sound_times, span_of, times_of, ways_of,
     with_decisions,
 )
 from runtext import Answer, Bad, Text, read_plan, read_plan_head
@@ -236,17 +237,75 @@ def fault_of_rule(network: Network, penalty: int, rows: Rows, rule: str, text: s
 
 
 class Window(NamedTuple):
-    """A question for the plan of a window, of the rows after `at` entries, or after all where it is None."""
+    """A question for the plan of a window, of the rows after `at` entries, or after all where it is None, without the choices of the
+    activities that are held; and for those that are kept where others are given back for at most `most` more, if it is given."""
     begin: int
     end: int
     budget: int
     at: Optional[int]
+    held: tuple[int, ...]
+    most: Optional[int]
+
+    def words(self) -> list[Union[str, int]]:
+        """The words of the command."""
+        held, at = ','.join(map(str, self.held)), [] if self.at is None else [f'--at={self.at}']
+        options = [*at, *([f'--held={held}'] if held else []), *([] if self.most is None else [f'--minimal={self.most}'])]
+        return ['window', 'net', 'text', self.begin, self.end, self.budget, *options]
+
+    def without_choice(self, network: Network) -> Optional[int]:
+        """The first activity that is held but makes no choice, or None."""
+        return next((held for held in self.held if choice_named(network, held) is None), None)
 
     def holds(self, network: Network, choice: Choice) -> bool:
-        """Whether a choice's change has its head, or its pair both events, in the window."""
+        """Whether a choice's change has its head, or its pair both events, in the window, and it is not held."""
+        if choice in [choice_named(network, held) for held in self.held]:
+            return False
         is_change = choice[0] == 'change'
         events = [network.activities[network.activity_place[choice[1]]].head] if is_change else choice[1:]
         return all(self.begin <= network.events[network.event_place[event]].time <= self.end for event in events)
+
+
+def choice_named(network: Network, activity: int) -> Optional[Choice]:
+    """The choice of an activity, or None."""
+    return network.choice_of_activity(network.activity_place[activity]) if activity in network.activity_place else None
+
+
+def cost_with(network: Network, penalty: int, rows: Rows, choices: Sequence[Decision]) -> Optional[int]:
+    """What rows cost with choices, or None where these make a cycle."""
+    decided = with_decisions(network, rows, choices)
+    times = times_of(network, decided)
+    return None if times is None else cost_of(network, decided, times, penalty)
+
+
+def read_kept(lines: Sequence[str]) -> Optional[list[tuple[Decision, Optional[int]]]]:
+    """The choices in lines `choice DECISION saves S` or `.. needed`, with what each saves, or None."""
+    kept: list[tuple[Decision, Optional[int]]] = []
+    for line in lines:
+        word, *decision = line.split()
+        worth = None if decision[-1] == 'needed' else int(decision.pop())
+        if word != 'choice' or decision.pop() != ('needed' if worth is None else 'saves'):
+            return None
+        kept.append(((decision[0], *map(int, decision[1:])), worth))
+    return kept
+
+
+def fault_of_minimal(network: Network, penalty: int, rows: Rows, plan: Plan, most: int, lines: Sequence[str]) -> Optional[str]:
+    """What is wrong with the lines of the choices that are kept where others are given back, or None."""
+    kept = read_kept(lines[1:])
+    if kept is None:
+        return 'the lines of choices'
+    choices = [choice for choice, _ in kept]
+    if choices != [choice for choice in plan.choices if choice in choices]:
+        return 'the choices that are kept are not some of the plan'
+    cost = cost_with(network, penalty, rows, choices)
+    if cost is None or cost > plan.cost + most or lines[0] != f'minimal cost {cost} choices {len(kept)}':
+        return f'what the choices that are kept cost, {cost}'
+    for choice, worth in kept:
+        without = cost_with(network, penalty, rows, [other for other in choices if other != choice])
+        saved = None if without is None else without - cost
+        if worth != saved or (without is not None and without <= plan.cost + most):
+            return f'{spelled(choice)} can be left out, or saves something else'
+    return None
 
 
 def fault_of_carried(network: Network, penalty: int, rows: Rows, entries: int, choices: Sequence[Decision],
@@ -276,6 +335,8 @@ def fault_of_window(network: Network, penalty: int, journal: Journal, window: Wi
     rows, lines = journal.rows[at], Text(text.encode())
     if lines.words() != ['window', str(window.begin), str(window.end), 'entry', str(at)]:
         return 'the first line'
+    if window.held and lines.words() != ['held', str(len(window.held))]:
+        return 'the line of what is held'
     head = read_plan_head(lines.words(), 2)
     if head is None:
         return 'no plan'
@@ -284,6 +345,12 @@ def fault_of_window(network: Network, penalty: int, journal: Journal, window: Wi
     if not is_true_plan(network, rows, penalty, window.budget, plan, allowed):
         return 'the plan is not true'
     rest = text.splitlines()[lines.number:]
+    if window.most is not None:
+        count = next((place for place, line in enumerate(rest) if line.startswith('rebased')), len(rest))
+        fault = fault_of_minimal(network, penalty, rows, plan, window.most, rest[:count]) if count else 'no choices that are kept'
+        if fault is not None:
+            return fault
+        rest = rest[count:]
     if window.at is None:
         return f'more lines {rest}' if rest else None
     return fault_of_carried(network, penalty, journal.rows[-1], last, plan.choices, rest)
@@ -336,11 +403,20 @@ class Asking:
 
     def window(self, draws: random.Random, journal: Journal) -> Optional[str]:
         begin, last = draws.randint(0, 60), len(journal.rows) - 1
-        window = Window(begin, begin + draws.randint(0, 60), draws.choice([1, 2, 3, 7, 50, 1000]), draws.choice([None, draws.randint(0, last + 1)]))
-        words = ['window', 'net', 'text', window.begin, window.end, window.budget, *([] if window.at is None else [f'--at={window.at}'])]
+        ids = [activity.id for activity in self.network.activities]
+        hanging = [name for name in ids if choice_named(self.network, name) is not None]
+        named = draws.choice([[], [], hanging, hanging, ids + [9999]])
+        held = tuple(draws.sample(named, draws.randint(0, min(len(named), 4))))
+        most = draws.choice([None, None, 0, 1000, draws.randint(0, 400) * 1000, 10 ** 6 * draws.randint(0, 9), 2 ** 64 - 1])
+        at = draws.choice([None, draws.randint(0, last + 1)])
+        window = Window(begin, begin + draws.randint(0, 60), draws.choice([1, 2, 3, 7, 50, 1000]), at, held, most)
+        words, barred = window.words(), window.without_choice(self.network)
         if text_without_times(journal) is None and window.at is not None and window.at > last:
             told = self.call(*words)
             return None if told == (3, lines_of(f'refused entry {window.at}')) else f'{words}: told {told}'
+        if text_without_times(journal) is None and barred is not None:
+            told = self.call(*words)
+            return None if told == (3, lines_of(f'refused window held {barred}')) else f'{words}: told {told}'
         return self.wanting_all(journal, words, lambda text: fault_of_window(self.network, self.penalty, journal, window, text))
 
     def fault_of(self, draws: random.Random, commands: Sequence[str], text: bytes) -> Optional[str]:

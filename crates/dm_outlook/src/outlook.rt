@@ -89,10 +89,11 @@ fn outlook_now(
 {
     table.sound();
     let net = table.network();
+    let penalty = table.penalty();
     net.sound();
     let now = table.copy()?;
-    let plan = window_plan(alloc, net, table.penalty(), &now, window, budget)?;
-    let minimal = thinned(alloc, net, table.penalty(), &now.rows, &plan, most)?;
+    let plan = window_plan(alloc, net, penalty, &now, window, budget)?;
+    let minimal = thinned(alloc, net, penalty, &now.rows, &plan, most)?;
     Ok(Outlook {
         entry: now.entry,
         plan,
@@ -117,12 +118,13 @@ fn outlook_then(
 {
     table.sound();
     let net = table.network();
+    let penalty = table.penalty();
     net.sound();
     let then = rows_then(alloc, table, at)?;
-    let plan = window_plan(alloc, net, table.penalty(), &then, window, budget)?;
-    let minimal = thinned(alloc, net, table.penalty(), &then.rows, &plan, most)?;
+    let plan = window_plan(alloc, net, penalty, &then, window, budget)?;
+    let minimal = thinned(alloc, net, penalty, &then.rows, &plan, most)?;
     let now = table.copy()?;
-    let carried = carried_to(alloc, net, table.penalty(), &now, &plan)?;
+    let carried = carried_to(alloc, net, penalty, &now, &plan)?;
     Ok(Outlook {
         entry: at,
         plan,

@@ -1,5 +1,5 @@
 -- Choices that are given back, one after the other.
-use Rattle.std.proofs.Common.{◌≡◌, ℕ, zero, suc, ◌+◌, ◌-◌, ◌<◌, ◌≤◌, List, [], ◌∷◌, ◌++◌, Option, Some, None, length, map, drop, get_or, refl, sym, ap, subst, ◌∙◌, inl, inr, arith, append_assoc}
+use Rattle.std.proofs.Common.{◌≡◌, ℕ, zero, suc, ◌+◌, ◌-◌, ◌<◌, ◌≤◌, List, [], ◌∷◌, ◌++◌, Option, Some, None, length, map, drop, get_or, refl, sym, ap, subst, ◌∙◌, inl, inr, arith, append_assoc, length-append}
 use Rattle.std.specs.Prelude.{All, Contains, slice_get, ◌⊎◌}
 use Rattle.std.specs.List.{remove}
 use Rattle.std.proofs.lemmas.Bool.{cases_eq}
@@ -9,7 +9,9 @@ use Rattle.std.proofs.lemmas.List.Elements.{All-contains, All-contains_itself, C
 use Rattle.dm_network.specs.Net.{Net}
 use Rattle.dm_rows.specs.declared.messages.Choice.{Choice}
 use Rattle.dm_rows.specs.declared.messages.Decision.{Decision}
+use Rattle.dm_base.specs.declared.ids.ActId.{ActId}
 use Rattle.dm_rows.specs.Decide.{IsChoiceList, free_choices_of, choice_of}
+use Rattle.dm_rows.specs.Active.{HasNoCycle, ShowsCycle}
 use Rattle.dm_rows.specs.Rows.{RowsValue}
 use Rattle.dm_tree.specs.Plans.{AreSomeOf}
 use Rattle.dm_tree.specs.declared.plans.Plan.{Plan}
@@ -116,7 +118,7 @@ module _ (net : Net) (rows : RowsValue) where
       IsJudged net rows penalty (remove ds many) cost → AreJudged net rows penalty ds (many + 1) (costs ++ cost ∷ [])
   judged_more penalty ds many costs cost judged is =
       record {
-        size = omega (arith, judged.size);
+        size = length-append costs (cost ∷ []) ∙ ap (λ (k : ℕ). k + 1) judged.size;
         each = λ place other at.
             elim (got_pushed costs cost other place at) [
               | inl before ↦ judged.each place other before
@@ -149,6 +151,13 @@ module _ (limit : ℕ) (costs : List (Option ℕ)) where
 
   pub found_none : Finds limit costs (length costs) None → ExceedEach limit costs
   found_none finds place c at = finds place c (slice_get_within costs place (Some c) at) at
+
+  pub exceed_less : (cost : ℕ) → cost ≤ limit → ExceedEach limit costs → ExceedEach cost costs
+  exceed_less cost near above place c at = let more = above place c at in omega (arith, more, near)
+
+-- rows of which a cycle is shown are not without one
+pub cycle_shown : (net : Net) (set rows : RowsValue) (ids : List ActId) → set ≡ rows → ShowsCycle net set ids → HasNoCycle net rows → ⊥
+cycle_shown net set rows ids same shown none = subst (HasNoCycle net) (sym same) none shown.places shown.is_cycle
 
 -- ---- what each decision is worth
 

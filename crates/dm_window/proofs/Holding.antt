@@ -29,7 +29,7 @@ among_more f test wider n asks x h =
 
 -- what is not held where more is held is not held where less is
 not_held : (less more : Bool) → (less ≡ true → more ≡ true) → not more ≡ true → not less ≡ true
-not_held true more holds is = absurd (both_ways more (holds refl) (not-true more is))
+not_held true more holds is = absurd (both_ways more (not-true more is) (holds refl))
 not_held false more holds is = refl
 
 module _ (net : Net) (rows : RowsValue) (window tighter : Window) (more : HoldsMore window tighter) where

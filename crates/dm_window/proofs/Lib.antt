@@ -4,3 +4,4 @@ pub mod Optimal
 pub mod Carrying
 pub mod Holding
 pub mod GivenBack
+pub mod HeldLists

@@ -1,11 +1,11 @@
 //! Plans with as few choices as serve.
-ghost use Rattle.std.specs.Prelude.{ℕ, ◌≡◌, ◌+◌, ◌<◌, ◌≤◌, ◌↔◌, length, IsTrue, IfOk, MatchOption};
+ghost use Rattle.std.specs.Prelude.{ℕ, ◌≡◌, ◌+◌, ◌<◌, ◌≤◌, ◌↔◌, length, IsTrue, IfOk, IfSome, MatchOption};
 ghost use Rattle.std.specs.List.{remove};
 ghost use Rattle.dm_base.specs.declared.limits.TheConstants.{PENALTY};
 ghost use Rattle.dm_rows.specs.Rows.{IsSized};
 ghost use Rattle.dm_rows.specs.Decide.{IsChoiceList};
 ghost use Rattle.dm_window.specs.Minimal.{IsMinimal, IsPlanOver};
-ghost use Rattle.dm_window.specs.Inside.Thinning.{AreJudged, ExceedEach, FindsNext, IsJudged, IsNearAt, with_worths};
+ghost use Rattle.dm_window.specs.Inside.Thinning.{AreJudged, ExceedEach, FindsNext, IsJudged, IsNearAt, with_worths, worth_of};
 
 use dm_base::{Cost, Items};
 use dm_network::Network;
@@ -156,10 +156,10 @@ fn cheapest(costs: &[Option<Cost>], planned: Cost, most: u64) -> Option<(usize, 
 {
     let mut found: Option<(usize, Cost)> = None;
     for (place, cost) in costs.iter().enumerate() {
-        match *cost {
-            Some(cost) => found = cheaper(found, place, cost, planned, most),
-            None => {}
-        }
+        let Some(cost) = *cost else {
+            continue;
+        };
+        found = cheaper(found, place, cost, planned, most);
     }
     found
 }
@@ -196,14 +196,21 @@ fn worths(
 {
     let mut kept = Vec::new(alloc);
     for (place, decision) in decisions.iter().enumerate() {
-        let worth = match costs[place] {
-            Some(without) => Worth::Saves(without - cost),
-            None => Worth::Needed,
-        };
         kept.push(KeptChoice {
             decision: *decision,
-            worth,
+            worth: worth_of(cost, costs[place]),
         })?;
     }
     Ok(kept)
+}
+
+/// What a decision is worth in a list that costs this, where the others cost so much or make a cycle.
+fn worth_of(cost: Cost, others: Option<Cost>) -> Worth
+    requires { IfSome others (λ c. cost ≤ c) }
+    ensures { result ≡ worth_of cost others }
+{
+    match others {
+        Some(others) => Worth::Saves(others - cost),
+        None => Worth::Needed,
+    }
 }

@@ -41,11 +41,11 @@ FindsNext limit before place c None = (before ≡ None) × (limit < c)
 FindsNext limit before place c (Some found) = (before ≡ Some found) ⊎ ((found ≡ (place, c)) × (c ≤ limit))
 
 -- some of the plan's choices, which cost this
-pub record IsThinned (net : Net) (rows : RowsValue) (penalty : ℕ) (plan : Plan) (most : ℕ) (kept : List Decision) (cost : ℕ) : Type 0 where
+pub record IsThinned (net : Net) (rows : RowsValue) (penalty : ℕ) (plan : Plan) (most : ℕ) (kept : List Decision) (c : ℕ) : Type 0 where
   pub among : All (Contains plan.choices) kept
   pub in_order : AreSomeOf (map choice_of plan.choices) (map choice_of kept)
-  pub cost : CostsSet net rows penalty kept cost
-  pub near : cost ≤ plan.cost + most
+  pub cost : CostsSet net rows penalty kept c
+  pub near : c ≤ plan.cost + most
 
 -- what a decision is worth in a list that costs this, by what the others cost
 abbrev pub worth_of : ℕ → Option ℕ → Worth

@@ -10,4 +10,4 @@ plan_task-requires-clause-posed c =
 
 pub returns-clause-plan : goal.returns-clause-plan
 returns-clause-plan c =
-    IfOk-weaker _ _ _ (λ p is. plan_within _ c.sound.ensures.network _ _ _ _ _ _ p (c.deref.ensures.value ∙ c.in_ok-base.ensures) is) c.plan_task.ensures.plan
+    IfOk-weaker _ _ _ (λ p is. plan_within _ c.sound.ensures.network _ c.args.window.now _ _ _ p (c.deref.ensures.value ∙ c.in_ok-base.ensures) is) c.plan_task.ensures.plan
