@@ -1,10 +1,7 @@
 -- Choices that are given back, one after the other.
-use Rattle.std.proofs.Common.{◌≡◌, ℕ, zero, suc, ◌+◌, ◌-◌, ◌<◌, ◌≤◌, List, [], ◌∷◌, ◌++◌, Option, Some, None, length, map, drop, get_or, refl, sym, ap, subst, ◌∙◌, inl, inr, arith, append_assoc, length-append}
-use Rattle.std.specs.Prelude.{All, Contains, slice_get, ◌⊎◌}
+use Rattle.std.proofs.Common.{◌≡◌, ℕ, zero, suc, ◌+◌, ◌-◌, ◌<◌, ◌≤◌, List, [], ◌∷◌, Option, Some, None, length, map, refl, sym, ap, subst, ◌∙◌, inl, inr, arith}
+use Rattle.std.specs.Prelude.{All, Contains, slice_get}
 use Rattle.std.specs.List.{remove}
-use Rattle.std.proofs.lemmas.Bool.{cases_eq}
-use Rattle.std.proofs.lemmas.List.{drop_more}
-use Rattle.std.proofs.lemmas.Option.{slice_get_within}
 use Rattle.std.proofs.lemmas.List.Elements.{All-contains, All-contains_itself, Contains-append_right}
 use Rattle.dm_network.specs.Net.{Net}
 use Rattle.dm_rows.specs.declared.messages.Choice.{Choice}
@@ -20,10 +17,9 @@ use Rattle.dm_paths.proofs.Lists.{apart_from_once}
 use Rattle.dm_paths.proofs.Setting.{in_front}
 use Rattle.dm_relax.proofs.BoundLaw.{all_from}
 use Rattle.dm_search.proofs.Optimal.{some_apart}
-use Rattle.dm_window.specs.Minimal.{IsPlanOver, IsMinimal, IsWorth, CostsSet, kept_of}
-use Rattle.dm_window.specs.Inside.Thinning.{AreJudged, ExceedEach, Finds, FindsNext, IsJudged, IsThinned, with_worths, worth_of}
+use Rattle.dm_window.specs.Minimal.{IsPlanOver, IsMinimal, IsWorth, CostsSet}
+use Rattle.dm_window.specs.Inside.Thinning.{AreJudged, ExceedEach, IsJudged, IsThinned, with_worths, worth_of}
 use Rattle.dm_window.specs.declared.thinning.KeptChoice.{KeptChoice}
-use Rattle.dm_window.specs.declared.thinning.Minimal.{Minimal}
 
 -- ---- lists without what stands at a place
 
@@ -60,16 +56,6 @@ map_removed : {X Y : Type 0} (f : X → Y) (xs : List X) (place : ℕ) → map f
 map_removed f [] place = ap (map f) (removed_none place) ∙ sym (removed_none place)
 map_removed f (x ∷ xs) zero = refl
 map_removed f (x ∷ xs) (suc place) = ap (λ ys. f x ∷ ys) (map_removed f xs place)
-
-got_pushed : {X : Type 0} (xs : List X) (x y : X) (k : ℕ) → slice_get (xs ++ x ∷ []) k ≡ Some y → (slice_get xs k ≡ Some y) ⊎ ((k ≡ length xs) × (x ≡ y))
-got_pushed [] x y zero h = inr (refl, cc)
-got_pushed [] x y (suc k) h = inl h
-got_pushed (z ∷ xs) x y zero h = inl h
-got_pushed (z ∷ xs) x y (suc k) h =
-    elim (got_pushed xs x y k h) [
-      | inl before ↦ inl before
-      | inr last ↦ inr (ap suc last.0, last.1)
-    ]
 
 -- ---- decisions that are left
 
@@ -111,50 +97,6 @@ module _ (net : Net) (rows : RowsValue) where
           near = near;
         }
 
-  pub judged_none : (penalty : ℕ) (ds : List Decision) → AreJudged net rows penalty ds 0 []
-  judged_none penalty ds = record { size = refl; each = λ place cost at. absurd cc }
-
-  pub judged_more : (penalty : ℕ) (ds : List Decision) (many : ℕ) (costs : List (Option ℕ)) (cost : Option ℕ) → AreJudged net rows penalty ds many costs →
-      IsJudged net rows penalty (remove ds many) cost → AreJudged net rows penalty ds (many + 1) (costs ++ cost ∷ [])
-  judged_more penalty ds many costs cost judged is =
-      record {
-        size = length-append costs (cost ∷ []) ∙ ap (λ (k : ℕ). k + 1) judged.size;
-        each = λ place other at.
-            elim (got_pushed costs cost other place at) [
-              | inl before ↦ judged.each place other before
-              | inr last ↦
-                  subst (λ (k : ℕ). IsJudged net rows penalty (remove ds k) other) (sym (last.0 ∙ judged.size))
-                  (subst (IsJudged net rows penalty (remove ds many)) last.1 is)
-            ];
-      }
-
--- ---- the least cost that is not above a limit
-
-module _ (limit : ℕ) (costs : List (Option ℕ)) where
-  above_before : (place : ℕ) → ((c : ℕ) → slice_get costs place ≡ Some (Some c) → limit < c) → Finds limit costs place None → Finds limit costs (place + 1) None
-  above_before place here before k c lt at =
-      elim (cases_eq k place) [
-        | inl same ↦ here c (subst (λ (i : ℕ). slice_get costs i ≡ Some (Some c)) same at)
-        | inr other ↦ before k c (omega arith) at
-      ]
-
-  pub passes_cycle : (place : ℕ) (found : Option (ℕ × ℕ)) → slice_get costs place ≡ Some None → Finds limit costs place found → Finds limit costs (place + 1) found
-  passes_cycle place None at before = above_before place (λ c is. absurd cc) before
-  passes_cycle place (Some found) at before = before
-
-  pub finds_more : (place c : ℕ) (before found : Option (ℕ × ℕ)) → slice_get costs place ≡ Some (Some c) → Finds limit costs place before →
-      FindsNext limit before place c found → Finds limit costs (place + 1) found
-  finds_more place c before None at finds next =
-      above_before place (λ d is. let same : c ≡ d = cc in omega (arith, next.1, same)) (subst (Finds limit costs place) next.0 finds)
-  finds_more place c before (Some found) at finds (inl same) = subst (Finds limit costs place) same finds
-  finds_more place c before (Some found) at finds (inr here) = subst (λ (f : ℕ × ℕ). Finds limit costs (place + 1) (Some f)) (sym here.0) (at, here.1)
-
-  pub found_none : Finds limit costs (length costs) None → ExceedEach limit costs
-  found_none finds place c at = finds place c (slice_get_within costs place (Some c) at) at
-
-  pub exceed_less : (cost : ℕ) → cost ≤ limit → ExceedEach limit costs → ExceedEach cost costs
-  exceed_less cost near above place c at = let more = above place c at in omega (arith, more, near)
-
 -- rows of which a cycle is shown are not without one
 pub cycle_shown : (net : Net) (set rows : RowsValue) (ids : List ActId) → set ≡ rows → ShowsCycle net set ids → HasNoCycle net rows → ⊥
 cycle_shown net set rows ids same shown none = subst (HasNoCycle net) (sym same) none shown.places shown.is_cycle
@@ -172,19 +114,6 @@ worth_at cost [] costs place kept at = absurd cc
 worth_at cost (d ∷ ds) [] place kept at = absurd cc
 worth_at cost (d ∷ ds) (c ∷ costs) zero kept at = (c, refl, cc)
 worth_at cost (d ∷ ds) (c ∷ costs) (suc place) kept at = worth_at cost ds costs place kept at
-
--- the decision at a place is put behind those before it
-pub worths_more : (cost : ℕ) (ds : List Decision) (costs : List (Option ℕ)) (place : ℕ) (d : Decision) (o : Option ℕ) (done all : List KeptChoice) →
-    place < length ds → place < length costs → d ≡ get_or ds place d → o ≡ get_or costs place o →
-    done ++ with_worths cost (drop place ds) (drop place costs) ≡ all →
-    (done ++ record { decision = d; worth = worth_of cost o } ∷ []) ++ with_worths cost (drop (place + 1) ds) (drop (place + 1) costs) ≡ all
-worths_more cost ds costs place d o done all low below d_is o_is before =
-    let ds_are : drop place ds ≡ d ∷ drop (place + 1) ds = drop_more ds place d low ∙ ap (λ (e : Decision). e ∷ drop (place + 1) ds) (sym d_is) in
-    let costs_are : drop place costs ≡ o ∷ drop (place + 1) costs = drop_more costs place o below ∙ ap (λ (e : Option ℕ). e ∷ drop (place + 1) costs) (sym o_is) in
-    append_assoc done (record { decision = d; worth = worth_of cost o } ∷ []) (with_worths cost (drop (place + 1) ds) (drop (place + 1) costs))
-    ∙ (ap (λ (ks : List KeptChoice). done ++ ks)
-    (ap (λ (es : List Decision). with_worths cost es (o ∷ drop (place + 1) costs)) (sym ds_are) ∙ ap (with_worths cost (drop place ds)) (sym costs_are))
-    ∙ before)
 
 module _ (net : Net) (rows : RowsValue) (penalty : ℕ) (plan : Plan) (most : ℕ) (kept : List Decision) (cost : ℕ) (costs : List (Option ℕ)) where
   is_worth : (others : List Decision) (o : Option ℕ) → cost ≤ plan.cost + most → IsJudged net rows penalty others o →

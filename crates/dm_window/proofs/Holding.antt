@@ -1,15 +1,13 @@
 -- Where more is held, less may be decided, and nothing becomes cheaper.
-use Rattle.std.proofs.Common.{◌≡◌, ℕ, ◌≤◌, Bool, true, false, List, ◌++◌, length, map, refl, sym, ap, subst, ◌∙◌, inl, inr, arith}
-use Rattle.std.specs.Prelude.{filter, Contains, All, not, ◌&&◌}
+use Rattle.std.proofs.Common.{◌≡◌, ℕ, Bool, true, false, List, length, map, refl, sym, ap, subst, ◌∙◌, inl, inr, arith}
+use Rattle.std.specs.Prelude.{filter, Contains, not, ◌&&◌}
 use Rattle.std.specs.List.{range_with_len}
-use Rattle.std.proofs.lemmas.Bool.{cases_Bool, both_ways, and_parts, and_from, not-true, not_from_false, not_from_true}
+use Rattle.std.proofs.lemmas.Bool.{both_ways, and_parts, and_from, not-true}
 use Rattle.std.proofs.lemmas.List.Elements.{All-contains, Contains-append_left, Contains-append_right, Contains-append_cases}
 use Rattle.dm_network.specs.Net.{Net, event_at, activity_at, pair_at}
 use Rattle.dm_rows.specs.declared.messages.Choice.{Choice}
-use Rattle.dm_rows.specs.declared.messages.Decision.{Decision}
 use Rattle.dm_rows.specs.Rows.{RowsValue}
 use Rattle.dm_rows.specs.Decide.{is_free_change, is_free_pair, change_choice, pair_choice, choice_of}
-use Rattle.dm_tree.specs.declared.plans.Plan.{Plan}
 use Rattle.dm_tree.specs.Plans.{Task}
 use Rattle.dm_paths.proofs.Apart.{listed}
 use Rattle.dm_paths.proofs.Naming.{from_place}
@@ -17,7 +15,7 @@ use Rattle.dm_relax.proofs.BoundLaw.{all_from}
 use Rattle.dm_search.proofs.Optimal.{optimal_is, chosen}
 use Rattle.dm_window.specs.declared.windows.Window.{Window}
 use Rattle.dm_window.specs.Windows.{is_within, is_held, is_change_within, is_pair_within, is_change_in, is_pair_in, choices_in, window_task}
-use Rattle.dm_window.specs.Laws.{HoldsMore, HoldingMoreCostsNoLess, IsWindowPlanOver}
+use Rattle.dm_window.specs.Laws.{HoldsMore, HoldingMoreCostsNoLess}
 use Rattle.dm_window.proofs.Beside.{window_is_task}
 
 -- items of places that pass one test are among those that pass a test which asks less

@@ -19,11 +19,7 @@ pub enum HeldFault {
 
 /// The choices of the activities with these ids, in their order: of a change whether it is kept, of a headway which event of its pair goes
 /// first.
-pub fn held_choices(
-    alloc: Global,
-    net: &Network,
-    ids: &[u32],
-) -> Result<Items<Choice>, HeldFault>
+pub fn held_choices(alloc: Global, net: &Network, ids: &[u32]) -> Result<Items<Choice>, HeldFault>
     ensures held { IfOk result (λ held. map (choice_named net.now) ids.now ≡ map Some held) }
     ensures refused { IfErr result (MakesNoChoice net.now ids.now) }
 {

@@ -1,4 +1,4 @@
-use Rattle.std.proofs.Common.{◌≡◌, ◌+◌, ℕ, List, Option, Some, length, ap, sym, subst, ◌∙◌, arith}
+use Rattle.std.proofs.Common.{◌≡◌, ◌+◌, ◌<◌, ℕ, List, Option, Some, length, ap, sym, subst, ◌∙◌, arith}
 use Rattle.std.specs.Prelude.{slice_get}
 use Rattle.std.proofs.lemmas.Option.{slice_get_within}
 use Rattle.dm_rows.specs.declared.messages.Decision.{Decision}
@@ -17,7 +17,8 @@ loop-place-init c = (
 
 pub remove-requires : goal.remove-requires
 remove-requires c =
-    let within = slice_get_within _ _ _ c.in-Some.ensures.0 in
+    let within : c.in-Some.place < length c.as_slice-in-loop-place.result.now =
+    slice_get_within c.as_slice-in-loop-place.result.now c.in-Some.place (Some c.in-Some.left) c.in-Some.ensures.0 in
     let judged = c.loop-place.invariant.1 in
     omega (arith, within, ap length c.as_slice-in-loop-place.ensures.value, judged.size, c.loop-place.kept.ok.0)
 
