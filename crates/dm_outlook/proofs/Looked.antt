@@ -1,5 +1,5 @@
 -- What was planned at an entry and carried over, put together.
-use Rattle.std.proofs.Common.{◌≡◌, ℕ, List, length, Option, None, Some, refl, ap, sym, subst, ◌∙◌}
+use Rattle.std.proofs.Common.{◌≡◌, ℕ, List, length, Option, None, Some, refl, ap, subst, ◌∙◌}
 use Rattle.dm_network.specs.Net.{Net}
 use Rattle.dm_rows.specs.declared.messages.Entry.{Entry}
 use Rattle.dm_rows.specs.declared.rows.Snapshot.{Snapshot}

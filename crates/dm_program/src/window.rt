@@ -41,14 +41,7 @@ pub fn end_window<K: Sink>(
         Err(HeldFault::NoChoice(id)) => return end_no_choice(id, out),
         Err(HeldFault::OutOfMemory) => return Status::NoMemory,
     };
-    match outlook_of(
-        alloc,
-        table,
-        &window,
-        asked.budget,
-        asked.at,
-        asked.minimal,
-    ) {
+    match outlook_of(alloc, table, &window, asked.budget, asked.at, asked.minimal) {
         Ok(outlook) => end_outlook(&window, table.len(), &outlook, out),
         Err(AllocError) => Status::NoMemory,
     }
