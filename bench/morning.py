@@ -513,7 +513,8 @@ def report(world: World, come: Played) -> Iterator[str]:
     yield f'{late} events were late, {come.dropped} connections were dropped'
     yield (f'lines of the feed: {kinds.count("delay event")} delays, {kinds.count("pass")} passes, {kinds.count("now")} clocks, '
            f'{kinds.count("drop")} drops')
-    yield f'{come.minutes} minutes, {come.calls} times compared, {come.differ} differ; the slowest minute took {come.slowest:.2f} s here'
+    yield f'{come.minutes} minutes, {come.calls} times compared, {come.differ} differ'
+    yield f'the tools took {come.slowest:.2f} s of processor in the slowest minute'
 
 
 def main() -> int:

@@ -79,7 +79,10 @@ def is_active(network: Network, rows: Rows, place: int) -> bool:
 
 def active_activities(network: Network, rows: Rows) -> list[bool]:
     """Whether each activity is active."""
-    return [is_active(network, rows, place) for place in range(len(network.activities))]
+    return [
+        is_active(network, rows, place) if activity.kind == 'headway' else rows.passed[head] is None and rows.kept[place]
+        for place, (activity, head) in enumerate(zip(network.activities, network.heads))
+    ]
 
 
 def floor_of(network: Network, rows: Rows, place: int) -> int:
