@@ -1,0 +1,3 @@
+pub mod AllFeeds
+pub mod FewLines
+pub mod Following
