@@ -2,8 +2,9 @@
 """Prints the choices of a plan as lines of a feed, such as `drop 5` and `first 5 3`: choices.py TEXT [--feed=K]
 
 TEXT is the text of a run or what `dispatcher window` printed; `-` is standard input. Of a run the plan for the most entries is
-taken, the last one where several are for as many, of all feeds or of feed K. Of a window that was carried over to the last entry
-the choices are printed that still differ from the rows there. The journal has such lines as a dispatcher's own.
+taken, the last one where several are for as many, of all feeds or of feed K. Of a window that lists which choices are left when
+others are given back, these are printed; of one that was carried over to the last entry, those that still differ from the rows
+there. The journal has such lines as a dispatcher's own.
 
 Status 0 where there is a plan, 1 where there is none or it could not be carried over, 2 where the text is none of these.
 """
@@ -44,28 +45,53 @@ def choices_of_run(text: Text, feed: int | None) -> tuple[Decision, ...]:
     return latest.choices
 
 
-def choices_carried(text: Text) -> tuple[Decision, ...]:
+def read_choices(text: Text, many: int) -> list[list[str]]:
+    """The words behind `choice` in so many lines."""
+    said = [text.words() for _ in range(many)]
+    for words in said:
+        text.demand(words[0] == 'choice', 'form')
+    return [words[1:] for words in said]
+
+
+def choices_carried(text: Text, words: list[str]) -> tuple[Decision, ...]:
     """The choices of a plan that still differ from the rows at the last entry."""
-    words = text.words()
     numbers = fits(words, ['rebased', MOST_ENTRIES, 'cost', NUMBER, 'choices', NUMBER])
     if numbers is None:
         text.demand(words[0] == 'rebased' and words[2:3] == ['refused'], 'form')
         raise NoPlan(f'the plan could not be carried over: {" ".join(words[3:])}')
+    return tuple(text.sure(read_form(DECISIONS, said)) for said in read_choices(text, numbers[2]))
+
+
+def choices_left(text: Text, words: list[str]) -> tuple[Decision, ...]:
+    """The choices of a plan that are left when others are given back."""
+    _, many = text.sure(fits(words, ['minimal', 'cost', NUMBER, 'choices', NUMBER]))
     choices: list[Decision] = []
-    for _ in range(numbers[2]):
-        words = text.words()
-        text.demand(words[0] == 'choice', 'form')
-        choices.append(text.sure(read_form(DECISIONS, words[1:])))
+    for said in read_choices(text, many):
+        is_needed = said[-1] == 'needed'
+        text.demand(is_needed or fits(said[-2:], ['saves', NUMBER]) is not None, 'form')
+        choices.append(text.sure(read_form(DECISIONS, said[:-1] if is_needed else said[:-2])))
     return tuple(choices)
 
 
 def choices_of_window(text: Text) -> tuple[Decision, ...]:
-    """The choices of the plan of a window, or what is left of them at the last entry."""
+    """The choices of the plan of a window, those that are left when others are given back, or what is left at the last entry."""
     entry, = text.read('window', VALUE, VALUE, 'entry', MOST_ENTRIES)[2:]
-    head = read_plan_head(text.words(), 2)
+    words = text.words()
+    if words[0] == 'held':
+        words = text.words()
+    head = read_plan_head(words, 2)
     text.demand(head is not None, 'form')
-    plan = read_plan(text, 2, Answer('plan', entry, head))
-    return choices_carried(text) if text.has_more() else plan.choices
+    choices = read_plan(text, 2, Answer('plan', entry, head)).choices
+    if not text.has_more():
+        return choices
+    words = text.words()
+    if words[0] == 'minimal':
+        choices = choices_left(text, words)
+        if not text.has_more():
+            return choices
+        words = text.words()
+    carried = choices_carried(text, words)
+    return tuple(choice for choice in choices if choice in carried)
 
 
 def choices_in(data: bytes, feed: int | None) -> tuple[Decision, ...]:

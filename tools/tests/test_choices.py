@@ -50,6 +50,21 @@ class OfWindows(unittest.TestCase):
         self.assertEqual(lines(bytes_of('window_of_each_choice')), ['drop 5', 'first 5 3'])
         self.assertEqual(lines(bytes_of('window_of_one_change')), [])
 
+    def test_what_is_held_and_what_is_given_back(self):
+        self.assertEqual(lines(bytes_of('window_that_holds_the_pair')), [])
+        self.assertEqual(lines(bytes_of('window_that_gives_nothing_back')), ['drop 5', 'first 5 3'])
+        self.assertEqual(lines(bytes_of('window_that_gives_one_of_two_back')), ['drop 5'])
+        self.assertEqual(lines(bytes_of('window_that_gives_both_back_before_it_is_carried_over')), [])
+
+    def test_a_choice_that_others_need(self):
+        told = b'minimal cost 9 choices 2\nchoice drop 5 needed\nchoice first 5 3 saves 7\n'
+        head = bytes_of('window_of_each_choice')
+        self.assertEqual(lines(head + told), ['drop 5', 'first 5 3'])
+        self.assertEqual(lines(head + told + b'rebased 2 cost 7 choices 1\nchoice first 5 3\n'), ['first 5 3'])
+        for wrong in (told.replace(b' needed', b''), told.replace(b'saves', b'costs'), told.replace(b'choices 2', b'choices 3')):
+            with self.assertRaises(Bad):
+                choices_in(head + wrong, None)
+
     def test_what_is_left_at_the_last_entry(self):
         data = b'\n'.join([
             b'window 200 235 entry 1', b'plan optimal cost 9 bound 9 choices 2 nodes 1', b'choice drop 5', b'choice first 5 3',
