@@ -178,7 +178,7 @@ module _ (contents : List (List ℕ)) (file rest : List ℕ) (split : file ≡ f
   torn_cut shown image on =
       let c = image.journal in
       let n = length c - length blocks in
-      let long : length c ≡ length blocks + n = omega (arith, on.journal.no_shorter, is_there) in
+      let long : length c ≡ length blocks + n = omega (arith, on.journal.no_shorter, is_there, blocks_fit) in
       let is : c ≡ blocks ++ take n rest =
       sym on.journal.front ∙ ap (take (length c)) split ∙ ap (λ (k : ℕ). take k (blocks ++ rest)) long ∙ take-append-add blocks rest n in
       still (take n rest) shown image is (end_front n rest ends) (front_end (is_new contents) n rest) on.same

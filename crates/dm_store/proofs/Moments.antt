@@ -1,8 +1,6 @@
 -- What a crash leaves while a sequence of calls goes on.
-use Rattle.std.proofs.Common.{◌≡◌, inl, inr, ⊎_elim, ℕ, ◌≤◌, List, ◌∙◌, subst, arith}
-use Rattle.dm_outside.specs.Faults.{HasRisen}
-use Rattle.dm_store.specs.Calls.{Image, OnJournal, Elapses, LeavesOnly}
-use Rattle.dm_store.specs.Inside.Stages.{Stepped}
+use Rattle.std.proofs.Common.{inl, inr, ⊎_elim, ℕ, arith}
+use Rattle.dm_store.specs.Calls.{Image, Elapses, LeavesOnly}
 
 module _ {S : Type 0} (moment : S → ℕ) (left_since : S → ℕ → Image → Type 0) where
   -- before the first call

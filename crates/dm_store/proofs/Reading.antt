@@ -1,5 +1,5 @@
 -- A block in front of a file: read where one stands there, and nowhere else.
-use Rattle.std.proofs.Common.{◌≡◌, ℕ, ◌^◌, ◌<◌, ◌≤◌, List, ◌∷◌, ◌++◌, codes, length, Some, None, refl, sym, ap, arith, ◌∙◌, append_assoc, length-append}
+use Rattle.std.proofs.Common.{◌≡◌, ℕ, ◌^◌, ◌<◌, ◌≤◌, List, ◌∷◌, ◌++◌, codes, length, Some, refl, sym, ap, arith, ◌∙◌, append_assoc, length-append}
 use Rattle.std.specs.Fmt.{decimal}
 use Rattle.dm_text.specs.Inside.Parts.{behind, number_in_front}
 use Rattle.dm_text.proofs.Reading.{behind_back, behind_is, number_back, number_is}

@@ -1,6 +1,6 @@
 -- What the calls of a store do, and what a crash at any moment may leave. A store is seen through functions that its trait
 -- names: what a read returns, what was shown, what a crash may leave, the moment, and the faults.
-use Rattle.std.specs.Prelude.{◌≡◌, ◌⊎◌, ℕ, ◌+◌, ◌≤◌, max, List, [], ◌++◌, length, take, drop, Result, IsErrOf, IfErr, ⊤, slice_set, slice_index_or}
+use Rattle.std.specs.Prelude.{◌≡◌, ◌⊎◌, ℕ, ◌+◌, ◌≤◌, min, max, List, [], ◌++◌, length, take, drop, Result, IsErrOf, IfErr, ⊤, slice_set, slice_index_or}
 use Rattle.dm_outside.specs.Faults.{HasRisen}
 use Rattle.dm_store.specs.declared.faults.StoreError.{StoreError}
 use Rattle.dm_store.specs.declared.faults.StoreError.TheVariants.{OutOfMemory, Failed}
@@ -21,9 +21,9 @@ pub record Torn (at n : ℕ) (old new : List ℕ) : Type 0 where
   pub no_shorter : length old ≤ length new
   pub no_longer : length new ≤ max (length old) (at + n)
 
--- after a cut: some length between
+-- after a cut: some length between; what is shorter already stays
 pub record Cut (n : ℕ) (old new : List ℕ) : Type 0 where
-  pub no_shorter : n ≤ length new
+  pub no_shorter : min n (length old) ≤ length new
   pub front : take (length new) old ≡ new
 
 -- the journal goes this step, and what is shown stays

@@ -4,3 +4,4 @@ pub mod Inside
 pub mod Journals
 pub mod Laws
 pub mod Worked
+pub mod Memory

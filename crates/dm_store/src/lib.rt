@@ -16,7 +16,9 @@
 //! the store's count of faults rose, or stands at its last value. [`first_block`] reads the block in front of a file, where one
 //! stands there. Of a file one list of contents stands, and no other (`laws`).
 //!
-//! [`MemStore`] is a store in memory that tells all: it fails at listed calls, and what a crash leaves of it is torn as asked.
+//! [`MemStore`] is a store in memory that tells: some image is always left of it, what a read returns with what is shown. A new
+//! one has its journal on the disk. [`MemStore::after_crash`] gives one that a crash at this moment may leave, torn as asked.
+//! That calls fail where they are listed is tried by `dm_store_cases`.
 //!
 //! # What is argued of a real folder
 //!
@@ -36,10 +38,12 @@ mod faults;
 mod folder;
 mod journal;
 pub mod laws;
+mod memory;
 mod store;
 
 pub use blocks::{VERSION, first_block};
 pub use faults::StoreError;
 pub use folder::{FileStore, OpenError};
 pub use journal::{Journal, LARGEST_JOURNAL};
+pub use memory::{MemStore, Tear};
 pub use store::Store;

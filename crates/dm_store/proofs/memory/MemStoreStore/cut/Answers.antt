@@ -1,0 +1,12 @@
+use Rattle.std.proofs.Common.{◌≡◌, take, rules}
+use Rattle.dm_store.specs.declared.memory.Done.TheVariants.{CutTo}
+use Rattle.dm_store.proofs.Kept.{outcome_back, shown_more, elapses_more, told_cut}
+use Rattle.dm_store.proofs.memory.MemStoreStore.cut.Goals as goal
+
+pub returns-clause-crash : goal.returns-clause-crash
+returns-clause-crash c = λ told within image left. outcome_back c.args.self.now (CutTo c.args.len) _ c.in_ok-push.ensures.items image left
+
+pub returns-clause-goes : goal.returns-clause-goes
+returns-clause-goes c = λ told within.
+    let cut : c.truncate.new.self.items ≡ take c.args.len c.args.self.now.seen.items = search rules in
+    record { told = told_cut c.args.self.now c.args.len _ c.in_ok-push.ensures.items c.truncate.new.self.items within cut told; same = shown_more c.args.self.now (CutTo c.args.len) _ c.in_ok-push.ensures.items; time = elapses_more c.args.self.now (CutTo c.args.len) _ c.in_ok-push.ensures.items _ (λ image left. left) }
