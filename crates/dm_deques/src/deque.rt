@@ -1,10 +1,10 @@
 //! An owner's deque, the thieves of other threads, and their tallies.
-ghost use Rattle.std.specs.Prelude.{◌≡◌, true, false, List, [], ◌∷◌, ◌++◌, length, IfOk, IfSome, IfNone, OnOk, IfErr};
-ghost use Rattle.dm_deques.specs.Rule.{WasEmpty, IsWithin, fresh};
-ghost use Rattle.dm_deques.specs.Deques.{settled, having_put, having_taken};
+ghost use Rattle.std.specs.Prelude.{◌≡◌, List, [], ◌∷◌, ◌++◌, length, IfOk, IfSome, IfNone, OnOk, IfErr};
+ghost use Rattle.dm_deques.specs.Rule.{WasEmpty, Held, opening, fresh};
+ghost use Rattle.dm_deques.specs.Deques.{lending, settled, having_put, having_taken};
 
 use crate::account::Account;
-use crate::rule::{Fair, Glue, Grown, Put, Steal, Take, Whole};
+use crate::rule::{Fair, Glue, Grown, Lend, Put, Steal, Take, Whole};
 use crossbeam_deque::{Pass, Steal as Stolen, Stealer, Worker};
 use std::alloc::{AllocError, Global};
 use std::marker::Model;
@@ -64,7 +64,7 @@ impl<T: Drop> Model for Tally<T> {
 impl<T: Drop, G: Grown<T>> Owner<T, G> {
     /// An empty deque.
     pub fn new(alloc: Global) -> Result<Owner<T, G>, AllocError>
-        ensures { IfOk result (λ o. o.account ≡ fresh true) }
+        ensures { IfOk result (λ o. o.account ≡ opening) }
     {
         Ok(Owner {
             worker: Worker::lifo_as(alloc, SLOTS)?,
@@ -78,6 +78,16 @@ impl<T: Drop, G: Grown<T>> Owner<T, G> {
         Ok(Thief {
             stealer: self.worker.stealer()?,
         })
+    }
+
+    /// Lends a tally, which has taken nothing, to a thread that takes tasks off the deque.
+    pub fn tally(&mut self) -> Tally<T>
+        ensures owner { self.new ≡ record self.old { account = lending self.old.account } }
+        ensures tally { result ≡ record { deque = self.old.deque; account = fresh } }
+    {
+        Tally {
+            pass: self.worker.another::<Lend>(),
+        }
     }
 
     /// Takes in a tally: what it took is the owner's.
@@ -98,11 +108,12 @@ impl<T: Drop, G: Grown<T>> Owner<T, G> {
         self.worker.push_as::<Put>(task)
     }
 
-    /// Takes the last task, or finds the deque empty at one moment.
+    /// Takes the last task, or finds the deque empty at one moment: where no tally is out, the owner has then taken all that it has
+    /// put.
     pub fn take(&mut self) -> Option<T>
         ensures taken { IfSome result (λ task. G.fits task
             × (self.new ≡ record self.old { account = having_taken self.old.account (task ∷ []) })) }
-        ensures none { IfNone result ((self.new ≡ self.old) × WasEmpty G.fits self.old.account) }
+        ensures none { IfNone result ((self.new ≡ self.old) × WasEmpty self.old.account) }
     {
         match self.worker.pop_as::<Take<G>>() {
             Some(task) => Some(task),
@@ -110,25 +121,16 @@ impl<T: Drop, G: Grown<T>> Owner<T, G> {
         }
     }
 
-    /// How many tasks the deque holds at one moment. What the owner has taken and they were put, each task at most as often.
+    /// How many tasks the deque holds at one moment: where no tally is out, as many as were put and not taken.
     pub fn count(&mut self) -> usize
         ensures same { self.new ≡ self.old }
-        ensures counted { (items : List T) × (length items ≡ result) × IsWithin self.old.account items }
+        ensures counted { (items : List T) × (length items ≡ result) × Held self.old.account items }
     {
         self.worker.len_as::<Whole>()
     }
 }
 
 impl<T: Drop, G: Grown<T>> Thief<T, G> {
-    /// A new tally, which has taken nothing.
-    pub fn tally(&self) -> Tally<T>
-        ensures { result ≡ record { deque = self.now; account = fresh false } }
-    {
-        Tally {
-            pass: self.stealer.pass(),
-        }
-    }
-
     /// Takes the first task. None may come although there is one, where others take at the same time.
     pub fn steal(&self, tally: &mut Tally<T>) -> Option<T>
         requires deque { tally.old.deque ≡ self.now }

@@ -6,12 +6,14 @@
 //!
 //! # What is promised
 //!
-//! However tasks are weighed, what all accounts have put weighs what they have taken and what the deque holds: each task that was
-//! put was taken once or is still there. `Owner::new` gives an empty deque, and `thief` a handle for other threads; both take memory.
-//! `tally` gives a new tally, and `settle` takes one in again: what it took is then the owner's. `put` hands the task back where the
-//! deque cannot grow, and nothing has changed then. `take` gives the last task, or finds the deque empty at one moment. `steal` gives
-//! the first task, or none. `count` tells how many tasks the deque holds at one moment: what the owner has taken and these were put.
-//! `tallies_of` gives a tally of each of some deques, and `settle_each` takes one in at each. No call waits.
+//! However tasks are weighed, what the owner has put weighs what it and the tallies that are out have taken and what the deque
+//! holds: each task that was put was taken once or is still there. `Owner::new` gives an empty deque, and `thief` a handle for other
+//! threads; both take memory. `tally` lends a tally, and `settle` takes one in again: what it took is then the owner's, who knows how
+//! many are out. `put` hands the task back where the deque cannot grow, and nothing has changed then. `take` gives the last task, or
+//! finds the deque empty at one moment. `steal` gives the first task, or none. `count` tells how many tasks the deque holds at one
+//! moment. Where no tally is out, both speak of the owner's account alone: `take` gives none only where all that was put was taken,
+//! and `count` tells what is left. Of what tallies that are out have taken meanwhile they tell no more than that there are so many.
+//! `lend_each` has each of some deques lend a tally, and `settle_each` takes one in at each. No call waits.
 #![tactic(auto)]
 
 mod account;
@@ -22,4 +24,4 @@ mod sharing;
 pub use account::Account;
 pub use deque::{Owner, Tally, Thief};
 pub use rule::{Fair, Grown};
-pub use sharing::{settle_each, tallies_of};
+pub use sharing::{Lent, lend_each, settle_each};

@@ -1,6 +1,6 @@
 //! The protocol of a deque, and what each kind of step tells.
 use crate::account::Account;
-use crossbeam_deque::protocol::{Join, Lesson, Outcome, Protocol};
+use crossbeam_deque::protocol::{Join, Lesson, Outcome, Protocol, Split};
 use std::marker::{Brand, PhantomData};
 
 /// What every task of a deque is. Each search picks it.
@@ -18,14 +18,14 @@ pub struct Fair<G> {
 }
 
 impl<T, G: Grown<T>> Protocol<T, Account<T>> for Fair<G> {
-    ghost use Rattle.std.specs.Prelude.{true, false};
-    ghost use Rattle.dm_deques.specs.Rule.{Balanced, fresh};
+    ghost use Rattle.dm_deques.specs.Rule.{Balanced, opening, spent};
 
     ghost holds = { Balanced G.fits };
 
-    ghost first = { fresh true };
+    ghost first = { opening };
 
-    ghost guest = { fresh false };
+    // No pass is made but by the owner.
+    ghost guest = { spent };
 }
 
 /// A task is put.
@@ -48,7 +48,7 @@ impl<T, G: Grown<T>> Outcome<T, Account<T>> for Take<G> {
 
     ghost then = { HasTaken G.fits };
 
-    ghost empty = { WasEmpty G.fits };
+    ghost empty = { WasEmpty };
 }
 
 /// A task is stolen, which fits.
@@ -71,15 +71,26 @@ impl<T> Lesson<T, Account<T>> for Whole {
     ghost fact = { HasWhole };
 }
 
+/// A tally is lent.
+pub struct Lend;
+
+impl<T> Split<Account<T>> for Lend {
+    ghost use Rattle.dm_deques.specs.Deques.{lending};
+    ghost use Rattle.dm_deques.specs.Rule.{fresh};
+
+    ghost left = { lending };
+
+    ghost right = { λ _. fresh };
+}
+
 /// A tally is taken in.
 pub struct Glue;
 
 impl<T> Join<Account<T>> for Glue {
-    ghost use Rattle.std.specs.Prelude.{false};
     ghost use Rattle.dm_deques.specs.Deques.{settled};
-    ghost use Rattle.dm_deques.specs.Rule.{fresh};
+    ghost use Rattle.dm_deques.specs.Rule.{spent as left};
 
     ghost both = { settled };
 
-    ghost spent = { fresh false };
+    ghost spent = { left };
 }

@@ -1,23 +1,36 @@
 //! The tallies of one thread with many deques.
 ghost use Rattle.std.specs.Prelude.{◌≡◌, map, IfOk};
-ghost use Rattle.dm_deques.specs.Sharing.{new_tally, settling_each, deque_of};
+ghost use Rattle.dm_deques.specs.Sharing.{new_tally, having_lent, settling_each, deque_of};
 
-use crate::deque::{Owner, Tally, Thief};
+use crate::deque::{Owner, Tally};
 use crate::rule::Grown;
 use std::alloc::{AllocError, Global};
 
-/// A new tally of each deque, in order.
-pub fn tallies_of<T: Drop, G: Grown<T>>(
+/// Deques, in order, and a tally that each of them has lent.
+#[derive(Drop)]
+pub struct Lent<T: Drop, G: Grown<T>> {
+    pub owners: Vec<Owner<T, G>>,
+    pub tallies: Vec<Tally<T>>,
+}
+
+/// Each owner lends a tally, in order.
+pub fn lend_each<T: Drop, G: Grown<T>>(
     alloc: Global,
-    thieves: &[Thief<T, G>],
-) -> Result<Vec<Tally<T>>, AllocError>
-    ensures { IfOk result (λ r. r.items ≡ map new_tally thieves.now) }
+    owners: Vec<Owner<T, G>>,
+) -> Result<Lent<T, G>, AllocError>
+    ensures owners { IfOk result (λ r. r.owners.items ≡ map having_lent owners.items) }
+    ensures tallies { IfOk result (λ r. r.tallies.items ≡ map new_tally (map deque_of owners.items)) }
 {
-    let mut tallies = Vec::with_capacity(alloc, thieves.len())?;
-    for thief in thieves {
-        tallies.push(thief.tally())?;
+    let mut lent = Lent {
+        owners: Vec::with_capacity(alloc, owners.len())?,
+        tallies: Vec::with_capacity(alloc, owners.len())?,
+    };
+    for owner in owners {
+        let mut owner = owner;
+        lent.tallies.push(owner.tally())?;
+        lent.owners.push(owner)?;
     }
-    Ok(tallies)
+    Ok(lent)
 }
 
 /// Each owner takes in the tally of its deque, in order.

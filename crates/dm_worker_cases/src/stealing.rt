@@ -10,7 +10,7 @@ use std::marker::Brand;
 pub fn first_is_stolen(alloc: Global) -> Result<(), Failure> {
     let mut owner = Owner::<u64, Brand>::new(alloc)?;
     let thief = owner.thief()?;
-    let mut tally = thief.tally();
+    let mut tally = owner.tally();
     if owner.put(1).is_err() || owner.put(2).is_err() || owner.put(3).is_err() {
         return Err(Failure::OutOfMemory);
     }

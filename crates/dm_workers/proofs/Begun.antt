@@ -65,18 +65,18 @@ module _ (net : Net) (rows : RowsValue) (penalty : ℕ) (base : List Decision) (
   }
 
   -- a worker that began so and has done its work
-  pub done_from : {F : Type 0} (word : TableId) (start : ℕ) (fits : Path → Type 0) (ds : List RowsId) (self mid after : Worker F) → IsSameWorker mid after → IsNewWorker own word start self
-      → mid ≡ record self { tallies = mid.tallies } → mid.tallies.items ≡ map new_tally ds → WasEmpty fits after.owner.account
-      → ((given : List Bool → ℕ) (from : ℕ) → IsWorking task own word from given nothing mid → IsWorking task own word from given nothing after)
-      → IsDone task own word start fits ds self after
-  done_from {F} word start fits ds self mid after same new is tallies empty works =
+  pub done_from : {F : Type 0} (word : TableId) (start : ℕ) (ds : List RowsId) (self after : Worker F) → IsSameWorker self after → IsNewWorker own word start ds self
+      → WasEmpty after.owner.account
+      → ((given : List Bool → ℕ) (from : ℕ) → IsWorking task own word from given nothing self → IsWorking task own word from given nothing after)
+      → IsDone task own word start ds self after
+  done_from {F} word start ds self after same new empty works =
       let put : List Bool → ℕ = λ s. paths_on s self.owner.account.put in
-      let at = begun word self.owner mid.tallies.items ds self.hand self.leaves.items self.best.choices self.best.cost tallies new.leaves new.word_is new.room new.lowered new.choices new.cost in
+      let at = begun word self.owner self.tallies.items ds self.hand self.leaves.items self.best.choices self.best.cost new.tallies new.leaves new.word_is new.room new.lowered new.choices new.cost in
       record {
         works = works put start
-            (subst (IsWorking task own word start put nothing) (sym is)
-            (subst (λ (from : ℕ). IsAtWork task own word from put nothing self.owner mid.tallies.items self.hand self.leaves.items self.best.choices self.best.cost) new.start_is at));
+            (subst (λ (from : ℕ). IsAtWork task own word from put nothing self.owner self.tallies.items self.hand self.leaves.items self.best.choices self.best.cost) new.start_is at);
         empty = empty;
-        deque = same.deque ∙ ap (λ (w : Worker F). w.owner.deque) is;
-        deques = same.deques ∙ (ap (map deque_of) tallies ∙ tally_deques ds);
+        deque = same.deque;
+        lent = same.lent;
+        deques = same.deques ∙ (ap (map deque_of) new.tallies ∙ tally_deques ds);
       }

@@ -1,5 +1,5 @@
 -- What the workers have found, once all is gathered, settled and counted, and the word is closed.
-use Rattle.std.proofs.Common.{◌≡◌, ℕ, zero, suc, ◌+◌, ◌≤◌, Bool, List, [], ◌∷◌, length, Some, Result, All, refl, sym, ◌∙◌, arith}
+use Rattle.std.proofs.Common.{◌≡◌, ℕ, zero, suc, ◌+◌, ◌≤◌, Bool, List, [], ◌∷◌, length, Some, Result, All, refl, sym, ◌∙◌, arith, inr}
 use Rattle.std.specs.Prelude.{IfOk, map, min, slice_get}
 use Rattle.std.proofs.lemmas.List.Elements.{All-weaker}
 use Rattle.atomic_table.specs.Seated.{TableId}
@@ -28,12 +28,13 @@ module _ {F : Type 0} (task : Task) (own : ℕ) (word : TableId) (start rooms : 
 
   pub found_of : (jobs : List (Worker F)) (g : Gathered F) → IsGatheredFrom task own word start rooms theirs jobs g → start ≡ min own nothing_looked
       → ((s : List Bool) → given_to s jobs ≤ 1) → (owners : List (TallyValue Path)) → ((s : List Bool) → owners_put s owners ≡ owners_put s g.owners.items)
-      → ((s : List Bool) → owners_taken s owners ≡ owners_taken s g.owners.items + all_taken s g.tallies.items) → ((s : List Bool) → owners_taken s owners ≤ owners_put s owners)
+      → ((s : List Bool) → owners_taken s owners ≡ owners_taken s g.owners.items + all_taken s g.tallies.items) → ((s : List Bool) → owners_taken s owners ≡ owners_put s owners)
       → (end : ℕ) → end ≡ lowest g.hand.start g.hand.lowered → end ≤ g.hand.looked → IsFound task own g.leaves.items g.best.choices g.best.cost
   found_of jobs g all starts one owners put took within end is looked =
       let h = all.gathered in
       record {
         looked = g.hand.looked;
+        pruned = λ lt. shown_at_end g.best.cost own g.hand g.hand.looked end (h.found.start_is ∙ starts) h.found.kept.no_dearer h.found.listed is looked (inr (omega arith, lt));
         apart = apart_at_end task own word start (rooms + length jobs) (λ s. given_to s jobs) (λ s. all_taken s g.tallies.items) g.owners.items owners g.hand g.leaves.items g.best.choices g.best.cost
             h one put took within;
         ends = h.found.ends;

@@ -1,19 +1,19 @@
 -- Loops over workers and their deques.
-use Rattle.std.proofs.Common.{◌≡◌, ℕ, ◌+◌, ◌-◌, ◌≤◌, Bool, true, List, [], ◌∷◌, ◌++◌, length, map, All, sym, ap, subst, ◌∙◌, arith, append_assoc, length-append}
+use Rattle.std.proofs.Common.{◌≡◌, ℕ, ◌+◌, ◌-◌, ◌≤◌, Bool, true, List, [], ◌∷◌, ◌++◌, length, map, All, refl, sym, ap, subst, ◌∙◌, arith, append_assoc, length-append}
 use Rattle.std.specs.Prelude.{sum_by}
-use Rattle.std.proofs.lemmas.List.{map-append}
-use Rattle.std.proofs.lemmas.List.Elements.{All-head, All-tail, All-push}
+use Rattle.std.proofs.lemmas.List.{map-append, nil_from_length}
+use Rattle.std.proofs.lemmas.List.Elements.{All-nil, All-cons, All-head, All-tail, All-push}
 use Rattle.std.proofs.lemmas.List.Sums.{sum_by-cons, sum_by_push}
 use Rattle.atomic_blocks.specs.Lent.{RowsId}
 use Rattle.dm_bound.specs.Words.{HandValue}
 use Rattle.dm_deques.specs.declared.account.Account.{Account}
 use Rattle.dm_deques.specs.Deques.{TallyValue}
-use Rattle.dm_deques.specs.Rule.{fresh}
-use Rattle.dm_deques.specs.Sharing.{deque_of, settling_each}
-use Rattle.dm_ways.specs.Ways.{paths_on}
-use Rattle.dm_workers.specs.Inside.Gathering.{owners_put, owners_taken, all_taken, HasTakenNothing}
+use Rattle.dm_deques.specs.Rule.{opening, WasEmpty}
+use Rattle.dm_deques.specs.Sharing.{deque_of, new_tally, having_lent, settling_each}
+use Rattle.dm_ways.specs.Ways.{on_way, paths_on}
+use Rattle.dm_workers.specs.Inside.Gathering.{owners_put, owners_taken, all_taken, lent_of, HasLent, HasLentOnly, AreEquipped}
 use Rattle.dm_workers.specs.Inside.Working.{Path, taken_on}
-use Rattle.dm_workers.proofs.Gathered.{settles, settles_deques}
+use Rattle.dm_workers.proofs.Gathered.{settles, settles_deques, settles_lent}
 
 -- what is made of each element, and the elements that are left
 module _ {X Y : Type 0} (f : X → Y) where
@@ -55,8 +55,8 @@ all_more P xs now x is all p = subst (All P) (sym is) (All-push P xs x all p)
 
 -- one deque more, which is empty
 pub one_enlisted : (owners now : List (TallyValue Path)) (thieves thieves_now : List RowsId) (o : TallyValue Path) (t : RowsId) → now ≡ owners ++ o ∷ [] → thieves_now ≡ thieves ++ t ∷ []
-    → t ≡ o.deque → o.account ≡ fresh true → map deque_of owners ≡ thieves → ((s : List Bool) → owners_put s owners ≤ 1) → All HasTakenNothing owners
-    → (map deque_of now ≡ thieves_now) × ((s : List Bool) → owners_put s now ≤ 1) × All HasTakenNothing now × (length now ≡ length owners + 1)
+    → t ≡ o.deque → o.account ≡ opening → map deque_of owners ≡ thieves → ((s : List Bool) → owners_put s owners ≤ 1) → All (HasLentOnly 0) owners
+    → (map deque_of now ≡ thieves_now) × ((s : List Bool) → owners_put s now ≤ 1) × All (HasLentOnly 0) now × (length now ≡ length owners + 1)
 one_enlisted owners now thieves thieves_now o t is thief same account deques root none = (
   ap (map deque_of) is
       ∙ (map-append deque_of owners (o ∷ [])
@@ -68,6 +68,95 @@ one_enlisted owners now thieves thieves_now o t is thief same account deques roo
     sum_by_push (λ (x : TallyValue Path). paths_on s x.account.put) owners o,
     ap (λ (v : Account Path). paths_on s v.put) account,
   ),
-  all_more HasTakenNothing owners now o is none (ap (λ (v : Account Path). v.taken) account),
+  all_more (HasLentOnly 0) owners now o is none (record { taken = ap (λ (v : Account Path). v.taken) account; lent = ap (λ (v : Account Path). v.lent) account }),
   ap length is ∙ length-append owners (o ∷ []),
+)
+
+lent_deques : (owners : List (TallyValue Path)) → map deque_of (map having_lent owners) ≡ map deque_of owners
+lent_deques [] = refl
+lent_deques (o ∷ os) = ap (λ (ds : List RowsId). o.deque ∷ ds) (lent_deques os)
+
+lent_put : (s : List Bool) (owners : List (TallyValue Path)) → owners_put s (map having_lent owners) ≡ owners_put s owners
+lent_put s [] = refl
+lent_put s (o ∷ os) =
+    let put = λ (x : TallyValue Path). paths_on s x.account.put in
+    omega (arith, lent_put s os, sum_by-cons put (having_lent o) (map having_lent os), sum_by-cons put o os)
+
+one_out : (n : ℕ) (owners : List (TallyValue Path)) → All (HasLentOnly n) owners → All (HasLentOnly (n + 1)) (map having_lent owners)
+one_out n [] all = All-nil (HasLentOnly (n + 1))
+one_out n (o ∷ os) all =
+    let here = All-head (HasLentOnly n) o os all in
+    All-cons (HasLentOnly (n + 1)) (having_lent o) (map having_lent os) (record { taken = here.taken; lent = ap (λ (k : ℕ). k + 1) here.lent })
+    (one_out n os (All-tail (HasLentOnly n) o os all))
+
+-- a tally of each deque is the tallies of a worker
+abbrev pub IsPurse : List (TallyValue Path) → List (TallyValue Path) → Type 0
+IsPurse owners ts = ts ≡ map new_tally (map deque_of owners)
+
+pub none_equipped : (owners : List (TallyValue Path)) (purses : List (List (TallyValue Path))) → purses ≡ [] → All (HasLentOnly 0) owners → AreEquipped owners owners 0 purses
+none_equipped owners purses none new = record {
+  deques = refl;
+  put = λ s. refl;
+  new = new;
+  each = subst (All (IsPurse owners)) (sym none) (All-nil (IsPurse owners));
+  many = ap length none;
+}
+
+-- every deque has lent one tally more
+pub one_equipped : (before owners now : List (TallyValue Path)) (n : ℕ) (purses purses_now : List (List (TallyValue Path))) (ts : List (TallyValue Path)) → AreEquipped before owners n purses
+    → now ≡ map having_lent owners → ts ≡ map new_tally (map deque_of owners) → purses_now ≡ purses ++ ts ∷ [] → AreEquipped before now (n + 1) purses_now
+one_equipped before owners now n purses purses_now ts h is tallies more =
+    let same : map deque_of now ≡ map deque_of owners = ap (map deque_of) is ∙ lent_deques owners in
+    record {
+      deques = same ∙ h.deques;
+      put = λ s. ap (owners_put s) is ∙ (lent_put s owners ∙ h.put s);
+      new = subst (All (HasLentOnly (n + 1))) (sym is) (one_out n owners h.new);
+      each = subst (λ (ds : List RowsId). All (λ ts. ts ≡ map new_tally ds) purses_now) (sym same)
+          (all_more (IsPurse owners) purses purses_now ts more h.each tallies);
+      many = ap length more ∙ (length-append purses (ts ∷ []) ∙ ap (λ (k : ℕ). k + 1) h.many);
+    }
+
+-- what is known of all is known of the last and of those before it
+pub last_of_all : {X : Type 0} (P : X → Type 0) (xs now : List X) (x : X) → xs ≡ now ++ x ∷ [] → All P xs → P x
+last_of_all P xs now x is all = last now (subst (All P) is all) where
+  last : (ys : List _) → All P (ys ++ x ∷ []) → P x
+  last [] h = All-head P x [] h
+  last (y ∷ ys) h = last ys (All-tail P y (ys ++ x ∷ []) h)
+
+pub front_of_all : {X : Type 0} (P : X → Type 0) (xs now : List X) (x : X) → xs ≡ now ++ x ∷ [] → All P xs → All P now
+front_of_all P xs now x is all = front now (subst (All P) is all) where
+  front : (ys : List _) → All P (ys ++ x ∷ []) → All P ys
+  front [] h = All-nil P
+  front (y ∷ ys) h = All-cons P y ys (All-head P y (ys ++ x ∷ []) h) (front ys (All-tail P y (ys ++ x ∷ []) h))
+
+-- two lists of which both have lost one
+pub one_fewer : {X Y : Type 0} (xs now : List X) (x : X) (ys next : List Y) (y : Y) → xs ≡ now ++ x ∷ [] → ys ≡ y ∷ next → length xs ≡ length ys → length now ≡ length next
+one_fewer xs now x ys next y a b same = omega (arith, ap length a, ap length b, length-append now (x ∷ []), same)
+
+-- one list of tallies that was settled leaves one less out
+pub one_less_out : (n : ℕ) (settled now ts : List (TallyValue Path)) (rest next : List (List (TallyValue Path))) → rest ≡ ts ∷ next → map deque_of ts ≡ map deque_of settled
+    → now ≡ settling_each settled ts → All (HasLent (n + length rest)) settled → All (HasLent (n + length next)) now
+one_less_out n settled now ts rest next is deques new all =
+    let many : n + length rest ≡ (n + length next) + 1 = omega (arith, ap length is) in
+    subst (All (HasLent (n + length next))) (sym new) (settles_lent (n + length next) settled ts deques (subst (λ (k : ℕ). All (HasLent k) settled) many all))
+
+pub none_out : (n : ℕ) (owners : List (TallyValue Path)) (rest : List (List (TallyValue Path))) → rest ≡ [] → All (HasLent (n + length rest)) owners → All (HasLent n) owners
+none_out n owners rest none all = subst (λ (k : ℕ). All (HasLent k) owners) (omega (arith, ap length none)) all
+
+-- where no tally is out, an owner that found its deque empty has taken what it put
+pub emptied : (o : TallyValue Path) → WasEmpty o.account → HasLent 0 o → (s : List Bool) → paths_on s o.account.taken ≡ paths_on s o.account.put
+emptied o e none s =
+    let nothing : e.by_tallies ≡ [] = nil_from_length e.by_tallies (e.out ∙ none) in
+    omega (arith, e.balance (on_way s), ap (sum_by (λ (taken : List Path). sum_by (on_way s) taken)) nothing)
+
+pub one_emptied : (s : List Bool) (rest next : List (TallyValue Path)) (o : TallyValue Path) → rest ≡ o ∷ next → paths_on s o.account.taken ≡ paths_on s o.account.put
+    → owners_taken s next ≡ owners_put s next → owners_taken s rest ≡ owners_put s rest
+one_emptied s rest next o is here others = omega (
+  arith,
+  ap (owners_taken s) is,
+  ap (owners_put s) is,
+  here,
+  others,
+  sum_by-cons (λ (x : TallyValue Path). paths_on s x.account.taken) o next,
+  sum_by-cons (λ (x : TallyValue Path). paths_on s x.account.put) o next,
 )

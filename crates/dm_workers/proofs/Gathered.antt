@@ -2,7 +2,7 @@
 use Rattle.std.proofs.Common.{◌≡◌, ◌⊎◌, ℕ, ◌+◌, ◌≤◌, ◌<◌, Bool, List, [], ◌∷◌, ◌++◌, min, All, refl, ap, sym, ◌∙◌, subst, arith, inl, inr, ⊎_elim}
 use Rattle.std.specs.Prelude.{sum_by, map}
 use Rattle.std.proofs.lemmas.Bool.{cases_lt}
-use Rattle.std.proofs.lemmas.List.Elements.{All-append, All-head, All-tail}
+use Rattle.std.proofs.lemmas.List.Elements.{All-nil, All-cons, All-append, All-head, All-tail}
 use Rattle.std.proofs.lemmas.List.Sums.{sum_by-append, sum_by-cons, sum_by_push}
 use Rattle.atomic_table.specs.Seated.{TableId}
 use Rattle.dm_rows.specs.declared.messages.Decision.{Decision}
@@ -14,7 +14,7 @@ use Rattle.dm_deques.specs.Sharing.{deque_of, settling, settling_each}
 use Rattle.dm_ways.specs.Ways.{paths_on, leaves_on, on_way, StandApart}
 use Rattle.dm_workers.specs.Inside.Working.{Path, taken_on, IsHandedIn, IsEnd, AreKept, AreListed, AreFindings, IsAtWork, nothing}
 use Rattle.dm_workers.specs.declared.working.Best.{Best}
-use Rattle.dm_workers.specs.Inside.Gathering.{owners_put, owners_taken, all_taken, AreGathered}
+use Rattle.dm_workers.specs.Inside.Gathering.{owners_put, owners_taken, all_taken, HasLent, AreGathered}
 use Rattle.dm_workers.proofs.Efforts.{ends_lower, listed_lower}
 
 -- two hands made one
@@ -84,11 +84,21 @@ settles_deques [] ts = refl
 settles_deques (o ∷ os) [] = refl
 settles_deques (o ∷ os) (t ∷ ts) = ap (λ ds. o.deque ∷ ds) (settles_deques os ts)
 
+-- each owner who took one in has one less out
+pub settles_lent : (n : ℕ) (owners tallies : List (TallyValue Path)) → map deque_of tallies ≡ map deque_of owners → All (HasLent (n + 1)) owners
+    → All (HasLent n) (settling_each owners tallies)
+settles_lent n [] [] e all = All-nil (HasLent n)
+settles_lent n [] (t ∷ ts) e all = absurd (cc)
+settles_lent n (o ∷ os) [] e all = absurd (cc)
+settles_lent n (o ∷ os) (t ∷ ts) e all =
+    let here : o.account.lent ≡ n + 1 = All-head (HasLent (n + 1)) o os all in
+    All-cons (HasLent n) (settling o t) (settling_each os ts) (omega (arith, here)) (settles_lent n os ts (cc) (All-tail (HasLent (n + 1)) o os all))
+
 -- in the end the leaves stand apart
 pub apart_at_end : (task : Task) (own : ℕ) (word : TableId) (start rooms : ℕ) (given taken : List Bool → ℕ) (owners owners' : List (TallyValue Path)) (hand : HandValue)
     (leaves : List Leaf) (choices : List Decision) (cost : ℕ) → AreGathered task own word start rooms given taken owners hand leaves choices cost
     → ((s : List Bool) → given s ≤ 1) → ((s : List Bool) → owners_put s owners' ≡ owners_put s owners)
-    → ((s : List Bool) → owners_taken s owners' ≡ owners_taken s owners + taken s) → ((s : List Bool) → owners_taken s owners' ≤ owners_put s owners') → StandApart leaves
+    → ((s : List Bool) → owners_taken s owners' ≡ owners_taken s owners + taken s) → ((s : List Bool) → owners_taken s owners' ≡ owners_put s owners') → StandApart leaves
 apart_at_end task own word start rooms given taken owners owners' hand leaves choices cost g one put took within s =
     omega (arith, g.fair s, one s, put s, took s, within s)
 

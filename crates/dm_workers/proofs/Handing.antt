@@ -17,7 +17,7 @@ use Rattle.dm_tree.specs.Plans.{Task}
 use Rattle.dm_ways.specs.Ways.{leaves_on}
 use Rattle.dm_workers.specs.declared.gathering.Gathered.{Gathered}
 use Rattle.dm_workers.specs.declared.working.Worker.{Worker}
-use Rattle.dm_workers.specs.Inside.Gathering.{owners_put}
+use Rattle.dm_workers.specs.Inside.Gathering.{owners_put, lent_of}
 use Rattle.dm_workers.specs.Inside.Together.{IsGatheredFrom, HandsIn, AreHandedIn}
 use Rattle.dm_workers.specs.Inside.Workers.{IsDone}
 use Rattle.dm_workers.specs.Inside.Working.{Path, IsHandedIn, AreKept, AreListed}
@@ -47,6 +47,8 @@ module _ {F : Type 0} (task : Task) (own : ℕ) (word : TableId) (start : ℕ) (
           (ap (λ (k : HandValue). k.lowered) e.2 ∙ low) e.4 e.5;
     };
     deques = ap (map deque_of) e.0;
+    lent = ap (map lent_of) e.0;
+    many = ap length e.1;
     of_all = subst (All (λ ts. map deque_of ts ≡ theirs)) (sym e.1) (All-nil (λ (ts : List (TallyValue Path)). map deque_of ts ≡ theirs));
   }
 
@@ -62,11 +64,11 @@ module _ {F : Type 0} (task : Task) (own : ℕ) (word : TableId) (start : ℕ) (
         let so : get_or rs k v ≡ v = get_or_from_slice_get rs k v v in_rs in
         subst (λ x. IfOk v (HandsIn task own word start theirs x)) is (subst (λ r. IfOk r (HandsIn task own word start theirs h.job)) so (each h.job (get_or rs k v) h.call))
 
-  pub all_given : {C E T : Type 0} {g : Shared C (Worker F × Unit {0}) (Result (Worker F) E)} {f : C} (fits : Path → Type 0) (jobs : List (Worker F)) (items : T → List (Result (Worker F) E)) (answer : Result T E)
-      → ((x : Worker F) (r : Result (Worker F) E) → FnReturns g f (x, tt) r → IfOk r (IsDone task own word start fits theirs x))
+  pub all_given : {C E T : Type 0} {g : Shared C (Worker F × Unit {0}) (Result (Worker F) E)} {f : C} (jobs : List (Worker F)) (items : T → List (Result (Worker F) E)) (answer : Result T E)
+      → ((x : Worker F) (r : Result (Worker F) E) → FnReturns g f (x, tt) r → IfOk r (IsDone task own word start theirs x))
       → IfOk answer (λ t. length (items t) ≡ length jobs) → IfOk answer (λ t. GivesJobs g f jobs (items t)) → IfOk answer (λ t. AreHandedIn task own word start theirs jobs (items t))
-  all_given fits jobs items (Ok t) each many gives =
+  all_given jobs items (Ok t) each many gives =
       given_at jobs (items t) many
-      (λ x r call. IfOk-weaker r (IsDone task own word start fits theirs x) (HandsIn task own word start theirs x) (λ w d. record { works = d.works; deque = d.deque; deques = d.deques }) (each x r call))
+      (λ x r call. IfOk-weaker r (IsDone task own word start theirs x) (HandsIn task own word start theirs x) (λ w d. record { works = d.works; deque = d.deque; lent = d.lent; deques = d.deques }) (each x r call))
       gives
-  all_given fits jobs items (Err e) each many gives = tt
+  all_given jobs items (Err e) each many gives = tt

@@ -14,8 +14,8 @@ use Rattle.dm_workers.specs.declared.working.Worker.{Worker}
 use Rattle.dm_workers.specs.declared.gathering.Gathered.{Gathered}
 use Rattle.dm_workers.specs.Inside.Working.{Path, taken_on, AreFindings, nothing}
 use Rattle.dm_workers.specs.Inside.Workers.{IsWorking, owner_of}
-use Rattle.dm_workers.specs.Inside.Gathering.{owners_put, AreGathered}
-use Rattle.dm_workers.specs.Inside.Together.{given_to, deque_of_worker, IsGathered, IsGatheredFrom, HandsIn, AreHandedIn}
+use Rattle.dm_workers.specs.Inside.Gathering.{owners_put, lent_of, AreGathered}
+use Rattle.dm_workers.specs.Inside.Together.{given_to, deque_of_worker, lent_of_worker, IsGathered, IsGatheredFrom, HandsIn, AreHandedIn}
 
 module _ {F : Type 0} where
   -- what workers were given is what their owners had put
@@ -43,6 +43,10 @@ module _ {F : Type 0} where
       deques = ap (map deque_of) owners ∙ (map-append deque_of old.owners.items (w.owner ∷ [])
           ∙ (ap (λ (ds : List RowsId). ds ++ w.owner.deque ∷ []) g.deques
           ∙ (ap (λ (d : RowsId). map deque_of_worker done ++ d ∷ []) h.deque ∙ sym (map-append deque_of_worker done (job ∷ [])))));
+      lent = ap (map lent_of) owners ∙ (map-append lent_of old.owners.items (w.owner ∷ [])
+          ∙ (ap (λ (ns : List ℕ). ns ++ lent_of w.owner ∷ []) g.lent
+          ∙ (ap (λ (n : ℕ). map lent_of_worker done ++ n ∷ []) h.lent ∙ sym (map-append lent_of_worker done (job ∷ [])))));
+      many = omega (arith, ap length tallies, length-append old.tallies.items (w.tallies.items ∷ []), g.many, length-append done (job ∷ []));
       of_all = subst (All (λ ts. map deque_of ts ≡ theirs)) (sym tallies) (All-push (λ ts. map deque_of ts ≡ theirs) old.tallies.items w.tallies.items g.of_all h.deques);
     }
 

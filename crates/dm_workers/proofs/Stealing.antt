@@ -40,12 +40,13 @@ stolen_at (x ∷ xs) (suc k) t u path lt is new =
 module _ {F : Type 0} where
   -- a worker that takes a path, or finds none, stays the same
   pub same_after : (a b c : Worker F) → IsSameWorker a b → IsSameWorker b c → IsSameWorker a c
-  same_after a b c p q = record { who = q.who ∙ p.who; deque = q.deque ∙ p.deque; deques = q.deques ∙ p.deques; word = q.word ∙ p.word }
+  same_after a b c p q = record { who = q.who ∙ p.who; deque = q.deque ∙ p.deque; lent = q.lent ∙ p.lent; deques = q.deques ∙ p.deques; word = q.word ∙ p.word }
 
   pub taken_same : (old new : Worker F) (path : Path) → HasTaken old new path → IsSameWorker old new
   taken_same old new path t = record {
     who = ap (λ (w : Worker F). w.who) t.same;
     deque = t.deque;
+    lent = t.lent;
     deques = t.deques;
     word = ap (λ (w : Worker F). w.hand.word) t.same;
   }
@@ -54,6 +55,7 @@ module _ {F : Type 0} where
   none_same old new n = record {
     who = ap (λ (w : Worker F). w.who) n.same;
     deque = ap (λ (o : TallyValue Path). o.deque) n.owner;
+    lent = ap (λ (o : TallyValue Path). o.account.lent) n.owner;
     deques = ap (map deque_of) n.tallies;
     word = ap (λ (w : Worker F). w.hand.word) n.same;
   }

@@ -2,6 +2,7 @@
 use Rattle.std.proofs.Common.{◌≡◌, ℕ, ◌+◌, ◌-◌, ◌≤◌, Bool, List, [], ◌∷◌, length, map, All, Result, refl, ap, sym, subst, ◌∙◌, arith}
 use Rattle.std.specs.Prelude.{IfOk}
 use Rattle.std.proofs.lemmas.List.{length-map}
+use Rattle.std.proofs.lemmas.List.Elements.{All-nil, All-cons, All-head, All-tail, All-weaker}
 use Rattle.atomic_table.specs.Seated.{TableId}
 use Rattle.atomic_blocks.specs.Lent.{RowsId}
 use Rattle.dm_network.specs.Net.{Net}
@@ -17,9 +18,9 @@ use Rattle.dm_guide.specs.Posed.{task_beside}
 use Rattle.dm_workers.specs.declared.gathering.Gathered.{Gathered}
 use Rattle.dm_workers.specs.declared.working.Worker.{Worker}
 use Rattle.dm_workers.specs.Inside.Found.{IsFound}
-use Rattle.dm_workers.specs.Inside.Gathering.{all_taken, owners_put, owners_taken}
-use Rattle.dm_workers.specs.Inside.Together.{deque_of_worker, IsGatheredFrom, HandsIn, AreHandedIn, AreDone, IsFirstHand}
-use Rattle.dm_workers.specs.Inside.Workers.{owner_of}
+use Rattle.dm_workers.specs.Inside.Gathering.{all_taken, owners_put, owners_taken, lent_of, HasTakenNothing, HasLent, HasLentOnly, AreEquipped}
+use Rattle.dm_workers.specs.Inside.Together.{deque_of_worker, lent_of_worker, IsGatheredFrom, HandsIn, AreHandedIn, AreDone, IsFirstHand}
+use Rattle.dm_workers.specs.Inside.Workers.{owner_of, IsNewWorker}
 use Rattle.dm_workers.specs.Inside.Working.{Path}
 use Rattle.dm_workers.proofs.Begun.{own_kept}
 use Rattle.dm_workers.proofs.Ends.{deques_agree, found_of}
@@ -38,15 +39,54 @@ pub worker_deques : {F : Type 0} (workers : List (Worker F)) → map deque_of_wo
 worker_deques [] = refl
 worker_deques (w ∷ ws) = ap (λ (ds : List RowsId). w.owner.deque ∷ ds) (worker_deques ws)
 
+workers_lent : {F : Type 0} (n : ℕ) (workers : List (Worker F)) → All (HasLentOnly n) (map owner_of workers) → All (λ w. lent_of_worker w ≡ n) workers
+workers_lent {F} n [] all = All-nil (λ (w : Worker F). lent_of_worker w ≡ n)
+workers_lent {F} n (w ∷ ws) all =
+    All-cons (λ (w : Worker F). lent_of_worker w ≡ n) w ws (All-head (HasLentOnly n) w.owner (map owner_of ws) all).lent
+    (workers_lent n ws (All-tail (HasLentOnly n) w.owner (map owner_of ws) all))
+
+-- where workers have lent so many, so have their owners
+lent_each : {F : Type 0} (n : ℕ) (owners : List (TallyValue Path)) (jobs : List (Worker F)) → map lent_of owners ≡ map lent_of_worker jobs → All (λ w. lent_of_worker w ≡ n) jobs
+    → All (HasLent n) owners
+lent_each n [] jobs e all = All-nil (HasLent n)
+lent_each n (o ∷ os) [] e all = absurd (cc)
+lent_each {F} n (o ∷ os) (w ∷ ws) e all =
+    let here : lent_of o ≡ lent_of_worker w = cc in
+    All-cons (HasLent n) o os (here ∙ All-head (λ (v : Worker F). lent_of_worker v ≡ n) w ws all)
+    (lent_each n os ws (cc) (All-tail (λ (v : Worker F). lent_of_worker v ≡ n) w ws all))
+
 -- new workers who were given no more than one path on each way have done their work
 pub are_done : {F E : Type 0} (task : Task) (own : ℕ) (word : TableId) (start : ℕ) (crew : List (Worker F)) (worked : List (Result (Worker F) E)) (owners : List (TallyValue Path)) (theirs : List RowsId)
-    → map owner_of crew ≡ owners → map deque_of owners ≡ theirs → ((s : List Bool) → owners_put s owners ≤ 1) → AreHandedIn task own word start theirs crew worked
-    → AreDone task own word start worked
-are_done {F} {E} task own word start crew worked owners theirs of_crew deques one handed = record {
+    → map owner_of crew ≡ owners → map deque_of owners ≡ theirs → ((s : List Bool) → owners_put s owners ≤ 1) → All (HasLentOnly (length owners)) owners
+    → AreHandedIn task own word start theirs crew worked → AreDone task own word start worked
+are_done {F} {E} task own word start crew worked owners theirs of_crew deques one lent handed = record {
   jobs = crew;
   handed = subst (λ (ds : List RowsId). AreHandedIn {E = E} task own word start ds crew worked) (sym (worker_deques crew ∙ (ap (map deque_of) of_crew ∙ deques))) handed;
   one = λ s. omega (arith, given_is s crew, ap (owners_put s) of_crew, one s);
+  lent = workers_lent (length crew) crew
+      (subst (All (HasLentOnly (length crew))) (sym of_crew)
+      (subst (λ (n : ℕ). All (HasLentOnly n) owners) (ap length (sym of_crew) ∙ length-map crew owner_of) lent));
 }
+
+-- owners that are equipped are as many as before, were given no more, and have lent a tally to each
+pub as_many : (before owners : List (TallyValue Path)) (n : ℕ) (purses : List (List (TallyValue Path))) → AreEquipped before owners n purses → length owners ≡ length before
+as_many before owners n purses h = sym (length-map owners (deque_of {T = Path})) ∙ (ap length h.deques ∙ length-map before (deque_of {T = Path}))
+
+pub lent_to_all : (before owners : List (TallyValue Path)) (purses : List (List (TallyValue Path))) → AreEquipped before owners (length before) purses
+    → All (HasLentOnly (length owners)) owners
+lent_to_all before owners purses h = subst (λ (n : ℕ). All (HasLentOnly n) owners) (sym (as_many before owners (length before) purses h)) h.new
+
+pub none_taken_yet : (n : ℕ) (owners : List (TallyValue Path)) → All (HasLentOnly n) owners → All HasTakenNothing owners
+none_taken_yet n owners all = All-weaker (HasLentOnly n) HasTakenNothing (λ o h. h.taken) owners all
+
+pub new_there : {F : Type 0} (own : ℕ) (word : TableId) (from start : ℕ) (ds theirs : List RowsId) (crew : List (Worker F)) → from ≡ start → ds ≡ theirs
+    → All (IsNewWorker own word from ds) crew → All (IsNewWorker own word start theirs) crew
+new_there own word from start ds theirs crew e d all =
+    subst (λ (n : ℕ). All (IsNewWorker own word n theirs) crew) e (subst (λ (l : List RowsId). All (IsNewWorker own word from l) crew) d all)
+
+pub one_given : (before owners : List (TallyValue Path)) → ((s : List Bool) → owners_put s owners ≡ owners_put s before) → ((s : List Bool) → owners_put s before ≤ 1)
+    → (s : List Bool) → owners_put s owners ≤ 1
+one_given before owners same one s = omega (arith, same s, one s)
 
 -- each hand that was split off comes back
 pub rooms_are : {F E : Type 0} (task : Task) (own : ℕ) (word : TableId) (start : ℕ) (theirs : List RowsId) (crew : List (Worker F)) (worked : List (Result (Worker F) E)) (owners : List (TallyValue Path)) (workers seats first room : ℕ)
@@ -78,6 +118,12 @@ module _ {F E : Type 0} (net : Net) (rows : RowsValue) (penalty : ℕ) (base : L
   pub all_agree : All (λ ts. map deque_of ts ≡ map deque_of all.owners.items) all.tallies.items
   all_agree = deques_agree task own word hand.start hand.room theirs done.jobs all gathered refl
 
+  -- each owner has lent as many tallies as there are to be settled
+  pub all_out : All (HasLent (0 + length all.tallies.items)) all.owners.items
+  all_out =
+      let g = gathered in
+      subst (λ (n : ℕ). All (HasLent n) all.owners.items) (omega (arith, g.many)) (lent_each (length done.jobs) all.owners.items done.jobs g.lent done.lent)
+
   pub word_there : all.hand.word ≡ word
   word_there = gathered.gathered.found.word_is
 
@@ -85,6 +131,6 @@ module _ {F E : Type 0} (net : Net) (rows : RowsValue) (penalty : ℕ) (base : L
   all_rooms seats is = omega (arith, is, gathered.gathered.found.room, handed_many task own word hand.start theirs done.jobs worked done.handed)
 
   pub all_found : (owners : List (TallyValue Path)) → ((s : List Bool) → owners_put s owners ≡ owners_put s all.owners.items)
-      → ((s : List Bool) → owners_taken s owners ≡ owners_taken s all.owners.items + all_taken s all.tallies.items) → ((s : List Bool) → owners_taken s owners ≤ owners_put s owners)
+      → ((s : List Bool) → owners_taken s owners ≡ owners_taken s all.owners.items + all_taken s all.tallies.items) → ((s : List Bool) → owners_taken s owners ≡ owners_put s owners)
       → (end : ℕ) → end ≡ lowest all.hand.start all.hand.lowered → end ≤ all.hand.looked → IsFound task own all.leaves.items all.best.choices all.best.cost
   all_found owners put took within end is looked = found_of task own word hand.start hand.room theirs done.jobs all gathered first.start_is done.one owners put took within end is looked

@@ -34,6 +34,12 @@ pub record IsExpanded (net : Net) (rows : RowsValue) (path : List Decision) (pen
   pub seen : ℕ
   pub found : IsSeen net rows path penalty old new seen outcome
 
+-- the word was looked at once, at no more than a look tells, and nothing else was told
+pub record HasOnlyLooked (old new : HandValue) : Type 0 where
+  pub seen : ℕ
+  pub hand : new ≡ having_looked old seen
+  pub low : seen ≤ lowest old.start old.lowered
+
 -- a hand of the same word, with the same room
 pub record IsSameHand (old new : HandValue) : Type 0 where
   pub word : new.word ≡ old.word

@@ -1,12 +1,12 @@
 //! One node of a search whose workers share the least cost that they have found.
-ghost use Rattle.std.specs.Prelude.{◌≡◌, ◌≤◌, ◌++◌, min, IfOk};
+ghost use Rattle.std.specs.Prelude.{◌≡◌, ◌≤◌, ◌++◌, min, IfOk, OnErr};
 ghost use Rattle.dm_base.specs.declared.limits.TheConstants.{PENALTY};
 ghost use Rattle.dm_rows.specs.Decide.{IsChoiceList};
 ghost use Rattle.dm_rows.specs.Rows.{IsSized};
 ghost use Rattle.dm_bound.specs.Words.{nothing_looked};
 ghost use Rattle.dm_guide.specs.Tasks.{task_of, IsPosedTask};
 ghost use Rattle.dm_search.specs.Moving.{IsOver};
-ghost use Rattle.dm_workers.specs.Expanding.{limit_of, telling, IsExpanded, IsSeen, IsSameHand};
+ghost use Rattle.dm_workers.specs.Expanding.{limit_of, telling, IsExpanded, IsSeen, HasOnlyLooked, IsSameHand};
 
 use dm_base::Cost;
 use dm_evaluate::Evaluator;
@@ -16,8 +16,9 @@ use dm_search::{BoundWord, Hand, Outcome, Task, step, step_to};
 use std::alloc::{AllocError, Global};
 
 /// What a search does with a path over the rows of a snapshot, where the best choices so far cost what the word tells: it looks
-/// at the word once, and where nothing is violated it lowers the word by the cost. The path decides free choices, none twice. The
-/// penalty is in seconds for each passenger, at most 1,000,000.
+/// at the word once, and where nothing is violated it lowers the word by the cost. Where it wants memory it has looked at the word,
+/// and lowered it by nothing. The path decides free choices, none twice. The penalty is in seconds for each passenger, at most
+/// 1,000,000.
 pub fn expand(
     alloc: Global,
     net: &Network,
@@ -32,6 +33,7 @@ pub fn expand(
     requires list { IsChoiceList net.now snapshot.now.rows path.now }
     requires word { hand.old.word ≡ word.now.id }
     ensures expanded { IfOk result (IsExpanded net.now snapshot.now.rows path.now penalty hand.old hand.new) }
+    ensures wanting { OnErr result (HasOnlyLooked hand.old hand.new) }
     ensures hand { IsSameHand hand.old hand.new }
 {
     let seen = word.look(hand);
@@ -45,8 +47,8 @@ pub fn expand(
 }
 
 /// The same for a path behind the base of a task, by an evaluator that goes there from where it stands, with the value that the
-/// word had.
-pub(crate) fn expand_to(
+/// word had. This is what workers call.
+pub fn expand_with(
     task: &Task<'_>,
     evaluator: &mut Evaluator,
     path: &[Decision],
@@ -59,6 +61,7 @@ pub(crate) fn expand_to(
     requires word { hand.old.word ≡ word.now.id }
     ensures seen { IfOk result (λ r. IsSeen task.now.net.now task.now.rows.now (task.now.base.now ++ path.now) task.now.penalty
         hand.old hand.new r.0 r.1) }
+    ensures wanting { OnErr result (HasOnlyLooked hand.old hand.new) }
     ensures evaluator { IsOver (task_of task.now) evaluator.new }
     ensures hand { IsSameHand hand.old hand.new }
 {

@@ -9,8 +9,8 @@ ghost use Rattle.dm_workers.specs.Inside.Together.{AreHandedIn, AreDone, IsFirst
 ghost use Rattle.dm_workers.specs.Inside.Found.{IsFound};
 
 use crate::expanding::capped;
-use crate::gathering::{Gathered, count_all, gather, nothing_gathered, settle_all};
-use crate::mustering::{enlist, muster};
+use crate::gathering::{Gathered, check_empty, gather, nothing_gathered, settle_all};
+use crate::mustering::{enlist, equip, muster};
 use crate::pace::Pace;
 use crate::working::{Best, Path, Team, Worker};
 use dm_base::Cost;
@@ -51,7 +51,8 @@ pub(crate) fn find<F: Grown<Path> + Send + Sync, R: Threads + Wait + Sync, H: Ho
     let start = capped(own);
     let (word, mut hand) = BoundWord::new(alloc, start, workers + 1)?;
     let (owners, thieves) = enlist::<F>(alloc, workers)?;
-    let crew = muster(alloc, &word, &mut hand, own, owners)?;
+    let equipped = equip(alloc, owners)?;
+    let crew = muster(alloc, &word, &mut hand, own, equipped)?;
     let share = task.budget.saturating_sub(1) / (2 * workers as u64);
     let team = Team {
         task,
@@ -77,14 +78,14 @@ fn work_all<F: Grown<Path> + Send + Sync, R: Threads + Wait + Sync, H: Hold + Sy
     requires picks { PicksNodes (task_of team.now.task.now) F.fits }
     requires no_cycle { HasNoCycle team.now.task.now.net.now team.now.task.now.rows.now }
     requires own { IsOwnCost (task_of team.now.task.now) team.now.own }
-    requires new { All (IsNewWorker team.now.own team.now.word.now.id team.now.start) crew.items }
+    requires new { All (IsNewWorker team.now.own team.now.word.now.id team.now.start team.now.thieves.now.items) crew.items }
     ensures { IfOk result (λ worked. AreHandedIn (task_of team.now.task.now) team.now.own team.now.word.now.id team.now.start
         team.now.thieves.now.items crew.items worked.items) }
 {
     thread::map_vec(rt, crew, &|worker: Worker<F>| worker.work(rt, team, gate))
 }
 
-/// What all workers have found, each of their nodes taken once, and the word closed.
+/// What all workers have found, each node that they put taken once, and the word closed.
 fn put_together<F: Grown<Path>>(
     task: &Task<'_>,
     own: Cost,
@@ -110,7 +111,7 @@ fn put_together<F: Grown<Path>>(
         best,
     } = all;
     let settled = settle_all(task.alloc, owners, tallies)?;
-    count_all(settled);
+    check_empty(settled)?;
     let _least = word.close(hand);
     Ok(Found { leaves, best })
 }

@@ -1,12 +1,13 @@
 //! What the workers hand in, put together.
-ghost use Rattle.std.specs.Prelude.{ℕ, ◌≡◌, ◌+◌, ◌<◌, ◌≤◌, ◌⊎◌, Bool, List, [], ◌∷◌, ◌++◌, map, All, IfOk};
+ghost use Rattle.std.specs.Prelude.{ℕ, ◌≡◌, ◌+◌, ◌<◌, ◌≤◌, ◌⊎◌, Bool, List, [], ◌∷◌, ◌++◌, length, map, All, IfOk, OnOk};
 ghost use Rattle.atomic_table.specs.Seated.{TableId};
 ghost use Rattle.atomic_blocks.specs.Lent.{RowsId};
 ghost use Rattle.dm_tree.specs.Plans.{Task as TaskValue};
 ghost use Rattle.dm_deques.specs.Sharing.{deque_of};
+ghost use Rattle.dm_ways.specs.Ways.{paths_on};
 ghost use Rattle.dm_workers.specs.Inside.Working.{nothing};
 ghost use Rattle.dm_workers.specs.Inside.Workers.{IsWorking};
-ghost use Rattle.dm_workers.specs.Inside.Gathering.{owners_put, owners_taken, all_taken};
+ghost use Rattle.dm_workers.specs.Inside.Gathering.{owners_put, owners_taken, all_taken, HasLent};
 ghost use Rattle.dm_workers.specs.Inside.Together.{IsGathered, IsGatheredFrom, AreHandedIn};
 
 use crate::working::{Best, Path, Worker};
@@ -128,6 +129,7 @@ pub(crate) fn settle_all<F: Grown<Path>>(
     ensures put { IfOk result (λ r. (s : List Bool) → owners_put s r.items ≡ owners_put s owners.items) }
     ensures taken { IfOk result (λ r. (s : List Bool)
         → owners_taken s r.items ≡ owners_taken s owners.items + all_taken s tallies.items) }
+    ensures lent { IfOk result (λ r. (n : ℕ) → All (HasLent (n + length tallies.items)) owners.items → All (HasLent n) r.items) }
 {
     let mut settled = owners;
     for each in tallies {
@@ -137,12 +139,25 @@ pub(crate) fn settle_all<F: Grown<Path>>(
     Ok(settled)
 }
 
-/// What the owners have taken was put.
-pub(crate) fn count_all<F: Grown<Path>>(owners: Vec<Owner<Path, F>>)
-    ensures { (s : List Bool) → owners_taken s owners.items ≤ owners_put s owners.items }
+/// Whether each deque is empty, where no tally is out: what was put was then taken. No worker stops while there is a path on its own, so
+/// that it is.
+pub(crate) fn check_empty<F: Grown<Path>>(owners: Vec<Owner<Path, F>>) -> Result<(), AllocError>
+    requires { All (HasLent 0) owners.items }
+    ensures { OnOk result ((s : List Bool) → owners_taken s owners.items ≡ owners_put s owners.items) }
 {
     for owner in owners {
-        let mut owner = owner;
-        let _left = owner.count();
+        check_one(owner)?;
+    }
+    Ok(())
+}
+
+fn check_one<F: Grown<Path>>(owner: Owner<Path, F>) -> Result<(), AllocError>
+    requires { HasLent 0 owner }
+    ensures { OnOk result ((s : List Bool) → paths_on s owner.account.taken ≡ paths_on s owner.account.put) }
+{
+    let mut owner = owner;
+    match owner.take() {
+        None => Ok(()),
+        Some(_path) => Err(AllocError),
     }
 }

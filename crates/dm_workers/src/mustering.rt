@@ -1,12 +1,12 @@
 //! The workers of a search, before it begins.
 ghost use Rattle.std.specs.Prelude.{ℕ, ◌≡◌, ◌-◌, ◌<◌, ◌≤◌, Bool, List, [], ◌∷◌, map, All, length, IfOk, OnOk};
-ghost use Rattle.dm_deques.specs.Sharing.{deque_of};
-ghost use Rattle.dm_workers.specs.Inside.Gathering.{owners_put, HasTakenNothing};
+ghost use Rattle.dm_deques.specs.Sharing.{deque_of, new_tally};
+ghost use Rattle.dm_workers.specs.Inside.Gathering.{owners_put, HasTakenNothing, HasLentOnly, AreEquipped};
 ghost use Rattle.dm_workers.specs.Inside.Workers.{IsNewWorker, owner_of};
 
 use crate::working::{Best, Path, Worker};
 use dm_base::{Cost, Items};
-use dm_deques::{Grown, Owner, Thief};
+use dm_deques::{Grown, Lent, Owner, Tally, Thief, lend_each};
 use dm_search::{BoundWord, Hand};
 use std::alloc::{AllocError, Global};
 
@@ -20,7 +20,7 @@ pub(crate) fn enlist<F: Grown<Path>>(
     ensures many { IfOk result (λ r. length r.0.items ≡ workers) }
     ensures thieves { IfOk result (λ r. map deque_of r.0.items ≡ r.1.items) }
     ensures root { IfOk result (λ r. (s : List Bool) → owners_put s r.0.items ≤ 1) }
-    ensures new { IfOk result (λ r. All HasTakenNothing r.0.items) }
+    ensures new { IfOk result (λ r. All (HasLentOnly 0) r.0.items) }
 {
     let first = begin(alloc)?;
     let mut owners = Vec::with_capacity(alloc, workers as usize)?;
@@ -38,7 +38,7 @@ pub(crate) fn enlist<F: Grown<Path>>(
 /// A deque that holds the root.
 fn begin<F: Grown<Path>>(alloc: Global) -> Result<Owner<Path, F>, AllocError>
     requires root { F.fits [] }
-    ensures new { IfOk result HasTakenNothing }
+    ensures new { IfOk result (HasLentOnly 0) }
     ensures root { IfOk result (λ o. (s : List Bool) → owners_put s (o ∷ []) ≤ 1) }
 {
     let mut owner = Owner::new(alloc)?;
@@ -48,24 +48,60 @@ fn begin<F: Grown<Path>>(alloc: Global) -> Result<Owner<Path, F>, AllocError>
     Ok(owner)
 }
 
-/// A worker for each deque, with a hand that is split from the first one, and the rows' own choices.
+/// Owners that have each lent every worker a tally, and the tallies of each worker, one of each deque.
+#[derive(Drop)]
+pub(crate) struct Equipped<F: Grown<Path>> {
+    pub(crate) owners: Vec<Owner<Path, F>>,
+    pub(crate) purses: Vec<Items<Tally<Path>>>,
+}
+
+/// Has each deque lend a tally to each worker, of whom there are as many as deques.
+pub(crate) fn equip<F: Grown<Path>>(
+    alloc: Global,
+    owners: Vec<Owner<Path, F>>,
+) -> Result<Equipped<F>, AllocError>
+    requires new { All (HasLentOnly 0) owners.items }
+    ensures { IfOk result (λ r. AreEquipped owners.items r.owners.items (length owners.items) r.purses.items) }
+{
+    let many = owners.len();
+    let mut owners = owners;
+    let mut purses = Vec::with_capacity(alloc, many)?;
+    for _worker in 0..many {
+        let Lent {
+            owners: lent,
+            tallies,
+        } = lend_each(alloc, owners)?;
+        owners = lent;
+        purses.push(Items::from_vec(tallies))?;
+    }
+    Ok(Equipped { owners, purses })
+}
+
+/// A worker for each deque, with tallies, a hand that is split from the first one, and the rows' own choices.
 pub(crate) fn muster<F: Grown<Path>>(
     alloc: Global,
     word: &BoundWord,
     hand: &mut Hand,
     own: Cost,
-    owners: Vec<Owner<Path, F>>,
+    equipped: Equipped<F>,
 ) -> Result<Vec<Worker<F>>, AllocError>
     requires word { hand.old.word ≡ word.now.id }
-    requires room { length owners.items < hand.old.room }
-    requires new { All HasTakenNothing owners.items }
-    ensures hand { OnOk result (hand.new ≡ record hand.old { room = hand.old.room - length owners.items }) }
-    ensures owners { IfOk result (λ ws. map owner_of ws.items ≡ owners.items) }
-    ensures new { IfOk result (λ ws. All (IsNewWorker own word.now.id hand.old.start) ws.items) }
+    requires room { length equipped.owners.items < hand.old.room }
+    requires nothing { All HasTakenNothing equipped.owners.items }
+    requires purses { All (λ ts. ts ≡ map new_tally (map deque_of equipped.owners.items)) equipped.purses.items }
+    requires many { length equipped.purses.items ≡ length equipped.owners.items }
+    ensures hand { OnOk result (hand.new ≡ record hand.old { room = hand.old.room - length equipped.owners.items }) }
+    ensures owners { IfOk result (λ ws. map owner_of ws.items ≡ equipped.owners.items) }
+    ensures new { IfOk result (λ ws. All (IsNewWorker own word.now.id hand.old.start (map deque_of equipped.owners.items)) ws.items) }
 {
+    let Equipped { owners, purses } = equipped;
+    let mut purses = purses;
     let mut workers = Vec::with_capacity(alloc, owners.len())?;
     let mut who: u32 = 0;
     for owner in owners {
+        let Some(tallies) = purses.pop() else {
+            unreachable!()
+        };
         who = who.saturating_add(1);
         let best = Best {
             choices: Items::from_vec(Vec::new(alloc)),
@@ -76,7 +112,7 @@ pub(crate) fn muster<F: Grown<Path>>(
             who,
             branched: 0,
             owner,
-            tallies: Vec::new(alloc),
+            tallies: tallies.into_vec(),
             hand: part,
             leaves: Vec::new(alloc),
             best,

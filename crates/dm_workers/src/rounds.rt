@@ -1,18 +1,16 @@
 //! The rounds of a guide, played by several workers at once.
-ghost use Rattle.std.specs.Prelude.{◌≡◌, ◌≤◌, IfOk};
+ghost use Rattle.std.specs.Prelude.{IfOk};
 ghost use Rattle.std.specs.Thread.{IsSync};
 ghost use Rattle.dm_guide.specs.Tasks.{task_of, IsPosedTask};
-ghost use Rattle.dm_rows.specs.Active.{HasNoCycle};
 ghost use Rattle.dm_search.specs.Moving.{IsOver};
-ghost use Rattle.dm_tree.specs.Plans.{IsTruePlan};
 ghost use Rattle.dm_workers.specs.Inside.Workers.{IsOwnCost};
 
 use dm_base::Cost;
 use dm_evaluate::Evaluator;
 use dm_guide::{Guide, Round, Searcher, Start, guide};
-use dm_search::{Task, evaluator_at_base, plan_with, searcher_at};
+use dm_search::{Task, evaluator_at_base, searcher_at};
 use dm_times::{cost, least};
-use dm_tree::{Node, Plan};
+use dm_tree::Node;
 use std::alloc::AllocError;
 use std::thread::{Threads, join, join_mut};
 
@@ -86,28 +84,8 @@ fn searchers_of<'t, R: Threads + Sync>(
     Ok(all)
 }
 
-/// A true plan for a task, with an entry, whose rows cost so much by themselves: the searchers look for a guide, in rounds that
-/// they play at once, and an evaluator that is made meanwhile judges.
-pub(crate) fn plan_at_once<'t, R: Threads + Sync>(
-    rt: &R,
-    task: &Task<'t>,
-    entry: u32,
-    own: Cost,
-    searchers: &mut [Searcher<'t>],
-) -> Result<Plan, AllocError>
-    requires posed { IsPosedTask task.now }
-    requires no_cycle { HasNoCycle task.now.net.now task.now.rows.now }
-    requires some { 1 ≤ task.now.budget }
-    requires own { IsOwnCost (task_of task.now) own }
-    ensures plan { IfOk result (IsTruePlan (task_of task.now)) }
-    ensures entry { IfOk result (λ plan. plan.entry ≡ entry) }
-{
-    let (evaluator, guide) = judge_and_guide(rt, task, own, searchers)?;
-    plan_with(task, entry, own, evaluator, &guide)
-}
-
-/// An evaluator at the base, and a guide, at once where there are several searchers.
-fn judge_and_guide<'t, R: Threads + Sync>(
+/// An evaluator at the base, and a guide that searchers find in rounds, at once where there are several of them.
+pub(crate) fn judge_and_guide<'t, R: Threads + Sync>(
     rt: &R,
     task: &Task<'t>,
     own: Cost,

@@ -2,6 +2,7 @@
 ghost use Rattle.std.specs.Prelude.{◌≡◌, ◌≤◌, [], ◌∷◌, IfOk};
 ghost use Rattle.dm_base.specs.declared.limits.TheConstants.{BUDGET, PENALTY, WORKERS};
 ghost use Rattle.dm_search.specs.Finish.{IsStart};
+ghost use Rattle.dm_search.specs.Moving.{IsOver};
 ghost use Rattle.dm_tree.specs.Plans.{IsTruePlan, whole_task};
 ghost use Rattle.dm_tree.specs.Trees.{Assembles};
 ghost use Rattle.dm_tree.specs.declared.forms.Node.TheVariants.{Hole};
@@ -13,14 +14,15 @@ ghost use Rattle.dm_workers.specs.Inside.Found.{IsFound};
 
 use crate::finding::{Found, find};
 use crate::pace::Pace;
-use crate::rounds::{begin, plan_at_once};
+use crate::rounds::{begin, judge_and_guide};
 use crate::working::Best;
 use dm_base::Cost;
 use dm_desk::Hold;
+use dm_evaluate::Evaluator;
 use dm_guide::{Guide, Searcher};
 use dm_network::Network;
 use dm_rows::Snapshot;
-use dm_search::{Task, evaluator_at_base, finish_with, whole};
+use dm_search::{Task, evaluator_at_base, finish_with, plan_with, whole};
 use dm_tree::{AssembleFault, Leaf, Node, Partial, Plan, assemble};
 use std::alloc::{AllocError, Global};
 use std::marker::Brand;
@@ -56,8 +58,8 @@ pub fn search<R: Threads + Wait + Sync, H: Hold + Sync>(
     search_task(rt, &task, snapshot.entry, workers, gate)
 }
 
-/// The same for a task, with an entry. A search that the workers end is the plan's tree; else it is searched anew from the root.
-/// What choices they had found by then hangs on whose turn it was, so that these are not taken up.
+/// The same for a task, with an entry. A search that the workers end is the plan's tree; else it is searched anew from the root, and
+/// the plan costs no more than the choices that they had found by then.
 pub fn search_task<R: Threads + Wait + Sync, H: Hold + Sync>(
     rt: &R,
     task: &Task<'_>,
@@ -79,11 +81,34 @@ pub fn search_task<R: Threads + Wait + Sync, H: Hold + Sync>(
         pace.stop();
     }
     let found = find::<Brand, R, H>(rt, task, own, workers, &pace, gate)?;
+    plan_from(rt, task, entry, own, found, searchers.as_mut_slice())
+}
+
+/// The plan of what workers have found: of their tree where they ended the search, and else of a search from the root. It costs no
+/// more than their choices, which cost no more than any bound that they found and any value of the word at which they pruned.
+fn plan_from<'t, R: Threads + Sync>(
+    rt: &R,
+    task: &Task<'t>,
+    entry: u32,
+    own: Cost,
+    found: Found,
+    searchers: &mut [Searcher<'t>],
+) -> Result<Plan, AllocError>
+    requires posed { IsPosedTask task.now }
+    requires no_cycle { HasNoCycle task.now.net.now task.now.rows.now }
+    requires some { 1 ≤ task.now.budget }
+    requires own { IsOwnCost (task_of task.now) own }
+    requires found { IsFound (task_of task.now) own found.leaves.items found.best.choices found.best.cost }
+    ensures plan { IfOk result (IsTruePlan (task_of task.now)) }
+    ensures entry { IfOk result (λ plan. plan.entry ≡ entry) }
+    ensures cost { IfOk result (λ plan. plan.cost ≤ found.best.cost) }
+{
     let (partial, best) = begun(task, own, found)?;
     if is_whole(&partial) {
         return finish_alone(task, entry, partial, best);
     }
-    plan_at_once(rt, task, entry, own, searchers.as_mut_slice())
+    let (evaluator, guide) = judge_and_guide(rt, task, own, searchers)?;
+    finish_guided(task, entry, own, partial, best, evaluator, &guide)
 }
 
 /// Whether so few choices are violated at the root that a few branchings may end the search, or nobody can tell.
@@ -103,6 +128,7 @@ fn begun(task: &Task<'_>, own: Cost, found: Found) -> Result<(Partial, Best), Al
     requires own { IsOwnCost (task_of task.now) own }
     requires found { IsFound (task_of task.now) own found.leaves.items found.best.choices found.best.cost }
     ensures start { IfOk result (λ r. IsStart (task_of task.now) r.0 r.1.choices) }
+    ensures cost { IfOk result (λ r. r.1.cost ≡ found.best.cost) }
 {
     task.net.sound();
     let Found { leaves, best } = found;
@@ -125,11 +151,64 @@ fn finish_alone(
     requires start { IsStart (task_of task.now) partial best.choices }
     ensures plan { IfOk result (IsTruePlan (task_of task.now)) }
     ensures entry { IfOk result (λ plan. plan.entry ≡ entry) }
+    ensures cost { IfOk result (λ plan. plan.cost ≤ best.cost) }
 {
     let evaluator = evaluator_at_base(task)?;
     let guide = Guide::new(task.alloc);
-    let choices = best.choices.into_vec();
-    finish_with(task, entry, partial, choices, evaluator, &guide)
+    finish_from(task, entry, partial, best, evaluator, &guide)
+}
+
+/// The plan of a search from the root that a guide leads. Where the choices that were found before cost less, it is searched from
+/// these. They are not taken up at once: what the guide finds is the same at each run.
+fn finish_guided(
+    task: &Task<'_>,
+    entry: u32,
+    own: Cost,
+    partial: Partial,
+    best: Best,
+    evaluator: Evaluator,
+    guide: &Guide,
+) -> Result<Plan, AllocError>
+    requires posed { IsPosedTask task.now }
+    requires no_cycle { HasNoCycle task.now.net.now task.now.rows.now }
+    requires some { 1 ≤ task.now.budget }
+    requires own { IsOwnCost (task_of task.now) own }
+    requires start { IsStart (task_of task.now) partial best.choices }
+    requires evaluator { IsOver (task_of task.now) evaluator }
+    ensures plan { IfOk result (IsTruePlan (task_of task.now)) }
+    ensures entry { IfOk result (λ plan. plan.entry ≡ entry) }
+    ensures cost { IfOk result (λ plan. plan.cost ≤ best.cost) }
+{
+    let plan = plan_with(task, entry, own, evaluator, guide)?;
+    if plan.cost <= best.cost {
+        return Ok(plan);
+    }
+    let evaluator = evaluator_at_base(task)?;
+    finish_from(task, entry, partial, best, evaluator, guide)
+}
+
+/// The plan of a tree and choices, of which it costs no more: a search never drops what it begins from, and what did is not given.
+fn finish_from(
+    task: &Task<'_>,
+    entry: u32,
+    partial: Partial,
+    best: Best,
+    evaluator: Evaluator,
+    guide: &Guide,
+) -> Result<Plan, AllocError>
+    requires posed { IsPosedTask task.now }
+    requires start { IsStart (task_of task.now) partial best.choices }
+    requires evaluator { IsOver (task_of task.now) evaluator }
+    ensures plan { IfOk result (IsTruePlan (task_of task.now)) }
+    ensures entry { IfOk result (λ plan. plan.entry ≡ entry) }
+    ensures cost { IfOk result (λ plan. plan.cost ≤ best.cost) }
+{
+    let Best { choices, cost } = best;
+    let plan = finish_with(task, entry, partial, choices.into_vec(), evaluator, guide)?;
+    if plan.cost > cost {
+        return Err(AllocError);
+    }
+    Ok(plan)
 }
 
 /// The tree of the leaves that the workers have handed in.

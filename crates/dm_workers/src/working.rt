@@ -11,10 +11,10 @@ ghost use Rattle.dm_workers.specs.Nodes.{IsNode, PicksNodes};
 ghost use Rattle.dm_workers.specs.Inside.Workers.{IsWorking, IsOwnCost, HasTaken, HasStolen, HasFoundNone, IsHandedTo, IsBetterOf, HasBranched, IsSameWorker, IsNewWorker, IsDone};
 ghost use Rattle.dm_workers.specs.Inside.Working.{nothing};
 
-use crate::expanding::expand_to;
+use crate::expanding::expand_with;
 use crate::pace::Pace;
 use dm_base::{Cost, Items};
-use dm_deques::{Grown, Owner, Tally, Thief, tallies_of};
+use dm_deques::{Grown, Owner, Tally, Thief};
 use dm_desk::Hold;
 use dm_evaluate::Evaluator;
 use dm_rows::{Choice, Decision};
@@ -91,7 +91,7 @@ impl<F: Grown<Path>> Worker<F> {
     fn next(&mut self, thieves: &[Thief<Path, F>]) -> Option<Path>
         requires deques { map deque_of self.old.tallies.items ≡ thieves.now }
         ensures taken { IfSome result (λ path. F.fits path × HasTaken self.old self.new path) }
-        ensures none { IfNone result (HasFoundNone self.old self.new × WasEmpty F.fits self.old.owner.account) }
+        ensures none { IfNone result (HasFoundNone self.old self.new × WasEmpty self.old.owner.account) }
     {
         match self.owner.take() {
             Some(path) => Some(path),
@@ -160,7 +160,7 @@ impl<F: Grown<Path>> Worker<F> {
     {
         let task = team.task;
         task.net.sound();
-        let (seen, outcome) = expand_to(
+        let (seen, outcome) = expand_with(
             task,
             evaluator,
             path.as_slice(),
@@ -209,7 +209,7 @@ impl<F: Grown<Path>> Worker<F> {
         requires deques { map deque_of self.tallies.items ≡ team.now.thieves.now.items }
         requires word { self.hand.word ≡ team.now.word.now.id }
         ensures same { IfOk result (IsSameWorker self) }
-        ensures empty { IfOk result (λ w. WasEmpty F.fits w.owner.account) }
+        ensures empty { IfOk result (λ w. WasEmpty w.owner.account) }
         ensures works { IfOk result (λ w. (given : List Bool → ℕ) (start : ℕ)
             → IsWorking (task_of team.now.task.now) team.now.own team.now.word.now.id start given nothing self
             → IsWorking (task_of team.now.task.now) team.now.own team.now.word.now.id start given nothing w) }
@@ -232,7 +232,7 @@ impl<F: Grown<Path>> Worker<F> {
         requires deques { map deque_of self.old.tallies.items ≡ team.now.thieves.now.items }
         requires word { self.old.hand.word ≡ team.now.word.now.id }
         ensures same { OnOk result (IsSameWorker self.old self.new) }
-        ensures empty { OnOk result (WasEmpty F.fits self.new.owner.account) }
+        ensures empty { OnOk result (WasEmpty self.new.owner.account) }
         ensures works { OnOk result ((given : List Bool → ℕ) (start : ℕ)
             → IsWorking (task_of team.now.task.now) team.now.own team.now.word.now.id start given nothing self.old
             → IsWorking (task_of team.now.task.now) team.now.own team.now.word.now.id start given nothing self.new) }
@@ -309,8 +309,8 @@ impl<F: Grown<Path>> Worker<F> {
         requires picks { PicksNodes (task_of team.now.task.now) F.fits }
         requires no_cycle { HasNoCycle team.now.task.now.net.now team.now.task.now.rows.now }
         requires own { IsOwnCost (task_of team.now.task.now) team.now.own }
-        requires new { IsNewWorker team.now.own team.now.word.now.id team.now.start self }
-        ensures { IfOk result (IsDone (task_of team.now.task.now) team.now.own team.now.word.now.id team.now.start F.fits
+        requires new { IsNewWorker team.now.own team.now.word.now.id team.now.start team.now.thieves.now.items self }
+        ensures { IfOk result (IsDone (task_of team.now.task.now) team.now.own team.now.word.now.id team.now.start
             team.now.thieves.now.items self) }
     {
         let who = self.who;
@@ -333,14 +333,11 @@ impl<F: Grown<Path>> Worker<F> {
         requires picks { PicksNodes (task_of team.now.task.now) F.fits }
         requires no_cycle { HasNoCycle team.now.task.now.net.now team.now.task.now.rows.now }
         requires own { IsOwnCost (task_of team.now.task.now) team.now.own }
-        requires new { IsNewWorker team.now.own team.now.word.now.id team.now.start self }
-        ensures { IfOk result (IsDone (task_of team.now.task.now) team.now.own team.now.word.now.id team.now.start F.fits
+        requires new { IsNewWorker team.now.own team.now.word.now.id team.now.start team.now.thieves.now.items self }
+        ensures { IfOk result (IsDone (task_of team.now.task.now) team.now.own team.now.word.now.id team.now.start
             team.now.thieves.now.items self) }
     {
-        let mut worker = self;
-        let tallies = tallies_of(team.task.alloc, team.thieves.as_slice())?;
-        worker.tallies = tallies;
-        match worker.work_on(rt, team, gate) {
+        match self.work_on(rt, team, gate) {
             Ok(done) => Ok(done),
             Err(fault) => Err(fault),
         }

@@ -6,7 +6,7 @@ use Rattle.crossbeam_deque.specs.declared.handles.Stealer.{Stealer}
 use Rattle.crossbeam_deque.specs.Handles.{Pass, view, worker_view, worker_flavor}
 use Rattle.dm_deques.specs.declared.account.Account.{Account}
 use Rattle.dm_deques.specs.Deques.{TallyValue, having_put, having_taken}
-use Rattle.dm_deques.specs.Rule.{IsWithin}
+use Rattle.dm_deques.specs.Rule.{Held}
 
 module _ {T : Type 0} where
   abbrev pub HasPut : Account T → List T → Account T → Type 0
@@ -17,7 +17,7 @@ module _ {T : Type 0} where
 
   -- the owner's account and what the deque holds
   abbrev pub HasWhole : Account T → List T → Type 0
-  HasWhole v items = IsWithin v items
+  HasWhole v items = Held v items
 
   module _ {A P : Type 0} where
     abbrev pub owner_value : Worker T A (Account T) P → TallyValue T
@@ -38,3 +38,4 @@ module _ {T : Type 0} where
       pub hand : p.me.hand ≡ None
       pub spare : p.me.spare ≡ None
       pub puts : (view p).puts ≡ false
+      pub is_out : (view p).is_out ≡ true

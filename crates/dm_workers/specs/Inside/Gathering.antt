@@ -1,5 +1,5 @@
 -- What the workers hand in, put together.
-use Rattle.std.specs.Prelude.{ℕ, ◌≡◌, ◌+◌, ◌<◌, ◌≤◌, ◌⊎◌, Bool, List, [], ◌∷◌, ◌++◌, map, min, sum_by, All, Ok, Result, slice_get, Some}
+use Rattle.std.specs.Prelude.{ℕ, ◌≡◌, ◌+◌, ◌<◌, ◌≤◌, ◌⊎◌, Bool, List, [], ◌∷◌, ◌++◌, length, map, min, sum_by, All, Ok, Result, slice_get, Some}
 use Rattle.atomic_table.specs.Seated.{TableId}
 use Rattle.atomic_blocks.specs.Lent.{RowsId}
 use Rattle.dm_rows.specs.declared.messages.Decision.{Decision}
@@ -7,7 +7,7 @@ use Rattle.dm_tree.specs.declared.forms.Leaf.{Leaf}
 use Rattle.dm_tree.specs.Plans.{Task}
 use Rattle.dm_bound.specs.Words.{HandValue}
 use Rattle.dm_deques.specs.Deques.{TallyValue}
-use Rattle.dm_deques.specs.Sharing.{deque_of}
+use Rattle.dm_deques.specs.Sharing.{deque_of, new_tally}
 use Rattle.dm_ways.specs.Ways.{paths_on, leaves_on}
 use Rattle.dm_workers.specs.Inside.Working.{Path, taken_on, AreFindings}
 
@@ -23,6 +23,26 @@ all_taken sides tallies = sum_by (taken_on sides) tallies
 
 abbrev pub HasTakenNothing : TallyValue Path → Type 0
 HasTakenNothing o = o.account.taken ≡ []
+
+-- an owner has lent so many tallies; and it has done no more than that, but for putting paths
+abbrev pub lent_of : TallyValue Path → ℕ
+lent_of o = o.account.lent
+
+abbrev pub HasLent : ℕ → TallyValue Path → Type 0
+HasLent n o = lent_of o ≡ n
+
+pub record HasLentOnly (n : ℕ) (o : TallyValue Path) : Type 0 where
+  pub taken : HasTakenNothing o
+  pub lent : HasLent n o
+
+-- Each owner has lent every worker a tally: the owners are those of before with so many tallies out, and each of as many purses has a new
+-- tally of each deque.
+pub record AreEquipped (before owners : List (TallyValue Path)) (n : ℕ) (purses : List (List (TallyValue Path))) : Type 0 where
+  pub deques : map deque_of owners ≡ map deque_of before
+  pub put : (sides : List Bool) → owners_put sides owners ≡ owners_put sides before
+  pub new : All (HasLentOnly n) owners
+  pub each : All (λ ts. ts ≡ map new_tally (map deque_of owners)) purses
+  pub many : length purses ≡ n
 
 -- The leaves of some workers: on each way no more paths were put and leaves handed in than were given and taken.
 pub record AreGathered (task : Task) (own : ℕ) (word : TableId) (start rooms : ℕ) (given taken_by_tallies : List Bool → ℕ) (owners : List (TallyValue Path)) (hand : HandValue) (leaves : List Leaf) (choices : List Decision) (cost : ℕ) : Type 0 where

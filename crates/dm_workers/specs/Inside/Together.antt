@@ -10,7 +10,7 @@ use Rattle.dm_workers.specs.declared.working.Worker.{Worker}
 use Rattle.dm_workers.specs.declared.gathering.Gathered.{Gathered}
 use Rattle.dm_workers.specs.Inside.Working.{nothing}
 use Rattle.dm_workers.specs.Inside.Workers.{IsWorking}
-use Rattle.dm_workers.specs.Inside.Gathering.{AreGathered, all_taken}
+use Rattle.dm_workers.specs.Inside.Gathering.{AreGathered, all_taken, lent_of}
 
 module _ {F : Type 0} where
   -- how many paths on the way some workers were given
@@ -19,6 +19,9 @@ module _ {F : Type 0} where
 
   abbrev pub deque_of_worker : Worker F → RowsId
   deque_of_worker w = w.owner.deque
+
+  abbrev pub lent_of_worker : Worker F → ℕ
+  lent_of_worker w = w.owner.account.lent
 
   -- what all have gathered, where the tallies' paths count too
   abbrev pub IsGathered : Task → ℕ → TableId → ℕ → ℕ → (List Bool → ℕ) → Gathered F → Type 0
@@ -29,12 +32,15 @@ module _ {F : Type 0} where
   pub record IsGatheredFrom (task : Task) (own : ℕ) (word : TableId) (start rooms : ℕ) (theirs : List RowsId) (workers : List (Worker F)) (g : Gathered F) : Type 0 where
     pub gathered : IsGathered task own word start (rooms + length workers) (λ s. given_to s workers) g
     pub deques : map deque_of g.owners.items ≡ map deque_of_worker workers
+    pub lent : map lent_of g.owners.items ≡ map lent_of_worker workers
+    pub many : length g.tallies.items ≡ length workers
     pub of_all : All (λ ts. map deque_of ts ≡ theirs) g.tallies.items
 
   -- a worker has done its work
   pub record HandsIn (task : Task) (own : ℕ) (word : TableId) (start : ℕ) (theirs : List RowsId) (before after : Worker F) : Type 0 where
     pub works : IsWorking task own word start (λ s. paths_on s before.owner.account.put) nothing after
     pub deque : after.owner.deque ≡ before.owner.deque
+    pub lent : after.owner.account.lent ≡ before.owner.account.lent
     pub deques : map deque_of after.tallies.items ≡ theirs
 
   -- each worker has done its work, or memory was wanting
@@ -44,11 +50,12 @@ module _ {F : Type 0} where
   AreHandedIn task own word start theirs (w ∷ ws) [] = ⊥
   AreHandedIn task own word start theirs (w ∷ ws) (r ∷ rs) = IfOk r (HandsIn task own word start theirs w) × AreHandedIn task own word start theirs ws rs
 
-  -- Workers of some deques have done their work, who were given no more than one path on each way.
+  -- Workers of some deques have done their work, who were given no more than one path on each way, and a tally of each deque.
   pub record AreDone {E : Type 0} (task : Task) (own : ℕ) (word : TableId) (start : ℕ) (worked : List (Result (Worker F) E)) : Type 0 where
     pub jobs : List (Worker F)
     pub handed : AreHandedIn task own word start (map deque_of_worker jobs) jobs worked
     pub one : (sides : List Bool) → given_to sides jobs ≤ 1
+    pub lent : All (λ w. lent_of_worker w ≡ length jobs) jobs
 
 -- a hand of the word that has lowered it by nothing and looked at nothing, where the word starts at what the rows cost by themselves
 pub record IsFirstHand (own : ℕ) (word : TableId) (hand : HandValue) : Type 0 where

@@ -10,7 +10,7 @@ use Rattle.dm_rows.specs.Sides.{first_decision, second_decision}
 use Rattle.dm_tree.specs.declared.forms.Node.{Node}
 use Rattle.dm_tree.specs.Plans.{Task}
 use Rattle.dm_deques.specs.Deques.{TallyValue, having_put}
-use Rattle.dm_deques.specs.Sharing.{deque_of}
+use Rattle.dm_deques.specs.Sharing.{deque_of, new_tally}
 use Rattle.dm_deques.specs.Rule.{WasEmpty}
 use Rattle.dm_ways.specs.Ways.{on_way, paths_on}
 use Rattle.dm_workers.specs.declared.working.Worker.{Worker}
@@ -34,6 +34,7 @@ module _ {F : Type 0} where
   pub record IsSameWorker (old new : Worker F) : Type 0 where
     pub who : new.who ≡ old.who
     pub deque : new.owner.deque ≡ old.owner.deque
+    pub lent : new.owner.account.lent ≡ old.owner.account.lent
     pub deques : map deque_of new.tallies.items ≡ map deque_of old.tallies.items
     pub word : new.hand.word ≡ old.hand.word
 
@@ -41,6 +42,7 @@ module _ {F : Type 0} where
   pub record HasTaken (old new : Worker F) (path : Path) : Type 0 where
     pub same : new ≡ record old { owner = new.owner; tallies = new.tallies }
     pub put : new.owner.account.put ≡ old.owner.account.put
+    pub lent : new.owner.account.lent ≡ old.owner.account.lent
     pub deque : new.owner.deque ≡ old.owner.deque
     pub deques : map deque_of new.tallies.items ≡ map deque_of old.tallies.items
     pub weighs : (sides : List Bool) →
@@ -73,15 +75,18 @@ module _ {F : Type 0} where
     }
 
   -- it has done its work, and has found its deque empty at the end
-  pub record IsDone (task : Task) (own : ℕ) (word : TableId) (start : ℕ) (fits : Path → Type 0) (theirs : List RowsId) (before after : Worker F) : Type 0 where
+  pub record IsDone (task : Task) (own : ℕ) (word : TableId) (start : ℕ) (theirs : List RowsId) (before after : Worker F) : Type 0 where
     pub works : IsWorking task own word start (λ s. paths_on s before.owner.account.put) nothing after
-    pub empty : WasEmpty fits after.owner.account
+    pub empty : WasEmpty after.owner.account
     pub deque : after.owner.deque ≡ before.owner.deque
+    pub lent : after.owner.account.lent ≡ before.owner.account.lent
     pub deques : map deque_of after.tallies.items ≡ theirs
 
-  -- it has taken and handed in nothing, has a hand of the word that has lowered and looked at nothing, and the rows' own choices
-  pub record IsNewWorker (own : ℕ) (word : TableId) (start : ℕ) (w : Worker F) : Type 0 where
+  -- It has taken and handed in nothing, and has a new tally of each deque, a hand of the word that has lowered and looked at nothing, and the
+  -- rows' own choices.
+  pub record IsNewWorker (own : ℕ) (word : TableId) (start : ℕ) (theirs : List RowsId) (w : Worker F) : Type 0 where
     pub taken : w.owner.account.taken ≡ []
+    pub tallies : w.tallies.items ≡ map new_tally theirs
     pub leaves : w.leaves.items ≡ []
     pub word_is : w.hand.word ≡ word
     pub start_is : w.hand.start ≡ start

@@ -1,4 +1,4 @@
-use Rattle.dm_workers.proofs.Whole.{all_words, all_agree, word_there, all_rooms, all_found}
+use Rattle.dm_workers.proofs.Whole.{all_words, all_agree, all_out, word_there, all_rooms, all_found}
 use Rattle.dm_workers.proofs.finding.put_together.Goals as goal
 
 pub gather-requires-clause-words : goal.gather-requires-clause-words
@@ -9,6 +9,11 @@ settle_all-requires g c =
     record {
       deques = all_agree _ _ _ _ _ _ c.requires.no_cycle c.requires.own _ _ c.requires.hand _ c.requires.worked _ _ c.nothing_gathered-first.ensures c.in_ok-all.ensures;
     }
+
+pub check_empty-requires : goal.check_empty-requires
+check_empty-requires g c =
+    c.in_ok-settled.ensures.lent 0
+    (all_out _ _ _ _ _ _ c.requires.no_cycle c.requires.own _ _ c.requires.hand _ c.requires.worked _ _ c.nothing_gathered-first.ensures c.in_ok-all.ensures)
 
 pub close-least-requires-clause-word : goal.close-least-requires-clause-word
 close-least-requires-clause-word g c =
@@ -21,4 +26,4 @@ close-least-requires-clause-alone g c =
 pub returns : goal.returns
 returns g c =
     all_found _ _ _ _ _ _ c.requires.no_cycle c.requires.own _ _ c.requires.hand _ c.requires.worked _ _ c.nothing_gathered-first.ensures c.in_ok-all.ensures c.in_ok-settled.settled.items
-    c.in_ok-settled.ensures.put c.in_ok-settled.ensures.taken c.count_all.ensures _ c.close-least.ensures.least c.close-least.ensures.looked
+    c.in_ok-settled.ensures.put c.in_ok-settled.ensures.taken c.in_ok-check_empty.ensures _ c.close-least.ensures.least c.close-least.ensures.looked

@@ -1,13 +1,17 @@
 use Rattle.std.proofs.Common.{◌≡◌, ◌++◌, ◌-◌, ℕ, List, map, All, length}
+use Rattle.dm_deques.specs.Sharing.{deque_of}
 use Rattle.dm_workers.specs.Inside.Gathering.{HasTakenNothing}
 use Rattle.dm_workers.specs.Inside.Workers.{IsNewWorker, owner_of}
+use Rattle.dm_workers.proofs.Enlisted.{IsPurse}
 use Rattle.dm_workers.proofs.mustering.muster.Given as goal
 
 abbrev pub invariant-loop-owner : goal.invariant-loop-owner
 invariant-loop-owner g l =
     record {
-      owners : map owner_of l.workers.items ++ l.owner-iterator.rest.items ≡ l.fn.owners.items;
+      owners : map owner_of l.workers.items ++ l.owner-iterator.rest.items ≡ l.fn.equipped.owners.items;
       left : All HasTakenNothing l.owner-iterator.rest.items;
+      purses : All (IsPurse l.fn.equipped.owners.items) l.purses.items;
+      many : length l.purses.items ≡ length l.owner-iterator.rest.items;
       hand : l.hand ≡ record l.fn.hand { room = l.fn.hand.room - length l.workers.items };
-      new : All (IsNewWorker l.fn.own l.fn.word.id l.fn.hand.start) l.workers.items;
+      new : All (IsNewWorker l.fn.own l.fn.word.id l.fn.hand.start (map deque_of l.fn.equipped.owners.items)) l.workers.items;
     }

@@ -1,4 +1,4 @@
-use Rattle.std.proofs.Common.{length, ap, arith}
+use Rattle.std.proofs.Common.{length, ap, arith, refl}
 use Rattle.std.proofs.lemmas.List.Elements.{All-nil}
 use Rattle.dm_workers.proofs.Starts.{start_of}
 use Rattle.dm_workers.proofs.searching.begun.Goals as goal
@@ -9,6 +9,7 @@ returns-then-as_slice-task c =
     record {
       start = start_of _ c.sound.ensures.network _ _ _ _ c.requires.posed c.requires.no_cycle _ c.requires.own _ _ found.kept found.looked _ _ found.apart found.ends found.shown
           c.in_ok-tree.ensures (omega (arith, ap length c.as_slice.ensures.nodes, c.if-as_slice-task.true));
+      cost = refl;
     }
 
 pub returns : goal.returns
@@ -17,4 +18,5 @@ returns c =
     record {
       start = start_of _ c.sound.ensures.network _ _ _ _ c.requires.posed c.requires.no_cycle _ c.requires.own _ _ found.kept found.looked _ _ (λ s. omega arith) (All-nil _) found.shown
           c.in_ok-hole.ensures.tree (omega (arith, ap length c.in_ok-hole.ensures.hole, c.requires.some));
+      cost = refl;
     }
