@@ -11,6 +11,8 @@ It needs `mosquitto` and `mosquitto-clients`.
 Topics: `feed/N` are the lines of control room N, `board/N/S` the boards of region N, all times of stop S in one line, of which the
 last is retained, and `text/N` are the lines of the text of its run.
 """
+from __future__ import annotations
+
 import argparse
 import os
 import re
@@ -22,17 +24,18 @@ import sys
 import tempfile
 import threading
 import time
-from typing import NamedTuple
+from typing import Any, Iterable, NamedTuple
 
 HERE = os.path.dirname(os.path.abspath(__file__))
 TOOLS = os.path.join(HERE, '..', '..', 'tools')
 sys.path.insert(0, TOOLS)
 
 from giv import read_network  # noqa: E402
-from railway import Rows, times_of  # noqa: E402
+from railway import Rows, sound_times  # noqa: E402
 from relay import read_boundary  # noqa: E402
 from runtext import read_run  # noqa: E402
 from scene import rows_of  # noqa: E402
+from words import whole_path  # noqa: E402
 
 NET = os.path.join(HERE, '..', 'day', 'net')
 MIDDLES = [11 * line + 6 for line in range(8)]
@@ -53,7 +56,7 @@ HEADER = 4
 class Broker:
     """A Mosquitto with the users and the access list that ship, and a password for each that nobody else has."""
 
-    def __init__(self, folder, port):
+    def __init__(self, folder: str, port: int) -> None:
         self.folder, self.port = folder, port
         with open(os.path.join(HERE, 'mosquitto.conf'), encoding='ascii') as file:
             config = file.read().replace('listener 18830 ', f'listener {port} ')
@@ -70,18 +73,18 @@ class Broker:
             for program in ('mosquitto_pub', 'mosquitto_sub'):
                 self.write(os.path.join(f'of-{user}', program), words)
 
-    def write(self, name, text):
+    def write(self, name: str, text: str) -> None:
         """Writes a file that its owner alone may read."""
         name = os.path.join(self.folder, name)
         os.makedirs(os.path.dirname(name), exist_ok=True)
         with open(os.open(name, os.O_WRONLY | os.O_CREAT | os.O_TRUNC, 0o600), 'w', encoding='ascii') as file:
             file.write(text)
 
-    def client(self, user, program, *words):
+    def client(self, user: str, program: str, *words: str) -> list[str]:
         """A command of a user's client, who finds his name and password in a file, and not in the list of processes."""
         return ['env', f'XDG_CONFIG_HOME={os.path.join(self.folder, f"of-{user}")}', program, *words]
 
-    def start(self):
+    def start(self) -> subprocess.Popen[bytes]:
         """Starts the broker, and waits until it hears."""
         with open(os.path.join(self.folder, 'broker-said'), 'ab') as said:
             process = subprocess.Popen(['mosquitto', '-c', 'mosquitto.conf'], cwd=self.folder, stdout=said, stderr=said)
@@ -98,39 +101,41 @@ class Broker:
 class Play:
     """The processes of a play, which all end with it."""
 
-    def __init__(self, folder, port):
+    def __init__(self, folder: str, port: int) -> None:
         self.folder = folder
         self.broker = Broker(folder, port)
-        self.running = []
+        self.running: list[subprocess.Popen[bytes]] = []
         self.last = time.monotonic()
 
-    def start(self, command, **files):
-        process = subprocess.Popen(command, **files)
+    def start(self, command: list[str], **files: Any) -> subprocess.Popen[bytes]:
+        process: subprocess.Popen[bytes] = subprocess.Popen(command, **files)
         self.running.append(process)
         return process
 
-    def pipe(self, *commands, said=subprocess.DEVNULL):
+    def pipe(self, *commands: list[str], said: Any = subprocess.DEVNULL) -> list[subprocess.Popen[bytes]]:
         """Processes each of which reads what the one before it writes; the last says what it has to say to a file."""
-        source, processes = None, []
+        source: Any = None
+        processes: list[subprocess.Popen[bytes]] = []
         for command in commands:
             is_last = command is commands[-1]
-            files = {'stdout': None if is_last else subprocess.PIPE, 'stderr': said if is_last else subprocess.DEVNULL}
+            files: dict[str, Any] = {'stdout': None if is_last else subprocess.PIPE, 'stderr': said if is_last else subprocess.DEVNULL}
             processes.append(self.start(command, stdin=source, **files))
             if source is not None:
                 source.close()
             source = processes[-1].stdout
         return processes
 
-    def listen(self):
+    def listen(self) -> None:
         """Notes when the last line was told on any topic."""
         listener = self.start(self.broker.client('watch', 'mosquitto_sub', '-q', '1', '-t', '#'), stdout=subprocess.PIPE)
 
-        def note():
+        def note() -> None:
+            assert listener.stdout is not None
             for _ in listener.stdout:
                 self.last = time.monotonic()
         threading.Thread(target=note, daemon=True).start()
 
-    def settle(self):
+    def settle(self) -> None:
         """Waits until nothing has been told for a while."""
         self.last = begun = time.monotonic()
         while time.monotonic() - self.last < SILENCE:
@@ -138,11 +143,11 @@ class Play:
                 raise SystemExit('the relays do not come to rest')
             time.sleep(0.05)
 
-    def end(self):
+    def end(self) -> None:
         stop(self.running)
 
 
-def stop(processes):
+def stop(processes: Iterable[subprocess.Popen[bytes]]) -> None:
     for process in processes:
         process.terminate()
     for process in processes:
@@ -152,7 +157,7 @@ def stop(processes):
 class Region:
     """A region's folder, its dispatcher, the file of lines that feeds it, and what puts lines there: its control room and its relay."""
 
-    def __init__(self, play, number, boundaries):
+    def __init__(self, play: Play, number: int, boundaries: list[str]) -> None:
         self.play, self.number, self.boundaries = play, number, boundaries
         self.folder = os.path.join(play.folder, f'region-{number}')
         self.network = read_network(os.path.join(self.folder, 'net'))
@@ -163,11 +168,11 @@ class Region:
         self.stops = sorted({event.stop for event in self.network.events} & set(MIDDLES))
         self.text, self.lines, self.said = (os.path.join(self.folder, name) for name in ('text', 'lines', 'relay-said'))
 
-    def client(self, program, name, *words):
+    def client(self, program: str, name: str, *words: str) -> list[str]:
         """A client of the region with a name, of quality 1."""
         return self.play.broker.client(f'region-{self.number}', program, '-i', f'{name}-{self.number}', '-q', '1', *words)
 
-    def begin(self, program):
+    def begin(self, program: str) -> None:
         """Starts the dispatcher over a pipe, its boards on the broker, and what feeds it."""
         feed = os.path.join(self.folder, 'feed')
         os.mkfifo(feed)
@@ -185,7 +190,7 @@ class Region:
                            self.client('mosquitto_pub', f'board-{at}', '-l', '-r', '-t', f'board/{self.number}/{at}'))
         self.hear()
 
-    def hear(self):
+    def hear(self) -> None:
         """Starts what puts lines into the feed: those of the control room, and the relay that tells the neighbours' times."""
         with open(self.lines, 'ab', buffering=0) as lines:
             room = self.play.start(self.client('mosquitto_sub', 'feed', '-c', '-t', f'feed/{self.number}'), stdout=lines)
@@ -195,15 +200,15 @@ class Region:
         with open(self.said, 'ab') as said:
             self.hearing = [room, *self.play.pipe(self.client('mosquitto_sub', 'relay', '-c', '-F', '%t %p', *boards), words, said=said)]
 
-    def hear_no_more(self):
+    def hear_no_more(self) -> None:
         stop(self.hearing)
 
-    def say(self, line):
+    def say(self, line: str) -> None:
         """Says a line of the control room."""
         room = self.play.broker.client(f'room-{self.number}', 'mosquitto_pub', '-q', '1', '-t', f'feed/{self.number}', '-m', line)
         subprocess.run(room, check=True)
 
-    def end(self):
+    def end(self) -> None:
         """Ends the feed, reads the text of the run, and passes on what the relay has to say."""
         self.hear_no_more()
         stop([self.tail])
@@ -213,30 +218,35 @@ class Region:
         with open(self.text, 'rb') as file:
             self.run = read_run(file.read(), len(self.network.events))
 
-    def times_after(self, entries):
+    def times_after(self, entries: int) -> dict[int, int]:
         """The times after so many entries of its journal."""
         run = self.run._replace(journal=self.run.journal[:entries])
         rows = rows_of(self.network, Rows(self.network), run, self.text)
-        return dict(zip((event.id for event in self.network.events), times_of(self.network, rows)))
+        return dict(zip((event.id for event in self.network.events), sound_times(self.network, rows)))
 
 
 class Followed(NamedTuple):
     """What `follow` tells of the text that has come: how many entries it has, its tail, and the times by event."""
     entries: int
     tail: str
-    times: dict
+    times: dict[int, int]
 
 
-def read_followed(text):
+def times_in(line: str) -> tuple[int, int]:
+    event, time = line.split('; ')
+    return int(event), int(time)
+
+
+def read_followed(text: str) -> Followed:
     """What `follow` prints."""
     entries, tail, *times, _ = text.splitlines()
-    return Followed(int(entries.split()[1]), tail, dict(tuple(map(int, line.split('; '))) for line in times))
+    return Followed(int(entries.split()[1]), tail, dict(times_in(line) for line in times))
 
 
 class SecondSite:
     """A site to which the text of a region's run comes over the broker, and which has the files of its network."""
 
-    def __init__(self, play, region):
+    def __init__(self, play: Play, region: Region) -> None:
         self.play, self.region = play, region
         self.topic = f'text/{region.number}'
         self.text = os.path.join(play.folder, f'text-of-region-{region.number}')
@@ -244,13 +254,13 @@ class SecondSite:
             play.start(play.broker.client('site', 'mosquitto_sub', '-i', 'site', '-c', '-q', '1', '-t', self.topic), stdout=into)
         play.settle()
 
-    def hear(self, lines):
+    def hear(self, lines: Iterable[bytes]) -> None:
         """Sends lines of the text to the site, and waits until they are there."""
         words = self.region.client('mosquitto_pub', 'text', '-l', '-t', self.topic)
         subprocess.run(words, input=b''.join(lines), check=True)
         self.play.settle()
 
-    def differing(self, program, entries, tail):
+    def differing(self, program: str, entries: int, tail: str) -> int:
         """How many times it has otherwise than the region after so many entries; it must have these, and such a tail."""
         words = [program, 'follow', os.path.join(self.region.folder, 'net'), self.text]
         followed = read_followed(subprocess.run(words, stdout=subprocess.PIPE, check=True, text=True).stdout)
@@ -260,7 +270,7 @@ class SecondSite:
         return sum(followed.times.get(event) != time for event, time in due.items())
 
 
-def times_of_the_whole(program, folder):
+def times_of_the_whole(program: str, folder: str) -> dict[int, int]:
     """The times of one dispatcher that hears all delays."""
     feed = os.path.join(folder, 'feed')
     with open(feed, 'w', encoding='ascii') as file:
@@ -269,7 +279,7 @@ def times_of_the_whole(program, folder):
     return read_run(done.stdout, len(read_network(NET).events)).times
 
 
-def followed_otherwise(play, program, region):
+def followed_otherwise(play: Play, program: str, region: Region) -> int:
     """How many times a second site has otherwise than the region, when half of the journal has come and when all has."""
     site = SecondSite(play, region)
     with open(region.text, 'rb') as file:
@@ -282,7 +292,7 @@ def followed_otherwise(play, program, region):
     return torn + site.differing(program, entries, 'tail whole')
 
 
-def played(play, program, count):
+def played(play: Play, program: str, count: int) -> list[Region]:
     """The regions after the day was told and their feeds have ended."""
     middles = ','.join(map(str, MIDDLES))
     subprocess.run([sys.executable, os.path.join(TOOLS, 'split.py'), NET, middles, play.folder, '--regions', str(count)], check=True)
@@ -306,9 +316,9 @@ def played(play, program, count):
     return regions
 
 
-def main():
+def main() -> None:
     words = argparse.ArgumentParser(description=__doc__, formatter_class=argparse.RawDescriptionHelpFormatter)
-    words.add_argument('dispatcher', metavar='DISPATCHER', type=os.path.abspath)
+    words.add_argument('dispatcher', metavar='DISPATCHER', type=whole_path)
     words.add_argument('folder', metavar='FOLDER', nargs='?', help='where files go; by default a folder that is taken away at the end')
     words.add_argument('--regions', type=int, default=2, choices=(2, 4), metavar='N')
     words.add_argument('--port', type=int, default=18830, metavar='P')

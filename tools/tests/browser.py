@@ -7,6 +7,7 @@ import os
 import shutil
 import subprocess
 import tempfile
+from typing import Any, Optional
 
 CHROMIUM = shutil.which('chromium')
 MISSING = 'chromium is not installed'
@@ -21,14 +22,14 @@ PATIENCE = '600'
 class Browser:
     """One page of a browser."""
 
-    def __init__(self):
+    def __init__(self) -> None:
         self.folder = tempfile.TemporaryDirectory()
         hears, self.into = os.pipe()
         self.out_of, says = os.pipe()
         # The protocol's pipes are those of numbers 3 and 4, which these may have themselves.
         ends = [fcntl.fcntl(end, fcntl.F_DUPFD, 20) for end in (hears, says)]
         script = f'exec timeout {PATIENCE} "$@" 3<&{ends[0]} 4>&{ends[1]}'
-        command = ['bash', '-c', script, 'bash', CHROMIUM, f'--user-data-dir={self.folder.name}', *WORDS]
+        command = ['bash', '-c', script, 'bash', CHROMIUM or '', f'--user-data-dir={self.folder.name}', *WORDS]
         self.process = subprocess.Popen(command, pass_fds=ends, stdout=subprocess.DEVNULL, stderr=subprocess.DEVNULL)
         for end in hears, says, *ends:
             os.close(end)
@@ -39,14 +40,14 @@ class Browser:
         self.ask('Page.enable')
         self.ask('Runtime.enable')
 
-    def close(self):
+    def close(self) -> None:
         os.close(self.into)
         self.process.terminate()
         self.process.wait()
         self.lines.close()
         self.folder.cleanup()
 
-    def message(self):
+    def message(self) -> Any:
         """The next message of the browser."""
         while b'\0' not in self.rest:
             more = os.read(self.lines.fileno(), 1 << 16)
@@ -56,7 +57,7 @@ class Browser:
         message, _, self.rest = self.rest.partition(b'\0')
         return json.loads(message)
 
-    def ask(self, method, until=None, **words):
+    def ask(self, method: str, until: Optional[str] = None, **words: Any) -> Any:
         """What the browser answers; where an event is waited for, when that has come."""
         self.number += 1
         asked = {'id': self.number, 'method': method, 'params': words, **({'sessionId': self.session} if self.session else {})}
@@ -71,28 +72,28 @@ class Browser:
             raise RuntimeError(answer['error'])
         return answer['result']
 
-    def open(self, name):
+    def open(self, name: str) -> None:
         """Opens a file."""
         self.ask('Page.navigate', until='Page.loadEventFired', url=f'file://{os.path.abspath(name)}')
 
-    def value(self, expression):
+    def value(self, expression: str) -> Any:
         """The value of an expression in the page, where it is one of JSON."""
         result = self.ask('Runtime.evaluate', expression=expression, returnByValue=True, awaitPromise=True)
         if 'exceptionDetails' in result:
             raise RuntimeError(result['exceptionDetails'])
         return result['result'].get('value')
 
-    def press(self, key, text=''):
+    def press(self, key: str, text: str = '') -> None:
         """Presses a key and lets it go."""
         code = {'Tab': 9, 'Enter': 13}.get(key, 0)
-        words = {'key': key, 'windowsVirtualKeyCode': code, **({'text': text} if text else {})}
+        words: dict[str, Any] = {'key': key, 'windowsVirtualKeyCode': code, **({'text': text} if text else {})}
         self.ask('Input.dispatchKeyEvent', type='keyDown', **words)
         self.ask('Input.dispatchKeyEvent', type='keyUp', **words)
 
-    def wheel(self, x, y, down, ctrl=False):
+    def wheel(self, x: float, y: float, down: float, ctrl: bool = False) -> None:
         """Turns the wheel over a point."""
         self.ask('Input.dispatchMouseEvent', type='mouseWheel', x=x, y=y, deltaX=0, deltaY=down, modifiers=2 if ctrl else 0)
 
-    def settled(self):
+    def settled(self) -> None:
         """Waits until the page has been drawn twice."""
         self.value('new Promise(done => requestAnimationFrame(() => requestAnimationFrame(() => done(true))))')

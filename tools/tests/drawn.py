@@ -3,10 +3,10 @@ from __future__ import annotations
 
 from random import Random
 
-from samples import TOOLS  # noqa: F401
+import samples  # noqa: F401
 
 from network import Activity, Event, Network
-from railway import Rows, refusal_at_once, rows_after, times_of
+from railway import Message, Rows, refusal_at_once, rows_after, times_of
 
 
 def drawn_network(draws: Random, trains: int = 4, legs: int = 2) -> Network:
@@ -34,7 +34,8 @@ def drawn_network(draws: Random, trains: int = 4, legs: int = 2) -> Network:
                     join('headway', *ends, draws.randrange(1, 30))
                     join('headway', *ends[::-1], draws.randrange(1, 30))
             elif draws.random() < 0.3:
-                join('headway', *(sorted(ends, key=lambda event: (events[event - 1].time, event))), 10)
+                sooner, later = sorted(ends, key=lambda event: (events[event - 1].time, event))
+                join('headway', sooner, later, 10)
             if legs > 1 and draws.random() < 0.5:
                 join('change', ends[0] + 1, ends[1] + 2, draws.randrange(0, 40), draws.choice((0, 500, 3000)))
     return Network(events, activities)
@@ -46,13 +47,14 @@ def drawn_rows(draws: Random, network: Network, messages: int = 8) -> Rows:
     heads = [network.events[head] for place, head in enumerate(network.heads) if network.activities[place].kind == 'change']
     for _ in range(messages):
         event, activity = draws.choice(network.events), draws.choice(network.activities)
-        message = draws.choice((
+        messages_of: list[Message] = [
             ('delay event', event.id, draws.randrange(0, 120)), ('delay event', event.id, draws.randrange(0, 120)),
             ('delay activity', activity.id, draws.randrange(0, 40)), ('pass', event.id, event.time + draws.randrange(-20, 90)),
             ('now', draws.randrange(0, 120)), ('drop', activity.id), ('keep', activity.id),
             *(('pass', head.id, head.time + draws.randrange(-10, 60)) for head in heads[:1]),
             *(('first', network.events[later].id, network.events[sooner].id) for sooner, later in network.pairs[:2]),
-        ))
+        ]
+        message = draws.choice(messages_of)
         if message[0] == 'pass' and message[2] < 0:
             continue
         if refusal_at_once(network, rows, message) is None:

@@ -30,6 +30,13 @@ SMALL: dict[str, list[str]] = {
 }
 
 
+def lines_in(files: Mapping[str, File], name: str) -> list[str]:
+    """The lines of a file that has some."""
+    lines = files[name]
+    assert isinstance(lines, list)
+    return lines
+
+
 def write_feed(folder: str, files: Mapping[str, File]) -> str:
     """Writes a feed of files, each a list of lines or bytes; none where it is None."""
     os.makedirs(folder)

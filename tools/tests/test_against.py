@@ -1,4 +1,6 @@
 """Solvers beside the server: what their logs tell, what stands in the table, and what two of them cannot both say."""
+from __future__ import annotations
+
 import os
 import sys
 import unittest
@@ -24,29 +26,29 @@ TIME LIMIT EXCEEDED; SEARCH TERMINATED
 
 
 class Logs(unittest.TestCase):
-    def test_bounds(self):
+    def test_bounds(self) -> None:
         self.assertEqual(cbc_bound(CBC), 242400.125)
         self.assertEqual(cbc_bound(CBC.partition('Result')[0]), 242324.56)
         self.assertIsNone(cbc_bound('Result - Optimal solution found\n'))
         self.assertEqual(glpk_bound(GLPK), 135942)
         self.assertEqual(glpk_bound('+   12: mip =     not found yet >=              -inf        (1; 0)\n'), None)
 
-    def test_cost_that_a_solver_tells(self):
+    def test_cost_that_a_solver_tells(self) -> None:
         self.assertEqual(told_cost(Solution('Optimal', '188.00000004', {}), 5000), 940_000)
         self.assertIsNone(told_cost(Solution('UNDEFINED', None, {}), 5000))
 
-    def test_plan_in_a_text(self):
+    def test_plan_in_a_text(self) -> None:
         self.assertEqual(plan_of('2 plan 9 -> 1 plan open cost 12 bound 7 choices 0 nodes 9\n'), ('open', 12, 7))
 
 
 class Tables(unittest.TestCase):
-    def test_cells(self):
+    def test_cells(self) -> None:
         self.assertEqual(Found(12_000_000, 12_000_000, True, 0.5, 9.1).in_print(), '12.00 least, 0.50 s, 9 MB')
         self.assertEqual(Found(12_000_000, 9_000_000, False, 0.5, 9.1).in_print(), '12.00, bound 9.00 (25.00 %), 0.50 s, 9 MB')
         self.assertEqual(Found(None, 9_000_000, False, 0.5, 9.1).in_print(), 'nothing, bound 9.00, 0.50 s, 9 MB')
         self.assertEqual(Found(None, None, False, 0.5, 9.1).in_print(), 'nothing, 0.50 s, 9 MB')
 
-    def test_what_cannot_be(self):
+    def test_what_cannot_be(self) -> None:
         least = Found(12, 12, True, 0, 0)
         self.assertEqual(contradictions({'dispatch': least, 'CBC': Found(12, 12, True, 0, 0), 'GLPK': None}), [])
         self.assertEqual(contradictions({'dispatch': least, 'CBC': Found(13, 11, False, 0, 0)}), [])

@@ -1,4 +1,6 @@
 """Regions over the broker that ships: relays and feeds that are away lose nothing, and nobody says what is not his."""
+from __future__ import annotations
+
 import os
 import shutil
 import socket
@@ -7,6 +9,7 @@ import sys
 import tempfile
 import time
 import unittest
+from typing import Any, Optional, Sequence
 
 from samples import TOOLS, TOP
 
@@ -21,15 +24,16 @@ CUTS = [Cut(1, 1, 2, 9, 60, 1000), Cut(2, 1, 2, 9, 30, 1000), Cut(3, 3, 2, 10, 0
 BOARDS = ['-q', '1', '-F', '%t %p', '-t', 'board/1/+', '-t', 'board/3/+']
 
 
-def free_port():
+def free_port() -> int:
     with socket.socket() as one:
         one.bind(('127.0.0.1', 0))
-        return one.getsockname()[1]
+        port: int = one.getsockname()[1]
+        return port
 
 
 @unittest.skipUnless(IS_THERE, 'mosquitto and mosquitto-clients are not installed')
 class OverBroker(unittest.TestCase):
-    def setUp(self):
+    def setUp(self) -> None:
         folder = tempfile.TemporaryDirectory()
         self.addCleanup(folder.cleanup)
         self.folder = folder.name
@@ -37,25 +41,26 @@ class OverBroker(unittest.TestCase):
         self.running = [self.broker.start()]
         self.addCleanup(lambda: stop(self.running))
 
-    def name(self, name):
+    def name(self, name: str) -> str:
         return os.path.join(self.folder, name)
 
-    def read(self, name):
+    def read(self, name: str) -> str:
         if not os.path.exists(self.name(name)):
             return ''
         with open(self.name(name), encoding='ascii') as file:
             return file.read()
 
-    def start(self, command, **files):
-        self.running.append(subprocess.Popen(command, stderr=subprocess.DEVNULL, **files))
-        return self.running[-1]
+    def start(self, command: list[str], **files: Any) -> subprocess.Popen[bytes]:
+        started: subprocess.Popen[bytes] = subprocess.Popen(command, stderr=subprocess.DEVNULL, **files)
+        self.running.append(started)
+        return started
 
-    def say(self, user, topic, *lines, words=('-r',)):
+    def say(self, user: str, topic: str, *lines: str, words: Sequence[str] = ('-r',)) -> int:
         """Says lines on a topic, of which the last is retained, and waits until the broker has them."""
         command = self.broker.client(user, 'mosquitto_pub', '-q', '1', '-l', '-t', topic, *words)
         return subprocess.run(command, input=''.join(f'{line}\n' for line in lines), text=True, capture_output=True).returncode
 
-    def hear(self, user, topic, into, client, is_known=False):
+    def hear(self, user: str, topic: str, into: str, client: str, is_known: bool = False) -> list[subprocess.Popen[bytes]]:
         """Starts a client with a name that puts what it hears into a file."""
         command = self.broker.client(user, 'mosquitto_sub', '-i', client, '-c', '-q', '1', '-t', topic)
         if not is_known:
@@ -64,20 +69,21 @@ class OverBroker(unittest.TestCase):
         with open(self.name(into), 'ab') as file:
             return [self.start(command, stdout=file)]
 
-    def relay(self):
+    def relay(self) -> list[subprocess.Popen[bytes]]:
         """Starts the relay of region 2."""
         heard = self.start(self.broker.client('region-2', 'mosquitto_sub', '-i', 'relay-2', '-c', *BOARDS), stdout=subprocess.PIPE)
         relay = self.start(self.relay_words(), stdin=heard.stdout)
+        assert heard.stdout is not None
         heard.stdout.close()
         return [heard, relay]
 
-    def relay_words(self):
+    def relay_words(self) -> list[str]:
         with open(self.name('Boundary.csv'), 'w', encoding='ascii') as file:
             file.write(boundary_text(CUTS))
         words = ['--region=2', '--topics', '--feed', self.name('lines')]
         return [sys.executable, os.path.join(TOOLS, 'relay.py'), self.name('Boundary.csv'), *words]
 
-    def until(self, name, lines):
+    def until(self, name: str, lines: Any) -> None:
         """Waits until these lines stand in a file."""
         due = ''.join(f'{line}\n' for line in lines)
         end = time.monotonic() + 60
@@ -87,7 +93,7 @@ class OverBroker(unittest.TestCase):
 
 
 class Away(OverBroker):
-    def test_relay_that_is_away_loses_nothing(self):
+    def test_relay_that_is_away_loses_nothing(self) -> None:
         relay = self.relay()
         self.say('region-1', 'board/1/6', '1; 950, 2; 1270')
         self.until('lines', ['delay event 9 300'])
@@ -107,15 +113,16 @@ class Away(OverBroker):
         subprocess.run(self.relay_words(), input=retained, check=True)
         self.assertEqual(self.read('lines'), 'delay event 9 300\ndelay event 9 0\n')
 
-    def until_last(self, due):
+    def until_last(self, due: dict[int, int]) -> None:
         """Waits until these delays of events are the last of the feed."""
-        end, last = time.monotonic() + 60, None
+        end = time.monotonic() + 60
+        last: Optional[dict[int, int]] = None
         while last != due:
             self.assertLess(time.monotonic(), end, last)
             last = {int(line.split()[2]): int(line.split()[3]) for line in self.read('lines').splitlines()}
             time.sleep(0.02)
 
-    def test_feed_that_is_away_loses_nothing_even_where_the_broker_starts_again(self):
+    def test_feed_that_is_away_loses_nothing_even_where_the_broker_starts_again(self) -> None:
         feed = self.hear('region-1', 'feed/1', 'lines', 'feed-1')
         self.say('room-1', 'feed/1', 'delay event 1 60', words=())
         self.until('lines', ['delay event 1 60'])
@@ -129,15 +136,16 @@ class Away(OverBroker):
 
 
 class Access(OverBroker):
-    def test_nobody_gets_in_without_a_password(self):
+    def test_nobody_gets_in_without_a_password(self) -> None:
         where = ['-h', '127.0.0.1', '-p', str(self.broker.port), '-t', 'feed/1', '-m', 'drop 5']
-        for user in [], ['-u', 'room-1'], ['-u', 'room-1', '-P', 'room-1'], ['-u', 'nobody', '-P', 'x']:
+        users: list[list[str]] = [[], ['-u', 'room-1'], ['-u', 'room-1', '-P', 'room-1'], ['-u', 'nobody', '-P', 'x']]
+        for user in users:
             environment = {**os.environ, 'XDG_CONFIG_HOME': self.folder, 'HOME': self.folder}
             done = subprocess.run(['mosquitto_pub', *where, *user], env=environment, capture_output=True, text=True)
             self.assertNotEqual(done.returncode, 0, user)
             self.assertIn('not authorised', done.stderr)
 
-    def test_each_says_and_hears_its_own_topics_alone(self):
+    def test_each_says_and_hears_its_own_topics_alone(self) -> None:
         said = [
             ('region-1', 'board/1/6'), ('region-1', 'board/2/6'), ('region-1', 'feed/1'), ('region-1', 'feed/2'), ('region-1', 'text/1'),
             ('region-1', 'text/2'), ('region-2', 'board/2/6'), ('room-1', 'feed/1'), ('room-1', 'feed/2'), ('room-1', 'board/1/7'),

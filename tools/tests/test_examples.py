@@ -1,7 +1,10 @@
 """The examples are cases of the gate: their files are those of the cases, and their pictures are what diagram.py draws."""
+from __future__ import annotations
+
 import filecmp
 import os
 import unittest
+from typing import Sequence
 
 from samples import CASES, TOP
 
@@ -13,25 +16,25 @@ EXAMPLES = os.path.join(TOP, 'examples')
 
 
 class Examples(unittest.TestCase):
-    def same(self, example, case):
+    def same(self, example: Sequence[str], case: Sequence[str]) -> None:
         self.assertTrue(filecmp.cmp(os.path.join(EXAMPLES, *example), os.path.join(CASES, *case), shallow=False), example)
 
-    def test_connection(self):
+    def test_connection(self) -> None:
         self.same(('connection', 'feed'), ('runs', 'adopted_plan_of_a_day_under_way', 'f'))
         self.same(('connection', 'text'), ('runs', 'adopted_plan_of_a_day_under_way', 'text'))
 
-    def test_turnaround(self):
+    def test_turnaround(self) -> None:
         self.same(('turnaround', 'feed'), ('runs', 'order_that_closes_a_cycle', 'f'))
 
-    def test_day(self):
+    def test_day(self) -> None:
         self.same(('day', 'text'), ('runs', 'text_of_two_control_rooms', 't'))
 
-    def test_networks(self):
+    def test_networks(self) -> None:
         for example, network in (('connection', 'connection'), ('turnaround', 'turnaround'), ('day', 'forty_trains')):
             for name in ('Events-expanded.giv', 'Activities-expanded.giv'):
                 self.same((example, 'net', name), ('networks', network, 'net', name))
 
-    def test_pictures(self):
+    def test_pictures(self) -> None:
         for example, line in (('connection', None), ('turnaround', None), ('day', '45,46,47,48,49,50,51,52,53,54,55')):
             folder = os.path.join(EXAMPLES, example)
             scene = read_scene(os.path.join(folder, 'net'), os.path.join(folder, 'text'))

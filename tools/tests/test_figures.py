@@ -1,4 +1,6 @@
 """Figures of a study: the feed that brings rows back, and the curves from what a program prints."""
+from __future__ import annotations
+
 import csv
 import os
 import stat
@@ -32,35 +34,38 @@ else:
 
 
 class Feeds(unittest.TestCase):
-    def test_feed_brings_rows_back(self):
+    def test_feed_brings_rows_back(self) -> None:
         for name in ('plan_that_is_adopted', 'passed_time_that_misses_a_change', 'late_first_train'):
             scene = read_scene(network('connection'), text(name))
             rows = scene.start
             for count, (_, said) in enumerate(due_items('\n'.join(feed_of(scene)) + '\n')):
-                refusal, rows = admit(scene.network, rows, count, said)
+                assert said is not None
+                refusal, after = admit(scene.network, rows, count, said)
                 self.assertIsNone(refusal)
+                assert after is not None
+                rows = after
             self.assertEqual(vars(rows), vars(scene.rows))
 
 
 class Curves(unittest.TestCase):
-    def test_ticks(self):
+    def test_ticks(self) -> None:
         self.assertEqual(ticks(0, 900), [0, 200, 400, 600, 800])
         self.assertEqual(ticks(7, 7), [7])
         self.assertEqual(hours(21600, 86400), [21600, 32400, 43200, 54000, 64800, 75600, 86400])
 
-    def test_lateness_by_quarters(self):
+    def test_lateness_by_quarters(self) -> None:
         scene = read_scene(network('connection'), text('late_first_train'))
         self.assertEqual(quarters(scene, scene.times), [(0, round((50 + 40 + 35) / 3))])
 
 
 class Commands(unittest.TestCase):
-    def setUp(self):
+    def setUp(self) -> None:
         folder = tempfile.TemporaryDirectory()
         self.addCleanup(folder.cleanup)
         self.out = os.path.join(folder.name, 'figures')
         self.program = os.path.join(folder.name, 'program')
 
-    def call(self, told, asked=text('late_first_train')):
+    def call(self, told: str, asked: str = text('late_first_train')) -> subprocess.CompletedProcess[str]:
         """Calls the script with a program that tells a text."""
         with open(self.program, 'w', encoding='utf-8') as file:
             file.write(PROGRAM.format(python=sys.executable, text=told))
@@ -68,11 +73,11 @@ class Commands(unittest.TestCase):
         words = [network('connection'), asked, self.out, '--dispatcher', self.program]
         return subprocess.run([sys.executable, os.path.join(TOOLS, 'figures.py'), *words], capture_output=True, text=True)
 
-    def rows(self, name):
+    def rows(self, name: str) -> dict[str, list[str]]:
         with open(os.path.join(self.out, name), encoding='utf-8', newline='') as file:
             return {row[0]: row[1:] for row in csv.reader(file)}
 
-    def test_all_figures(self):
+    def test_all_figures(self) -> None:
         done = self.call(text('plan_that_is_adopted'))
         self.assertEqual((done.returncode, done.stdout, done.stderr), (0, '', ''))
         for name in ('rules', 'budgets', 'lateness'):
@@ -88,19 +93,19 @@ class Commands(unittest.TestCase):
         with open(os.path.join(self.out, 'feed'), encoding='utf-8') as file:
             self.assertEqual(file.read(), 'delay event 1 60\nplan 4096\nadopt\n')
 
-    def refused(self, done, said):
+    def refused(self, done: subprocess.CompletedProcess[str], said: str) -> None:
         self.assertEqual((done.returncode, done.stdout), (2, ''))
         self.assertEqual(len(done.stderr.splitlines()), 1, done.stderr)
         self.assertIn(said, done.stderr)
         self.assertFalse(any(name.endswith('.svg') for name in (os.listdir(self.out) if os.path.isdir(self.out) else ())))
 
-    def test_rows_that_are_not_brought_back(self):
+    def test_rows_that_are_not_brought_back(self) -> None:
         self.refused(self.call(text('dropped_change')), 'cannot be brought back')
 
-    def test_text_that_is_none(self):
+    def test_text_that_is_none(self) -> None:
         self.refused(self.call(text('plan_that_is_adopted'), os.path.join(network('connection'), 'Events-expanded.giv')), 'line 1')
 
-    def test_program_that_is_not_there(self):
+    def test_program_that_is_not_there(self) -> None:
         words = [network('connection'), text('late_first_train'), self.out, '--dispatcher', self.program]
         done = subprocess.run([sys.executable, os.path.join(TOOLS, 'figures.py'), *words], capture_output=True, text=True)
         self.refused(done, 'No such file')

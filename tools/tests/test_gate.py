@@ -1,9 +1,12 @@
 """What proving costs: of processes and of the times of files that are made here."""
+from __future__ import annotations
+
 import os
 import sys
 import tempfile
 import unittest
 from pathlib import Path
+from typing import Any, Sequence
 
 from samples import TOP
 
@@ -15,7 +18,7 @@ from gate import Meter, cost_rows, part_rows, read_parts, read_processes
 TICKS = 100
 
 
-def make_process(proc, pid, parent, ticks, words, folder):
+def make_process(proc: str, pid: int, parent: int, ticks: Sequence[int], words: Sequence[str], folder: str) -> None:
     """A process as /proc tells it: `ticks` are those of the process and of its ended children, in user and in system mode."""
     at = Path(proc, str(pid))
     at.mkdir()
@@ -26,14 +29,14 @@ def make_process(proc, pid, parent, ticks, words, folder):
 
 
 class Processes(unittest.TestCase):
-    def look(self, meter, *processes):
+    def look(self, meter: Meter, *processes: Any) -> None:
         with tempfile.TemporaryDirectory() as proc:
             Path(proc, 'self').mkdir()
             for it in processes:
                 make_process(proc, *it)
             meter.look(read_processes(Path(proc), 1, TICKS))
 
-    def test_own_proof_with_its_jobs_and_ended_children(self):
+    def test_own_proof_with_its_jobs_and_ended_children(self) -> None:
         meter, words = Meter(), ['/kit/bin/rattle', 'build', '--crate-name', 'low', 'src/lib.rt']
         self.look(meter, (5, 1, (300, 50, 40, 10), words, '/copy/crates/low'),
                   (6, 5, (100, 0, 0, 0), words, '/copy/crates/low'))
@@ -42,20 +45,20 @@ class Processes(unittest.TestCase):
         self.look(meter, (5, 1, (300, 50, 150, 10), words, '/copy/crates/low'))
         self.assertEqual(meter.costs(), {'low': {'proof': 5.1}})
 
-    def test_tests_and_edits_apart(self):
+    def test_tests_and_edits_apart(self) -> None:
         meter, words = Meter(), ['rattle', 'check', '--crate-name', 'high', 'src/lib.rt']
         self.look(meter, (5, 1, (100, 0, 0, 0), [*words, '--test'], '/copy/crates/high'),
                   (6, 1, (200, 0, 0, 0), words, '/elsewhere/rt-edit-4-abc'), (7, 1, (300, 0, 0, 0), words, '/elsewhere/rt-edit-4-def'))
         self.assertEqual(meter.costs(), {'high': {'tests': 1.0, 'edits': 5.0}})
 
-    def test_other_programs_and_other_runs_cost_nothing(self):
+    def test_other_programs_and_other_runs_cost_nothing(self) -> None:
         meter, words = Meter(), ['rattle', 'build', '--crate-name', 'low', 'src/lib.rt']
         self.look(meter, (5, 1, (100, 0, 0, 0), ['/kit/bin/rattle', 'fmt'], '/copy'),
                   (6, 1, (9, 0, 0, 0), ['clang', '--crate-name', 'low'], '/copy'),
                   (7, 2, (9, 0, 0, 0), words, '/other/crates/low'))
         self.assertEqual(meter.costs(), {})
 
-    def test_table_begins_with_the_dearest(self):
+    def test_table_begins_with_the_dearest(self) -> None:
         rows = cost_rows({'low': {'proof': 12.4}, 'high': {'proof': 20, 'tests': 31, 'edits': 9}})
         self.assertEqual([row.split() for row in rows], [
             ['crate', 'seconds', 'proof', 'tests', 'edits'], ['high', '60', '20', '31', '9'], ['low', '12', '12', '0', '0'],
@@ -63,12 +66,12 @@ class Processes(unittest.TestCase):
 
 
 class Parts(unittest.TestCase):
-    def setUp(self):
+    def setUp(self) -> None:
         self.room = tempfile.TemporaryDirectory()
         self.addCleanup(self.room.cleanup)
         self.top = Path(self.room.name)
 
-    def write(self, crate, **times):
+    def write(self, crate: str, **times: float) -> None:
         folder = self.top / 'crates' / crate / 'out' / 'incremental' / 'sum'
         folder.mkdir(parents=True)
         for name, seconds in times.items():
@@ -76,13 +79,13 @@ class Parts(unittest.TestCase):
             file.touch()
             os.utime(file, (seconds, seconds))
 
-    def test_steps_from_file_to_file(self):
+    def test_steps_from_file_to_file(self) -> None:
         self.write('low', open_Lts=107, first=100, open_Proof=109)
         parts = read_parts(self.top, [])
         self.assertEqual([(it.seconds, it.crate, it.name, it.kind) for it in parts],
                          [(7, 'low', 'open.Lts', 'Lts'), (2, 'low', 'open.Proof', 'Proof')])
 
-    def test_dearest_first_and_no_more_than_are_asked_for(self):
+    def test_dearest_first_and_no_more_than_are_asked_for(self) -> None:
         self.write('low', a=100, open_Lts=103, shut_Lts=104)
         self.write('high', a=200, run_Lts=209, run_Tie=210)
         rows = part_rows(read_parts(self.top, []), 2)
@@ -90,7 +93,7 @@ class Parts(unittest.TestCase):
             ['high', '10', 's', 'Lts', '9', 'Tie', '1'], ['low', '4', 's', 'Lts', '4'], [],
             ['9.0', 's', 'high', 'run.Lts'], ['3.0', 's', 'low', 'open.Lts']])
 
-    def test_crates_that_are_named(self):
+    def test_crates_that_are_named(self) -> None:
         self.write('low', a=100, open_Lts=103)
         self.write('high', a=200, run_Lts=209)
         self.assertEqual([it.crate for it in read_parts(self.top, ['low'])], ['low'])

@@ -1,14 +1,19 @@
 """Networks of feeds: what becomes of a service day, what is said of the rest, and how broken feeds are told."""
+from __future__ import annotations
+
 import os
 import re
 import time
 import unittest
 from collections import Counter
 from unittest import mock
+from typing import Any, Mapping, Sequence
 
-from feeds import DATE, EXAMPLE, SHIPPED, SMALL, large_feed, write_feed, zipped
+from feeds import DATE, EXAMPLE, SHIPPED, SMALL, large_feed, lines_in, write_feed, zipped
 from folders import InFolder, read
 from samples import CASES, TOP, lines_of_run, network, text
+from feeds import File
+from network import Network
 
 import from_gtfs
 import to_gtfs
@@ -16,7 +21,7 @@ from diagram import drawing
 from expand import Limits
 from names import read_events, read_labels, read_stops, read_trains
 from giv import read_network
-from railway import Rows, cost_of, times_of
+from railway import Rows, cost_of, sound_times
 from scene import read_scene
 
 NET_FILES = ['Activities-expanded.giv', 'Events-expanded.giv', 'Events.csv', 'Stops.csv', 'Trains.csv']
@@ -30,20 +35,20 @@ PASSENGERS = os.path.join(EXAMPLE, 'passengers.csv')
 
 
 class InNetwork(InFolder):
-    def made(self, files, *options, date=DATE):
+    def made(self, files: Mapping[str, File], *options: str, date: str = DATE) -> tuple[Network, str]:
         """The network of a small feed with some of its files replaced, and what is said of it."""
         feed = write_feed(os.path.join(self.folder, f'feed{len(os.listdir(self.folder))}'), {**SMALL, **files})
         status, said = self.call(from_gtfs, feed, date, self.net, *options)
         self.assertEqual(status, 0, said)
         return read_network(self.net), said
 
-    def activities(self, net, kind):
+    def activities(self, net: Network, kind: str) -> list[tuple[str, str, int]]:
         """The activities of a kind: the trips and stops that they join, and their bounds."""
         names = {name.event: f'{name.trip} {name.stop}' for name in read_events(self.net)}
         return [(names[one.tail], names[one.head], one.lower) for one in net.activities if one.kind == kind]
 
 
-def trips_and_times(*trips):
+def trips_and_times(*trips: Any) -> dict[str, File]:
     """The files of trips, each written as NAME ROUTE DIRECTION BLOCK and then STOP TIME for each call; `-` for no block."""
     trip_lines, time_lines = [SMALL['trips.txt'][0]], [SMALL['stop_times.txt'][0]]
     for trip in trips:
@@ -55,7 +60,7 @@ def trips_and_times(*trips):
 
 
 class ShippedFeed(InNetwork):
-    def test_makes_the_stored_network(self):
+    def test_makes_the_stored_network(self) -> None:
         sources = [SHIPPED, zipped(SHIPPED, os.path.join(self.folder, 'a.zip'))]
         sources.append(zipped(SHIPPED, os.path.join(self.folder, 'b.zip'), 'six/'))
         for source in sources:
@@ -67,28 +72,28 @@ class ShippedFeed(InNetwork):
                 self.assertEqual(read(self.net, name), read(network('six_stations'), name), name)
         self.assertEqual(said.splitlines(), SAID)
 
-    def test_its_run_is_a_case_of_the_gate(self):
+    def test_its_run_is_a_case_of_the_gate(self) -> None:
         for name, case in ('feed', ('six_stations_planned', 'f')), ('text', ('six_stations_planned', 'text')):
             self.assertEqual(read(EXAMPLE, name), read(CASES, 'runs', *case))
         self.assertEqual(read(EXAMPLE, 'text'), read(CASES, 'runs', 'six_stations_checked', 't'))
 
-    def test_its_picture_is_that_of_the_plan(self):
+    def test_its_picture_is_that_of_the_plan(self) -> None:
         scene = read_scene(network('six_stations'), text('six_stations_planned'))
         self.assertEqual(read(EXAMPLE, 'picture.svg'), '\n'.join(drawing(scene, [1, 2, 3, 4], 28800, 37200)) + '\n')
 
-    def test_runs_on_a_workday_without_the_train_of_holidays(self):
+    def test_runs_on_a_workday_without_the_train_of_holidays(self) -> None:
         status, said = self.call(from_gtfs, SHIPPED, '20261223', self.net)
         self.assertEqual(status, 0, said)
         trips = [train.trip for train in read_trains(self.net)]
         self.assertIn('early', trips)
         self.assertNotIn('noon', trips)
 
-    def test_another_day_has_no_train(self):
+    def test_another_day_has_no_train(self) -> None:
         status, said = self.call(from_gtfs, SHIPPED, '20270201', self.net)
         self.assertEqual(status, 2)
         self.assertIn('has no train on 2027-02-01 that is chosen: 0 services run then, and its dates go from 2026-12-01 to 2027-01-31', said)
 
-    def test_the_page_shows_what_comes_out(self):
+    def test_the_page_shows_what_comes_out(self) -> None:
         self.assertEqual(self.call(from_gtfs, SHIPPED, DATE, self.net, f'--passengers={PASSENGERS}')[1].splitlines(), SAID)
         self.assertEqual(self.call(to_gtfs, self.net, text('six_stations_planned'), self.net), (0, ''))
         names = ['Events.csv', 'Trains.csv', 'Stops.csv', 'stop_times.txt', 'delays.csv', 'Activities-expanded.giv']
@@ -100,7 +105,7 @@ class ShippedFeed(InNetwork):
         ]
         self.assertEqual([line for line in shown if line not in lines and not line.startswith('from_gtfs: ')], [])
 
-    def test_numbers_tell_their_names(self):
+    def test_numbers_tell_their_names(self) -> None:
         folder = network('six_stations')
         self.assertEqual(read_stops(folder)[3], 'Corben')
         self.assertEqual(read_labels(folder)[11], 'S 3 08:25')
@@ -111,25 +116,25 @@ class ShippedFeed(InNetwork):
 
 
 class Events(InNetwork):
-    def test_times_between_stops_with_times_are_spread(self):
+    def test_times_between_stops_with_times_are_spread(self) -> None:
         times = SMALL['stop_times.txt']
         net, said = self.made({'stop_times.txt': [*times[:2], 'r1,,,B,2', times[3]]})
         self.assertEqual([event.time - 28800 for event in net.events], [0, 900, 900, 1800])
         self.assertIn('besides: times between two stops with times, spread evenly: 1', said)
 
-    def test_calls_stand_in_the_order_of_their_sequence(self):
+    def test_calls_stand_in_the_order_of_their_sequence(self) -> None:
         times = SMALL['stop_times.txt']
         net, _ = self.made({'stop_times.txt': [times[0], *reversed(times[1:])]})
         self.assertEqual([event.time - 28800 for event in net.events], [0, 600, 660, 1800])
 
-    def test_frequencies_are_rolled_out_before_their_end(self):
+    def test_frequencies_are_rolled_out_before_their_end(self) -> None:
         frequencies = ['trip_id,start_time,end_time,headway_secs', 'r1,23:00:00,24:30:00,1800', 'r1,24:00:00,24:10:00,600']
         net, said = self.made({'frequencies.txt': frequencies})
         self.assertEqual([train.trip for train in read_trains(self.net)], ['r1@23:00:00', 'r1@23:30:00', 'r1@24:00:00'])
         self.assertEqual(net.events[-1].time, 24 * 3600 + 1800)
         self.assertIn('left out: trains that two frequencies make at the same time: 1', said)
 
-    def test_passengers_are_those_of_the_file(self):
+    def test_passengers_are_those_of_the_file(self) -> None:
         numbers = os.path.join(self.folder, 'numbers')
         write_feed(numbers, {'p': ['trip_id,stop_id,number', 'r1,C,12.5', 'r1,A,3']})
         net, said = self.made({}, f'--passengers={numbers}/p')
@@ -137,11 +142,11 @@ class Events(InNetwork):
         self.assertIn('besides: arrivals without a number of passengers, which count as none: 1', said)
         self.assertIn('left out: numbers of passengers of which no arrival is there: 1', said)
 
-    def test_trips_of_unknown_services_are_told(self):
+    def test_trips_of_unknown_services_are_told(self) -> None:
         trips = [*SMALL['trips.txt'], 'R,X,r9,0,']
         self.assertIn('left out: trips of services that no calendar names: 1', self.made({'trips.txt': trips})[1])
 
-    def test_trains_are_chosen_by_time_and_route(self):
+    def test_trains_are_chosen_by_time_and_route(self) -> None:
         files = trips_and_times(
             'r1 R 0 - A 08:00 B 08:10', 'r2 R 0 - A 09:00 B 09:10', 'g1 G 0 - A 09:00 C 09:30',
         )
@@ -153,14 +158,14 @@ class Events(InNetwork):
 
 
 class Activities(InNetwork):
-    def test_drives_have_a_reserve_and_waits_a_longest_bound(self):
+    def test_drives_have_a_reserve_and_waits_a_longest_bound(self) -> None:
         net, _ = self.made({}, '--reserve=7.5%', '--dwell=45')
         self.assertEqual(self.activities(net, 'drive'), [('r1 A', 'r1 B', 555), ('r1 B', 'r1 C', 1055)])
         self.assertEqual(self.activities(net, 'wait'), [('r1 B', 'r1 B', 45)])
         net, _ = self.made({}, '--dwell=90')
         self.assertEqual(self.activities(net, 'wait'), [('r1 B', 'r1 B', 60)])
 
-    def test_turnarounds_join_the_trips_of_a_block(self):
+    def test_turnarounds_join_the_trips_of_a_block(self) -> None:
         net, said = self.made(trips_and_times(
             'r2 R 1 V C 08:33 A 09:00', 'r1 R 0 V A 08:00 C 08:30', 'g1 G 0 V A 09:10 B 09:20', 'g2 G 0 V C 09:30 B 09:40',
             'g3 G 0 V C 09:35 B 09:50',
@@ -172,11 +177,11 @@ class Activities(InNetwork):
         self.assertIn('besides: turnarounds that lead from one station to another: 1', said)
         self.assertIn('besides: turnarounds for which the timetable has less time than --turn: 1', said)
 
-    def changes(self, options, *trips, **files):
+    def changes(self, options: Sequence[str], *trips: Any, **files: Any) -> tuple[list[tuple[str, str, int]], str]:
         net, said = self.made({**trips_and_times(*trips), **files}, *options)
         return self.activities(net, 'change'), said
 
-    def test_changes_lead_to_the_next_train_that_is_reached(self):
+    def test_changes_lead_to_the_next_train_that_is_reached(self) -> None:
         red = 'r1 R 0 - A 08:00 B 08:10 C 08:30'
         greens = [f'g{m} G 0 - B 08:{m} D 08:{m + 9}' for m in (12, 13, 14)]
         stops = {'stops.txt': [*SMALL['stops.txt'], 'D,Dorn,']}
@@ -184,7 +189,7 @@ class Activities(InNetwork):
         self.assertEqual(self.changes(['--change=181'], red, *greens, **stops)[0], [('r1 B', 'g14 B', 181)])
         self.assertEqual(self.changes(['--change=0', '--longest-change=119'], red, *greens, **stops)[0], [])
 
-    def test_changes_lead_to_both_directions_of_another_route(self):
+    def test_changes_lead_to_both_directions_of_another_route(self) -> None:
         changes, _ = self.changes(
             [], 'r1 R 0 - A 08:00 B 08:10', 'g1 G 0 - B 08:20 C 08:30',
             'g2 G 1 - B 08:25 D 08:35', 'r2 R 0 - A 08:05 B 08:15 C 08:25',
@@ -193,20 +198,20 @@ class Activities(InNetwork):
         due = [('r1 B', 'g1 B', 180), ('r1 B', 'g2 B', 180), ('r2 B', 'g1 B', 180), ('r2 B', 'g2 B', 180)]
         self.assertEqual(changes, due)
 
-    def test_changes_never_lead_back(self):
+    def test_changes_never_lead_back(self) -> None:
         changes, _ = self.changes(
             [], 'r1 R 0 V A 08:00 B 08:10', 'r2 R 1 - B 08:20 A 08:30',
             'g1 G 0 - B 08:20 A 08:30', 'g2 G 1 V B 08:21 C 08:30',
         )
         self.assertEqual(changes, [])
 
-    def test_changes_are_made_between_the_stops_of_a_station_as_transfers_say(self):
+    def test_changes_are_made_between_the_stops_of_a_station_as_transfers_say(self) -> None:
         trips = ['r1 R 0 - A 08:00 B1 08:10', 'g1 G 0 - B2 08:14 C 08:30', 'g2 G 0 - B3 08:16 C 08:30']
         stops = ['A,Ahl,', 'B,Boll,', 'B1,Boll 1,B', 'B2,Boll 2,B', 'B3,Boll 3,B', 'C,Calm,']
         files = {'stops.txt': [SMALL['stops.txt'][0], *stops]}
         heading = 'from_stop_id,to_stop_id,transfer_type,min_transfer_time,from_trip_id'
 
-        def with_transfers(*lines):
+        def with_transfers(*lines: str) -> tuple[list[tuple[str, str, int]], str]:
             return self.changes([], *trips, **files, **{'transfers.txt': [heading, *lines]})
         self.assertEqual(with_transfers()[0], [('r1 B1', 'g1 B2', 180)])
         self.assertEqual(with_transfers('B1,B2,2,300,')[0], [('r1 B1', 'g2 B3', 180)])
@@ -217,15 +222,15 @@ class Activities(InNetwork):
         changes, _ = with_transfers('B1,B2,2,900,r1', 'A,C,2,100,')
         self.assertEqual(changes, [('r1 B1', 'g2 B3', 180)])
 
-    def test_nobody_changes_where_passengers_may_not_leave_or_board(self):
+    def test_nobody_changes_where_passengers_may_not_leave_or_board(self) -> None:
         files = trips_and_times('r1 R 0 - A 08:00 B 08:10', 'g1 G 0 - B 08:20 C 08:30')
+        heading, *calls = lines_in(files, 'stop_times.txt')
         for column, trip in ('drop_off_type', 'r1'), ('pickup_type', 'g1'):
-            heading, *lines = files['stop_times.txt']
-            lines = [f'{line},{int(line.startswith(trip))}' for line in lines]
+            lines = [f'{line},{int(line.startswith(trip))}' for line in calls]
             net, _ = self.made({**files, 'stop_times.txt': [f'{heading},{column}', *lines]})
             self.assertEqual(self.activities(net, 'change'), [])
 
-    def test_trains_that_would_wait_for_each_other_do_not(self):
+    def test_trains_that_would_wait_for_each_other_do_not(self) -> None:
         changes, said = self.changes(
             ['--change=0'], 'r1 R 0 - A 08:00 B 08:10 D 08:10 C 08:10 A 08:20',
             'g1 G 0 - A 08:00 C 08:10 E 08:10 B 08:10 F 08:20',
@@ -234,7 +239,7 @@ class Activities(InNetwork):
         self.assertEqual(len(changes), 2)
         self.assertIn('left out: changes without time between trains that would wait for each other: 1', said)
 
-    def test_headways_are_pairs_of_trains_that_follow_each_other(self):
+    def test_headways_are_pairs_of_trains_that_follow_each_other(self) -> None:
         trips = [
             'r1 R 0 - A 08:00 B 08:10', 'g1 G 0 - A 08:01 B 08:09', 'r2 R 0 - A 08:30 B 08:40', 'g2 G 0 - A 08:30 B 08:40',
             'r3 R 1 - B 08:02 A 08:12',
@@ -251,7 +256,7 @@ class Activities(InNetwork):
 
 
 class LargeFeeds(InNetwork):
-    def test_two_thousand_trips_take_less_than_ten_seconds_and_meet_their_own_bounds(self):
+    def test_two_thousand_trips_take_less_than_ten_seconds_and_meet_their_own_bounds(self) -> None:
         feed = write_feed(os.path.join(self.folder, 'feed'), large_feed(2000))
         archive = zipped(feed, os.path.join(self.folder, 'feed.zip'))
         began = time.process_time()
@@ -262,11 +267,11 @@ class LargeFeeds(InNetwork):
         kinds = Counter(activity.kind for activity in net.activities)
         self.assertEqual(len(net.events), 2000 * 38)
         self.assertTrue(all(kinds[kind] > 1000 for kind in ('drive', 'wait', 'turnaround', 'change', 'headway')), kinds)
-        times = times_of(net, Rows(net))
+        times = sound_times(net, Rows(net))
         self.assertEqual(times, [event.time for event in net.events])
         self.assertEqual(cost_of(net, Rows(net), times, 3600), 0)
 
-    def test_too_many_events_are_refused(self):
+    def test_too_many_events_are_refused(self) -> None:
         every_second = ['trip_id,start_time,end_time,headway_secs', 'r1,00:00:00,24:00:00,1']
         feed = write_feed(os.path.join(self.folder, 'feed'), {**SMALL, 'frequencies.txt': every_second})
         status, said = self.call(from_gtfs, feed, DATE, self.net)
@@ -277,7 +282,7 @@ class LargeFeeds(InNetwork):
         self.assertEqual(status, 0, said)
         self.assertEqual(len(read_trains(self.net)), 2401)
 
-    def test_too_many_activities_are_refused(self):
+    def test_too_many_activities_are_refused(self) -> None:
         feed = write_feed(os.path.join(self.folder, 'feed'), SMALL)
         with mock.patch('from_gtfs.PROGRAM', Limits(activities=2)):
             status, said = self.call(from_gtfs, feed, DATE, self.net)
@@ -287,7 +292,7 @@ class LargeFeeds(InNetwork):
 
 
 # What makes the small feed a broken one: its files, what is said, and options.
-BROKEN = [
+BROKEN: list[tuple[dict[str, File], str]] = [
     ({'stops.txt': None}, 'stops.txt: there is no such file'),
     ({'stops.txt': ['stop_name', 'Ahl']}, 'stops.txt, line 1: there is no column stop_id'),
     ({'stops.txt': ['stop_id,stop_id', 'A,A']}, 'stops.txt, line 1: column stop_id stands twice'),
@@ -326,7 +331,7 @@ BROKEN_CALLS = [
     ('r1,,,B,0', 'column arrival_time: the first and the last stop of a trip need a time'),
 ]
 
-BROKEN_WORDS = [
+BROKEN_WORDS: list[tuple[str, list[str], str]] = [
     ('20261301', [], 'argument DATE: "20261301" is no date'), (DATE, ['--reserve=101%'], '"101%" is no share from 0% to 100%'),
     (DATE, ['--headway=0'], '"0" is no whole number from 1 to 1000000'), (DATE, ['--types=trains'], '"trains" is neither all'),
     (DATE, ['--from=8'], '"8" is no time, as 06:30'), (DATE, ['--routes=Blue'], 'has no route Blue'),
@@ -336,45 +341,45 @@ BROKEN_WORDS = [
 
 
 class BrokenFeeds(InNetwork):
-    def refused(self, feed, what, *options, date=DATE):
+    def refused(self, feed: str, what: str, *options: str, date: str = DATE) -> None:
         status, said = self.call(from_gtfs, feed, date, self.net, *options)
         self.assertEqual(status, 2)
         self.assertIn(what, said)
         self.assertFalse(os.path.exists(self.net))
 
-    def test_are_told_by_file_line_and_column(self):
+    def test_are_told_by_file_line_and_column(self) -> None:
         for number, (files, what) in enumerate(BROKEN):
             with self.subTest(what):
                 self.refused(write_feed(os.path.join(self.folder, str(number)), {**SMALL, **files}), what)
 
-    def test_are_told_by_the_line_of_a_call(self):
+    def test_are_told_by_the_line_of_a_call(self) -> None:
         heading, first, _, last = SMALL['stop_times.txt']
         for number, (line, what) in enumerate(BROKEN_CALLS):
             with self.subTest(what):
-                files = {**SMALL, 'stop_times.txt': [heading, first, line, last]}
+                files: dict[str, File] = {**SMALL, 'stop_times.txt': [heading, first, line, last]}
                 self.refused(write_feed(os.path.join(self.folder, str(number)), files), f'stop_times.txt, line 3: {what}')
 
-    def test_words_are_told(self):
+    def test_words_are_told(self) -> None:
         feed = write_feed(os.path.join(self.folder, 'feed'), SMALL)
         for date, options, what in BROKEN_WORDS:
             with self.subTest(what):
                 self.refused(feed, what, *options, date=date)
 
-    def test_are_told_where_they_cannot_be_read(self):
+    def test_are_told_where_they_cannot_be_read(self) -> None:
         self.refused(os.path.join(self.folder, 'none'), 'none: No such file or directory')
         name = os.path.join(self.folder, 'feed')
         with open(name, 'wb') as file:
             file.write(b'no archive')
         self.refused(name, 'feed: no zip file that can be read (File is not a zip file)')
 
-    def test_leave_what_stood_there(self):
+    def test_leave_what_stood_there(self) -> None:
         self.made({})
         before = {name: read(self.net, name) for name in os.listdir(self.net)}
         feed = write_feed(os.path.join(self.folder, 'broken'), {**SMALL, 'stops.txt': None})
         self.assertEqual(self.call(from_gtfs, feed, DATE, self.net)[0], 2)
         self.assertEqual({name: read(self.net, name) for name in os.listdir(self.net)}, before)
 
-    def test_leave_no_part_where_a_file_cannot_be_written(self):
+    def test_leave_no_part_where_a_file_cannot_be_written(self) -> None:
         os.makedirs(os.path.join(self.net, 'Trains.csv'))
         feed = write_feed(os.path.join(self.folder, 'feed'), SMALL)
         status, said = self.call(from_gtfs, feed, DATE, self.net)
@@ -383,10 +388,10 @@ class BrokenFeeds(InNetwork):
 
 
 class Back(InNetwork):
-    def late(self, net, name):
+    def late(self, net: str, name: str) -> tuple[Any, str]:
         return self.call(to_gtfs, net, name, os.path.join(self.folder, 'late'))
 
-    def test_times_that_hold_are_written(self):
+    def test_times_that_hold_are_written(self) -> None:
         status, said = self.late(network('six_stations'), text('six_stations_planned'))
         self.assertEqual((status, said), (0, ''))
         calls = read(self.folder, 'late', 'stop_times.txt').splitlines()
@@ -403,13 +408,13 @@ class Back(InNetwork):
             'west,RB 2,Elmtal,480,0,480,FA,1', 'back,RE 1,Arnau,45,0,45,DO,1', 'noon,RB 2,Farnsee,0,0,0,EL,1', 'night,N 4,Arnau,120,0,120,DO,1',
         ])
 
-    def test_times_of_the_timetable_come_back_from_a_day_on_time(self):
+    def test_times_of_the_timetable_come_back_from_a_day_on_time(self) -> None:
         _, said = self.made({})
         write_feed(os.path.join(self.folder, 'run'), {'text': lines_of_run(read_network(self.net))})
         self.assertEqual(self.late(self.net, os.path.join(self.folder, 'run', 'text')), (0, ''))
         self.assertEqual(read(self.folder, 'late', 'stop_times.txt').splitlines(), SMALL['stop_times.txt'])
 
-    def test_a_bad_text_is_told_and_nothing_is_written(self):
+    def test_a_bad_text_is_told_and_nothing_is_written(self) -> None:
         status, said = self.late(network('six_stations'), text('late_first_train'))
         self.assertEqual(status, 2)
         self.assertRegex(said, r'^to_gtfs: .*late_first_train/text, line 17: this is no text of a run over the network \(form\)\n$')

@@ -1,9 +1,13 @@
 """Networks of LinTim's files: expanded ones in the program's form, and periodic ones rolled out."""
+from __future__ import annotations
+
 import os
 import unittest
+from typing import Mapping
 
 from feeds import write_feed
 from folders import InFolder, read
+from feeds import File
 
 import from_lintim
 from names import read_stops
@@ -32,7 +36,7 @@ PERIODIC = {
     ],
     'Timetable-periodic.tim': ['# event-index; time', '1; 0', '2; 10', '3; 12', '4; 20', '5; 15', '6; 25'],
 }
-BROKEN = [
+BROKEN: list[tuple[dict[str, File], str]] = [
     ({'Events-expanded.giv': [EVENTS[0], '1; 7; "departure"; -1; 0; 4']}, 'line 2: column time: "-1" is no number from 0'),
     ({'Events-expanded.giv': [EVENTS[0], '1; 7; "departure"; 1; NaN; 4']}, 'line 2: column weight: "NaN" is no number from 0'),
     ({'Events-expanded.giv': [EVENTS[0], '1; 7; "departure"; 1; 1E7; 4']}, 'line 2: column weight: 1E7 is above 1000000'),
@@ -45,10 +49,10 @@ BROKEN = [
 
 
 class InLinTim(InFolder):
-    def source(self, files):
+    def source(self, files: Mapping[str, File]) -> str:
         return write_feed(os.path.join(self.folder, f'source{len(os.listdir(self.folder))}'), files)
 
-    def refused(self, files, what, *options):
+    def refused(self, files: Mapping[str, File], what: str, *options: str) -> None:
         status, said = self.call(from_lintim, self.source(files), self.net, *options)
         self.assertEqual(status, 2, said)
         self.assertIn(what, said)
@@ -58,7 +62,7 @@ class InLinTim(InFolder):
 class Expanded(InLinTim):
     FILES = {'Events-expanded.giv': EVENTS, 'Activities-expanded.giv': ACTIVITIES}
 
-    def test_numbers_and_kinds_are_those_of_the_program(self):
+    def test_numbers_and_kinds_are_those_of_the_program(self) -> None:
         delays = {'Event-Delays.giv': ['# ID; delay', '2; 60.2', '3; 10'], 'Activity-Delays.giv': ['# ID; delay', '1; 30', '3; 1']}
         words = ['--event-delays=Event-Delays.giv', '--activity-delays=Activity-Delays.giv']
         status, said = self.call(from_lintim, self.source({**self.FILES, **delays}), self.net, *words)
@@ -82,7 +86,7 @@ class Expanded(InLinTim):
             'besides: times that are no whole seconds, rounded: 1',
         ])
 
-    def test_columns_stand_as_the_first_line_says_or_in_the_usual_order(self):
+    def test_columns_stand_as_the_first_line_says_or_in_the_usual_order(self) -> None:
         network = []
         for events in (
             ['# type; event-id; passengers; what; time', 'departure; 1; 0; x; 5', 'ARRIVAL; 2; 3; x; 6'],
@@ -94,13 +98,13 @@ class Expanded(InLinTim):
         self.assertEqual(network[0][1], (2, 'arrival', 6, 3000, 0))
         self.assertEqual(network, [network[0]] * 3)
 
-    def test_names_of_stops_are_taken_along(self):
+    def test_names_of_stops_are_taken_along(self) -> None:
         stops = ['# stop-id; short-name; long-name; x-coordinate; y-coordinate', '4; "A"; "Ärn"; 1.0; 2.0', '5; "B"; ""; 1.0; 2.0']
         source = self.source({**self.FILES, 'Stop.giv': stops})
         self.assertEqual(self.call(from_lintim, source, self.net, f'--stops={source}/Stop.giv')[0], 0)
         self.assertEqual(read_stops(self.net), {4: 'Ärn', 5: 'B'})
 
-    def test_broken_files_are_told_by_line_and_column(self):
+    def test_broken_files_are_told_by_line_and_column(self) -> None:
         for files, what in BROKEN:
             with self.subTest(what):
                 self.refused({**self.FILES, **files}, what)
@@ -109,7 +113,7 @@ class Expanded(InLinTim):
 class Periodic(InLinTim):
     WORDS = ['--period=60', '--from=08:00', '--to=09:30']
 
-    def test_each_period_has_its_events_and_activities(self):
+    def test_each_period_has_its_events_and_activities(self) -> None:
         status, said = self.call(from_lintim, self.source(PERIODIC), self.net, *self.WORDS)
         self.assertEqual(status, 0, said)
         network = read_network(self.net)
@@ -132,11 +136,11 @@ class Periodic(InLinTim):
             'besides: activities above their upper bound: 2',
         ])
 
-    def test_words_belong_together(self):
+    def test_words_belong_together(self) -> None:
         self.refused(PERIODIC, '--period, --from and --to belong together', '--period=60')
         self.refused(PERIODIC, 'delays are of expanded files', *self.WORDS, '--event-delays=x')
 
-    def test_broken_files_are_told(self):
+    def test_broken_files_are_told(self) -> None:
         lines = PERIODIC['Timetable-periodic.tim']
         what = 'Events-periodic.giv, line 3: column id: Timetable-periodic.tim has no event 2'
         self.refused({**PERIODIC, 'Timetable-periodic.tim': [*lines[:2], *lines[3:]]}, what, *self.WORDS)

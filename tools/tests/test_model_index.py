@@ -1,4 +1,6 @@
 """The index of names: where each is defined, and what is told of names that are not."""
+from __future__ import annotations
+
 import contextlib
 import io
 import os
@@ -22,7 +24,7 @@ A `Desk` answers.
 
 
 class Index(InFolder):
-    def setUp(self):
+    def setUp(self) -> None:
         super().setUp()
         for name, text in (
             ('docs/MODEL.md', PAGE), ('crates/dm_graph/specs/Arcs.antt', 'pub record Arcs : Type 0 where\nabbrev pub meets : Arcs → Bool\n'),
@@ -32,19 +34,19 @@ class Index(InFolder):
         ):
             self.write(name, text)
 
-    def write(self, name, text):
+    def write(self, name: str, text: str) -> None:
         path = os.path.join(self.folder, name)
         os.makedirs(os.path.dirname(path), exist_ok=True)
         with open(path, 'w', encoding='utf-8') as file:
             file.write(text)
 
-    def made(self, *words):
+    def made(self, *words: str) -> tuple[int, str]:
         """The status of the script, and what it says on standard error."""
         said = io.StringIO()
         with contextlib.redirect_stderr(said):
             return model_index.main([*words, '--repository', self.folder]), said.getvalue()
 
-    def test_index(self):
+    def test_index(self) -> None:
         self.assertEqual(self.made('--check')[0], 1)
         self.assertEqual(self.made(), (0, ''))
         page = read(self.folder, 'docs', 'MODEL.md')
@@ -54,7 +56,7 @@ class Index(InFolder):
             self.assertIn(f'\n{entry}\n', page)
         self.assertEqual(self.made('--check'), (0, ''))
 
-    def test_names_that_are_nowhere(self):
+    def test_names_that_are_nowhere(self) -> None:
         self.write('docs/MODEL.md', PAGE.replace('`meets`', '`misses`').replace('specs/Arcs', 'specs/Graph'))
         status, said = self.made()
         self.assertEqual(status, 1)

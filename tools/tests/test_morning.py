@@ -1,4 +1,6 @@
 """A morning with GTFS-Realtime in and out: the simulator's own rules, and the updates of the six stations."""
+from __future__ import annotations
+
 import glob
 import os
 import shutil
@@ -6,6 +8,7 @@ import subprocess
 import sys
 import tempfile
 import unittest
+from typing import Any
 
 from feeds import DATE, EXAMPLE, SHIPPED
 from folders import InFolder, read
@@ -17,32 +20,35 @@ import from_gtfs  # noqa: E402
 import gtfs_rt_in  # noqa: E402
 import morning  # noqa: E402
 from giv import read_network  # noqa: E402
-from railway import Rows, admit, cost_of, times_of  # noqa: E402
+from network import Network  # noqa: E402
+from railway import Rows, admit, cost_of, sound_times  # noqa: E402
 from runtext import heard  # noqa: E402
 
 HAS_PROTOC = unittest.skipUnless(shutil.which('protoc'), 'protoc (protobuf-compiler of Debian) is not here')
 
 
-def rows_after(net, feed):
+def rows_after(net: Network, feed: str) -> tuple[Any, Rows]:
     """The messages of a feed and the rows after them, by the second reading of the rules; none is refused."""
     rows, messages = Rows(net), [heard(line) for line in read(feed).splitlines()]
     for count, message in enumerate(messages):
-        refusal, rows = admit(net, rows, count, message)
-        assert refusal is None, (message, refusal)
+        assert message is not None
+        refusal, after = admit(net, rows, count, message)
+        assert refusal is None and after is not None, (message, refusal)
+        rows = after
     return messages, rows
 
 
-def answer(folder, feed, text):
+def answer(folder: str, feed: str, text: str) -> None:
     """Writes the text of a run of a feed without the program."""
     net = read_network(folder)
     messages, rows = rows_after(net, feed)
-    times = times_of(net, rows)
+    times = sound_times(net, rows)
     with open(text, 'w', encoding='ascii') as file:
         file.writelines(f'{line}\n' for line in lines_of_run(net, messages, times, cost_of(net, rows, times, 0)))
 
 
 class Simulator(unittest.TestCase):
-    def test_world_waits_and_gives_up(self):
+    def test_world_waits_and_gives_up(self) -> None:
         """Two trains that meet: the one that leaves waits, by the bound of the change, and no longer than it has patience."""
         late, other = morning.Event('x', 1, 'arrival'), morning.Event('y', 0, 'departure')
         trains = [
@@ -64,7 +70,7 @@ class Simulator(unittest.TestCase):
         self.assertEqual(world.known()[late], 2200)
 
     @HAS_PROTOC
-    def test_what_comes_out_is_what_it_expects(self):
+    def test_what_comes_out_is_what_it_expects(self) -> None:
         world, timetable = morning.world_of(1)
         with tempfile.TemporaryDirectory() as folder:
             come = morning.played(answer, world, timetable, folder, 8 * 3600, 1200)
@@ -73,10 +79,10 @@ class Simulator(unittest.TestCase):
         self.assertTrue(any(line.startswith('delay event') for line in come.lines))
 
     @HAS_PROTOC
-    def test_what_differs_is_told(self):
+    def test_what_differs_is_told(self) -> None:
         world, timetable = morning.world_of(1)
 
-        def forgets(folder, feed, text):
+        def forgets(folder: str, feed: str, text: str) -> None:
             lines = [line for line in read(feed).splitlines() if not line.startswith('delay')]
             with open(feed, 'w', encoding='ascii') as file:
                 file.writelines(f'{line}\n' for line in lines)
@@ -102,7 +108,7 @@ class SixStations(InFolder):
     }
 
     @HAS_PROTOC
-    def test_say_what_is_new(self):
+    def test_say_what_is_new(self) -> None:
         self.call(from_gtfs, SHIPPED, DATE, self.net)
         net, feed, count = read_network(self.net), os.path.join(self.folder, 'feed'), 0
         for name in sorted(glob.glob(os.path.join(EXAMPLE, 'updates', '*.txt'))):
@@ -114,7 +120,7 @@ class SixStations(InFolder):
             self.assertEqual(self.call(gtfs_rt_in, self.net, feed, message), (0, ''))
             lines = read(feed).splitlines()[count:]
             self.assertEqual((sorted(lines), lines[-1]), (sorted(self.DUE[told].split('|')), self.DUE[told].split('|')[-1]))
-            times = dict(zip((event.id for event in net.events), times_of(net, rows_after(net, feed)[1])))
+            times = dict(zip((event.id for event in net.events), sound_times(net, rows_after(net, feed)[1])))
             if told == '0850':
                 # S 3 keeps two minutes behind RE 1, and RB 2 waits for RE 1's way back: 9:08:45 + 5:00 + 16:45 + 4:00.
                 self.assertEqual((times[13], times[23], times[21]), (32040, 33225, 34470))
@@ -122,7 +128,7 @@ class SixStations(InFolder):
                 self.assertEqual(times[25], 34365 + 240)
                 with open(feed, 'a', encoding='ascii') as file:
                     file.write('drop 36\n')
-                self.assertEqual(times_of(net, rows_after(net, feed)[1])[24], 34260)
+                self.assertEqual(sound_times(net, rows_after(net, feed)[1])[24], 34260)
             count = len(read(feed).splitlines())
 
 

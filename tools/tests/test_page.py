@@ -1,10 +1,13 @@
 """The page of a day in a browser: no name runs as a script, and all of it is reached by wheel, keys and search."""
+from __future__ import annotations
+
 import json
 import os
 import shutil
 import tempfile
 import time
 import unittest
+from typing import Any, ClassVar
 
 from browser import CHROMIUM, MISSING, Browser
 from hostile import HOSTILE
@@ -20,7 +23,7 @@ DAY = os.path.join(CASES, 'networks', 'forty_trains', 'net')
 DAY_TEXT = os.path.join(CASES, 'runs', 'text_of_two_control_rooms', 't')
 
 
-def ten_lines():
+def ten_lines() -> Network:
     """A network of a line for each of ten trains, of eight of which two trains run."""
     events, activities = [], []
     for train in range(18):
@@ -33,15 +36,18 @@ def ten_lines():
 
 @unittest.skipUnless(CHROMIUM, MISSING)
 class InBrowser(unittest.TestCase):
+    browser: ClassVar[Browser]
+    folder: ClassVar[str]
+
     @classmethod
-    def setUpClass(cls):
+    def setUpClass(cls) -> None:
         cls.browser = Browser()
         cls.addClassCleanup(cls.browser.close)
         folder = tempfile.TemporaryDirectory()
         cls.addClassCleanup(folder.cleanup)
         cls.folder = folder.name
 
-    def written(self, name, files):
+    def written(self, name: str, files: Any) -> str:
         """A folder with files."""
         folder = os.path.join(self.folder, name)
         os.makedirs(folder, exist_ok=True)
@@ -50,20 +56,20 @@ class InBrowser(unittest.TestCase):
                 into.write(said)
         return folder
 
-    def show(self, net, name):
+    def show(self, net: str, name: str) -> None:
         """Opens the page of a run."""
         html = os.path.join(self.folder, 'page.html')
         with open(html, 'w', encoding='utf-8', newline='') as file:
             file.write(page(read_scene(net, name)))
         self.browser.open(html)
 
-    def find(self, wanted):
+    def find(self, wanted: str) -> Any:
         """What the page says of what is looked for."""
         return self.browser.value(
             f"wanted.value = {json.dumps(wanted)}; document.getElementById('find').requestSubmit(); document.getElementById('found').textContent"
         )
 
-    def until(self, expression):
+    def until(self, expression: str) -> None:
         """Waits for an expression to hold."""
         end = time.monotonic() + 60
         while not self.browser.value(expression):
@@ -72,7 +78,7 @@ class InBrowser(unittest.TestCase):
 
 
 class Names(InBrowser):
-    def test_none_runs_and_all_are_shown(self):
+    def test_none_runs_and_all_are_shown(self) -> None:
         net = self.written('hostile', {
             'Stops.csv': in_print(['id', 'name'], enumerate(HOSTILE, 1)),
             'Trains.csv': in_print(['event', 'name', 'trip'], ((20 * place + 1, name, name) for place, name in enumerate(HOSTILE))),
@@ -91,7 +97,7 @@ class Names(InBrowser):
         self.assertEqual(self.browser.value(counts), [0, 2, 8, 9])
         self.assertEqual(self.browser.value('typeof hurt'), 'undefined')
 
-    def test_the_policy_stops_handlers_and_scripts_that_stand_in_a_page(self):
+    def test_the_policy_stops_handlers_and_scripts_that_stand_in_a_page(self) -> None:
         self.show(network('connection'), text('plan_that_is_adopted'))
         self.browser.value('''
             window.hurt = () => { window.isHurt = true; };
@@ -107,7 +113,7 @@ class Names(InBrowser):
         self.assertEqual(self.browser.value("['script-src-elem', 'script-src-attr', 'img-src'].filter(kind => !stopped.includes(kind))"), [])
         self.assertFalse(self.browser.value('!!window.isHurt'))
 
-    def test_styles_and_script_of_the_page_are_let_in(self):
+    def test_styles_and_script_of_the_page_are_let_in(self) -> None:
         self.show(network('connection'), text('plan_that_is_adopted'))
         styles = "[getComputedStyle(document.body).maxWidth, getComputedStyle(document.querySelector('.run')).strokeWidth]"
         self.assertEqual(self.browser.value(styles), ['1500px', '2px'])
@@ -115,7 +121,7 @@ class Names(InBrowser):
 
 
 class Reach(InBrowser):
-    def test_wheel_scrolls_the_page_and_zooms_with_control(self):
+    def test_wheel_scrolls_the_page_and_zooms_with_control(self) -> None:
         self.show(DAY, DAY_TEXT)
         box = "document.querySelector('.line svg').getAttribute('viewBox')"
         before = self.browser.value(box)
@@ -126,7 +132,7 @@ class Reach(InBrowser):
         self.browser.wheel(x, y, -120, ctrl=True)
         self.until(f'{box} !== {before!r}')
 
-    def test_trains_are_reached_by_keys(self):
+    def test_trains_are_reached_by_keys(self) -> None:
         self.show(DAY, DAY_TEXT)
         for _ in range(12):
             if self.browser.value("document.activeElement.id === 'view'"):
@@ -141,20 +147,20 @@ class Reach(InBrowser):
         self.assertNotEqual(reached[0], reached[1])
         self.assertEqual(self.browser.value("document.getElementById('trains').value"), reached[2][0])
 
-    def test_heads_of_tables_have_a_scope(self):
+    def test_heads_of_tables_have_a_scope(self) -> None:
         self.show(DAY, DAY_TEXT)
         heads = "[...document.querySelectorAll('th')].filter(head => head.scope !== (head.closest('thead') ? 'col' : 'row')).length"
         self.assertEqual(self.browser.value(heads), 0)
         self.assertGreater(self.browser.value("document.querySelectorAll('#board th').length"), 6)
 
-    def test_trains_are_found_by_trip(self):
+    def test_trains_are_found_by_trip(self) -> None:
         self.show(network('six_stations'), text('six_stations_planned'))
         for wanted in ('west', 'trip west', 'RB 2 09:08'):
             self.assertIn('RB 2 09:08 (trip west): Farnsee', self.find(wanted))
         self.assertEqual(self.find('trip nowhere'), 'Nothing is called “trip nowhere”.')
         self.assertEqual(self.browser.value("document.querySelector('#run caption').textContent"), 'RB 2 09:08, trip west')
 
-    def test_trains_that_are_not_drawn_are_found_and_told(self):
+    def test_trains_that_are_not_drawn_are_found_and_told(self) -> None:
         net = ten_lines()
         files = network_files(net.events, net.activities)
         folder = self.written('ten', {**files, 'text': '\n'.join([*lines_of_run(net), '']), 'Trains.csv': '17;East 9;e9\n'})
@@ -168,7 +174,7 @@ class Reach(InBrowser):
                          'It runs on no line that is drawn.')
         self.assertEqual(self.browser.value("[...document.querySelectorAll('#run tbody th')].map(head => head.textContent)"), ['17', '18'])
 
-    def test_a_network_without_events_has_a_page(self):
+    def test_a_network_without_events_has_a_page(self) -> None:
         net = Network([], [])
         folder = self.written('empty', {**network_files([], []), 'text': '\n'.join([*lines_of_run(net), ''])})
         self.show(folder, os.path.join(folder, 'text'))

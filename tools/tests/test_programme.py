@@ -1,12 +1,16 @@
 """Programmes of choices: their least objective is the least cost, and a solution comes back as lines that nothing refuses."""
+from __future__ import annotations
+
 import contextlib
 import io
 import os
 import shutil
 import subprocess
 import unittest
+from types import ModuleType
 from itertools import product
 from random import Random
+from typing import Callable, Iterator, Optional, Sequence
 
 from drawn import drawn_network, drawn_rows
 from folders import InFolder
@@ -15,8 +19,8 @@ from samples import network, text
 import from_sol
 import to_mps
 from decide import in_turn
-from programme import Posed, Window, lp_text, mps_text, programme_of
-from railway import admit, cost_of, free_choices, times_of, ways_of, with_decisions
+from programme import Posed, Programme, Window, lp_text, mps_text, programme_of
+from railway import Decision, admit, cost_of, free_choices, sound_times, times_of, ways_of, with_decisions
 from solution import decisions_of, read_solution
 
 CBC = '''Optimal - objective value 188.00000000
@@ -46,14 +50,14 @@ Integer feasibility conditions:
 '''
 
 
-def variable_of(decision):
+def variable_of(decision: Decision) -> tuple[str, int]:
     """The variable of a decision, and its value."""
     if decision[0] == 'first':
         return 'first_{}_{}'.format(*sorted(decision[1:])), int(decision[1] < decision[2])
     return f'drop_{decision[1]}', int(decision[0] == 'drop')
 
 
-def value_at(programme, decisions):
+def value_at(programme: Programme, decisions: Sequence[Decision]) -> Optional[int]:
     """The least objective of a programme whose choices are decided so, or None where there is none: constraints in rounds."""
     values = {variable.name: variable.least for variable in programme.variables} | {'constant': 1}
     most = {variable.name: variable.most for variable in programme.variables} | {'constant': 1}
@@ -79,7 +83,7 @@ def value_at(programme, decisions):
     return programme.constant + sum(variable.cost * values[variable.name] for variable in programme.variables)
 
 
-def all_costs(problem):
+def all_costs(problem: Posed) -> Iterator[tuple[tuple[Decision, ...], Optional[int]]]:
     """What each list of choices costs, or None where it has a cycle."""
     net, rows = problem.network, problem.rows
     for decisions in product(*map(ways_of, problem.free)):
@@ -88,28 +92,28 @@ def all_costs(problem):
         yield decisions, None if times is None else cost_of(net, after, times, problem.penalty)
 
 
-def is_settled_so(programme, decisions):
+def is_settled_so(programme: Programme, decisions: Sequence[Decision]) -> bool:
     """Whether decisions are those of the variables that are fixed."""
     fixed = {variable.name: variable.least for variable in programme.variables if variable.least == variable.most}
     return all(fixed.get(name, wanted) == wanted for name, wanted in map(variable_of, decisions))
 
 
 class Exact(unittest.TestCase):
-    def is_exact(self, problem):
+    def is_exact(self, problem: Posed) -> None:
         """Choices cost what they do in the programme, up to what the rows cost; what is settled in it leaves out none that is best."""
         programme = programme_of(problem)
-        costs = {}
+        costs: dict[tuple[Decision, ...], int] = {}
         for decisions, cost in all_costs(problem):
             value = value_at(programme, decisions)
             if value is not None:
                 self.assertEqual(value * programme.unit, cost, decisions)
-                costs[decisions] = cost
+                costs[decisions] = value * programme.unit
             elif is_settled_so(programme, decisions):
                 self.assertTrue(cost is None or cost > problem.cost, decisions)
         least = min(cost for _, cost in all_costs(problem) if cost is not None)
         self.assertEqual(min(costs.values()), least)
 
-    def test_drawn_days(self):
+    def test_drawn_days(self) -> None:
         for number in range(40):
             draws = Random(number)
             net = drawn_network(draws)
@@ -117,7 +121,7 @@ class Exact(unittest.TestCase):
             if len(free_choices(net, rows)) <= 9:
                 self.is_exact(Posed(net, rows, draws.choice((0, 7, 100))))
 
-    def test_windows(self):
+    def test_windows(self) -> None:
         for number in range(20):
             draws = Random(number)
             net = drawn_network(draws)
@@ -125,7 +129,7 @@ class Exact(unittest.TestCase):
 
 
 class Turns(unittest.TestCase):
-    def test_no_line_is_refused(self):
+    def test_no_line_is_refused(self) -> None:
         for number in range(60):
             draws = Random(number)
             net = drawn_network(draws, trains=5)
@@ -136,28 +140,30 @@ class Turns(unittest.TestCase):
                 continue
             now = rows
             for count, decision in enumerate(in_turn(net, rows, decisions)):
-                refusal, now = admit(net, now, count, decision)
+                refusal, then = admit(net, now, count, decision)
                 self.assertIsNone(refusal)
+                assert then is not None
+                now = then
             self.assertEqual(vars(now), vars(after))
 
 
 class Scripts(InFolder):
-    def said(self, script, *words):
+    def said(self, script: ModuleType, *words: str) -> str:
         out = io.StringIO()
         with contextlib.redirect_stdout(out):
             self.assertEqual(self.call(script, *words), (None, ''))
         return out.getvalue()
 
-    def written(self, name, lines):
+    def written(self, name: str, lines: str) -> str:
         path = os.path.join(self.folder, name)
         with open(path, 'w', encoding='ascii') as file:
             file.write(lines)
         return path
 
-    def rows(self, name='late_first_train'):
+    def rows(self, name: str = 'late_first_train') -> tuple[str, str]:
         return network('connection'), text(name)
 
-    def test_programme_in_print(self):
+    def test_programme_in_print(self) -> None:
         mps = self.said(to_mps, *self.rows())
         self.assertIn('* the least cost is 5000 times the least objective', mps.splitlines())
         self.assertIn(' drop_5 change_5 40', mps.splitlines())
@@ -165,18 +171,18 @@ class Scripts(InFolder):
         self.assertIn(' change_5: + 1 late_5 + 40 drop_5 >= 40', lp.splitlines())
         self.assertNotEqual(self.said(to_mps, *self.rows(), '--at=0'), mps)
 
-    def test_solutions_in_both_forms(self):
+    def test_solutions_in_both_forms(self) -> None:
         for name, lines in (('cbc', CBC), ('glpk', GLPK.replace('_that_is_long', ''))):
             solution = self.written(name, lines)
             self.assertEqual(self.said(from_sol, *self.rows(), solution), 'drop 5\nfirst 5 3\n')
             self.assertEqual(self.said(from_sol, *self.rows(), solution, '--whole'), 'delay event 1 60\ndrop 5\nfirst 5 3\ncost\n')
 
-    def test_journal_with_a_plan_that_was_adopted(self):
+    def test_journal_with_a_plan_that_was_adopted(self) -> None:
         solution = self.written('solution', CBC)
         self.assertEqual(self.said(from_sol, *self.rows('plan_that_is_adopted'), solution, '--whole'),
                          'delay event 1 60\ndrop 5\nfirst 5 3\ncost\n')
 
-    def test_solutions_that_are_none(self):
+    def test_solutions_that_are_none(self) -> None:
         for lines, what in (
             ('Infeasible - objective value 0.0\n', 'holds no solution'), (CBC.replace('drop_5', 'drop_4'), 'no choice of these'),
             (GLPK, 'no choice of these'), ('nothing\n', 'no solution of CBC or GLPK'), ('', 'no solution of CBC or GLPK'),
@@ -185,14 +191,18 @@ class Scripts(InFolder):
             self.assertEqual(status, 2)
             self.assertIn(what, said)
 
-    def test_entry_that_is_not_there(self):
+    def test_entry_that_is_not_there(self) -> None:
         self.assertEqual(self.call(to_mps, *self.rows(), '--at=2')[0], 2)
+
+
+# The words of a solver, by the name of its programme, the form, and the name of its solution.
+Command = Callable[[str, str, str], list[str]]
 
 
 class Solvers(InFolder):
     """The least objective by real solvers, where they are there."""
 
-    def solved(self, command, programme, form):
+    def solved(self, command: Command, programme: Programme, form: str) -> str:
         name, solution = os.path.join(self.folder, 'p.' + form), os.path.join(self.folder, 'solution')
         with open(name, 'w', encoding='ascii') as file:
             file.write((lp_text if form == 'lp' else mps_text)(programme))
@@ -200,7 +210,7 @@ class Solvers(InFolder):
         self.assertEqual(done.returncode, 0, done.stdout)
         return solution
 
-    def agree(self, program, command):
+    def agree(self, program: str, command: Command) -> None:
         if shutil.which(program) is None:
             self.skipTest(f'{program} is not there')
         for number in range(4):
@@ -212,15 +222,15 @@ class Solvers(InFolder):
             for form in ('mps', 'lp'):
                 name = self.solved(command, programme, form)
                 solution = read_solution(name)
-                self.assertEqual(round(float(solution.objective)) * programme.unit, least)
+                self.assertEqual(round(float(solution.objective or 'nan')) * programme.unit, least)
                 choices = decisions_of(name, solution, free_choices(net, problem.rows))
                 after = with_decisions(net, problem.rows, choices)
-                self.assertEqual(cost_of(net, after, times_of(net, after), 20), least)
+                self.assertEqual(cost_of(net, after, sound_times(net, after), 20), least)
 
-    def test_cbc(self):
+    def test_cbc(self) -> None:
         self.agree('cbc', lambda name, form, out: ['cbc', name, '-solve', '-solu', out])
 
-    def test_glpk(self):
+    def test_glpk(self) -> None:
         self.agree('glpsol', lambda name, form, out: ['glpsol', '--lp' if form == 'lp' else '--freemps', name, '-o', out])
 
 

@@ -1,4 +1,6 @@
 """Networks cut into regions: nothing is lost, and relays that have come to rest give the times of the whole."""
+from __future__ import annotations
+
 import contextlib
 import io
 import os
@@ -8,6 +10,7 @@ import sys
 import tempfile
 import unittest
 from unittest import mock
+from typing import Any, Iterator
 
 from feeds import DATE, SMALL, write_feed
 from folders import InFolder, read
@@ -21,37 +24,37 @@ from names import read_events, read_stops, read_trains
 from files import BadFile
 from giv import read_network
 from network import Network
-from railway import Rows, apply, times_of
+from railway import Message, Rows, apply, sound_times
 from relay import Relay, read_boundary
 from split import Cut, boundary_text, parts_of, regions_of, split
 
 MIDDLES = {11 * line + 6 for line in range(8)}
 
 
-def day():
+def day() -> Network:
     return read_network(os.path.join(CASES, 'networks', 'forty_trains', 'net'))
 
 
 class Server:
     """A region's rows and times, as a server keeps them, and the relay that tells it what its neighbours' boards show."""
 
-    def __init__(self, number, regions):
+    def __init__(self, number: int, regions: Any) -> None:
         self.network = Network(regions[number].events, regions[number].activities)
         self.rows = Rows(self.network)
         self.relay = Relay([cut for region in regions.values() for cut in region.cuts if cut.region == number])
-        self.shown = {}
+        self.shown: dict[int, int] = {}
 
-    def hear(self, message):
+    def hear(self, message: Message) -> None:
         apply(self.network, self.rows, message)
 
-    def shows(self):
+    def shows(self) -> Iterator[tuple[int, int]]:
         """The lines of its boards that differ from those shown before."""
-        for event, time in zip(self.network.events, times_of(self.network, self.rows)):
+        for event, time in zip(self.network.events, sound_times(self.network, self.rows)):
             if event.stop in MIDDLES and self.shown.get(event.id) != time:
                 self.shown[event.id] = time
                 yield event.id, time
 
-    def told(self, lines):
+    def told(self, lines: Any) -> bool:
         """Whether lines of boards move anything here."""
         answers = [answer for line in lines for answer in self.relay.tell([line])]
         for event, delay in answers:
@@ -60,7 +63,7 @@ class Server:
 
 
 class Cuts(unittest.TestCase):
-    def test_sum_of_parts(self):
+    def test_sum_of_parts(self) -> None:
         whole = day()
         for count in (None, 2, 4):
             regions = split(whole, regions_of(whole, parts_of(whole, MIDDLES), count))
@@ -72,12 +75,12 @@ class Cuts(unittest.TestCase):
             self.assertEqual(sorted(cuts), sorted((activity.tail, activity.head) for activity in rest))
             self.assertEqual(len(kept) + len(cuts), len(whole.activities))
 
-    def test_pair_is_never_cut(self):
+    def test_pair_is_never_cut(self) -> None:
         whole = read_network(network('connection'))
         regions = split(whole, regions_of(whole, parts_of(whole, {2}), None))
         self.assertEqual([{6, 7} <= {one.id for one in region.activities} for region in regions.values()].count(True), 1)
 
-    def test_every_number_of_regions_gets_as_many(self):
+    def test_every_number_of_regions_gets_as_many(self) -> None:
         whole = day()
         parts = parts_of(whole, MIDDLES)
         sizes = [1 if place < 700 else part for place, part in enumerate(parts)]
@@ -87,7 +90,7 @@ class Cuts(unittest.TestCase):
             with self.assertRaises(BadFile):
                 regions_of(whole, some, len(set(some)) + 1)
 
-    def test_numbers_of_regions_that_are_none(self):
+    def test_numbers_of_regions_that_are_none(self) -> None:
         folder = os.path.join(CASES, 'networks', 'forty_trains', 'net')
         for number, what in ('0', 'is no whole number from 1'), ('-1', 'no whole number'), ('x', 'no whole number'), ('17', '17 is above 16'):
             words = [sys.executable, os.path.join(TOOLS, 'split.py'), folder, ','.join(map(str, MIDDLES)), '/nowhere/x', '--regions', number]
@@ -95,7 +98,7 @@ class Cuts(unittest.TestCase):
             self.assertEqual((done.returncode, done.stdout), (2, ''))
             self.assertIn(what, done.stderr)
 
-    def test_command(self):
+    def test_command(self) -> None:
         with tempfile.TemporaryDirectory() as folder:
             words = [sys.executable, os.path.join(TOOLS, 'split.py'), os.path.join(CASES, 'networks', 'forty_trains', 'net'),
                      ','.join(map(str, sorted(MIDDLES))), folder, '--regions', '2']
@@ -113,18 +116,18 @@ class Feeds(InFolder):
         'r3 R 1 - E 08:05 D 08:15 C 08:25 B 08:35 A 08:45', 'r4 R 1 - E 08:35 D 08:45 C 08:55 B 09:05 A 09:15', 'g1 G 0 - F 08:10 C 08:28 G 08:50',
     ]
 
-    def setUp(self):
+    def setUp(self) -> None:
         super().setUp()
         stops = [SMALL['stops.txt'][0], *(f'{stop},{stop},' for stop in 'ABCDEFG')]
         self.feed = write_feed(os.path.join(self.folder, 'feed'), {**SMALL, **trips_and_times(*self.TRIPS), 'stops.txt': stops})
 
-    def cut(self, *words):
+    def cut(self, *words: str) -> tuple[int, list[str], str]:
         out = io.StringIO()
         with contextlib.redirect_stdout(out):
             status, said = self.call(split_tool, self.feed, *words)
         return status, out.getvalue().splitlines(), said
 
-    def test_are_cut_as_their_networks_are(self):
+    def test_are_cut_as_their_networks_are(self) -> None:
         self.assertEqual(self.call(from_gtfs, self.feed, DATE, self.net)[0], 0)
         whole, folder = read_network(self.net), os.path.join(self.folder, 'regions')
         status, lines, said = self.cut('C', folder, f'--date={DATE}')
@@ -139,7 +142,7 @@ class Feeds(InFolder):
         self.assertEqual(len(cuts) + sum(len(net.activities) for net in nets), len(whole.activities))
         self.assertIn('stations 7, events 36', said)
 
-    def test_regions_have_names(self):
+    def test_regions_have_names(self) -> None:
         folder = os.path.join(self.folder, 'regions')
         self.assertEqual(self.cut('C', folder, f'--date={DATE}', '--regions=1')[0], 0)
         self.assertEqual(self.call(from_gtfs, self.feed, DATE, self.net)[0], 0)
@@ -155,7 +158,7 @@ class Feeds(InFolder):
                 self.assertEqual([(train.name, train.trip) for train in read_trains(net)], [('Red 08:00', 'r1'), ('Red 08:30', 'r2')])
                 self.assertEqual(sorted(read_stops(net).values()), ['A', 'B', 'C'])
 
-    def test_too_large_ones_are_told_where_to_cut_and_then_are_cut(self):
+    def test_too_large_ones_are_told_where_to_cut_and_then_are_cut(self) -> None:
         with mock.patch('from_gtfs.PROGRAM', Limits(events=20)):
             status, said = self.call(from_gtfs, self.feed, DATE, self.net)
         self.assertEqual(status, 2)
@@ -167,7 +170,7 @@ class Feeds(InFolder):
         self.assertEqual(status, 2)
         self.assertRegex(said, 'split.py: region [0-9] would have [0-9]+ events and .* choose more regions, or more boundary stops')
 
-    def test_words_that_are_wrong_are_told(self):
+    def test_words_that_are_wrong_are_told(self) -> None:
         for words, what in ((['X', 'out', f'--date={DATE}'], 'no train calls at stop X'), (['C', 'out', '--no-headways'], 'unrecognized arguments'),
                             (['C', 'out', '--date=20261301'], 'is no date'), (['C', 'out', f'--date={DATE}', '--regions=9'], '9 is above 6')):
             with self.subTest(words):
@@ -177,7 +180,7 @@ class Feeds(InFolder):
 
 
 class Relays(unittest.TestCase):
-    def settle(self, servers):
+    def settle(self, servers: Any) -> None:
         """Relays until nothing is told any more, at most so many rounds."""
         for _ in range(50):
             lines = [line for server in servers.values() for line in server.shows()]
@@ -185,7 +188,7 @@ class Relays(unittest.TestCase):
                 return
         self.fail('the relays do not come to rest')
 
-    def test_times_of_the_whole(self):
+    def test_times_of_the_whole(self) -> None:
         whole, draws = day(), random.Random(7)
         for count in (2, 4, None):
             regions = split(whole, regions_of(whole, parts_of(whole, MIDDLES), count))
@@ -199,10 +202,10 @@ class Relays(unittest.TestCase):
                     owner = next(server for server in servers.values() if event in server.network.event_place)
                     owner.hear(message)
                 self.settle(servers)
-            due = dict(zip((event.id for event in whole.events), times_of(whole, rows)))
-            came = {}
+            due = dict(zip((event.id for event in whole.events), sound_times(whole, rows)))
+            came: dict[int, int] = {}
             for server in servers.values():
-                came.update(zip((event.id for event in server.network.events), times_of(server.network, server.rows)))
+                came.update(zip((event.id for event in server.network.events), sound_times(server.network, server.rows)))
             self.assertEqual(came, due)
 
 
@@ -210,7 +213,7 @@ CUTS = [Cut(1, 1, 2, 9, 60, 1000), Cut(2, 1, 2, 9, 30, 1000), Cut(3, 3, 2, 10, 0
 
 
 class Lines(unittest.TestCase):
-    def setUp(self):
+    def setUp(self) -> None:
         folder = tempfile.TemporaryDirectory()
         self.addCleanup(folder.cleanup)
         self.table = os.path.join(folder.name, 'Boundary.csv')
@@ -218,37 +221,37 @@ class Lines(unittest.TestCase):
         with open(self.table, 'w', encoding='ascii') as file:
             file.write(boundary_text(CUTS))
 
-    def run_tool(self, lines, *words):
+    def run_tool(self, lines: bytes, *words: str) -> tuple[str, str]:
         """What a tool writes and says that reads these lines."""
         done = subprocess.run([sys.executable, *words], input=lines, capture_output=True)
         self.assertEqual(done.returncode, 0, done.stderr)
         return done.stdout.decode(), done.stderr.decode()
 
-    def relayed(self, lines, *words):
+    def relayed(self, lines: bytes, *words: str) -> tuple[str, str]:
         return self.run_tool(lines, os.path.join(TOOLS, 'relay.py'), self.table, '--region=2', *words)
 
-    def fed(self, lines):
+    def fed(self, lines: bytes) -> str:
         """What stands in the feed after a relay has heard these lines and ended."""
         self.assertEqual(self.relayed(lines, f'--feed={self.feed}'), ('', ''))
         with open(self.feed, encoding='ascii') as file:
             return file.read()
 
-    def test_lines(self):
+    def test_lines(self) -> None:
         out, said = self.relayed(b'1; 950\n1; 950\n2; 1000\n1; 900\n2; 900\n7; 5\n1; 990')
         self.assertEqual((out, said), ('delay event 9 10\ndelay event 9 30\ndelay event 9 0\n', ''))
 
-    def test_lines_of_whole_boards(self):
+    def test_lines_of_whole_boards(self) -> None:
         out, said = self.relayed(b'1; 950, 2; 1000, 3; 1001\n1; 950, 2; 900, 3; 1001\n1; 900, 2; 900, 3; 1001\n')
         self.assertEqual((out, said), ('delay event 9 30\ndelay event 10 1\ndelay event 9 10\ndelay event 9 0\n', ''))
 
-    def test_lines_of_another_form_are_skipped_and_counted(self):
+    def test_lines_of_another_form_are_skipped_and_counted(self) -> None:
         bad = [b'', b'x', b'1;900', b'1; 2; 3', b'1; 950,2; 5', '\u00b2; 950'.encode('latin-1'), b'1; ' + b'9' * 5000, b'\xff', b'1; 950\r']
         out, said = self.relayed(b'\n'.join([*bad, b'1; 950', b'1; ' + b'9' * 5_000_000, b'2; 99999999999', b'2; 1000', b'']))
         self.assertEqual(out, 'delay event 9 10\ndelay event 9 30\n')
         lines = said.splitlines()
         self.assertEqual((lines[0], lines[5:]), ('relay.py: line 1 is skipped: it is no line `event; time`', ['relay.py: lines skipped: 11']))
 
-    def test_a_region_is_believed_for_its_own_events_alone(self):
+    def test_a_region_is_believed_for_its_own_events_alone(self) -> None:
         lines = [b'board/1/6 1; 950, 3; 1500, 77; 5', b'board/3/8 1; 1500, 3; 1007', b'board/2/6 2; 1500']
         lines += [b'1; 1500', b'feed/1/x 1; 1500', b'board/1/6 ', b'']
         out, said = self.relayed(b'\n'.join(lines), '--topics')
@@ -261,12 +264,12 @@ class Lines(unittest.TestCase):
         ])
         self.assertEqual(said.splitlines()[-1], 'relay.py: lines skipped: 6')
 
-    def test_delay_that_is_too_long_is_skipped(self):
+    def test_delay_that_is_too_long_is_skipped(self) -> None:
         out, said = self.relayed(b'1; 99999999999\n1; 950\n')
         self.assertEqual(out, 'delay event 9 10\n')
         self.assertIn('line 1 is skipped: the delay of event 9 would be 99999999059 seconds, and may be 1000000', said)
 
-    def test_table_of_another_form(self):
+    def test_table_of_another_form(self) -> None:
         for field in '\u00b2', '9' * 5000, '-1', '':
             with open(self.table, 'w', encoding='latin-1') as file:
                 file.write(f'{boundary_text(CUTS)}1;2;{field};4;5;6\n')
@@ -274,23 +277,23 @@ class Lines(unittest.TestCase):
                 read_boundary(self.table)
             self.assertEqual(caught.exception.line, 5)
 
-    def test_relay_that_starts_again_knows_what_the_region_keeps(self):
+    def test_relay_that_starts_again_knows_what_the_region_keeps(self) -> None:
         self.assertEqual(self.fed(b'1; 1240, 2; 900\n'), 'delay event 9 300\n')
         self.assertEqual(self.fed(b'1; 1240, 2; 900\n'), 'delay event 9 300\n')
         self.assertEqual(self.fed(b'1; 900, 2; 900\n'), 'delay event 9 300\ndelay event 9 0\n')
 
-    def test_relay_that_starts_again_takes_nothing_back_before_it_has_heard_of_all(self):
+    def test_relay_that_starts_again_takes_nothing_back_before_it_has_heard_of_all(self) -> None:
         self.fed(b'2; 1270\n')
         self.assertEqual(self.fed(b'1; 900\n'), 'delay event 9 300\n')
         self.assertEqual(self.fed(b'1; 1250\n'), 'delay event 9 300\ndelay event 9 310\n')
         self.assertTrue(self.fed(b'1; 900\n2; 1200\n').endswith('310\ndelay event 9 230\n'))
 
-    def test_feed_of_which_the_last_line_is_torn(self):
+    def test_feed_of_which_the_last_line_is_torn(self) -> None:
         with open(self.feed, 'w', encoding='ascii') as file:
             file.write('delay event 9 300\nnow 5\r\n delay event 10  007\ndelay event 9 30')
         self.assertEqual(self.fed(b'1; 1240, 2; 900, 3; 1007\n').splitlines()[2:], [' delay event 10  007', 'delay event 9 30', 'delay event 9 300'])
 
-    def test_feed_that_is_no_file(self):
+    def test_feed_that_is_no_file(self) -> None:
         pipe = f'{self.feed}.pipe'
         os.mkfifo(pipe)
         for name in os.path.dirname(self.feed), os.path.join(self.feed, 'x'), pipe:
@@ -298,14 +301,15 @@ class Lines(unittest.TestCase):
             done = subprocess.run(words, input=b'', capture_output=True)
             self.assertEqual((done.returncode, done.stderr.count(b'\n')), (2, 1), done.stderr)
 
-    def test_whole_boards(self):
+    def test_whole_boards(self) -> None:
         out, said = self.run_tool(b'1; 950\n2; 7\n\n1; 960\n3; 8', os.path.join(TOOLS, 'board.py'))
         self.assertEqual(out, '1; 960, 2; 7\n')
         self.assertEqual(said, 'board.py: line 3 is skipped: it is no line `event; time`\nboard.py: lines skipped: 1\n')
 
-    def test_whole_boards_are_written_as_lines_come(self):
+    def test_whole_boards_are_written_as_lines_come(self) -> None:
         words = [sys.executable, os.path.join(TOOLS, 'board.py')]
         with subprocess.Popen(words, stdin=subprocess.PIPE, stdout=subprocess.PIPE, bufsize=0) as board:
+            assert board.stdin is not None and board.stdout is not None
             for line, due in (b'1; 950\n', b'1; 950\n'), (b'1; 950\n2; 7', None), (b'0\n', b'1; 950, 2; 70\n'):
                 board.stdin.write(line)
                 if due:

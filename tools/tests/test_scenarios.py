@@ -1,7 +1,10 @@
 """Drawn days, shapes of networks, and days that are played by a program that plans nothing or turns a pair."""
+from __future__ import annotations
+
 import contextlib
 import io
 import os
+from typing import Iterable, Optional
 import stat
 import sys
 import unittest
@@ -19,8 +22,8 @@ from delays import KINDS, Drawing, Lines, drawn_day, size_of
 from playing import Played, Program, Replanning, replanned
 from giv import read_network
 from network import Activity, Event, Network
-from railway import Rows, apply, refusal_at_once, times_of
-from runtext import due_items
+from railway import Rows, apply, refusal_at_once, sound_times
+from runtext import Said, due_items
 from shapes import USUAL, made
 
 # A program whose window makes one choice, and which judges every text to be good.
@@ -41,10 +44,11 @@ else:
 '''
 
 
-def rows_of(net, messages):
+def rows_of(net: Network, messages: Iterable[Optional[Said]]) -> Rows:
     """The rows after messages, none of which may be refused at once; delays, passes and clocks make no cycle."""
     rows = Rows(net)
     for message in messages:
+        assert message is not None, 'a line is malformed'
         refusal = refusal_at_once(net, rows, message)
         if refusal is not None:
             raise AssertionError(f'{message} is refused: {refusal}')
@@ -52,28 +56,28 @@ def rows_of(net, messages):
     return rows
 
 
-def heard_in(feed):
+def heard_in(feed: str) -> list[Optional[Said]]:
     return [message for _, message in due_items(feed)]
 
 
 class Sizes(unittest.TestCase):
-    def mean(self, text):
+    def mean(self, text: str) -> float:
         draws, size = Random(1), size_of(text)
         return sum(size(draws) for _ in range(4000)) / 4000
 
-    def test_means(self):
+    def test_means(self) -> None:
         self.assertAlmostEqual(self.mean('exponential:300'), 300, delta=15)
         # The mean of a lognormal is its median times e to the half of sigma's square.
         self.assertAlmostEqual(self.mean('lognormal:200:0.5'), 200 * 1.1331, delta=10)
 
-    def test_what_is_no_size(self):
+    def test_what_is_no_size(self) -> None:
         for text in ('exponential', 'exponential:0', 'lognormal:5', 'even:3', 'exponential:1:2'):
             with self.assertRaises(ValueError):
                 size_of(text)
 
 
 class Days(InFolder):
-    def test_histogram(self):
+    def test_histogram(self) -> None:
         name = os.path.join(self.folder, 'sizes')
         with open(name, 'w', encoding='ascii') as file:
             file.write('# seconds\n0;60;1\n600;660;3\n')
@@ -82,7 +86,7 @@ class Days(InFolder):
         self.assertTrue(all(0 <= one <= 60 or 600 <= one <= 660 for one in drawn))
         self.assertAlmostEqual(sum(one > 60 for one in drawn) / 4000, 0.75, delta=0.03)
 
-    def test_days_of_each_kind(self):
+    def test_days_of_each_kind(self) -> None:
         net = read_network(network('forty_trains'))
         lines = Lines(net)
         self.assertEqual(len(lines.trains), 40)
@@ -94,7 +98,7 @@ class Days(InFolder):
             self.assertTrue(told and told == sorted(told))
             rows_of(net, [one.message for one in told])
 
-    def test_blocked_stretch(self):
+    def test_blocked_stretch(self) -> None:
         net = read_network(network('forty_trains'))
         told = drawn_day(Lines(net), Drawing('blocked', 0, size_of('exponential:1')), 1, 1)
         start = told[0].time
@@ -102,7 +106,7 @@ class Days(InFolder):
         self.assertTrue(all(one.time == start and one.message[0] == 'delay event' for one in told))
         self.assertEqual([time - start for time in sorted(leaving)], [3600 + 120 * place for place in range(len(leaving))])
 
-    def test_feed_with_a_clock(self):
+    def test_feed_with_a_clock(self) -> None:
         out = os.path.join(self.folder, 'out')
         words = [network('connection'), out, '--kind=delays', '--probability=0.9', '--days=2', '--seed=5', '--every=1']
         self.assertEqual(self.call(scenarios, *words)[0], None)
@@ -111,42 +115,42 @@ class Days(InFolder):
         told = ''.join(line.split(';')[1] + '\n' for line in read(out, 'day-2.csv').splitlines()[1:])
         without = rows_of(net, heard_in(told))
         # What passed did so at its time, so the times are those of the delays alone.
-        self.assertEqual(times_of(net, rows), times_of(net, without))
+        self.assertEqual(sound_times(net, rows), sound_times(net, without))
         self.assertTrue(told and rows.clock and any(passed is not None for passed in rows.passed))
-        self.assertTrue(all(time > rows.clock for time, passed in zip(times_of(net, rows), rows.passed) if passed is None))
+        self.assertTrue(all(time > rows.clock for time, passed in zip(sound_times(net, rows), rows.passed) if passed is None))
 
-    def test_words_that_are_none(self):
+    def test_words_that_are_none(self) -> None:
         self.assertEqual(self.call(scenarios, network('connection'), self.folder, '--size=even')[0], 2)
         self.assertEqual(self.call(scenarios, network('connection'), self.folder, '--probability=2')[0], 2)
 
 
 class Shapes(InFolder):
-    def test_networks_of_each_shape(self):
+    def test_networks_of_each_shape(self) -> None:
         for shape, trains, least in (('single', 6, 'headway'), ('hub', 2, 'change'), ('ring', 4, 'change'), ('mesh', 2, 'change')):
             sizes = replace(USUAL[shape], trains=trains, lines=min(USUAL[shape].lines, 8))
             expanded = made(shape, sizes).expanded
             net = Network(expanded.events, expanded.activities)
             rows = Rows(net)
             # Without delays nothing is late.
-            self.assertEqual(times_of(net, rows), [event.time for event in net.events], shape)
+            self.assertEqual(sound_times(net, rows), [event.time for event in net.events], shape)
             kinds = Counter(activity.kind for activity in net.activities)
             self.assertGreater(kinds[least], 10, shape)
             self.assertTrue(net.pairs, shape)
 
-    def test_each_line_meets_each_other_in_the_hub(self):
+    def test_each_line_meets_each_other_in_the_hub(self) -> None:
         expanded = made('hub', replace(USUAL['hub'], lines=8, trains=1)).expanded
         hub = expanded.stations['Hub']
         self.assertEqual(expanded.changes_at[hub], 8 * 7)
         times = [event.time for event in expanded.events if event.stop == hub]
         self.assertLessEqual(max(times) - min(times), 600)
 
-    def test_section_is_taken_by_one_train(self):
+    def test_section_is_taken_by_one_train(self) -> None:
         expanded = made('single', replace(USUAL['single'], trains=3, stations=5)).expanded
         kinds = Counter(activity.kind for activity in expanded.activities)
         # Six trains over four sections, each section with the two trains behind: 5 + 4 pairs.
         self.assertEqual(kinds['headway'], 4 * 2 * (5 + 4))
 
-    def test_files(self):
+    def test_files(self) -> None:
         said = io.StringIO()
         with contextlib.redirect_stderr(said):
             shapes.main(['mesh', self.net, '--lines=3', '--trains=1'])
@@ -156,7 +160,7 @@ class Shapes(InFolder):
 
 
 class Playing(InFolder):
-    def setUp(self):
+    def setUp(self) -> None:
         super().setUp()
         name = os.path.join(self.folder, 'program')
         with open(name, 'w', encoding='utf-8') as file:
@@ -164,7 +168,7 @@ class Playing(InFolder):
         os.chmod(name, os.stat(name).st_mode | stat.S_IXUSR)
         self.program = Program(name, network('connection'), 10, self.folder)
 
-    def test_window_each_time(self):
+    def test_window_each_time(self) -> None:
         net = read_network(network('connection'))
         played = Played(net, Rows(net), ahead=drawn_day(Lines(net), Drawing('line', 0, lambda draws: 60), 1, 1))
         replanned(self.program, played, 100, 300, Replanning(100, 100, back=100))
@@ -172,7 +176,7 @@ class Playing(InFolder):
         self.assertEqual(played.lines.count('first 5 3'), 1)
         self.assertGreater(read(self.folder, 'asked').count('--'), 2)
 
-    def test_nothing_happens_before_it_can(self):
+    def test_nothing_happens_before_it_can(self) -> None:
         """Turned when the time is 250, the train that waited until 268 leaves at 250 and not in the past."""
         net = Network(
             [Event(1, 'departure', 220, 0, 1), Event(2, 'departure', 230, 1000, 1)],
@@ -180,15 +184,15 @@ class Playing(InFolder):
         )
         played = Played(net, Rows(net))
         played.say(('delay event', 1, 40))
-        before = times_of(net, played.rows)
+        before = sound_times(net, played.rows)
         self.assertEqual(before, [260, 268])
         self.assertEqual(played.question(250, before, 0), ['delay event 1 40', 'delay event 2 20'])
         self.assertEqual(played.enter([('first', 2, 1)]), 1)
         played.hold_back(250, before)
         self.assertEqual(played.lines, ['delay event 1 40', 'first 2 1', 'delay event 2 20'])
-        self.assertEqual(times_of(net, played.rows), [260, 250])
+        self.assertEqual(sound_times(net, played.rows), [260, 250])
 
-    def test_rows_are_those_of_the_feed(self):
+    def test_rows_are_those_of_the_feed(self) -> None:
         for number in range(20):
             draws = Random(number)
             net = drawn_network(draws)

@@ -1,4 +1,6 @@
 """Reports of studies: means with their intervals, and a study that goes on where it was broken off."""
+from __future__ import annotations
+
 import os
 import sys
 import unittest
@@ -18,12 +20,12 @@ OUTCOMES = [Outcome(day, policy, cost, bound, 2.0, 1.5, 0.5, 0.1) for day, polic
 
 
 class Reports(InFolder):
-    def test_interval(self):
+    def test_interval(self) -> None:
         # Ten values with a deviation of 3.0277; Student's 0.975 at nine degrees is 2.2622.
         self.assertAlmostEqual(half_interval(list(range(1, 11))), 2.2622 * 3.0277 / 10 ** 0.5, delta=0.005)
         self.assertEqual(half_interval([5]), 0)
 
-    def test_report(self):
+    def test_report(self) -> None:
         lines = report(['never', 'hindsight'], OUTCOMES).splitlines()
         cells = [[cell.strip() for cell in line.strip('|').split('|')] for line in lines]
         self.assertEqual(len(cells[0]), len(NUMBERS) + 2)
@@ -33,7 +35,7 @@ class Reports(InFolder):
         self.assertTrue(cells[3][3].startswith('5.00 ±'))
         self.assertTrue(cells[3][2].startswith('15.50 ±'))
 
-    def test_broken_off(self):
+    def test_broken_off(self) -> None:
         name = os.path.join(self.folder, 'study.csv')
         self.assertEqual(read_outcomes(name), [])
         with open(name, 'w', encoding='ascii') as file:

@@ -1,4 +1,6 @@
 """The scripts are typed throughout, and a linter finds nothing in them; each is a command of the package."""
+from __future__ import annotations
+
 import os
 import shutil
 import subprocess
@@ -10,12 +12,12 @@ from samples import TOP
 FOLDERS = ['tools', 'bench']
 
 
-def scripts():
+def scripts() -> list[str]:
     """The files of both folders, from the top of the repository."""
     return [os.path.join(folder, name) for folder in FOLDERS for name in sorted(os.listdir(os.path.join(TOP, folder))) if name.endswith('.py')]
 
 
-def said_by(*words):
+def said_by(*words: str) -> str:
     """What a command prints at the top of the repository; nothing where its status is 0."""
     done = subprocess.run(words, cwd=TOP, capture_output=True, text=True, check=False)
     return '' if done.returncode == 0 else done.stdout + done.stderr
@@ -23,20 +25,20 @@ def said_by(*words):
 
 class Checked(unittest.TestCase):
     @unittest.skipUnless(shutil.which('mypy'), 'mypy is not installed')
-    def test_types_are_whole(self):
+    def test_types_are_whole(self) -> None:
         self.assertEqual(said_by('mypy', '--config-file', 'pyproject.toml', '--no-error-summary'), '')
 
     @unittest.skipUnless(shutil.which('ruff') or shutil.which('pyflakes3'), 'neither ruff nor pyflakes3 is installed')
-    def test_linter_finds_nothing(self):
+    def test_linter_finds_nothing(self) -> None:
         words = ['ruff', 'check', '--no-cache'] if shutil.which('ruff') else ['pyflakes3']
         self.assertEqual(said_by(*words, *scripts()), '')
 
 
 class Package(unittest.TestCase):
-    def run_package(self, *words):
+    def run_package(self, *words: str) -> subprocess.CompletedProcess[str]:
         return subprocess.run([sys.executable, '-B', '-m', 'tools', *words], cwd=TOP, capture_output=True, text=True, check=False)
 
-    def test_lists_each_script_that_people_call(self):
+    def test_lists_each_script_that_people_call(self) -> None:
         listed = {line.split()[0] for line in self.run_package().stdout.splitlines() if line.startswith('  ')}
         for script in scripts():
             with open(os.path.join(TOP, script), encoding='utf-8') as file:
@@ -44,7 +46,7 @@ class Package(unittest.TestCase):
             name = os.path.basename(script).removesuffix('.py')
             self.assertEqual(name in listed, has_main and name != '__main__', name)
 
-    def test_runs_a_script_as_its_path_does(self):
+    def test_runs_a_script_as_its_path_does(self) -> None:
         for words in ['lint', '--help'], ['day'], ['relay', 'no such file', '--region', '1']:
             folder = 'bench' if words[0] == 'day' else 'tools'
             by_path = subprocess.run([sys.executable, '-B', f'{folder}/{words[0]}.py', *words[1:]], cwd=TOP, capture_output=True, text=True,
@@ -52,7 +54,7 @@ class Package(unittest.TestCase):
             by_name = self.run_package(*words)
             self.assertEqual((by_name.returncode, by_name.stdout, by_name.stderr), (by_path.returncode, by_path.stdout, by_path.stderr))
 
-    def test_refuses_what_is_no_command(self):
+    def test_refuses_what_is_no_command(self) -> None:
         done = self.run_package('files')
         self.assertEqual((done.returncode, done.stderr), (1, '"files" is no command; python3 -m tools lists all\n'))
 

@@ -1,4 +1,6 @@
 """Which lemmas and definitions are listed as named by nothing."""
+from __future__ import annotations
+
 import os
 import sys
 import tempfile
@@ -60,7 +62,7 @@ pub fn first() {}
 
 
 class Unused(unittest.TestCase):
-    def setUp(self):
+    def setUp(self) -> None:
         folder = tempfile.TemporaryDirectory()
         self.addCleanup(folder.cleanup)
         self.crates = Path(folder.name)
@@ -69,35 +71,35 @@ class Unused(unittest.TestCase):
         self.write('low/proofs/first/Answers.antt', ANSWERS)
         self.write('low/src/lib.rt', SOURCE)
 
-    def write(self, name, text):
+    def write(self, name: str, text: str) -> None:
         path = self.crates / name
         path.parent.mkdir(parents=True, exist_ok=True)
         path.write_text(text, encoding='utf-8')
 
-    def names(self, *crates):
+    def names(self, *crates: str) -> list[str]:
         return sorted(line.rsplit(' ', 1)[1] for line in unused_in(self.crates, list(crates)))
 
-    def test_what_nothing_names_is_listed(self):
+    def test_what_nothing_names_is_listed(self) -> None:
         self.assertEqual(self.names(), ['forgotten', 'left_over'])
 
-    def test_the_file_and_the_line_are_told(self):
+    def test_the_file_and_the_line_are_told(self) -> None:
         self.assertIn('low/specs/Words.antt:11: forgotten', unused_in(self.crates, []))
 
-    def test_another_crate_may_name_it(self):
+    def test_another_crate_may_name_it(self) -> None:
         self.write('high/proofs/first/Answers.antt', ANSWERS.replace('answer_to', 'left_over'))
         self.write('high/src/lib.rt', '')
         self.assertEqual(self.names(), ['forgotten'])
 
-    def test_a_lemma_that_only_an_unused_one_names_is_listed(self):
+    def test_a_lemma_that_only_an_unused_one_names_is_listed(self) -> None:
         self.write('low/proofs/first/Answers.antt', 'pub returns : goal.returns\nreturns c = refl\n')
         self.assertEqual(self.names(), ['answer_to', 'below', 'forgotten', 'left_over'])
 
-    def test_what_is_exported_again_is_named_through_it(self):
+    def test_what_is_exported_again_is_named_through_it(self) -> None:
         self.write('low/specs/Again.antt', 'pub use Rattle.low.specs.Words.{forgotten}\n')
         self.write('high/src/lib.rt', 'ghost use Rattle.low.specs.Again.{forgotten};\n')
         self.assertEqual(self.names(), ['left_over'])
 
-    def test_one_crate_is_asked_for(self):
+    def test_one_crate_is_asked_for(self) -> None:
         self.write('high/proofs/Lemmas.antt', 'pub alone : ℕ\nalone = 0\n')
         self.assertEqual(self.names('high'), ['alone'])
 
