@@ -405,7 +405,8 @@ class Asking:
         begin, last = draws.randint(0, 60), len(journal.rows) - 1
         ids = [activity.id for activity in self.network.activities]
         hanging = [name for name in ids if choice_named(self.network, name) is not None]
-        named = draws.choice([[], [], hanging, hanging, ids + [9999]])
+        lists: list[list[int]] = [[], [], hanging, hanging, [*ids, 9999]]
+        named = draws.choice(lists)
         held = tuple(draws.sample(named, draws.randint(0, min(len(named), 4))))
         most = draws.choice([None, None, 0, 1000, draws.randint(0, 400) * 1000, 10 ** 6 * draws.randint(0, 9), 2 ** 64 - 1])
         at = draws.choice([None, draws.randint(0, last + 1)])
