@@ -1,0 +1,2 @@
+-- What is known between the parts of a feed.
+pub mod Feeding

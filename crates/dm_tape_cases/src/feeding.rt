@@ -1,0 +1,108 @@
+//! A feed that is answered in parts over a table.
+ghost use Rattle.std.specs.Prelude.{◌≡◌, ◌≤◌, All, IfOk, OnOk};
+ghost use Rattle.dm_base.specs.declared.limits.TheConstants.{BUDGET};
+ghost use Rattle.dm_cert.specs.RunTexts.{IsSpelledItem};
+ghost use Rattle.dm_desk.specs.Planning.{PlansUnder};
+ghost use Rattle.dm_rows.specs.Active.{HasNoCycle};
+ghost use Rattle.dm_rows.specs.Rows.{IsSized};
+ghost use Rattle.dm_table_desk.specs.Tables.{setting_of, desk_of};
+ghost use Rattle.dm_tree.specs.Plans.{whole_task, IsTruePlan};
+ghost use Rattle.dm_tape_cases.specs.Feeding.{IsFeeding};
+
+use dm_cert::LogItem;
+use dm_desk::answer_lines;
+use dm_network::Network;
+use dm_rows::Snapshot;
+use dm_samples::{Failure, rows_on_time};
+use dm_search::plan;
+use dm_settle::NoTimes;
+use dm_table::Table;
+use dm_table_desk::TableDesk;
+use dm_tree::Plan;
+use std::alloc::{AllocError, Global};
+
+/// Seconds for each passenger.
+const PENALTY: u64 = 10;
+
+/// How many plans a feed may have.
+const PLANS: u32 = 16;
+
+/// What a feed of whole lines is answered over a day on time. It comes in parts: each goes from what was passed to the next cut,
+/// and up to so many of its due lines are answered.
+pub fn log_of(
+    alloc: Global,
+    net: &Network,
+    feed: &[u8],
+    cuts: &[usize],
+    batch: u32,
+) -> Result<Vec<LogItem>, Failure>
+    ensures { IfOk result (λ log. All IsSpelledItem log.items) }
+{
+    let rows = rows_on_time(alloc, net)?;
+    let table = match Table::new(alloc, net, rows, PENALTY) {
+        Ok(table) => table,
+        Err(NoTimes::OutOfMemory) => return Err(Failure::OutOfMemory),
+        Err(NoTimes::Cycle(_)) => return Err(Failure::NoDay),
+    };
+    table.sound();
+    let mut desk = TableDesk {
+        alloc,
+        table,
+        plans: PLANS,
+    };
+    let planner = |snapshot: &Snapshot, budget: u64| -> Result<Plan, AllocError>
+        requires { (1 ≤ budget) × (budget ≤ BUDGET) × IsSized net.now snapshot.now.rows × HasNoCycle net.now snapshot.now.rows }
+        ensures { IfOk result (λ plan. (plan.entry ≡ snapshot.now.entry)
+            × IsTruePlan (whole_task net.entry.now snapshot.now.rows 10 budget) plan) }
+    { plan(alloc, net, PENALTY, snapshot, budget) };
+    let mut log = Vec::new(alloc);
+    answer_parts(&mut desk, &planner, feed, cuts, batch, &mut log)?;
+    Ok(log)
+}
+
+fn answer_parts<P: Fn(&Snapshot, u64) -> Result<Plan, AllocError>>(
+    desk: &mut TableDesk<'_>,
+    planner: &P,
+    feed: &[u8],
+    cuts: &[usize],
+    batch: u32,
+    log: &mut Vec<LogItem>,
+) -> Result<(), Failure>
+    requires plans { PlansUnder (P.pre planner.now) (P.post planner.now) (setting_of desk.old.plans desk.old.table) }
+    requires feeding { IsFeeding (desk_of desk.old.plans desk.old.table) log.old.items }
+    ensures feeding { OnOk result (IsFeeding (desk_of desk.new.plans desk.new.table) log.new.items) }
+    ensures setting { OnOk result (setting_of desk.new.plans desk.new.table ≡ setting_of desk.old.plans desk.old.table) }
+{
+    let mut bytes: usize = 0;
+    let mut lines = 0;
+    for cut in cuts {
+        let part = feed.get(bytes..*cut).unwrap_or(&[]);
+        let (passed, counted) = answer_part(desk, planner, part, lines, batch, log)?;
+        bytes = bytes.saturating_add(passed);
+        lines = counted;
+    }
+    Ok(())
+}
+
+/// Answers up to so many due lines of a part, behind so many lines, and tells how many bytes and lines were passed.
+fn answer_part<P: Fn(&Snapshot, u64) -> Result<Plan, AllocError>>(
+    desk: &mut TableDesk<'_>,
+    planner: &P,
+    part: &[u8],
+    lines: u32,
+    batch: u32,
+    log: &mut Vec<LogItem>,
+) -> Result<(usize, u32), Failure>
+    requires plans { PlansUnder (P.pre planner.now) (P.post planner.now) (setting_of desk.old.plans desk.old.table) }
+    requires feeding { IsFeeding (desk_of desk.old.plans desk.old.table) log.old.items }
+    ensures feeding { OnOk result (IsFeeding (desk_of desk.new.plans desk.new.table) log.new.items) }
+    ensures setting { OnOk result (setting_of desk.new.plans desk.new.table ≡ setting_of desk.old.plans desk.old.table) }
+{
+    if part.len() > 1_000_000 || lines > 1_000_000 {
+        return Err(Failure::NoDay);
+    }
+    match answer_lines(part, lines, desk, planner, 1, batch, log) {
+        Ok(passed) => Ok(passed),
+        Err(AllocError) => Err(Failure::OutOfMemory),
+    }
+}
