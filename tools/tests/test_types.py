@@ -46,6 +46,13 @@ class Package(unittest.TestCase):
             name = os.path.basename(script).removesuffix('.py')
             self.assertEqual(name in listed, has_main and name != '__main__', name)
 
+    def test_page_has_a_row_for_each(self) -> None:
+        with open(os.path.join(TOP, 'tools', 'README.md'), encoding='utf-8') as file:
+            page = file.read()
+        for line in self.run_package().stdout.splitlines():
+            if line.startswith('  '):
+                self.assertEqual(page.count(f'\n| `{line.split()[0]}` | '), 1, line)
+
     def test_runs_a_script_as_its_path_does(self) -> None:
         for words in ['lint', '--help'], ['day'], ['relay', 'no such file', '--region', '1']:
             folder = 'bench' if words[0] == 'day' else 'tools'
