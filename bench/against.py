@@ -18,7 +18,6 @@ says of them; a line tells it.
 """
 from __future__ import annotations
 
-import argparse
 import csv
 import math
 import os
@@ -28,20 +27,18 @@ import sys
 import tempfile
 from typing import Iterable, NamedTuple, Optional, Sequence
 
-TOP = os.path.join(os.path.dirname(os.path.abspath(__file__)), '..')
-sys.path[:0] = [os.path.join(TOP, 'tools'), os.path.join(TOP, 'bench')]
-
-from choices import choices_in  # noqa: E402
-from day import write_day  # noqa: E402
-from decide import in_turn, spoken  # noqa: E402
-from measured import Measured, measured  # noqa: E402
-from programme import Posed, Programme, Window, mps_text, programme_of  # noqa: E402
-from files import BadFile  # noqa: E402
-from giv import read_network  # noqa: E402
-from network import Network  # noqa: E402
-from railway import Rows  # noqa: E402
-from scene import read_text, rows_of  # noqa: E402
-from solution import Solution, decisions_of, read_solution  # noqa: E402
+from here import command_line
+from choices import choices_in
+from day import write_day
+from decide import in_turn, spoken
+from measured import Measured, measured
+from programme import Posed, Programme, Window, mps_text, programme_of
+from files import BadFile
+from giv import read_network
+from network import Network
+from railway import Rows
+from scene import read_text, rows_of
+from solution import Solution, decisions_of, read_solution
 
 PENALTY = 3600
 BUDGET = 16_384
@@ -243,7 +240,7 @@ def table_line(day: str, found: dict[str, Optional[Found]]) -> str:
 
 
 def main() -> int:
-    words = argparse.ArgumentParser(description=__doc__, formatter_class=argparse.RawDescriptionHelpFormatter)
+    words = command_line(__doc__)
     words.add_argument('dispatcher', metavar='DISPATCHER', help='the built program')
     words.add_argument('days', nargs='*', metavar='DAY', help='TRAINS:NUMBER, TRAINS:NUMBER:FROM:TO or SHAPE:NUMBER')
     words.add_argument('--limit', type=int, default=60, metavar='S', help='seconds for each solver and day')

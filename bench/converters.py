@@ -9,7 +9,6 @@ gtfs_rt_in.py again and again with --every.
 """
 from __future__ import annotations
 
-import argparse
 import contextlib
 import io
 import os
@@ -18,8 +17,9 @@ import sys
 import tempfile
 import time
 
-TOP = os.path.join(os.path.dirname(os.path.abspath(__file__)), '..')
-sys.path[:0] = [os.path.join(TOP, 'tools'), os.path.join(TOP, 'tools', 'tests')]
+from here import TOP, command_line
+
+sys.path.append(os.path.join(TOP, 'tools', 'tests'))
 
 from feeds import DATE, large_feed, write_feed  # noqa: E402
 from giv import read_network  # noqa: E402
@@ -54,7 +54,7 @@ def further(net: str, feed: str, message: Message) -> float:
 
 
 def main() -> int:
-    words = argparse.ArgumentParser(description=__doc__, formatter_class=argparse.RawDescriptionHelpFormatter)
+    words = command_line(__doc__)
     words.add_argument('dispatcher', metavar='DISPATCHER', help='the built program')
     words.add_argument('--trips', type=whole_between(1, 2_631), default=2_630, metavar='N', help='(2630)')
     given = words.parse_args()

@@ -19,7 +19,6 @@ The status is 1 where something differs; the first differences of each minute ar
 """
 from __future__ import annotations
 
-import argparse
 import contextlib
 import io
 import os
@@ -32,17 +31,15 @@ import time
 from dataclasses import dataclass, field
 from typing import Callable, Iterator, NamedTuple
 
-TOP = os.path.join(os.path.dirname(os.path.abspath(__file__)), '..')
-sys.path.insert(0, os.path.join(TOP, 'tools'))
-
-import from_gtfs  # noqa: E402
-import gtfs_rt_in  # noqa: E402
-import gtfs_rt_out  # noqa: E402
-from files import write_all  # noqa: E402
-from gtfs import clock  # noqa: E402
-from names import read_changes  # noqa: E402
-from protobuf import Message, encode  # noqa: E402
-from words import time_of_day, whole_between  # noqa: E402
+from here import TOP, command_line
+import from_gtfs
+import gtfs_rt_in
+import gtfs_rt_out
+from files import write_all
+from gtfs import clock
+from names import read_changes
+from protobuf import Message, encode
+from words import time_of_day, whole_between
 
 DATE, ZONE = '20261124', 'Europe/Berlin'
 # Midnight of that day in Berlin, by `date -d '2026-11-24 00:00 +0100' +%s`.
@@ -518,7 +515,7 @@ def report(world: World, come: Played) -> Iterator[str]:
 
 
 def main() -> int:
-    words = argparse.ArgumentParser(description=__doc__, formatter_class=argparse.RawDescriptionHelpFormatter)
+    words = command_line(__doc__)
     words.add_argument('dispatcher', metavar='DISPATCHER', help='the built program')
     words.add_argument('folder', nargs='?', metavar='FOLDER', help='where the files stay')
     words.add_argument('--number', type=whole_between(0, 999_999_999), default=1, metavar='S', help='from which delays are drawn (1)')

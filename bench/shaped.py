@@ -9,25 +9,22 @@ with its cost and bound in millions, and the gap. `check` judges the texts. The 
 """
 from __future__ import annotations
 
-import argparse
 import os
 import sys
 import tempfile
 from dataclasses import replace
 from typing import Iterator
 
-TOP = os.path.join(os.path.dirname(os.path.abspath(__file__)), '..')
-sys.path[:0] = [os.path.join(TOP, 'tools'), os.path.join(TOP, 'bench')]
-
-from against import Fault, Server, planned  # noqa: E402
-from day import FEED, Draws, write_day  # noqa: E402
-from delays import Drawing, Lines, drawn_day, size_of, told_lines  # noqa: E402
-from files import write_all  # noqa: E402
-from from_gtfs import texts_of  # noqa: E402
-from giv import read_network  # noqa: E402
-from network import Network  # noqa: E402
-from railway import Rows, free_choices  # noqa: E402
-from shapes import USUAL, made  # noqa: E402
+from here import command_line
+from against import Fault, Server, planned
+from day import FEED, Draws, write_day
+from delays import Drawing, Lines, drawn_day, size_of, told_lines
+from files import write_all
+from from_gtfs import texts_of
+from giv import read_network
+from network import Network
+from railway import Rows, free_choices
+from shapes import USUAL, made
 
 
 def written(shape: str, folder: str) -> tuple[str, Network]:
@@ -73,7 +70,7 @@ def line_of(program: str, shape: str, number: int) -> tuple[str, float]:
 
 
 def main() -> int:
-    words = argparse.ArgumentParser(description=__doc__, formatter_class=argparse.RawDescriptionHelpFormatter)
+    words = command_line(__doc__)
     words.add_argument('dispatcher', metavar='DISPATCHER', help='the built program')
     words.add_argument('shapes', nargs='*', metavar='SHAPE', help='shapes, and gen')
     words.add_argument('--number', type=int, default=1, metavar='S', help='from which the day is drawn (1)')

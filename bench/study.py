@@ -29,18 +29,17 @@ from concurrent.futures import ProcessPoolExecutor, as_completed
 from dataclasses import dataclass
 from typing import Iterable, NamedTuple, Optional
 
-sys.path.insert(0, os.path.join(os.path.dirname(os.path.abspath(__file__)), '..', 'tools'))
-
-from delays import Drawing, Lines, drawn_day, size_of  # noqa: E402
-from figures import Curve, picture, progress, table  # noqa: E402
-from files import BadFile, write_all  # noqa: E402
-from playing import Played, Program, Replanning, replanned  # noqa: E402
-from giv import read_network  # noqa: E402
-from network import Network  # noqa: E402
-from railway import Rows, is_met  # noqa: E402
-from scenarios import add_drawing_words, drawing_of  # noqa: E402
-from scene import read_text, rows_of  # noqa: E402
-from words import whole_between  # noqa: E402
+from here import command_line
+from delays import Drawing, Lines, drawn_day, size_of
+from figures import Curve, picture, progress, table
+from files import BadFile, write_all
+from playing import Played, Program, Replanning, replanned
+from giv import read_network
+from network import Network
+from railway import Rows, is_met
+from scenarios import add_drawing_words, drawing_of
+from scene import read_text, rows_of
+from words import add_network, whole_between
 
 USUAL = 'never,120,300,always,morning,windows,hindsight'
 BUDGET = 16_384
@@ -267,9 +266,9 @@ def drawn_by_matplotlib(path: str, title: str, up: str, curves: list[Curve]) -> 
 
 
 def words_read() -> tuple[argparse.Namespace, Drawing]:
-    words = argparse.ArgumentParser(description=__doc__, formatter_class=argparse.RawDescriptionHelpFormatter)
+    words = command_line(__doc__)
     words.add_argument('dispatcher', metavar='DISPATCHER', help='the built program')
-    words.add_argument('net', metavar='NET', help='folder with Events-expanded.giv and Activities-expanded.giv')
+    add_network(words)
     words.add_argument('folder', metavar='FOLDER', help='where the study goes')
     add_drawing_words(words)
     words.set_defaults(days=100)

@@ -17,7 +17,6 @@ come to. The status is 0; or 2 where a file is not as it should be.
 """
 from __future__ import annotations
 
-import argparse
 import hashlib
 import os
 import sys
@@ -36,6 +35,7 @@ from network import Network
 from railway import LARGEST_DELAY, LARGEST_PASSED, Rows, active_activities, apply, refusal_at_once, span_of
 from realtime import NO_DATA, SKIPPED, STOPPED_AT, TRIPS_GONE, TRIPS_TAKEN, Named, by_key, key_of, read_named
 from runtext import due_items
+from words import command_line
 
 TIMEOUT = 30
 QUESTIONS = ('time', 'cost', 'read', 'plan', 'adopt')
@@ -311,9 +311,7 @@ def listen(listener: Listener, feed: str, source: str) -> bool:
 
 
 def main(given: Optional[Sequence[str]] = None) -> int:
-    words = argparse.ArgumentParser(
-        description=__doc__, formatter_class=argparse.RawDescriptionHelpFormatter, allow_abbrev=False,
-    )
+    words = command_line(__doc__, allow_abbrev=False)
     words.add_argument('net', metavar='NET', help='the folder of a network, with its names')
     words.add_argument('feed', metavar='FEEDFILE', help='the feed to which lines are appended')
     words.add_argument('sources', metavar='SOURCE', nargs='+', help='files, or URLs of http and https')

@@ -31,7 +31,7 @@ from giv import read_network
 from realtime import NO_DATA, SCHEDULED, Named, descriptor, read_named
 from runtext import Bad, Run, read_run
 from to_gtfs import Happening, without_falls
-from words import whole_between
+from words import command_line, whole_between
 
 VERSION, FULL_DATASET = '2.0', 0
 UNKNOWN_CAUSE, OTHER_EFFECT = 1, 7
@@ -205,9 +205,7 @@ def write_message(read: argparse.Namespace) -> None:
 
 
 def main(given: Optional[Sequence[str]] = None) -> int:
-    words = argparse.ArgumentParser(
-        description=__doc__, formatter_class=argparse.RawDescriptionHelpFormatter, allow_abbrev=False,
-    )
+    words = command_line(__doc__, allow_abbrev=False)
     words.add_argument('net', metavar='NET', help='the folder of a network, with its names')
     words.add_argument('text', metavar='TEXT', help='the text of a run over it')
     words.add_argument('out', metavar='OUT.pb', help='the file that is written')
