@@ -11,12 +11,13 @@ With --write the edges of the map are written anew, a line for each crate: peopl
 it stands on.
 """
 
-import argparse
 import re
 import sys
 from collections import Counter
 from dataclasses import dataclass, field
 from pathlib import Path
+
+from here import command_line
 
 REPOSITORY = Path(__file__).resolve().parent.parent
 
@@ -126,7 +127,7 @@ def differences(page: Page, crates: dict[str, set[str]]) -> list[str]:
 
 
 def main() -> int:
-    parser = argparse.ArgumentParser(description=__doc__, formatter_class=argparse.RawDescriptionHelpFormatter)
+    parser = command_line(__doc__)
     parser.add_argument("--page", dest="pages", action="append", type=Path, help="a page; by default the three")
     parser.add_argument("--write", action="store_true", help="write the edges of the map")
     parser.add_argument("--crates", type=Path, default=REPOSITORY / "crates.txt")

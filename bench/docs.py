@@ -9,7 +9,6 @@ written, where the paragraph above it names a file that is not there. A text tha
 how two feeds come out is tried again, up to five times. Blocks that prove or build, or that name a place to fill in, are left out.
 """
 
-import argparse
 import os
 import re
 import shutil
@@ -19,6 +18,8 @@ import tempfile
 from dataclasses import dataclass, field
 from pathlib import Path
 from typing import Iterator
+
+from here import command_line
 
 REPOSITORY = Path(__file__).resolve().parent.parent
 PAGES = ["README.md", "docs/OPERATING.md", "docs/TUTORIAL.md", "docs/GTFS.md", "docs/GTFS_RULES.md", "docs/REALTIME.md"]
@@ -149,7 +150,7 @@ def judged(dispatcher: Path, name: str) -> list[str]:
 
 
 def main() -> int:
-    parser = argparse.ArgumentParser(description=__doc__, formatter_class=argparse.RawDescriptionHelpFormatter)
+    parser = command_line(__doc__)
     parser.add_argument("dispatcher", type=Path)
     parser.add_argument("pages", nargs="*", help="pages, from the top of the repository; all by default")
     asked = parser.parse_args()

@@ -11,7 +11,6 @@ next is the time of the part, a little blurred where several jobs ran. A row giv
 kinds of parts: `Lts` are the states that a function can be in (many owned values with a derived `Drop` make many), `Proof`,
 `Goals` and `Tie` what is proved of them. A later check writes files anew and tells nothing.
 """
-import argparse
 import os
 import subprocess
 import sys
@@ -21,6 +20,8 @@ from collections.abc import Iterable, Mapping
 from contextlib import suppress
 from dataclasses import dataclass
 from pathlib import Path
+
+from here import command_line
 
 # How often processes are looked at, in seconds.
 PERIOD = 1.0
@@ -179,7 +180,7 @@ def part_rows(parts: Iterable[Part], most: int) -> list[str]:
 
 
 def main() -> int:
-    parser = argparse.ArgumentParser(description=__doc__, formatter_class=argparse.RawDescriptionHelpFormatter)
+    parser = command_line(__doc__)
     verbs = parser.add_subparsers(dest='verb', required=True)
     whole = verbs.add_parser('run', help='runs rt ci and tells what each crate has cost')
     whole.add_argument('--anew', action='store_true', help='proves what earlier runs have kept, too')

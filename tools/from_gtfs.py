@@ -48,7 +48,7 @@ from gtfs import (
 from names import ChangeName, DayName, EventName, StopName, TrainName, in_print
 from giv import decimal, network_files
 from network import KINDS
-from words import time_of_day, whole_between
+from words import command_line, time_of_day, whole_between
 
 LONGEST_BOUND = 1_000_000
 MOST_PASSENGERS = 1_000_000
@@ -99,10 +99,8 @@ def names_of_routes(text: str) -> list[str]:
 
 
 def words_read(given: Optional[Sequence[str]]) -> argparse.Namespace:
-    words = argparse.ArgumentParser(
-        description=__doc__, formatter_class=argparse.RawDescriptionHelpFormatter, allow_abbrev=False,
-        usage='%(prog)s FEED DATE DIR [OPTION..]',
-    )
+    words = command_line(__doc__, allow_abbrev=False)
+    words.usage = '%(prog)s FEED DATE DIR [OPTION..]'
     words.add_argument('feed', metavar='FEED', help='a zip file or a folder')
     words.add_argument('date', metavar='DATE', type=service_day, help='a service day')
     words.add_argument('folder', metavar='DIR', help='where the network is written')

@@ -34,7 +34,7 @@ from gtfs import Row
 from names import StopName, in_print
 from giv import network_files, records
 from network import KINDS, Activity, Event
-from words import time_of_day, whole_between
+from words import command_line, time_of_day, whole_between
 
 LARGEST_ID = 2 ** 32 - 1
 LARGEST_TIME = 1_000_000_000
@@ -348,10 +348,8 @@ def summary(network: Network, notes: Notes) -> Iterator[str]:
 
 
 def words_read(given: Optional[Sequence[str]]) -> argparse.Namespace:
-    words = argparse.ArgumentParser(
-        description=__doc__, formatter_class=argparse.RawDescriptionHelpFormatter, allow_abbrev=False,
-        usage='%(prog)s SOURCE DIR [OPTION..]',
-    )
+    words = command_line(__doc__, allow_abbrev=False)
+    words.usage = '%(prog)s SOURCE DIR [OPTION..]'
     words.add_argument('source', metavar='SOURCE', help='the folder with the files of LinTim')
     words.add_argument('folder', metavar='DIR', help='where the network is written')
     words.add_argument('--event-delays', metavar='NAME', help='a delay file in SOURCE')

@@ -31,7 +31,7 @@ from files import BadFile, speak_utf8, write_all
 from gtfs import Feed
 from giv import network_files, read_network
 from network import Activity, Event, Network
-from words import stops_of, whole_between
+from words import command_line, stops_of, whole_between
 
 MOST_REGIONS = 100_000
 
@@ -213,8 +213,7 @@ def cut(given: argparse.Namespace, options: Sequence[str]) -> None:
 
 
 def main(asked: Optional[Sequence[str]] = None) -> int:
-    words = argparse.ArgumentParser(
-        description=__doc__, formatter_class=argparse.RawDescriptionHelpFormatter, allow_abbrev=False)
+    words = command_line(__doc__, allow_abbrev=False)
     words.add_argument('net', metavar='NET', help='folder with Events-expanded.giv and Activities-expanded.giv, or with --date a feed')
     words.add_argument('stops', metavar='STOPS', help='ids of the boundary stops, as 6,17')
     words.add_argument('dir', metavar='DIR', help='where the regions go')

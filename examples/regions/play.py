@@ -13,7 +13,6 @@ last is retained, and `text/N` are the lines of the text of its run.
 """
 from __future__ import annotations
 
-import argparse
 import os
 import re
 import secrets
@@ -35,7 +34,7 @@ from railway import Rows, sound_times  # noqa: E402
 from relay import read_boundary  # noqa: E402
 from runtext import read_run  # noqa: E402
 from scene import rows_of  # noqa: E402
-from words import whole_path  # noqa: E402
+from words import command_line, whole_path  # noqa: E402
 
 NET = os.path.join(HERE, '..', 'day', 'net')
 MIDDLES = [11 * line + 6 for line in range(8)]
@@ -317,7 +316,7 @@ def played(play: Play, program: str, count: int) -> list[Region]:
 
 
 def main() -> None:
-    words = argparse.ArgumentParser(description=__doc__, formatter_class=argparse.RawDescriptionHelpFormatter)
+    words = command_line(__doc__)
     words.add_argument('dispatcher', metavar='DISPATCHER', type=whole_path)
     words.add_argument('folder', metavar='FOLDER', nargs='?', help='where files go; by default a folder that is taken away at the end')
     words.add_argument('--regions', type=int, default=2, choices=(2, 4), metavar='N')

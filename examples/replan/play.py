@@ -10,7 +10,6 @@ With a FOLDER the files stay there: the network, the feed of the day (`text.feed
 """
 from __future__ import annotations
 
-import argparse
 import os
 import sys
 import tempfile
@@ -27,7 +26,7 @@ from network import Network  # noqa: E402
 from railway import Rows  # noqa: E402
 from runtext import heard, read_run  # noqa: E402
 from scene import clock_time  # noqa: E402
-from words import whole_between  # noqa: E402
+from words import command_line, whole_between  # noqa: E402
 
 BUDGET = 16_384
 MORNING = 7_200
@@ -81,7 +80,7 @@ def played(program: Program, network: Network, told: list[Told], how: Replanning
 
 
 def main() -> int:
-    words = argparse.ArgumentParser(description=__doc__, formatter_class=argparse.RawDescriptionHelpFormatter)
+    words = command_line(__doc__)
     words.add_argument('dispatcher', metavar='DISPATCHER', help='the built program')
     words.add_argument('folder', nargs='?', metavar='FOLDER', help='where the files stay')
     words.add_argument('--trains', type=whole_between(1, 2_000), default=2_000, metavar='N', help='(2000)')
