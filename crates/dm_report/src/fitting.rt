@@ -217,7 +217,8 @@ fn log_fits(log: &FeedLog)
     items_fit(log.items.as_slice());
 }
 
-fn items_fit(items: &[LogItem])
+/// The numbers of a log's items: each is one that its type holds. It only reads them, and tells a proof that they are so.
+pub fn items_fit(items: &[LogItem])
     ensures { All FitsItem items.now }
 {
     for item in items {
