@@ -1,5 +1,5 @@
 -- What the leaves that lie at a path ask for there.
-use Rattle.std.proofs.Common.{◌≡◌, ℕ, ◌+◌, ◌-◌, ◌<◌, ◌≤◌, true, false, List, [], ◌∷◌, ◌++◌, length, get_or, refl, sym, ap, subst, ◌∙◌, ◌⊎◌, inl, inr, arith, Option, Some, None, slice_get, append-nil, slice_index}
+use Rattle.std.proofs.Common.{◌≡◌, ℕ, ◌+◌, ◌-◌, ◌<◌, ◌≤◌, true, false, List, [], ◌∷◌, ◌++◌, length, get_or, refl, sym, ap, subst, ◌∙◌, ◌⊎◌, inl, inr, arith, Option, Some, None, slice_get, append-nil}
 use Rattle.std.specs.Prelude.{unwrap_or}
 use Rattle.std.proofs.lemmas.Bool.{cases_lt}
 use Rattle.std.proofs.lemmas.List.{get_or-append_right, get_or_default}
@@ -12,11 +12,10 @@ use Rattle.dm_tree.specs.declared.forms.Node.TheVariants.{Inner, Cycle, Bound, O
 use Rattle.dm_tree.specs.declared.forms.Leaf.{Leaf}
 use Rattle.dm_tree.specs.Trees.{Shape, choice_in, IsLeaf, IsProper, StandsAt, HasLeaves, HaveNoTree}
 use Rattle.dm_rows.specs.Sides.{IsOrdered, is_ordered}
-use Rattle.dm_tree.specs.Inside.Assembling.{AreMatched, IsRematched, LiesBelow, AsksFor, MayStand, IsAskedOf, Agree, IsAsked, LiesNone, SeenSoFar, IsDue}
-use Rattle.dm_tree.specs.Pending.{IsFront, KeepsFront}
+use Rattle.dm_tree.specs.Inside.Assembling.{LiesBelow, AsksFor, MayStand, IsAskedOf, Agree, IsAsked, LiesNone, SeenSoFar, IsDue}
+use Rattle.dm_tree.specs.Pending.{IsFront}
 use Rattle.dm_rows.proofs.Sides.{ordered_tells}
 use Rattle.dm_tree.proofs.Standing.{one_stands, stands_above}
-use Rattle.dm_tree.proofs.Matching.{full_is_front, front_is_full}
 
 zero_left : (n : ℕ) → n - n ≡ 0
 zero_left n = omega arith
@@ -207,33 +206,11 @@ pub due_at_end : (leaves : List Leaf) (path : List Decision) (i : ℕ) (found : 
 due_at_end leaves path i None e s = inr (refl, subst (LiesNone leaves path) e s)
 due_at_end leaves path i (Some n) e s = inl (subst (λ j. IsAsked leaves path j n) e s)
 
--- by what is in common it is known whether a leaf lies there
-pub not_there : (leaves : List Leaf) (path : List Decision) (matched : List ℕ) (i : ℕ) → AreMatched path leaves matched →
-    (slice_index matched i ≡ length path → ⊥) → (l : Leaf) → slice_get leaves i ≡ Some l → IsFront path l.path → ⊥
-not_there leaves path matched i m differs l here front =
-    differs (front_is_full path l.path (slice_index matched i) (m.each i l here) front)
-
-pub lies_there : (leaves : List Leaf) (path : List Decision) (matched : List ℕ) (i : ℕ) (l : Leaf) → AreMatched path leaves matched →
-    slice_get leaves i ≡ Some l → slice_index matched i ≡ length path → IsFront path l.path
-lies_there leaves path matched i l m here same = full_is_front path l.path (slice_index matched i) (m.each i l here) same
-
 pub agree_when : (found : Option Node) (m n : Node) → found ≡ Some m → Agree m n → (o : Node) → found ≡ Some o → Agree o n
 agree_when found m n e agree o f = let same : m ≡ o = cc in subst (λ x. Agree x n) same agree
 
 pub agree_never : (found : Option Node) (n : Node) → found ≡ None → (o : Node) → found ≡ Some o → Agree o n
 agree_never found n e o f = cc
-
--- the leaves of which it is told anew are all
-pub all_rematched : (path : List Decision) (leaves : List Leaf) (before after : List ℕ) (i : ℕ) → length leaves ≤ i →
-    IsRematched path leaves before after i → (old : List Decision) → KeepsFront old path → AreMatched old leaves before →
-    AreMatched path leaves after
-all_rematched path leaves before after i le r old keeps m =
-    record {
-      size = r.size;
-      each = λ k l here.
-          let lt : k < length leaves = slice_get_within leaves k l here in
-          r.done k l (omega arith) here old (m.each k l here) keeps;
-    }
 
 -- the choice that the leaf asks for is not written in order
 pub asks_badly_at : (path : List Decision) (l : Leaf) (whole : List Decision) (d : Decision) (c : Choice) → whole ≡ l.path →
@@ -244,3 +221,9 @@ asks_badly_at path l whole d c e front lt is o =
     let x : Decision = get_or l.path (length path) d in
     let same : c ≡ choice_of x = is ∙ ap (λ xs. choice_of (get_or xs (length path) d)) e in
     asks_badly path l x front lt' (get_or_default l.path (length path) d x lt') (ap is_ordered (sym same) ∙ sym o)
+
+-- a leaf that asks for nothing stands in no tree
+pub asks_for_none : (leaves : List Leaf) (path : List Decision) (k : ℕ) (l : Leaf) → slice_get leaves k ≡ Some l →
+    IsAskedOf path l None → HaveNoTree leaves
+asks_for_none leaves path k l here none shape proper has =
+    let g = given_stands leaves shape has k l here in none shape proper g.1 g.0

@@ -1,7 +1,7 @@
 -- A draft grows by the node that its leaves ask for, and is the least tree with them at the end.
-use Rattle.std.proofs.Common.{◌≡◌, ℕ, ◌+◌, ◌-◌, ◌<◌, true, cond, List, [], ◌∷◌, ◌++◌, length, get_or, eqb, refl, sym, ap, subst, ◌∙◌, ◌⊎◌, inl, inr, arith, Some, None, slice_get, append_assoc, append-nil, add-one}
-use Rattle.std.specs.Prelude.{Contains}
-use Rattle.std.proofs.lemmas.List.{length-append, take_at, take_all}
+use Rattle.std.proofs.Common.{◌≡◌, ℕ, ◌+◌, ◌-◌, ◌<◌, Bool, true, false, cond, map, reverse, List, [], ◌∷◌, ◌++◌, length, get_or, eqb, refl, sym, ap, subst, ◌∙◌, ◌⊎◌, inl, inr, arith, Some, None, slice_get, append_assoc, append-nil, add-one}
+use Rattle.std.specs.Prelude.{Contains, MatchBool}
+use Rattle.std.proofs.lemmas.List.{reverse-append, map-append}
 use Rattle.std.proofs.lemmas.List.Elements.{Contains-append_left, Contains-append_right, Contains-append_cases, Contains-push, Contains-push_cases}
 use Rattle.std.proofs.lemmas.Option.{slice_get_within, get_or_from_slice_get, slice_get-get_or}
 use Rattle.dm_rows.specs.declared.messages.Choice.{Choice}
@@ -12,8 +12,8 @@ use Rattle.dm_tree.specs.declared.forms.Leaf.{Leaf}
 use Rattle.dm_tree.specs.Trees.{Shape, preorder, choice_in, IsLeaf, IsProper, StandsAt, HasLeaves, IsLeastTree, Assembles}
 use Rattle.dm_rows.specs.Sides.{IsOrdered, first_decision, second_decision, is_ordered}
 use Rattle.dm_tree.specs.Inside.Filling.{is_none_left, fills, visits}
-use Rattle.dm_tree.specs.Pending.{pending, IsFront, KeepsFront}
-use Rattle.dm_tree.specs.Inside.Assembling.{AreMatched, LiesBelow, AsksFor, IsDue, seen, GoesOn, IsNeeded, HasPlace, IsDueAt, IsDraft, IsFinished}
+use Rattle.dm_tree.specs.Pending.{pending, IsFront}
+use Rattle.dm_tree.specs.Inside.Assembling.{AreGroups, IsParted, LiesBelow, AsksFor, IsDue, seen, GoesOn, IsNeeded, HasPlace, IsDueAt, IsDraft, IsFinished}
 use Rattle.dm_tree.proofs.Filled.{some_more, one_back, partial_tree}
 use Rattle.dm_tree.proofs.Walked.{due_after_choice, is_inner}
 use Rattle.dm_tree.proofs.Standing.{stands_above, visits_below, visits_filled, stands_among, among_stands}
@@ -229,19 +229,20 @@ placed_aside leaves nodes path n leaf g due k l here (inr d) =
     ]
 
 -- a draft after a choice
-pub grows_below : (leaves : List Leaf) (nodes : List Node) (path new : List Decision) (matched now : List ℕ) (n : Node) (c : Choice) →
-    n ≡ Inner c → new ≡ path ++ first_decision c ∷ [] → IsDue leaves path n → AreMatched new leaves now →
-    IsDraft leaves nodes path matched → IsDraft leaves (nodes ++ n ∷ []) new now
-grows_below leaves nodes path new matched now n c is next due common draft =
-    rw (is, next) (at_choice (subst (IsDue leaves path) is due) (subst (λ p. AreMatched p leaves now) next common))
+pub grows_below : (leaves : List Leaf) (nodes : List Node) (path new : List Decision) (groups now : List (List ℕ)) (n : Node) (c : Choice) →
+    n ≡ Inner c → new ≡ path ++ first_decision c ∷ [] → IsDue leaves path n → AreGroups leaves (new ∷ pending new) now →
+    IsDraft leaves nodes path groups → IsDraft leaves (nodes ++ n ∷ []) new now
+grows_below leaves nodes path new groups now n c is next due grouped draft =
+    rw (is, next) (at_choice (subst (IsDue leaves path) is due) (subst (λ p. AreGroups leaves (p ∷ pending p) now) next grouped))
   where
-    at_choice : IsDue leaves path (Inner c) → AreMatched (path ++ first_decision c ∷ []) leaves now →
+    at_choice : IsDue leaves path (Inner c) →
+        AreGroups leaves ((path ++ first_decision c ∷ []) ∷ pending (path ++ first_decision c ∷ [])) now →
         IsDraft leaves (nodes ++ Inner c ∷ []) (path ++ first_decision c ∷ []) now
-    at_choice due common =
+    at_choice due grouped =
         let o : is_ordered c ≡ true = ordered_tells c (may due) in
         record {
           goes_on = goes_below nodes path c o draft.goes_on;
-          common = common;
+          grouped = grouped;
           needed = needed_next leaves nodes path (Inner c) draft.goes_on due draft.needed;
           placed = λ k l here. placed_below leaves nodes path c o draft.goes_on due k l here (draft.placed k l here);
         }
@@ -251,13 +252,13 @@ grows_below leaves nodes path new matched now n c is next due common draft =
         may (inr b) = cc
 
 -- a draft after a leaf, where something is still due
-pub grows_aside : (leaves : List Leaf) (nodes : List Node) (path new : List Decision) (matched now : List ℕ) (n : Node) →
-    choice_in n ≡ None → pending path ≡ new ∷ pending new → IsDue leaves path n → AreMatched new leaves now →
-    IsDraft leaves nodes path matched → IsDraft leaves (nodes ++ n ∷ []) new now
-grows_aside leaves nodes path new matched now n leaf behind due common draft =
+pub grows_aside : (leaves : List Leaf) (nodes : List Node) (path new : List Decision) (groups now : List (List ℕ)) (n : Node) →
+    choice_in n ≡ None → pending path ≡ new ∷ pending new → IsDue leaves path n → AreGroups leaves (new ∷ pending new) now →
+    IsDraft leaves nodes path groups → IsDraft leaves (nodes ++ n ∷ []) new now
+grows_aside leaves nodes path new groups now n leaf behind due grouped draft =
     record {
       goes_on = goes_aside nodes path new n leaf behind draft.goes_on;
-      common = common;
+      grouped = grouped;
       needed = needed_next leaves nodes path n draft.goes_on due draft.needed;
       placed = λ k l here.
           subst (λ places. HasPlace leaves (nodes ++ n ∷ []) k l ⊎ IsDueAt places l) behind
@@ -265,10 +266,10 @@ grows_aside leaves nodes path new matched now n leaf behind due common draft =
     }
 
 -- and where nothing is
-pub grows_last : (leaves : List Leaf) (nodes : List Node) (path : List Decision) (matched : List ℕ) (n : Node) →
+pub grows_last : (leaves : List Leaf) (nodes : List Node) (path : List Decision) (groups : List (List ℕ)) (n : Node) →
     choice_in n ≡ None → pending path ≡ [] → IsDue leaves path n →
-    IsDraft leaves nodes path matched → IsFinished leaves (nodes ++ n ∷ [])
-grows_last leaves nodes path matched n leaf behind due draft =
+    IsDraft leaves nodes path groups → IsFinished leaves (nodes ++ n ∷ [])
+grows_last leaves nodes path groups n leaf behind due draft =
     record {
       whole =
           draft.goes_on.filling (n ∷ [])
@@ -334,40 +335,64 @@ finished_is_least leaves nodes f =
             let up = stands_above other path below.rest below.decision l.node proper (subst (λ p. StandsAt other p l.node) below.is s) in
             subst (λ x. StandsAt other path (Inner x)) below.decides up.0
 
-keeps_push : (path : List Decision) (d : Decision) → KeepsFront path (path ++ d ∷ [])
-keeps_push path d =
-    let n : length (path ++ d ∷ []) ≡ length path + 1 = length-append path (d ∷ []) in
-    let back : length (path ++ d ∷ []) - 1 ≡ length path = omega arith in
-    record {
-      some = omega arith;
-      within = omega arith;
-      same = rw back (take_at path (d ∷ []) (length path) refl ∙ sym (take_all (length path) path (omega arith)));
-    }
+-- the groups of what is due behind a path
+pub groups_behind : (leaves : List Leaf) (path : List Decision) (due : List (List Decision)) (here : List ℕ) (groups : List (List ℕ)) →
+    AreGroups leaves (path ∷ due) (here ∷ groups) → AreGroups leaves due groups
+groups_behind leaves path due here groups g = g.1
 
 -- the step of a draft as the code makes it
-pub grow_choice : (leaves : List Leaf) (nodes more : List Node) (path new read looked : List Decision) (matched now : List ℕ) (n : Node)
-    (c : Choice) → more ≡ nodes ++ n ∷ [] → Some c ≡ choice_in n → new ≡ path ++ first_decision c ∷ [] → read ≡ new →
-    looked ≡ path → IsDue leaves looked n →
-    ((old : List Decision) → KeepsFront old read → AreMatched old leaves matched → AreMatched read leaves now) →
-    IsDraft leaves nodes path matched → IsDraft leaves more new now
-grow_choice leaves nodes more path new read looked matched now n c e is next r l due rematches draft =
-    let common : AreMatched read leaves now =
-    rematches path (rw (r, next) (keeps_push path (first_decision c))) draft.common in
-    rw e (grows_below leaves nodes path new matched now n c (is_inner n c (sym is)) next (subst (λ p. IsDue leaves p n) l due)
-    (subst (λ p. AreMatched p leaves now) r common) draft)
+pub grow_choice : (leaves : List Leaf) (nodes more : List Node) (path new looked read : List Decision) (here : List ℕ)
+    (was groups now : List (List ℕ)) (n : Node) (c : Choice) → more ≡ nodes ++ n ∷ [] → Some c ≡ choice_in n →
+    new ≡ path ++ first_decision c ∷ [] → looked ≡ path → IsDue leaves looked n → was ≡ here ∷ groups →
+    read ≡ path → IsParted leaves read c groups now → IsDraft leaves nodes path was → IsDraft leaves more new now
+grow_choice leaves nodes more path new looked read here was groups now n c e is next l due w r parted draft =
+    let behind : AreGroups leaves (pending path) groups =
+    groups_behind leaves path (pending path) here groups (subst (AreGroups leaves (path ∷ pending path)) w draft.grouped) in
+    let due' : IsDue leaves path n = subst (λ p. IsDue leaves p n) l due in
+    let parted' : IsParted leaves path c groups now = subst (λ p. IsParted leaves p c groups now) r parted in
+    let o : is_ordered c ≡ true = ordered_tells c (may due' (is_inner n c (sym is))) in
+    rw e (grows_below leaves nodes path new was now n c (is_inner n c (sym is)) next due' (all_parted o behind parted') draft)
+  where
+    may : IsDue leaves path n → n ≡ Inner c → IsOrdered c
+    may due i = may_stand (subst (IsDue leaves path) i due)
+      where
+        may_stand : IsDue leaves path (Inner c) → IsOrdered c
+        may_stand (inl a) = a.may_stand
+        may_stand (inr b) = cc
 
-pub grow_leaf : (leaves : List Leaf) (nodes more : List Node) (path new read looked : List Decision) (matched now : List ℕ) (n : Node) →
-    more ≡ nodes ++ n ∷ [] → None ≡ choice_in n → pending path ≡ new ∷ pending new → KeepsFront path new → read ≡ new →
-    looked ≡ path → IsDue leaves looked n →
-    ((old : List Decision) → KeepsFront old read → AreMatched old leaves matched → AreMatched read leaves now) →
-    IsDraft leaves nodes path matched → IsDraft leaves more new now
-grow_leaf leaves nodes more path new read looked matched now n e is behind keeps r l due rematches draft =
-    let common : AreMatched read leaves now = rematches path (rw r keeps) draft.common in
-    rw e (grows_aside leaves nodes path new matched now n (sym is) behind (subst (λ p. IsDue leaves p n) l due)
-    (subst (λ p. AreMatched p leaves now) r common) draft)
+    all_parted : is_ordered c ≡ true → AreGroups leaves (pending path) groups → IsParted leaves path c groups now →
+        AreGroups leaves (new ∷ pending new) now
+    all_parted o behind p =
+        rw (next, due_after_choice path c o, p.is) (p.of_first, (p.of_second, behind))
 
-pub grow_end : (leaves : List Leaf) (nodes more : List Node) (path looked : List Decision) (matched : List ℕ) (n : Node) →
+pub grow_leaf : (leaves : List Leaf) (nodes more : List Node) (path new looked : List Decision) (here : List ℕ)
+    (was groups : List (List ℕ)) (n : Node) → more ≡ nodes ++ n ∷ [] → None ≡ choice_in n → pending path ≡ new ∷ pending new →
+    looked ≡ path → IsDue leaves looked n → was ≡ here ∷ groups → IsDraft leaves nodes path was → IsDraft leaves more new groups
+grow_leaf leaves nodes more path new looked here was groups n e is behind l due w draft =
+    let left : AreGroups leaves (new ∷ pending new) groups =
+    subst (λ places. AreGroups leaves places groups) behind
+    (groups_behind leaves path (pending path) here groups (subst (AreGroups leaves (path ∷ pending path)) w draft.grouped)) in
+    rw e (grows_aside leaves nodes path new was groups n (sym is) behind (subst (λ p. IsDue leaves p n) l due) left draft)
+
+pub grow_end : (leaves : List Leaf) (nodes more : List Node) (path looked : List Decision) (groups : List (List ℕ)) (n : Node) →
     more ≡ nodes ++ n ∷ [] → None ≡ choice_in n → pending path ≡ [] → looked ≡ path → IsDue leaves looked n →
-    IsDraft leaves nodes path matched → IsFinished leaves more
-grow_end leaves nodes more path looked matched n e is behind l due draft =
-    rw e (grows_last leaves nodes path matched n (sym is) behind (subst (λ p. IsDue leaves p n) l due) draft)
+    IsDraft leaves nodes path groups → IsFinished leaves more
+grow_end leaves nodes more path looked groups n e is behind l due draft =
+    rw e (grows_last leaves nodes path groups n (sym is) behind (subst (λ p. IsDue leaves p n) l due) draft)
+
+-- the groups with another one on top
+pub top_is : {V : Type 0} (f : V → List ℕ) (all rest : List V) (v : V) → all ≡ rest ++ v ∷ [] →
+    reverse (map f all) ≡ f v ∷ reverse (map f rest)
+top_is f all rest v e =
+    ap (λ xs. reverse (map f xs)) e ∙ (ap reverse (map-append f rest (v ∷ [])) ∙ reverse-append (map f rest) (f v ∷ []))
+
+-- a leaf, behind which something is due or nothing is
+pub grow_leaf_or_end : (leaves : List Leaf) (nodes more : List Node) (path new looked : List Decision) (here : List ℕ)
+    (was groups : List (List ℕ)) (n : Node) (turned : Bool) → more ≡ nodes ++ n ∷ [] → None ≡ choice_in n →
+    MatchBool turned (pending path ≡ new ∷ pending new) (pending path ≡ []) → looked ≡ path → IsDue leaves looked n →
+    was ≡ here ∷ groups → IsDraft leaves nodes path was →
+    MatchBool turned (IsDraft leaves more new groups) (IsFinished leaves more)
+grow_leaf_or_end leaves nodes more path new looked here was groups n true e is behind l due w draft =
+    grow_leaf leaves nodes more path new looked here was groups n e is behind l due w draft
+grow_leaf_or_end leaves nodes more path new looked here was groups n false e is behind l due w draft =
+    grow_end leaves nodes more path looked was n e is behind l due draft

@@ -5,7 +5,7 @@ pub mod Walked
 pub mod Shown
 pub mod Standing
 pub mod WorkedPlan
-pub mod Matching
+pub mod Grouping
 pub mod Asking
 pub mod Given
 pub mod Growing

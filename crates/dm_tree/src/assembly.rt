@@ -10,7 +10,7 @@ use std::alloc::Global;
 /// has them: where two have one path or one path goes on behind another, where they ask for two choices at one path, where
 /// a leaf is an inner node, or where a `First` names one event twice.
 ///
-/// Each node takes one look at every leaf.
+/// Each node takes one look at each leaf that lies at it or below.
 pub fn assemble(alloc: Global, leaves: Vec<Leaf>) -> Result<Partial, AssembleFault>
     ensures tree { IfOk result (λ t. Assembles leaves.items t) }
     ensures not_a_tree { result ≡ Err AssembleFault.NotATree → HaveNoTree leaves.items }
@@ -19,7 +19,7 @@ pub fn assemble(alloc: Global, leaves: Vec<Leaf>) -> Result<Partial, AssembleFau
         return Err(AssembleFault::OutOfMemory);
     };
     for _ in 0..u64::MAX {
-        match draft.grow(&leaves) {
+        match draft.grow(alloc, &leaves) {
             Ok(true) => {}
             Ok(false) => {
                 let Draft { nodes, .. } = draft;

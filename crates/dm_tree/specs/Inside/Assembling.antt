@@ -1,5 +1,5 @@
 -- A tree that is put together from leaves, node by node in preorder.
-use Rattle.std.specs.Prelude.{ℕ, ◌≡◌, ◌≢◌, ◌<◌, ◌≤◌, ◌⊎◌, true, List, [], ◌∷◌, ◌++◌, length, take, slice_get, slice_index, slice_index_or, Option, Some, None, Contains}
+use Rattle.std.specs.Prelude.{ℕ, zero, suc, ◌≡◌, ◌+◌, ◌<◌, ◌⊎◌, true, List, [], ◌∷◌, ◌++◌, length, slice_get, slice_index, Option, Some, None, Contains}
 use Rattle.dm_rows.specs.declared.messages.Choice.{Choice}
 use Rattle.dm_rows.specs.declared.messages.Decision.{Decision}
 use Rattle.dm_rows.specs.Decide.{choice_of}
@@ -7,32 +7,62 @@ use Rattle.dm_tree.specs.declared.forms.Node.{Node}
 use Rattle.dm_tree.specs.declared.forms.Node.TheVariants.{Inner, Cycle, Bound, Open, Hole}
 use Rattle.dm_tree.specs.declared.forms.Leaf.{Leaf}
 use Rattle.dm_tree.specs.Trees.{choice_in, IsLeaf, IsProper, StandsAt, Shape}
-use Rattle.dm_rows.specs.Sides.{IsOrdered}
+use Rattle.dm_rows.specs.Sides.{IsOrdered, first_decision, second_decision}
 use Rattle.dm_tree.specs.Inside.Filling.{fills, visits}
-use Rattle.dm_tree.specs.Pending.{pending, IsFront, KeepsFront}
+use Rattle.dm_tree.specs.Pending.{pending, IsFront}
 
--- the two lists begin with the same m elements, and not with more
-pub record HasCommon (path whole : List Decision) (m : ℕ) : Type 0 where
-  pub of_path : m ≤ length path
-  pub of_whole : m ≤ length whole
-  pub same : take m path ≡ take m whole
-  pub differ : (d : Decision) → m < length path → m < length whole → slice_index_or path m d ≢ slice_index_or whole m d
+-- the leaf at the place lies at the path or below
+pub record LiesAt (leaves : List Leaf) (path : List Decision) (place : ℕ) : Type 0 where
+  pub one : Leaf
+  pub at : slice_get leaves place ≡ Some one
+  pub front : IsFront path one.path
 
--- what a path had in common before its last steps tells that it has so much now
-abbrev pub Improves : List Decision → List Decision → ℕ → ℕ → Type 0
-Improves path whole m n = (old : List Decision) → HasCommon old whole m → KeepsFront old path → HasCommon path whole n
+-- the place is one of the group
+pub record IsAmong (group : List ℕ) (place : ℕ) : Type 0 where
+  pub index : ℕ
+  pub within : index < length group
+  pub is : slice_index group index ≡ place
 
--- of the first i leaves it is told anew
-pub record IsRematched (path : List Decision) (leaves : List Leaf) (old new : List ℕ) (i : ℕ) : Type 0 where
-  pub size : length new ≡ length leaves
-  pub done : (k : ℕ) (l : Leaf) → k < i → slice_get leaves k ≡ Some l →
-      Improves path l.path (slice_index old k) (slice_index new k)
-  pub left : (k : ℕ) → i ≤ k → slice_index new k ≡ slice_index old k
+abbrev pub Ascends : List ℕ → Type 0
+Ascends group = (m n : ℕ) → m < n → n < length group → slice_index group m < slice_index group n
 
--- for each leaf, how much its path has in common with the path
-pub record AreMatched (path : List Decision) (leaves : List Leaf) (matched : List ℕ) : Type 0 where
-  pub size : length matched ≡ length leaves
-  pub each : (k : ℕ) (l : Leaf) → slice_get leaves k ≡ Some l → HasCommon path l.path (slice_index matched k)
+-- the places, ascending, of all leaves that lie at the path or below
+pub record IsGroup (leaves : List Leaf) (path : List Decision) (group : List ℕ) : Type 0 where
+  pub ascends : Ascends group
+  pub each : (m : ℕ) → m < length group → LiesAt leaves path (slice_index group m)
+  pub all : (place : ℕ) → LiesAt leaves path place → IsAmong group place
+
+-- of the first i of a group, those that lie at a path or below
+pub record IsSide (leaves : List Leaf) (path : List Decision) (group side : List ℕ) (i : ℕ) : Type 0 where
+  pub ascends : Ascends side
+  pub each : (m : ℕ) → m < length side → LiesAt leaves path (slice_index side m)
+  pub before : (m : ℕ) → m < length side → (j : ℕ) × ((j < i) × (slice_index group j ≡ slice_index side m))
+  pub all : (j : ℕ) → j < i → LiesAt leaves path (slice_index group j) → IsAmong side (slice_index group j)
+
+-- a group for each path that is due, in order
+abbrev pub AreGroups : List Leaf → List (List Decision) → List (List ℕ) → Type 0
+AreGroups leaves [] [] = Unit {0}
+AreGroups leaves [] (g ∷ groups) = ⊥
+AreGroups leaves (path ∷ due) [] = ⊥
+AreGroups leaves (path ∷ due) (g ∷ groups) = IsGroup leaves path g × AreGroups leaves due groups
+
+-- in front of the groups stand those of the two sides of a choice at the path
+pub record IsParted (leaves : List Leaf) (path : List Decision) (c : Choice) (before after : List (List ℕ)) : Type 0 where
+  pub first : List ℕ
+  pub second : List ℕ
+  pub is : after ≡ first ∷ second ∷ before
+  pub of_first : IsGroup leaves (path ++ first_decision c ∷ []) first
+  pub of_second : IsGroup leaves (path ++ second_decision c ∷ []) second
+
+-- the place behind the last one looked at, when so many of a group were
+abbrev pub reached : List ℕ → ℕ → ℕ
+reached group zero = 0
+reached group (suc i) = slice_index group i + 1
+
+-- the places 0, 1 and so on
+pub record IsUpTo (places : List ℕ) (i : ℕ) : Type 0 where
+  pub size : length places ≡ i
+  pub each : (m : ℕ) → m < i → slice_index places m ≡ m
 
 -- the leaf lies below a choice at the path
 pub record LiesBelow (path : List Decision) (c : Choice) (l : Leaf) : Type 0 where
@@ -120,9 +150,9 @@ pub record IsDueAt (due : List (List Decision)) (l : Leaf) : Type 0 where
   pub front : IsFront path l.path
 
 -- so far every node is needed, and every leaf has its place or lies where something is due
-pub record IsDraft (leaves : List Leaf) (nodes : List Node) (path : List Decision) (matched : List ℕ) : Type 0 where
+pub record IsDraft (leaves : List Leaf) (nodes : List Node) (path : List Decision) (groups : List (List ℕ)) : Type 0 where
   pub goes_on : GoesOn nodes path
-  pub common : AreMatched path leaves matched
+  pub grouped : AreGroups leaves (path ∷ pending path) groups
   pub needed : (l : Leaf) → Contains (seen nodes) l → IsNeeded leaves l.path l.node
   pub placed : (k : ℕ) (l : Leaf) → slice_get leaves k ≡ Some l →
       HasPlace leaves nodes k l ⊎ IsDueAt (path ∷ pending path) l
