@@ -1,5 +1,5 @@
 -- One more call of a store in memory.
-use Rattle.std.proofs.Common.{◌≡◌, ◌⊎◌, inl, inr, ℕ, ◌+◌, ◌<◌, ◌≤◌, List, [], ◌∷◌, ◌++◌, length, take, get_or, Vec, refl, sym, ◌∙◌, ap, subst, arith, length-append, slice_set}
+use Rattle.std.proofs.Common.{◌≡◌, ◌⊎◌, inl, inr, ℕ, ◌+◌, ◌<◌, ◌≤◌, List, [], ◌∷◌, ◌++◌, length, take, get_or, Vec, refl, sym, ◌∙◌, ap, subst, arith, length-append, length-set, slice_set}
 use Rattle.std.proofs.lemmas.Bool.{cases_lt}
 use Rattle.std.proofs.lemmas.List.{take_all, take_more, take-append-le}
 use Rattle.dm_store.specs.Calls.{Image, After, OnJournal, OnShown, Torn, Cut, Follows, Elapses, ShowsFront, ShowsText, written}
@@ -21,6 +21,24 @@ last_there before (c ∷ calls) call image left = last_there (After (step_of c) 
 shown_last : (shown : List (List ℕ)) (calls : List Done) (call : Done) → shown_after shown (calls ++ call ∷ []) ≡ shown_then call (shown_after shown calls)
 shown_last shown [] call = refl
 shown_last shown (c ∷ calls) call = shown_last (shown_then c shown) calls call
+
+-- what is shown after one call more of a list
+pub shown_one_more : (shown : List (List ℕ)) (calls : List Done) (i : ℕ) (call : Done) → i < length calls → call ≡ get_or calls i call →
+    shown_after shown (take (i + 1) calls) ≡ shown_then call (shown_after shown (take i calls))
+shown_one_more shown calls i call low is =
+    ap (shown_after shown) (take_more calls i call low ∙ sym (ap (λ (c : Done). take i calls ++ c ∷ []) is)) ∙ shown_last shown (take i calls) call
+
+length_then : (call : Done) (shown : List (List ℕ)) → length (shown_then call shown) ≡ length shown
+length_then (Wrote at bytes) shown = refl
+length_then (CutTo len) shown = refl
+length_then (Synced journal) shown = refl
+length_then (Showed feed bytes) shown = length-set shown feed _
+length_then (Renewed feed text) shown = length-set shown feed _
+
+-- as many reply files after the calls
+pub length_after : (shown : List (List ℕ)) (calls : List Done) → length (shown_after shown calls) ≡ length shown
+length_after shown [] = refl
+length_after shown (call ∷ calls) = length_after (shown_then call shown) calls ∙ length_then call shown
 
 -- the image after one call more of a list
 pub one_more : (before : Image → Type 0) (calls : List Done) (i : ℕ) (call : Done) (from image : Image) → i < length calls → call ≡ get_or calls i call →

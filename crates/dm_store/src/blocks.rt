@@ -69,8 +69,8 @@ fn is_crash_end(new: bool, end: &[u8]) -> bool
     !new || *gate == CLOSED_GATE || next.is_ascii_digit()
 }
 
-/// Why a journal with these blocks and this end is left as it stands.
-pub fn refusal(blocks: &[u8], end: &[u8]) -> Option<StoreError>
+// Why a journal with these blocks and this end is left as it stands.
+pub fn end_refusal(blocks: &[u8], end: &[u8]) -> Option<StoreError>
     ensures told { (contents : List (List ℕ)) → blocks.now ≡ flat_map block contents → result ≡ refusal contents end.now }
     ensures known { IfSome result IsOfJournal }
 {
@@ -89,4 +89,13 @@ pub fn refusal(blocks: &[u8], end: &[u8]) -> Option<StoreError>
     } else {
         Some(StoreError::Broken)
     }
+}
+
+/// Why the file of a journal is left as it stands, where its end is not repaired.
+pub fn refusal(file: &[u8]) -> Option<StoreError>
+    ensures told { (contents : List (List ℕ)) (stands : Stands contents file.now) → result ≡ refusal contents stands.end }
+    ensures known { IfSome result IsOfJournal }
+{
+    let end = blocks_len(file);
+    end_refusal(&file[..end], &file[end..])
 }

@@ -230,6 +230,21 @@ impl<R: Files<File = File> + Drop> Store for FileStore<R> {
         self.told(answer)
     }
 
+    fn read_shown(&mut self, alloc: Global, feed: usize) -> Result<Vec<u8>, StoreError> {
+        if feed >= self.replies.len() {
+            return Err(self.fault());
+        }
+        let path = reply_path(self.alloc, &self.path, feed)?;
+        let Ok(mut file) = File::open(&self.files, &path) else {
+            return Err(self.fault());
+        };
+        match read_whole(alloc, &mut file) {
+            Ok(bytes) => Ok(bytes),
+            Err(StoreError::OutOfMemory) => Err(StoreError::OutOfMemory),
+            Err(_) => Err(self.fault()),
+        }
+    }
+
     fn show(&mut self, feed: usize, bytes: &[u8]) -> Result<(), StoreError> {
         let Some(file) = self.replies.get_mut(feed) else {
             return Err(self.fault());

@@ -7,7 +7,7 @@ ghost use Rattle.dm_store.specs.Calls.{LeavesOnly, HasCause};
 ghost use Rattle.dm_store.specs.Journals.{IsFound, IsAtRest, IsBeforeOrAfter, StillKeeps, IsJudged, Untouched, IsOfCommit, largest_journal};
 ghost use Rattle.dm_store.specs.Inside.Stages.{IsWritten, IsCut, IsRead, ReadsBlocks};
 
-use crate::blocks::{CLOSED_GATE, OPEN_GATE, blocks_len, refusal, staged};
+use crate::blocks::{CLOSED_GATE, OPEN_GATE, blocks_len, end_refusal, staged};
 use crate::{Store, StoreError};
 use std::alloc::Global;
 
@@ -51,7 +51,7 @@ fn judged(bytes: Vec<u8>) -> Result<(Vec<u8>, usize), StoreError>
     ensures known { IfErr result IsOfJournal }
 {
     let end = blocks_len(&bytes);
-    match refusal(&bytes[..end], &bytes[end..]) {
+    match end_refusal(&bytes[..end], &bytes[end..]) {
         Some(error) => Err(error),
         None => Ok((bytes, end)),
     }

@@ -28,7 +28,8 @@
 //! whose sync failed, changes no byte outside its range; a cut leaves a front; what is read at a start is on the disk, which
 //! after a sync that failed may hold only once the machine itself was started anew. The folder is synced once its files are
 //! made. A reply file is appended to and never synced, since the journal has its lines; it is put anew by a new file that is
-//! synced and takes its name by a rename, with the folder synced, so that it shows the old text or the new one. One server has
+//! synced and takes its name by a rename, with the folder synced, so that it shows the old text or the new one. It has shown what a
+//! read of it returns; where the power went, that may be less than people saw, and the journal has the rest. One server has
 //! the folder: `flock` on `lock`, which the system lets go where the process ends. A disk that loses what it said was written
 //! is none of these.
 #![tactic(auto)]
@@ -41,7 +42,7 @@ pub mod laws;
 mod memory;
 mod store;
 
-pub use blocks::{VERSION, first_block};
+pub use blocks::{VERSION, first_block, refusal};
 pub use faults::StoreError;
 pub use folder::{FileStore, OpenError};
 pub use journal::{Journal, LARGEST_JOURNAL};

@@ -1,8 +1,8 @@
 //! A store in memory, which fails and tears as it is told.
-ghost use Rattle.std.specs.Prelude.{◌≡◌, ◌+◌, ◌<◌, ◌≤◌, ◌++◌, ℕ, List, [], ◌∷◌, length, map, min, IfOk, OnOk, slice_set, false};
+ghost use Rattle.std.specs.Prelude.{◌≡◌, ◌+◌, ◌<◌, ◌≤◌, ◌++◌, ℕ, List, [], ◌∷◌, length, map, min, IfOk, OnOk, slice_set, slice_index_or, false};
 ghost use Rattle.dm_outside.specs.Faults.{HasRisen};
 ghost use Rattle.dm_store.specs.Calls.{LeavesJournal, HasCause, Torn, Cut, written, shown_behind};
-ghost use Rattle.dm_store.specs.Memory.{step_of, image_of};
+ghost use Rattle.dm_store.specs.Memory.{step_of, image_of, shown_then, shown_after};
 
 use crate::{Store, StoreError};
 use dm_outside::Calls;
@@ -301,6 +301,46 @@ fn take_renew(
     Ok(())
 }
 
+// What a call makes of the text that the reply file of the feed has shown.
+fn add_shown(text: &mut Vec<u8>, call: &Done, feed: usize) -> Result<(), AllocError>
+    ensures { (shown : List (List ℕ)) → feed < length shown → text.old.items ≡ slice_index_or shown feed []
+        → OnOk result (text.new.items ≡ slice_index_or (shown_then call.now shown) feed []) }
+{
+    match call {
+        Done::Showed(at, bytes) => {
+            if *at == feed {
+                text.extend_from_slice(bytes)?;
+            }
+        }
+        Done::Renewed(at, anew) => {
+            if *at == feed {
+                text.clear();
+                text.extend_from_slice(anew)?;
+            }
+        }
+        Done::Wrote(..) | Done::CutTo(_) | Done::Synced(_) => {}
+    }
+    Ok(())
+}
+
+// All that the reply file of the feed has shown after these calls.
+fn shown_text(
+    alloc: Global,
+    replies: &[Vec<u8>],
+    done: &[Done],
+    feed: usize,
+) -> Result<Vec<u8>, AllocError>
+    requires { feed < length replies.now }
+    ensures { IfOk result (λ text. text.items
+        ≡ slice_index_or (shown_after (map (λ reply. reply.items) replies.now) done.now) feed []) }
+{
+    let mut text = replies[feed].to_vec(alloc)?;
+    for call in done {
+        add_shown(&mut text, call, feed)?;
+    }
+    Ok(text)
+}
+
 // A journal that was synced with these bytes is just these.
 fn take_sync(journal: &[u8], bytes: &[u8]) -> Result<(), StoreError>
     ensures { OnOk result (journal.now ≡ bytes.now) }
@@ -394,6 +434,14 @@ impl Store for MemStore {
         let copy = self.seen.to_vec(self.alloc)?;
         self.done.push(Done::Synced(copy))?;
         Ok(())
+    }
+
+    fn read_shown(&mut self, alloc: Global, feed: usize) -> Result<Vec<u8>, StoreError> {
+        let fails = self.calls.is_listed(&self.fails);
+        if fails || feed >= self.replies.len() {
+            return Err(fault(&mut self.calls));
+        }
+        Ok(shown_text(alloc, &self.replies, &self.done, feed)?)
     }
 
     fn show(&mut self, feed: usize, bytes: &[u8]) -> Result<(), StoreError> {

@@ -1,5 +1,5 @@
 //! A disk with a clock, and files that are shown to people.
-ghost use Rattle.std.specs.Prelude.{◌≡◌, ◌<◌, ◌≤◌, ℕ, List, [], length, take, IfOk, OnOk, slice_set};
+ghost use Rattle.std.specs.Prelude.{◌≡◌, ◌<◌, ◌≤◌, ℕ, List, [], length, take, IfOk, OnOk, slice_set, slice_index_or};
 ghost use Rattle.dm_store.specs.Calls.{Image, Torn, Cut, OnJournal, Follows, AddsNone, LeavesJournal, Goes, GoesShowing, HasCause};
 ghost use Rattle.dm_store.specs.Calls.{written, shown_behind, ShowsFront, ShowsText};
 
@@ -57,6 +57,15 @@ pub trait Store {
     /// After it a crash leaves of the journal what a read returns.
     fn sync(&mut self) -> Result<(), StoreError>
         ensures durable { tells self.old → OnOk result (LeavesJournal (seen self.old) (may_leave self.new)) }
+        ensures seen { tells self.old → seen self.new ≡ seen self.old }
+        ensures crash { tells self.old → AddsNone (may_leave self.old) (may_leave self.new) }
+        ensures goes { tells self.old → Goes tells shown moment left_since may_leave self.old self.new }
+        ensures cause { HasCause (faults self.old) (faults self.new) result };
+
+    /// All that the reply file of the feed has shown; feeds count from 0.
+    fn read_shown(&mut self, alloc: Global, feed: usize) -> Result<Vec<u8>, StoreError>
+        ensures bytes { tells self.old → feed < length (shown self.old)
+            → IfOk result (λ bytes. bytes.items ≡ slice_index_or (shown self.old) feed []) }
         ensures seen { tells self.old → seen self.new ≡ seen self.old }
         ensures crash { tells self.old → AddsNone (may_leave self.old) (may_leave self.new) }
         ensures goes { tells self.old → Goes tells shown moment left_since may_leave self.old self.new }

@@ -1,18 +1,14 @@
-use Rattle.std.proofs.Common.{◌<◌, ◌^◌, true, false, length, arith}
-use Rattle.dm_store.proofs.Standing.{other_version, right_version}
+use Rattle.std.proofs.Common.{◌≡◌, length, ◌∙◌, ap}
+use Rattle.std.specs.List.{flat_map}
+use Rattle.std.proofs.lemmas.List.{take_rest}
+use Rattle.dm_store.specs.Blocks.{block, refusal}
+use Rattle.dm_store.proofs.Crash.{cut_done, end_is}
 use Rattle.dm_store.proofs.blocks.refusal.Goals as goal
 
-pub returns-then-not-starts_with-clause-told : goal.returns-then-not-starts_with-clause-told
-returns-then-not-starts_with-clause-told c = λ contents is.
-    let short : length c.args.blocks.now < 2 ^ 64 = omega arith in
-    other_version contents _ _ _ _ _ short is c.in-Some.ensures c.as_bytes.ensures.value c.if-not-starts_with.ensures.value
-
-pub returns-then-is_crash_end-2-clause-told : goal.returns-then-is_crash_end-2-clause-told
-returns-then-is_crash_end-2-clause-told c = λ contents is.
-    let short : length c.args.blocks.now < 2 ^ 64 = omega arith in
-    right_version contents _ _ _ _ _ true short is c.in-Some.ensures c.as_bytes.ensures.value c.if-not-starts_with.ensures.value c.if-is_crash_end-2.ensures
-
-pub returns-else-is_crash_end-2-clause-told : goal.returns-else-is_crash_end-2-clause-told
-returns-else-is_crash_end-2-clause-told c = λ contents is.
-    let short : length c.args.blocks.now < 2 ^ 64 = omega arith in
-    right_version contents _ _ _ _ _ false short is c.in-Some.ensures c.as_bytes.ensures.value c.if-not-starts_with.ensures.value c.if-is_crash_end-2.ensures
+pub returns-clause-told : goal.returns-clause-told
+returns-clause-told c = λ contents stands.
+    let there : c.blocks_len-end.result ≡ length (flat_map block contents) = c.blocks_len-end.ensures.length contents stands in
+    let front = cut_done contents c.args.file.now stands.end stands.split stands.is_end c.blocks_len-end.result there in
+    let back = take_rest c.args.file.now c.blocks_len-end.result
+    ∙ end_is contents c.args.file.now stands.end stands.split stands.is_end c.blocks_len-end.result there in
+    c.end_refusal.ensures.told contents front ∙ ap (refusal contents) back
