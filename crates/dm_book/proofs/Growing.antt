@@ -92,7 +92,8 @@ empty_one (x ∷ xs) (y ∷ ys) size p q =
     let rest = empty_one xs ys (omega (arith, size)) (All-tail (λ items. items ≡ []) x xs p) (All-tail (λ items. items ≡ []) y ys q) in
     ap (λ l. l ∷ xs) first ∙ ap (λ ls. y ∷ ls) rest
 
-in_one : (s : Setting) (contents : List (List ℕ)) (one other : Book) → length one.logs ≡ length other.logs → IsBookIn s contents one → IsBookIn s contents other →
+-- blocks hold the logs of one book
+pub in_one : (s : Setting) (contents : List (List ℕ)) (one other : Book) → length one.logs ≡ length other.logs → IsBookIn s contents one → IsBookIn s contents other →
     one.logs ≡ other.logs
 in_one s contents one other size (inl p) (inl q) = empty_one one.logs other.logs size p.empty q.empty
 in_one s contents one other size (inl p) (inr q) = let e = sym p.none ∙ q.blocks in absurd (cc (e))
