@@ -24,10 +24,10 @@ use Rattle.dm_search.proofs.Leaves.{violated_is_undecided, decides_it, path_goes
 use Rattle.dm_tree.proofs.Growing.{station, one_visit, leaf_visit, leaf_fill, goes_next}
 use Rattle.dm_tree.proofs.Walked.{none_left, none_left}
 
-first_is : {X : Type 0} (x : X) (xs : List X) → Contains (x ∷ xs) x
+pub first_is : {X : Type 0} (x : X) (xs : List X) → Contains (x ∷ xs) x
 first_is x xs = (0, omega arith, refl)
 
-is_behind : {X : Type 0} (x y : X) (xs : List X) → Contains xs y → Contains (x ∷ xs) y
+pub is_behind : {X : Type 0} (x y : X) (xs : List X) → Contains xs y → Contains (x ∷ xs) y
 is_behind x y xs h = Contains-append_right (x ∷ []) xs y h
 
 -- less dear choices leave known what was known

@@ -50,7 +50,7 @@ final task cost path (Open c) k = by_cost (leb cost c) refl
 final task cost path Hole k = tt
 
 -- closing keeps each place
-abbrev reseated : ℕ → Leaf → Leaf
+abbrev pub reseated : ℕ → Leaf → Leaf
 reseated best l = station l.path (closed best l.node)
 
 closed_is_leaf : (best c : ℕ) → choice_in (closed best (Open c)) ≡ None
@@ -60,7 +60,7 @@ closed_is_leaf best c = by_cost (leb best c)
     by_cost true = refl
     by_cost false = refl
 
-closed_visits : (best : ℕ) (due : List (List Decision)) (nodes : List Node) →
+pub closed_visits : (best : ℕ) (due : List (List Decision)) (nodes : List Node) →
     visits due (map (closed best) nodes) ≡ map (reseated best) (visits due nodes)
 closed_visits best [] [] = refl
 closed_visits best (p ∷ due) [] = refl

@@ -14,8 +14,7 @@ use Rattle.dm_tree.specs.Plans.{Task, IsViolatedThere}
 use Rattle.dm_rows.specs.Sides.{is_ordered}
 use Rattle.dm_relax.proofs.Differing.{differences_complete}
 use Rattle.dm_paths.proofs.Naming.{from_place, ids_rise}
-use Rattle.dm_search.specs.Steps.{IsSolved}
-use Rattle.dm_search.specs.Inside.Walking.{IsBranchThere}
+use Rattle.dm_search.specs.Steps.{IsSolved, IsBranchOn}
 use Rattle.dm_search.specs.Moving.{IsOver}
 use Rattle.dm_search.specs.Inside.Searching.{AreBest, IsBetter, IsSplit}
 use Rattle.dm_guide.specs.Posed.{task_beside, IsPosed}
@@ -70,7 +69,7 @@ module _ (net : Net) (network : IsNetwork net) (rows : RowsValue) (penalty : ℕ
         less = let a = h.less in omega arith;
       })
 
-  violated_there : (c : ℕ) (choice : Choice) → IsBranchThere net rows (base ++ path) penalty best c choice → IsViolatedThere task path choice c
+  violated_there : (c : ℕ) (choice : Choice) → IsBranchOn net rows (base ++ path) penalty best c choice → IsViolatedThere task path choice c
   violated_there c choice h =
       record {
         times = h.times;
@@ -79,7 +78,7 @@ module _ (net : Net) (network : IsNetwork net) (rows : RowsValue) (penalty : ℕ
         violated = h.violated;
       }
 
-  pub found_split : (c : ℕ) (choice : Choice) (old : List Decision) → IsBranchThere net rows (base ++ path) penalty best c choice →
+  pub found_split : (c : ℕ) (choice : Choice) (old : List Decision) → IsBranchOn net rows (base ++ path) penalty best c choice →
       AreBest task old best → c < ceiling → IsSplit task path ceiling choice
   unfolding violated_there
   found_split c choice old h are less =
@@ -111,10 +110,10 @@ module _ (t : Task) (net : Net) (network : IsNetwork net) (rows : RowsValue) (pe
       IsBetter u path best (record { choices = choices; cost = c })) is
       (λ l s a. found_better net network rows penalty base budget posed path l best ceiling c choices old s a) list solved are
 
-  pub split_of : (c : ℕ) (choice : Choice) (old : List Decision) → IsBranchThere t.net t.rows (t.base ++ path) t.penalty best c choice →
+  pub split_of : (c : ℕ) (choice : Choice) (old : List Decision) → IsBranchOn t.net t.rows (t.base ++ path) t.penalty best c choice →
       AreBest t old best → c < ceiling → IsSplit t path ceiling choice
   split_of c choice old there are below =
-      subst (λ (u : Task). IsChoiceList u.net u.rows (u.base ++ path) → IsBranchThere u.net u.rows (u.base ++ path) u.penalty best c choice → AreBest u old best →
+      subst (λ (u : Task). IsChoiceList u.net u.rows (u.base ++ path) → IsBranchOn u.net u.rows (u.base ++ path) u.penalty best c choice → AreBest u old best →
       IsSplit u path ceiling choice) is
       (λ l b a. found_split net network rows penalty base budget posed path l best ceiling c choice old b a below) list there are
 

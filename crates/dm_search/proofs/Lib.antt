@@ -7,6 +7,7 @@ pub mod Exits
 pub mod Finding
 pub mod Ended
 pub mod Started
+pub mod Kept
 pub mod Walks
 pub mod Fronts
 pub mod Limits

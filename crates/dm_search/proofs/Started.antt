@@ -27,6 +27,9 @@ one_cost : (net : Net) (rows : RowsValue) (penalty a b : ℕ) → Costs net rows
 one_cost net rows penalty a b p q =
     p.cost ∙ (ap (λ x. cost_of net rows x penalty) (one_least net rows (is_active net rows) p.times q.times p.least q.least) ∙ sym q.cost)
 
+pub no_more : (net : Net) (rows : RowsValue) (penalty a b : ℕ) → Costs net rows penalty a → Costs net rows penalty b → a ≤ b
+no_more net rows penalty a b p q = let same = one_cost net rows penalty a b p q in omega (arith, same)
+
 best_at_start : (task : Task) → IsNetwork task.net → (nodes : List Node) (best : List Decision) (cost : ℕ) → IsStart task nodes best →
     Costs task.net (with_decisions task.net task.rows best) task.penalty cost → AreBest task best cost
 best_at_start task network nodes best cost s costs =

@@ -1,5 +1,5 @@
 -- An evaluator that goes back and on along a path.
-use Rattle.std.proofs.Common.{◌≡◌, ℕ, zero, suc, ◌+◌, ◌-◌, ◌<◌, ◌≤◌, Bool, true, false, List, [], ◌∷◌, ◌++◌, length, get_or, take, drop, Option, Some, None, refl, sym, ap, subst, ◌∙◌, arith, append-nil}
+use Rattle.std.proofs.Common.{◌≡◌, ℕ, zero, suc, ◌+◌, ◌-◌, ◌<◌, ◌≤◌, Bool, true, false, List, [], ◌∷◌, ◌++◌, length, get_or, take, drop, Option, Some, None, refl, sym, ap, subst, ◌∙◌, inr, arith, append-nil}
 use Rattle.std.specs.Prelude.{Contains, not, ◌&&◌, slice_get, IfSome}
 use Rattle.std.proofs.Math.Seq.{get_or-append_seam, take-append_seam}
 use Rattle.std.proofs.lemmas.List.{take_more, take_all, drop_all, length-append}
@@ -13,13 +13,14 @@ use Rattle.dm_rows.specs.declared.messages.Choice.{Choice}
 use Rattle.dm_rows.specs.declared.messages.Decision.{Decision}
 use Rattle.dm_rows.specs.Decide.{IsChoiceList, choice_of, with_decisions, free_choices_of, is_free_change, is_free_pair, change_choice, pair_choice}
 use Rattle.dm_rows.specs.Relax.{is_of_undecided, is_relaxed_active, violated_choices_of}
+use Rattle.dm_tree.proofs.Shown.{one_least}
 use Rattle.dm_rows.specs.Rows.{RowsValue, IsSized}
 use Rattle.dm_rows.specs.Active.{is_active}
 use Rattle.dm_evaluate.specs.Evaluator.{EvaluatorValue, IsEvaluatorOf, times_of, path_without}
 use Rattle.dm_evaluate.proofs.Relaxing.{relaxed_least, no_relaxed_cycle}
 use Rattle.dm_relax.specs.Relaxed.{first_violated}
 use Rattle.dm_tree.specs.Plans.{Task}
-use Rattle.dm_tree.specs.Relaxed.{relaxed_cost_of, IsViolated}
+use Rattle.dm_tree.specs.Relaxed.{IsRelaxedLeast, relaxed_cost_of, IsViolated}
 use Rattle.dm_evaluate.proofs.Lists.{without_at}
 use Rattle.dm_paths.proofs.Apart.{got_is_in}
 use Rattle.dm_relax.proofs.BoundLaw.{all_from}
@@ -27,8 +28,7 @@ use Rattle.dm_rows.proofs.Sides.{same_itself}
 use Rattle.dm_paths.proofs.Setting.{has_each, differs_in_none, differs_with}
 use Rattle.dm_relax.proofs.Bounding.{relaxed_is_active, held_in_relaxed}
 use Rattle.dm_search.specs.declared.steps.Outcome.{Outcome}
-use Rattle.dm_search.specs.Steps.{HasRelaxedCycle, IsPruned, IsOutcome, IsBranch}
-use Rattle.dm_search.specs.Inside.Walking.{IsBranchThere, IsFoundThere}
+use Rattle.dm_search.specs.Steps.{HasRelaxedCycle, IsPruned, IsOutcome, IsBranch, IsBranchOn, IsFoundThere, IsChosenBy, IsHinted, IsByHint}
 use Rattle.dm_search.specs.Moving.{IsOver}
 use Rattle.dm_search.proofs.Optimal.{decided_longer}
 
@@ -126,7 +126,7 @@ module _ (net : Net) (network : IsNetwork net) (e : EvaluatorValue) (is : IsEval
   pruned_there no_less =
       subst (λ p. IsPruned net rows p penalty best c) at (subst (λ r. IsPruned net r e.path penalty best c) same (shown_bound no_less))
 
-  shown_branch : (choice : Choice) → c < best → IsViolated net e.rows e.path (times_of e) choice → IsBranchThere net e.rows e.path penalty best c choice
+  shown_branch : (choice : Choice) → c < best → IsViolated net e.rows e.path (times_of e) choice → IsBranchOn net e.rows e.path penalty best c choice
   shown_branch choice less violated =
       record {
         no_cycle = no_relaxed_cycle net e.rows e.path e.priced is.evaluates;
@@ -137,10 +137,10 @@ module _ (net : Net) (network : IsNetwork net) (e : EvaluatorValue) (is : IsEval
         violated = violated;
       }
 
-  pub branch_there : (choice : Choice) → c < best → IsViolated net e.rows e.path (times_of e) choice → IsBranchThere net rows path penalty best c choice
+  pub branch_there : (choice : Choice) → c < best → IsViolated net e.rows e.path (times_of e) choice → IsBranchOn net rows path penalty best c choice
   branch_there choice less violated =
-      subst (λ p. IsBranchThere net rows p penalty best c choice) at
-      (subst (λ r. IsBranchThere net r e.path penalty best c choice) same (shown_branch choice less violated))
+      subst (λ p. IsBranchOn net rows p penalty best c choice) at
+      (subst (λ r. IsBranchOn net r e.path penalty best c choice) same (shown_branch choice less violated))
 
   shown_first : (choice : Choice) → c < best → first_violated net e.rows e.path (times_of e) ≡ Some choice → IsBranch net e.rows e.path penalty best c choice
   shown_first choice less first =
@@ -167,6 +167,13 @@ pub all_violated : (net : Net) (rows : RowsValue) (path : List Decision) (x : Li
     IfSome o (IsViolated net rows path x)
 all_violated net rows path x None e = tt
 all_violated net rows path x (Some choice) e = first_is_violated net rows path x choice e
+
+-- where the hinted choice is not violated, the first one goes by the hint
+pub first_chosen : (net : Net) (rows : RowsValue) (path : List Decision) (x : List ℕ) (hint o : Option Choice) →
+    ((other : Choice) → hint ≡ Some other → IsViolated net rows path x other → ⊥) → o ≡ first_violated net rows path x →
+    IfSome o (IsChosenBy net rows path x hint)
+first_chosen net rows path x hint None unlike e = tt
+first_chosen net rows path x hint (Some choice) unlike e = inr (unlike, sym e)
 
 -- what one step finds is found there
 pub step_is_there : (net : Net) (rows : RowsValue) (path : List Decision) (penalty best : ℕ) (o : Outcome) → IsOutcome net rows path penalty best o →
@@ -196,3 +203,37 @@ pub found_along : (net : Net) (rows : RowsValue) (path at : List Decision) (pena
     IsOutcome net rows at penalty best o → IsFoundThere net rows path penalty best o
 found_along net rows path at penalty best o e h =
     step_is_there net rows path penalty best o (subst (λ p. IsOutcome net rows p penalty best o) e h)
+
+-- what an evaluator shows of a hint where it stands
+module _ (net : Net) (network : IsNetwork net) (e : EvaluatorValue) (is : IsEvaluatorOf net e) (rows : RowsValue) (path : List Decision)
+    (same : e.rows ≡ rows) (at : e.path ≡ path) (hint : Option Choice) where
+  least_there : IsRelaxedLeast net rows path (times_of e)
+  least_there =
+      subst (λ p. IsRelaxedLeast net rows p (times_of e)) at
+      (subst (λ r. IsRelaxedLeast net r e.path (times_of e)) same
+      (relaxed_least net e.rows e.path e.priced is.evaluates network.formed.ends_are_known is.at_rest))
+
+  pub hinted_there : (choice : Choice) → IsChosenBy net e.rows e.path (times_of e) hint choice → IsHinted net rows path hint choice
+  hinted_there choice chosen =
+      record {
+        times = times_of e;
+        least = least_there;
+        chosen = subst (λ p. IsChosenBy net rows p (times_of e) hint choice) at
+            (subst (λ r. IsChosenBy net r e.path (times_of e) hint choice) same chosen);
+      }
+
+  -- where nothing is violated, one step branches on nothing
+  pub none_by_hint : (penalty best : ℕ) (o : Outcome) → first_violated net e.rows e.path (times_of e) ≡ None →
+      IsOutcome net rows path penalty best o → IsByHint net rows path hint o
+  none_by_hint penalty best Outcome.Cycle none h = tt
+  none_by_hint penalty best (Outcome.Pruned c) none h = tt
+  none_by_hint penalty best (Outcome.Solved c choices) none h = tt
+  none_by_hint penalty best (Outcome.Branch c choice) none h =
+      let one : h.times ≡ times_of e =
+      one_least net (with_decisions net rows path) (is_relaxed_active net rows path) h.times (times_of e) h.least least_there in
+      let first : first_violated net rows path (times_of e) ≡ Some choice =
+      subst (λ x. first_violated net rows path x ≡ Some choice) one h.first in
+      let nothing : first_violated net rows path (times_of e) ≡ None =
+      subst (λ p. first_violated net rows p (times_of e) ≡ None) at
+      (subst (λ r. first_violated net r e.path (times_of e) ≡ None) same none) in
+      cc

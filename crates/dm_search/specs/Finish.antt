@@ -38,6 +38,20 @@ pub record IsStart (task : Task) (nodes : List Node) (best : List Decision) : Ty
   pub known : (c : ℕ) → CostsWith task best c → (path : List Decision) (n : Node) → StandsAt shape path n →
       IsKnown task c path n
 
+-- a node that a search leaves as it is: each one but a hole and an open leaf
+abbrev pub Stays : Node → Type 0
+Stays (Inner choice) = Unit {0}
+Stays Cycle = Unit {0}
+Stays (Bound c) = Unit {0}
+Stays (Open c) = ⊥
+Stays Hole = ⊥
+
+-- One tree goes on from another, both in preorder: each choice, cycle and bound of the other stands in it at the same path.
+abbrev pub GoesOnFrom : List Node → List Node → Type 0
+GoesOnFrom before after =
+    (old new : Shape) → IsProper old → preorder old ≡ before → IsProper new → preorder new ≡ after →
+    (path : List Decision) (n : Node) → Stays n → StandsAt old path n → StandsAt new path n
+
 -- No leaves make a tree of one hole. Where the rows have no cycle, it is a start with no choices.
 pub record AHoleIsAStart : Type 0 where
   pub hole : (nodes : List Node) → Assembles [] nodes → nodes ≡ Hole ∷ []

@@ -1,5 +1,5 @@
 //! A search that ends with a true plan.
-ghost use Rattle.std.specs.Prelude.{◌≡◌, ◌≤◌, [], IfOk, map, fold};
+ghost use Rattle.std.specs.Prelude.{ℕ, ◌≡◌, ◌≤◌, [], IfOk, map, fold};
 ghost use Rattle.std.specs.List.{list_any};
 ghost use Rattle.dm_base.specs.declared.limits.TheConstants.{PENALTY, BUDGET};
 ghost use Rattle.dm_evaluate.specs.Evaluator.{IsEvaluatorOf};
@@ -8,9 +8,9 @@ ghost use Rattle.dm_rows.specs.Rows.{IsSized};
 ghost use Rattle.dm_rows.specs.Active.{HasNoCycle};
 ghost use Rattle.dm_rows.specs.Cost.{Costs};
 ghost use Rattle.dm_rows.specs.Decide.{IsChoiceList, with_decisions};
-ghost use Rattle.dm_tree.specs.Plans.{whole_task, IsTruePlan};
-ghost use Rattle.dm_search.specs.Finish.{IsStart};
-ghost use Rattle.dm_search.specs.Inside.Searching.{AreBest, AreUsedUp, IsStanding};
+ghost use Rattle.dm_tree.specs.Plans.{whole_task, CostsWith, IsTruePlan};
+ghost use Rattle.dm_search.specs.Finish.{IsStart, GoesOnFrom};
+ghost use Rattle.dm_search.specs.Inside.Searching.{AreBest, AreUsedUp, Keeps, IsStanding};
 ghost use Rattle.dm_search.specs.Moving.{IsOver};
 ghost use Rattle.dm_search.specs.Inside.Ending.{closed, carried, least_with, bound_of, is_open, mark_of, IsPlanOf};
 
@@ -69,6 +69,9 @@ pub fn finish(
     requires start { IsStart (whole_task net.now snapshot.now.rows penalty budget) partial best.items }
     ensures plan { IfOk result (IsTruePlan (whole_task net.now snapshot.now.rows penalty budget)) }
     ensures entry { IfOk result (λ plan. plan.entry ≡ snapshot.now.entry) }
+    ensures cost { IfOk result (λ plan. (c : ℕ)
+        → CostsWith (whole_task net.now snapshot.now.rows penalty budget) best.items c → plan.cost ≤ c) }
+    ensures goes_on { IfOk result (λ plan. GoesOnFrom partial plan.tree) }
 {
     let rows = &snapshot.rows;
     let task = whole(alloc, net, rows, penalty, budget);
@@ -169,6 +172,8 @@ pub fn finish_with(
     requires evaluator { IsOver (task_of task.now) evaluator }
     ensures plan { IfOk result (IsTruePlan (task_of task.now)) }
     ensures entry { IfOk result (λ plan. plan.entry ≡ entry) }
+    ensures cost { IfOk result (λ plan. (c : ℕ) → CostsWith (task_of task.now) best.items c → plan.cost ≤ c) }
+    ensures goes_on { IfOk result (λ plan. GoesOnFrom partial plan.tree) }
 {
     let standing = standing_at(task, partial, best)?;
     finish_standing(task, entry, standing, evaluator, guide)
@@ -182,7 +187,9 @@ fn standing_at(
 ) -> Result<Standing, AllocError>
     requires posed { IsPosedTask task.now }
     requires start { IsStart (task_of task.now) partial best.items }
-    ensures { IfOk result (IsStanding (task_of task.now)) }
+    ensures stands { IfOk result (IsStanding (task_of task.now)) }
+    ensures cost { IfOk result (λ s. (c : ℕ) → CostsWith (task_of task.now) best.items c → s.best.cost ≤ c) }
+    ensures nodes { IfOk result (λ s. s.nodes.items ≡ partial) }
 {
     task.net.sound();
     let cost = cost_with(task, &best)?;
@@ -198,6 +205,8 @@ fn finish_alone(task: &Task<'_>, entry: u32, standing: Standing) -> Result<Plan,
     requires stands { IsStanding (task_of task.now) standing }
     ensures plan { IfOk result (IsTruePlan (task_of task.now)) }
     ensures entry { IfOk result (λ plan. plan.entry ≡ entry) }
+    ensures cost { IfOk result (λ plan. plan.cost ≤ standing.best.cost) }
+    ensures goes_on { IfOk result (λ plan. GoesOnFrom standing.nodes.items plan.tree) }
 {
     let guide = guide_alone(task, &standing)?;
     let evaluator = evaluator_at_base(task)?;
@@ -217,6 +226,8 @@ fn finish_standing(
     requires evaluator { IsOver (task_of task.now) evaluator }
     ensures plan { IfOk result (IsTruePlan (task_of task.now)) }
     ensures entry { IfOk result (λ plan. plan.entry ≡ entry) }
+    ensures cost { IfOk result (λ plan. plan.cost ≤ standing.best.cost) }
+    ensures goes_on { IfOk result (λ plan. GoesOnFrom standing.nodes.items plan.tree) }
 {
     task.net.sound();
     let mut walker = Walker {
@@ -256,6 +267,8 @@ impl Walker<'_> {
         requires { IsStanding self.old standing }
         ensures stands { IfOk result (IsStanding self.old) }
         ensures used { IfOk result (λ s. AreUsedUp self.old.budget s.best.cost s.nodes.items) }
+        ensures no_dearer { IfOk result (λ s. s.best.cost ≤ standing.best.cost) }
+        ensures kept { IfOk result (λ s. Keeps standing.nodes.items s.nodes.items) }
     {
         let path = behind(guide.path.as_slice(), self.task.base.len());
         let improved = self.improve(standing, path)?;
@@ -268,6 +281,8 @@ impl Walker<'_> {
     fn improve(&mut self, standing: Standing, path: &[Decision]) -> Result<Standing, AllocError>
         requires { IsStanding self.old standing }
         ensures stands { IfOk result (IsStanding self.old) }
+        ensures no_dearer { IfOk result (λ s. s.best.cost ≤ standing.best.cost) }
+        ensures kept { IfOk result (λ s. Keeps standing.nodes.items s.nodes.items) }
         ensures same { self.new ≡ self.old }
     {
         let Standing { nodes, best } = standing;
@@ -305,6 +320,8 @@ impl Walker<'_> {
     fn traverse_all(&mut self, standing: Standing) -> Result<Standing, AllocError>
         requires { IsStanding self.old standing }
         ensures stands { IfOk result (IsStanding self.old) }
+        ensures no_dearer { IfOk result (λ s. s.best.cost ≤ standing.best.cost) }
+        ensures kept { IfOk result (λ s. Keeps standing.nodes.items s.nodes.items) }
         ensures same { self.new ≡ self.old }
     {
         let guide = Guide::new(self.task.alloc);
@@ -323,6 +340,8 @@ impl Walker<'_> {
     fn last_traversal(&mut self, standing: Standing) -> Result<Standing, AllocError>
         requires { IsStanding self.old standing }
         ensures stands { IfOk result (IsStanding self.old) }
+        ensures no_dearer { IfOk result (λ s. s.best.cost ≤ standing.best.cost) }
+        ensures kept { IfOk result (λ s. Keeps standing.nodes.items s.nodes.items) }
         ensures used { IfOk result (λ s. AreUsedUp self.old.budget s.best.cost s.nodes.items) }
     {
         let limit = standing.best.cost;

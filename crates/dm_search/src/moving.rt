@@ -1,18 +1,18 @@
 //! What one step finds, by an evaluator that goes to the path from where it stands.
-ghost use Rattle.std.specs.Prelude.{◌≡◌, ◌++◌, [], IfOk, OnOk};
+ghost use Rattle.std.specs.Prelude.{◌≡◌, ◌++◌, [], IfOk, OnOk, None};
 ghost use Rattle.dm_evaluate.specs.Evaluator.{IsEvaluatorOf};
 ghost use Rattle.dm_guide.specs.Tasks.{task_of, IsPosedTask};
 ghost use Rattle.dm_rows.specs.Decide.{IsChoiceList};
 ghost use Rattle.dm_search.specs.Moving.{IsOver};
-ghost use Rattle.dm_search.specs.Steps.{IsOutcome};
+ghost use Rattle.dm_search.specs.Steps.{IsOutcome, IsFoundThere, IsByHint};
 
 use crate::Outcome;
 use crate::finishing::evaluator_of;
-use crate::walking::{make_all, step_there};
+use crate::walking::{make, make_all, outcome_here, step_there};
 use dm_base::Cost;
 use dm_evaluate::Evaluator;
 use dm_guide::{Searcher, Task};
-use dm_rows::Decision;
+use dm_rows::{Choice, Decision};
 use std::alloc::AllocError;
 
 /// An evaluator of a task's rows, which have no cycle, where it has decided the task's base.
@@ -65,4 +65,54 @@ pub fn step_to(
     ensures evaluator { IsOver (task_of task.now) evaluator.new }
 {
     step_there(task, evaluator, path, best, None)
+}
+
+/// The same, where it branches on the choice that it is hinted at, if that one is violated there, and else on the first.
+pub fn step_by(
+    task: &Task<'_>,
+    evaluator: &mut Evaluator,
+    path: &[Decision],
+    best: Cost,
+    hint: Option<Choice>,
+) -> Result<Outcome, AllocError>
+    requires posed { IsPosedTask task.now }
+    requires evaluator { IsOver (task_of task.now) evaluator.old }
+    requires list { IsChoiceList task.now.net.now task.now.rows.now (task.now.base.now ++ path.now) }
+    ensures found { IfOk result (IsFoundThere task.now.net.now task.now.rows.now (task.now.base.now ++ path.now) task.now.penalty best) }
+    ensures first { hint ≡ None → IfOk result (IsOutcome task.now.net.now task.now.rows.now
+        (task.now.base.now ++ path.now) task.now.penalty best) }
+    ensures hinted { IfOk result (IsByHint task.now.net.now task.now.rows.now (task.now.base.now ++ path.now) hint) }
+    ensures evaluator { IsOver (task_of task.now) evaluator.new }
+{
+    step_there(task, evaluator, path, best, hint)
+}
+
+/// What [`step`](crate::step) says of where the task's evaluator stands, once it has made the decisions of a path up to the first
+/// of which the choice is not open or which makes a cycle.
+pub fn step_along(
+    task: &Task<'_>,
+    evaluator: &mut Evaluator,
+    path: &[Decision],
+    best: Cost,
+) -> Result<Outcome, AllocError>
+    requires posed { IsPosedTask task.now }
+    requires evaluator { IsOver (task_of task.now) evaluator.old }
+    ensures outcome { IfOk result (IsOutcome task.now.net.now task.now.rows.now evaluator.new.path task.now.penalty best) }
+    ensures evaluator { IsOver (task_of task.now) evaluator.new }
+{
+    make_along(task, evaluator, path);
+    outcome_here(task, evaluator, best)
+}
+
+/// Makes the decisions of a path, up to the first of which the choice is not open or which makes a cycle.
+#[tactic(auto, using(crate::proofs::Fronts::over_longer))]
+fn make_along(task: &Task<'_>, evaluator: &mut Evaluator, path: &[Decision])
+    requires { IsOver (task_of task.now) evaluator.old }
+    ensures { IsOver (task_of task.now) evaluator.new }
+{
+    for decision in path {
+        if !make(task.net, evaluator, *decision) {
+            return;
+        }
+    }
 }

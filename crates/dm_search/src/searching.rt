@@ -9,8 +9,8 @@ ghost use Rattle.dm_tree.specs.Trees.{choice_in};
 ghost use Rattle.dm_rows.specs.Sides.{first_decision};
 ghost use Rattle.dm_tree.specs.Pending.{pending};
 ghost use Rattle.dm_search.specs.Finish.{IsKnown};
-ghost use Rattle.dm_search.specs.Inside.Walking.{IsFoundThere};
-ghost use Rattle.dm_search.specs.Inside.Searching.{AreBest, AreUsedUp, IsSearched, IsStanding, IsCeiling, IsFound, IsAdvanced};
+ghost use Rattle.dm_search.specs.Steps.{IsFoundThere};
+ghost use Rattle.dm_search.specs.Inside.Searching.{AreBest, AreUsedUp, Keeps, IsSearched, IsStanding, IsCeiling, IsFound, KeepsLeaf, IsAdvanced};
 
 use crate::Outcome;
 use crate::walking::step_there;
@@ -187,6 +187,7 @@ impl Walker<'_> {
         ensures stands { IfOk result (IsStanding self.old) }
         ensures used { IfOk result (λ s. AreUsedUp self.old.budget limit s.nodes.items) }
         ensures no_dearer { IfOk result (λ s. s.best.cost ≤ standing.best.cost) }
+        ensures kept { IfOk result (λ s. Keeps standing.nodes.items s.nodes.items) }
         ensures same { self.new ≡ self.old }
     {
         self.sound();
@@ -217,6 +218,7 @@ impl Walker<'_> {
         ensures best { IfOk result (λ b. AreBest self.old b.choices b.cost) }
         ensures search { IfOk result (λ b. IsSearched self.old limit b.cost search.new.nodes.items [] search.new.path.items) }
         ensures no_dearer { IfOk result (λ b. b.cost ≤ best.cost) }
+        ensures kept { IfOk result (λ b. Keeps (search.old.nodes.items ++ reverse search.old.due.items) search.new.nodes.items) }
         ensures same { self.new ≡ self.old }
     {
         let mut now = best;
@@ -240,6 +242,8 @@ impl Walker<'_> {
             search.old.nodes.items (node ∷ reverse search.old.due.items) search.old.path.items }
         ensures advanced { IfOk result (IsAdvanced self.old limit (length search.old.nodes.items) best.cost
             search.new.nodes.items (reverse search.new.due.items) search.new.path.items) }
+        ensures kept { IfOk result (λ b. Keeps (search.old.nodes.items ++ node ∷ reverse search.old.due.items)
+            (search.new.nodes.items ++ reverse search.new.due.items)) }
         ensures same { self.new ≡ self.old }
     {
         self.sound();
@@ -272,11 +276,14 @@ impl Walker<'_> {
         requires ceiling { IsCeiling self.now.budget (length search.old.nodes.items + 1 + length search.old.due.items) limit ceiling }
         requires leaf { None ≡ choice_in leaf }
         requires found { IsFound self.now search.old.path.items best.cost ceiling found }
+        requires stays { KeepsLeaf leaf found }
         requires best { AreBest self.now best.choices best.cost }
         requires search { IsSearched self.now limit best.cost
             search.old.nodes.items (leaf ∷ reverse search.old.due.items) search.old.path.items }
         ensures advanced { IfOk result (IsAdvanced self.now limit (length search.old.nodes.items) best.cost
             search.new.nodes.items (reverse search.new.due.items) search.new.path.items) }
+        ensures kept { IfOk result (λ b. Keeps (search.old.nodes.items ++ leaf ∷ reverse search.old.due.items)
+            (search.new.nodes.items ++ reverse search.new.due.items)) }
     {
         self.sound();
         match found {
@@ -331,16 +338,32 @@ impl Walker<'_> {
         requires best { (choices : List DecisionValue) × AreBest self.old choices best }
         requires known { IsKnown self.old best path.now leaf }
         ensures found { IfOk result (IsFound self.old path.now best ceiling) }
+        ensures stays { IfOk result (KeepsLeaf leaf) }
+        ensures same { self.new ≡ self.old }
+    {
+        match leaf {
+            Node::Hole => self.step_found(path, best, ceiling, hint),
+            Node::Open(cost) if cost < ceiling => self.step_found(path, best, ceiling, hint),
+            Node::Inner(_) | Node::Cycle | Node::Bound(_) | Node::Open(_) => {
+                Ok(Found::Settled(leaf))
+            }
+        }
+    }
+
+    /// What one step finds at a path.
+    fn step_found(
+        &mut self,
+        path: &[Decision],
+        best: Cost,
+        ceiling: Cost,
+        hint: Option<Choice>,
+    ) -> Result<Found, AllocError>
+        requires list { IsChoiceList self.old.net self.old.rows (self.old.base ++ path.now) }
+        requires best { (choices : List DecisionValue) × AreBest self.old choices best }
+        ensures found { IfOk result (IsFound self.old path.now best ceiling) }
         ensures same { self.new ≡ self.old }
     {
         self.task.net.sound();
-        match leaf {
-            Node::Hole => {}
-            Node::Open(cost) if cost < ceiling => {}
-            Node::Inner(_) | Node::Cycle | Node::Bound(_) | Node::Open(_) => {
-                return Ok(Found::Settled(leaf));
-            }
-        }
         match self.step_there(path, best, hint)? {
             Outcome::Cycle => Ok(Found::Settled(Node::Cycle)),
             Outcome::Pruned(cost) => Ok(Found::Settled(Node::Bound(cost))),

@@ -7,8 +7,8 @@ ghost use Rattle.dm_guide.specs.Tasks.{IsPosedTask, task_of};
 ghost use Rattle.dm_relax.specs.Relaxed.{first_violated};
 ghost use Rattle.dm_tree.specs.Pending.{IsFront};
 ghost use Rattle.dm_tree.specs.Relaxed.{IsViolated};
-ghost use Rattle.dm_search.specs.Steps.{HasRelaxedCycle, IsOutcome};
-ghost use Rattle.dm_search.specs.Inside.Walking.{AreFronts, IsFoundThere};
+ghost use Rattle.dm_search.specs.Steps.{HasRelaxedCycle, IsOutcome, IsFoundThere, IsByHint, IsChosenBy};
+ghost use Rattle.dm_search.specs.Inside.Walking.{AreFronts};
 ghost use Rattle.dm_search.specs.Moving.{IsOver};
 
 use crate::Outcome;
@@ -38,6 +38,7 @@ pub(crate) fn step_there(
     ensures outcome { IfOk result (IsFoundThere task.now.net.now task.now.rows.now (task.now.base.now ++ path.now) task.now.penalty best) }
     ensures first { hint ≡ None → IfOk result (IsOutcome task.now.net.now task.now.rows.now
         (task.now.base.now ++ path.now) task.now.penalty best) }
+    ensures hinted { IfOk result (IsByHint task.now.net.now task.now.rows.now (task.now.base.now ++ path.now) hint) }
     ensures evaluator { IsOver (task_of task.now) evaluator.new }
 {
     let net = task.net;
@@ -85,10 +86,16 @@ fn violated_there(net: &Network, evaluator: &mut Evaluator, hint: Option<Choice>
     ensures path { evaluator.new.path ≡ evaluator.old.path }
     ensures violated { IfSome result (IsViolated net.now evaluator.old.rows evaluator.old.path (times_of evaluator.old)) }
     ensures first { hint ≡ None → result ≡ first_violated net.now evaluator.old.rows evaluator.old.path (times_of evaluator.old) }
+    ensures chosen { IfSome result (IsChosenBy net.now evaluator.old.rows evaluator.old.path (times_of evaluator.old) hint) }
+    ensures nothing { result ≡ None → first_violated net.now evaluator.old.rows evaluator.old.path (times_of evaluator.old) ≡ None }
 {
-    match hint {
-        Some(choice) if is_violated_in(net, evaluator, choice) => Some(choice),
-        _ => violated_in(net, evaluator),
+    let Some(choice) = hint else {
+        return violated_in(net, evaluator);
+    };
+    if is_violated_in(net, evaluator, choice) {
+        Some(choice)
+    } else {
+        violated_in(net, evaluator)
     }
 }
 

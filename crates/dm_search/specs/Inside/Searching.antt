@@ -17,7 +17,11 @@ use Rattle.dm_search.specs.declared.searching.Best.{Best}
 use Rattle.dm_search.specs.declared.searching.Standing.{Standing}
 use Rattle.dm_search.specs.declared.searching.Found.{Found}
 use Rattle.dm_search.specs.declared.searching.Found.TheVariants.{Settled, Better, Split}
-use Rattle.dm_search.specs.Finish.{IsKnown}
+use Rattle.dm_search.specs.Finish.{IsKnown, Stays}
+
+-- each node of the first tree that stays is in the second at the same path
+abbrev pub Keeps : List Node → List Node → Type 0
+Keeps before after = (l : Leaf) → Stays l.node → Contains (seen before) l → Contains (seen after) l
 
 -- choices that a plan may have, which cost this and no more than the rows by themselves
 pub record AreBest (task : Task) (best : List Decision) (cost : ℕ) : Type 0 where
@@ -89,6 +93,12 @@ abbrev pub IsFound : Task → List Decision → ℕ → ℕ → Found → Type 0
 IsFound task path best ceiling (Settled n) = IsSettled task path best ceiling n
 IsFound task path best ceiling (Better better) = IsBetter task path best better
 IsFound task path best ceiling (Split c) = IsSplit task path ceiling c
+
+-- what is found at a leaf that stays is the leaf
+abbrev pub KeepsLeaf : Node → Found → Type 0
+KeepsLeaf leaf (Settled n) = Stays leaf → leaf ≡ n
+KeepsLeaf leaf (Better better) = Stays leaf → ⊥
+KeepsLeaf leaf (Split c) = Stays leaf → ⊥
 
 -- the tree with one node more settled, and the best choices then
 pub record IsAdvanced (task : Task) (limit count cost : ℕ) (nodes rest : List Node) (path : List Decision) (best : Best) : Type 0 where

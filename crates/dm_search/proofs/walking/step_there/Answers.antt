@@ -1,7 +1,7 @@
-use Rattle.std.proofs.Common.{sym, ◌∙◌}
+use Rattle.std.proofs.Common.{refl, sym, ◌∙◌}
 use Rattle.std.proofs.lemmas.Result.{IfOk-weaker}
 use Rattle.dm_search.proofs.Fronts.{over_same}
-use Rattle.dm_search.proofs.Walks.{pruned_there, branch_there, first_there, found_along, outcome_along}
+use Rattle.dm_search.proofs.Walks.{pruned_there, branch_there, first_there, found_along, outcome_along, hinted_there, none_by_hint}
 use Rattle.dm_search.proofs.walking.step_there.Goals as goal
 
 pub returns-then-best-cost-clause-outcome : goal.returns-then-best-cost-clause-outcome
@@ -43,3 +43,13 @@ returns-in-None-clause-first c unhinted =
 pub returns-in-None-clause-evaluator : goal.returns-in-None-clause-evaluator
 returns-in-None-clause-evaluator c =
     over_same _ _ _ c.walk.ensures.evaluator c.violated_there.ensures.evaluator c.violated_there.ensures.rows c.violated_there.ensures.path
+
+pub returns-in-Some-clause-hinted : goal.returns-in-Some-clause-hinted
+returns-in-Some-clause-hinted c =
+    hinted_there _ c.sound.ensures.network _ c.walk.ensures.evaluator.is _ _ c.walk.ensures.evaluator.same
+    c.in-Ok.ensures.there _ _ c.in-Some.ensures.chosen
+
+pub returns-in-None-clause-hinted : goal.returns-in-None-clause-hinted
+returns-in-None-clause-hinted c =
+    IfOk-weaker _ _ _ (λ o h. none_by_hint _ c.sound.ensures.network _ c.walk.ensures.evaluator.is _ _ c.walk.ensures.evaluator.same
+    c.in-Ok.ensures.there _ _ _ o (c.in-None.ensures.nothing refl) (outcome_along _ _ _ _ _ _ o (c.violated_there.ensures.path ∙ c.in-Ok.ensures.there) h)) c.outcome_here.ensures

@@ -1,11 +1,16 @@
 use Rattle.dm_search.proofs.Advancing.{going_at, known_here, list_here}
 use Rattle.dm_search.proofs.Exits.{past_choice}
+use Rattle.dm_search.proofs.Kept.{choice_kept}
 use Rattle.dm_search.proofs.searching.Walker.advance.Goals as goal
 
 pub returns-in-Some-clause-advanced : goal.returns-in-Some-clause-advanced
 returns-in-Some-clause-advanced c =
     past_choice _ c.sound.ensures.network _ _ _ _ _ _ _ _ _ _ c.in-Some.ensures c.in_ok-descend.ensures.nodes c.in_ok-descend.ensures.path
     c.in_ok-descend.ensures.due c.requires.search c.requires.best
+
+pub returns-in-Some-clause-kept : goal.returns-in-Some-clause-kept
+returns-in-Some-clause-kept c =
+    choice_kept _ _ _ _ _ _ c.in-Some.ensures c.in_ok-descend.ensures.nodes c.in_ok-descend.ensures.due
 
 pub found_at-requires-clause-list : goal.found_at-requires-clause-list
 found_at-requires-clause-list c =

@@ -1,5 +1,5 @@
-use Rattle.std.proofs.Common.{◌≡◌, ◌-◌, ◌≤◌, length, reverse}
-use Rattle.dm_search.specs.Inside.Searching.{AreBest, IsSearched}
+use Rattle.std.proofs.Common.{◌≡◌, ◌-◌, ◌≤◌, ◌++◌, length, reverse}
+use Rattle.dm_search.specs.Inside.Searching.{AreBest, IsSearched, Keeps}
 use Rattle.dm_search.proofs.searching.Walker.search_all.Given as goal
 
 abbrev pub invariant-loop-node : goal.invariant-loop-node
@@ -9,6 +9,7 @@ invariant-loop-node l =
       search : IsSearched l.fn.self l.limit l.now.cost l.search.nodes.items (reverse l.search.due.items) l.search.path.items;
       same : l.self ≡ l.fn.self;
       no_dearer : l.now.cost ≤ l.fn.best.cost;
+      kept : Keeps (l.fn.search.nodes.items ++ reverse l.fn.search.due.items) (l.search.nodes.items ++ reverse l.search.due.items);
     }
 
 abbrev pub decreases-loop-node : goal.decreases-loop-node

@@ -1,6 +1,7 @@
 use Rattle.std.proofs.Common.{ap, ◌∙◌, reverse}
 use Rattle.std.proofs.lemmas.List.{reverse-reverse}
 use Rattle.dm_search.proofs.Advancing.{search_anew, used_in_all, stands_searched}
+use Rattle.dm_search.proofs.Kept.{kept_anew}
 use Rattle.dm_search.proofs.searching.Walker.traverse.Goals as goal
 
 pub search_all-requires-clause-search : goal.search_all-requires-clause-search
@@ -13,3 +14,6 @@ returns-clause-stands c = stands_searched _ _ _ _ _ _ c.in_ok-best.ensures.searc
 
 pub returns-clause-used : goal.returns-clause-used
 returns-clause-used c = used_in_all _ _ _ _ _ c.in_ok-best.ensures.search
+
+pub returns-clause-kept : goal.returns-clause-kept
+returns-clause-kept c = kept_anew _ _ _ _ c.new-search.ensures.nodes c.new-search.ensures.due c.in_ok-best.ensures.kept

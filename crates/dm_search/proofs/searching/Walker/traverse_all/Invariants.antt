@@ -1,5 +1,5 @@
-use Rattle.std.specs.Prelude.{◌≡◌}
-use Rattle.dm_search.specs.Inside.Searching.{IsStanding}
+use Rattle.std.specs.Prelude.{◌≡◌, ◌≤◌}
+use Rattle.dm_search.specs.Inside.Searching.{IsStanding, Keeps}
 use Rattle.dm_search.proofs.searching.Walker.traverse_all.Given as goal
 
 abbrev pub invariant-loop : goal.invariant-loop
@@ -7,4 +7,6 @@ invariant-loop l =
     record {
       stands : IsStanding l.fn.self l.standing;
       same : l.self ≡ l.fn.self;
+      no_dearer : l.standing.best.cost ≤ l.fn.standing.best.cost;
+      kept : Keeps l.fn.standing.nodes.items l.standing.nodes.items;
     }
