@@ -1,6 +1,8 @@
 //! What the verdict on a text means.
 use crate::files::front_of;
+use crate::saying::{say_at, say_line, say_text};
 use crate::text::{cut, has, is_same, line_at, number, word_at};
+use dm_outside::Piece;
 use dm_words::FileWords;
 use std::fs::File;
 use std::io;
@@ -35,23 +37,39 @@ pub fn tell_bad<R: Eprint + Files<File = File>>(
     };
     let kind = word_at(verdict, 2);
     let means = meaning(kind);
-    eprintln!(rt; "dispatcher: {name} line {line}: {means}")?;
+    say_at(rt, name, line, &[Piece::Text(means)])?;
     if is_same(kind, "form") {
         return tell_form(rt, files.penalty, name, line);
     }
+    tell_look(rt, files.plans, line, kind)
+}
+
+/// Says what to look at first where a line has its form.
+fn tell_look<R: Eprint>(rt: &R, plans: u32, line: u64, kind: &[u8]) -> io::Result<()> {
     if is_same(kind, "truncated") {
-        return eprintln!(rt;
-            "dispatcher: line {line}: was the run cut off, or the text not copied whole?"
+        return say_line(
+            rt,
+            line,
+            &[Piece::Text("was the run cut off, or the text not copied whole?")],
         );
     }
     if is_same(kind, "plan") || is_same(kind, "reply") {
-        let plans = files.plans;
-        return eprintln!(rt;
-            "dispatcher: line {line}: are the network, its columns, the delays at the start and --plans={plans} those of the run, and the text unchanged?"
+        return say_line(
+            rt,
+            line,
+            &[
+                Piece::Text("are the network, its columns, the delays at the start and --plans="),
+                Piece::Number(plans as u128),
+                Piece::Text(" those of the run, and the text unchanged?"),
+            ],
         );
     }
-    eprintln!(rt;
-        "dispatcher: line {line}: are the network, its columns and the delays at the start those of the run, and the text unchanged?"
+    say_line(
+        rt,
+        line,
+        &[Piece::Text(
+            "are the network, its columns and the delays at the start those of the run, and the text unchanged?",
+        )],
     )
 }
 
@@ -65,29 +83,51 @@ fn tell_form<R: Eprint + Files<File = File>>(
     let front = front_of(rt, name);
     let (first, _) = cut(front.bytes(), b'\n');
     if has(first, b'\r') {
-        return eprintln!(rt;
-            "dispatcher: line {line}: the text has the line ends of Windows, CR before LF: a run writes LF alone"
+        return say_line(
+            rt,
+            line,
+            &[Piece::Text(
+                "the text has the line ends of Windows, CR before LF: a run writes LF alone",
+            )],
         );
     }
     if line == 1 {
-        return eprintln!(rt;
-            "dispatcher: line 1: the text of a run begins with `dm-run 2` or `dm-run 1`"
+        return say_text(
+            rt,
+            "line 1: the text of a run begins with `dm-run 2` or `dm-run 1`",
         );
     }
     if line == 2 {
         return tell_penalty(rt, penalty, line_at(front.bytes(), 2));
     }
-    eprintln!(rt; "dispatcher: line {line}: is the text of this network, whole and unchanged?")
+    say_line(
+        rt,
+        line,
+        &[Piece::Text("is the text of this network, whole and unchanged?")],
+    )
 }
 
 /// Says how the penalty of a text and that of the words differ.
 fn tell_penalty<R: Eprint>(rt: &R, penalty: u64, line: &[u8]) -> io::Result<()> {
     match number(word_at(line, 1)) {
-        Some(other) => eprintln!(rt;
-            "dispatcher: line 2: the text's penalty is not the one of these words, which is {penalty}: give --penalty={other}"
+        Some(other) => say_line(
+            rt,
+            2,
+            &[
+                Piece::Text("the text's penalty is not the one of these words, which is "),
+                Piece::Number(penalty as u128),
+                Piece::Text(": give --penalty="),
+                Piece::Number(other as u128),
+            ],
         ),
-        None => eprintln!(rt;
-            "dispatcher: line 2: the penalty of the run stands here, as `penalty {penalty}`"
+        None => say_line(
+            rt,
+            2,
+            &[
+                Piece::Text("the penalty of the run stands here, as `penalty "),
+                Piece::Number(penalty as u128),
+                Piece::Text("`"),
+            ],
         ),
     }
 }

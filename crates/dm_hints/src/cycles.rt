@@ -1,12 +1,13 @@
 //! Why events and activities make no network.
 use crate::files::path_of;
 use crate::records::number_of_record;
+use crate::saying::{say, say_at, say_text};
 use dm_base::limits::FILE;
 use dm_base::{ActId, ActRow};
 use dm_input::{File as InputFile, take_name};
 use dm_lintim::{read_activities, read_events};
 use dm_network::NetFault;
-use dm_outside::FolderShelf;
+use dm_outside::{FolderShelf, Piece};
 use dm_words::FileWords;
 use std::fs::File;
 use std::io;
@@ -22,33 +23,50 @@ pub fn tell_network<R: Eprint + Files<File = File> + AllocGlobal>(
     fault: &NetFault,
 ) -> io::Result<()> {
     match fault {
-        NetFault::TooMany => eprintln!(rt;
-            "dispatcher: a network has at most 100000 events and 500000 activities"
+        NetFault::TooMany => say_text(
+            rt,
+            "a network has at most 100000 events and 500000 activities",
         ),
         NetFault::DoubleEvent(id) => tell_double_event(rt, files, id.0),
-        NetFault::DoubleActivity(id) => {
-            let id = id.0;
-            eprintln!(rt; "dispatcher: two or more activities have the id {id}:")?;
-            tell_activities(rt, files, &[ActId(id)])
-        }
+        NetFault::DoubleActivity(id) => tell_double_activity(rt, files, *id),
         NetFault::UnknownEvent(id) => {
-            eprintln!(rt;
-                "dispatcher: an activity runs from or to an event that the events file has not:"
+            say_text(
+                rt,
+                "an activity runs from or to an event that the events file has not:",
             )?;
             tell_activities(rt, files, &[*id])
         }
         NetFault::ZeroHeadway(id) => {
-            eprintln!(rt; "dispatcher: the lower bound of a headway is at least 1:")?;
+            say_text(rt, "the lower bound of a headway is at least 1:")?;
             tell_activities(rt, files, &[*id])
         }
         NetFault::Cycle(ids) => {
-            eprintln!(rt;
-                "dispatcher: each of these waits for the one before it, and the first for the last:"
+            say_text(
+                rt,
+                "each of these waits for the one before it, and the first for the last:",
             )?;
             tell_activities(rt, files, ids.as_slice())
         }
         NetFault::OutOfMemory => Ok(()),
     }
+}
+
+/// Says which activities have one id.
+fn tell_double_activity<R: Eprint + Files<File = File> + AllocGlobal>(
+    rt: &R,
+    files: &FileWords<'_>,
+    id: ActId,
+) -> io::Result<()> {
+    let number = id.0;
+    say(
+        rt,
+        &[
+            Piece::Text("two or more activities have the id "),
+            Piece::Number(number as u128),
+            Piece::Text(":"),
+        ],
+    )?;
+    tell_activities(rt, files, &[id])
 }
 
 /// Says where an id stands that two events have.
@@ -71,7 +89,15 @@ fn tell_double_event<R: Eprint + Files<File = File> + AllocGlobal>(
     for (place, row) in rows.as_slice().iter().enumerate() {
         if row.id.0 == id {
             let line = number_of_record(bytes.as_slice(), place.saturating_add(1));
-            eprintln!(rt; "dispatcher: {path} line {line}: an event has the id {id}")?;
+            say_at(
+                rt,
+                path,
+                line,
+                &[
+                    Piece::Text("an event has the id "),
+                    Piece::Number(id as u128),
+                ],
+            )?;
         }
     }
     Ok(())
@@ -112,8 +138,21 @@ fn tell_activity<R: Eprint>(
         if row.id == id {
             let line = number_of_record(bytes, place.saturating_add(1));
             let (number, tail, head, lower) = (id.0, row.tail.0, row.head.0, row.lower);
-            eprintln!(rt;
-                "dispatcher: {path} line {line}: activity {number} from event {tail} to event {head}, at least {lower} seconds"
+            say_at(
+                rt,
+                path,
+                line,
+                &[
+                    Piece::Text("activity "),
+                    Piece::Number(number as u128),
+                    Piece::Text(" from event "),
+                    Piece::Number(tail as u128),
+                    Piece::Text(" to event "),
+                    Piece::Number(head as u128),
+                    Piece::Text(", at least "),
+                    Piece::Number(lower as u128),
+                    Piece::Text(" seconds"),
+                ],
             )?;
         }
     }

@@ -1,12 +1,13 @@
 //! What is amiss in the feeds of a run.
 use crate::files::{is_plain, path_of, tell_reason};
 use crate::hearing::{FeedHeard, Heard, REASONS, Stop, TOLD};
+use crate::saying::{say, say_at};
 use crate::text::{cut, has, has_capital, line_at, shown};
 use dm_base::EventRow;
 use dm_base::limits::{FEED, FILE, LINE};
 use dm_input::{File as InputFile, take_name};
 use dm_lintim::read_events;
-use dm_outside::FolderShelf;
+use dm_outside::{FolderShelf, Piece};
 use dm_words::{FileWords, RunWords};
 use std::fs::File;
 use std::io;
@@ -59,21 +60,22 @@ fn tell_feed<R: Eprint + Files<File = File> + AllocGlobal>(
     name: &str,
     feed: &FeedHeard,
 ) -> io::Result<()> {
-    match feed.stop {
-        Stop::End => {}
-        Stop::Fault => {
-            eprintln!(rt; "dispatcher: feed {number} ended with a fault")?;
-            tell_reason(rt, name)?;
-        }
-        Stop::Long => eprintln!(rt;
-            "dispatcher: feed {number}, {name}, has more than 262144 bytes: what lies behind them was not answered"
-        )?,
-    }
+    tell_end(rt, number, name, feed.stop)?;
     if feed.malformed == 0 {
         return Ok(());
     }
     let count = feed.malformed;
-    eprintln!(rt; "dispatcher: feed {number}, {name}: malformed lines: {count}")?;
+    say(
+        rt,
+        &[
+            Piece::Text("feed "),
+            Piece::Number(number as u128),
+            Piece::Text(", "),
+            Piece::Text(name),
+            Piece::Text(": malformed lines: "),
+            Piece::Number(count as u128),
+        ],
+    )?;
     if !is_plain(rt, name) {
         return tell_numbers(rt, name, feed);
     }
@@ -84,10 +86,50 @@ fn tell_feed<R: Eprint + Files<File = File> + AllocGlobal>(
     tell_lines(rt, name, feed, bytes.as_slice())
 }
 
+/// Says how a feed ended, where it did not end well.
+fn tell_end<R: Eprint + Files<File = File>>(
+    rt: &R,
+    number: usize,
+    name: &str,
+    stop: Stop,
+) -> io::Result<()> {
+    match stop {
+        Stop::End => Ok(()),
+        Stop::Fault => {
+            say(
+                rt,
+                &[
+                    Piece::Text("feed "),
+                    Piece::Number(number as u128),
+                    Piece::Text(" ended with a fault"),
+                ],
+            )?;
+            tell_reason(rt, name)
+        }
+        Stop::Long => say(
+            rt,
+            &[
+                Piece::Text("feed "),
+                Piece::Number(number as u128),
+                Piece::Text(", "),
+                Piece::Text(name),
+                Piece::Text(", has more than 262144 bytes: what lies behind them was not answered"),
+            ],
+        ),
+    }
+}
+
 /// Says the numbers of the first malformed lines of a feed.
 fn tell_numbers<R: Eprint>(rt: &R, name: &str, feed: &FeedHeard) -> io::Result<()> {
     for number in feed.first.iter().take(told_lines(feed)) {
-        eprintln!(rt; "dispatcher: {name} line {number}")?;
+        say(
+            rt,
+            &[
+                Piece::Text(name),
+                Piece::Text(" line "),
+                Piece::Number(*number as u128),
+            ],
+        )?;
     }
     Ok(())
 }
@@ -97,7 +139,17 @@ fn tell_lines<R: Eprint>(rt: &R, name: &str, feed: &FeedHeard, bytes: &[u8]) -> 
     for number in feed.first.iter().take(told_lines(feed)) {
         let line = line_at(bytes, *number);
         let (text, why) = (shown(line), guess(line, is_ended(bytes, *number)));
-        eprintln!(rt; "dispatcher: {name} line {number}: \"{text}\": {why}")?;
+        say_at(
+            rt,
+            name,
+            *number,
+            &[
+                Piece::Text("\""),
+                Piece::Text(text),
+                Piece::Text("\": "),
+                Piece::Text(why),
+            ],
+        )?;
     }
     Ok(())
 }
@@ -152,7 +204,15 @@ fn form_of(line: &[u8]) -> &'static str {
 fn tell_refusals<R: Eprint>(rt: &R, heard: &Heard) -> io::Result<()> {
     for (reason, count) in REASONS.iter().zip(heard.refused.iter()) {
         if *count > 0 {
-            eprintln!(rt; "dispatcher: lines answered with `{reason}`: {count}")?;
+            say(
+                rt,
+                &[
+                    Piece::Text("lines answered with `"),
+                    Piece::Text(*reason),
+                    Piece::Text("`: "),
+                    Piece::Number(*count as u128),
+                ],
+            )?;
         }
     }
     Ok(())
@@ -179,7 +239,14 @@ fn tell_boards<R: Eprint + Files<File = File> + AllocGlobal>(
     };
     for stop in stops {
         if !has_event(rows.as_slice(), *stop) {
-            eprintln!(rt; "dispatcher: no event has the stop {stop}, so its board shows nothing")?;
+            say(
+                rt,
+                &[
+                    Piece::Text("no event has the stop "),
+                    Piece::Number(*stop as u128),
+                    Piece::Text(", so its board shows nothing"),
+                ],
+            )?;
         }
     }
     Ok(())

@@ -1,7 +1,8 @@
 //! The files that words name.
+use crate::saying::say;
 use crate::tables::{ACTIVITY_WORDS, EVENT_WORDS};
 use dm_input::File as InputFile;
-use dm_outside::{FolderShelf, Shelf, Source};
+use dm_outside::{FolderShelf, Piece, Shelf, Source};
 use dm_words::FileWords;
 use std::alloc::Global;
 use std::fs::File;
@@ -97,14 +98,29 @@ pub fn columns_of(words: &[String], file: InputFile) -> &str {
 pub fn tell_reason<R: Eprint + Files<File = File>>(rt: &R, name: &str) -> io::Result<()> {
     if let Ok(data) = fs::metadata(rt, name) {
         if data.is_dir() {
-            return eprintln!(rt; "dispatcher: {name} is a folder, and a file is wanted");
+            return say(
+                rt,
+                &[
+                    Piece::Text(name),
+                    Piece::Text(" is a folder, and a file is wanted"),
+                ],
+            );
         }
         if !data.is_file() {
-            return eprintln!(rt; "dispatcher: {name}: a read of it failed");
+            return say(
+                rt,
+                &[Piece::Text(name), Piece::Text(": a read of it failed")],
+            );
         }
     }
     match fs::open(rt, name) {
-        Ok(_) => eprintln!(rt; "dispatcher: {name} can be opened, and a read of it failed"),
+        Ok(_) => say(
+            rt,
+            &[
+                Piece::Text(name),
+                Piece::Text(" can be opened, and a read of it failed"),
+            ],
+        ),
         Err(error) => eprintln!(rt; "dispatcher: {name}: {error}"),
     }
 }

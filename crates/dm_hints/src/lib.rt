@@ -22,6 +22,7 @@ mod listening;
 mod memory;
 mod records;
 mod refused;
+mod saying;
 mod tables;
 mod telling;
 mod text;

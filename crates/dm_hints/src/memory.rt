@@ -1,6 +1,8 @@
 //! How much memory the inputs take.
 use crate::files::{path_of, size_of_file};
+use crate::saying::{say, say_text};
 use dm_input::File as InputFile;
+use dm_outside::Piece;
 use dm_words::{CommandWords, FileWords, Names};
 use std::fs::File;
 use std::io;
@@ -21,12 +23,18 @@ pub fn tell_memory<R: Eprint + Files<File = File> + AllocGlobal>(
         CommandWords::Query(query) => {
             folder_bytes(rt, &query.files).saturating_add(size_of_file(rt, query.text))
         }
-        CommandWords::Gen(_) => return eprintln!(rt;
-            "dispatcher: there is not enough memory for so many trains"
+        CommandWords::Gen(_) => return say_text(
+            rt,
+            "there is not enough memory for so many trains",
         ),
     };
-    eprintln!(rt;
-        "dispatcher: there is not enough memory: the files alone have {bytes} bytes, and take some times that when they are read"
+    say(
+        rt,
+        &[
+            Piece::Text("there is not enough memory: the files alone have "),
+            Piece::Number(bytes as u128),
+            Piece::Text(" bytes, and take some times that when they are read"),
+        ],
     )
 }
 

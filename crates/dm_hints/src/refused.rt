@@ -2,11 +2,12 @@
 use crate::cycles::tell_network;
 use crate::files::{columns_of, path_of, size_of_file, tell_reason};
 use crate::records::{FileLine, field_under, fields, line_of_record};
+use crate::saying::{say, say_at};
 use crate::text::shown;
 use dm_base::limits::FILE;
 use dm_input::{File as InputFile, FileFlaw, InputFlaw, InputStop, read_opening, take_name};
 use dm_lintim::{Column, FileFault, FileKind};
-use dm_outside::FolderShelf;
+use dm_outside::{FolderShelf, Piece};
 use dm_rows::StartFault;
 use dm_words::FileWords;
 use std::fs::File;
@@ -68,7 +69,15 @@ fn tell_file<R: Eprint + Files<File = File> + AllocGlobal>(
     match why {
         FileFlaw::TooLong => {
             let size = size_of_file(rt, path);
-            eprintln!(rt; "dispatcher: {path} has {size} bytes, and a file may have 67108864")
+            say(
+                rt,
+                &[
+                    Piece::Text(path),
+                    Piece::Text(" has "),
+                    Piece::Number(size as u128),
+                    Piece::Text(" bytes, and a file may have 67108864"),
+                ],
+            )
         }
         FileFlaw::Record(fault) => tell_record(rt, columns_of(words, file), file, path, fault),
     }
@@ -83,8 +92,14 @@ fn tell_record<R: Eprint + Files<File = File> + AllocGlobal>(
     fault: FileFault,
 ) -> io::Result<()> {
     if fault.kind == FileKind::ByteOrderMark {
-        return eprintln!(rt;
-            "dispatcher: {path} begins with a byte order mark (EF BB BF): save it as UTF-8 without one"
+        return say(
+            rt,
+            &[
+                Piece::Text(path),
+                Piece::Text(
+                    " begins with a byte order mark (EF BB BF): save it as UTF-8 without one",
+                ),
+            ],
         );
     }
     let mut shelf = FolderShelf::new(rt);
@@ -106,46 +121,82 @@ fn tell_kind<R: Eprint>(
     line: FileLine<'_>,
     kind: FileKind,
 ) -> io::Result<()> {
-    let number = line.number;
     match kind {
         FileKind::FieldCount(_) => tell_count(rt, columns, path, line),
         FileKind::BadNumber(column) => {
-            let (name, found) = (
-                column.name(),
-                shown(field_under(line.text, columns, column.name())),
-            );
-            eprintln!(rt;
-                "dispatcher: {path} line {number}: column `{name}` holds \"{found}\", and a number is wanted, whole but for a weight"
-            )
+            let wanted = Piece::Text("a number is wanted, whole but for a weight");
+            tell_field(rt, columns, path, line, column.name(), wanted, "")
         }
         FileKind::TooLarge(column) => {
-            let (name, found) = (
-                column.name(),
-                shown(field_under(line.text, columns, column.name())),
-            );
-            let most = largest(column);
-            eprintln!(rt;
-                "dispatcher: {path} line {number}: column `{name}` holds \"{found}\", and {most} is the most"
-            )
+            let most = Piece::Number(largest(column) as u128);
+            tell_field(rt, columns, path, line, column.name(), most, " is the most")
         }
         FileKind::UnknownType => {
-            let found = shown(field_under(line.text, columns, "type"));
-            let types = types_of(file);
-            eprintln!(rt;
-                "dispatcher: {path} line {number}: column `type` holds \"{found}\", and it is one of {types}"
-            )
+            let wanted = Piece::Text("it is one of ");
+            tell_field(rt, columns, path, line, "type", wanted, types_of(file))
         }
         FileKind::ByteOrderMark | FileKind::OutOfMemory => Ok(()),
     }
 }
 
+/// Says what a column of a line holds, and what is wanted there.
+fn tell_field<'a, R: Eprint>(
+    rt: &R,
+    columns: &str,
+    path: &str,
+    line: FileLine<'a>,
+    column: &'a str,
+    wanted: Piece<'a>,
+    rest: &'a str,
+) -> io::Result<()> {
+    let found = shown(field_under(line.text, columns, column));
+    say_at(
+        rt,
+        path,
+        line.number,
+        &[
+            Piece::Text("column `"),
+            Piece::Text(column),
+            Piece::Text("` holds \""),
+            Piece::Text(found),
+            Piece::Text("\", and "),
+            wanted,
+            Piece::Text(rest),
+        ],
+    )
+}
+
 /// Says how many fields a line has, and what they should be.
-fn tell_count<R: Eprint>(rt: &R, columns: &str, path: &str, line: FileLine<'_>) -> io::Result<()> {
+fn tell_count<'a, R: Eprint>(
+    rt: &R,
+    columns: &'a str,
+    path: &str,
+    line: FileLine<'a>,
+) -> io::Result<()> {
     let (number, count, found) = (line.number, fields(line.text), shown(line.text));
     let wanted = columns.split(',').count();
-    eprintln!(rt; "dispatcher: {path} line {number}: \"{found}\" has {count} fields")?;
-    eprintln!(rt;
-        "dispatcher: {path} line {number}: it is to have {wanted}, with semicolons between: {columns}"
+    say_at(
+        rt,
+        path,
+        number,
+        &[
+            Piece::Text("\""),
+            Piece::Text(found),
+            Piece::Text("\" has "),
+            Piece::Number(count as u128),
+            Piece::Text(" fields"),
+        ],
+    )?;
+    say_at(
+        rt,
+        path,
+        number,
+        &[
+            Piece::Text("it is to have "),
+            Piece::Number(wanted as u128),
+            Piece::Text(", with semicolons between: "),
+            Piece::Text(columns),
+        ],
     )
 }
 
@@ -178,8 +229,14 @@ fn tell_start<R: Eprint + AllocGlobal>(
                 return Ok(());
             };
             let (path, id) = (path.as_str(), id.0);
-            eprintln!(rt;
-                "dispatcher: {path} has a delay of event {id}, and the events file has no such event"
+            say(
+                rt,
+                &[
+                    Piece::Text(path),
+                    Piece::Text(" has a delay of event "),
+                    Piece::Number(id as u128),
+                    Piece::Text(", and the events file has no such event"),
+                ],
             )
         }
         StartFault::UnknownActivity(id) => {
@@ -187,8 +244,14 @@ fn tell_start<R: Eprint + AllocGlobal>(
                 return Ok(());
             };
             let (path, id) = (path.as_str(), id.0);
-            eprintln!(rt;
-                "dispatcher: {path} has a delay of activity {id}, and the activities file has no such activity"
+            say(
+                rt,
+                &[
+                    Piece::Text(path),
+                    Piece::Text(" has a delay of activity "),
+                    Piece::Number(id as u128),
+                    Piece::Text(", and the activities file has no such activity"),
+                ],
             )
         }
         StartFault::OutOfMemory => Ok(()),

@@ -7,8 +7,9 @@ use crate::help::{asks_help, tell_help};
 use crate::listening::Listener;
 use crate::memory::tell_memory;
 use crate::refused::tell_opening;
+use crate::saying::{say, say_text};
 use crate::usage::tell_usage;
-use dm_outside::Sink;
+use dm_outside::{Piece, Sink};
 use dm_words::{CommandWords, FileWords, RunWords, read_words};
 use std::fs::File;
 use std::io;
@@ -26,7 +27,7 @@ pub fn tell<R: Eprint + Files<File = File> + AllocGlobal, K: Sink>(
         return tell_words(rt, words);
     };
     match (status, &asked) {
-        (5, _) => eprintln!(rt; "dispatcher: the output could not be written to its end"),
+        (5, _) => say_text(rt, "the output could not be written to its end"),
         (6, _) => tell_memory(rt, &asked),
         (_, CommandWords::Run(run)) => tell_after_run(rt, words, run, out.heard()),
         (_, CommandWords::Check(check)) => {
@@ -45,7 +46,7 @@ fn tell_words<R: Eprint>(rt: &R, words: &[String]) -> io::Result<()> {
         return tell_help(rt);
     }
     tell_usage(rt, words)?;
-    eprintln!(rt; "dispatcher: `dispatcher --help` lists all commands and options")
+    say_text(rt, "`dispatcher --help` lists all commands and options")
 }
 
 /// Says what is amiss in a run.
@@ -86,13 +87,22 @@ fn tell_text<R: Eprint + Files<File = File>>(rt: &R, name: &str, line: &[u8]) ->
         return tell_reason(rt, name);
     }
     if line.strip_prefix(b"refused window held ").is_some() {
-        return eprintln!(rt;
-            "dispatcher: --held: the network has no such activity, or it is neither a change nor a headway with one in the other direction"
+        return say_text(
+            rt,
+            "--held: the network has no such activity, or it is neither a change nor a headway with one in the other direction",
         );
     }
     if line.ends_with(b" too-long") && size_of_file(rt, name) > 536_870_912 {
         let size = size_of_file(rt, name);
-        return eprintln!(rt; "dispatcher: {name} has {size} bytes, and a text may have 536870912");
+        return say(
+            rt,
+            &[
+                Piece::Text(name),
+                Piece::Text(" has "),
+                Piece::Number(size as u128),
+                Piece::Text(" bytes, and a text may have 536870912"),
+            ],
+        );
     }
     Ok(())
 }

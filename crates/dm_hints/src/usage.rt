@@ -1,10 +1,12 @@
 //! What is wrong with words that ask for nothing.
 use crate::files::value_or;
+use crate::saying::{say, say_text, say_word};
 use crate::tables::{
     ACTIVITY_WORDS, CommandTable, EVENT_WORDS, OPTIONS, OptionTable, command_of, option_of,
 };
 use crate::text::{number, part_at, shown};
 use dm_lintim::{ColumnFault, Columns};
+use dm_outside::Piece;
 use std::io;
 
 /// Says the first thing that is wrong with the words.
@@ -14,8 +16,16 @@ pub fn tell_usage<R: Eprint>(rt: &R, words: &[String]) -> io::Result<()> {
     };
     let Some(table) = command_of(command.as_str()) else {
         let name = command.as_str();
-        return eprintln!(rt;
-            "dispatcher: word 1: \"{name}\" is no command; commands are run, check, gen, follow, window, rules and journey"
+        return say_word(
+            rt,
+            1,
+            &[
+                Piece::Text("\""),
+                Piece::Text(name),
+                Piece::Text(
+                    "\" is no command; commands are run, check, gen, follow, window, rules and journey",
+                ),
+            ],
         );
     };
     for (place, word) in rest.iter().enumerate() {
@@ -64,22 +74,49 @@ fn has_value(option: OptionTable, word: &str) -> bool {
 /// Says what is wrong with a word.
 fn tell_word<R: Eprint>(rt: &R, table: CommandTable, place: usize, word: &str) -> io::Result<()> {
     if word.is_empty() {
-        return eprintln!(rt; "dispatcher: word {place} is empty");
+        return say(
+            rt,
+            &[
+                Piece::Text("word "),
+                Piece::Number(place as u128),
+                Piece::Text(" is empty"),
+            ],
+        );
     }
     if let Some(option) = option_of(word) {
         return tell_option(rt, table, place, option, word);
     }
+    if let Some(option) = option_without_value(word) {
+        return say_word(
+            rt,
+            place,
+            &[
+                Piece::Text("\""),
+                Piece::Text(word),
+                Piece::Text("\" wants a value, as "),
+                Piece::Text(option.example),
+            ],
+        );
+    }
+    say_word(
+        rt,
+        place,
+        &[
+            Piece::Text("\""),
+            Piece::Text(word),
+            Piece::Text("\" is no option; `dispatcher --help` lists them"),
+        ],
+    )
+}
+
+/// The option that a word is but for its value.
+fn option_without_value(word: &str) -> Option<OptionTable> {
     for option in &OPTIONS {
         if option.name.strip_prefix(word) == Some("=") {
-            let example = option.example;
-            return eprintln!(rt;
-                "dispatcher: word {place}: \"{word}\" wants a value, as {example}"
-            );
+            return Some(*option);
         }
     }
-    eprintln!(rt;
-        "dispatcher: word {place}: \"{word}\" is no option; `dispatcher --help` lists them"
-    )
+    None
 }
 
 /// Says what is wrong with an option.
@@ -91,19 +128,58 @@ fn tell_option<R: Eprint>(
     word: &str,
 ) -> io::Result<()> {
     let name = option.name.strip_suffix("=").unwrap_or(option.name);
-    let example = option.example;
     if option.bit & table.options == 0 {
-        let command = table.name;
-        return eprintln!(rt; "dispatcher: word {place}: `{command}` has no option {name}");
+        return say_word(
+            rt,
+            place,
+            &[
+                Piece::Text("`"),
+                Piece::Text(table.name),
+                Piece::Text("` has no option "),
+                Piece::Text(name),
+            ],
+        );
     }
+    tell_value(rt, place, name, option, word)
+}
+
+/// Says what is wrong with an option that the command has, or with its value.
+fn tell_value<R: Eprint>(
+    rt: &R,
+    place: usize,
+    name: &str,
+    option: OptionTable,
+    word: &str,
+) -> io::Result<()> {
     if has_value(option, word) {
-        return eprintln!(rt; "dispatcher: word {place}: {name} is given twice");
+        return say_word(
+            rt,
+            place,
+            &[Piece::Text(name), Piece::Text(" is given twice")],
+        );
     }
     if word.strip_prefix(option.name) == Some("") {
-        return eprintln!(rt; "dispatcher: word {place}: {name} wants a value, as {example}");
+        return say_word(
+            rt,
+            place,
+            &[
+                Piece::Text(name),
+                Piece::Text(" wants a value, as "),
+                Piece::Text(option.example),
+            ],
+        );
     }
-    let (least, most) = (option.least, option.most);
-    eprintln!(rt; "dispatcher: word {place}: {name} takes {least} to {most}")
+    say_word(
+        rt,
+        place,
+        &[
+            Piece::Text(name),
+            Piece::Text(" takes "),
+            Piece::Number(option.least as u128),
+            Piece::Text(" to "),
+            Piece::Number(option.most as u128),
+        ],
+    )
 }
 
 /// Says what is wrong with the names, where it is their number, or else with the lists.
@@ -114,18 +190,32 @@ fn tell_names<R: Eprint>(rt: &R, table: CommandTable, words: &[String]) -> io::R
         .count();
     let form = table.form;
     if names < table.least {
-        return eprintln!(rt; "dispatcher: names are missing: {form}");
+        return say(rt, &[Piece::Text("names are missing: "), Piece::Text(form)]);
     }
     if names > table.most && table.name == "run" {
         let feeds = names.saturating_sub(1);
-        return eprintln!(rt; "dispatcher: {feeds} feeds, at most 64");
+        return say(
+            rt,
+            &[
+                Piece::Number(feeds as u128),
+                Piece::Text(" feeds, at most 64"),
+            ],
+        );
     }
     if names > table.most {
-        return eprintln!(rt; "dispatcher: {names} names are too many: {form}");
+        return say(
+            rt,
+            &[
+                Piece::Number(names as u128),
+                Piece::Text(" names are too many: "),
+                Piece::Text(form),
+            ],
+        );
     }
     if table.name == "gen" {
-        return eprintln!(rt;
-            "dispatcher: gen takes a NUMBER of 0 to 18446744073709551615 and 1 to 2000 TRAINS"
+        return say_text(
+            rt,
+            "gen takes a NUMBER of 0 to 18446744073709551615 and 1 to 2000 TRAINS",
         );
     }
     tell_lists(rt, table, words)
@@ -143,51 +233,81 @@ fn tell_lists<R: Eprint>(rt: &R, table: CommandTable, words: &[String]) -> io::R
         return tell_columns(rt, "--activity-columns", ACTIVITY_WORDS, activities, fault);
     }
     if table.name == "window" && !value_or("--held=", words, "").is_empty() {
-        return eprintln!(rt;
-            "dispatcher: window takes two times, FROM and TO, of 0 to 1000000000 seconds, TO no earlier than FROM, and a BUDGET of 1 to 16384 nodes; --held takes 1 to 4096 different numbers of activities, as --held=5,6"
+        return say_text(
+            rt,
+            "window takes two times, FROM and TO, of 0 to 1000000000 seconds, TO no earlier than FROM, and a BUDGET of 1 to 16384 nodes; --held takes 1 to 4096 different numbers of activities, as --held=5,6",
         );
     }
     if table.name == "window" {
-        return eprintln!(rt;
-            "dispatcher: window takes two times, FROM and TO, of 0 to 1000000000 seconds, TO no earlier than FROM, and a BUDGET of 1 to 16384 nodes"
+        return say_text(
+            rt,
+            "window takes two times, FROM and TO, of 0 to 1000000000 seconds, TO no earlier than FROM, and a BUDGET of 1 to 16384 nodes",
         );
     }
     if table.name == "rules" {
-        return eprintln!(rt;
-            "dispatcher: rules takes a RULE, never, always or 0 to 1000000 seconds, and a BUDGET of 1 to 16384 nodes"
+        return say_text(
+            rt,
+            "rules takes a RULE, never, always or 0 to 1000000 seconds, and a BUDGET of 1 to 16384 nodes",
         );
     }
     if table.name == "journey" {
-        return eprintln!(rt;
-            "dispatcher: journey takes two stops, FROM and TO, of 0 to 4294967295, and a time AFTER of 0 to 2000000000 seconds"
+        return say_text(
+            rt,
+            "journey takes two stops, FROM and TO, of 0 to 4294967295, and a time AFTER of 0 to 2000000000 seconds",
         );
     }
-    eprintln!(rt; "dispatcher: --boards takes 1 to 64 different numbers of stops, as --boards=4,2")
+    say_text(
+        rt,
+        "--boards takes 1 to 64 different numbers of stops, as --boards=4,2",
+    )
 }
 
 /// Says what is wrong with the column words of an option.
-fn tell_columns<R: Eprint>(
+fn tell_columns<'a, R: Eprint>(
     rt: &R,
-    option: &str,
-    known: &str,
-    given: &str,
+    option: &'a str,
+    known: &'a str,
+    given: &'a str,
     fault: ColumnFault,
 ) -> io::Result<()> {
     match fault {
-        ColumnFault::UnknownColumn(place) => {
-            let word = shown(part_at(given.as_bytes(), b',', place));
-            eprintln!(rt;
-                "dispatcher: {option}: \"{word}\" is no column; columns are {known} and - for one to pass over"
-            )
-        }
-        ColumnFault::DoubleColumn(place) => {
-            let word = shown(part_at(given.as_bytes(), b',', place));
-            eprintln!(rt; "dispatcher: {option}: \"{word}\" stands twice")
-        }
-        ColumnFault::TooMany => eprintln!(rt; "dispatcher: {option}: at most 16 columns"),
-        ColumnFault::MissingColumn(column) => {
-            let name = column.name();
-            eprintln!(rt; "dispatcher: {option}: \"{name}\" is missing, which the file must have")
-        }
+        ColumnFault::UnknownColumn(place) => say(
+            rt,
+            &[
+                Piece::Text(option),
+                Piece::Text(": \""),
+                Piece::Text(shown(part_at(given.as_bytes(), b',', place))),
+                Piece::Text("\" is no column; columns are "),
+                Piece::Text(known),
+                Piece::Text(" and - for one to pass over"),
+            ],
+        ),
+        ColumnFault::DoubleColumn(place) => say(
+            rt,
+            &[
+                Piece::Text(option),
+                Piece::Text(": \""),
+                Piece::Text(shown(part_at(given.as_bytes(), b',', place))),
+                Piece::Text("\" stands twice"),
+            ],
+        ),
+        ColumnFault::TooMany => say(
+            rt,
+            &[Piece::Text(option), Piece::Text(": at most 16 columns")],
+        ),
+        ColumnFault::MissingColumn(column) => tell_missing(rt, option, column.name()),
     }
+}
+
+/// Says that a column which the file must have is missing.
+fn tell_missing<'a, R: Eprint>(rt: &R, option: &'a str, column: &'a str) -> io::Result<()> {
+    say(
+        rt,
+        &[
+            Piece::Text(option),
+            Piece::Text(": \""),
+            Piece::Text(column),
+            Piece::Text("\" is missing, which the file must have"),
+        ],
+    )
 }
