@@ -3,7 +3,8 @@
 
 Both run at the top of a clone. `run` runs `rt ci` with these words, passes on what it prints, and ends with its status.
 Meanwhile it looks at the prover's processes each second, and adds up the processor time of each crate: of its own proof, of its
-tests and of its edits. What an earlier run on the machine has kept costs nothing and has no row; with --anew all is proved.
+tests and of its edits. What an earlier run on the machine has kept costs nothing and has no row; with --anew all is proved. Below
+stands the longest way: crates that wait one for the other, lowest first, whose proofs take most. No run from nothing ends sooner.
 
 `functions` tells where a first check's time went. Such a check, as `rt check` in a crate's folder that has no out/, or `rt all
 check --jobs 4` for all below one, writes a file of out/incremental as each part of a proof ends. The step from one file to the
@@ -21,7 +22,8 @@ from contextlib import suppress
 from dataclasses import dataclass
 from pathlib import Path
 
-from here import command_line
+from architecture import crates_of
+from here import TOP, command_line
 
 # How often processes are looked at, in seconds.
 PERIOD = 1.0
@@ -31,6 +33,11 @@ KINDS = ('proof', 'tests', 'edits')
 
 # Seconds by kind.
 Costs = defaultdict[str, float]
+
+# Crates that wait one for the other, behind the seconds of all their proofs.
+Way = tuple[float, list[str]]
+
+NO_WAY: Way = (0.0, [])
 
 
 @dataclass(frozen=True)
@@ -139,6 +146,27 @@ def cost_rows(costs: Mapping[str, Mapping[str, float]]) -> list[str]:
     return lines
 
 
+def longest_way(costs: Mapping[str, float], below: Mapping[str, Iterable[str]]) -> list[str]:
+    """The crates, lowest first, that wait one for the other and cost most in all; `below` names what each crate stands on."""
+    ways: dict[str, Way] = {}
+
+    def way_to(crate: str) -> Way:
+        if crate not in ways:
+            seconds, way = max((way_to(it) for it in below.get(crate, ())), default=NO_WAY)
+            own = costs.get(crate, 0.0)
+            ways[crate] = (seconds + own, [*way, crate]) if own else (seconds, way)
+        return ways[crate]
+
+    return max(map(way_to, below), default=NO_WAY)[1]
+
+
+def way_rows(costs: Mapping[str, Costs], below: Mapping[str, Iterable[str]]) -> list[str]:
+    """The longest way, with the seconds of each proof on it and their sum."""
+    proofs = {crate: seconds for crate, cost in costs.items() if (seconds := cost.get('proof', 0.0))}
+    way = longest_way(proofs, below)
+    return [f'the longest way: {sum(proofs[it] for it in way):.0f}', *(f'{it:22}{proofs[it]:9.0f}' for it in way)]
+
+
 def run(words: list[str]) -> int:
     """Runs rt ci and prints what the crates have cost."""
     meter, ticks, begun = Meter(), os.sysconf('SC_CLK_TCK'), time.monotonic()
@@ -146,7 +174,8 @@ def run(words: list[str]) -> int:
         while gate.poll() is None:
             meter.look(read_processes(Path('/proc'), gate.pid, ticks))
             time.sleep(PERIOD)
-    print(*cost_rows(meter.costs()), f'minutes by the clock: {(time.monotonic() - begun) / 60:.1f}', sep='\n')
+    costs, below = meter.costs(), crates_of(Path(TOP, 'crates.txt').read_text())
+    print(*cost_rows(costs), *way_rows(costs, below), f'minutes by the clock: {(time.monotonic() - begun) / 60:.1f}', sep='\n')
     return gate.returncode
 
 

@@ -12,7 +12,7 @@ from samples import TOP
 
 sys.path.insert(0, os.path.join(TOP, 'bench'))
 
-from gate import Meter, cost_rows, part_rows, read_parts, read_processes
+from gate import Costs, Meter, cost_rows, longest_way, part_rows, read_parts, read_processes, way_rows
 
 # The ticks of a second.
 TICKS = 100
@@ -63,6 +63,27 @@ class Processes(unittest.TestCase):
         self.assertEqual([row.split() for row in rows], [
             ['crate', 'seconds', 'proof', 'tests', 'edits'], ['high', '60', '20', '31', '9'], ['low', '12', '12', '0', '0'],
             ['all', '72', '32', '31', '9']])
+
+
+class Ways(unittest.TestCase):
+    # Two ways from bottom to top, and one crate beside them.
+    BELOW = {'bottom': [], 'left': ['bottom'], 'right': ['bottom'], 'top': ['left', 'right', 'bottom'], 'beside': ['bottom']}
+
+    def test_the_dearer_of_two_ways(self) -> None:
+        self.assertEqual(longest_way({'bottom': 1, 'left': 5, 'right': 7, 'top': 2}, self.BELOW), ['bottom', 'right', 'top'])
+        self.assertEqual(longest_way({'bottom': 1, 'left': 8, 'right': 7, 'top': 2}, self.BELOW), ['bottom', 'left', 'top'])
+
+    def test_one_dear_crate_that_nothing_stands_on(self) -> None:
+        self.assertEqual(longest_way({'bottom': 1, 'left': 5, 'right': 7, 'top': 2, 'beside': 10}, self.BELOW), ['bottom', 'beside'])
+
+    def test_what_was_kept_is_no_part_of_it(self) -> None:
+        self.assertEqual(longest_way({'right': 7, 'top': 2}, self.BELOW), ['right', 'top'])
+        self.assertEqual(longest_way({}, self.BELOW), [])
+
+    def test_rows_have_proofs_alone(self) -> None:
+        costs = {'bottom': Costs(float, proof=1.4, tests=90), 'right': Costs(float, proof=7), 'left': Costs(float, edits=50)}
+        self.assertEqual([row.split() for row in way_rows(costs, self.BELOW)], [
+            ['the', 'longest', 'way:', '8'], ['bottom', '1'], ['right', '7']])
 
 
 class Parts(unittest.TestCase):
