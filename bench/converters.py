@@ -2,13 +2,13 @@
 """Measures the converters of GTFS-Realtime: python3 bench/converters.py DISPATCHER [--trips=2630]
 
 A timetable of so many trips by twenty calls is made, a network of 38 events a trip, which may have 100,000; and a day on which a
-hundred trains are late. Printed are the seconds of processor and the most memory of gtfs_rt_out.py, which writes all trips, of
-gtfs_rt_in.py, which reads that message beside an empty feed and beside the feed of the day, and of gtfs_rt_in.py with a message of
-3,000 trips, of which it tells those that the network has not. The last line has the seconds of such a message alone, as it comes to
-gtfs_rt_in.py again and again with --every.
+hundred trains are late. Printed are the seconds of processor and the most memory of gtfs_rt_out.py, which writes all trips, and of
+gtfs_rt_in.py, which reads a message of 3,000 trips, of which it tells those that the network has not, beside the feed of the day. Then
+come the seconds of their parts, as with --every: what a converter reads once, its first message, and one a minute later.
 """
 from __future__ import annotations
 
+import argparse
 import contextlib
 import io
 import os
@@ -16,6 +16,7 @@ import subprocess
 import sys
 import tempfile
 import time
+from typing import Callable, TypeVar
 
 from here import TOP, command_line
 
@@ -24,10 +25,13 @@ sys.path.append(os.path.join(TOP, 'tools', 'tests'))
 from feeds import DATE, large_feed, write_feed  # noqa: E402
 from giv import read_network  # noqa: E402
 from gtfs_rt_in import Listener, Said, known_rows  # noqa: E402
+from gtfs_rt_out import Writer  # noqa: E402
 from measured import Measured, measured  # noqa: E402
 from protobuf import Message, decode, encode  # noqa: E402
 from realtime import read_named  # noqa: E402
 from words import whole_between  # noqa: E402
+
+Made = TypeVar('Made')
 
 CALLS, LATE, NOW, IN_MESSAGE = 20, 100, 28_800, 3_000
 
@@ -41,16 +45,31 @@ def shown(what: str, done: Measured) -> None:
     print(f'{what}: {done.seconds:.2f} s, {done.megabytes:.0f} MB, status {done.status}', flush=True)
 
 
-def further(net: str, feed: str, message: Message) -> float:
-    """The seconds that a message takes which tells, a minute later, the same of each call."""
-    network = read_network(net)
-    listener = Listener(network, read_named(net), known_rows(network, feed, None), Said())
-    data = encode({**message, 'header': {**message['header'], 'timestamp': message['header']['timestamp'] + 60}})
+def took(what: str, work: Callable[[], Made]) -> Made:
+    """Tells the seconds of processor of some work in this process; what it makes."""
+    began = time.process_time()
     with contextlib.redirect_stderr(io.StringIO()):
-        listener.take(encode(message), 'first')
-        began = time.process_time()
-        listener.take(data, 'second')
-    return time.process_time() - began
+        made = work()
+    print(f'  {what}: {time.process_time() - began:.2f} s', flush=True)
+    return made
+
+
+def parts_of_in(net: str, feed: str, message: Message) -> None:
+    later = {**message, 'header': {**message['header'], 'timestamp': message['header']['timestamp'] + 60}}
+    first, second = encode(message), encode(later)
+
+    def begin() -> Listener:
+        network = read_network(net)
+        return Listener(network, read_named(net), known_rows(network, feed, None), Said())
+    listener = took('it reads the network and its names', begin)
+    took('it reads the first message', lambda: listener.take(first, 'first'))
+    took('it reads one a minute later', lambda: listener.take(second, 'second'))
+
+
+def parts_of_out(net: str, text: str, out: str) -> None:
+    writer = took('it reads the names', lambda: Writer(argparse.Namespace(net=net, text=text, out=out, zone=None, now=None)))
+    took('it writes the first message', writer.write)
+    took('it writes it again', writer.write)
 
 
 def main() -> int:
@@ -69,8 +88,7 @@ def main() -> int:
         with open(text, 'wb') as file:
             subprocess.run([given.dispatcher, 'run', net, feed], stdout=file, stderr=subprocess.DEVNULL, check=True)
         shown('gtfs_rt_out.py', tool('gtfs_rt_out.py', net, text, out))
-        shown('gtfs_rt_in.py, an empty feed', tool('gtfs_rt_in.py', net, os.path.join(folder, 'empty'), out))
-        shown('gtfs_rt_in.py, the feed of the day', tool('gtfs_rt_in.py', net, feed, out))
+        parts_of_out(net, text, out)
         with open(out, 'rb') as file:
             message = decode(file.read())
         updates = message['entity']
@@ -80,7 +98,7 @@ def main() -> int:
         with open(more, 'wb') as file:
             file.write(encode(message))
         shown(f'gtfs_rt_in.py, {len(updates)} trips by {CALLS} calls in {os.path.getsize(more)} bytes', tool('gtfs_rt_in.py', net, feed, more))
-        print(f'gtfs_rt_in.py, a further message of these with --every: {further(net, feed, message):.2f} s')
+        parts_of_in(net, feed, message)
     return 0
 
 

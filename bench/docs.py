@@ -26,7 +26,7 @@ PAGES = ["README.md", "docs/OPERATING.md", "docs/TUTORIAL.md", "docs/GTFS.md", "
 STARTS = {"docs/TUTORIAL.md": "crates/dispatcher"}
 LEFT_OUT = re.compile(r"\brt \w|\.ci/run|\b(FOLDER|FILE|DIR|DM_SPEED)\b")
 TRIES = 5
-SECONDS = 120
+SECONDS = 300
 
 
 @dataclass
@@ -94,16 +94,17 @@ def stands_in(lines: list[str], text: list[str]) -> bool:
 
 
 def blocks_of(page: str) -> list[Block]:
-    blocks, current = [], None
+    blocks: list[Block] = []
+    current, indent = None, ""
     for number, line in enumerate(page.splitlines(), 1):
-        fence = re.match(r"```(\w*)$", line)
+        fence = re.match(r"( *)```(\w*)$", line)
         if current is None and fence:
-            current = Block(number + 1, fence[1], [])
-        elif current is not None and line == "```":
+            current, indent = Block(number + 1, fence[2], []), fence[1]
+        elif current is not None and line.strip() == "```":
             blocks.append(current)
             current = None
         elif current is not None:
-            current.lines.append(line)
+            current.lines.append(line.removeprefix(indent))
     return blocks
 
 

@@ -86,7 +86,7 @@ def thousandths(text: str) -> int:
 
 def whole(text: str) -> int:
     """The number that decimal digits spell."""
-    if not re.fullmatch('[0-9]+', text):
+    if not (text.isascii() and text.isdigit()):
         raise ValueError(text)
     return int(text)
 

@@ -28,11 +28,11 @@ from typing import Iterator, Optional, Sequence
 
 from gtfs_rt_out import read_text
 from names import EventName
-from protobuf import LONGEST_FILE, BadMessage, Message, decode
+from protobuf import LONGEST_FILE, BadMessage, Message, Recent, decode
 from files import BadFile, in_one_line
 from giv import read_network
 from network import Network
-from railway import LARGEST_DELAY, LARGEST_PASSED, Rows, active_activities, apply, refusal_at_once, span_of
+from railway import LARGEST_DELAY, LARGEST_PASSED, Rows, active_activities, apply, push, refusal_at_once, waits_and_spans
 from realtime import NO_DATA, SKIPPED, STOPPED_AT, TRIPS_GONE, TRIPS_TAKEN, Named, by_key, key_of, read_named
 from runtext import due_items
 from words import command_line
@@ -74,6 +74,11 @@ class Listener:
 
     def __post_init__(self) -> None:
         self.trains = by_key(self.named)
+        self.recent = Recent('StopTimeUpdate')
+        self.calls: dict[int, dict[object, list[EventName]]] = {train: {} for train in self.named.events}
+        for train, events in self.named.events.items():
+            for one in events:
+                self.calls[train].setdefault(one.sequence, []).append(one)
 
     # -- Trips and calls
 
@@ -101,10 +106,10 @@ class Listener:
 
     def events_at(self, train: int, sequence: object, stop: object, behind: int) -> list[EventName]:
         """The events of a train at a call, by its place in the trip or else by the first such stop not before another place."""
-        events = self.named.events[train]
         if sequence is None:
+            events = self.named.events[train]
             sequence = next((one.sequence for one in events if one.stop == stop and one.sequence >= behind), None)
-        return [one for one in events if one.sequence == sequence]
+        return self.calls[train].get(sequence, [])
 
     # -- Messages
 
@@ -173,7 +178,8 @@ class Listener:
             self.said.tell('messages that come twice', source)
             return []
         self.seen.add(digest)
-        message = decode(data)
+        self.recent.begin()
+        message = decode(data, recent=self.recent)
         stamp = int(message.get('header', {}).get('timestamp', 0))
         now = stamp - self.named.begin
         if not 0 <= now <= LARGEST_PASSED:
@@ -219,9 +225,7 @@ class Listener:
             if at >= 0 and after.passed[place] is None:
                 after.passed[place] = 0
         held = active_activities(network, after)
-        waits_for = [0] * len(network.events)
-        for place, head in enumerate(network.heads):
-            waits_for[head] += held[place]
+        waits_for, spans = waits_and_spans(network, rows, held)
         base = [event.time for event in network.events]
         ready = [place for place, count in enumerate(waits_for) if not count]
         for place in ready:
@@ -243,13 +247,7 @@ class Listener:
                     if ahead[place] < base[place]:
                         self.said.counts['calls told earlier than they can be by what stands before them'] += 1
                 base[place] = max(base[place], scheduled + delay)
-            for activity in network.out_of[place]:
-                if held[activity]:
-                    head = network.heads[activity]
-                    base[head] = max(base[head], base[place] + span_of(network, rows, activity))
-                    waits_for[head] -= 1
-                    if not waits_for[head]:
-                        ready.append(head)
+            push(network, place, held, spans, base, waits_for, ready)
 
 
 # ---- Files and sources

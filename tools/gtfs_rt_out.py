@@ -21,16 +21,17 @@ import sys
 import threading
 import time
 from http.server import BaseHTTPRequestHandler, HTTPServer, ThreadingHTTPServer
-from typing import Iterator, Optional, Sequence
+from typing import Iterator, NamedTuple, Optional, Sequence
 
 from files import BadFile, in_one_line, write_all
 from find import Found, all_changes
 from gtfs import seconds_of
 from protobuf import Message, encode
 from giv import read_network
+from names import EventName
 from realtime import NO_DATA, SCHEDULED, Named, descriptor, read_named
 from runtext import Bad, Run, read_run
-from to_gtfs import Happening, without_falls
+from to_gtfs import never_falling
 from words import command_line, whole_between
 
 VERSION, FULL_DATASET = '2.0', 0
@@ -38,6 +39,9 @@ UNKNOWN_CAUSE, OTHER_EFFECT = 1, 7
 
 # How many seconds a text is left alone that is handed out.
 USUAL = 10
+
+# When a file was written last, and its length.
+State = tuple[int, int]
 
 
 def read_text(name: str, events: int) -> Run:
@@ -84,29 +88,57 @@ def passed(run: Run) -> set[int]:
     return found
 
 
-def calls_of(happenings: list[Happening], begin: int, is_known: bool, repeats: bool) -> list[Message]:
-    """The StopTimeUpdates of a train, in the order of its calls; without delays where a frequency made it, for it may have no times to
-    be late against."""
-    calls: dict[int, Message] = {}
-    for one in happenings:
-        relation = SCHEDULED if is_known else NO_DATA
-        call = calls.setdefault(one.name.sequence, {
-            'stop_sequence': one.name.sequence, 'stop_id': one.name.stop, 'schedule_relationship': relation})
-        if is_known:
-            delay = {} if repeats else {'delay': one.delay}
-            call[one.name.kind] = {**delay, 'time': begin + one.time}
-    return [call for _, call in sorted(calls.items())]
+class Call(NamedTuple):
+    """A call of a train: its place in the trip, its stop, and which of the train's events it has, by their kinds."""
+    sequence: int
+    stop: str
+    events: list[tuple[str, int]]
 
 
-def updates(named: Named, told: set[int], run: Run, now: int) -> Iterator[Message]:
-    """A TripUpdate of each train, where so much was told of events."""
+class Train(NamedTuple):
+    """What does not change of a train: its events, their scheduled times, its calls, and its descriptor."""
+    events: list[int]
+    scheduled: list[int]
+    calls: list[Call]
+    trip: Message
+
+
+class Body(NamedTuple):
+    """What is told of a train, but for the time of the message: for which times, whether they are known, and in bytes."""
+    times: list[int]
+    is_known: bool
+    data: bytes
+
+
+def calls_of(names: list[EventName]) -> list[Call]:
+    """The calls of a train, in their order."""
+    calls: dict[int, Call] = {}
+    for place, name in enumerate(names):
+        calls.setdefault(name.sequence, Call(name.sequence, name.stop, [])).events.append((name.kind, place))
+    return [calls[sequence] for sequence in sorted(calls)]
+
+
+def trains_of(net: str, named: Named) -> dict[int, Train]:
+    """The trains of a network, by number; BadFile where an event has no time."""
+    trains = {}
     for number, train in named.trains.items():
-        happenings = [Happening(name, seconds_of(name.time) or 0, run.times[name.event]) for name in named.events[number]]
-        is_known = any(one.delay or one.name.event in told for one in happenings)
-        without_falls(happenings)
-        trip = descriptor(train, named.day)
-        calls = calls_of(happenings, named.begin, is_known, 'start_time' in trip)
-        yield {'id': f'trip-{number}', 'trip_update': {'trip': trip, 'stop_time_update': calls, 'timestamp': now}}
+        names = named.events[number]
+        scheduled = [at for name in names if (at := seconds_of(name.time)) is not None]
+        if len(scheduled) < len(names):
+            raise BadFile(os.path.join(net, 'Events.csv'), None, f'an event of {train.trip} has no time')
+        trains[number] = Train([name.event for name in names], scheduled, calls_of(names), descriptor(train, named.day))
+    return trains
+
+
+def call_message(call: Call, train: Train, times: list[int], begin: int, is_known: bool) -> Message:
+    """The StopTimeUpdate of a call; without delays where a frequency made the train, for it may have no times to be late against."""
+    message: Message = {
+        'stop_sequence': call.sequence, 'stop_id': call.stop, 'schedule_relationship': SCHEDULED if is_known else NO_DATA,
+    }
+    for kind, place in call.events if is_known else ():
+        delay = {} if 'start_time' in train.trip else {'delay': times[place] - train.scheduled[place]}
+        message[kind] = {**delay, 'time': begin + times[place]}
+    return message
 
 
 def in_english(text: str) -> Message:
@@ -127,24 +159,72 @@ def alert(found: Found, named: Named, leaves: int) -> Message:
     }
 
 
-def message_of(net: str, text: str, zone: Optional[str], now: Optional[int]) -> Message:
-    named = read_named(net, zone)
-    names = [name for events in named.events.values() for name in events]
-    run = read_text(text, len(names))
-    for name in names:
-        if name.event not in run.times or seconds_of(name.time) is None:
-            raise BadFile(os.path.join(net, 'Events.csv'), None, f'event {name.event} is not of the text, or has no time')
-    if now is None:
-        clocks = [entry.message[1] for entry in run.journal if entry.message[0] == 'now']
-        now = named.begin + clocks[-1] if clocks else int(time.time())
-    gone, missed = passed(run), dropped(run)
-    alerts = [
-        {'id': f'change-{found.change.change}', 'alert': alert(found, named, run.times[found.departure.event])}
-        for found in (all_changes(net) if missed else ())
-        if found.change.change in missed and found.departure.event not in gone
-    ]
-    header = {'gtfs_realtime_version': VERSION, 'incrementality': FULL_DATASET, 'timestamp': now}
-    return {'header': header, 'entity': [*updates(named, events_told(net, run), run, now), *alerts]}
+class Writer:
+    """Writes messages over a network, whose names are read once. What is told of a train is put into bytes anew where it is new."""
+
+    def __init__(self, read: argparse.Namespace) -> None:
+        self.read = read
+        self.named = read_named(read.net, read.zone)
+        self.trains = trains_of(read.net, self.named)
+        self.events = {event for train in self.trains.values() for event in train.events}
+        self.bodies: dict[int, Body] = {}
+
+    def run(self) -> Run:
+        """The run of the text."""
+        run = read_text(self.read.text, len(self.events))
+        if not self.events <= run.times.keys():
+            missing = min(self.events - run.times.keys())
+            raise BadFile(os.path.join(self.read.net, 'Events.csv'), None, f'event {missing} is not of the text')
+        return run
+
+    def body(self, number: int, train: Train, told: set[int], run: Run) -> bytes:
+        """What is told of a train, where so much was told of events."""
+        shown = [run.times[event] for event in train.events]
+        is_known = shown != train.scheduled or not told.isdisjoint(train.events)
+        times = never_falling(shown)
+        before = self.bodies.get(number)
+        if before is not None and (before.times, before.is_known) == (times, is_known):
+            return before.data
+        calls = [call_message(call, train, times, self.named.begin, is_known) for call in train.calls]
+        data = encode({'trip': train.trip, 'stop_time_update': calls}, 'TripUpdate')
+        self.bodies[number] = Body(times, is_known, data)
+        return data
+
+    def updates(self, told: set[int], run: Run, now: int) -> Iterator[Message]:
+        """A TripUpdate of each train."""
+        stamp = encode({'timestamp': now}, 'TripUpdate')
+        for number, train in self.trains.items():
+            yield {'id': f'trip-{number}', 'trip_update': self.body(number, train, told, run) + stamp}
+
+    def alerts(self, run: Run) -> Iterator[Message]:
+        """An Alert of each change that is dropped and whose train has not left."""
+        gone, missed = passed(run), dropped(run)
+        for found in all_changes(self.read.net) if missed else ():
+            if found.change.change in missed and found.departure.event not in gone:
+                yield {'id': f'change-{found.change.change}', 'alert': alert(found, self.named, run.times[found.departure.event])}
+
+    def message(self) -> Message:
+        run, now = self.run(), self.read.now
+        if now is None:
+            clocks = [entry.message[1] for entry in run.journal if entry.message[0] == 'now']
+            now = self.named.begin + clocks[-1] if clocks else int(time.time())
+        header = {'gtfs_realtime_version': VERSION, 'incrementality': FULL_DATASET, 'timestamp': now}
+        entities = [*self.updates(events_told(self.read.net, run), run, now), *self.alerts(run)]
+        return {'header': header, 'entity': entities}
+
+    def write(self) -> None:
+        data = encode(self.message())
+        write_all(os.path.dirname(self.read.out) or '.', {os.path.basename(self.read.out): data})
+
+    def write_again(self, seen: Optional[State]) -> Optional[State]:
+        """Writes the message anew where the text is another one than was seen; what is seen now."""
+        now = state_of(self.read.text)
+        if now != seen:
+            try:
+                self.write()
+            except (BadFile, KeyError) as error:
+                print(f'gtfs_rt_out: {in_one_line(str(error), 1000)}', file=sys.stderr, flush=True)
+        return now
 
 
 # ---- Again and again
@@ -179,29 +259,13 @@ def serving(out: str, port: int) -> HTTPServer:
     return server
 
 
-def state_of(name: str) -> Optional[tuple[int, int]]:
+def state_of(name: str) -> Optional[State]:
     """What tells one state of a file from another."""
     try:
         found = os.stat(name)
     except OSError:
         return None
     return found.st_mtime_ns, found.st_size
-
-
-def write_again(read: argparse.Namespace, seen: Optional[tuple[int, int]]) -> Optional[tuple[int, int]]:
-    """Writes the message anew where the text is another one than was seen; what is seen now."""
-    now = state_of(read.text)
-    if now != seen:
-        try:
-            write_message(read)
-        except (BadFile, KeyError) as error:
-            print(f'gtfs_rt_out: {in_one_line(str(error), 1000)}', file=sys.stderr, flush=True)
-    return now
-
-
-def write_message(read: argparse.Namespace) -> None:
-    data = encode(message_of(read.net, read.text, read.zone, read.now))
-    write_all(os.path.dirname(read.out) or '.', {os.path.basename(read.out): data})
 
 
 def main(given: Optional[Sequence[str]] = None) -> int:
@@ -216,12 +280,13 @@ def main(given: Optional[Sequence[str]] = None) -> int:
     read = words.parse_args(given)
     try:
         seen = state_of(read.text)
-        write_message(read)
+        writer = Writer(read)
+        writer.write()
         if read.serve is not None:
             serving(read.out, read.serve)
         while read.every or read.serve is not None:
             time.sleep(read.every or USUAL)
-            seen = write_again(read, seen)
+            seen = writer.write_again(seen)
     except (BadFile, KeyError) as error:
         print(f'gtfs_rt_out: {in_one_line(str(error), 1000)}', file=sys.stderr)
         return 2

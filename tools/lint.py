@@ -83,7 +83,7 @@ def schedule_oddities(files: Files) -> Iterator[Oddity]:
     for place, activity in enumerate(files.network.activities):
         tail, head = files.ends(place)
         slack = head.time - tail.time - activity.lower
-        if files.network.pair_of_activity(place) is not None and head.time < tail.time:
+        if files.network.pair_by_activity[place] is not None and head.time < tail.time:
             continue
         if head.time < tail.time:
             yield files.at_activity('backwards', activity, f'its head is scheduled {tail.time - head.time} s before its tail')
@@ -134,7 +134,7 @@ def long_changes(files: Files) -> Iterator[Oddity]:
 
 def one_way_headways(files: Files) -> Iterator[Oddity]:
     for place, activity in enumerate(files.network.activities):
-        if activity.kind == 'headway' and files.network.pair_of_activity(place) is None:
+        if activity.kind == 'headway' and files.network.pair_by_activity[place] is None:
             yield files.at_activity('one-way', activity, 'no headway leads the other way, so the order of these trains is fixed')
 
 

@@ -45,6 +45,11 @@ class Network:
                 self.headways.setdefault((self.tails[place], self.heads[place]), []).append(place)
         self.pairs = sorted(ends for ends in self.headways if ends[0] < ends[1] and ends[::-1] in self.headways)
         self.pair_place = {pair: place for place, pair in enumerate(self.pairs)}
+        # Of each activity, the place of the pair that it belongs to, as a headway, or None.
+        self.pair_by_activity: list[Optional[int]] = [None] * len(self.activities)
+        for pair, (first, second) in enumerate(self.pairs):
+            for headway in self.headways[first, second] + self.headways[second, first]:
+                self.pair_by_activity[headway] = pair
 
     def pair_of(self, first: int, second: int) -> Optional[int]:
         """The place of the pair of two events, by place, or None."""
@@ -54,12 +59,6 @@ class Network:
         """The place of the pair that two events are."""
         return self.pair_place[min(first, second), max(first, second)]
 
-    def pair_of_activity(self, place: int) -> Optional[int]:
-        """The place of the pair that a headway belongs to, or None."""
-        if self.activities[place].kind != 'headway':
-            return None
-        return self.pair_of(self.tails[place], self.heads[place])
-
     def pair_choice(self, pair: int) -> Choice:
         """The choice of a pair."""
         return ('pair', *(self.events[place].id for place in self.pairs[pair]))
@@ -68,5 +67,5 @@ class Network:
         """The choice that an activity hangs on, or None."""
         if self.activities[place].kind == 'change':
             return ('change', self.activities[place].id)
-        pair = self.pair_of_activity(place)
+        pair = self.pair_by_activity[place]
         return None if pair is None else self.pair_choice(pair)

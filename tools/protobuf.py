@@ -89,7 +89,7 @@ BY_NAME = {
 
 
 def encode(message: Message, kind: str = 'FeedMessage') -> bytes:
-    """The bytes of a message; KeyError where it has a field that the schema has not."""
+    """The bytes of a message; KeyError where it has a field that the schema has not. A part that is in bytes already stays so."""
     fields = BY_NAME[kind]
     parts: list[bytes] = []
     for name, value in message.items():
@@ -98,7 +98,7 @@ def encode(message: Message, kind: str = 'FeedMessage') -> bytes:
             if what in SCALARS:
                 parts += (tag, varint(one))
             else:
-                part = one.encode() if what == 'text' else encode(one, what)
+                part = one.encode() if what == 'text' else one if isinstance(one, bytes) else encode(one, what)
                 parts += (tag, varint(len(part)), part)
     return b''.join(parts)
 
@@ -145,8 +145,28 @@ BY_TAG = {
 }
 
 
-def decode(data: bytes, kind: str = 'FeedMessage', place: int = 0, end: int | None = None) -> Message:
-    """The message that bytes are; BadMessage where they are none."""
+class Recent:
+    """The messages of one kind that were read last, by their bytes: most of what a source tells it has told before."""
+
+    def __init__(self, kind: str) -> None:
+        self.kind = kind
+        self.before: dict[bytes, Message] = {}
+        self.now: dict[bytes, Message] = {}
+
+    def begin(self) -> None:
+        """Begins a file: what was not read in the one before is forgotten."""
+        self.before, self.now = self.now, {}
+
+    def read(self, data: bytes) -> Message:
+        message = self.before.get(data)
+        if message is None:
+            message = decode(data, self.kind)
+        self.now[data] = message
+        return message
+
+
+def decode(data: bytes, kind: str = 'FeedMessage', place: int = 0, end: int | None = None, recent: Recent | None = None) -> Message:
+    """The message that bytes are; BadMessage where they are none. Those parts that were read lately are not read again."""
     end = len(data) if end is None else end
     fields = BY_TAG[kind]
     message: Message = {}
@@ -174,9 +194,13 @@ def decode(data: bytes, kind: str = 'FeedMessage', place: int = 0, end: int | No
         if what == 'text':
             message[name] = text_of(data[begin:place], name)
         elif is_many:
-            message.setdefault(name, []).append(decode(data, what, begin, place))
+            if recent and recent.kind == what:
+                part = recent.read(data[begin:place])
+            else:
+                part = decode(data, what, begin, place, recent)
+            message.setdefault(name, []).append(part)
         else:
-            message[name] = decode(data, what, begin, place)
+            message[name] = decode(data, what, begin, place, recent)
     return message
 
 

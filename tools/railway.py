@@ -71,17 +71,18 @@ def is_active(network: Network, rows: Rows, place: int) -> bool:
     tail, head = network.tails[place], network.heads[place]
     if rows.passed[head] is not None:
         return False
-    pair = network.pair_of_activity(place)
+    pair = network.pair_by_activity[place]
     if pair is not None:
         return rows.passed[tail] is not None or rows.first[pair] == tail
     return rows.kept[place]
 
 
 def active_activities(network: Network, rows: Rows) -> list[bool]:
-    """Whether each activity is active."""
+    """Whether each activity is active, as is_active says of one."""
+    passed, kept, first = rows.passed, rows.kept, rows.first
     return [
-        is_active(network, rows, place) if activity.kind == 'headway' else rows.passed[head] is None and rows.kept[place]
-        for place, (activity, head) in enumerate(zip(network.activities, network.heads))
+        passed[head] is None and (kept[place] if pair is None else passed[tail] is not None or first[pair] == tail)
+        for place, (tail, head, pair) in enumerate(zip(network.tails, network.heads, network.pair_by_activity))
     ]
 
 
@@ -97,21 +98,35 @@ def span_of(network: Network, rows: Rows, place: int) -> int:
     return network.activities[place].lower + rows.activity_delays[place]
 
 
+def waits_and_spans(network: Network, rows: Rows, held: Sequence[bool]) -> tuple[list[int], list[int]]:
+    """How many held activities lead to each event, and what each activity takes."""
+    waits_for = [0] * len(network.events)
+    for head, is_held in zip(network.heads, held):
+        waits_for[head] += is_held
+    return waits_for, [activity.lower + delay for activity, delay in zip(network.activities, rows.activity_delays)]
+
+
+def push(
+    network: Network, place: int, held: Sequence[bool], spans: Sequence[int], times: list[int], waits_for: list[int], ready: list[int],
+) -> None:
+    """Puts the events behind one no earlier than its time lets them be; one that waits for no other is ready then."""
+    heads, at = network.heads, times[place]
+    for activity in network.out_of[place]:
+        if held[activity]:
+            head = heads[activity]
+            times[head] = max(times[head], at + spans[activity])
+            waits_for[head] -= 1
+            if not waits_for[head]:
+                ready.append(head)
+
+
 def least_times(network: Network, rows: Rows, held: Sequence[bool]) -> Optional[list[int]]:
     """The least timetable that holds these activities, or None where they have a cycle."""
-    waits_for = [0] * len(network.events)
-    for place, head in enumerate(network.heads):
-        waits_for[head] += held[place]
+    waits_for, spans = waits_and_spans(network, rows, held)
     times = [floor_of(network, rows, place) for place in range(len(network.events))]
     settled = [place for place, count in enumerate(waits_for) if count == 0]
-    for tail in settled:
-        for place in network.out_of[tail]:
-            if held[place]:
-                head = network.heads[place]
-                times[head] = max(times[head], times[tail] + span_of(network, rows, place))
-                waits_for[head] -= 1
-                if waits_for[head] == 0:
-                    settled.append(head)
+    for place in settled:
+        push(network, place, held, spans, times, waits_for, settled)
     return times if len(settled) == len(times) else None
 
 

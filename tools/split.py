@@ -77,7 +77,7 @@ class Parts:
 
 def may_be_cut(network: Network, boundary: set[int], place: int) -> bool:
     """Whether both events of an activity are at boundary stops, and it is neither a drive nor of a pair."""
-    if network.activities[place].kind == 'drive' or network.pair_of_activity(place) is not None:
+    if network.activities[place].kind == 'drive' or network.pair_by_activity[place] is not None:
         return False
     return all(network.events[end].stop in boundary for end in (network.tails[place], network.heads[place]))
 

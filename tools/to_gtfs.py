@@ -86,19 +86,27 @@ def happenings_by_train(net: str, text: str) -> dict[int, list[Happening]]:
     return trains
 
 
-def without_falls(happenings: list[Happening]) -> Optional[str]:
-    """Puts each time of a train that is above one behind it down to that; what is to be said of it, if there are any.
+def never_falling(times: Sequence[int]) -> list[int]:
+    """The times of a train, each that is above one behind it put down to that.
 
     Only an event that has passed is not held back by those before it, so it is the later one that is known.
     """
-    count, first, least = 0, '', happenings[-1].time
-    for one in reversed(happenings):
-        if one.time > least:
-            count, first = count + 1, f'{one}, {clock(one.time)} as {clock(least)}'
-            one.time = least
-        least = one.time
+    left = list(times)
+    for place in reversed(range(len(left) - 1)):
+        left[place] = min(left[place], left[place + 1])
+    return left
+
+
+def without_falls(happenings: list[Happening]) -> Optional[str]:
+    """Puts each time of a train that is above one behind it down to that; what is to be said of it, if there are any."""
+    falls = [
+        (one, least) for one, least in zip(happenings, never_falling([one.time for one in happenings])) if one.time > least
+    ]
+    said = [f'{one}, {clock(one.time)} as {clock(least)}' for one, least in falls]
+    for one, least in falls:
+        one.time = least
     trip = happenings[0].name.trip
-    return f'trip {trip}: its times fall, so some are written as one that follows: {count}, first {first}' if count else None
+    return f'trip {trip}: its times fall, so some are written as one that follows: {len(said)}, first {said[0]}' if said else None
 
 
 def stays_of(name: Optional[str], trips: Iterable[str]) -> dict[str, Stay]:

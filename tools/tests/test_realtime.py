@@ -19,9 +19,9 @@ from test_gtfs import InNetwork, trips_and_times
 
 import gtfs_rt_in
 import gtfs_rt_out
-from protobuf import SCHEMA, BadMessage, Message, decode, encode, varint
+from protobuf import SCHEMA, BadMessage, Message, Recent, decode, encode, varint
 from giv import read_network
-from railway import Rows, admit, cost_of, rows_after, sound_times
+from railway import Message as Entered, Rows, admit, cost_of, rows_after, sound_times
 from realtime import beginning
 
 # Midnight of 24 December 2026 in Berlin, worked out by `date -d '2026-12-24 00:00 +0100' +%s`.
@@ -42,6 +42,15 @@ class WireFormat(unittest.TestCase):
     def test_unknown_fields_are_passed_over(self) -> None:
         known = encode({'id': 'x'}, 'FeedEntity')
         self.assertEqual(decode(b'\xf8\x07\x01' + b'\xfd\x07abcd' + b'\xf9\x07abcdefgh' + known + b'\xfa\x07\x02hi', 'FeedEntity'), {'id': 'x'})
+
+    def test_parts_that_were_read_lately_are_the_same(self) -> None:
+        recent = Recent('StopTimeUpdate')
+        for late in (60, 0, 0, 90):
+            calls = [{'stop_sequence': 1, 'departure': {'delay': 60}}, {'stop_sequence': 2, 'arrival': {'delay': late}}]
+            message = {'entity': [{'id': 'x', 'trip_update': {'trip': {'trip_id': 't'}, 'stop_time_update': calls}}]}
+            recent.begin()
+            self.assertEqual(decode(encode(message), recent=recent), message)
+        self.assertEqual((len(recent.before), len(recent.now)), (2, 2))
 
     def test_broken_ones_are_told(self) -> None:
         for data in b'\x0a', b'\x0a\x05ab', b'\x08\x01', b'\x0b', b'\x0a\x02\x0a\xff', b'\xff' * 11, b'\x12\x03\x0a\x01\xff':
@@ -165,6 +174,10 @@ class Written(Realtime):
         with open(out, 'rb') as file:
             return file.read()
 
+    def written_again(self, *messages: Any) -> bytes:
+        shutil.rmtree(os.path.join(self.folder, 'run'))
+        return self.written(*messages)
+
 
 class Out(Written):
     def test_calls_have_delays_and_times_or_nothing_is_known(self) -> None:
@@ -201,10 +214,6 @@ class Out(Written):
         gone = decode(self.written_again(('drop', change.id), ('pass', change.head, 29700), ('now', 29700)))
         self.assertEqual([one for one in gone['entity'] if 'alert' in one], [])
 
-    def written_again(self, *messages: Any) -> bytes:
-        shutil.rmtree(os.path.join(self.folder, 'run'))
-        return self.written(*messages)
-
     def test_what_comes_out_goes_in_as_the_same_delay(self) -> None:
         data = self.written(('delay event', 1, 60), ('now', 28000))
         name = os.path.join(self.folder, 'out.pb')
@@ -239,18 +248,33 @@ class Again(Written):
             self.assertEqual((status, 'sources that cannot be read: ' in told), (2, True))
             server.shutdown()
 
+    def test_what_is_told_again_is_as_a_new_process_tells_it(self) -> None:
+        self.written(('delay event', 1, 60), ('now', 28000))
+        text, out = os.path.join(self.folder, 'run', 'text'), os.path.join(self.folder, 'out.pb')
+        writer = gtfs_rt_out.Writer(argparse.Namespace(net=self.net, text=text, out=out, zone=None, now=None))
+        writer.write()
+        late: Entered = ('delay event', 1, 120)
+        days: list[list[Entered]] = [
+            [('now', 28100)], [late, ('now', 28200)], [late, ('now', 28300)], [('pass', 1, 28750), ('now', 28800)],
+        ]
+        for messages in days:
+            new = self.written_again(*messages)
+            writer.write()
+            with open(out, 'rb') as file:
+                self.assertEqual(file.read(), new)
+
     def test_is_written_anew_where_the_text_is_another_one(self) -> None:
         self.written(('delay event', 1, 60), ('now', 28000))
         text, out = os.path.join(self.folder, 'run', 'text'), os.path.join(self.folder, 'out.pb')
-        words = argparse.Namespace(net=self.net, text=text, out=out, zone=None, now=None)
-        seen = gtfs_rt_out.write_again(words, None)
+        writer = gtfs_rt_out.Writer(argparse.Namespace(net=self.net, text=text, out=out, zone=None, now=None))
+        seen = writer.write_again(None)
         os.remove(out)
-        self.assertEqual(gtfs_rt_out.write_again(words, seen), seen)
+        self.assertEqual(writer.write_again(seen), seen)
         self.assertFalse(os.path.exists(out))
         with contextlib.redirect_stderr(io.StringIO()) as said:
             with open(text, 'a', encoding='ascii') as file:
                 file.write('half a')
-            self.assertNotEqual(gtfs_rt_out.write_again(words, seen), seen)
+            self.assertNotEqual(writer.write_again(seen), seen)
         self.assertFalse(os.path.exists(out))
         self.assertIn('is no text of a run', said.getvalue())
 
