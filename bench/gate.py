@@ -1,7 +1,8 @@
 #!/usr/bin/env python3
-"""Tells what proving costs: python3 bench/gate.py run [--anew] [CRATE..], or python3 bench/gate.py functions [--most N] [CRATE..]
+"""Tells what proving costs: python3 bench/gate.py run [--anew] [CRATE..], or python3 bench/gate.py functions [--most N] [CRATE..],
+or python3 bench/gate.py states [--most N] [CRATE..]
 
-Both run at the top of a clone. `run` runs `rt ci` with these words, passes on what it prints, and ends with its status.
+All run at the top of a clone. `run` runs `rt ci` with these words, passes on what it prints, and ends with its status.
 Meanwhile it looks at the prover's processes each second, and adds up the processor time of each crate: of its own proof, of its
 tests and of its edits. What an earlier run on the machine has kept costs nothing and has no row; with --anew all is proved. Below
 stands the longest way: crates that wait one for the other, lowest first, whose proofs take most. No run from nothing ends sooner.
@@ -11,6 +12,9 @@ check --jobs 4` for all below one, writes a file of out/incremental as each part
 next is the time of the part, a little blurred where several jobs ran. A row gives a crate's seconds and those of its dearest
 kinds of parts: `Lts` are the states that a function can be in (many owned values with a derived `Drop` make many), `Proof`,
 `Goals` and `Tie` what is proved of them. A later check writes files anew and tells nothing.
+
+`states` tells which functions have the most states, by how many thousands of bytes the prover writes of them: on a busy machine,
+with several jobs and after later checks too.
 """
 import os
 import subprocess
@@ -179,16 +183,29 @@ def run(words: list[str]) -> int:
     return gate.returncode
 
 
-def read_parts(top: Path, names: Iterable[str]) -> list[Part]:
-    """The parts of the proofs of crates, all where none is named, by the times at which their files were written."""
-    parts, wanted = [], set(names)
+def kept_folders(top: Path, names: Iterable[str]) -> Iterable[tuple[str, Path]]:
+    """The folders of what checks of crates have kept, all where none is named, each with its crate."""
+    wanted = set(names)
     for folder in sorted(top.glob('crates/*/out/incremental/*/')):
         crate = folder.parts[len(top.parts) + 1]
-        if wanted and crate not in wanted:
-            continue
+        if not wanted or crate in wanted:
+            yield crate, folder
+
+
+def read_parts(top: Path, names: Iterable[str]) -> list[Part]:
+    """The parts of the proofs of crates, all where none is named, by the times at which their files were written."""
+    parts = []
+    for crate, folder in kept_folders(top, names):
         files = sorted((it.stat().st_mtime, it.stem) for it in folder.glob('*.oantt'))
         parts += [Part(now - before, crate, name) for (before, _), (now, name) in zip(files, files[1:])]
     return parts
+
+
+def state_rows(top: Path, names: Iterable[str], most: int) -> list[str]:
+    """The functions with the most states, and the thousands of bytes that are written of them."""
+    sizes = [(file.stat().st_size, crate, file.name.removesuffix('.Lts.oantt'))
+             for crate, folder in kept_folders(top, names) for file in folder.glob('*.Lts.oantt')]
+    return [f'{size / 1000:9.0f} kB  {crate:22}{name}' for size, crate, name in sorted(sizes, key=lambda it: (-it[0], it[1:]))[:most]]
 
 
 def most_costly(kinds: Costs, most: int) -> list[tuple[str, float]]:
@@ -214,17 +231,22 @@ def main() -> int:
     whole = verbs.add_parser('run', help='runs rt ci and tells what each crate has cost')
     whole.add_argument('--anew', action='store_true', help='proves what earlier runs have kept, too')
     whole.add_argument('crates', nargs='*', metavar='CRATE')
-    kept = verbs.add_parser('functions', help='tells which parts of first checks took long')
-    kept.add_argument('--most', type=int, default=30, metavar='N', help='how many parts are told')
-    kept.add_argument('crates', nargs='*', metavar='CRATE')
+    for verb, told in (('functions', 'which parts of first checks took long'), ('states', 'which functions have the most states')):
+        kept = verbs.add_parser(verb, help=f'tells {told}')
+        kept.add_argument('--most', type=int, default=30, metavar='N', help='how many are told')
+        kept.add_argument('crates', nargs='*', metavar='CRATE')
     asked = parser.parse_args()
     if asked.verb == 'run':
         return run(['--anew'] * asked.anew + asked.crates)
-    parts = read_parts(Path('.'), asked.crates)
-    if not parts:
-        print('no crate here has kept the parts of a first check', file=sys.stderr)
+    if asked.verb == 'states':
+        rows = state_rows(Path('.'), asked.crates, asked.most)
+    else:
+        parts = read_parts(Path('.'), asked.crates)
+        rows = part_rows(parts, asked.most) if parts else []
+    if not rows:
+        print('no crate here has kept the parts of a check', file=sys.stderr)
         return 1
-    print(*part_rows(parts, asked.most), sep='\n')
+    print(*rows, sep='\n')
     return 0
 
 

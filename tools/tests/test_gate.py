@@ -12,7 +12,7 @@ from samples import TOP
 
 sys.path.insert(0, os.path.join(TOP, 'bench'))
 
-from gate import Costs, Meter, cost_rows, longest_way, part_rows, read_parts, read_processes, way_rows
+from gate import Costs, Meter, cost_rows, longest_way, part_rows, read_parts, read_processes, state_rows, way_rows
 
 # The ticks of a second.
 TICKS = 100
@@ -113,6 +113,15 @@ class Parts(unittest.TestCase):
         self.assertEqual([row.split() for row in rows], [
             ['high', '10', 's', 'Lts', '9', 'Tie', '1'], ['low', '4', 's', 'Lts', '4'], [],
             ['9.0', 's', 'high', 'run.Lts'], ['3.0', 's', 'low', 'open.Lts']])
+
+    def test_states_by_what_is_written_of_them(self) -> None:
+        self.write('low', open_Lts=100, open_Proof=101, shut_Lts=102)
+        self.write('high', run_Lts=100)
+        for crate, name, size in (('low', 'open.Lts', 4000), ('low', 'open.Proof', 90_000), ('low', 'shut.Lts', 1000), ('high', 'run.Lts', 9000)):
+            self.top.joinpath('crates', crate, 'out', 'incremental', 'sum', f'{name}.oantt').write_bytes(bytes(size))
+        self.assertEqual([row.split() for row in state_rows(self.top, [], 2)],
+                         [['9', 'kB', 'high', 'run'], ['4', 'kB', 'low', 'open']])
+        self.assertEqual([row.split()[2:] for row in state_rows(self.top, ['low'], 30)], [['low', 'open'], ['low', 'shut']])
 
     def test_crates_that_are_named(self) -> None:
         self.write('low', a=100, open_Lts=103)
