@@ -1,4 +1,4 @@
-//! Days on which more choices are violated at the root than the workers try from their deques.
+//! Days on which much is violated at the root.
 ghost use Rattle.std.specs.Prelude.{◌≤◌, IfOk};
 ghost use Rattle.dm_base.specs.declared.limits.TheConstants.{WORKERS};
 ghost use Rattle.dm_rows.specs.Rows.{IsSized};
@@ -29,7 +29,8 @@ const NODES: usize = 131;
 /// The trains of a generated day, of which every third leaves a quarter of an hour late.
 const TRAINS: u32 = 240;
 
-/// Each worker starts and ends once, and expands no node; the plan is the best, and shown to be.
+/// Each worker starts and ends once, and together they expand each node of the tree from their deques. The plan is the best, and
+/// shown to be.
 pub fn crowd_is_planned<R: Threads + Wait + Sync + AllocGlobal>(
     rt: &R,
     workers: u32,
@@ -41,7 +42,7 @@ pub fn crowd_is_planned<R: Threads + Wait + Sync + AllocGlobal>(
     let late = late_rows(rt.alloc(), &net)?;
     let gate = Passing::new(rt.alloc(), workers)?;
     let plan = planned(rt, &net, &late, workers, DAY_BUDGET, &gate)?;
-    gate.end()?;
+    gate.end(NODES as u64, NODES as u64)?;
     is_least(&plan)
 }
 
@@ -67,7 +68,7 @@ pub fn late_day_is_planned<R: Threads + Wait + Sync + AllocGlobal>(
     let own = own_cost(rt.alloc(), &net, &late)?;
     let gate = Passing::new(rt.alloc(), workers)?;
     let plan = planned(rt, &net, &late, workers, DAY_BUDGET, &gate)?;
-    gate.end()?;
+    gate.end(DAY_BUDGET / 2, DAY_BUDGET)?;
     is_good_plan(&plan, own, 0)?;
     let again = planned(rt, &net, &late, workers, DAY_BUDGET, &OpenGate)?;
     is_same(&plan, &again)

@@ -1,11 +1,12 @@
 //! Searches by several workers.
 //!
-//! A thief takes the first task of a deque. Nodes of the plan where the first train of a connection is a minute late are expanded
-//! by hands of one word, and this plan is searched by 1, 2 and 16 workers; on a generated day of 100 trains 16 workers search 50
-//! times. Two days on which so much is violated that no node is expanded from a deque are planned by 1, 2 and 4 workers, each of
-//! whom passes the gate as it starts and as it ends. What is due was worked out by hand, and holds however the threads take
-//! turns. For each case it prints `NAME ok`, or after how many steps it came out otherwise. It stands on dm_workers for what it
-//! tries and on dm_samples for networks, and promises nothing.
+//! A thief takes the first task of a deque. Nodes of the plan where the first train of a connection is a minute late are
+//! expanded by hands of one word, with an evaluator and without, and this plan is searched by 1, 2 and 16 workers; on a
+//! generated day of 100 trains 16 workers search 50 times. Of two workers one is held up by a gate until the other has stolen a
+//! node of it. Two days on which more than 64 choices are violated at the root are planned by 1, 2 and 4 workers, who expand the
+//! tree from their deques, and each of whom passes the gate as it starts and as it ends. What is due was worked out by hand, and
+//! holds however the threads take turns. For each case it prints `NAME ok`, or after how many steps it came out otherwise. It
+//! stands on dm_workers for what it tries and on dm_samples for networks, and promises nothing.
 #![tactic(auto)]
 
 mod crowded;
@@ -13,19 +14,34 @@ mod late;
 mod nodes;
 mod passing;
 mod plans;
+mod slow;
 mod stealing;
 
 use crowded::{crowd_is_planned, late_day_is_planned};
 use dm_samples::{report, report_case};
-use nodes::{best_prunes_another, nothing_prunes};
+use nodes::{By, best_prunes_another, nothing_prunes};
 use plans::{connection_is_planned, day_is_planned};
+use slow::slow_worker_is_helped;
 use std::io;
 use stealing::first_is_stolen;
 
 fn main(rt: HostRuntime) -> io::Result<()> {
     report_case(&rt, "first-is-stolen", first_is_stolen)?;
-    report_case(&rt, "node-that-nothing-prunes", nothing_prunes)?;
-    report_case(&rt, "node-that-another-prunes", best_prunes_another)?;
+    for (nothing, another, by) in [
+        (
+            "node-that-nothing-prunes",
+            "node-that-another-prunes",
+            By::Path,
+        ),
+        (
+            "node-that-nothing-prunes-by-evaluator",
+            "node-that-another-prunes-by-evaluator",
+            By::Evaluator,
+        ),
+    ] {
+        report(&rt, nothing, nothing_prunes(rt.alloc(), by))?;
+        report(&rt, another, best_prunes_another(rt.alloc(), by))?;
+    }
     for (name, workers) in [
         ("plan-by-1-worker", 1u32),
         ("plan-by-2-workers", 2),
@@ -33,6 +49,7 @@ fn main(rt: HostRuntime) -> io::Result<()> {
     ] {
         report(&rt, name, connection_is_planned(&rt, workers))?;
     }
+    report(&rt, "slow-worker", slow_worker_is_helped(&rt))?;
     for (name, workers) in [
         ("crowd-by-1-worker", 1u32),
         ("crowd-by-2-workers", 2),

@@ -10,7 +10,7 @@ const STARTS: u32 = 3;
 
 const ENDS: u32 = 4;
 
-const EXPANDS: u32 = 5;
+pub const EXPANDS: u32 = 5;
 
 /// How often each worker has started and ended, and how many nodes all have expanded.
 #[derive(Drop)]
@@ -30,10 +30,11 @@ impl Passing {
         })
     }
 
-    /// Whether each worker has started and ended once, and none has expanded a node.
-    pub fn end(&self) -> Result<(), Failure> {
+    /// Whether each worker has started and ended once, and all have expanded no fewer and no more nodes than this.
+    pub fn end(&self, least: u64, most: u64) -> Result<(), Failure> {
         let once = all_are(&self.started, 1) && all_are(&self.ended, 1);
-        if once && self.expanded.load(Ordering::SeqCst) == 0 {
+        let expanded = self.expanded.load(Ordering::SeqCst);
+        if once && least <= expanded && expanded <= most {
             Ok(())
         } else {
             Err(Failure::Differs(2))

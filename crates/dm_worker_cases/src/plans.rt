@@ -53,7 +53,7 @@ pub fn connection_is_planned<R: Threads + Wait + Sync + AllocGlobal>(
     is_plan_of_connection(&plan)
 }
 
-fn is_plan_of_connection(plan: &Plan) -> Result<(), Failure> {
+pub fn is_plan_of_connection(plan: &Plan) -> Result<(), Failure> {
     if (plan.entry, plan.cost, plan.bound, plan.mark) != (1, 940_000, 940_000, Mark::Optimal) {
         return Err(Failure::Differs(0));
     }

@@ -1,6 +1,6 @@
 -- A worker that begins.
-use Rattle.std.proofs.Common.{◌≡◌, ◌⊎◌, ℕ, ◌+◌, ◌≤◌, Bool, List, [], ◌∷◌, refl, ap, sym, ◌∙◌, subst, arith, inl, inr}
-use Rattle.std.specs.Prelude.{map, All, sum_by}
+use Rattle.std.proofs.Common.{◌≡◌, ◌⊎◌, ℕ, ◌≤◌, Bool, List, [], ◌∷◌, refl, ap, sym, ◌∙◌, subst, arith}
+use Rattle.std.specs.Prelude.{map, All}
 use Rattle.std.proofs.lemmas.List.Elements.{All-nil}
 use Rattle.atomic_table.specs.Seated.{TableId}
 use Rattle.atomic_blocks.specs.Lent.{RowsId}
@@ -11,16 +11,19 @@ use Rattle.dm_rows.specs.Active.{HasNoCycle}
 use Rattle.dm_rows.specs.Cost.{Costs}
 use Rattle.dm_rows.specs.Rows.{RowsValue}
 use Rattle.dm_tree.specs.declared.forms.Leaf.{Leaf}
-use Rattle.dm_tree.specs.Plans.{Task, AreSomeOf, DiffersFrom}
+use Rattle.dm_tree.specs.Plans.{AreSomeOf, DiffersFrom}
+use Rattle.dm_guide.specs.declared.tree.Hint.{Hint}
 use Rattle.dm_guide.specs.Posed.{task_beside, choices_beside}
 use Rattle.dm_bound.specs.Words.{HandValue, nothing_looked}
 use Rattle.dm_deques.specs.Deques.{TallyValue}
 use Rattle.dm_deques.specs.Rule.{WasEmpty}
 use Rattle.dm_deques.specs.Sharing.{new_tally, deque_of}
 use Rattle.dm_ways.specs.Ways.{paths_on, leaves_on}
+use Rattle.dm_workers.specs.Nodes.{GuidedTask}
 use Rattle.dm_workers.specs.declared.working.Worker.{Worker}
 use Rattle.dm_workers.specs.Inside.Workers.{IsWorking, IsSameWorker, IsNewWorker, IsDone}
-use Rattle.dm_workers.specs.Inside.Working.{Path, IsHandedIn, AreKept, AreListed, AreFindings, IsAtWork, nothing}
+use Rattle.dm_workers.specs.Found.{IsHandedIn, AreKept}
+use Rattle.dm_workers.specs.Inside.Working.{Path, AreListed, AreFindings, IsAtWork, nothing}
 
 some_of_none : (xs : List Choice) → AreSomeOf xs []
 some_of_none [] = refl
@@ -31,27 +34,27 @@ tally_deques [] = refl
 tally_deques (d ∷ ds) = ap (λ es. d ∷ es) (tally_deques ds)
 
 -- nothing is found yet
-pub none_found : (task : Task) (own : ℕ) (word : TableId) (start seats : ℕ) (hand : HandValue) (leaves : List Leaf) (choices : List Decision) (cost : ℕ)
-    → AreKept task own [] own → leaves ≡ [] → hand.word ≡ word → hand.start ≡ start → hand.room ≡ seats → hand.lowered ≡ [] → choices ≡ [] → cost ≡ own
+pub none_found : (task : GuidedTask) (own : ℕ) (word : TableId) (start seats : ℕ) (hand : HandValue) (leaves : List Leaf) (choices : List Decision) (cost : ℕ)
+    → AreKept task.task own choices cost → leaves ≡ [] → hand.word ≡ word → hand.start ≡ start → hand.room ≡ seats → AreListed cost hand.lowered
     → AreFindings task own word start seats hand leaves choices cost
-none_found task own word start seats hand leaves choices cost kept l w s r low ch c = record {
+none_found task own word start seats hand leaves choices cost kept l w s r listed = record {
   ends = subst (All (IsHandedIn task cost hand.looked)) (sym l) (All-nil (IsHandedIn task cost hand.looked));
-  kept = subst (λ (ds : List Decision). AreKept task own ds cost) (sym ch) (subst (AreKept task own []) (sym c) kept);
-  listed = subst (AreListed cost) (sym low) (All-nil (λ k. (cost ≤ k) ⊎ (k ≡ nothing_looked)));
+  kept = kept;
+  listed = listed;
   word_is = w;
   start_is = s;
   room = r;
 }
 
-module _ (net : Net) (rows : RowsValue) (penalty : ℕ) (base : List Decision) (budget own : ℕ) (no_cycle : HasNoCycle net rows) (of_rows : Costs net rows penalty own) where
-  abbrev task : Task
-  task = task_beside net rows penalty base budget
+module _ (net : Net) (rows : RowsValue) (penalty : ℕ) (base : List Decision) (budget : ℕ) (hints : List Hint) (own : ℕ) (no_cycle : HasNoCycle net rows) (of_rows : Costs net rows penalty own) where
+  abbrev task : GuidedTask
+  task = record { task = task_beside net rows penalty base budget; hints = hints }
 
   -- the rows' own choices
-  pub own_kept : AreKept task own [] own
+  pub own_kept : AreKept task.task own [] own
   own_kept = record {
     in_order = some_of_none (choices_beside net rows base);
-    differ = All-nil (DiffersFrom task);
+    differ = All-nil (DiffersFrom task.task);
     costs = record { no_cycle = no_cycle; cost = of_rows };
     no_dearer = omega arith;
   }
@@ -61,7 +64,9 @@ module _ (net : Net) (rows : RowsValue) (penalty : ℕ) (base : List Decision) (
       → IsAtWork task own word hand.start (λ s. paths_on s owner.account.put) nothing owner tallies hand leaves choices cost
   begun word owner tallies ds hand leaves choices cost t l w r low ch c = record {
     fair = λ s. omega (arith, ap (leaves_on s) l);
-    found = none_found task own word hand.start 1 hand leaves choices cost own_kept l w refl r low ch c;
+    found = none_found task own word hand.start 1 hand leaves choices cost
+        (subst (λ (ds : List Decision). AreKept task.task own ds cost) (sym ch) (subst (AreKept task.task own []) (sym c) own_kept)) l w refl r
+        (subst (AreListed cost) (sym low) (All-nil (λ k. (cost ≤ k) ⊎ (k ≡ nothing_looked))));
   }
 
   -- a worker that began so and has done its work

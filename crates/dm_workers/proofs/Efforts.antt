@@ -1,7 +1,6 @@
 -- What each step of a worker does to what it has done.
-use Rattle.std.proofs.Common.{◌≡◌, ◌⊎◌, ℕ, ◌+◌, ◌≤◌, ◌<◌, Bool, List, [], ◌∷◌, ◌++◌, min, All, refl, ap, sym, ◌∙◌, subst, arith, inl, inr, ⊎_elim}
-use Rattle.std.specs.Prelude.{sum_by}
-use Rattle.std.proofs.lemmas.List.Elements.{All-nil, All-push, All-weaker}
+use Rattle.std.proofs.Common.{◌≡◌, ◌⊎◌, ℕ, ◌+◌, ◌≤◌, ◌<◌, Bool, List, [], ◌∷◌, ◌++◌, min, All, ap, sym, subst, arith, inl, inr, ⊎_elim}
+use Rattle.std.proofs.lemmas.List.Elements.{All-push, All-weaker}
 use Rattle.std.proofs.lemmas.List.Sums.{sum_by_push}
 use Rattle.atomic_table.specs.Seated.{TableId}
 use Rattle.dm_rows.specs.declared.messages.Choice.{Choice}
@@ -10,18 +9,18 @@ use Rattle.dm_rows.specs.Sides.{first_decision, second_decision, IsOrdered}
 use Rattle.dm_tree.specs.declared.forms.Node.{Node}
 use Rattle.dm_tree.specs.declared.forms.Node.TheVariants.{Inner, Cycle, Bound, Open, Hole}
 use Rattle.dm_tree.specs.declared.forms.Leaf.{Leaf}
-use Rattle.dm_tree.specs.Plans.{Task}
 use Rattle.dm_bound.specs.Words.{HandValue, nothing_looked}
 use Rattle.dm_deques.specs.Deques.{TallyValue, having_put}
 use Rattle.dm_ways.specs.Ways.{GoesDown, on_way, paths_on, leaves_on}
 use Rattle.dm_ways.proofs.Ways.{below_weight}
-use Rattle.dm_workers.specs.Nodes.{IsChosen}
+use Rattle.dm_workers.specs.Nodes.{GuidedTask, IsChosen}
 use Rattle.dm_workers.specs.Expanding.{having_looked}
-use Rattle.dm_workers.specs.Inside.Working.{Path, taken_on, IsShown, IsEnd, IsHandedIn, AreKept, AreListed, IsAtWork, nothing}
+use Rattle.dm_workers.specs.Found.{IsEnd, IsHandedIn, AreKept}
+use Rattle.dm_workers.specs.Inside.Working.{Path, taken_on, AreListed, IsAtWork, nothing}
 
-module _ (task : Task) where
+module _ (task : GuidedTask) where
   -- less is kept, or was looked at
-  end_lower : (best best' looked looked' : ℕ) (path : Path) (n : Node) → best' ≤ best → looked' ≤ looked → IsEnd task best looked path n → IsEnd task best' looked' path n
+  end_lower : (best best' looked looked' : ℕ) (path : Path) (n : Node) → best' ≤ best → looked' ≤ looked → IsEnd task.task best looked path n → IsEnd task.task best' looked' path n
   end_lower best best' looked looked' path (Inner c) b l e = e
   end_lower best best' looked looked' path Cycle b l e = e
   end_lower best best' looked looked' path (Bound c) b l e =
@@ -38,7 +37,7 @@ module _ (task : Task) where
   listed_lower best best' lowered b all = All-weaker (λ c. (best ≤ c) ⊎ (c ≡ nothing_looked)) (λ c. (best' ≤ c) ⊎ (c ≡ nothing_looked))
       (λ c h. ⊎_elim (λ (k : best ≤ c). inl (omega (arith, b, k))) inr h) lowered all
 
-module _ (task : Task) (own : ℕ) (word : TableId) (start : ℕ) (given : List Bool → ℕ) where
+module _ (task : GuidedTask) (own : ℕ) (word : TableId) (start : ℕ) (given : List Bool → ℕ) where
   abbrev Works : (List Bool → ℕ) → TallyValue Path → List (TallyValue Path) → HandValue → List Leaf → List Decision → ℕ → Type 0
   Works = IsAtWork task own word start given
 
@@ -60,7 +59,7 @@ module _ (task : Task) (own : ℕ) (word : TableId) (start : ℕ) (given : List 
 
     -- the path that is in hand is handed in as a leaf
     pub handed : (path : Path) (n : Node) (now : List Leaf) → Works (λ s. on_way s path) owner tallies hand leaves choices cost → GoesDown (IsChosen task) [] path
-        → IsEnd task cost hand.looked path n → now ≡ leaves ++ record { path = path; node = n } ∷ [] → Works nothing owner tallies hand now choices cost
+        → IsEnd task.task cost hand.looked path n → now ≡ leaves ++ record { path = path; node = n } ∷ [] → Works nothing owner tallies hand now choices cost
     handed path n now w way end is = record {
       fair = λ s. omega (arith, w.fair s, ap (leaves_on s) is, sum_by_push (λ (l : Leaf). on_way s l.path) leaves (record { path = path; node = n }));
       found = record {
@@ -90,7 +89,7 @@ module _ (task : Task) (own : ℕ) (word : TableId) (start : ℕ) (given : List 
     })
 
     -- choices that cost no more are kept
-    pub bettered : (in_hand : List Bool → ℕ) (choices' : List Decision) (cost' : ℕ) → Works in_hand owner tallies hand leaves choices cost → AreKept task own choices' cost'
+    pub bettered : (in_hand : List Bool → ℕ) (choices' : List Decision) (cost' : ℕ) → Works in_hand owner tallies hand leaves choices cost → AreKept task.task own choices' cost'
         → cost' ≤ cost → Works in_hand owner tallies hand leaves choices' cost'
     bettered in_hand choices' cost' w kept less = record {
       fair = w.fair;

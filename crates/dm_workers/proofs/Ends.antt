@@ -7,16 +7,16 @@ use Rattle.atomic_blocks.specs.Lent.{RowsId}
 use Rattle.dm_bound.specs.Words.{lowest, nothing_looked}
 use Rattle.dm_deques.specs.Deques.{TallyValue}
 use Rattle.dm_deques.specs.Sharing.{deque_of}
-use Rattle.dm_tree.specs.Plans.{Task}
+use Rattle.dm_workers.specs.Nodes.{GuidedTask}
 use Rattle.dm_workers.specs.declared.gathering.Gathered.{Gathered}
 use Rattle.dm_workers.specs.declared.working.Worker.{Worker}
-use Rattle.dm_workers.specs.Inside.Found.{IsFound}
+use Rattle.dm_workers.specs.Found.{IsFound}
 use Rattle.dm_workers.specs.Inside.Gathering.{all_taken, owners_put, owners_taken}
 use Rattle.dm_workers.specs.Inside.Together.{given_to, deque_of_worker, IsGatheredFrom, HandsIn, AreHandedIn}
 use Rattle.dm_workers.specs.Inside.Working.{Path}
 use Rattle.dm_workers.proofs.Gathered.{apart_at_end, shown_at_end}
 
-module _ {F : Type 0} (task : Task) (own : ℕ) (word : TableId) (start rooms : ℕ) (theirs : List RowsId) where
+module _ {F : Type 0} (task : GuidedTask) (own : ℕ) (word : TableId) (start rooms : ℕ) (theirs : List RowsId) where
   -- jobs and results that belong together at each place
   pub pairs : {E : Type 0} (jobs : List (Worker F)) (worked : List (Result (Worker F) E)) → length worked ≡ length jobs
       → ((k : ℕ) (w : Worker F) (r : Result (Worker F) E) → slice_get jobs k ≡ Some w → slice_get worked k ≡ Some r → IfOk r (HandsIn task own word start theirs w))

@@ -1,5 +1,5 @@
 -- Loops over workers and their deques.
-use Rattle.std.proofs.Common.{◌≡◌, ℕ, ◌+◌, ◌-◌, ◌≤◌, Bool, true, List, [], ◌∷◌, ◌++◌, length, map, All, refl, sym, ap, subst, ◌∙◌, arith, append_assoc, length-append}
+use Rattle.std.proofs.Common.{◌≡◌, ℕ, ◌+◌, ◌-◌, ◌≤◌, Bool, List, [], ◌∷◌, ◌++◌, length, map, All, refl, sym, ap, subst, ◌∙◌, arith, append_assoc, length-append}
 use Rattle.std.specs.Prelude.{sum_by}
 use Rattle.std.proofs.lemmas.List.{map-append, nil_from_length}
 use Rattle.std.proofs.lemmas.List.Elements.{All-nil, All-cons, All-head, All-tail, All-push}
@@ -10,8 +10,9 @@ use Rattle.dm_deques.specs.declared.account.Account.{Account}
 use Rattle.dm_deques.specs.Deques.{TallyValue}
 use Rattle.dm_deques.specs.Rule.{opening, WasEmpty}
 use Rattle.dm_deques.specs.Sharing.{deque_of, new_tally, having_lent, settling_each}
-use Rattle.dm_ways.specs.Ways.{on_way, paths_on}
-use Rattle.dm_workers.specs.Inside.Gathering.{owners_put, owners_taken, all_taken, lent_of, HasLent, HasLentOnly, AreEquipped}
+use Rattle.dm_ways.specs.Ways.{paths_on}
+use Rattle.dm_workers.specs.Found.{IsDrained}
+use Rattle.dm_workers.specs.Inside.Gathering.{owners_put, owners_taken, all_taken, HasLent, HasLentOnly, AreEquipped}
 use Rattle.dm_workers.specs.Inside.Working.{Path, taken_on}
 use Rattle.dm_workers.proofs.Gathered.{settles, settles_deques, settles_lent}
 
@@ -144,10 +145,13 @@ pub none_out : (n : ℕ) (owners : List (TallyValue Path)) (rest : List (List (T
 none_out n owners rest none all = subst (λ (k : ℕ). All (HasLent k) owners) (omega (arith, ap length none)) all
 
 -- where no tally is out, an owner that found its deque empty has taken what it put
-pub emptied : (o : TallyValue Path) → WasEmpty o.account → HasLent 0 o → (s : List Bool) → paths_on s o.account.taken ≡ paths_on s o.account.put
-emptied o e none s =
+pub drained : (o : TallyValue Path) → WasEmpty o.account → HasLent 0 o → IsDrained o
+drained o e none =
     let nothing : e.by_tallies ≡ [] = nil_from_length e.by_tallies (e.out ∙ none) in
-    omega (arith, e.balance (on_way s), ap (sum_by (λ (taken : List Path). sum_by (on_way s) taken)) nothing)
+    record {
+      lent = none;
+      balance = λ h. omega (arith, e.balance h, ap (sum_by (λ (taken : List Path). sum_by h taken)) nothing);
+    }
 
 pub one_emptied : (s : List Bool) (rest next : List (TallyValue Path)) (o : TallyValue Path) → rest ≡ o ∷ next → paths_on s o.account.taken ≡ paths_on s o.account.put
     → owners_taken s next ≡ owners_put s next → owners_taken s rest ≡ owners_put s rest

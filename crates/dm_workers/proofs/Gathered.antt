@@ -1,18 +1,19 @@
 -- What is gathered from one worker more.
 use Rattle.std.proofs.Common.{◌≡◌, ◌⊎◌, ℕ, ◌+◌, ◌≤◌, ◌<◌, Bool, List, [], ◌∷◌, ◌++◌, min, All, refl, ap, sym, ◌∙◌, subst, arith, inl, inr, ⊎_elim}
-use Rattle.std.specs.Prelude.{sum_by, map}
+use Rattle.std.specs.Prelude.{map}
 use Rattle.std.proofs.lemmas.Bool.{cases_lt}
 use Rattle.std.proofs.lemmas.List.Elements.{All-nil, All-cons, All-append, All-head, All-tail}
 use Rattle.std.proofs.lemmas.List.Sums.{sum_by-append, sum_by-cons, sum_by_push}
 use Rattle.atomic_table.specs.Seated.{TableId}
 use Rattle.dm_rows.specs.declared.messages.Decision.{Decision}
 use Rattle.dm_tree.specs.declared.forms.Leaf.{Leaf}
-use Rattle.dm_tree.specs.Plans.{Task}
 use Rattle.dm_bound.specs.Words.{HandValue, lowest, nothing_looked}
-use Rattle.dm_deques.specs.Deques.{TallyValue, settled}
+use Rattle.dm_deques.specs.Deques.{TallyValue}
 use Rattle.dm_deques.specs.Sharing.{deque_of, settling, settling_each}
-use Rattle.dm_ways.specs.Ways.{paths_on, leaves_on, on_way, StandApart}
-use Rattle.dm_workers.specs.Inside.Working.{Path, taken_on, IsHandedIn, IsEnd, AreKept, AreListed, AreFindings, IsAtWork, nothing}
+use Rattle.dm_ways.specs.Ways.{paths_on, on_way, StandApart}
+use Rattle.dm_workers.specs.Nodes.{GuidedTask}
+use Rattle.dm_workers.specs.Found.{IsHandedIn, AreKept}
+use Rattle.dm_workers.specs.Inside.Working.{Path, taken_on, AreListed, IsAtWork, nothing}
 use Rattle.dm_workers.specs.declared.working.Best.{Best}
 use Rattle.dm_workers.specs.Inside.Gathering.{owners_put, owners_taken, all_taken, HasLent, AreGathered}
 use Rattle.dm_workers.proofs.Efforts.{ends_lower, listed_lower}
@@ -21,7 +22,7 @@ use Rattle.dm_workers.proofs.Efforts.{ends_lower, listed_lower}
 abbrev pub both : HandValue → HandValue → HandValue
 both h k = record h { lowered = h.lowered ++ k.lowered; looked = min h.looked k.looked; room = h.room + k.room }
 
-module _ (task : Task) (own : ℕ) (word : TableId) (start rooms : ℕ) (given taken : List Bool → ℕ) (owners : List (TallyValue Path)) (hand : HandValue) (leaves : List Leaf)
+module _ (task : GuidedTask) (own : ℕ) (word : TableId) (start rooms : ℕ) (given taken : List Bool → ℕ) (owners : List (TallyValue Path)) (hand : HandValue) (leaves : List Leaf)
     (choices : List Decision) (cost : ℕ) (more : List Bool → ℕ) (owner : TallyValue Path) (tallies : List (TallyValue Path)) (hand' : HandValue) (leaves' : List Leaf)
     (choices' : List Decision) (cost' : ℕ) where
   -- the cheaper choices stay, and everything else is put together
@@ -47,8 +48,8 @@ module _ (task : Task) (own : ℕ) (word : TableId) (start rooms : ℕ) (given t
               (ends_lower task cost least hand.looked (min hand.looked hand'.looked) leaves low.0 (omega arith) g.found.ends)
               (ends_lower task cost' least hand'.looked (min hand.looked hand'.looked) leaves' low.1 (omega arith) w.found.ends);
           kept = ⊎_elim
-              (λ (h : (kept ≡ choices') × (least ≡ cost') × (cost' < cost)). subst (λ (k : List Decision). AreKept task own k least) (sym h.0) (subst (λ (c : ℕ). AreKept task own choices' c) (sym h.1) w.found.kept))
-              (λ (h : (kept ≡ choices) × (least ≡ cost) × (cost ≤ cost')). subst (λ (k : List Decision). AreKept task own k least) (sym h.0) (subst (λ (c : ℕ). AreKept task own choices c) (sym h.1) g.found.kept))
+              (λ (h : (kept ≡ choices') × (least ≡ cost') × (cost' < cost)). subst (λ (k : List Decision). AreKept task.task own k least) (sym h.0) (subst (λ (c : ℕ). AreKept task.task own choices' c) (sym h.1) w.found.kept))
+              (λ (h : (kept ≡ choices) × (least ≡ cost) × (cost ≤ cost')). subst (λ (k : List Decision). AreKept task.task own k least) (sym h.0) (subst (λ (c : ℕ). AreKept task.task own choices c) (sym h.1) g.found.kept))
               which;
           listed = All-append (λ c. (least ≤ c) ⊎ (c ≡ nothing_looked)) hand.lowered hand'.lowered
               (listed_lower task cost least hand.lowered low.0 g.found.listed) (listed_lower task cost' least hand'.lowered low.1 w.found.listed);
@@ -95,7 +96,7 @@ settles_lent n (o ∷ os) (t ∷ ts) e all =
     All-cons (HasLent n) (settling o t) (settling_each os ts) (omega (arith, here)) (settles_lent n os ts (cc) (All-tail (HasLent (n + 1)) o os all))
 
 -- in the end the leaves stand apart
-pub apart_at_end : (task : Task) (own : ℕ) (word : TableId) (start rooms : ℕ) (given taken : List Bool → ℕ) (owners owners' : List (TallyValue Path)) (hand : HandValue)
+pub apart_at_end : (task : GuidedTask) (own : ℕ) (word : TableId) (start rooms : ℕ) (given taken : List Bool → ℕ) (owners owners' : List (TallyValue Path)) (hand : HandValue)
     (leaves : List Leaf) (choices : List Decision) (cost : ℕ) → AreGathered task own word start rooms given taken owners hand leaves choices cost
     → ((s : List Bool) → given s ≤ 1) → ((s : List Bool) → owners_put s owners' ≡ owners_put s owners)
     → ((s : List Bool) → owners_taken s owners' ≡ owners_taken s owners + taken s) → ((s : List Bool) → owners_taken s owners' ≡ owners_put s owners') → StandApart leaves
@@ -124,7 +125,7 @@ shown_at_end best own hand c end start low listed is looked (inr h) =
     omega (arith, least, is, looked, h.0)
 
 -- the same, where what is then gathered is told by equations
-module _ (task : Task) (own : ℕ) (word : TableId) (start rooms : ℕ) (given taken : List Bool → ℕ) (owners : List (TallyValue Path)) (hand : HandValue) (leaves : List Leaf)
+module _ (task : GuidedTask) (own : ℕ) (word : TableId) (start rooms : ℕ) (given taken : List Bool → ℕ) (owners : List (TallyValue Path)) (hand : HandValue) (leaves : List Leaf)
     (choices : List Decision) (cost : ℕ) (more : List Bool → ℕ) (owner : TallyValue Path) (tallies : List (TallyValue Path)) (hand' : HandValue) (leaves' : List Leaf)
     (choices' : List Decision) (cost' : ℕ) where
   pub gathers_as : AreGathered task own word start rooms given taken owners hand leaves choices cost

@@ -1,7 +1,7 @@
 -- What workers that are done hand in, before it is put together.
-use Rattle.std.proofs.Common.{◌≡◌, ◌⊎◌, ℕ, zero, suc, ◌+◌, ◌≤◌, Bool, List, [], ◌∷◌, length, Some, Result, Ok, Err, refl, ap, sym, ◌∙◌, subst, arith, All, slice_get, get_or}
+use Rattle.std.proofs.Common.{◌≡◌, ℕ, List, [], ◌∷◌, length, Some, Result, Ok, Err, ap, sym, ◌∙◌, subst, arith, All, slice_get, get_or}
 use Rattle.std.specs.Prelude.{map, IfOk}
-use Rattle.std.proofs.lemmas.List.Elements.{All-nil, All-cons, All-weaker}
+use Rattle.std.proofs.lemmas.List.Elements.{All-nil, All-cons}
 use Rattle.std.proofs.lemmas.Result.{IfOk-weaker}
 use Rattle.std.proofs.lemmas.Option.{slice_get_within, get_or_from_slice_get}
 use denote.Param.Members.{Shared}
@@ -10,21 +10,22 @@ use Rattle.std.specs.Fork.{GivesJobs}
 use Rattle.atomic_table.specs.Seated.{TableId}
 use Rattle.atomic_blocks.specs.Lent.{RowsId}
 use Rattle.dm_rows.specs.declared.messages.Decision.{Decision}
-use Rattle.dm_bound.specs.Words.{HandValue, nothing_looked}
+use Rattle.dm_bound.specs.Words.{HandValue}
 use Rattle.dm_deques.specs.Deques.{TallyValue}
 use Rattle.dm_deques.specs.Sharing.{deque_of}
-use Rattle.dm_tree.specs.Plans.{Task}
 use Rattle.dm_ways.specs.Ways.{leaves_on}
+use Rattle.dm_workers.specs.Nodes.{GuidedTask}
 use Rattle.dm_workers.specs.declared.gathering.Gathered.{Gathered}
 use Rattle.dm_workers.specs.declared.working.Worker.{Worker}
 use Rattle.dm_workers.specs.Inside.Gathering.{owners_put, lent_of}
 use Rattle.dm_workers.specs.Inside.Together.{IsGatheredFrom, HandsIn, AreHandedIn}
 use Rattle.dm_workers.specs.Inside.Workers.{IsDone}
-use Rattle.dm_workers.specs.Inside.Working.{Path, IsHandedIn, AreKept, AreListed}
+use Rattle.dm_workers.specs.Found.{AreKept}
+use Rattle.dm_workers.specs.Inside.Working.{Path, AreListed}
 use Rattle.dm_workers.proofs.Begun.{none_found}
 use Rattle.dm_workers.proofs.Ends.{pairs}
 
-module _ {F : Type 0} (task : Task) (own : ℕ) (word : TableId) (start : ℕ) (theirs : List RowsId) where
+module _ {F : Type 0} (task : GuidedTask) (own : ℕ) (word : TableId) (start : ℕ) (theirs : List RowsId) where
   -- all hands are of the word
   pub handed_words : {E : Type 0} (jobs : List (Worker F)) (worked : List (Result (Worker F) E)) → AreHandedIn task own word start theirs jobs worked
       → All (λ r. IfOk r (λ w. w.hand.word ≡ word)) worked
@@ -36,15 +37,16 @@ module _ {F : Type 0} (task : Task) (own : ℕ) (word : TableId) (start : ℕ) (
       (IfOk-weaker r (HandsIn task own word start theirs w) (λ v. v.hand.word ≡ word) (λ v d. d.works.found.word_is) h.0) (handed_words ws rs h.1)
 
   -- nothing is gathered yet
-  pub none_gathered : (g : Gathered F) (hand : HandValue)
-      → (g.owners.items ≡ []) × (g.tallies.items ≡ []) × (g.hand ≡ hand) × (g.leaves.items ≡ []) × (g.best.choices ≡ []) × (g.best.cost ≡ own)
-      → hand.word ≡ word → hand.start ≡ start → hand.lowered ≡ [] → AreKept task own [] own → IsGatheredFrom task own word start hand.room theirs [] g
-  none_gathered g hand e w s low kept = record {
+  pub none_gathered : (g : Gathered F) (hand : HandValue) (choices : List Decision) (best : ℕ)
+      → (g.owners.items ≡ []) × (g.tallies.items ≡ []) × (g.hand ≡ hand) × (g.leaves.items ≡ []) × (g.best.choices ≡ choices) × (g.best.cost ≡ best)
+      → hand.word ≡ word → hand.start ≡ start → AreListed best hand.lowered → AreKept task.task own choices best → IsGatheredFrom task own word start hand.room theirs [] g
+  none_gathered g hand choices best e w s listed kept = record {
     gathered = record {
       fair = λ s. omega (arith, ap (owners_put s) e.0, ap (leaves_on s) e.3);
-      found = none_found task own word start _ g.hand g.leaves.items g.best.choices g.best.cost kept e.3
+      found = none_found task own word start _ g.hand g.leaves.items g.best.choices g.best.cost
+          (subst (λ (ds : List Decision). AreKept task.task own ds g.best.cost) (sym e.4) (subst (AreKept task.task own choices) (sym e.5) kept)) e.3
           (ap (λ (k : HandValue). k.word) e.2 ∙ w) (ap (λ (k : HandValue). k.start) e.2 ∙ s) (omega (arith, ap (λ (k : HandValue). k.room) e.2))
-          (ap (λ (k : HandValue). k.lowered) e.2 ∙ low) e.4 e.5;
+          (subst (λ (n : ℕ). AreListed n g.hand.lowered) (sym e.5) (subst (λ (k : HandValue). AreListed best k.lowered) (sym e.2) listed));
     };
     deques = ap (map deque_of) e.0;
     lent = ap (map lent_of) e.0;

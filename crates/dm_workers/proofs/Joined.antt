@@ -1,20 +1,20 @@
 -- What is gathered from one worker after another.
-use Rattle.std.proofs.Common.{◌≡◌, ◌⊎◌, ℕ, ◌+◌, ◌≤◌, ◌<◌, Bool, List, [], ◌∷◌, ◌++◌, length, All, Result, Ok, refl, ap, sym, ◌∙◌, subst, arith, inl, inr, append_assoc, append-nil, length-append}
-use Rattle.std.specs.Prelude.{map, sum_by, IfOk}
+use Rattle.std.proofs.Common.{◌≡◌, ℕ, ◌+◌, Bool, List, [], ◌∷◌, ◌++◌, length, All, Result, Ok, refl, ap, sym, ◌∙◌, subst, arith, append_assoc, append-nil, length-append}
+use Rattle.std.specs.Prelude.{map, IfOk}
 use Rattle.std.proofs.lemmas.List.{map-append}
 use Rattle.std.proofs.lemmas.List.Elements.{All-push}
 use Rattle.std.proofs.lemmas.List.Sums.{sum_by-cons, sum_by_push}
 use Rattle.atomic_table.specs.Seated.{TableId}
 use Rattle.atomic_blocks.specs.Lent.{RowsId}
-use Rattle.dm_tree.specs.Plans.{Task}
 use Rattle.dm_deques.specs.Deques.{TallyValue}
 use Rattle.dm_deques.specs.Sharing.{deque_of}
 use Rattle.dm_ways.specs.Ways.{paths_on}
+use Rattle.dm_workers.specs.Nodes.{GuidedTask}
 use Rattle.dm_workers.specs.declared.working.Worker.{Worker}
 use Rattle.dm_workers.specs.declared.gathering.Gathered.{Gathered}
-use Rattle.dm_workers.specs.Inside.Working.{Path, taken_on, AreFindings, nothing}
+use Rattle.dm_workers.specs.Inside.Working.{Path, AreFindings, nothing}
 use Rattle.dm_workers.specs.Inside.Workers.{IsWorking, owner_of}
-use Rattle.dm_workers.specs.Inside.Gathering.{owners_put, lent_of, AreGathered}
+use Rattle.dm_workers.specs.Inside.Gathering.{owners_put, lent_of}
 use Rattle.dm_workers.specs.Inside.Together.{given_to, deque_of_worker, lent_of_worker, IsGathered, IsGatheredFrom, HandsIn, AreHandedIn}
 
 module _ {F : Type 0} where
@@ -28,7 +28,7 @@ module _ {F : Type 0} where
     sum_by-cons (λ (o : TallyValue Path). paths_on s o.account.put) w.owner (map owner_of ws),
   )
 
-  module _ (task : Task) (own : ℕ) (word : TableId) (start rooms : ℕ) (theirs : List RowsId) where
+  module _ (task : GuidedTask) (own : ℕ) (word : TableId) (start rooms : ℕ) (theirs : List RowsId) where
     -- one worker more
     pub one_more : (done : List (Worker F)) (job w : Worker F) (old new : Gathered F) → IsGatheredFrom task own word start rooms theirs done old → HandsIn task own word start theirs job w
         → IsGathered task own word start (rooms + length done + 1) (λ s. given_to s done + paths_on s job.owner.account.put) new

@@ -10,3 +10,4 @@ pub mod Ends
 pub mod Handing
 pub mod Enlisted
 pub mod Whole
+pub mod Guiding

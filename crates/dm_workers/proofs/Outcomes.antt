@@ -1,34 +1,31 @@
 -- What an outcome tells of the path at which it was found.
-use Rattle.std.proofs.Common.{◌≡◌, ℕ, ◌<◌, ◌≤◌, List, [], ◌∷◌, ◌++◌, Some, refl, ap, sym, ◌∙◌, subst, arith, inl, inr, append_assoc}
+use Rattle.std.proofs.Common.{◌≡◌, ℕ, ◌<◌, ◌≤◌, List, [], ◌∷◌, ◌++◌, Some, refl, sym, ◌∙◌, subst, arith, inl, inr, append_assoc}
 use Rattle.std.specs.Prelude.{Contains}
 use Rattle.dm_network.specs.Net.{Net}
 use Rattle.dm_network.specs.Start.{IsNetwork}
 use Rattle.dm_rows.specs.declared.messages.Choice.{Choice}
 use Rattle.dm_rows.specs.declared.messages.Decision.{Decision}
-use Rattle.dm_rows.specs.Decide.{free_choices_of, IsChoiceList, choice_of}
+use Rattle.dm_rows.specs.Decide.{IsChoiceList, choice_of}
 use Rattle.dm_rows.specs.Relax.{violated_choices_of}
 use Rattle.dm_rows.specs.Rows.{RowsValue}
 use Rattle.dm_rows.specs.Cost.{Costs}
 use Rattle.dm_rows.specs.Sides.{first_decision, second_decision, IsOrdered}
 use Rattle.dm_rows.proofs.Sides.{ordered, first_decides, second_decides}
-use Rattle.dm_relax.specs.Relaxed.{first_violated}
 use Rattle.dm_relax.proofs.Differing.{differences_complete}
-use Rattle.dm_tree.specs.Plans.{Task, CostsRelaxed}
+use Rattle.dm_tree.specs.Plans.{CostsRelaxed, IsViolatedThere}
 use Rattle.dm_guide.specs.Posed.{task_beside, IsPosed}
-use Rattle.dm_tree.specs.Relaxed.{IsRelaxedLeast}
-use Rattle.dm_tree.proofs.Shown.{one_least}
-use Rattle.dm_rows.specs.Relax.{is_relaxed_active}
-use Rattle.dm_rows.specs.Decide.{with_decisions}
-use Rattle.dm_search.specs.Steps.{HasRelaxedCycle, IsPruned, IsSolved, IsBranch}
+use Rattle.dm_guide.specs.declared.tree.Hint.{Hint}
+use Rattle.dm_evaluate.specs.Evaluator.{EvaluatorValue}
+use Rattle.dm_search.specs.Moving.{IsOver}
+use Rattle.dm_search.specs.Steps.{IsPruned, IsSolved, IsBranchOn}
 use Rattle.dm_search.proofs.Beside.{beside_is_task, differences_beside}
 use Rattle.dm_search.proofs.Finding.{free_is_ordered}
 use Rattle.dm_search.proofs.Leaves.{violated_is_undecided, path_goes_on}
 use Rattle.dm_search.proofs.Optimal.{allowed_there}
-use Rattle.dm_paths.proofs.Apart.{got_is_in}
-use Rattle.dm_ways.specs.Ways.{IsStep, GoesDown}
+use Rattle.dm_ways.specs.Ways.{IsStep}
 use Rattle.dm_ways.proofs.Ways.{goes_further}
-use Rattle.dm_workers.specs.Nodes.{IsChosen, IsNode}
-use Rattle.dm_workers.specs.Inside.Working.{AreKept}
+use Rattle.dm_workers.specs.Nodes.{GuidedTask, branching_at, IsChosen, IsNode}
+use Rattle.dm_workers.specs.Found.{AreKept}
 
 -- a list without a first element has none
 first_of_none : {X : Type 0} (xs : List X) (x : X) → Rattle.std.specs.Prelude.slice_get xs 0 ≡ Rattle.std.specs.Prelude.None → Contains xs x → ⊥
@@ -38,32 +35,29 @@ first_of_none xs x none h =
     cc
 
 -- the choice that is chosen at a path is one
-pub one_chosen : (task : Task) (path : List Decision) (a b : Choice) → IsChosen task path a → IsChosen task path b → a ≡ b
-one_chosen task path a b c d =
-    let same : c.times ≡ d.times = one_least task.net (with_decisions task.net task.rows (task.base ++ path)) (is_relaxed_active task.net task.rows (task.base ++ path)) c.times d.times c.least d.least in
-    let first : Some a ≡ Some b = sym c.first ∙ (ap (first_violated task.net task.rows (task.base ++ path)) same ∙ d.first) in
-    cc
+pub one_chosen : (task : GuidedTask) (path : List Decision) (a b : Choice) → IsChosen task path a → IsChosen task path b → a ≡ b
+one_chosen task path a b c d = let same : Some a ≡ Some b = sym c.hinted ∙ d.hinted in cc
 
-module _ (net : Net) (network : IsNetwork net) (rows : RowsValue) (penalty : ℕ) (base : List Decision) (budget : ℕ) (posed : IsPosed net rows penalty base budget) where
-  abbrev task : Task
-  task = task_beside net rows penalty base budget
+module _ (net : Net) (network : IsNetwork net) (rows : RowsValue) (penalty : ℕ) (base : List Decision) (budget : ℕ) (hints : List Hint) (posed : IsPosed net rows penalty base budget) where
+  abbrev task : GuidedTask
+  task = record { task = task_beside net rows penalty base budget; hints = hints }
 
   pub chosen_is_ordered : (path : List Decision) (c : Choice) → IsChosen task path c → IsOrdered c
   chosen_is_ordered path c h =
       ordered c (free_is_ordered net network rows c (violated_is_undecided net rows (base ++ path) h.inner.violated.times c h.inner.violated.violated).free)
 
-  pub pruned_costs : (path : List Decision) (best c : ℕ) → IsPruned net rows (base ++ path) penalty best c → CostsRelaxed task path c
+  pub pruned_costs : (path : List Decision) (best c : ℕ) → IsPruned net rows (base ++ path) penalty best c → CostsRelaxed task.task path c
   pruned_costs path best c h = record { times = h.times; least = h.least; cost = h.cost }
 
-  pub solved_costs : (path : List Decision) (best c : ℕ) (choices : List Decision) → IsSolved net rows (base ++ path) penalty best c choices → CostsRelaxed task path c
+  pub solved_costs : (path : List Decision) (best c : ℕ) (choices : List Decision) → IsSolved net rows (base ++ path) penalty best c choices → CostsRelaxed task.task path c
   solved_costs path best c choices h = record { times = h.times; least = h.least; cost = h.cost }
 
-  pub branch_costs : (path : List Decision) (best c : ℕ) (choice : Choice) → IsBranch net rows (base ++ path) penalty best c choice → CostsRelaxed task path c
+  pub branch_costs : (path : List Decision) (best c : ℕ) (choice : Choice) → IsBranchOn net rows (base ++ path) penalty best c choice → CostsRelaxed task.task path c
   branch_costs path best c choice h = record { times = h.times; least = h.least; cost = h.cost }
 
   -- choices that cost no more than the rows by themselves may be kept
   pub solved_kept : (path : List Decision) (own best c : ℕ) (choices : List Decision) → IsChoiceList net rows (base ++ path) → IsSolved net rows (base ++ path) penalty best c choices → c ≤ own
-      → AreKept task own choices c
+      → AreKept task.task own choices c
   solved_kept path own best c choices list h less =
       let done = differences_complete net rows (base ++ path) h.times network posed.sized list
       (record { least = h.least; none = λ ch v. first_of_none (violated_choices_of net rows (base ++ path) h.times) ch h.nothing v }) in
@@ -77,25 +71,33 @@ module _ (net : Net) (network : IsNetwork net) (rows : RowsValue) (penalty : ℕ
         no_dearer = less;
       })
 
-  -- a choice on which a step branches is chosen, where the path costs less than the rows by themselves
-  pub branch_chosen : (path : List Decision) (own best c : ℕ) (choice : Choice) → Costs net rows penalty own → IsBranch net rows (base ++ path) penalty best c choice → c < own
-      → IsChosen task path choice
-  branch_chosen path own best c choice of_rows h less =
-      let violated = got_is_in (violated_choices_of net rows (base ++ path) h.times) 0 choice h.first in
+  -- so may those that are found where an evaluator of the task stands
+  pub solved_along : (e : EvaluatorValue) (own c : ℕ) (choices : List Decision) → IsOver task.task e → IsSolved net rows e.path penalty own c choices → AreKept task.task own choices c
+  solved_along e own c choices over h =
+      solved_kept over.begins.rest own own c choices
+      (subst (IsChoiceList net rows) over.begins.is (subst (λ (r : RowsValue). IsChoiceList net r e.path) over.same over.is.is_path))
+      (subst (λ (p : List Decision). IsSolved net rows p penalty own c choices) over.begins.is h) (let less = h.less in omega (arith, less))
+
+  -- where a step branches, some choice is violated
+  pub branch_violates : (path : List Decision) (best c : ℕ) (choice : Choice) → IsBranchOn net rows (base ++ path) penalty best c choice → IsViolatedThere task.task path choice c
+  branch_violates path best c choice h = record { times = h.times; least = h.least; cost = h.cost; violated = h.violated }
+
+  -- a choice on which a step branches is chosen where the guide's tree branches on it, and the path costs less than the rows by themselves
+  pub branch_chosen : (path : List Decision) (own best c : ℕ) (choice : Choice) → Costs net rows penalty own → IsBranchOn net rows (base ++ path) penalty best c choice → c < own
+      → branching_at hints path ≡ Some choice → IsChosen task path choice
+  branch_chosen path own best c choice of_rows h less hinted =
       record {
         inner = record {
           no_cycle = h.no_cycle;
-          allowed = allowed_there task (beside_is_task net rows penalty base budget network posed) path choice
-              (violated_is_undecided net rows (base ++ path) h.times choice violated);
+          allowed = allowed_there task.task (beside_is_task net rows penalty base budget network posed) path choice
+              (violated_is_undecided net rows (base ++ path) h.times choice h.violated);
           cost = c;
-          violated = record { times = h.times; least = h.least; cost = h.cost; violated = violated };
+          violated = branch_violates path best c choice h;
           own_cost = own;
           of_rows = of_rows;
           cheaper = less;
         };
-        times = h.times;
-        least = h.least;
-        first = h.first;
+        hinted = hinted;
       }
 
   -- the two paths below a chosen choice are nodes

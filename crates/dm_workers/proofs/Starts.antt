@@ -1,28 +1,27 @@
 -- From what the workers hand in to what a search goes on from.
-use Rattle.std.proofs.Common.{◌≡◌, ◌⊎◌, ℕ, ◌<◌, ◌≤◌, List, [], ◌∷◌, ◌++◌, length, All, refl, ap, sym, ◌∙◌, subst, arith, inl, inr, ⊎_elim}
+use Rattle.std.proofs.Common.{◌≡◌, ◌⊎◌, ℕ, ◌≤◌, List, [], length, All, ap, sym, ◌∙◌, subst, arith, inl, inr}
 use Rattle.std.specs.Prelude.{Contains}
 use Rattle.std.proofs.lemmas.List.Elements.{All-contains, All-weaker}
 use Rattle.dm_network.specs.Net.{Net}
 use Rattle.dm_network.specs.Start.{IsNetwork}
-use Rattle.dm_rows.specs.declared.messages.Choice.{Choice}
 use Rattle.dm_rows.specs.declared.messages.Decision.{Decision}
 use Rattle.dm_rows.specs.Active.{HasNoCycle, is_active}
 use Rattle.dm_rows.specs.Cost.{Costs, cost_of}
 use Rattle.dm_rows.specs.Decide.{with_decisions}
 use Rattle.dm_rows.specs.Rows.{RowsValue}
-use Rattle.dm_rows.specs.Sides.{IsOrdered}
 use Rattle.dm_tree.specs.declared.forms.Leaf.{Leaf}
 use Rattle.dm_tree.specs.declared.forms.Node.{Node}
 use Rattle.dm_tree.specs.declared.forms.Node.TheVariants.{Inner, Cycle, Bound, Open, Hole}
 use Rattle.dm_tree.specs.Plans.{Task, CostsWith}
+use Rattle.dm_guide.specs.declared.tree.Hint.{Hint}
 use Rattle.dm_guide.specs.Posed.{task_beside, IsPosed}
-use Rattle.dm_tree.specs.Trees.{Shape, IsLeaf, StandsAt, Assembles, HaveNoTree}
+use Rattle.dm_tree.specs.Trees.{IsLeaf, StandsAt, Assembles, HaveNoTree}
 use Rattle.dm_tree.proofs.Shown.{one_least}
-use Rattle.dm_search.specs.Finish.{IsKnown, IsStart}
+use Rattle.dm_search.specs.Finish.{IsKnown, IsStart, GoesOnFrom}
 use Rattle.dm_ways.specs.Ways.{GoesDown, StandApart}
 use Rattle.dm_ways.proofs.Growing.{IsTreeOf, tree_of}
-use Rattle.dm_workers.specs.Nodes.{IsChosen}
-use Rattle.dm_workers.specs.Inside.Working.{IsShown, IsEnd, IsHandedIn, AreKept}
+use Rattle.dm_workers.specs.Nodes.{GuidedTask, IsChosen}
+use Rattle.dm_workers.specs.Found.{IsShown, IsEnd, IsHandedIn, AreKept, BeginsFrom, GrowsFrom}
 use Rattle.dm_workers.proofs.Outcomes.{one_chosen, chosen_is_ordered}
 
 -- rows have one cost
@@ -30,21 +29,21 @@ one_cost : (net : Net) (rows : RowsValue) (penalty a b : ℕ) → Costs net rows
 one_cost net rows penalty a b p q =
     p.cost ∙ (ap (λ x. cost_of net rows x penalty) (one_least net rows (is_active net rows) p.times q.times p.least q.least) ∙ sym q.cost)
 
-module _ (net : Net) (network : IsNetwork net) (rows : RowsValue) (penalty : ℕ) (base : List Decision) (budget : ℕ) (posed : IsPosed net rows penalty base budget) where
-  abbrev task : Task
-  task = task_beside net rows penalty base budget
+module _ (net : Net) (network : IsNetwork net) (rows : RowsValue) (penalty : ℕ) (base : List Decision) (budget : ℕ) (hints : List Hint) (posed : IsPosed net rows penalty base budget) where
+  abbrev task : GuidedTask
+  task = record { task = task_beside net rows penalty base budget; hints = hints }
 
-  an_end : (best looked : ℕ) (path : List Decision) (n : Node) → IsEnd task best looked path n → IsLeaf n
+  an_end : (best looked : ℕ) (path : List Decision) (n : Node) → IsEnd task.task best looked path n → IsLeaf n
   an_end best looked path (Inner c) e = e
   an_end best looked path Cycle e = tt
   an_end best looked path (Bound c) e = tt
-  an_end best looked path (Open c) e = absurd e
+  an_end best looked path (Open c) e = tt
   an_end best looked path Hole e = absurd e
 
   -- leaves that stand apart are those of a tree
   tree : (best looked : ℕ) (leaves : List Leaf) → StandApart leaves → All (IsHandedIn task best looked) leaves
-      → IsTreeOf (IsChosen task) (one_chosen task) (chosen_is_ordered net network rows penalty base budget posed) leaves
-  tree best looked leaves apart ends = tree_of (IsChosen task) (one_chosen task) (chosen_is_ordered net network rows penalty base budget posed) leaves apart
+      → IsTreeOf (IsChosen task) (one_chosen task) (chosen_is_ordered net network rows penalty base budget hints posed) leaves
+  tree best looked leaves apart ends = tree_of (IsChosen task) (one_chosen task) (chosen_is_ordered net network rows penalty base budget hints posed) leaves apart
       (All-weaker (IsHandedIn task best looked) (λ l. GoesDown (IsChosen task) [] l.path × IsLeaf l.node) (λ l h. (h.way, an_end best looked l.path l.node h.end)) leaves ends)
 
   pub have_a_tree : (best looked : ℕ) (leaves : List Leaf) → StandApart leaves → All (IsHandedIn task best looked) leaves → HaveNoTree leaves → ⊥
@@ -52,23 +51,23 @@ module _ (net : Net) (network : IsNetwork net) (rows : RowsValue) (penalty : ℕ
       let t = tree best looked leaves apart ends in none t.shape t.proper t.has
 
   -- what is known of a leaf that was handed in
-  known_end : (best looked : ℕ) (path : List Decision) (n : Node) → ((c : ℕ) → IsShown best looked c → best ≤ c) → IsEnd task best looked path n → IsKnown task best path n
+  known_end : (best looked : ℕ) (path : List Decision) (n : Node) → ((c : ℕ) → IsShown best looked c → best ≤ c) → IsEnd task.task best looked path n → IsKnown task.task best path n
   known_end best looked path (Inner c) shown e = absurd e
   known_end best looked path Cycle shown e = e
   known_end best looked path (Bound c) shown e = record { cost = e.0; no_less = shown c e.1 }
-  known_end best looked path (Open c) shown e = absurd e
+  known_end best looked path (Open c) shown e = e
   known_end best looked path Hole shown e = absurd e
 
   known_at : (best looked : ℕ) (leaves : List Leaf) (nodes : List Node) → StandApart leaves → (ends : All (IsHandedIn task best looked) leaves) → ((c : ℕ) → IsShown best looked c → best ≤ c)
-      → (a : Assembles leaves nodes) → (path : List Decision) (n : Node) → StandsAt a.shape path n → IsKnown task best path n
+      → (a : Assembles leaves nodes) → (path : List Decision) (n : Node) → StandsAt a.shape path n → IsKnown task.task best path n
   known_at best looked leaves nodes apart ends shown a path n s = by_node n s (λ leaf. a.least.holes path n s leaf) where
-    of_leaf : (m : Node) → (m ≡ Hole) ⊎ Contains leaves (record { path = path; node = m }) → IsKnown task best path m
-    of_leaf m (inl e) = subst (IsKnown task best path) (sym e) tt
+    of_leaf : (m : Node) → (m ≡ Hole) ⊎ Contains leaves (record { path = path; node = m }) → IsKnown task.task best path m
+    of_leaf m (inl e) = subst (IsKnown task.task best path) (sym e) tt
     of_leaf m (inr h) =
         let handed = All-contains (IsHandedIn task best looked) leaves (record { path = path; node = m }) ends h in
         known_end best looked path m shown handed.end
 
-    by_node : (m : Node) → StandsAt a.shape path m → (IsLeaf m → (m ≡ Hole) ⊎ Contains leaves (record { path = path; node = m })) → IsKnown task best path m
+    by_node : (m : Node) → StandsAt a.shape path m → (IsLeaf m → (m ≡ Hole) ⊎ Contains leaves (record { path = path; node = m })) → IsKnown task.task best path m
     by_node (Inner c) s given =
         let t = tree best looked leaves apart ends in
         (t.inner path c (a.least.least t.shape t.proper t.has path c s)).inner
@@ -77,15 +76,15 @@ module _ (net : Net) (network : IsNetwork net) (rows : RowsValue) (penalty : ℕ
     by_node (Open c) s given = of_leaf (Open c) (given tt)
     by_node Hole s given = of_leaf Hole (given tt)
 
-  module _ (no_cycle : HasNoCycle net rows) (own : ℕ) (of_rows : Costs net rows penalty own) (choices : List Decision) (best : ℕ) (kept : AreKept task own choices best) where
-    no_dearer : (c other : ℕ) → CostsWith task choices c → Costs net rows penalty other → c ≤ other
+  module _ (no_cycle : HasNoCycle net rows) (own : ℕ) (of_rows : Costs net rows penalty own) (choices : List Decision) (best : ℕ) (kept : AreKept task.task own choices best) where
+    no_dearer : (c other : ℕ) → CostsWith task.task choices c → Costs net rows penalty other → c ≤ other
     no_dearer c other p q =
         let same = one_cost net (with_decisions net rows choices) penalty c best p.cost kept.costs.cost in
         let rows_same = one_cost net rows penalty other own q of_rows in
         omega (arith, same, rows_same, kept.no_dearer)
 
     pub start_of : (looked : ℕ) (leaves : List Leaf) (nodes : List Node) → StandApart leaves → All (IsHandedIn task best looked) leaves → ((c : ℕ) → IsShown best looked c → best ≤ c)
-        → Assembles leaves nodes → length nodes ≤ budget → IsStart task nodes choices
+        → Assembles leaves nodes → length nodes ≤ budget → IsStart task.task nodes choices
     start_of looked leaves nodes apart ends shown a few = record {
       no_cycle = no_cycle;
       choices = kept.in_order;
@@ -96,7 +95,18 @@ module _ (net : Net) (network : IsNetwork net) (rows : RowsValue) (penalty : ℕ
       shape = a.shape;
       in_preorder = a.in_preorder;
       proper = a.proper;
-      known = λ c costs path n s. subst (λ (k : ℕ). IsKnown task k path n)
+      known = λ c costs path n s. subst (λ (k : ℕ). IsKnown task.task k path n)
           (one_cost net (with_decisions net rows choices) penalty best c kept.costs.cost costs.cost)
           (known_at best looked leaves nodes apart ends shown a path n s);
     }
+
+-- what goes on from the tree that a search begins from
+pub grows_on : (budget : ℕ) (leaves : List Leaf) (partial tree : List Node) → BeginsFrom budget leaves partial → GoesOnFrom partial tree → GrowsFrom budget leaves tree
+grows_on budget leaves partial tree b on = record {
+  nodes = b.nodes;
+  assembled = b.assembled;
+  grows = λ few. subst (λ (ns : List Node). GoesOnFrom ns tree) (sym (b.begins few)) on;
+}
+
+pub no_dearer_than : (task : Task) (kept given : List Decision) (best cost : ℕ) → given ≡ kept → CostsWith task kept best → ((c : ℕ) → CostsWith task given c → cost ≤ c) → cost ≤ best
+no_dearer_than task kept given best cost is costs less = less best (subst (λ (ds : List Decision). CostsWith task ds best) (sym is) costs)

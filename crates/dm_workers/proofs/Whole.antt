@@ -1,33 +1,32 @@
 -- All that workers have handed in, from what they were given.
-use Rattle.std.proofs.Common.{◌≡◌, ℕ, ◌+◌, ◌-◌, ◌≤◌, Bool, List, [], ◌∷◌, length, map, All, Result, refl, ap, sym, subst, ◌∙◌, arith}
+use Rattle.std.proofs.Common.{◌≡◌, ◌⊎◌, ◌++◌, min, ℕ, ◌+◌, ◌-◌, ◌≤◌, Bool, List, [], ◌∷◌, length, map, All, Result, refl, ap, sym, subst, ◌∙◌, arith}
 use Rattle.std.specs.Prelude.{IfOk}
 use Rattle.std.proofs.lemmas.List.{length-map}
-use Rattle.std.proofs.lemmas.List.Elements.{All-nil, All-cons, All-head, All-tail, All-weaker}
+use Rattle.std.proofs.lemmas.List.Elements.{All-nil, All-push, All-cons, All-head, All-tail, All-weaker}
 use Rattle.atomic_table.specs.Seated.{TableId}
 use Rattle.atomic_blocks.specs.Lent.{RowsId}
 use Rattle.dm_network.specs.Net.{Net}
 use Rattle.dm_rows.specs.declared.messages.Decision.{Decision}
-use Rattle.dm_rows.specs.Active.{HasNoCycle}
-use Rattle.dm_rows.specs.Cost.{Costs}
 use Rattle.dm_rows.specs.Rows.{RowsValue}
-use Rattle.dm_bound.specs.Words.{HandValue, lowest}
+use Rattle.dm_bound.specs.Words.{HandValue, lowest, nothing_looked}
 use Rattle.dm_deques.specs.Deques.{TallyValue}
 use Rattle.dm_deques.specs.Sharing.{deque_of}
-use Rattle.dm_tree.specs.Plans.{Task}
+use Rattle.dm_guide.specs.declared.tree.Hint.{Hint}
 use Rattle.dm_guide.specs.Posed.{task_beside}
+use Rattle.dm_workers.specs.Nodes.{GuidedTask}
 use Rattle.dm_workers.specs.declared.gathering.Gathered.{Gathered}
 use Rattle.dm_workers.specs.declared.working.Worker.{Worker}
-use Rattle.dm_workers.specs.Inside.Found.{IsFound}
+use Rattle.dm_workers.specs.Found.{AreKept, IsFound}
 use Rattle.dm_workers.specs.Inside.Gathering.{all_taken, owners_put, owners_taken, lent_of, HasTakenNothing, HasLent, HasLentOnly, AreEquipped}
-use Rattle.dm_workers.specs.Inside.Together.{deque_of_worker, lent_of_worker, IsGatheredFrom, HandsIn, AreHandedIn, AreDone, IsFirstHand}
+use Rattle.dm_workers.specs.Inside.Together.{deque_of_worker, lent_of_worker, IsGatheredFrom, AreHandedIn, AreDone, IsFirstHand}
 use Rattle.dm_workers.specs.Inside.Workers.{owner_of, IsNewWorker}
-use Rattle.dm_workers.specs.Inside.Working.{Path}
-use Rattle.dm_workers.proofs.Begun.{own_kept}
+use Rattle.dm_workers.specs.Inside.Working.{Path, AreListed}
 use Rattle.dm_workers.proofs.Ends.{deques_agree, found_of}
 use Rattle.dm_workers.proofs.Handing.{handed_words, none_gathered}
 use Rattle.dm_workers.proofs.Joined.{given_is}
+use Rattle.dm_workers.proofs.Steps.{capped_low}
 
-handed_many : {F E : Type 0} (task : Task) (own : ℕ) (word : TableId) (start : ℕ) (theirs : List RowsId) (jobs : List (Worker F)) (worked : List (Result (Worker F) E))
+handed_many : {F E : Type 0} (task : GuidedTask) (own : ℕ) (word : TableId) (start : ℕ) (theirs : List RowsId) (jobs : List (Worker F)) (worked : List (Result (Worker F) E))
     → AreHandedIn task own word start theirs jobs worked → length worked ≡ length jobs
 handed_many task own word start theirs [] [] h = refl
 handed_many task own word start theirs [] (r ∷ rs) h = absurd h
@@ -56,7 +55,7 @@ lent_each {F} n (o ∷ os) (w ∷ ws) e all =
     (lent_each n os ws (cc) (All-tail (λ (v : Worker F). lent_of_worker v ≡ n) w ws all))
 
 -- new workers who were given no more than one path on each way have done their work
-pub are_done : {F E : Type 0} (task : Task) (own : ℕ) (word : TableId) (start : ℕ) (crew : List (Worker F)) (worked : List (Result (Worker F) E)) (owners : List (TallyValue Path)) (theirs : List RowsId)
+pub are_done : {F E : Type 0} (task : GuidedTask) (own : ℕ) (word : TableId) (start : ℕ) (crew : List (Worker F)) (worked : List (Result (Worker F) E)) (owners : List (TallyValue Path)) (theirs : List RowsId)
     → map owner_of crew ≡ owners → map deque_of owners ≡ theirs → ((s : List Bool) → owners_put s owners ≤ 1) → All (HasLentOnly (length owners)) owners
     → AreHandedIn task own word start theirs crew worked → AreDone task own word start worked
 are_done {F} {E} task own word start crew worked owners theirs of_crew deques one lent handed = record {
@@ -89,31 +88,32 @@ pub one_given : (before owners : List (TallyValue Path)) → ((s : List Bool) �
 one_given before owners same one s = omega (arith, same s, one s)
 
 -- each hand that was split off comes back
-pub rooms_are : {F E : Type 0} (task : Task) (own : ℕ) (word : TableId) (start : ℕ) (theirs : List RowsId) (crew : List (Worker F)) (worked : List (Result (Worker F) E)) (owners : List (TallyValue Path)) (workers seats first room : ℕ)
+pub rooms_are : {F E : Type 0} (task : GuidedTask) (own : ℕ) (word : TableId) (start : ℕ) (theirs : List RowsId) (crew : List (Worker F)) (worked : List (Result (Worker F) E)) (owners : List (TallyValue Path)) (workers seats first room : ℕ)
     → map owner_of crew ≡ owners → length owners ≡ workers → AreHandedIn task own word start theirs crew worked → seats ≡ workers + 1 → first ≡ workers + 1 → room ≡ first - length owners
     → room + length worked ≡ seats
 rooms_are task own word start theirs crew worked owners workers seats first room of_crew many handed all has split =
     omega (arith, ap length of_crew, length-map crew owner_of, many, handed_many task own word start theirs crew worked handed, all, has, split)
 
-pub all_words : {F E : Type 0} (task : Task) (own : ℕ) (word : TableId) (start : ℕ) (worked : List (Result (Worker F) E)) → AreDone task own word start worked
+pub all_words : {F E : Type 0} (task : GuidedTask) (own : ℕ) (word : TableId) (start : ℕ) (worked : List (Result (Worker F) E)) → AreDone task own word start worked
     → All (λ r. IfOk r (λ w. w.hand.word ≡ word)) worked
 all_words task own word start worked done = handed_words task own word start (map deque_of_worker done.jobs) done.jobs worked done.handed
 
-module _ {F E : Type 0} (net : Net) (rows : RowsValue) (penalty : ℕ) (base : List Decision) (budget own : ℕ) (no_cycle : HasNoCycle net rows) (of_rows : Costs net rows penalty own)
-    (word : TableId) (hand : HandValue) (first : IsFirstHand own word hand) (worked : List (Result (Worker F) E)) (done : AreDone (task_beside net rows penalty base budget) own word hand.start worked)
+module _ {F E : Type 0} (net : Net) (rows : RowsValue) (penalty : ℕ) (base : List Decision) (budget : ℕ) (hints : List Hint) (own : ℕ)
+    (word : TableId) (hand : HandValue) (choices : List Decision) (best : ℕ) (kept : AreKept (task_beside net rows penalty base budget) own choices best) (first : IsFirstHand own best word hand)
+    (worked : List (Result (Worker F) E)) (done : AreDone (record { task = task_beside net rows penalty base budget; hints = hints }) own word hand.start worked)
     (none all : Gathered F)
-    (nothing : (none.owners.items ≡ []) × (none.tallies.items ≡ []) × (none.hand ≡ hand) × (none.leaves.items ≡ []) × (none.best.choices ≡ []) × (none.best.cost ≡ own))
-    (made : (task : Task) (own start rooms : ℕ) (theirs : List RowsId) (jobs : List (Worker F)) → AreHandedIn task own word start theirs jobs worked → IsGatheredFrom task own word start rooms theirs [] none
+    (nothing : (none.owners.items ≡ []) × (none.tallies.items ≡ []) × (none.hand ≡ hand) × (none.leaves.items ≡ []) × (none.best.choices ≡ choices) × (none.best.cost ≡ best))
+    (made : (task : GuidedTask) (own start rooms : ℕ) (theirs : List RowsId) (jobs : List (Worker F)) → AreHandedIn task own word start theirs jobs worked → IsGatheredFrom task own word start rooms theirs [] none
     → IsGatheredFrom task own word start rooms theirs jobs all) where
-  abbrev task : Task
-  task = task_beside net rows penalty base budget
+  abbrev task : GuidedTask
+  task = record { task = task_beside net rows penalty base budget; hints = hints }
 
   abbrev theirs : List RowsId
   theirs = map deque_of_worker done.jobs
 
   gathered : IsGatheredFrom task own word hand.start hand.room theirs done.jobs all
   gathered = made task own hand.start hand.room theirs done.jobs done.handed
-      (none_gathered task own word hand.start theirs none hand nothing first.word_is refl first.lowered (own_kept net rows penalty base budget own no_cycle of_rows))
+      (none_gathered task own word hand.start theirs none hand choices best nothing first.word_is refl first.lowered kept)
 
   pub all_agree : All (λ ts. map deque_of ts ≡ map deque_of all.owners.items) all.tallies.items
   all_agree = deques_agree task own word hand.start hand.room theirs done.jobs all gathered refl
@@ -134,3 +134,16 @@ module _ {F E : Type 0} (net : Net) (rows : RowsValue) (penalty : ℕ) (base : L
       → ((s : List Bool) → owners_taken s owners ≡ owners_taken s all.owners.items + all_taken s all.tallies.items) → ((s : List Bool) → owners_taken s owners ≡ owners_put s owners)
       → (end : ℕ) → end ≡ lowest all.hand.start all.hand.lowered → end ≤ all.hand.looked → IsFound task own all.leaves.items all.best.choices all.best.cost
   all_found owners put took within end is looked = found_of task own word hand.start hand.room theirs done.jobs all gathered first.start_is done.one owners put took within end is looked
+
+-- the first hand, once the word is lowered by what the choices cost that are kept and so many hands are split off
+pub first_hand : (own best room start k : ℕ) (word : TableId) (new lower last : HandValue) → start ≡ min own nothing_looked → k ≡ min best nothing_looked
+    → new ≡ record { word = word; start = start; lowered = []; looked = nothing_looked; room = room }
+    → lower ≡ record new { lowered = new.lowered ++ k ∷ [] } → (n : ℕ) → last ≡ record lower { room = n } → IsFirstHand own best word last
+first_hand own best room start k word new lower last starts capped is low n split = record {
+  word_is = ap (λ (h : HandValue). h.word) split ∙ (ap (λ (h : HandValue). h.word) low ∙ ap (λ (h : HandValue). h.word) is);
+  start_is = ap (λ (h : HandValue). h.start) split ∙ (ap (λ (h : HandValue). h.start) low ∙ (ap (λ (h : HandValue). h.start) is ∙ starts));
+  lowered = subst (AreListed best) (sym (ap (λ (h : HandValue). h.lowered) split ∙ (ap (λ (h : HandValue). h.lowered) low
+      ∙ ap (λ (h : HandValue). h.lowered ++ k ∷ []) is)))
+      (All-push (λ c. (best ≤ c) ⊎ (c ≡ nothing_looked)) [] k (All-nil (λ c. (best ≤ c) ⊎ (c ≡ nothing_looked)))
+      (subst (λ (c : ℕ). (best ≤ c) ⊎ (c ≡ nothing_looked)) (sym capped) (capped_low best best (omega arith))));
+}

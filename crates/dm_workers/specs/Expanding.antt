@@ -1,10 +1,11 @@
 -- What a worker finds at a path, and what its hand of the word then tells.
-use Rattle.std.specs.Prelude.{ℕ, ◌≡◌, ◌-◌, ◌^◌, ◌≤◌, nat_eq, List, [], ◌∷◌, ◌++◌, min, if◌then◌else◌}
+use Rattle.std.specs.Prelude.{ℕ, ◌≡◌, ◌-◌, ◌^◌, ◌≤◌, nat_eq, List, [], ◌∷◌, ◌++◌, min, Option, None, if◌then◌else◌}
 use Rattle.dm_network.specs.Net.{Net}
+use Rattle.dm_rows.specs.declared.messages.Choice.{Choice}
 use Rattle.dm_rows.specs.declared.messages.Decision.{Decision}
 use Rattle.dm_rows.specs.Rows.{RowsValue}
 use Rattle.dm_bound.specs.Words.{HandValue, lowest, nothing_looked}
-use Rattle.dm_search.specs.Steps.{IsOutcome}
+use Rattle.dm_search.specs.Steps.{IsOutcome, IsFoundThere, IsByHint}
 use Rattle.dm_search.specs.declared.steps.Outcome.{Outcome}
 use Rattle.dm_search.specs.declared.steps.Outcome.TheVariants.{Cycle, Pruned, Solved, Branch}
 
@@ -26,6 +27,15 @@ telling hand (Branch c choice) = hand
 pub record IsSeen (net : Net) (rows : RowsValue) (path : List Decision) (penalty : ℕ) (old new : HandValue)
     (seen : ℕ) (outcome : Outcome) : Type 0 where
   pub is : IsOutcome net rows path penalty (limit_of seen) outcome
+  pub hand : new ≡ telling (having_looked old seen) outcome
+  pub low : seen ≤ lowest old.start old.lowered
+
+-- the same with a hint: where it branches, the choice goes by the hint
+pub record IsSeenBy (net : Net) (rows : RowsValue) (path : List Decision) (penalty : ℕ) (hint : Option Choice) (old new : HandValue)
+    (seen : ℕ) (outcome : Outcome) : Type 0 where
+  pub is : IsFoundThere net rows path penalty (limit_of seen) outcome
+  pub first : hint ≡ None → IsOutcome net rows path penalty (limit_of seen) outcome
+  pub by_hint : IsByHint net rows path hint outcome
   pub hand : new ≡ telling (having_looked old seen) outcome
   pub low : seen ≤ lowest old.start old.lowered
 

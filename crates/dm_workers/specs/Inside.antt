@@ -2,4 +2,3 @@ pub mod Working
 pub mod Workers
 pub mod Gathering
 pub mod Together
-pub mod Found

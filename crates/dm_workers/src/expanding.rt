@@ -6,13 +6,13 @@ ghost use Rattle.dm_rows.specs.Rows.{IsSized};
 ghost use Rattle.dm_bound.specs.Words.{nothing_looked};
 ghost use Rattle.dm_guide.specs.Tasks.{task_of, IsPosedTask};
 ghost use Rattle.dm_search.specs.Moving.{IsOver};
-ghost use Rattle.dm_workers.specs.Expanding.{limit_of, telling, IsExpanded, IsSeen, HasOnlyLooked, IsSameHand};
+ghost use Rattle.dm_workers.specs.Expanding.{limit_of, telling, IsExpanded, IsSeenBy, HasOnlyLooked, IsSameHand};
 
 use dm_base::Cost;
 use dm_evaluate::Evaluator;
 use dm_network::Network;
-use dm_rows::{Decision, Snapshot};
-use dm_search::{BoundWord, Hand, Outcome, Task, step, step_to};
+use dm_rows::{Choice, Decision, Snapshot};
+use dm_search::{BoundWord, Hand, Outcome, Task, step, step_by};
 use std::alloc::{AllocError, Global};
 
 /// What a search does with a path over the rows of a snapshot, where the best choices so far cost what the word tells: it looks
@@ -47,11 +47,13 @@ pub fn expand(
 }
 
 /// The same for a path behind the base of a task, by an evaluator that goes there from where it stands, with the value that the
-/// word had. This is what workers call.
+/// word had. It branches on the choice that it is hinted at, where that one is violated, and else on the first. This is what workers
+/// call.
 pub fn expand_with(
     task: &Task<'_>,
     evaluator: &mut Evaluator,
     path: &[Decision],
+    hint: Option<Choice>,
     word: &BoundWord,
     hand: &mut Hand,
 ) -> Result<(u64, Outcome), AllocError>
@@ -59,14 +61,14 @@ pub fn expand_with(
     requires evaluator { IsOver (task_of task.now) evaluator.old }
     requires list { IsChoiceList task.now.net.now task.now.rows.now (task.now.base.now ++ path.now) }
     requires word { hand.old.word ≡ word.now.id }
-    ensures seen { IfOk result (λ r. IsSeen task.now.net.now task.now.rows.now (task.now.base.now ++ path.now) task.now.penalty
+    ensures seen { IfOk result (λ r. IsSeenBy task.now.net.now task.now.rows.now (task.now.base.now ++ path.now) task.now.penalty hint
         hand.old hand.new r.0 r.1) }
     ensures wanting { OnErr result (HasOnlyLooked hand.old hand.new) }
     ensures evaluator { IsOver (task_of task.now) evaluator.new }
     ensures hand { IsSameHand hand.old hand.new }
 {
     let seen = word.look(hand);
-    match step_to(task, evaluator, path, limit(seen)) {
+    match step_by(task, evaluator, path, limit(seen), hint) {
         Ok(outcome) => {
             tell(word, hand, &outcome);
             Ok((seen, outcome))

@@ -2,9 +2,10 @@
 ghost use Rattle.std.specs.Prelude.{ℕ, ◌≡◌, ◌+◌, ◌<◌, ◌≤◌, ◌⊎◌, Bool, List, [], ◌∷◌, ◌++◌, length, map, All, IfOk, OnOk};
 ghost use Rattle.atomic_table.specs.Seated.{TableId};
 ghost use Rattle.atomic_blocks.specs.Lent.{RowsId};
-ghost use Rattle.dm_tree.specs.Plans.{Task as TaskValue};
 ghost use Rattle.dm_deques.specs.Sharing.{deque_of};
 ghost use Rattle.dm_ways.specs.Ways.{paths_on};
+ghost use Rattle.dm_workers.specs.Nodes.{GuidedTask};
+ghost use Rattle.dm_workers.specs.Found.{IsDrained};
 ghost use Rattle.dm_workers.specs.Inside.Working.{nothing};
 ghost use Rattle.dm_workers.specs.Inside.Workers.{IsWorking};
 ghost use Rattle.dm_workers.specs.Inside.Gathering.{owners_put, owners_taken, all_taken, HasLent};
@@ -35,7 +36,7 @@ impl<F: Grown<Path>> Gathered<F> {
         ensures word { IfOk result (λ g. g.hand.word ≡ word.now.id) }
         ensures owners { IfOk result (λ g. g.owners.items ≡ self.owners.items ++ worker.owner ∷ []) }
         ensures tallies { IfOk result (λ g. g.tallies.items ≡ self.tallies.items ++ worker.tallies.items ∷ []) }
-        ensures gathered { IfOk result (λ g. (task : TaskValue) (own start rooms : ℕ) (given more : List Bool → ℕ)
+        ensures gathered { IfOk result (λ g. (task : GuidedTask) (own start rooms : ℕ) (given more : List Bool → ℕ)
             → IsGathered task own word.now.id start rooms given self
             → IsWorking task own word.now.id start more nothing worker
             → IsGathered task own word.now.id start (rooms + 1) (λ s. given s + more s) g) }
@@ -71,20 +72,17 @@ impl<F: Grown<Path>> Gathered<F> {
     }
 }
 
-/// What is gathered before any worker's, with a hand and the rows' own choices.
-pub(crate) fn nothing_gathered<F: Grown<Path>>(alloc: Global, own: Cost, hand: Hand) -> Gathered<F>
+/// What is gathered before any worker's, with a hand and choices that are kept.
+pub(crate) fn nothing_gathered<F: Grown<Path>>(alloc: Global, best: Best, hand: Hand) -> Gathered<F>
     ensures { (result.owners.items ≡ []) × (result.tallies.items ≡ []) × (result.hand ≡ hand) × (result.leaves.items ≡ [])
-        × (result.best.choices ≡ []) × (result.best.cost ≡ own) }
+        × (result.best.choices ≡ best.choices) × (result.best.cost ≡ best.cost) }
 {
     Gathered {
         owners: Vec::new(alloc),
         tallies: Vec::new(alloc),
         hand,
         leaves: Vec::new(alloc),
-        best: Best {
-            choices: Items::from_vec(Vec::new(alloc)),
-            cost: own,
-        },
+        best,
     }
 }
 
@@ -96,7 +94,7 @@ pub(crate) fn gather<F: Grown<Path>>(
 ) -> Result<Gathered<F>, AllocError>
     requires word { first.hand.word ≡ word.now.id }
     requires words { All (λ r. IfOk r (λ w. w.hand.word ≡ word.now.id)) worked.items }
-    ensures { IfOk result (λ g. (task : TaskValue) (own start rooms : ℕ) (theirs : List RowsId) (jobs : List (Worker F))
+    ensures { IfOk result (λ g. (task : GuidedTask) (own start rooms : ℕ) (theirs : List RowsId) (jobs : List (Worker F))
         → AreHandedIn task own word.now.id start theirs jobs worked.items
         → IsGatheredFrom task own word.now.id start rooms theirs [] first
         → IsGatheredFrom task own word.now.id start rooms theirs jobs g) }
@@ -139,25 +137,32 @@ pub(crate) fn settle_all<F: Grown<Path>>(
     Ok(settled)
 }
 
-/// Whether each deque is empty, where no tally is out: what was put was then taken. No worker stops while there is a path on its own, so
-/// that it is.
-pub(crate) fn check_empty<F: Grown<Path>>(owners: Vec<Owner<Path, F>>) -> Result<(), AllocError>
+/// The owners, where each finds its deque empty and has no tally out: what was put was then taken. No worker stops while there is a
+/// path on its own deque, so that it is.
+pub(crate) fn check_empty<F: Grown<Path>>(
+    alloc: Global,
+    owners: Vec<Owner<Path, F>>,
+) -> Result<Vec<Owner<Path, F>>, AllocError>
     requires { All (HasLent 0) owners.items }
-    ensures { OnOk result ((s : List Bool) → owners_taken s owners.items ≡ owners_put s owners.items) }
+    ensures drained { IfOk result (λ r. All IsDrained r.items) }
+    ensures all { OnOk result ((s : List Bool) → owners_taken s owners.items ≡ owners_put s owners.items) }
 {
+    let mut drained = Vec::with_capacity(alloc, owners.len())?;
     for owner in owners {
-        check_one(owner)?;
+        let empty = check_one(owner)?;
+        drained.push(empty)?;
     }
-    Ok(())
+    Ok(drained)
 }
 
-fn check_one<F: Grown<Path>>(owner: Owner<Path, F>) -> Result<(), AllocError>
+fn check_one<F: Grown<Path>>(owner: Owner<Path, F>) -> Result<Owner<Path, F>, AllocError>
     requires { HasLent 0 owner }
-    ensures { OnOk result ((s : List Bool) → paths_on s owner.account.taken ≡ paths_on s owner.account.put) }
+    ensures drained { IfOk result IsDrained }
+    ensures same { OnOk result ((s : List Bool) → paths_on s owner.account.taken ≡ paths_on s owner.account.put) }
 {
     let mut owner = owner;
     match owner.take() {
-        None => Ok(()),
+        None => Ok(owner),
         Some(_path) => Err(AllocError),
     }
 }

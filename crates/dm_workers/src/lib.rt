@@ -10,31 +10,35 @@
 //! so for any task, with an entry. [`laws::expand`] is what a worker does at one node, for a path over the rows of a snapshot: it
 //! looks at the word once, answers dm_search's `step` for the value that the word has, and lowers the word where it has found
 //! choices. Where it wants memory it has looked, and lowered the word by nothing. [`laws::expand_with`] does so behind the base of a
-//! task by an evaluator that goes there: this is what workers call.
+//! task by an evaluator that goes there, and branches on a choice that it is hinted at, where that one is violated: this is what
+//! workers call.
+//!
+//! [`laws::find`] is what all workers do with a guide's tree, from choices that are kept. Each path that was put on a deque was
+//! taken, once: in the end no tally is out, and each deque is empty. No path of a leaf that is handed in is a front of another's.
+//! Each leaf is a cycle, a bound with its relaxed cost, or an open leaf at which some choice is violated. The choices that come out
+//! cost no more than those that went in, than any that a worker handed in, and than any value of the word at which one pruned: a
+//! worker lowers the word by the costs of choices that it keeps alone. [`laws::plan_of`] gives a true plan of what was found. It
+//! costs no more than these choices; and each choice, cycle and bound of the least tree with the leaves stands in its tree at the
+//! same path, where that tree keeps to the budget. So each bound at which a worker pruned is a true bound of the plan.
+//! `search_task` is `find` and then `plan_of`.
 //!
 //! # How the workers search
 //!
-//! No clause of a public call says what stands here. Each worker has a deque of its own, takes its last node, or the first of
-//! another's, and expands it: it looks at a word that all lower by the costs that they find, and goes to the node with its
-//! evaluator. A node becomes a leaf that is handed in, or two nodes. Inside it is proved that an owner which stops for another cause
-//! than want of memory has found its deque empty; that in the end each node that was put was taken, once, and no deque holds one;
-//! that the leaves stand on paths of which none is a front of another; and that each decision on such a path is one of the two of
-//! the first choice that is violated at the path before it. So the leaves are those of a tree. Where it is whole and keeps to the
-//! budget it is the plan's; else the search begins anew from the root, with a guide's searcher for each worker, who play its rounds
-//! in threads of their own. The plan costs no more than the choices that the workers hand in, and these no more than any value at
-//! which a worker pruned.
+//! No clause of a public call says what stands here. A guide is found first, by searchers in threads, and its choices are made
+//! out. Each worker has a deque of its own, takes its last node, or the first of another's, and expands it: it looks at a word that
+//! all lower by the costs that they find, and goes to the node with its evaluator. A node becomes two where the guide's tree goes on
+//! and its choice is violated there, and else a leaf that is handed in. A worker makes at most its share of branchings,
+//! (budget - 1) / (2 * workers), and leaves nodes to the others then; what all leave is a hole. The calling thread puts the leaves
+//! together and goes on from there, so every hole is still searched.
 //!
-//! A worker makes at most its share of branchings, (budget - 1) / (2 * workers), and all together at most about 64: a day that
-//! has not ended by then gains little from them. Where more than 64 choices are violated at the root they start and end, and
-//! expand no node. So the tree of a day that several workers end may differ from run to run, and with it which of several plans
-//! of one cost it is; so may the choices of a plan where they found cheaper ones than the guide. `search` waits for its threads, so
-//! it promises if it returns. A gate is passed at point 3 when a worker starts, 5 before each node that it expands, 4 when it ends,
-//! with the worker's number from 1.
+//! `search` waits for its threads, so it promises if it returns. A gate is passed at point 3 when a worker starts, 5 before each
+//! node that it expands, 4 when it ends, with the worker's number from 1.
 #![tactic(auto)]
 
 mod expanding;
 mod finding;
 mod gathering;
+mod hints;
 pub mod laws;
 mod mustering;
 mod pace;

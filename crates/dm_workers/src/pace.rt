@@ -1,23 +1,20 @@
 //! When the workers of a search stop. Nothing that is promised depends on it.
 use std::sync::atomic::{AtomicU64, Ordering};
 
-// So many branchings together, and a day that has not ended is searched in another way.
-const BRANCHINGS: u64 = 64;
-
-/// How many nodes are not done, how many branchings were made, and whether a worker has stopped the others.
+/// How many nodes are not done, how many workers may still branch, and whether one wants memory.
 #[derive(Drop)]
 pub(crate) struct Pace {
     open: AtomicU64,
-    branched: AtomicU64,
+    able: AtomicU64,
     stopped: AtomicU64,
 }
 
 impl Pace {
-    /// One node is to be done.
-    pub(crate) fn new() -> Pace {
+    /// One node is to be done, by so many workers.
+    pub(crate) fn new(workers: u32) -> Pace {
         Pace {
             open: AtomicU64::new(1),
-            branched: AtomicU64::new(0),
+            able: AtomicU64::new(workers as u64),
             stopped: AtomicU64::new(0),
         }
     }
@@ -30,7 +27,16 @@ impl Pace {
     /// A node has become two.
     pub(crate) fn branch(&self) {
         self.open.fetch_add(1, Ordering::SeqCst);
-        self.branched.fetch_add(1, Ordering::SeqCst);
+    }
+
+    /// A worker has made its share of branchings.
+    pub(crate) fn spend(&self) {
+        self.able.fetch_sub(1, Ordering::SeqCst);
+    }
+
+    /// Whether some node is left for workers that may still branch.
+    pub(crate) fn others_go_on(&self) -> bool {
+        !self.has_ended() && self.able.load(Ordering::SeqCst) > 0
     }
 
     /// No further node is expanded.
@@ -41,11 +47,10 @@ impl Pace {
     /// Whether nodes may still be expanded.
     pub(crate) fn goes_on(&self) -> bool {
         self.stopped.load(Ordering::SeqCst) == 0
-            && self.branched.load(Ordering::SeqCst) < BRANCHINGS
     }
 
     /// Whether no node is left, or some worker wants memory.
     pub(crate) fn has_ended(&self) -> bool {
-        self.stopped.load(Ordering::SeqCst) != 0 || self.open.load(Ordering::SeqCst) == 0
+        !self.goes_on() || self.open.load(Ordering::SeqCst) == 0
     }
 }

@@ -3,7 +3,7 @@ ghost use Rattle.std.specs.Prelude.{IfOk};
 ghost use Rattle.std.specs.Thread.{IsSync};
 ghost use Rattle.dm_guide.specs.Tasks.{task_of, IsPosedTask};
 ghost use Rattle.dm_search.specs.Moving.{IsOver};
-ghost use Rattle.dm_workers.specs.Inside.Workers.{IsOwnCost};
+ghost use Rattle.dm_workers.specs.Found.{IsOwnCost};
 
 use dm_base::Cost;
 use dm_evaluate::Evaluator;

@@ -7,16 +7,19 @@ ghost use Rattle.dm_search.specs.Moving.{IsOver};
 ghost use Rattle.dm_deques.specs.Rule.{WasEmpty};
 ghost use Rattle.dm_deques.specs.Sharing.{deque_of};
 ghost use Rattle.dm_ways.specs.Ways.{on_way};
-ghost use Rattle.dm_workers.specs.Nodes.{IsNode, PicksNodes};
-ghost use Rattle.dm_workers.specs.Inside.Workers.{IsWorking, IsOwnCost, HasTaken, HasStolen, HasFoundNone, IsHandedTo, IsBetterOf, HasBranched, IsSameWorker, IsNewWorker, IsDone};
+ghost use Rattle.dm_workers.specs.Nodes.{guided_by, IsNode, PicksNodes};
+ghost use Rattle.dm_workers.specs.Inside.Workers.{IsWorking, HasTaken, HasStolen, HasFoundNone, IsHandedTo, IsBetterOf, HasBranched, IsSameWorker, IsNewWorker, IsDone};
+ghost use Rattle.dm_workers.specs.Found.{IsOwnCost};
 ghost use Rattle.dm_workers.specs.Inside.Working.{nothing};
 
 use crate::expanding::expand_with;
+use crate::hints::{branching, is_hinted};
 use crate::pace::Pace;
 use dm_base::{Cost, Items};
 use dm_deques::{Grown, Owner, Tally, Thief};
 use dm_desk::Hold;
 use dm_evaluate::Evaluator;
+use dm_guide::Guide;
 use dm_rows::{Choice, Decision};
 use dm_search::{BoundWord, Hand, Outcome, Task, evaluator_at_base};
 use dm_tree::{Leaf, Node};
@@ -32,13 +35,13 @@ const ENDS: u32 = 4;
 const EXPANDS: u32 = 5;
 
 /// A path from the root.
-pub(crate) type Path = Items<Decision>;
+pub type Path = Items<Decision>;
 
 /// Choices that differ from the rows, and what the rows cost with them.
 #[derive(Drop)]
-pub(crate) struct Best {
-    pub(crate) choices: Items<Decision>,
-    pub(crate) cost: Cost,
+pub struct Best {
+    pub choices: Items<Decision>,
+    pub cost: Cost,
 }
 
 /// One worker of a search: its number from 1, how many branchings it has made, its deque, what it has taken from all deques, its
@@ -54,11 +57,12 @@ pub(crate) struct Worker<F: Grown<Path>> {
     pub(crate) best: Best,
 }
 
-/// What the workers share: what is searched, what the rows cost by themselves, the word, the deques, when they stop, and how many
-/// branchings each may make.
+/// What the workers share: what is searched and by which guide, what the rows cost by themselves, the word, the deques, when they
+/// stop, and how many branchings each may make.
 #[derive(Drop)]
 pub(crate) struct Team<'s, 't, F: Grown<Path>> {
     pub(crate) task: &'s Task<'t>,
+    pub(crate) guide: &'s Guide,
     pub(crate) own: Cost,
     pub(crate) word: &'s BoundWord,
 
@@ -119,17 +123,26 @@ impl<F: Grown<Path>> Worker<F> {
     }
 
     /// Puts the two paths below a choice on its deque.
-    fn branch(&mut self, task: &Task<'_>, path: Path, choice: Choice) -> Result<(), AllocError>
+    fn branch(
+        &mut self,
+        team: &Team<'_, '_, F>,
+        path: Path,
+        choice: Choice,
+    ) -> Result<(), AllocError>
         requires first { F.fits (path ++ first_decision choice ∷ []) }
         requires second { F.fits (path ++ second_decision choice ∷ []) }
         ensures put { OnOk result (HasBranched self.old self.new path choice) }
         ensures hand { self.new.hand ≡ self.old.hand }
     {
-        let mut first = Vec::from_slice(task.alloc, path.as_slice())?;
+        let mut first = Vec::from_slice(team.task.alloc, path.as_slice())?;
         first.push(choice.first())?;
         let mut second = path.into_vec();
         second.push(choice.second())?;
+        team.pace.branch();
         self.branched = self.branched.saturating_add(1);
+        if self.branched == team.share {
+            team.pace.spend();
+        }
         let Ok(()) = self.owner.put(Items::from_vec(second)) else {
             return Err(AllocError);
         };
@@ -139,7 +152,7 @@ impl<F: Grown<Path>> Worker<F> {
         Ok(())
     }
 
-    /// Expands a node: it becomes a leaf, or two nodes.
+    /// Expands a node: it becomes a leaf, or two nodes where the guide's tree goes on.
     fn expand(
         &mut self,
         team: &Team<'_, '_, F>,
@@ -147,23 +160,25 @@ impl<F: Grown<Path>> Worker<F> {
         path: Path,
     ) -> Result<(), AllocError>
         requires posed { IsPosedTask team.now.task.now }
-        requires picks { PicksNodes (task_of team.now.task.now) F.fits }
+        requires picks { PicksNodes (guided_by team.now.task.now team.now.guide.now) F.fits }
         requires own { IsOwnCost (task_of team.now.task.now) team.now.own }
-        requires node { IsNode (task_of team.now.task.now) path }
+        requires node { IsNode (guided_by team.now.task.now team.now.guide.now) path }
         requires evaluator { IsOver (task_of team.now.task.now) evaluator.old }
         requires word { self.old.hand.word ≡ team.now.word.now.id }
         ensures evaluator { IsOver (task_of team.now.task.now) evaluator.new }
         ensures same { OnOk result (IsSameWorker self.old self.new) }
         ensures works { OnOk result ((given : List Bool → ℕ) (start : ℕ)
-            → IsWorking (task_of team.now.task.now) team.now.own team.now.word.now.id start given (λ s. on_way s path) self.old
-            → IsWorking (task_of team.now.task.now) team.now.own team.now.word.now.id start given nothing self.new) }
+            → IsWorking (guided_by team.now.task.now team.now.guide.now) team.now.own team.now.word.now.id start given (λ s. on_way s path) self.old
+            → IsWorking (guided_by team.now.task.now team.now.guide.now) team.now.own team.now.word.now.id start given nothing self.new) }
     {
         let task = team.task;
         task.net.sound();
+        let hint = branching(team.guide, path.as_slice());
         let (seen, outcome) = expand_with(
             task,
             evaluator,
             path.as_slice(),
+            hint,
             team.word,
             &mut self.hand,
         )?;
@@ -187,9 +202,10 @@ impl<F: Grown<Path>> Worker<F> {
             Outcome::Branch(cost, choice) => {
                 if team.own <= cost {
                     self.hand_in(team.pace, path, Node::Bound(cost))
+                } else if is_hinted(hint, choice) {
+                    self.branch(team, path, choice)
                 } else {
-                    team.pace.branch();
-                    self.branch(task, path, choice)
+                    self.hand_in(team.pace, path, Node::Open(cost))
                 }
             }
         }
@@ -204,15 +220,15 @@ impl<F: Grown<Path>> Worker<F> {
         gate: &H,
     ) -> Result<Worker<F>, AllocError>
         requires posed { IsPosedTask team.now.task.now }
-        requires picks { PicksNodes (task_of team.now.task.now) F.fits }
+        requires picks { PicksNodes (guided_by team.now.task.now team.now.guide.now) F.fits }
         requires own { IsOwnCost (task_of team.now.task.now) team.now.own }
         requires deques { map deque_of self.tallies.items ≡ team.now.thieves.now.items }
         requires word { self.hand.word ≡ team.now.word.now.id }
         ensures same { IfOk result (IsSameWorker self) }
         ensures empty { IfOk result (λ w. WasEmpty w.owner.account) }
         ensures works { IfOk result (λ w. (given : List Bool → ℕ) (start : ℕ)
-            → IsWorking (task_of team.now.task.now) team.now.own team.now.word.now.id start given nothing self
-            → IsWorking (task_of team.now.task.now) team.now.own team.now.word.now.id start given nothing w) }
+            → IsWorking (guided_by team.now.task.now team.now.guide.now) team.now.own team.now.word.now.id start given nothing self
+            → IsWorking (guided_by team.now.task.now team.now.guide.now) team.now.own team.now.word.now.id start given nothing w) }
     {
         let mut worker = self;
         worker.take_all(rt, team, gate)?;
@@ -227,18 +243,26 @@ impl<F: Grown<Path>> Worker<F> {
         gate: &H,
     ) -> Result<(), AllocError>
         requires posed { IsPosedTask team.now.task.now }
-        requires picks { PicksNodes (task_of team.now.task.now) F.fits }
+        requires picks { PicksNodes (guided_by team.now.task.now team.now.guide.now) F.fits }
         requires own { IsOwnCost (task_of team.now.task.now) team.now.own }
         requires deques { map deque_of self.old.tallies.items ≡ team.now.thieves.now.items }
         requires word { self.old.hand.word ≡ team.now.word.now.id }
         ensures same { OnOk result (IsSameWorker self.old self.new) }
         ensures empty { OnOk result (WasEmpty self.new.owner.account) }
         ensures works { OnOk result ((given : List Bool → ℕ) (start : ℕ)
-            → IsWorking (task_of team.now.task.now) team.now.own team.now.word.now.id start given nothing self.old
-            → IsWorking (task_of team.now.task.now) team.now.own team.now.word.now.id start given nothing self.new) }
+            → IsWorking (guided_by team.now.task.now team.now.guide.now) team.now.own team.now.word.now.id start given nothing self.old
+            → IsWorking (guided_by team.now.task.now team.now.guide.now) team.now.own team.now.word.now.id start given nothing self.new) }
     {
         let mut evaluator: Option<Evaluator> = None;
+        if team.share == 0 {
+            team.pace.spend();
+        }
         for _ in rt.forever() {
+            // Who may not branch leaves nodes to those who may.
+            if self.branched >= team.share && team.pace.others_go_on() {
+                thread::yield_now();
+                continue;
+            }
             match self.next(team.thieves) {
                 Some(path) => self.take_on(team, &mut evaluator, path, gate)?,
                 None => {
@@ -262,7 +286,7 @@ impl<F: Grown<Path>> Worker<F> {
         gate: &H,
     ) -> Result<(), AllocError>
         requires posed { IsPosedTask team.now.task.now }
-        requires picks { PicksNodes (task_of team.now.task.now) F.fits }
+        requires picks { PicksNodes (guided_by team.now.task.now team.now.guide.now) F.fits }
         requires own { IsOwnCost (task_of team.now.task.now) team.now.own }
         requires fits { F.fits path }
         requires evaluator { IfSome evaluator.old (IsOver (task_of team.now.task.now)) }
@@ -270,8 +294,8 @@ impl<F: Grown<Path>> Worker<F> {
         ensures evaluator { IfSome evaluator.new (IsOver (task_of team.now.task.now)) }
         ensures same { OnOk result (IsSameWorker self.old self.new) }
         ensures works { OnOk result ((given : List Bool → ℕ) (start : ℕ)
-            → IsWorking (task_of team.now.task.now) team.now.own team.now.word.now.id start given (λ s. on_way s path) self.old
-            → IsWorking (task_of team.now.task.now) team.now.own team.now.word.now.id start given nothing self.new) }
+            → IsWorking (guided_by team.now.task.now team.now.guide.now) team.now.own team.now.word.now.id start given (λ s. on_way s path) self.old
+            → IsWorking (guided_by team.now.task.now team.now.guide.now) team.now.own team.now.word.now.id start given nothing self.new) }
     {
         if self.branched >= team.share || !team.pace.goes_on() {
             team.pace.done();
@@ -306,11 +330,11 @@ impl<F: Grown<Path>> Worker<F> {
         gate: &H,
     ) -> Result<Worker<F>, AllocError>
         requires posed { IsPosedTask team.now.task.now }
-        requires picks { PicksNodes (task_of team.now.task.now) F.fits }
+        requires picks { PicksNodes (guided_by team.now.task.now team.now.guide.now) F.fits }
         requires no_cycle { HasNoCycle team.now.task.now.net.now team.now.task.now.rows.now }
         requires own { IsOwnCost (task_of team.now.task.now) team.now.own }
         requires new { IsNewWorker team.now.own team.now.word.now.id team.now.start team.now.thieves.now.items self }
-        ensures { IfOk result (IsDone (task_of team.now.task.now) team.now.own team.now.word.now.id team.now.start
+        ensures { IfOk result (IsDone (guided_by team.now.task.now team.now.guide.now) team.now.own team.now.word.now.id team.now.start
             team.now.thieves.now.items self) }
     {
         let who = self.who;
@@ -330,11 +354,11 @@ impl<F: Grown<Path>> Worker<F> {
         gate: &H,
     ) -> Result<Worker<F>, AllocError>
         requires posed { IsPosedTask team.now.task.now }
-        requires picks { PicksNodes (task_of team.now.task.now) F.fits }
+        requires picks { PicksNodes (guided_by team.now.task.now team.now.guide.now) F.fits }
         requires no_cycle { HasNoCycle team.now.task.now.net.now team.now.task.now.rows.now }
         requires own { IsOwnCost (task_of team.now.task.now) team.now.own }
         requires new { IsNewWorker team.now.own team.now.word.now.id team.now.start team.now.thieves.now.items self }
-        ensures { IfOk result (IsDone (task_of team.now.task.now) team.now.own team.now.word.now.id team.now.start
+        ensures { IfOk result (IsDone (guided_by team.now.task.now team.now.guide.now) team.now.own team.now.word.now.id team.now.start
             team.now.thieves.now.items self) }
     {
         match self.work_on(rt, team, gate) {

@@ -1,14 +1,13 @@
 -- What the workers hand in, put together.
-use Rattle.std.specs.Prelude.{ℕ, ◌≡◌, ◌+◌, ◌<◌, ◌≤◌, ◌⊎◌, Bool, List, [], ◌∷◌, ◌++◌, length, map, min, sum_by, All, Ok, Result, slice_get, Some}
+use Rattle.std.specs.Prelude.{ℕ, ◌≡◌, ◌+◌, ◌≤◌, Bool, List, [], length, map, sum_by, All}
 use Rattle.atomic_table.specs.Seated.{TableId}
-use Rattle.atomic_blocks.specs.Lent.{RowsId}
 use Rattle.dm_rows.specs.declared.messages.Decision.{Decision}
 use Rattle.dm_tree.specs.declared.forms.Leaf.{Leaf}
-use Rattle.dm_tree.specs.Plans.{Task}
 use Rattle.dm_bound.specs.Words.{HandValue}
 use Rattle.dm_deques.specs.Deques.{TallyValue}
 use Rattle.dm_deques.specs.Sharing.{deque_of, new_tally}
 use Rattle.dm_ways.specs.Ways.{paths_on, leaves_on}
+use Rattle.dm_workers.specs.Nodes.{GuidedTask}
 use Rattle.dm_workers.specs.Inside.Working.{Path, taken_on, AreFindings}
 
 -- how many paths lie on the way: of those that owners have put and taken, and of those that the workers' tallies have taken
@@ -45,6 +44,6 @@ pub record AreEquipped (before owners : List (TallyValue Path)) (n : ℕ) (purse
   pub many : length purses ≡ n
 
 -- The leaves of some workers: on each way no more paths were put and leaves handed in than were given and taken.
-pub record AreGathered (task : Task) (own : ℕ) (word : TableId) (start rooms : ℕ) (given taken_by_tallies : List Bool → ℕ) (owners : List (TallyValue Path)) (hand : HandValue) (leaves : List Leaf) (choices : List Decision) (cost : ℕ) : Type 0 where
+pub record AreGathered (task : GuidedTask) (own : ℕ) (word : TableId) (start rooms : ℕ) (given taken_by_tallies : List Bool → ℕ) (owners : List (TallyValue Path)) (hand : HandValue) (leaves : List Leaf) (choices : List Decision) (cost : ℕ) : Type 0 where
   pub fair : (sides : List Bool) → owners_put sides owners + leaves_on sides leaves ≤ given sides + owners_taken sides owners + taken_by_tallies sides
   pub found : AreFindings task own word start rooms hand leaves choices cost

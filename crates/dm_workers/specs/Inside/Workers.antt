@@ -2,23 +2,17 @@
 use Rattle.std.specs.Prelude.{ℕ, ◌≡◌, ◌+◌, ◌<◌, ◌≤◌, ◌⊎◌, Bool, List, [], ◌∷◌, ◌++◌, map}
 use Rattle.atomic_table.specs.Seated.{TableId}
 use Rattle.atomic_blocks.specs.Lent.{RowsId}
-use Rattle.dm_bound.specs.Words.{nothing_looked}
 use Rattle.dm_rows.specs.declared.messages.Choice.{Choice}
 use Rattle.dm_rows.specs.declared.messages.Decision.{Decision}
-use Rattle.dm_rows.specs.Cost.{Costs}
 use Rattle.dm_rows.specs.Sides.{first_decision, second_decision}
 use Rattle.dm_tree.specs.declared.forms.Node.{Node}
-use Rattle.dm_tree.specs.Plans.{Task}
 use Rattle.dm_deques.specs.Deques.{TallyValue, having_put}
 use Rattle.dm_deques.specs.Sharing.{deque_of, new_tally}
 use Rattle.dm_deques.specs.Rule.{WasEmpty}
 use Rattle.dm_ways.specs.Ways.{on_way, paths_on}
+use Rattle.dm_workers.specs.Nodes.{GuidedTask}
 use Rattle.dm_workers.specs.declared.working.Worker.{Worker}
 use Rattle.dm_workers.specs.Inside.Working.{Path, taken_on, IsAtWork, nothing}
-
--- what the rows cost by themselves
-abbrev pub IsOwnCost : Task → ℕ → Type 0
-IsOwnCost task own = Costs task.net task.rows task.penalty own
 
 -- a tally has taken the path
 pub record HasStolen (old new : List (TallyValue Path)) (path : Path) : Type 0 where
@@ -26,7 +20,7 @@ pub record HasStolen (old new : List (TallyValue Path)) (path : Path) : Type 0 w
   pub weighs : (sides : List Bool) → taken_on sides new ≡ taken_on sides old + on_way sides path
 
 module _ {F : Type 0} where
-  abbrev pub IsWorking : Task → ℕ → TableId → ℕ → (List Bool → ℕ) → (List Bool → ℕ) → Worker F → Type 0
+  abbrev pub IsWorking : GuidedTask → ℕ → TableId → ℕ → (List Bool → ℕ) → (List Bool → ℕ) → Worker F → Type 0
   IsWorking task own word start given in_hand w =
       IsAtWork task own word start given in_hand w.owner w.tallies.items w.hand w.leaves.items w.best.choices w.best.cost
 
@@ -75,7 +69,7 @@ module _ {F : Type 0} where
     }
 
   -- it has done its work, and has found its deque empty at the end
-  pub record IsDone (task : Task) (own : ℕ) (word : TableId) (start : ℕ) (theirs : List RowsId) (before after : Worker F) : Type 0 where
+  pub record IsDone (task : GuidedTask) (own : ℕ) (word : TableId) (start : ℕ) (theirs : List RowsId) (before after : Worker F) : Type 0 where
     pub works : IsWorking task own word start (λ s. paths_on s before.owner.account.put) nothing after
     pub empty : WasEmpty after.owner.account
     pub deque : after.owner.deque ≡ before.owner.deque

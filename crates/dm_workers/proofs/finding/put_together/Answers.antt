@@ -7,23 +7,23 @@ gather-requires-clause-words g c = all_words _ _ _ _ _ c.requires.worked
 pub settle_all-requires : goal.settle_all-requires
 settle_all-requires g c =
     record {
-      deques = all_agree _ _ _ _ _ _ c.requires.no_cycle c.requires.own _ _ c.requires.hand _ c.requires.worked _ _ c.nothing_gathered-first.ensures c.in_ok-all.ensures;
+      deques = all_agree _ _ _ _ _ _ _ _ _ _ _ c.requires.kept c.requires.hand _ c.requires.worked _ _ c.nothing_gathered-first.ensures c.in_ok-all.ensures;
     }
 
 pub check_empty-requires : goal.check_empty-requires
 check_empty-requires g c =
     c.in_ok-settled.ensures.lent 0
-    (all_out _ _ _ _ _ _ c.requires.no_cycle c.requires.own _ _ c.requires.hand _ c.requires.worked _ _ c.nothing_gathered-first.ensures c.in_ok-all.ensures)
+    (all_out _ _ _ _ _ _ _ _ _ _ _ c.requires.kept c.requires.hand _ c.requires.worked _ _ c.nothing_gathered-first.ensures c.in_ok-all.ensures)
 
 pub close-least-requires-clause-word : goal.close-least-requires-clause-word
 close-least-requires-clause-word g c =
-    word_there _ _ _ _ _ _ c.requires.no_cycle c.requires.own _ _ c.requires.hand _ c.requires.worked _ _ c.nothing_gathered-first.ensures c.in_ok-all.ensures
+    word_there _ _ _ _ _ _ _ _ _ _ _ c.requires.kept c.requires.hand _ c.requires.worked _ _ c.nothing_gathered-first.ensures c.in_ok-all.ensures
 
 pub close-least-requires-clause-alone : goal.close-least-requires-clause-alone
 close-least-requires-clause-alone g c =
-    all_rooms _ _ _ _ _ _ c.requires.no_cycle c.requires.own _ _ c.requires.hand _ c.requires.worked _ _ c.nothing_gathered-first.ensures c.in_ok-all.ensures _ c.requires.rooms
+    all_rooms _ _ _ _ _ _ _ _ _ _ _ c.requires.kept c.requires.hand _ c.requires.worked _ _ c.nothing_gathered-first.ensures c.in_ok-all.ensures _ c.requires.rooms
 
-pub returns : goal.returns
-returns g c =
-    all_found _ _ _ _ _ _ c.requires.no_cycle c.requires.own _ _ c.requires.hand _ c.requires.worked _ _ c.nothing_gathered-first.ensures c.in_ok-all.ensures c.in_ok-settled.settled.items
-    c.in_ok-settled.ensures.put c.in_ok-settled.ensures.taken c.in_ok-check_empty.ensures _ c.close-least.ensures.least c.close-least.ensures.looked
+pub returns-clause-found : goal.returns-clause-found
+returns-clause-found g c =
+    all_found _ _ _ _ _ _ _ _ _ _ _ c.requires.kept c.requires.hand _ c.requires.worked _ _ c.nothing_gathered-first.ensures c.in_ok-all.ensures c.in_ok-settled.settled.items
+    c.in_ok-settled.ensures.put c.in_ok-settled.ensures.taken c.in_ok-owners.ensures.all _ c.close-least.ensures.least c.close-least.ensures.looked

@@ -1,7 +1,7 @@
 use Rattle.std.proofs.Common.{◌≡◌, ℕ, List, [], All}
 use Rattle.std.specs.Prelude.{IfOk}
 use Rattle.atomic_blocks.specs.Lent.{RowsId}
-use Rattle.dm_tree.specs.Plans.{Task as TaskValue}
+use Rattle.dm_workers.specs.Nodes.{GuidedTask}
 use Rattle.dm_workers.specs.declared.working.Worker.{Worker}
 use Rattle.dm_workers.specs.Inside.Together.{AreHandedIn, IsGatheredFrom}
 use Rattle.dm_workers.proofs.Joined.{Going}
@@ -12,6 +12,6 @@ invariant-loop-worker g l =
     record {
       words : All (λ r. IfOk r (λ w. w.hand.word ≡ l.fn.word.id)) l.worker-iterator.rest.items;
       word : l.gathered.hand.word ≡ l.fn.word.id;
-      going : (task : TaskValue) (own start rooms : ℕ) (theirs : List RowsId) (jobs : List (Worker _)) → AreHandedIn task own l.fn.word.id start theirs jobs l.fn.worked.items
+      going : (task : GuidedTask) (own start rooms : ℕ) (theirs : List RowsId) (jobs : List (Worker _)) → AreHandedIn task own l.fn.word.id start theirs jobs l.fn.worked.items
           → IsGatheredFrom task own l.fn.word.id start rooms theirs [] l.fn.first → Going task own l.fn.word.id start rooms theirs jobs l.gathered l.worker-iterator.rest.items;
     }

@@ -1,4 +1,4 @@
-use Rattle.std.proofs.Common.{◌≡◌, ◌≤◌, ℕ, List, Bool, map, All, length}
+use Rattle.std.proofs.Common.{◌≡◌, ◌≤◌, List, Bool, map, All, length}
 use Rattle.dm_deques.specs.Sharing.{deque_of}
 use Rattle.dm_workers.specs.Inside.Gathering.{owners_put, HasLentOnly}
 use Rattle.dm_workers.proofs.mustering.enlist.Given as goal

@@ -1,4 +1,4 @@
-use Rattle.std.proofs.Common.{◌≡◌, length, map, rules, refl, ap, ◌∙◌, length-append}
+use Rattle.std.proofs.Common.{length, map, rules, refl, ap, ◌∙◌, length-append}
 use Rattle.dm_bound.specs.Words.{HandValue}
 use Rattle.dm_deques.specs.Sharing.{deque_of}
 use Rattle.dm_workers.specs.Inside.Gathering.{HasTakenNothing}

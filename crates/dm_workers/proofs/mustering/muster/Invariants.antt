@@ -1,4 +1,4 @@
-use Rattle.std.proofs.Common.{◌≡◌, ◌++◌, ◌-◌, ℕ, List, map, All, length}
+use Rattle.std.proofs.Common.{◌≡◌, ◌++◌, ◌-◌, map, All, length}
 use Rattle.dm_deques.specs.Sharing.{deque_of}
 use Rattle.dm_workers.specs.Inside.Gathering.{HasTakenNothing}
 use Rattle.dm_workers.specs.Inside.Workers.{IsNewWorker, owner_of}

@@ -1,4 +1,4 @@
-use Rattle.std.proofs.Common.{◌≡◌, ◌++◌, List, [], ◌∷◌, ap, ◌∙◌}
+use Rattle.std.proofs.Common.{◌++◌, List, [], ◌∷◌, ap, ◌∙◌}
 use Rattle.dm_deques.specs.Deques.{TallyValue}
 use Rattle.dm_workers.specs.Inside.Working.{Path}
 use Rattle.dm_workers.specs.Inside.Gathering.{all_taken}
