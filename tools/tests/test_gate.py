@@ -67,7 +67,7 @@ class Processes(unittest.TestCase):
 
 class Ways(unittest.TestCase):
     # Two ways from bottom to top, and one crate beside them.
-    BELOW = {'bottom': [], 'left': ['bottom'], 'right': ['bottom'], 'top': ['left', 'right', 'bottom'], 'beside': ['bottom']}
+    BELOW: dict[str, list[str]] = {'bottom': [], 'left': ['bottom'], 'right': ['bottom'], 'top': ['left', 'right', 'bottom'], 'beside': ['bottom']}
 
     def test_the_dearer_of_two_ways(self) -> None:
         self.assertEqual(longest_way({'bottom': 1, 'left': 5, 'right': 7, 'top': 2}, self.BELOW), ['bottom', 'right', 'top'])
