@@ -1,0 +1,2 @@
+-- Boards that are kept up with a table.
+pub mod Displays

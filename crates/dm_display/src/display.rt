@@ -1,0 +1,81 @@
+//! Boards that show the times of a table.
+ghost use Rattle.std.specs.Prelude.{◌≡◌, ◌<◌, ◌≤◌, vec_len, IfOk};
+ghost use Rattle.dm_base.specs.declared.limits.TheConstants.{BOARDS};
+ghost use Rattle.dm_display.specs.Displays.{IsFor, HasShownNothing, HasEarlierTimes, Shows};
+
+use dm_network::Network;
+use dm_outside::Board;
+use dm_publish::Publisher;
+use dm_settle::Times;
+use dm_table::Table;
+use std::alloc::{AllocError, Global};
+
+/// What boards are shown: the publisher, and the times of one moment.
+#[derive(Drop)]
+pub struct Display<'n> {
+    pub net: &'n Network,
+    pub publisher: Publisher,
+
+    /// The times that boards were shown last, where there are boards.
+    pub times: Times,
+
+    /// How many entries there were then.
+    pub entries: u32,
+
+    /// Room for the places of events whose times have moved since.
+    pub listed: Vec<usize>,
+}
+
+impl<'n> Display<'n> {
+    /// All that so many boards of a network need, at most 64. `Err` is want of memory alone.
+    pub fn new(alloc: Global, net: &'n Network, boards: usize) -> Result<Display<'n>, AllocError>
+        requires few { boards ≤ BOARDS }
+        ensures fits { IfOk result (IsFor net.now boards) }
+        ensures none { IfOk result HasShownNothing }
+    {
+        Ok(Display {
+            net,
+            publisher: Publisher::new(alloc, net, boards)?,
+            times: Times::room(alloc, net)?,
+            entries: 0,
+            listed: Vec::with_capacity(alloc, net.events())?,
+        })
+    }
+
+    /// Shows boards the times of a table, whatever they have shown. It takes no memory.
+    pub fn show(&mut self, table: &Table<'_>, boards: &mut Vec<Box<dyn Board>>)
+        requires fits { IsFor table.now.network (vec_len boards.old) self.old }
+        ensures { Shows place times faults is_sound table.now self.old self.new boards.old.items boards.new.items }
+    {
+        table.sound();
+        if boards.is_empty() {
+            return;
+        }
+        self.times.copy_from(table.times());
+        let entries = table.len();
+        self.entries = entries;
+        let _dropped = self
+            .publisher
+            .publish(self.net, &self.times, entries, boards);
+    }
+
+    /// The same of boards that nobody else has shown anything since they were shown times last: they are asked only for events whose
+    /// times have moved.
+    pub fn show_growth(&mut self, table: &mut Table<'_>, boards: &mut Vec<Box<dyn Board>>)
+        requires fits { IsFor table.old.network (vec_len boards.old) self.old }
+        requires has { 0 < vec_len boards.old → HasEarlierTimes table.old self.old }
+        ensures same { table.new ≡ table.old }
+        ensures shows { Shows place times faults is_sound table.old self.old self.new boards.old.items boards.new.items }
+    {
+        table.sound();
+        if boards.is_empty() {
+            return;
+        }
+        table.follow_times(&mut self.times, self.entries, &mut self.listed);
+        let entries = table.len();
+        self.entries = entries;
+        let _dropped = self
+            .publisher
+            .publish_listed(self.net, &self.times, &self.listed, entries, boards);
+    }
+}

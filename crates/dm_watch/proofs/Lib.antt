@@ -1,0 +1,11 @@
+pub mod Booked
+pub mod Causes
+pub mod Fronts
+pub mod Kept
+pub mod Recorded
+pub mod Rounding
+pub mod Safe
+pub mod Settled
+pub mod Showing
+pub mod Synced
+pub mod Texts

@@ -1,0 +1,20 @@
+use Rattle.std.proofs.Common.{◌≡◌, ◌≤◌, ◌++◌, List, ℕ, map, length}
+use Rattle.dm_cert.specs.Answers.{Setting}
+use Rattle.dm_book.specs.Books.{Book}
+use Rattle.dm_watch.specs.Settled.{all_items, log_parts, shown_parts}
+use Rattle.dm_watch.specs.Inside.Showing.{IsKeptBook, IsShowing, old_text, all_text}
+use Rattle.dm_watch.proofs.settling.show_feeds.Given as goal
+
+abbrev pub invariant-loop-watched : goal.invariant-loop-watched
+invariant-loop-watched g l =
+    record {
+      whole : l.yielded ++ l.watched-iterator.rest.items ≡ l.fn.feeds.items;
+      many : length l.shown.items ≡ length l.yielded;
+      parts : map (log_parts g.T.Growing.given) l.shown.items ≡ map (shown_parts g.T.Growing.given) l.yielded;
+      later : g.S.Store.faults l.fn.store ≤ g.S.Store.faults l.store;
+      so_far :
+          (s : Setting) (contents : List (List ℕ)) (before after : Book) (start : _) → IsKeptBook s contents before after → after.logs ≡ map all_items l.fn.feeds.items
+          → IsShowing g.S.Store.tells g.S.Store.seen g.S.Store.shown g.S.Store.may_leave g.S.Store.moment g.S.Store.left_since s contents before after start l.fn.store (map old_text l.fn.feeds.items)
+          → IsShowing g.S.Store.tells g.S.Store.seen g.S.Store.shown g.S.Store.may_leave g.S.Store.moment g.S.Store.left_since s contents before after start l.store
+          (map all_text l.yielded ++ map old_text l.watched-iterator.rest.items);
+    }
