@@ -1,0 +1,6 @@
+pub mod Backs
+pub mod Named
+pub mod Files
+pub mod HeadsRead
+pub mod Judged
+pub mod ReadRounds

@@ -1,0 +1,24 @@
+use Rattle.std.proofs.Common.{◌≡◌, ◌<◌, List, [], length, take, Option, ap, subst, ◌∙◌, arith}
+use Rattle.std.specs.Option.{option_copied}
+use Rattle.dm_tree.specs.declared.plans.Plan.{Plan}
+use Rattle.dm_cert.specs.declared.replies.LogItem.{LogItem}
+use Rattle.dm_cert.specs.Answers.{latest_plan, plan_after}
+use Rattle.dm_restore.specs.Inside.Entering.{HasPut, Notes, entry_in}
+use Rattle.dm_restore.proofs.Named.{none_noted, one_noted, true_there, taken_more, latest_more}
+use Rattle.dm_restore.proofs.entries.note_log.Goals as goal
+
+pub loop-item-preserved : goal.loop-item-preserved
+loop-item-preserved c =
+    let inv = c.loop-item.invariant in
+    let items = c.args.items.now in
+    let i = c.loop-item.item-index in
+    let x = c.item-item.result in
+    let low : i < length items = omega arith in
+    let put = subst (λ (o : Option Plan). HasPut c.loop-item.entries.items c.note_item.new.entries.items (entry_in c.args.feed o x)) inv.latest c.in_ok-note_item.ensures in
+    record {
+      latest = c.later_plan-latest.ensures ∙ (ap (λ (o : Option Plan). plan_after o x) inv.latest ∙ latest_more items i x low c.item-item.is);
+      noted = λ s history few are agrees.
+          subst (λ (ls : List LogItem). Notes history ls c.args.entries.now.items c.note_item.new.entries.items) (taken_more items i x low c.item-item.is)
+          (one_noted s history c.args.feed (take i items) x c.args.entries.now.items c.loop-item.entries.items c.note_item.new.entries.items few
+          (true_there s history c.args.feed [] items i x are low c.item-item.is) (inv.noted s history few are agrees) put);
+    }

@@ -1,0 +1,223 @@
+//! The entries that items name as accepted, by their numbers.
+ghost use Rattle.std.specs.Prelude.{◌≡◌, ◌-◌, ◌<◌, ◌≤◌, ℕ, ◌^◌, false, [], List, length, IfOk, OnOk, Some};
+ghost use Rattle.std.specs.Option.{option_copied};
+ghost use Rattle.dm_rows.specs.declared.messages.Entry.{Entry as AnEntry};
+ghost use Rattle.dm_cert.specs.Answers.{Setting, plan_after};
+ghost use Rattle.dm_cert.specs.Logs.{AreTrueAnswers, AreTrueLogs};
+ghost use Rattle.dm_rows.specs.History.{IsLegal};
+ghost use Rattle.dm_table_desk.specs.Tables.{setting_of};
+ghost use Rattle.dm_restore.specs.Inside.Entering.{message_in, entry_in, HasPut, KeepsEntries, Notes, Agrees, AreEntries, EntersAll};
+
+use dm_base::Items;
+use dm_base::limits::ENTRIES;
+use dm_cert::{FeedLog, LogItem, Reply};
+use dm_desk::Desk;
+use dm_feed::Line;
+use dm_rows::{Decision, Entry, Message, Refusal};
+use dm_table_desk::TableDesk;
+use dm_tree::Plan;
+use std::alloc::{AllocError, Global};
+
+/// The entries of logs, each at the place before its number. Where no item names an entry of this number there is none.
+pub(crate) fn entries_of(alloc: Global, logs: &[FeedLog]) -> Result<Vec<Option<Entry>>, AllocError>
+    requires { length logs.now < 2 ^ 32 }
+    ensures { IfOk result (λ entries. (s : Setting) (history : List AnEntry) → IsLegal s.net s.start history
+        → AreTrueLogs s history logs.now → AreEntries history entries.items) }
+{
+    let mut entries = Vec::new(alloc);
+    for (place, log) in logs.iter().enumerate() {
+        note_log(alloc, &mut entries, place as u32 + 1, log.items.as_slice())?;
+    }
+    Ok(entries)
+}
+
+/// Puts the entries of the log of a feed, which has this number, at their places.
+fn note_log(
+    alloc: Global,
+    entries: &mut Vec<Option<Entry>>,
+    feed: u32,
+    items: &[LogItem],
+) -> Result<(), AllocError>
+    ensures { OnOk result ((s : Setting) (history : List AnEntry) → length history ≤ ENTRIES
+        → AreTrueAnswers s history feed [] items.now → Agrees history entries.old.items
+        → Notes history items.now entries.old.items entries.new.items) }
+{
+    let mut latest = None;
+    for item in items {
+        note_item(alloc, entries, feed, latest, item)?;
+        latest = later_plan(latest, item);
+    }
+    Ok(())
+}
+
+/// Puts the entry that an item names, if it does, at its place. Before it this was the feed's latest plan.
+fn note_item(
+    alloc: Global,
+    entries: &mut Vec<Option<Entry>>,
+    feed: u32,
+    latest: Option<&Plan>,
+    item: &LogItem,
+) -> Result<(), AllocError>
+    ensures { OnOk result (HasPut entries.old.items entries.new.items (entry_in feed (option_copied latest.entry) item.now)) }
+{
+    let Some((number, entry)) = entry_in(alloc, feed, latest, item)? else {
+        return Ok(());
+    };
+    put_entry(entries, number, entry)
+}
+
+/// The latest plan behind an item, where before it this was the latest.
+fn later_plan<'p>(latest: Option<&'p Plan>, item: &'p LogItem) -> Option<&'p Plan>
+    ensures { option_copied result ≡ plan_after (option_copied latest.entry) item.now }
+{
+    match item {
+        LogItem::Answered {
+            reply: Reply::Planned(plan),
+            ..
+        } => Some(plan),
+        _ => latest,
+    }
+}
+
+/// The entry that an item names, with its number. Before it this was the feed's latest plan. `Err` is want of memory alone.
+fn entry_in(
+    alloc: Global,
+    feed: u32,
+    latest: Option<&Plan>,
+    item: &LogItem,
+) -> Result<Option<(u32, Entry)>, AllocError>
+    ensures { IfOk result (λ found. found ≡ entry_in feed (option_copied latest.entry) item.now) }
+{
+    let LogItem::Answered {
+        line,
+        said,
+        reply: Reply::Ok(number),
+    } = item
+    else {
+        return Ok(None);
+    };
+    let Some(message) = message_in(alloc, latest, said)? else {
+        return Ok(None);
+    };
+    let entry = Entry {
+        feed,
+        line: *line,
+        message,
+    };
+    Ok(Some((*number, entry)))
+}
+
+/// The message that a line enters, where it is one that does.
+fn message_in(
+    alloc: Global,
+    latest: Option<&Plan>,
+    said: &Line,
+) -> Result<Option<Message>, AllocError>
+    ensures { IfOk result (λ message. message ≡ message_in (option_copied latest.entry) said.now) }
+{
+    match said {
+        Line::Say(message) => Ok(Some(copy_of(alloc, message)?)),
+        Line::Adopt => match latest {
+            Some(plan) => {
+                let choices = decisions(alloc, plan.choices.as_slice())?;
+                Ok(Some(Message::Adopt(choices)))
+            }
+            None => Ok(None),
+        },
+        Line::Time(_) | Line::CostNow | Line::Plan(_) | Line::Read => Ok(None),
+    }
+}
+
+/// An equal message.
+fn copy_of(alloc: Global, message: &Message) -> Result<Message, AllocError>
+    ensures { IfOk result (λ copy. copy ≡ message.now) }
+{
+    Ok(match message {
+        Message::DelayEvent(event, delay) => Message::DelayEvent(*event, *delay),
+        Message::DelayActivity(act, delay) => Message::DelayActivity(*act, *delay),
+        Message::Pass(event, time) => Message::Pass(*event, *time),
+        Message::Recall(event) => Message::Recall(*event),
+        Message::Keep(act) => Message::Keep(*act),
+        Message::Drop(act) => Message::Drop(*act),
+        Message::First(first, second) => Message::First(*first, *second),
+        Message::Adopt(list) => Message::Adopt(decisions(alloc, list.as_slice())?),
+        Message::Now(time) => Message::Now(*time),
+    })
+}
+
+/// Equal decisions.
+fn decisions(alloc: Global, decisions: &[Decision]) -> Result<Items<Decision>, AllocError>
+    ensures { IfOk result (λ items. items ≡ decisions.now) }
+{
+    Ok(Items::from_vec(Vec::from_slice(alloc, decisions)?))
+}
+
+/// Puts an entry at the place before its number. A number that no history has is passed over.
+fn put_entry(entries: &mut Vec<Option<Entry>>, number: u32, entry: Entry) -> Result<(), AllocError>
+    ensures { OnOk result (HasPut entries.old.items entries.new.items (Some (number, entry))) }
+{
+    if number == 0 || number > ENTRIES {
+        return Ok(());
+    }
+    make_places(entries, number as usize)?;
+    entries[number as usize - 1] = Some(entry);
+    Ok(())
+}
+
+/// Makes places up to so many.
+fn make_places(entries: &mut Vec<Option<Entry>>, count: usize) -> Result<(), AllocError>
+    ensures keeps { OnOk result (KeepsEntries entries.old.items entries.new.items) }
+    ensures places { OnOk result (count ≤ length entries.new.items) }
+{
+    while entries.len() < count {
+        entries.push(None)?;
+    }
+    Ok(())
+}
+
+/// Enters entries, up to the first that is not there or is refused. `Err` is want of memory alone.
+pub(crate) fn enter_all(
+    desk: &mut TableDesk<'_>,
+    entries: Vec<Option<Entry>>,
+) -> Result<(), AllocError>
+    ensures setting { setting_of desk.new.plans desk.new.table ≡ setting_of desk.old.plans desk.old.table }
+    ensures enters { OnOk result (desk.old.table.history ≡ [] → (history : List AnEntry)
+        → IsLegal desk.old.table.network desk.old.table.start history → AreEntries history entries.items
+        → desk.new.table.history ≡ history) }
+{
+    for entry in entries {
+        let Some(entry) = entry else {
+            return Ok(());
+        };
+        if !enter(desk, entry)? {
+            return Ok(());
+        }
+    }
+    Ok(())
+}
+
+/// Enters an entry, or answers that it is refused. `Err` is want of memory alone.
+fn enter(desk: &mut TableDesk<'_>, entry: Entry) -> Result<bool, AllocError>
+    ensures setting { setting_of desk.new.plans desk.new.table ≡ setting_of desk.old.plans desk.old.table }
+    ensures enters { IfOk result (EntersAll desk.old.table desk.new.table entry) }
+{
+    match desk.post(entry) {
+        Ok(_) => Ok(true),
+        Err(at) => {
+            if wants_memory(&at.why) {
+                return Err(AllocError);
+            }
+            Ok(false)
+        }
+    }
+}
+
+/// Whether a refusal is want of memory.
+fn wants_memory(why: &Refusal) -> bool
+    ensures { result ≡ false → why.now ≡ Refusal.OutOfMemory → ⊥ }
+{
+    match why {
+        Refusal::OutOfMemory => true,
+        _ => false,
+    }
+}

@@ -1,0 +1,115 @@
+//! A run that was read back, in print, and what is told of its text.
+ghost use Rattle.std.specs.Prelude.{◌≡◌, ◌≤◌, [], All, length, IfOk, IfErr, OnOk};
+ghost use Rattle.dm_cert.specs.declared.limits.TheConstants.{PLANS};
+ghost use Rattle.dm_cert.specs.Logs.{AreTrueLogs};
+ghost use Rattle.dm_cert.specs.RunTexts.{IsSpelledLog, run_text, FitsRun};
+ghost use Rattle.dm_cert.specs.Runs.{IsRunText};
+ghost use Rattle.dm_base.specs.declared.limits.TheConstants.{TEXT};
+ghost use Rattle.dm_outside.specs.Printing.{Puts};
+ghost use Rattle.dm_check.specs.FalseRecords.{IsVerdict};
+ghost use Rattle.dm_check.specs.Truth.{SaysGood};
+ghost use Rattle.dm_records.specs.Laws.{IsHeldLog};
+ghost use Rattle.dm_table.specs.Value.{IsTable};
+ghost use Rattle.dm_table_desk.specs.Tables.{setting_of};
+ghost use Rattle.dm_restore.specs.Inside.Judging.{run_of, StopsJudging};
+
+use crate::stops::RestoreStop;
+use dm_base::limits::TEXT;
+use dm_cert::FeedLog;
+use dm_check::{Verdict, check};
+use dm_items::{Gathered, items_are_held};
+use dm_outside::{Sink, WriteFault};
+use dm_report::{Run, print_run};
+use dm_table::Table;
+use dm_table_desk::TableDesk;
+use std::alloc::{AllocError, Global};
+
+/// Puts the text of the run of a table and logs, without notes. A write fault comes only where a write failed.
+pub(crate) fn put_run<K: Sink>(
+    table: &Table<'_>,
+    logs: &[FeedLog],
+    out: &mut K,
+) -> Result<(), WriteFault>
+    requires { All IsSpelledLog logs.now }
+    ensures puts { Puts K.taken K.faults out.old out.new result (run_text 2 (run_of table.now logs.now)) }
+    ensures fits { FitsRun (run_of table.now logs.now) }
+{
+    table.sound();
+    let run = Run {
+        net: table.network(),
+        penalty: table.penalty(),
+        history: table.history(),
+        logs,
+        notes: &[],
+        times: table.times(),
+        cost: table.cost_now(),
+    };
+    run.fits();
+    print_run(&run, out)
+}
+
+/// The text of the run of a table and logs.
+fn run_text(alloc: Global, table: &Table<'_>, logs: &[FeedLog]) -> Result<Vec<u8>, AllocError>
+    requires { All IsSpelledLog logs.now }
+    ensures text { IfOk result (λ text. text.items ≡ run_text 2 (run_of table.now logs.now)) }
+    ensures fits { FitsRun (run_of table.now logs.now) }
+{
+    let mut sink = Gathered::new(alloc);
+    let Ok(()) = put_run(table, logs, &mut sink) else {
+        return Err(AllocError);
+    };
+    Ok(sink.into_bytes())
+}
+
+/// What memory holds of logs. It only reads them.
+fn logs_are_held(logs: &[FeedLog])
+    ensures { All IsHeldLog logs.now }
+{
+    for log in logs {
+        log_is_held(log);
+    }
+}
+
+fn log_is_held(log: &FeedLog)
+    ensures { IsHeldLog log.now }
+{
+    items_are_held(log.items.as_slice());
+}
+
+/// Judges the text of the run of a table and logs, of 1 to 64 feeds.
+pub(crate) fn judge(
+    alloc: Global,
+    desk: &TableDesk<'_>,
+    logs: &[FeedLog],
+) -> Result<(), RestoreStop>
+    requires spelled { All IsSpelledLog logs.now }
+    requires some { 1 ≤ length logs.now }
+    requires few { length logs.now ≤ 64 }
+    requires plans { desk.now.plans ≤ PLANS }
+    ensures table { IsTable desk.now.table }
+    ensures good { OnOk result (AreTrueLogs (setting_of desk.now.plans desk.now.table) desk.now.table.history logs.now) }
+    ensures stops { IfErr result (StopsJudging desk.now.plans desk.now.table logs.now) }
+{
+    let table = &desk.table;
+    table.sound();
+    table.network().sound();
+    logs_are_held(logs);
+    let Ok(text) = run_text(alloc, table, logs) else {
+        return Err(RestoreStop::OutOfMemory);
+    };
+    if text.len() > TEXT {
+        return Err(RestoreStop::Full);
+    }
+    match check(
+        alloc,
+        table.network(),
+        table.start(),
+        table.penalty(),
+        desk.plans,
+        &text,
+    ) {
+        Ok(Verdict::Good { .. }) => Ok(()),
+        Ok(Verdict::Bad { line, kind }) => Err(RestoreStop::Bad(line, kind)),
+        Err(AllocError) => Err(RestoreStop::OutOfMemory),
+    }
+}
