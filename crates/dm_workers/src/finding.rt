@@ -35,7 +35,7 @@ pub struct Found<F: Grown<Path>> {
 /// What workers find of a guide's tree, 1 to 16 of them, each on a deque of its own and on those of the others, which hold nodes. They
 /// begin with the root, with what the rows cost by themselves, and with choices that are kept. Each node that was put on a deque was
 /// taken, once, and each owner finds its deque empty in the end. No leaf's path is a front of another's. The choices cost no more than
-/// those that they began with, and than each value of the word at which a worker pruned.
+/// those that they began with, and than each bound that is handed in.
 pub fn find<F: Grown<Path> + Send + Sync, R: Threads + Wait + Sync, H: Hold + Sync>(
     rt: &R,
     task: &Task<'_>,

@@ -16,10 +16,11 @@
 //! [`laws::find`] is what all workers do with a guide's tree, from choices that are kept. Each path that was put on a deque was
 //! taken, once: in the end no tally is out, and each deque is empty. No path of a leaf that is handed in is a front of another's.
 //! Each leaf is a cycle, a bound with its relaxed cost, or an open leaf at which some choice is violated. The choices that come out
-//! cost no more than those that went in, than any that a worker handed in, and than any value of the word at which one pruned: a
-//! worker lowers the word by the costs of choices that it keeps alone. [`laws::plan_of`] gives a true plan of what was found. It
+//! cost no more than those that went in, and than any bound that is handed in: a worker lowers the word by the costs of choices
+//! that it keeps alone (that none is dearer than a value of the word at which one pruned is proved inside, and is no clause of
+//! `find`). [`laws::plan_of`] gives a true plan of what was found. It
 //! costs no more than these choices; and each choice, cycle and bound of the least tree with the leaves stands in its tree at the
-//! same path, where that tree keeps to the budget. So each bound at which a worker pruned is a true bound of the plan.
+//! same path, where that tree keeps to the budget. So each bound that is handed in is then a true bound of the plan.
 //! `search_task` is `find` and then `plan_of`.
 //!
 //! # How the workers search

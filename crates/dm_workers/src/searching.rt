@@ -160,8 +160,8 @@ fn behind(path: &[Decision], many: usize) -> &[Decision] {
 }
 
 /// The plan of what workers have found of a guide's tree. It costs no more than their choices; and where the least tree with their
-/// leaves keeps to the budget, each choice, cycle and bound of it stands in the plan's tree at the same path. So a bound at which a
-/// worker pruned is one of the plan.
+/// leaves keeps to the budget, each choice, cycle and bound of it stands in the plan's tree at the same path. So a bound that is
+/// handed in is one of the plan.
 pub fn plan_of<F: Grown<Path>>(
     task: &Task<'_>,
     entry: u32,
