@@ -1,5 +1,6 @@
 pub mod Around
 pub mod AtClock
+pub mod Bringing
 pub mod Concerning
 pub mod FewRows
 pub mod Flagging

@@ -24,6 +24,12 @@ module _ (net : Net) (rows other : RowsValue) (sized : IsSized net rows) (alike 
   reaches_alike (Adopted flips) h = λ k d lt. flip_reaches _ (h k d lt)
   reaches_alike (Clock t) h = h
 
+pub delay_is_reached : (rows : RowsValue) (change : Change) → Reaches rows change → (i d : ℕ) → change ≡ EventDelay i d → i < length rows.event_delays
+delay_is_reached rows change reaches i d is = let h : Reaches rows (EventDelay i d) = subst (Reaches rows) is reaches in h.0
+
+pub act_is_reached : (rows : RowsValue) (change : Change) → Reaches rows change → (a d : ℕ) → change ≡ ActDelay a d → a < length rows.act_delays
+act_is_reached rows change reaches a d is = let h : Reaches rows (ActDelay a d) = subst (Reaches rows) is reaches in h.0
+
 pub event_is_reached : (rows : RowsValue) (change : Change) → Reaches rows change → (i t : ℕ) → change ≡ Passed i t → i < length rows.passed
 event_is_reached rows change reaches i t is = let h : Reaches rows (Passed i t) = subst (Reaches rows) is reaches in h.0
 
