@@ -9,6 +9,7 @@ use std::fs::{File, OpenOptions, TryLockError};
 use std::io;
 use std::io::{Read as _, Seek as _, SeekFrom, Write as _};
 use std::marker::Model;
+use std::os::unix::fs::MetadataExt as _;
 use std::rt::Files;
 
 /// Why the store of a folder was not opened.
@@ -34,6 +35,13 @@ impl From<io::Error> for OpenError {
     }
 }
 
+/// A file that is held open, and the path that it was opened by.
+#[derive(Drop)]
+struct NamedFile {
+    path: String,
+    file: File,
+}
+
 /// A store over a folder, with its files `lock`, `journal`, and `reply-1.txt` and so on. It keeps the lock as long as it
 /// lives.
 #[derive(Drop)]
@@ -42,8 +50,8 @@ pub struct FileStore<R: Files<File = File> + Drop> {
     alloc: Global,
     path: String,
     folder: File,
-    lock: File,
-    journal: File,
+    lock: NamedFile,
+    journal: NamedFile,
     replies: Vec<File>,
     faults: u64,
 }
@@ -63,6 +71,35 @@ fn open_or_make<R: Files<File = File>>(files: &R, path: &str) -> io::Result<File
     how.write(true);
     how.create(true);
     how.open(files, path)
+}
+
+/// Opens a file to read and to write, and keeps its path.
+fn open_named<R: Files<File = File>>(files: &R, path: String) -> io::Result<NamedFile> {
+    let file = open_or_make(files, &path)?;
+    Ok(NamedFile { path, file })
+}
+
+/// A fault where the path no longer leads to the file: then people no longer see what is written, and the next server would
+/// not find it.
+fn look_for<R: Files<File = File>>(files: &R, named: &NamedFile) -> io::Result<()> {
+    let held = named.file.metadata()?;
+    let found = files.metadata(&named.path)?;
+    if held.dev() == found.dev() && held.ino() == found.ino() {
+        Ok(())
+    } else {
+        Err(io::Error::from(io::ErrorKind::NotFound))
+    }
+}
+
+/// Puts the journal on the disk. A fault where the folder was taken away since it was opened, or its journal.
+fn sync_and_look<R: Files<File = File>>(
+    files: &R,
+    journal: &NamedFile,
+    lock: &NamedFile,
+) -> io::Result<()> {
+    journal.file.sync_data()?;
+    look_for(files, lock)?;
+    look_for(files, journal)
 }
 
 /// Opens a file to append to it, and makes it where it is not there.
@@ -133,15 +170,13 @@ impl<R: Files<File = File> + Drop> FileStore<R> {
         path: String,
         feeds: u32,
     ) -> Result<FileStore<R>, OpenError> {
-        let name = format!(in alloc; "{path}/lock")?;
-        let lock = open_or_make(&files, &name)?;
-        match lock.try_lock() {
+        let lock = open_named(&files, format!(in alloc; "{path}/lock")?)?;
+        match lock.file.try_lock() {
             Ok(()) => {}
             Err(TryLockError::WouldBlock) => return Err(OpenError::Locked),
             Err(TryLockError::Error(_)) => return Err(OpenError::Failed),
         }
-        let name = format!(in alloc; "{path}/journal")?;
-        let journal = open_or_make(&files, &name)?;
+        let journal = open_named(&files, format!(in alloc; "{path}/journal")?)?;
         let mut replies = Vec::new(alloc);
         for feed in 0..feeds {
             let name = reply_path(alloc, &path, feed as usize)?;
@@ -208,7 +243,7 @@ impl<R: Files<File = File> + Drop> Store for FileStore<R> {
     ghost only_now = { λ store image told left. absurd told };
 
     fn read(&mut self, alloc: Global) -> Result<Vec<u8>, StoreError> {
-        match read_whole(alloc, &mut self.journal) {
+        match read_whole(alloc, &mut self.journal.file) {
             Ok(bytes) => Ok(bytes),
             Err(StoreError::OutOfMemory) => Err(StoreError::OutOfMemory),
             Err(_) => Err(self.fault()),
@@ -216,17 +251,17 @@ impl<R: Files<File = File> + Drop> Store for FileStore<R> {
     }
 
     fn write_at(&mut self, at: usize, bytes: &[u8]) -> Result<(), StoreError> {
-        let answer = write_from(&mut self.journal, at, bytes);
+        let answer = write_from(&mut self.journal.file, at, bytes);
         self.told(answer)
     }
 
     fn cut(&mut self, len: usize) -> Result<(), StoreError> {
-        let answer = self.journal.set_len(len as u64);
+        let answer = self.journal.file.set_len(len as u64);
         self.told(answer)
     }
 
     fn sync(&mut self) -> Result<(), StoreError> {
-        let answer = self.journal.sync_data();
+        let answer = sync_and_look(&self.files, &self.journal, &self.lock);
         self.told(answer)
     }
 

@@ -30,8 +30,9 @@
 //! made. A reply file is appended to and never synced, since the journal has its lines; it is put anew by a new file that is
 //! synced and takes its name by a rename, with the folder synced, so that it shows the old text or the new one. It has shown what a
 //! read of it returns; where the power went, that may be less than people saw, and the journal has the rest. One server has
-//! the folder: `flock` on `lock`, which the system lets go where the process ends. A disk that loses what it said was written
-//! is none of these.
+//! the folder: `flock` on `lock`, which the system lets go where the process ends. Each sync looks whether `lock` and `journal`
+//! still are the files that were opened, by device and inode, and fails where they are not: so it is where the folder was moved,
+//! removed or put anew under a running server. A disk that loses what it said was written is none of these.
 #![tactic(auto)]
 
 mod blocks;
