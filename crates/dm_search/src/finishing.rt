@@ -1,5 +1,5 @@
 //! A search that ends with a true plan.
-ghost use Rattle.std.specs.Prelude.{ℕ, ◌≡◌, ◌≤◌, [], IfOk, map, fold};
+ghost use Rattle.std.specs.Prelude.{ℕ, ◌≡◌, ◌+◌, ◌<◌, ◌≤◌, [], IfOk, MatchBool, length, map, fold};
 ghost use Rattle.std.specs.List.{list_any};
 ghost use Rattle.dm_base.specs.declared.limits.TheConstants.{PENALTY, BUDGET};
 ghost use Rattle.dm_evaluate.specs.Evaluator.{IsEvaluatorOf};
@@ -157,25 +157,27 @@ fn standing_at_hole(task: &Task<'_>, own: Cost) -> Result<Standing, AllocError>
     Ok(Standing { nodes, best })
 }
 
-/// A true plan for a task, with an entry, from a tree and choices: what [`finish`] does for any task, by an evaluator of the task
-/// and by what a guide says.
+/// A true plan for a task, with an entry, from a tree and choices that cost so much: what [`finish`] does for any task, by an
+/// evaluator of the task and by what a guide says.
 pub fn finish_with(
     task: &Task<'_>,
     entry: u32,
     partial: Partial,
     best: Vec<Decision>,
+    cost: Cost,
     evaluator: Evaluator,
     guide: &Guide,
 ) -> Result<Plan, AllocError>
     requires posed { IsPosedTask task.now }
     requires start { IsStart (task_of task.now) partial best.items }
+    requires costs { CostsWith (task_of task.now) best.items cost }
     requires evaluator { IsOver (task_of task.now) evaluator }
     ensures plan { IfOk result (IsTruePlan (task_of task.now)) }
     ensures entry { IfOk result (λ plan. plan.entry ≡ entry) }
-    ensures cost { IfOk result (λ plan. (c : ℕ) → CostsWith (task_of task.now) best.items c → plan.cost ≤ c) }
+    ensures cost { IfOk result (λ plan. plan.cost ≤ cost) }
     ensures goes_on { IfOk result (λ plan. GoesOnFrom partial plan.tree) }
 {
-    let standing = standing_at(task, partial, best)?;
+    let standing = standing_with(task, partial, best, cost)?;
     finish_standing(task, entry, standing, evaluator, guide)
 }
 
@@ -193,6 +195,24 @@ fn standing_at(
 {
     task.net.sound();
     let cost = cost_with(task, &best)?;
+    standing_with(task, partial, best, cost)
+}
+
+/// A tree and choices that cost so much.
+fn standing_with(
+    task: &Task<'_>,
+    partial: Partial,
+    best: Vec<Decision>,
+    cost: Cost,
+) -> Result<Standing, AllocError>
+    requires posed { IsPosedTask task.now }
+    requires start { IsStart (task_of task.now) partial best.items }
+    requires costs { CostsWith (task_of task.now) best.items cost }
+    ensures stands { IfOk result (IsStanding (task_of task.now)) }
+    ensures cost { IfOk result (λ s. s.best.cost ≡ cost) }
+    ensures nodes { IfOk result (λ s. s.nodes.items ≡ partial) }
+{
+    task.net.sound();
     let choices = Items::from_vec(best);
     let nodes = Vec::from_slice(task.alloc, partial.as_slice())?;
     let best = Best { choices, cost };
@@ -300,6 +320,9 @@ impl Walker<'_> {
         ensures no_dearer { IfOk result (λ b. b.cost ≤ best.cost) }
         ensures same { self.new ≡ self.old }
     {
+        if path.is_empty() {
+            return Ok(best);
+        }
         for decision in path {
             if !self.make(*decision) {
                 return Ok(best);
@@ -336,7 +359,7 @@ impl Walker<'_> {
         Ok(standing)
     }
 
-    /// Goes through the tree with no limit but the cost of the best choices.
+    /// Goes through the tree with no limit but the cost of the best choices, where there is room for two nodes more.
     fn last_traversal(&mut self, standing: Standing) -> Result<Standing, AllocError>
         requires { IsStanding self.old standing }
         ensures stands { IfOk result (IsStanding self.old) }
@@ -345,6 +368,9 @@ impl Walker<'_> {
         ensures used { IfOk result (λ s. AreUsedUp self.old.budget s.best.cost s.nodes.items) }
     {
         let limit = standing.best.cost;
+        if !has_room(&standing.nodes, self.task.budget) {
+            return Ok(standing);
+        }
         let guide = Guide::new(self.task.alloc);
         let searched = self.traverse(standing, limit, &guide)?;
         Ok(searched)
@@ -389,12 +415,18 @@ fn next_limit(nodes: &[Node], best: Cost, budget: u64) -> Option<Cost> {
         return Some(0);
     }
     let low = least_open(nodes, best);
-    let room = nodes.len() as u128 + 2 <= budget as u128;
-    if low < best && room {
+    if low < best && has_room(nodes, budget) {
         Some(low + (best - low) / 16 + 1)
     } else {
         None
     }
+}
+
+/// Whether a tree of these nodes has room for two more.
+fn has_room(nodes: &[Node], budget: u64) -> bool
+    ensures { MatchBool result (length nodes.now + 2 ≤ budget) (budget < length nodes.now + 2) }
+{
+    nodes.len() as u128 + 2 <= budget as u128
 }
 
 /// The least cost of an open leaf, or that of the best choices where none costs less.

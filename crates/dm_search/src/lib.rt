@@ -16,8 +16,8 @@
 //! choices, and each choice, cycle and bound of the tree stands in the plan's tree at the same path. How it searches the
 //! rest is outside its clauses. `plan` does so from nothing, for rows that have no cycle, and `plan_task` for a task: a true
 //! plan of it, in which every path begins with the task's base and what the base decides stays as it is. `finish_with` is
-//! `finish` of a task, and `plan_with` is `plan_task` where it is known what the rows cost by themselves; both go by what a
-//! guide says, with an evaluator of the task. `whole` gives the task of a whole network.
+//! `finish` of a task where it is known what the choices cost, and `plan_with` is `plan_task` where it is known what the rows
+//! cost by themselves; both go by what a guide says, with an evaluator of the task. `whole` gives the task of a whole network.
 //!
 //! `step_to` says what `step` does of a path behind the base of a task, in the time that an evaluator takes to go there from
 //! where it stands. `step_by` does the same, but branches on the choice that it is hinted at where that one is violated, and

@@ -195,6 +195,7 @@ pub fn plan_of<F: Grown<Path>>(
         entry,
         partial,
         best.choices.into_vec(),
+        best.cost,
         evaluator,
         &left,
     )

@@ -1,17 +1,17 @@
-use Rattle.std.proofs.Common.{ℕ, List, ◌≤◌, subst, arith}
+use Rattle.std.proofs.Common.{◌≡◌, ◌≤◌, ℕ, List, subst, arith}
 use Rattle.std.proofs.lemmas.Result.{IfOk-weaker}
 use Rattle.dm_tree.specs.declared.forms.Node.{Node}
-use Rattle.dm_search.specs.Finish.{GoesOnFrom}
 use Rattle.dm_tree.specs.declared.plans.Plan.{Plan}
+use Rattle.dm_search.specs.Finish.{GoesOnFrom}
 use Rattle.dm_search.proofs.finishing.finish_with.Goals as goal
 
 pub returns-clause-cost : goal.returns-clause-cost
 returns-clause-cost c =
     IfOk-weaker _ _ _
-    (λ (p : Plan) (less : p.cost ≤ c.in_ok-standing.standing.best.cost). λ k costs. within less (c.in_ok-standing.ensures.cost k costs))
+    (λ (p : Plan) (less : p.cost ≤ c.in_ok-standing.standing.best.cost). within less c.in_ok-standing.ensures.cost)
     c.finish_standing.ensures.cost
   where
-    within : {a b d : ℕ} → a ≤ b → b ≤ d → a ≤ d
+    within : {a b d : ℕ} → a ≤ b → b ≡ d → a ≤ d
     within x y = omega (arith, x, y)
 
 pub returns-clause-goes_on : goal.returns-clause-goes_on

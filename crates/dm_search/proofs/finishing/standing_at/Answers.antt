@@ -1,6 +1,9 @@
+use Rattle.std.proofs.Common.{◌≡◌, ◌≤◌, ℕ, arith}
+use Rattle.std.proofs.lemmas.Result.{IfOk-weaker}
+use Rattle.dm_search.specs.declared.searching.Standing.{Standing}
 use Rattle.dm_search.proofs.Beside.{beside_is_task}
 use Rattle.dm_search.proofs.Optimal.{chosen}
-use Rattle.dm_search.proofs.Started.{stands_at_start, no_more}
+use Rattle.dm_search.proofs.Started.{no_more}
 use Rattle.dm_search.proofs.finishing.standing_at.Goals as goal
 
 pub cost_with-requires-clause-list : goal.cost_with-requires-clause-list
@@ -8,10 +11,15 @@ cost_with-requires-clause-list c =
     rw c.deref.ensures.value
     (chosen _ (beside_is_task _ _ _ _ _ c.sound.ensures.network c.requires.posed) _ c.requires.start.choices).0
 
-pub returns-clause-stands : goal.returns-clause-stands
-returns-clause-stands c =
-    rw (c.in_ok-nodes.ensures.items, c.as_slice.ensures.nodes, c.from_vec-choices.ensures)
-    (stands_at_start _ c.sound.ensures.network _ _ _ c.requires.start (rw c.deref.ensures.value at c.in_ok-cost.ensures))
+pub standing_with-requires-clause-costs : goal.standing_with-requires-clause-costs
+standing_with-requires-clause-costs c =
+    record { no_cycle = c.requires.start.no_cycle_with; cost = rw c.deref.ensures.value at c.in_ok-cost.ensures }
 
 pub returns-clause-cost : goal.returns-clause-cost
-returns-clause-cost c = λ k costs. no_more _ _ _ _ _ (rw c.deref.ensures.value at c.in_ok-cost.ensures) costs.cost
+returns-clause-cost c =
+    IfOk-weaker _ _ _
+    (λ (s : Standing) (is : s.best.cost ≡ c.in_ok-cost.cost). λ k costs.
+    within is (no_more _ _ _ _ _ (rw c.deref.ensures.value at c.in_ok-cost.ensures) costs.cost)) c.standing_with.ensures.cost
+  where
+    within : {a b d : ℕ} → a ≡ b → b ≤ d → a ≤ d
+    within x y = omega (arith, x, y)
