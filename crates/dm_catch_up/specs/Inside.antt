@@ -1,0 +1,2 @@
+-- How far a feed is as it was answered.
+pub mod Comparing
