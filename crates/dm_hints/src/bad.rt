@@ -8,21 +8,42 @@ use std::fs::File;
 use std::io;
 use std::rt::Files;
 
+/// What each kind of a bad record means.
+const MEANINGS: [(&str, &str); 9] = [
+    ("form", "the line has not the form that must stand there"),
+    ("truncated", "the text ends before this line is whole"),
+    (
+        "entry",
+        "the entry is not the next one, or its message is refused by the rows before it",
+    ),
+    (
+        "reply",
+        "the answer is not the one that the rows at its entry give",
+    ),
+    (
+        "plan",
+        "the plan, or its tree, is not true of the rows at its entry",
+    ),
+    ("unnamed", "some entry is named by no `ok` of a log"),
+    (
+        "board",
+        "the note of a board is out of order or of no board",
+    ),
+    (
+        "time",
+        "the time is not that of the least timetable after all entries",
+    ),
+    ("cost", "the cost is not that of the rows after all entries"),
+];
+
 /// What a kind of a bad record means.
-fn meaning(kind: &[u8]) -> &'static str {
-    match kind {
-        b"form" => "the line has not the form that must stand there",
-        b"truncated" => "the text ends before this line is whole",
-        b"entry" =>
-            "the entry is not the next one, or its message is refused by the rows before it",
-        b"reply" => "the answer is not the one that the rows at its entry give",
-        b"plan" => "the plan, or its tree, is not true of the rows at its entry",
-        b"unnamed" => "some entry is named by no `ok` of a log",
-        b"board" => "the note of a board is out of order or of no board",
-        b"time" => "the time is not that of the least timetable after all entries",
-        b"cost" => "the cost is not that of the rows after all entries",
-        _ => "the record breaks its rule",
+pub fn meaning_of(kind: &[u8]) -> &'static str {
+    for (word, means) in &MEANINGS {
+        if is_same(kind, word) {
+            return *means;
+        }
     }
+    "the record breaks its rule"
 }
 
 /// Says what `bad LINE KIND` means, and what to look at first.
@@ -36,7 +57,7 @@ pub fn tell_bad<R: Eprint + Files<File = File>>(
         return Ok(());
     };
     let kind = word_at(verdict, 2);
-    let means = meaning(kind);
+    let means = meaning_of(kind);
     say_at(rt, name, line, &[Piece::Text(means)])?;
     if is_same(kind, "form") {
         return tell_form(rt, files.penalty, name, line);

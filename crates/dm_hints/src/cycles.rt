@@ -1,13 +1,12 @@
 //! Why events and activities make no network.
-use crate::files::path_of;
+use crate::files::{ReadFile, read_again};
 use crate::records::number_of_record;
 use crate::saying::{say, say_at, say_text};
-use dm_base::limits::FILE;
-use dm_base::{ActId, ActRow};
-use dm_input::{File as InputFile, take_name};
+use dm_base::{ActId, ActRow, EventRow};
+use dm_input::File as InputFile;
 use dm_lintim::{read_activities, read_events};
 use dm_network::NetFault;
-use dm_outside::{FolderShelf, Piece};
+use dm_outside::Piece;
 use dm_words::FileWords;
 use std::fs::File;
 use std::io;
@@ -30,25 +29,30 @@ pub fn tell_network<R: Eprint + Files<File = File> + AllocGlobal>(
         NetFault::DoubleEvent(id) => tell_double_event(rt, files, id.0),
         NetFault::DoubleActivity(id) => tell_double_activity(rt, files, *id),
         NetFault::UnknownEvent(id) => {
-            say_text(
-                rt,
-                "an activity runs from or to an event that the events file has not:",
-            )?;
-            tell_activities(rt, files, &[*id])
+            let what = "an activity runs from or to an event that the events file has not:";
+            tell_with(rt, files, what, &[*id])
         }
         NetFault::ZeroHeadway(id) => {
-            say_text(rt, "the lower bound of a headway is at least 1:")?;
-            tell_activities(rt, files, &[*id])
+            let what = "the lower bound of a headway is at least 1:";
+            tell_with(rt, files, what, &[*id])
         }
         NetFault::Cycle(ids) => {
-            say_text(
-                rt,
-                "each of these waits for the one before it, and the first for the last:",
-            )?;
-            tell_activities(rt, files, ids.as_slice())
+            let what = "each of these waits for the one before it, and the first for the last:";
+            tell_with(rt, files, what, ids.as_slice())
         }
         NetFault::OutOfMemory => Ok(()),
     }
+}
+
+/// Says what is wrong with activities, and which they are.
+fn tell_with<R: Eprint + Files<File = File> + AllocGlobal>(
+    rt: &R,
+    files: &FileWords<'_>,
+    what: &str,
+    ids: &[ActId],
+) -> io::Result<()> {
+    say_text(rt, what)?;
+    tell_activities(rt, files, ids)
 }
 
 /// Says which activities have one id.
@@ -75,29 +79,25 @@ fn tell_double_event<R: Eprint + Files<File = File> + AllocGlobal>(
     files: &FileWords<'_>,
     id: u32,
 ) -> io::Result<()> {
-    let Some(path) = path_of(rt.alloc(), files, InputFile::Events) else {
+    let Some(file) = read_again(rt, files, InputFile::Events) else {
         return Ok(());
     };
-    let path = path.as_str();
-    let mut shelf = FolderShelf::new(rt);
-    let Ok(bytes) = take_name(rt.alloc(), &mut shelf, path, FILE) else {
-        return Ok(());
-    };
-    let Ok(rows) = read_events(rt.alloc(), bytes.as_slice(), &files.columns) else {
-        return Ok(());
-    };
-    for (place, row) in rows.as_slice().iter().enumerate() {
+    match read_events(rt.alloc(), file.bytes(), &files.columns) {
+        Ok(rows) => tell_events(rt, &file, rows.as_slice(), id),
+        Err(_) => Ok(()),
+    }
+}
+
+/// Says the line of each event of an id.
+fn tell_events<R: Eprint>(rt: &R, file: &ReadFile, rows: &[EventRow], id: u32) -> io::Result<()> {
+    for (place, row) in rows.iter().enumerate() {
         if row.id.0 == id {
-            let line = number_of_record(bytes.as_slice(), place.saturating_add(1));
-            say_at(
-                rt,
-                path,
-                line,
-                &[
-                    Piece::Text("an event has the id "),
-                    Piece::Number(id as u128),
-                ],
-            )?;
+            let line = number_of_record(file.bytes(), place.saturating_add(1));
+            let pieces = [
+                Piece::Text("an event has the id "),
+                Piece::Number(id as u128),
+            ];
+            say_at(rt, file.path(), line, &pieces)?;
         }
     }
     Ok(())
@@ -109,19 +109,19 @@ fn tell_activities<R: Eprint + Files<File = File> + AllocGlobal>(
     files: &FileWords<'_>,
     ids: &[ActId],
 ) -> io::Result<()> {
-    let Some(path) = path_of(rt.alloc(), files, InputFile::Activities) else {
+    let Some(file) = read_again(rt, files, InputFile::Activities) else {
         return Ok(());
     };
-    let path = path.as_str();
-    let mut shelf = FolderShelf::new(rt);
-    let Ok(bytes) = take_name(rt.alloc(), &mut shelf, path, FILE) else {
-        return Ok(());
-    };
-    let Ok(rows) = read_activities(rt.alloc(), bytes.as_slice(), &files.columns) else {
-        return Ok(());
-    };
+    match read_activities(rt.alloc(), file.bytes(), &files.columns) {
+        Ok(rows) => tell_each(rt, &file, rows.as_slice(), ids),
+        Err(_) => Ok(()),
+    }
+}
+
+/// Says the activities of the first ids.
+fn tell_each<R: Eprint>(rt: &R, file: &ReadFile, rows: &[ActRow], ids: &[ActId]) -> io::Result<()> {
     for id in ids.iter().take(TOLD) {
-        tell_activity(rt, path, bytes.as_slice(), rows.as_slice(), *id)?;
+        tell_activity(rt, file.path(), file.bytes(), rows, *id)?;
     }
     Ok(())
 }

@@ -1,10 +1,10 @@
 //! What is amiss in the feeds of a run.
-use crate::files::{is_plain, path_of, tell_reason};
+use crate::files::{is_plain, read_again, tell_reason};
 use crate::hearing::{FeedHeard, Heard, REASONS, Stop, TOLD};
 use crate::saying::{say, say_at};
 use crate::text::{cut, has, has_capital, line_at, shown};
 use dm_base::EventRow;
-use dm_base::limits::{FEED, FILE, LINE};
+use dm_base::limits::{FEED, LINE};
 use dm_input::{File as InputFile, take_name};
 use dm_lintim::read_events;
 use dm_outside::{FolderShelf, Piece};
@@ -76,14 +76,23 @@ fn tell_feed<R: Eprint + Files<File = File> + AllocGlobal>(
             Piece::Number(count as u128),
         ],
     )?;
+    tell_malformed(rt, name, feed)
+}
+
+/// Says the first malformed lines of a feed, where it can be read again, or else their numbers.
+fn tell_malformed<R: Eprint + Files<File = File> + AllocGlobal>(
+    rt: &R,
+    name: &str,
+    feed: &FeedHeard,
+) -> io::Result<()> {
     if !is_plain(rt, name) {
         return tell_numbers(rt, name, feed);
     }
     let mut shelf = FolderShelf::new(rt);
-    let Ok(bytes) = take_name(rt.alloc(), &mut shelf, name, FEED) else {
-        return tell_numbers(rt, name, feed);
-    };
-    tell_lines(rt, name, feed, bytes.as_slice())
+    match take_name(rt.alloc(), &mut shelf, name, FEED) {
+        Ok(bytes) => tell_lines(rt, name, feed, bytes.as_slice()),
+        Err(_) => tell_numbers(rt, name, feed),
+    }
 }
 
 /// Says how a feed ended, where it did not end well.
@@ -227,26 +236,25 @@ fn tell_boards<R: Eprint + Files<File = File> + AllocGlobal>(
     if stops.is_empty() {
         return Ok(());
     }
-    let Some(path) = path_of(rt.alloc(), files, InputFile::Events) else {
+    let Some(file) = read_again(rt, files, InputFile::Events) else {
         return Ok(());
     };
-    let mut shelf = FolderShelf::new(rt);
-    let Ok(bytes) = take_name(rt.alloc(), &mut shelf, path.as_str(), FILE) else {
-        return Ok(());
-    };
-    let Ok(rows) = read_events(rt.alloc(), bytes.as_slice(), &files.columns) else {
-        return Ok(());
-    };
+    match read_events(rt.alloc(), file.bytes(), &files.columns) {
+        Ok(rows) => tell_stops(rt, rows.as_slice(), stops),
+        Err(_) => Ok(()),
+    }
+}
+
+/// Says which of these stops have no event.
+fn tell_stops<R: Eprint>(rt: &R, rows: &[EventRow], stops: &[u32]) -> io::Result<()> {
     for stop in stops {
-        if !has_event(rows.as_slice(), *stop) {
-            say(
-                rt,
-                &[
-                    Piece::Text("no event has the stop "),
-                    Piece::Number(*stop as u128),
-                    Piece::Text(", so its board shows nothing"),
-                ],
-            )?;
+        if !has_event(rows, *stop) {
+            let pieces = [
+                Piece::Text("no event has the stop "),
+                Piece::Number(*stop as u128),
+                Piece::Text(", so its board shows nothing"),
+            ];
+            say(rt, &pieces)?;
         }
     }
     Ok(())

@@ -1,7 +1,11 @@
 //! The files that words name.
+ghost use Rattle.std.specs.Prelude.{◌≤◌, length};
+ghost use Rattle.dm_base.specs.declared.limits.TheConstants.{FILE};
+
 use crate::saying::say;
 use crate::tables::{ACTIVITY_WORDS, EVENT_WORDS};
-use dm_input::File as InputFile;
+use dm_base::limits::FILE;
+use dm_input::{File as InputFile, take_name};
 use dm_outside::{FolderShelf, Piece, Shelf, Source};
 use dm_words::FileWords;
 use std::alloc::Global;
@@ -83,6 +87,47 @@ pub fn path_of(alloc: Global, files: &FileWords<'_>, file: InputFile) -> Option<
     let folder = files.folder;
     let name = name_in_folder(files, file);
     format!(in alloc; "{folder}/{name}").ok()
+}
+
+/// A file of the folder that is read again.
+pub struct ReadFile {
+    path: String,
+    bytes: Vec<u8>,
+    ghost short: { length bytes.items ≤ FILE },
+}
+
+impl Drop for ReadFile {
+    fn drop(self) {
+        let ReadFile { path: _, bytes: _ } = self;
+    }
+}
+
+impl ReadFile {
+    /// Its name, as it is opened.
+    pub fn path(&self) -> &str {
+        self.path.as_str()
+    }
+
+    /// What stands in it.
+    pub fn bytes(&self) -> &[u8]
+        ensures { length result.now ≤ FILE }
+    {
+        self.bytes.as_slice()
+    }
+}
+
+/// Reads a file of the folder, where it can be read and there is memory for it.
+pub fn read_again<R: Files<File = File> + AllocGlobal>(
+    rt: &R,
+    files: &FileWords<'_>,
+    file: InputFile,
+) -> Option<ReadFile> {
+    let path = path_of(rt.alloc(), files, file)?;
+    let mut shelf = FolderShelf::new(rt);
+    match take_name(rt.alloc(), &mut shelf, path.as_str(), FILE) {
+        Ok(bytes) => Some(ReadFile { path, bytes }),
+        Err(_) => None,
+    }
 }
 
 /// The column words of a file.

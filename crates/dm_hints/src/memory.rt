@@ -3,7 +3,7 @@ use crate::files::{path_of, size_of_file};
 use crate::saying::{say, say_text};
 use dm_input::File as InputFile;
 use dm_outside::Piece;
-use dm_words::{CommandWords, FileWords, Names};
+use dm_words::{CommandWords, FileWords, Names, RunWords};
 use std::fs::File;
 use std::io;
 use std::rt::Files;
@@ -14,9 +14,7 @@ pub fn tell_memory<R: Eprint + Files<File = File> + AllocGlobal>(
     asked: &CommandWords<'_>,
 ) -> io::Result<()> {
     let bytes = match asked {
-        CommandWords::Run(run) => {
-            folder_bytes(rt, &run.files).saturating_add(feed_bytes(rt, run.feeds))
-        }
+        CommandWords::Run(run) => bytes_of_run(rt, run),
         CommandWords::Check(check) => {
             folder_bytes(rt, &check.files).saturating_add(size_of_file(rt, check.text))
         }
@@ -28,6 +26,16 @@ pub fn tell_memory<R: Eprint + Files<File = File> + AllocGlobal>(
             "there is not enough memory for so many trains",
         ),
     };
+    say_memory(rt, bytes)
+}
+
+/// How many bytes the files of a run and its feeds have.
+pub fn bytes_of_run<R: Files<File = File> + AllocGlobal>(rt: &R, run: &RunWords<'_>) -> u64 {
+    folder_bytes(rt, &run.files).saturating_add(feed_bytes(rt, run.feeds))
+}
+
+/// Says that there is not enough memory for files of so many bytes.
+pub fn say_memory<R: Eprint>(rt: &R, bytes: u64) -> io::Result<()> {
     say(
         rt,
         &[

@@ -225,35 +225,60 @@ fn tell_start<R: Eprint + AllocGlobal>(
 ) -> io::Result<()> {
     match fault {
         StartFault::UnknownEvent(id) => {
-            let Some(path) = path_of(rt.alloc(), files, InputFile::EventDelays) else {
-                return Ok(());
-            };
-            let (path, id) = (path.as_str(), id.0);
-            say(
+            let rest = ", and the events file has no such event";
+            tell_delay(
                 rt,
-                &[
-                    Piece::Text(path),
-                    Piece::Text(" has a delay of event "),
-                    Piece::Number(id as u128),
-                    Piece::Text(", and the events file has no such event"),
-                ],
+                files,
+                InputFile::EventDelays,
+                " has a delay of event ",
+                id.0,
+                rest,
             )
         }
         StartFault::UnknownActivity(id) => {
-            let Some(path) = path_of(rt.alloc(), files, InputFile::ActivityDelays) else {
-                return Ok(());
-            };
-            let (path, id) = (path.as_str(), id.0);
-            say(
+            let rest = ", and the activities file has no such activity";
+            tell_delay(
                 rt,
-                &[
-                    Piece::Text(path),
-                    Piece::Text(" has a delay of activity "),
-                    Piece::Number(id as u128),
-                    Piece::Text(", and the activities file has no such activity"),
-                ],
+                files,
+                InputFile::ActivityDelays,
+                " has a delay of activity ",
+                id.0,
+                rest,
             )
         }
         StartFault::OutOfMemory => Ok(()),
     }
+}
+
+/// Says of a file of delays what it has a delay of.
+fn tell_delay<R: Eprint + AllocGlobal>(
+    rt: &R,
+    files: &FileWords<'_>,
+    file: InputFile,
+    what: &str,
+    id: u32,
+    rest: &str,
+) -> io::Result<()> {
+    match path_of(rt.alloc(), files, file) {
+        Some(path) => say_delay(rt, path.as_str(), what, id, rest),
+        None => Ok(()),
+    }
+}
+
+fn say_delay<'a, R: Eprint>(
+    rt: &R,
+    path: &'a str,
+    what: &'a str,
+    id: u32,
+    rest: &'a str,
+) -> io::Result<()> {
+    say(
+        rt,
+        &[
+            Piece::Text(path),
+            Piece::Text(what),
+            Piece::Number(id as u128),
+            Piece::Text(rest),
+        ],
+    )
 }

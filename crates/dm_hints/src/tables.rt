@@ -42,7 +42,7 @@ pub const ACTIVITY_WORDS: &str = "id,periodic-id,type,tail,head,lower,upper,weig
 
 const PENALTY: u32 = 1;
 
-const BATCH: u32 = 2;
+pub const BATCH: u32 = 2;
 
 const BOARDS: u32 = 4;
 
@@ -74,12 +74,26 @@ const FILES: u32 = PENALTY
     + ACTIVITY_DELAYS;
 
 /// All commands.
-pub const COMMANDS: [CommandTable; 7] = [
+pub const COMMANDS: [CommandTable; 9] = [
     CommandTable {
         name: "run",
         form: "run DIR FEED..",
         least: 2,
         most: 65,
+        options: FILES + BATCH + WORKERS + BOARDS,
+    },
+    CommandTable {
+        name: "serve",
+        form: "serve DIR STORE FEED..",
+        least: 3,
+        most: 66,
+        options: FILES + BATCH + WORKERS + BOARDS,
+    },
+    CommandTable {
+        name: "text",
+        form: "text DIR STORE FEED..",
+        least: 3,
+        most: 66,
         options: FILES + BATCH + WORKERS + BOARDS,
     },
     CommandTable {
@@ -153,7 +167,7 @@ pub const OPTIONS: [OptionTable; 13] = [
         least: 1,
         most: 1_000_000,
         has_number: true,
-        meaning: "lines of each feed that are answered in a round (16)",
+        meaning: "lines of each feed that are answered in a round (16; of a server 1000)",
     },
     OptionTable {
         bit: BOARDS,

@@ -41,7 +41,7 @@ pub fn tell<R: Eprint + Files<File = File> + AllocGlobal, K: Sink>(
 }
 
 /// Says what is wrong with words that ask for nothing, or all that may be asked for.
-fn tell_words<R: Eprint>(rt: &R, words: &[String]) -> io::Result<()> {
+pub(crate) fn tell_words<R: Eprint>(rt: &R, words: &[String]) -> io::Result<()> {
     if asks_help(words) {
         return tell_help(rt);
     }

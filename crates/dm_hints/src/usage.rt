@@ -2,12 +2,28 @@
 use crate::files::value_or;
 use crate::saying::{say, say_text, say_word};
 use crate::tables::{
-    ACTIVITY_WORDS, CommandTable, EVENT_WORDS, OPTIONS, OptionTable, command_of, option_of,
+    ACTIVITY_WORDS, BATCH, CommandTable, EVENT_WORDS, OPTIONS, OptionTable, command_of, option_of,
 };
 use crate::text::{number, part_at, shown};
 use dm_lintim::{ColumnFault, Columns};
 use dm_outside::Piece;
 use std::io;
+
+/// What the numbers of each command are to be.
+const WANTED: [(&str, &str); 3] = [
+    (
+        "window",
+        "window takes two times, FROM and TO, of 0 to 1000000000 seconds, TO no earlier than FROM, and a BUDGET of 1 to 16384 nodes",
+    ),
+    (
+        "rules",
+        "rules takes a RULE, never, always or 0 to 1000000 seconds, and a BUDGET of 1 to 16384 nodes",
+    ),
+    (
+        "journey",
+        "journey takes two stops, FROM and TO, of 0 to 4294967295, and a time AFTER of 0 to 2000000000 seconds",
+    ),
+];
 
 /// Says the first thing that is wrong with the words.
 pub fn tell_usage<R: Eprint>(rt: &R, words: &[String]) -> io::Result<()> {
@@ -23,7 +39,7 @@ pub fn tell_usage<R: Eprint>(rt: &R, words: &[String]) -> io::Result<()> {
                 Piece::Text("\""),
                 Piece::Text(name),
                 Piece::Text(
-                    "\" is no command; commands are run, check, gen, follow, window, rules and journey",
+                    "\" is no command; commands are run, serve, text, check, gen, follow, window, rules and journey",
                 ),
             ],
         );
@@ -182,6 +198,11 @@ fn tell_value<R: Eprint>(
     )
 }
 
+/// Whether the names of a command end with those of feeds.
+fn has_feeds(table: CommandTable) -> bool {
+    table.options & BATCH != 0
+}
+
 /// Says what is wrong with the names, where it is their number, or else with the lists.
 fn tell_names<R: Eprint>(rt: &R, table: CommandTable, words: &[String]) -> io::Result<()> {
     let names = words
@@ -192,8 +213,8 @@ fn tell_names<R: Eprint>(rt: &R, table: CommandTable, words: &[String]) -> io::R
     if names < table.least {
         return say(rt, &[Piece::Text("names are missing: "), Piece::Text(form)]);
     }
-    if names > table.most && table.name == "run" {
-        let feeds = names.saturating_sub(1);
+    if names > table.most && has_feeds(table) {
+        let feeds = names.saturating_sub(table.least).saturating_add(1);
         return say(
             rt,
             &[
@@ -232,34 +253,20 @@ fn tell_lists<R: Eprint>(rt: &R, table: CommandTable, words: &[String]) -> io::R
     if let Err(fault) = Columns::read(EVENT_WORDS, activities) {
         return tell_columns(rt, "--activity-columns", ACTIVITY_WORDS, activities, fault);
     }
-    if table.name == "window" && !value_or("--held=", words, "").is_empty() {
-        return say_text(
-            rt,
-            "window takes two times, FROM and TO, of 0 to 1000000000 seconds, TO no earlier than FROM, and a BUDGET of 1 to 16384 nodes; --held takes 1 to 4096 different numbers of activities, as --held=5,6",
-        );
+    say_text(rt, wanted(table.name, words))
+}
+
+/// What the numbers of a command, or else the boards of a run, are to be.
+fn wanted(command: &str, words: &[String]) -> &'static str {
+    if command == "window" && !value_or("--held=", words, "").is_empty() {
+        return "window takes two times, FROM and TO, of 0 to 1000000000 seconds, TO no earlier than FROM, and a BUDGET of 1 to 16384 nodes; --held takes 1 to 4096 different numbers of activities, as --held=5,6";
     }
-    if table.name == "window" {
-        return say_text(
-            rt,
-            "window takes two times, FROM and TO, of 0 to 1000000000 seconds, TO no earlier than FROM, and a BUDGET of 1 to 16384 nodes",
-        );
+    for (name, numbers) in &WANTED {
+        if command == *name {
+            return *numbers;
+        }
     }
-    if table.name == "rules" {
-        return say_text(
-            rt,
-            "rules takes a RULE, never, always or 0 to 1000000 seconds, and a BUDGET of 1 to 16384 nodes",
-        );
-    }
-    if table.name == "journey" {
-        return say_text(
-            rt,
-            "journey takes two stops, FROM and TO, of 0 to 4294967295, and a time AFTER of 0 to 2000000000 seconds",
-        );
-    }
-    say_text(
-        rt,
-        "--boards takes 1 to 64 different numbers of stops, as --boards=4,2",
-    )
+    "--boards takes 1 to 64 different numbers of stops, as --boards=4,2"
 }
 
 /// Says what is wrong with the column words of an option.
