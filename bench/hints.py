@@ -97,7 +97,7 @@ USAGE = [
     Case('no word', [], 2, PAGE),
     Case('help', ['--help'], 2, PAGE),
     Case('short help', ['-h'], 2, PAGE),
-    Case('unknown command', ['runs', 'net', 'f'], 2, ['word 1: "runs" is no command; commands are run, check, gen, follow, window, rules and journey', LIST]),
+    Case('unknown command', ['runs', 'net', 'f'], 2, ['word 1: "runs" is no command; commands are run, serve, text, check, gen, follow, window, rules and journey', LIST]),
     Case('no value', ['run', 'net', '--penalty', 'f'], 2, ['word 3: "--penalty" wants a value, as --penalty=3600', LIST]),
     Case('empty value', [*RUN, '--batch='], 2, ['word 4: --batch wants a value, as --batch=16', LIST]),
     Case('number too small', [*RUN, '--batch=0'], 2, ['word 4: --batch takes 1 to 1000000', LIST]),
