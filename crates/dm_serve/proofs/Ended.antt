@@ -1,0 +1,126 @@
+-- The end of a day: a round stopped it, or its run was printed.
+use Rattle.std.proofs.Common.{◌≡◌, ◌≢◌, ℕ, ◌≤◌, ◌<◌, ◌^◌, inl, inr, List, length, map, Option, Result, Ok, Err, refl, sym, subst, ◌∙◌, arith}
+use Rattle.std.specs.Prelude.{IfOk, codes}
+use Rattle.std.specs.Borrow.{Bor}
+use Rattle.std.specs.declared.alloc.AllocError.{AllocError}
+use Rattle.dm_base.specs.declared.limits.TheConstants.{BUDGET, FEEDS}
+use Rattle.dm_rows.specs.Active.{HasNoCycle}
+use Rattle.dm_rows.specs.Rows.{IsSized}
+use Rattle.dm_rows.specs.declared.rows.Snapshot.{Snapshot}
+use Rattle.dm_tree.specs.declared.plans.Plan.{Plan}
+use Rattle.dm_tree.specs.Plans.{IsTruePlan, whole_task}
+use Rattle.dm_desk.specs.Planning.{PlansFor, PlansUnder}
+use Rattle.dm_network.specs.Net.{Net}
+use Rattle.dm_cert.specs.declared.notes.Note.{Note}
+use Rattle.dm_cert.specs.Answers.{Setting}
+use Rattle.dm_cert.specs.RunTexts.{FitsRun, run_text}
+use Rattle.dm_store.specs.Calls.{Image}
+use Rattle.dm_store.specs.declared.journal.Journal.{Journal}
+use Rattle.dm_table.specs.Value.{TableValue}
+use Rattle.dm_table_desk.specs.Tables.{setting_of}
+use Rattle.dm_tail.specs.declared.tail.Tail.{Tail}
+use Rattle.dm_tail.specs.declared.watched.Watched.{Watched}
+use Rattle.dm_watch.specs.declared.round.Watch.{Watch}
+use Rattle.dm_watch.specs.declared.stops.RoundStop.{RoundStop}
+use Rattle.dm_watch.specs.declared.stops.RoundStop.TheVariants as round
+use Rattle.dm_serve.specs.declared.ending.DayEnd.{DayEnd}
+use Rattle.dm_store_text.specs.declared.status.Status.{Status}
+use Rattle.dm_store_text.specs.declared.status.Status.TheVariants.{Ok as Well, Refused, WriteFault, NoMemory}
+use Rattle.dm_store_text.specs.Lines.{store_line}
+use Rattle.dm_serve.specs.Served.{IsDayOf}
+use Rattle.dm_serve.specs.Ends.{Ends, IsDueOver}
+use Rattle.dm_serve.specs.Inside.Stages.{EndsDay, EndsRound, HasGoneSince, StopsGoing, log_in, tail_in}
+use Rattle.dm_store_text.specs.Written.{run_in}
+use Rattle.dm_serve.proofs.Closing.{ends_as, ends_failed, ends_wanting, refused_is_no_fault, refused_is_no_want}
+use Rattle.dm_serve.proofs.Gone.{risen_since}
+
+well_is_no_fault : Well ≢ WriteFault
+well_is_no_fault e = cc
+
+well_is_no_want : Well ≢ NoMemory
+well_is_no_want e = cc
+
+module _ {K S T : Type 0} (taken : K → Option (List ℕ)) (sink_faults : K → ℕ) (tells : S → Type 0) (seen : S → List ℕ) (shown : S → List (List ℕ)) (may_leave : S → Image → Type 0) (moment : S → ℕ) (left_since : S → ℕ → Image → Type 0)
+    (store_faults : S → ℕ) (given : T → Option (List ℕ)) (faults : T → ℕ) (up : Net → List ℕ → List Note → Type 0) (names : List (List ℕ)) (store : List ℕ) (s : Setting) (feeds : List (Option T)) (before now : K) (start new : Journal S) where
+  abbrev Due : List (Tail T) → Status → List ℕ → Type 0
+  Due tails status text = IsDueOver tells seen shown may_leave store_faults given faults up names store feeds tails start new status s text
+
+  -- there was no memory, and nothing was written
+  pub ends_wanting_so : (tails : List (Tail T)) (status : Status) → now ≡ before → status ≡ NoMemory → Ends taken sink_faults store_faults faults (Due tails) before now start new status
+  ends_wanting_so tails status same is = ends_wanting taken sink_faults store_faults faults (Due tails) before now start new status same is
+
+  -- a round stopped it
+  pub ends_round : (watch : Watch T) (old : Journal S) → setting_of watch.desk.plans watch.desk.table ≡ s → store_faults start.store ≤ store_faults old.store
+      → HasGoneSince tells seen shown may_leave moment left_since s (length names) watch start.store old → (tails : List (Tail T)) (result : Status) (stopped : RoundStop)
+      → StopsGoing tells seen shown may_leave moment left_since given store_faults faults watch old new stopped → EndsRound taken sink_faults stopped before now result
+      → Ends taken sink_faults store_faults faults (Due tails) before now start new result
+  ends_round watch old setting low since tails result round.OutOfMemory stops h = ends_wanting taken sink_faults store_faults faults (Due tails) before now start new result h.0 h.1
+  ends_round watch old setting low since tails result (round.Unsynced number) stops h = ends_failed taken sink_faults store_faults faults (Due tails) before now start new result h.0 h.1 (inr stops)
+  ends_round watch old setting low since tails result round.Failed stops h =
+      ends_failed taken sink_faults store_faults faults (Due tails) before now start new result h.0 h.1
+      (inl (risen_since (store_faults start.store) (store_faults old.store) (store_faults new.store) low stops))
+  ends_round watch old setting low since tails result round.Full stops h =
+      ends_as taken sink_faults store_faults faults (Due tails) before now start new Refused (store_line (codes "full")) result refused_is_no_fault refused_is_no_want
+      (inr (inr (inr (record { cause = λ contents first t. stops s first start.store setting (since contents first t); line = refl })))) h
+
+  pub ends_round_so : (watch : Watch T) (old : Journal S) → setting_of watch.desk.plans watch.desk.table ≡ s → store_faults start.store ≤ store_faults old.store
+      → HasGoneSince tells seen shown may_leave moment left_since s (length names) watch start.store old → (tails : List (Tail T)) (result : Status) (stopped : RoundStop)
+      → StopsGoing tells seen shown may_leave moment left_since given store_faults faults watch old new stopped → EndsRound taken sink_faults stopped before now result
+      → (status : Status) → status ≡ result → Ends taken sink_faults store_faults faults (Due tails) before now start new status
+  ends_round_so watch old setting low since tails result stopped stops h status is =
+      subst (Ends taken sink_faults store_faults faults (Due tails) before now start new) (sym is) (ends_round watch old setting low since tails result stopped stops h)
+
+  -- its run was printed, or there was no memory for that
+  pub ends_day : (table : TableValue) (watched : List (Watched T)) (notes : List Note) (end : DayEnd T)
+      → (end.tails.items ≡ map tail_in watched → FitsRun (run_in table (map log_in watched) notes)
+      → IsDayOf tells seen shown may_leave given up s (length names) end.tails.items start new (run_text 2 (run_in table (map log_in watched) notes)))
+      → EndsDay taken sink_faults table watched notes before now end → Ends taken sink_faults store_faults faults (Due end.tails.items) before now start new end.status
+  ends_day table watched notes end day h =
+      elim h [
+        | inl none ↦ ends_wanting taken sink_faults store_faults faults (Due end.tails.items) before now start new end.status none.0 none.1
+        | inr printed ↦
+            ends_as taken sink_faults store_faults faults (Due end.tails.items) before now start new Well (run_text 2 (run_in table (map log_in watched) notes)) end.status well_is_no_fault well_is_no_want
+            (day printed.0 printed.1) printed.2
+      ]
+
+-- ---- where a round stops it, it was not told to end
+
+module _ {K : Type 0} (taken : K → Option (List ℕ)) (faults : K → ℕ) (before now : K) where
+  not_well : (stopped : RoundStop) (result : Status) → EndsRound taken faults stopped before now result → result ≡ Well → ⊥
+  not_well round.OutOfMemory result h well = cc h.1
+  not_well (round.Unsynced number) result h well = cc h.1
+  not_well round.Failed result h well = cc h.1
+  not_well round.Full result h well = elim h [ inl whole ↦ cc whole.0 | inr part ↦ cc part.0 ]
+
+  pub not_told : (stopped : RoundStop) (result status : Status) → EndsRound taken faults stopped before now result → status ≡ result → status ≡ Well → ⊥
+  not_told stopped result status h is well = not_well stopped result h (sym is ∙ well)
+
+-- ---- the planner of a server
+
+plans_for : (net : Net) (penalty : ℕ) (setting : Setting) → setting.net ≡ net → setting.penalty ≡ penalty → (snapshot : Snapshot) (budget : ℕ) (given : Result Plan AllocError)
+    → IfOk given (λ plan. (plan.entry ≡ snapshot.entry) × IsTruePlan (whole_task net snapshot.rows penalty budget) plan) → IfOk given (PlansFor setting snapshot budget)
+plans_for net penalty setting same_net same_penalty snapshot budget (Err e) h = tt
+plans_for net penalty setting same_net same_penalty snapshot budget (Ok plan) h = record {
+  entry = h.0;
+  is_true =
+      subst (λ (n : Net). IsTruePlan (whole_task n snapshot.rows setting.penalty budget) plan) (sym same_net)
+      (subst (λ (p : ℕ). IsTruePlan (whole_task net snapshot.rows p budget) plan) (sym same_penalty) h.1);
+}
+
+-- a planner for a network and a penalty is one for what answers go by
+pub plans_under : (pre : Bor Snapshot → ℕ → Type 0) (post : Bor Snapshot → ℕ → Result Plan AllocError → Type 0) (net : Net) (penalty : ℕ) (setting : Setting) → setting.net ≡ net → setting.penalty ≡ penalty → setting.version ≡ 2
+    → ((snapshot : Bor Snapshot) (budget : ℕ) → IsSized net snapshot.now.rows → HasNoCycle net snapshot.now.rows → 1 ≤ budget → budget ≤ BUDGET → pre snapshot budget)
+    → ((snapshot : Bor Snapshot) (budget : ℕ) (given : Result Plan AllocError) → post snapshot budget given
+    → IfOk given (λ plan. (plan.entry ≡ snapshot.now.entry) × IsTruePlan (whole_task net snapshot.now.rows penalty budget) plan))
+    → PlansUnder pre post setting
+plans_under pre post net penalty setting same_net same_penalty version may gives = record {
+  may_ask = λ snapshot budget sized no_cycle some few.
+      may snapshot budget (subst (λ (n : Net). IsSized n snapshot.now.rows) same_net sized) (subst (λ (n : Net). HasNoCycle n snapshot.now.rows) same_net no_cycle) some few;
+  gives = λ snapshot budget given plans. plans_for net penalty setting same_net same_penalty snapshot.now budget given (gives snapshot budget given plans);
+  version = version;
+}
+
+-- ---- few feeds
+
+pub few_feeds : (len many feeds : ℕ) → len ≡ many → many ≡ feeds → feeds ≤ FEEDS → len < 2 ^ 32
+few_feeds len many feeds one two few = omega (arith, one, two, few)

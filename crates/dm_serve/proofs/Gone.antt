@@ -1,0 +1,202 @@
+-- Rounds, one after another: a book grows, and a crash leaves one that goes on from the first.
+use Rattle.std.proofs.Common.{◌≡◌, ℕ, ◌≤◌, inl, inr, Bool, List, [], ◌∷◌, ◌++◌, length, map, Option, Result, Ok, sym, ap, subst, ◌∙◌, arith, append_assoc, All}
+use Rattle.std.proofs.lemmas.List.{length-append}
+use mathlib.Core.List.{IsPrefix}
+use Rattle.dm_outside.specs.Faults.{HasRisen}
+use Rattle.dm_cert.specs.Answers.{Setting}
+use Rattle.dm_store.specs.Calls.{Image, LeavesOnly}
+use Rattle.dm_store.specs.declared.journal.Journal.{Journal}
+use Rattle.dm_store.proofs.Moments.{and_then, weaker}
+use Rattle.dm_book.specs.Books.{AreFronts, Book, IsFrontBook, IsSafe}
+use Rattle.dm_network.specs.Net.{Net}
+use Rattle.dm_table.specs.Value.{TableValue}
+use Rattle.dm_table_desk.specs.Tables.{setting_of}
+use Rattle.dm_display.specs.Displays.{AreKept, AreUp, HasEarlierTimes, HasShownNothing, IsFor, Shows}
+use Rattle.dm_display.specs.declared.display.Display.{Display}
+use Rattle.dm_display.proofs.Displays.{earlier_on, first_kept}
+use Rattle.dm_watch.specs.Rounds.{GoesRound, IsWatching, Rounds, book_in, desk_in}
+use Rattle.dm_watch.specs.Settled.{AreSettled, HaveSettled, IsShown, all_items}
+use Rattle.dm_watch.specs.Stops.{IsTooLong, StopsRound}
+use Rattle.dm_watch.specs.declared.round.Watch.{Watch}
+use Rattle.dm_watch.specs.declared.stops.RoundStop.{RoundStop}
+use Rattle.dm_watch.specs.declared.stops.RoundStop.TheVariants as round
+use Rattle.dm_serve.specs.Ends.{IsFullOf}
+use Rattle.dm_serve.specs.Lives.{IsSafeFrom}
+use Rattle.dm_serve.specs.Inside.Stages.{HasGone, IsGoing, StopsGoing}
+
+-- ---- books that grow
+
+front_of_front : {A : Type 0} (xs ys zs : List A) → IsPrefix xs ys → IsPrefix ys zs → IsPrefix xs zs
+front_of_front xs ys zs p q = (p.0 ++ q.0, sym (append_assoc xs p.0 q.0) ∙ (ap (λ (w : List _). w ++ q.0) p.1 ∙ q.1))
+
+pub fronts_of_fronts : {X : Type 0} (one more most : List (List X)) → AreFronts one more → AreFronts more most → AreFronts one most
+fronts_of_fronts [] [] [] p q = tt
+fronts_of_fronts [] [] (z ∷ zs) p q = absurd q
+fronts_of_fronts [] (y ∷ ys) zs p q = absurd p
+fronts_of_fronts (x ∷ xs) [] zs p q = absurd p
+fronts_of_fronts (x ∷ xs) (y ∷ ys) [] p q = absurd q
+fronts_of_fronts (x ∷ xs) (y ∷ ys) (z ∷ zs) p q = (front_of_front x y z p.0 q.0, fronts_of_fronts xs ys zs p.1 q.1)
+
+pub grows_on : (one more most : Book) → IsFrontBook one more → IsFrontBook more most → IsFrontBook one most
+grows_on one more most p q = record {
+  history = front_of_front one.history more.history most.history p.history q.history;
+  logs = fronts_of_fronts one.logs more.logs most.logs p.logs q.logs;
+}
+
+-- what is safe between two books is so from one that went before
+pub safe_more : (s : Setting) (first before after : Book) → IsFrontBook first before → (image : Image) → IsSafe s before after image → IsSafeFrom s first image
+safe_more s first before after grows image safe = record {
+  last = after;
+  safe = record {
+    contents = safe.contents;
+    stands = safe.stands;
+    crash_end = safe.crash_end;
+    book = safe.book;
+    is_in = safe.is_in;
+    is_true = safe.is_true;
+    above = grows_on first before safe.book grows safe.above;
+    below = safe.below;
+    shown = safe.shown;
+  };
+}
+
+-- ---- faults
+
+-- a count that has risen since a later moment has risen since an earlier one
+pub risen_since : (a b c : ℕ) → a ≤ b → HasRisen b c → HasRisen a c
+risen_since a b c low (inl more) = inl (omega (arith, low, more))
+risen_since a b c low (inr last) = inr last
+
+pub later_on : (a b c : ℕ) → a ≤ b → b ≤ c → a ≤ c
+later_on a b c low high = omega (arith, low, high)
+
+-- ---- one round
+
+module _ {S T : Type 0} (tells : S → Type 0) (seen : S → List ℕ) (shown : S → List (List ℕ)) (may_leave : S → Image → Type 0) (moment : S → ℕ) (left_since : S → ℕ → Image → Type 0)
+    (s : Setting) (first : Book) (start : S) (watch : Watch T) (old new : Journal S) (gone : HasGone tells seen shown may_leave moment left_since s first watch start old) where
+  pub round_leaves : (result : Result (Watch T × Bool) RoundStop) → Rounds tells seen shown may_leave moment left_since s (book_in watch) old new result → LeavesOnly moment left_since start new.store (IsSafeFrom s first)
+  round_leaves result r =
+      and_then moment left_since start old.store new.store (IsSafeFrom s first) gone.leaves
+      (weaker moment left_since old.store new.store (IsSafe s (book_in watch) r.after) (IsSafeFrom s first) r.leaves (safe_more s first (book_in watch) r.after gone.grows))
+
+  -- where it was finished
+  pub round_gone : (now : Watch T) (is_new : Bool) → Rounds tells seen shown may_leave moment left_since s (book_in watch) old new (Ok (now, is_new)) → HasGone tells seen shown may_leave moment left_since s first now start new
+  round_gone now is_new r = record {
+    leaves = round_leaves (Ok (now, is_new)) r;
+    grows = subst (IsFrontBook first) (sym r.is_it) (grows_on first (book_in watch) r.after gone.grows r.grows);
+    settled = subst (λ (b : Book). HaveSettled tells seen shown may_leave s b.logs new) (sym r.is_it) r.done;
+  }
+
+  -- where the journal is full
+  pub round_full : (given : T → Option (List ℕ)) (faults : T → ℕ) (before after batch : ℕ) → setting_of watch.desk.plans watch.desk.table ≡ s → IsWatching given (desk_in watch) watch.feeds.items
+      → StopsRound given faults before after old.end batch (desk_in watch) watch.feeds.items round.Full → IsFullOf given s first
+  round_full given faults before after batch setting watching stops =
+      let settled = gone.settled.settled in
+      let too_long = stops.cause in
+      record {
+        desk = desk_in watch;
+        desk_now = stops.desk_now;
+        feeds = watch.feeds.items;
+        answered = stops.answered;
+        batch = batch;
+        setting = setting;
+        watching = watching;
+        grows = gone.grows;
+        contents = gone.settled.contents;
+        recorded = settled.recorded;
+        answers = stops.answers;
+        too_long = subst (λ (n : ℕ). IsTooLong n stops.answered) settled.rest.gate too_long;
+      }
+
+-- ---- a round of a watch whose day has gone on since some start
+
+module _ {S T : Type 0} (tells : S → Type 0) (seen : S → List ℕ) (shown : S → List (List ℕ)) (may_leave : S → Image → Type 0) (moment : S → ℕ) (left_since : S → ℕ → Image → Type 0)
+    (watch : Watch T) (old new : Journal S) where
+  abbrev GoneOver : Setting → Book → S → Watch T → Journal S → Type 0
+  GoneOver s first start w journal = HasGone tells seen shown may_leave moment left_since s first w start journal
+
+  -- what a round does, whatever blocks are settled
+  abbrev pub RoundsOf : Result (Watch T × Bool) RoundStop → Type 0
+  RoundsOf result =
+      (contents : List (List ℕ)) → AreSettled tells seen shown may_leave (setting_of watch.desk.plans watch.desk.table) contents (map all_items watch.feeds.items) old
+      → Rounds tells seen shown may_leave moment left_since (setting_of watch.desk.plans watch.desk.table) (book_in watch) old new result
+
+  pub once_leaves : (result : Result (Watch T × Bool) RoundStop) → RoundsOf result → (s : Setting) (first : Book) (start : S) → setting_of watch.desk.plans watch.desk.table ≡ s → GoneOver s first start watch old
+      → LeavesOnly moment left_since start new.store (IsSafeFrom s first)
+  once_leaves result rounds s first start is gone =
+      let s0 : Setting = setting_of watch.desk.plans watch.desk.table in
+      let here : GoneOver s0 first start watch old = subst (λ (x : Setting). GoneOver x first start watch old) (sym is) gone in
+      subst (λ (x : Setting). LeavesOnly moment left_since start new.store (IsSafeFrom x first)) is
+      (round_leaves tells seen shown may_leave moment left_since s0 first start watch old new here result (rounds here.settled.contents here.settled.settled))
+
+  pub once_gone : (now : Watch T) (is_new : Bool) → RoundsOf (Ok (now, is_new)) → (s : Setting) (first : Book) (start : S) → setting_of watch.desk.plans watch.desk.table ≡ s → GoneOver s first start watch old
+      → GoneOver s first start now new
+  once_gone now is_new rounds s first start is gone =
+      let s0 : Setting = setting_of watch.desk.plans watch.desk.table in
+      let here : GoneOver s0 first start watch old = subst (λ (x : Setting). GoneOver x first start watch old) (sym is) gone in
+      subst (λ (x : Setting). GoneOver x first start now new) is
+      (round_gone tells seen shown may_leave moment left_since s0 first start watch old new here now is_new (rounds here.settled.contents here.settled.settled))
+
+  module _ (given : T → Option (List ℕ)) (store_faults : S → ℕ) (faults : T → ℕ) where
+    abbrev Stops : Watch T → Journal S → RoundStop → Type 0
+    Stops w journal stopped = StopsGoing tells seen shown may_leave moment left_since given store_faults faults w journal new stopped
+
+    pub once_stops : IsWatching given (desk_in watch) watch.feeds.items → (stopped : RoundStop)
+        → StopsRound given faults (store_faults old.store) (store_faults new.store) old.end watch.batch (desk_in watch) watch.feeds.items stopped → Stops watch old stopped
+    once_stops watching round.OutOfMemory h = tt
+    once_stops watching (round.Unsynced number) h = record { feed = h.cause.watched.tail.feed; later = h.cause.later; risen = h.cause.risen }
+    once_stops watching round.Failed h = h.cause
+    once_stops watching round.Full h =
+        λ s first start is gone.
+        round_full tells seen shown may_leave moment left_since s first start watch old new gone given faults (store_faults old.store) (store_faults new.store) watch.batch is watching h
+
+    -- a stop after rounds that were gone before
+    pub stops_on : (before : Watch T) (was : Journal S) → setting_of watch.desk.plans watch.desk.table ≡ setting_of before.desk.plans before.desk.table
+        → ((s : Setting) (first : Book) (start : S) → setting_of before.desk.plans before.desk.table ≡ s → GoneOver s first start before was → GoneOver s first start watch old)
+        → store_faults was.store ≤ store_faults old.store → (stopped : RoundStop) → Stops watch old stopped → Stops before was stopped
+    stops_on before was same on low round.OutOfMemory h = tt
+    stops_on before was same on low (round.Unsynced number) h = h
+    stops_on before was same on low round.Failed h = risen_since (store_faults was.store) (store_faults old.store) (store_faults new.store) low h
+    stops_on before was same on low round.Full h = λ s first start is gone. h s first start (same ∙ is) (on s first start is gone)
+
+-- ---- a watch that goes on
+
+-- the watch with this table
+abbrev pub with_table : {T : Type 0} → Watch T → TableValue → Watch T
+with_table watch table = record watch { desk = record watch.desk { table = table } }
+
+pub same_watch : {T : Type 0} (watch : Watch T) (table : TableValue) → table ≡ watch.desk.table → (P : Watch T → Type 0) → P watch → P (with_table watch table)
+same_watch watch table same P p = subst (λ (x : TableValue). P (with_table watch x)) (sym same) p
+
+module _ {T : Type 0} (given : T → Option (List ℕ)) (before now : Watch T) (goes : GoesRound given before now) where
+  pub same_setting : setting_of now.desk.plans now.desk.table ≡ setting_of before.desk.plans before.desk.table
+  same_setting = goes.answers.goes_on.setting
+
+  pub same_network : now.desk.table.network ≡ before.desk.table.network
+  same_network = ap (λ (x : Setting). x.net) same_setting
+
+  pub goes_further : (s : Setting) (n : ℕ) → IsGoing given s n before → IsWatching given (desk_in now) now.feeds.items → All IsShown now.feeds.items → IsGoing given s n now
+  goes_further s n going watching shown = record { setting = same_setting ∙ going.setting; as_many = goes.as_many ∙ going.as_many; watching = watching; shown = shown }
+
+  -- ---- boards
+
+  module _ {B : Type 0} (place : B → ℕ) (times : B → Option (ℕ → Option ℕ)) (faults_of : B → ℕ) (is_sound : B → ℕ → Type 0) where
+    pub up_later : (table : TableValue) → table ≡ now.desk.table → (display later : Display) (first old new : List B) → AreUp place times faults_of is_sound before.desk.table display first old
+        → Shows place times faults_of is_sound now.desk.table display later old new → AreUp place times faults_of is_sound table later first new
+    up_later table same display later first old new up shows =
+        let on = goes.answers.goes_on.later in
+        subst (λ (t : TableValue). AreUp place times faults_of is_sound t later first new) (sym same)
+        (shows.up first (length before.desk.table.history) (omega (arith, ap length on.1, length-append before.desk.table.history on.0))
+        (subst (λ (n : Net). AreKept place times faults_of is_sound n (length before.desk.table.history) display first old) (sym same_network) up.kept))
+
+  pub fits_later : (display : Display) (many : ℕ) → IsFor before.desk.table.network many display → IsFor now.desk.table.network many display
+  fits_later display many fits = subst (λ (n : Net). IsFor n many display) (sym same_network) fits
+
+  pub earlier_later : (display : Display) → HasEarlierTimes before.desk.table display → HasEarlierTimes now.desk.table display
+  earlier_later display e = earlier_on before.desk.table now.desk.table display same_network (ap (λ (x : Setting). x.start) same_setting) goes.answers.goes_on.later e
+
+-- boards at first are shown a table
+pub up_first : {B : Type 0} (place : B → ℕ) (times : B → Option (ℕ → Option ℕ)) (faults : B → ℕ) (is_sound : B → ℕ → Type 0) (table : TableValue) (display now : Display) (old new : List B)
+    → HasShownNothing display → Shows place times faults is_sound table display now old new → AreUp place times faults is_sound table now old new
+up_first place times faults is_sound table display now old new none shows =
+    shows.up old 0 (omega arith) (first_kept place times faults is_sound table.network display old none)

@@ -1,0 +1,64 @@
+-- A server over a network and start rows: what was read back goes by the setting that the words and the files give.
+use Rattle.std.proofs.Common.{◌≡◌, ℕ, Bool, List, Option, sym, subst, Ok}
+use Rattle.dm_network.specs.Net.{Net}
+use Rattle.dm_cert.specs.declared.notes.Note.{Note}
+use Rattle.dm_cert.specs.Answers.{Setting}
+use Rattle.dm_store.specs.Calls.{Image}
+use Rattle.dm_store.specs.declared.journal.Journal.{Journal}
+use Rattle.dm_book.specs.Books.{Book}
+use Rattle.dm_tail.specs.declared.tail.Tail.{Tail}
+use Rattle.dm_input.specs.Input.{Opening, OpeningAnswer, Told}
+use Rattle.dm_input.specs.Stops.{StopsOpening}
+use Rattle.dm_input.specs.declared.flaws.InputStop.{InputStop}
+use Rattle.dm_words.specs.Serving.{ServerAsked}
+use Rattle.dm_store_text.specs.Asked.{setting_for}
+use Rattle.dm_store_text.specs.Written.{EndsFiles}
+use Rattle.dm_serve.specs.Ends.{Ends, IsDue, IsDueOver}
+use Rattle.dm_serve.specs.Lives.{KeepsBooks}
+use Rattle.dm_serve.specs.Inside.Replies.{Looks}
+use Rattle.dm_serve.specs.Inside.Stages.{FindsBook, IsReadBack, IsWholeEnd}
+use Rattle.dm_store_text.specs.declared.status.Status.{Status}
+use Rattle.dm_serve.proofs.Closing.{ends_files, ends_over}
+
+module _ {S : Type 0} (tells : S → Type 0) (seen : S → List ℕ) (shown : S → List (List ℕ)) (may_leave : S → Image → Type 0) (moment : S → ℕ) (left_since : S → ℕ → Image → Type 0)
+    (s s_now : Setting) (same : s_now ≡ s) (n many : ℕ) (as_many : many ≡ n) (book : Book) (is_new : Bool) (start mid : S) where
+  pub was_read_back : Looks tells seen shown may_leave moment left_since start mid → FindsBook tells seen shown may_leave s many book is_new start → IsWholeEnd tells seen may_leave start
+      → IsReadBack tells seen shown may_leave moment left_since s_now n book is_new start mid
+  was_read_back looks finds whole = record {
+    looks = looks;
+    finds = subst (λ (x : Setting). FindsBook tells seen shown may_leave x n book is_new start) (sym same) (subst (λ (m : ℕ). FindsBook tells seen shown may_leave s m book is_new start) as_many finds);
+    whole = whole;
+  }
+
+  pub kept_over : (new : S) → KeepsBooks tells seen shown may_leave moment left_since s_now n start new → KeepsBooks tells seen shown may_leave moment left_since s n start new
+  kept_over new keeps = subst (λ (x : Setting). KeepsBooks tells seen shown may_leave moment left_since x n start new) same keeps
+
+module _ {K S T : Type 0} (taken : K → Option (List ℕ)) (sink_faults : K → ℕ) (tells : S → Type 0) (seen : S → List ℕ) (shown : S → List (List ℕ)) (may_leave : S → Image → Type 0)
+    (store_faults : S → ℕ) (given : T → Option (List ℕ)) (faults : T → ℕ) (up : Net → List ℕ → List Note → Type 0) (names : List (List ℕ)) (store : List ℕ)
+    (tails : List (Tail T)) (before now : K) (old new : Journal S) (result : Status) where
+  -- what is due by one setting, to feeds as they were opened, is due by the other
+  pub ends_over_same : (s s_now : Setting) → s_now ≡ s → (feeds feeds_now : List (Option T)) → feeds ≡ feeds_now
+      → Ends taken sink_faults store_faults faults (λ status text. IsDueOver tells seen shown may_leave store_faults given faults up names store feeds_now tails old new status s_now text) before now old new result
+      → Ends taken sink_faults store_faults faults (λ status text. IsDueOver tells seen shown may_leave store_faults given faults up names store feeds tails old new status s text) before now old new result
+  ends_over_same s s_now same feeds feeds_now are h =
+      subst (λ (l : List (Option T)). Ends taken sink_faults store_faults faults (λ status text. IsDueOver tells seen shown may_leave store_faults given faults up names store l tails old new status s text) before now old new result) (sym are)
+      (subst (λ (x : Setting). Ends taken sink_faults store_faults faults (λ status text. IsDueOver tells seen shown may_leave store_faults given faults up names store feeds_now tails old new status x text) before now old new result) same h)
+
+-- ---- from the files on
+
+module _ {K S T : Type 0} (taken : K → Option (List ℕ)) (sink_faults : K → ℕ) (tells : S → Type 0) (seen : S → List ℕ) (shown : S → List (List ℕ)) (may_leave : S → Image → Type 0)
+    (store_faults : S → ℕ) (given : T → Option (List ℕ)) (faults : T → ℕ) (up : Net → List ℕ → List Note → Type 0) (told : Told) (is_sound : List ℕ → Type 0) (asked : ServerAsked)
+    (feeds : List (Option T)) (tails : List (Tail T)) (before now : K) (old new : Journal S) (result : Status) where
+  abbrev Over : Status → Setting → List ℕ → Type 0
+  Over status s text = IsDueOver tells seen shown may_leave store_faults given faults up asked.run.feeds asked.store feeds tails old new status s text
+
+  -- files stopped it
+  pub due_of_files : (stopped : InputStop) → StopsOpening told is_sound asked.run.files stopped → EndsFiles taken sink_faults asked.run.files stopped before now result
+      → Ends taken sink_faults store_faults faults (IsDue tells seen shown may_leave store_faults given faults up told is_sound asked feeds tails old new) before now old new result
+  due_of_files stopped stops h = ends_files taken sink_faults store_faults faults told is_sound asked Over before now old new stopped result stops h
+
+  -- they were read
+  pub due_over_files : (opening : Opening) → OpeningAnswer told asked.run.files (Ok opening)
+      → Ends taken sink_faults store_faults faults (λ status text. IsDueOver tells seen shown may_leave store_faults given faults up asked.run.feeds asked.store feeds tails old new status (setting_for asked opening) text) before now old new result
+      → Ends taken sink_faults store_faults faults (IsDue tells seen shown may_leave store_faults given faults up told is_sound asked feeds tails old new) before now old new result
+  due_over_files opening opens h = ends_over taken sink_faults store_faults faults told is_sound asked Over before now old new opening opens result h

@@ -1,0 +1,71 @@
+-- What was found in a store is kept while a server begins, and where it was taken up the day has gone on since.
+use Rattle.std.proofs.Common.{◌≡◌, ℕ, Bool, List, map, get_or, All, Option, Result, Ok, sym, ap, subst}
+use Rattle.std.specs.Prelude.{OnOk}
+use Rattle.std.proofs.lemmas.Option.{get_or_from_slice_get, slice_get-get_or, slice_get_within}
+use Rattle.dm_rows.specs.declared.messages.Entry.{Entry}
+use Rattle.dm_cert.specs.declared.replies.FeedLog.{FeedLog}
+use Rattle.dm_cert.specs.declared.replies.LogItem.{LogItem}
+use Rattle.dm_cert.specs.RunTexts.{IsSpelledItem, IsSpelledLog}
+use Rattle.dm_rounds.proofs.Places.{mapped_at}
+use Rattle.dm_desk.specs.Desks.{DeskValue}
+use Rattle.dm_tail.specs.declared.watched.Watched.{Watched}
+use Rattle.dm_cert.specs.Answers.{Setting}
+use Rattle.dm_store.specs.Calls.{Image, LeavesOnly}
+use Rattle.dm_store.specs.declared.journal.Journal.{Journal}
+use Rattle.dm_store.proofs.Moments.{and_then, weaker}
+use Rattle.dm_book.specs.Books.{Book, IsSafe}
+use Rattle.dm_restore.specs.declared.heads.Head.{Head}
+use Rattle.dm_watch.specs.Rounds.{IsWatching, book_in}
+use Rattle.dm_watch.specs.Settled.{HaveSettled, all_items}
+use Rattle.dm_watch.specs.declared.round.Watch.{Watch}
+use Rattle.dm_serve.specs.Lives.{IsSafeFrom, IsTakenUp, KeepsBooks}
+use Rattle.dm_serve.specs.Inside.Replies.{Looks}
+use Rattle.dm_serve.specs.Inside.Stages.{AllGoOn, HasGoneSince, IsReadBack, TakesUp}
+use Rattle.dm_serve.proofs.Begun.{gone_since}
+use Rattle.dm_serve.proofs.Safe.{safe_from}
+use Rattle.dm_serve.proofs.Standing.{same_logs}
+
+-- the logs of a watch have spellings
+pub spelled_feeds : {T : Type 0} (given : T → Option (List ℕ)) (desk : DeskValue) (feeds : List (Watched T)) → IsWatching given desk feeds → All (λ (w : Watched T). All IsSpelledItem w.log.items) feeds
+spelled_feeds given desk feeds watching = λ place d low. (watching.each place (get_or feeds place d) (slice_get-get_or feeds place d low)).fed.spelled
+
+-- the book of logs is that of the feeds that go on with them
+pub book_beside : {T : Type 0} (given : T → Option (List ℕ)) (history : List Entry) (logs : List (List LogItem)) (feeds : List (Watched T)) → AllGoOn given logs feeds
+    → ◌≡◌ {A = Book} (record { history = history; logs = logs }) (record { history = history; logs = map all_items feeds })
+book_beside given history logs feeds go_on = ap (λ (l : List (List LogItem)). record { history = history; logs = l }) (sym (same_logs given logs feeds go_on))
+
+pub spelled_logs : (logs : List FeedLog) → All IsSpelledLog logs → All (All IsSpelledItem) (map (λ (log : FeedLog). log.items) logs)
+spelled_logs logs spelled = λ place d low.
+    let at = mapped_at (λ (log : FeedLog). log.items) logs place (get_or (map (λ (log : FeedLog). log.items) logs) place d) (slice_get-get_or (map (λ (log : FeedLog). log.items) logs) place d low) in
+    let within = slice_get_within logs place at.0 at.1 in
+    subst (All IsSpelledItem) (sym at.2) (subst IsSpelledLog (get_or_from_slice_get logs place at.0 at.0 at.1) (spelled place at.0 within))
+
+module _ {S : Type 0} (tells : S → Type 0) (seen : S → List ℕ) (shown : S → List (List ℕ)) (may_leave : S → Image → Type 0) (moment : S → ℕ) (left_since : S → ℕ → Image → Type 0) (s : Setting) (n : ℕ) where
+  -- a store that was only looked at
+  pub looked_keeps : (old new : S) → Looks tells seen shown may_leave moment left_since old new → KeepsBooks tells seen shown may_leave moment left_since s n old new
+  looked_keeps old new looks = λ contents first t. weaker moment left_since old new (IsSafe s first first) (IsSafeFrom s first) (looks.1 s n contents first t).0 (safe_from s first)
+
+  -- by another name of the book
+  pub read_back_as : (book other : Book) (is_new : Bool) (start mid : S) → book ≡ other → IsReadBack tells seen shown may_leave moment left_since s n book is_new start mid → IsReadBack tells seen shown may_leave moment left_since s n other is_new start mid
+  read_back_as book other is_new start mid same back = subst (λ (b : Book). IsReadBack tells seen shown may_leave moment left_since s n b is_new start mid) same back
+
+  module _ {T : Type 0} (E : Type 0) (faults : S → ℕ) (head : Head) (is_new : Bool) (watch : Watch T) (start : S) (old new : Journal S) (penalty : s.penalty ≡ head.penalty) (plans : s.plans ≡ head.plans) (feeds : head.feeds ≡ n)
+      (back : IsReadBack tells seen shown may_leave moment left_since s n (book_in watch) is_new start old.store) where
+    taken_at : (result : Result (Unit {0}) E) → TakesUp tells seen shown may_leave moment left_since head is_new watch.feeds.items old new result → (contents : List (List ℕ)) (first : Book)
+        → IsTakenUp tells seen shown may_leave s n start contents first → LeavesOnly moment left_since old.store new.store (IsSafe s first first) × OnOk result (HaveSettled tells seen shown may_leave s first.logs new)
+    taken_at result takes contents first t =
+        let f = back.finds contents first t in
+        let l = back.looks.1 s n contents first t in
+        takes s contents first penalty plans f.1 (sym (ap (λ (b : Book). b.logs) f.0)) (subst (λ (m : ℕ). IsTakenUp tells seen shown may_leave s m old.store contents first) (sym feeds) l.1)
+
+    -- whether it was taken up or not
+    pub taken_keeps : (result : Result (Unit {0}) E) → TakesUp tells seen shown may_leave moment left_since head is_new watch.feeds.items old new result → KeepsBooks tells seen shown may_leave moment left_since s n start new.store
+    taken_keeps result takes = λ contents first t.
+        weaker moment left_since start new.store (IsSafe s first first) (IsSafeFrom s first)
+        (and_then moment left_since start old.store new.store (IsSafe s first first) (back.looks.1 s n contents first t).0 (taken_at result takes contents first t).0) (safe_from s first)
+
+    -- where it was
+    pub taken_since : TakesUp {E = E} tells seen shown may_leave moment left_since head is_new watch.feeds.items old new (Ok tt) → HasGoneSince tells seen shown may_leave moment left_since s n watch start new
+    taken_since takes = λ contents first t.
+        let h = taken_at (Ok tt) takes contents first t in
+        gone_since tells seen shown may_leave moment left_since faults s first start old.store watch new (back.looks.1 s n contents first t).0 h.0 (back.finds contents first t).0 h.1

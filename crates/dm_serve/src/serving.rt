@@ -1,0 +1,443 @@
+//! A server, from its words to its end.
+ghost use Rattle.std.specs.Prelude.{◌≡◌, ◌≤◌, ℕ, List, [], Option, Some, Ok, All, length, map, slice_get, vec_len, IfOk, IfSome};
+ghost use Rattle.std.specs.Io.KnownBytes.{Keeps};
+ghost use Rattle.std.specs.Thread.{IsSync};
+ghost use Rattle.dm_base.specs.declared.limits.TheConstants.{BOARDS, BUDGET, PENALTY, WORKERS};
+ghost use Rattle.dm_rows.specs.Active.{HasNoCycle};
+ghost use Rattle.dm_rows.specs.Rows.{IsSized};
+ghost use Rattle.dm_tree.specs.Plans.{whole_task, IsTruePlan};
+ghost use Rattle.dm_cert.specs.RunTexts.{IsSpelledLog};
+ghost use Rattle.dm_input.specs.Stops.{IsKept};
+ghost use Rattle.dm_words.specs.ServerAsked.{server_of};
+ghost use Rattle.dm_book.specs.Books.{IsTrueBook};
+ghost use Rattle.dm_table_desk.specs.Tables.{setting_of};
+ghost use Rattle.dm_watch.specs.Rounds.{IsWatching, book_in, desk_in};
+ghost use Rattle.dm_watch.specs.Settled.{IsShown};
+ghost use Rattle.dm_catch_up.specs.Catching.{IsFresh};
+ghost use Rattle.dm_restore.specs.Start.{book_back};
+ghost use Rattle.dm_serve.specs.Lives.{KeepsBooks, LivesSafely, NothingIsRead};
+ghost use Rattle.dm_store_text.specs.Asked.{IsAsked, IsWithin, setting_for};
+ghost use Rattle.dm_serve.specs.Ends.{Ends, HasWriteFault, IsDue, IsDueOver};
+ghost use Rattle.dm_store_text.specs.Written.{Writes};
+ghost use Rattle.dm_serve.specs.Inside.Opening.{opened};
+ghost use Rattle.dm_serve.specs.Inside.Stages.{HasGoneSince, IsReadBack};
+
+use crate::boards::{BoardList, Shown};
+use crate::ending::{DayEnd, end_at_feeds, end_day, end_round, end_start, end_unopened, no_day};
+use crate::going::go_round;
+use crate::opening::watched_of;
+use crate::pace::Pace;
+use crate::starting::{catch_up_all, read_back, take_up};
+use dm_desk::Hold;
+use dm_display::Display;
+use dm_input::{Opened, read_opening};
+use dm_network::Network;
+use dm_outside::{Board, Shelf, Sink};
+use dm_restore::{Head, Restored};
+use dm_rows::{Rows, Snapshot};
+use dm_store::{Journal, Store};
+use dm_store_text::{Status, end_files};
+use dm_tail::{Growing, PIECE, Watched};
+use dm_tree::Plan;
+use dm_watch::Watch;
+use dm_words::ServeWords;
+use dm_workers::search;
+use std::alloc::{AllocError, Global};
+use std::sync::Wait;
+use std::thread::Threads;
+
+/// What a server may use: threads, memory, and the gate that workers pass.
+#[derive(Drop)]
+pub struct Means<'s, R, G> {
+    pub rt: &'s R,
+    pub alloc: Global,
+    pub gate: &'s G,
+}
+
+/// What a server is to do: the words that ask for it, and their feeds, each if it could be opened.
+#[derive(Drop)]
+pub struct Server<'a, T: Drop> {
+    pub words: ServeWords<'a>,
+    pub feeds: Vec<Option<T>>,
+}
+
+/// Reads the files of a server, takes up what its store holds, and answers its feeds as they grow until it is told to end. Then it
+/// prints the text of the run. The journal is one of which nothing was read.
+pub fn serve_day<
+    R: Threads + Wait + Sync,
+    H: Shelf,
+    T: Growing + Drop,
+    S: Store,
+    W: Pace,
+    G: Hold + Sync,
+    K: Sink,
+>(
+    means: &Means<'_, R, G>,
+    server: Server<'_, T>,
+    shelf: &mut H,
+    journal: &mut Journal<S>,
+    boards: &mut Vec<Box<dyn Board>>,
+    pace: &mut W,
+    out: &mut K,
+) -> DayEnd<T>
+    requires asked { IsAsked (server_of server.words) }
+    requires as_many { length server.feeds.items ≡ length (server_of server.words).run.feeds }
+    requires unread { NothingIsRead T.given server.feeds.items }
+    requires few_boards { vec_len boards.old ≤ BOARDS }
+
+    // The text is that of a true run, which goes on from what the store held. Each log answers a front of its feed.
+    ensures headline { result.status ≡ Status.Ok → Writes (K.taken out.old) (K.taken out.new)
+        (IsDue S.tells S.seen S.shown S.may_leave S.faults T.given T.faults
+        (⟦<BoardList as Shown>⟧.up boards.old boards.new) (H.files shelf.old) (H.is_sound shelf.old)
+        (server_of server.entry.words) server.entry.feeds.items result.tails.items journal.old journal.new Status.Ok) }
+
+    // Each other status has its cause.
+    ensures refused { result.status ≡ Status.Refused → Writes (K.taken out.old) (K.taken out.new)
+        (IsDue S.tells S.seen S.shown S.may_leave S.faults T.given T.faults
+        (⟦<BoardList as Shown>⟧.up boards.old boards.new) (H.files shelf.old) (H.is_sound shelf.old)
+        (server_of server.entry.words) server.entry.feeds.items result.tails.items journal.old journal.new Status.Refused) }
+    ensures read_fault { result.status ≡ Status.ReadFault → Writes (K.taken out.old) (K.taken out.new)
+        (IsDue S.tells S.seen S.shown S.may_leave S.faults T.given T.faults
+        (⟦<BoardList as Shown>⟧.up boards.old boards.new) (H.files shelf.old) (H.is_sound shelf.old)
+        (server_of server.entry.words) server.entry.feeds.items result.tails.items journal.old journal.new Status.ReadFault) }
+    ensures write_fault { result.status ≡ Status.WriteFault → HasWriteFault K.taken K.faults S.faults T.faults out.old out.new
+        journal.old journal.new (IsDue S.tells S.seen S.shown S.may_leave S.faults T.given T.faults
+        (⟦<BoardList as Shown>⟧.up boards.old boards.new) (H.files shelf.old) (H.is_sound shelf.old)
+        (server_of server.entry.words) server.entry.feeds.items result.tails.items journal.old journal.new) }
+    ensures no_memory { result.status ≡ Status.NoMemory → Keeps (K.taken out.old) (K.taken out.new) }
+    // It ends so only where it was told to.
+    ensures told { result.status ≡ Status.Ok → W.told pace.new }
+    ensures words_are_good { result.status ≡ Status.Usage → ⊥ }
+
+    // A crash at any moment leaves a true book that goes on from the one that was found, and whatever was shown is a front of it.
+    ensures any_moment { LivesSafely S.tells S.seen S.shown S.may_leave S.moment S.left_since (H.files shelf.old)
+        (server_of server.entry.words) journal.old journal.new }
+
+    // Whatever the status, the shelf tells what it told, and no count of faults has fallen.
+    ensures shelf_kept { IsKept H.files H.is_sound shelf.old shelf.new }
+    ensures later { K.faults out.old ≤ K.faults out.new }
+    ensures store_later { S.faults journal.old.store ≤ S.faults journal.new.store }
+    ensures boards_kept { map place boards.new.items ≡ map place boards.old.items }
+{
+    serve_files(means, server, shelf, journal, boards, pace, out)
+}
+
+/// Reads the files of a server, and serves over the network and the start rows that they make.
+fn serve_files<
+    R: Threads + Wait + Sync,
+    H: Shelf,
+    T: Growing + Drop,
+    S: Store,
+    W: Pace,
+    G: Hold + Sync,
+    K: Sink,
+>(
+    means: &Means<'_, R, G>,
+    server: Server<'_, T>,
+    shelf: &mut H,
+    journal: &mut Journal<S>,
+    boards: &mut Vec<Box<dyn Board>>,
+    pace: &mut W,
+    out: &mut K,
+) -> DayEnd<T>
+    requires within { IsWithin (server_of server.words) }
+    requires as_many { length server.feeds.items ≡ length (server_of server.words).run.feeds }
+    requires unread { NothingIsRead T.given server.feeds.items }
+    requires few_boards { vec_len boards.old ≤ BOARDS }
+    ensures ends { Ends K.taken K.faults S.faults T.faults
+        (IsDue S.tells S.seen S.shown S.may_leave S.faults T.given T.faults
+        (⟦<BoardList as Shown>⟧.up boards.old boards.new) (H.files shelf.old) (H.is_sound shelf.old)
+        (server_of server.entry.words) server.entry.feeds.items result.tails.items journal.old journal.new)
+        out.old out.new journal.old journal.new result.status }
+    ensures safely { LivesSafely S.tells S.seen S.shown S.may_leave S.moment S.left_since (H.files shelf.old)
+        (server_of server.entry.words) journal.old journal.new }
+    ensures told { result.status ≡ Status.Ok → W.told pace.new }
+    ensures kept { IsKept H.files H.is_sound shelf.old shelf.new }
+    ensures later { K.faults out.old ≤ K.faults out.new }
+    ensures store_later { S.faults journal.old.store ≤ S.faults journal.new.store }
+    ensures stays { map place boards.new.items ≡ map place boards.old.items }
+{
+    let Server { words, feeds } = server;
+    let opened = match read_opening(means.alloc, shelf, &words.run.files) {
+        Ok(opened) => opened,
+        Err(stop) => return no_day(means.alloc, end_files(&words.run.files, &stop, out)),
+    };
+    let Opened { net, rows } = opened;
+    net.sound();
+    serve_over(means, &words, &net, rows, feeds, journal, boards, pace, out)
+}
+
+/// Serves over a network and start rows.
+fn serve_over<
+    R: Threads + Wait + Sync,
+    T: Growing + Drop,
+    S: Store,
+    W: Pace,
+    G: Hold + Sync,
+    K: Sink,
+>(
+    means: &Means<'_, R, G>,
+    words: &ServeWords<'_>,
+    net: &Network,
+    rows: Rows,
+    feeds: Vec<Option<T>>,
+    journal: &mut Journal<S>,
+    boards: &mut Vec<Box<dyn Board>>,
+    pace: &mut W,
+    out: &mut K,
+) -> DayEnd<T>
+    requires sized { IsSized net.now rows }
+    requires no_cycle { HasNoCycle net.now rows }
+    requires within { IsWithin (server_of words.now) }
+    requires as_many { length feeds.items ≡ length (server_of words.now).run.feeds }
+    requires unread { NothingIsRead T.given feeds.items }
+    requires few_boards { vec_len boards.old ≤ BOARDS }
+    ensures ends { Ends K.taken K.faults S.faults T.faults
+        (λ status text. IsDueOver S.tells S.seen S.shown S.may_leave S.faults T.given T.faults
+        (⟦<BoardList as Shown>⟧.up boards.old boards.new) (server_of words.now).run.feeds (server_of words.now).store feeds.items
+        result.tails.items journal.old journal.new status (setting_for (server_of words.now) (record { net = net.now; rows = rows }))
+        text) out.old out.new journal.old journal.new result.status }
+    ensures keeps { KeepsBooks S.tells S.seen S.shown S.may_leave S.moment S.left_since
+        (setting_for (server_of words.now) (record { net = net.now; rows = rows })) (length (server_of words.now).run.feeds)
+        journal.old.store journal.new.store }
+    ensures told { result.status ≡ Status.Ok → W.told pace.new }
+    ensures later { K.faults out.old ≤ K.faults out.new }
+    ensures store_later { S.faults journal.old.store ≤ S.faults journal.new.store }
+    ensures stays { map place boards.new.items ≡ map place boards.old.items }
+{
+    let watched = match watched_of(means.alloc, feeds) {
+        Ok(watched) => watched,
+        Err(stop) => return no_day(means.alloc, end_unopened(stop, words.run.feeds, out)),
+    };
+    let head = Head {
+        penalty: words.run.files.penalty,
+        plans: words.run.files.plans,
+        feeds: watched.len() as u32,
+    };
+    match read_back(means.alloc, net, rows, head, &mut journal.store) {
+        Ok(restored) => serve_feeds(
+            means, words, net, restored, watched, journal, boards, pace, out,
+        ),
+        Err(stop) => no_day(
+            means.alloc,
+            end_start(stop, words.store, words.run.feeds, out),
+        ),
+    }
+}
+
+/// Serves feeds that go on with what was read back.
+fn serve_feeds<
+    R: Threads + Wait + Sync,
+    T: Growing + Drop,
+    S: Store,
+    W: Pace,
+    G: Hold + Sync,
+    K: Sink,
+>(
+    means: &Means<'_, R, G>,
+    words: &ServeWords<'_>,
+    net: &Network,
+    restored: Restored<'_>,
+    feeds: Vec<Watched<T>>,
+    journal: &mut Journal<S>,
+    boards: &mut Vec<Box<dyn Board>>,
+    pace: &mut W,
+    out: &mut K,
+) -> DayEnd<T>
+    requires network { restored.desk.table.network ≡ net.now }
+    requires within { IsWithin (server_of words.now) }
+    requires penalty { restored.desk.table.penalty ≡ (server_of words.now).run.files.penalty }
+    requires plans { restored.desk.plans ≡ (server_of words.now).run.files.plans }
+    requires as_many { length feeds.items ≡ length (server_of words.now).run.feeds }
+    requires logs { length restored.logs.items ≡ length (server_of words.now).run.feeds }
+    requires fresh { All (IsFresh T.given) feeds.items }
+    requires is_true { IsTrueBook (setting_of restored.desk.plans restored.desk.table) (book_back restored) }
+    requires spelled { All IsSpelledLog restored.logs.items }
+    requires few_boards { vec_len boards.old ≤ BOARDS }
+    ensures ends { (start : Journal S) → S.faults start.store ≤ S.faults journal.old.store
+        → IsReadBack S.tells S.seen S.shown S.may_leave S.moment S.left_since
+        (setting_of restored.entry.desk.plans restored.entry.desk.table) (length (server_of words.now).run.feeds)
+        (book_back restored.entry) restored.entry.is_new start.store journal.old.store
+        → Ends K.taken K.faults S.faults T.faults
+        (λ status text. IsDueOver S.tells S.seen S.shown S.may_leave S.faults T.given T.faults
+        (⟦<BoardList as Shown>⟧.up boards.old boards.new) (server_of words.now).run.feeds (server_of words.now).store
+        (map opened feeds.items) result.tails.items start journal.new status
+        (setting_of restored.entry.desk.plans restored.entry.desk.table) text) out.old out.new start journal.new result.status }
+    ensures keeps { (start : S) → IsReadBack S.tells S.seen S.shown S.may_leave S.moment S.left_since
+        (setting_of restored.entry.desk.plans restored.entry.desk.table) (length (server_of words.now).run.feeds)
+        (book_back restored.entry) restored.entry.is_new start journal.old.store
+        → KeepsBooks S.tells S.seen S.shown S.may_leave S.moment S.left_since
+        (setting_of restored.entry.desk.plans restored.entry.desk.table) (length (server_of words.now).run.feeds)
+        start journal.new.store }
+    ensures told { result.status ≡ Status.Ok → W.told pace.new }
+    ensures later { K.faults out.old ≤ K.faults out.new }
+    ensures store_later { S.faults journal.old.store ≤ S.faults journal.new.store }
+    ensures stays { map place boards.new.items ≡ map place boards.old.items }
+{
+    let Restored { desk, logs, is_new } = restored;
+    let mut feeds = feeds;
+    let Ok(mut buffer) = zeros(means.alloc, PIECE) else {
+        return no_day(means.alloc, Status::NoMemory);
+    };
+    match catch_up_all(means.alloc, &mut feeds, logs, &mut buffer) {
+        Ok(()) => {}
+        Err(stop) => return end_at_feeds(means.alloc, stop, words, feeds, out),
+    }
+    let watch = Watch {
+        alloc: means.alloc,
+        desk,
+        feeds,
+        batch: words.run.batch as u32,
+        buffer,
+    };
+    serve_found(means, words, net, is_new, watch, journal, boards, pace, out)
+}
+
+/// Takes up what was found in the store, and serves feeds that go on with that.
+fn serve_found<
+    R: Threads + Wait + Sync,
+    T: Growing + Drop,
+    S: Store,
+    W: Pace,
+    G: Hold + Sync,
+    K: Sink,
+>(
+    means: &Means<'_, R, G>,
+    words: &ServeWords<'_>,
+    net: &Network,
+    is_new: bool,
+    watch: Watch<'_, T>,
+    journal: &mut Journal<S>,
+    boards: &mut Vec<Box<dyn Board>>,
+    pace: &mut W,
+    out: &mut K,
+) -> DayEnd<T>
+    requires network { watch.desk.table.network ≡ net.now }
+    requires within { IsWithin (server_of words.now) }
+    requires penalty { watch.desk.table.penalty ≡ (server_of words.now).run.files.penalty }
+    requires plans { watch.desk.plans ≡ (server_of words.now).run.files.plans }
+    requires as_many { length watch.feeds.items ≡ length (server_of words.now).run.feeds }
+    requires watching { IsWatching T.given (desk_in watch) watch.feeds.items }
+    requires shown { All IsShown watch.feeds.items }
+    requires few_boards { vec_len boards.old ≤ BOARDS }
+    ensures ends { (start : Journal S) (feeds : List (Option T)) → S.faults start.store ≤ S.faults journal.old.store
+        → IsReadBack S.tells S.seen S.shown S.may_leave S.moment S.left_since
+        (setting_of watch.entry.desk.plans watch.entry.desk.table) (length (server_of words.now).run.feeds)
+        (book_in watch.entry) is_new start.store journal.old.store
+        → Ends K.taken K.faults S.faults T.faults
+        (λ status text. IsDueOver S.tells S.seen S.shown S.may_leave S.faults T.given T.faults
+        (⟦<BoardList as Shown>⟧.up boards.old boards.new) (server_of words.now).run.feeds (server_of words.now).store
+        feeds result.tails.items start journal.new status
+        (setting_of watch.entry.desk.plans watch.entry.desk.table) text) out.old out.new start journal.new result.status }
+    ensures keeps { (start : S) → IsReadBack S.tells S.seen S.shown S.may_leave S.moment S.left_since
+        (setting_of watch.entry.desk.plans watch.entry.desk.table) (length (server_of words.now).run.feeds)
+        (book_in watch.entry) is_new start journal.old.store
+        → KeepsBooks S.tells S.seen S.shown S.may_leave S.moment S.left_since
+        (setting_of watch.entry.desk.plans watch.entry.desk.table) (length (server_of words.now).run.feeds)
+        start journal.new.store }
+    ensures told { result.status ≡ Status.Ok → W.told pace.new }
+    ensures later { K.faults out.old ≤ K.faults out.new }
+    ensures store_later { S.faults journal.old.store ≤ S.faults journal.new.store }
+    ensures stays { map place boards.new.items ≡ map place boards.old.items }
+{
+    let head = Head {
+        penalty: words.run.files.penalty,
+        plans: words.run.files.plans,
+        feeds: watch.feeds.len() as u32,
+    };
+    match take_up(means.alloc, head, is_new, journal, &watch.feeds) {
+        Ok(()) => serve_watch(means, words, net, watch, journal, boards, pace, out),
+        Err(stop) => no_day(
+            means.alloc,
+            end_start(stop, words.store, words.run.feeds, out),
+        ),
+    }
+}
+
+/// So many zeros.
+fn zeros(alloc: Global, len: usize) -> Result<Vec<u8>, AllocError> {
+    vec![in alloc; 0u8; len]
+}
+
+/// Goes round until the server is told to end, and prints the run then.
+fn serve_watch<
+    R: Threads + Wait + Sync,
+    T: Growing + Drop,
+    S: Store,
+    W: Pace,
+    G: Hold + Sync,
+    K: Sink,
+>(
+    means: &Means<'_, R, G>,
+    words: &ServeWords<'_>,
+    net: &Network,
+    watch: Watch<'_, T>,
+    journal: &mut Journal<S>,
+    boards: &mut Vec<Box<dyn Board>>,
+    pace: &mut W,
+    out: &mut K,
+) -> DayEnd<T>
+    requires network { watch.desk.table.network ≡ net.now }
+    requires within { IsWithin (server_of words.now) }
+    requires penalty { watch.desk.table.penalty ≡ (server_of words.now).run.files.penalty }
+    requires as_many { length watch.feeds.items ≡ length (server_of words.now).run.feeds }
+    requires watching { IsWatching T.given (desk_in watch) watch.feeds.items }
+    requires shown { All IsShown watch.feeds.items }
+    requires few_boards { vec_len boards.old ≤ BOARDS }
+    ensures ends { (start : Journal S) (feeds : List (Option T)) → S.faults start.store ≤ S.faults journal.old.store
+        → HasGoneSince S.tells S.seen S.shown S.may_leave S.moment S.left_since
+        (setting_of watch.entry.desk.plans watch.entry.desk.table)
+        (length (server_of words.now).run.feeds) watch.entry start.store journal.old
+        → Ends K.taken K.faults S.faults T.faults
+        (λ status text. IsDueOver S.tells S.seen S.shown S.may_leave S.faults T.given T.faults
+        (⟦<BoardList as Shown>⟧.up boards.old boards.new) (server_of words.now).run.feeds (server_of words.now).store
+        feeds result.tails.items start journal.new status
+        (setting_of watch.entry.desk.plans watch.entry.desk.table) text) out.old out.new start journal.new result.status }
+    ensures keeps { (start : S)
+        → HasGoneSince S.tells S.seen S.shown S.may_leave S.moment S.left_since
+        (setting_of watch.entry.desk.plans watch.entry.desk.table)
+        (length (server_of words.now).run.feeds) watch.entry start journal.old
+        → KeepsBooks S.tells S.seen S.shown S.may_leave S.moment S.left_since
+        (setting_of watch.entry.desk.plans watch.entry.desk.table)
+        (length (server_of words.now).run.feeds) start journal.new.store }
+    ensures told { result.status ≡ Status.Ok → W.told pace.new }
+    ensures later { K.faults out.old ≤ K.faults out.new }
+    ensures store_later { S.faults journal.old.store ≤ S.faults journal.new.store }
+    ensures stays { map place boards.new.items ≡ map place boards.old.items }
+{
+    net.sound();
+    let Ok(mut display) = Display::new(means.alloc, net, boards.len()) else {
+        return no_day(means.alloc, Status::NoMemory);
+    };
+    let penalty = words.run.files.penalty;
+    let workers = words.run.workers;
+    let planner = |snapshot: &Snapshot, budget: u64| -> Result<Plan, AllocError>
+        requires { IsSync R.row × IsSync G.row × (penalty ≤ PENALTY) × (1 ≤ workers) × (workers ≤ WORKERS) × (1 ≤ budget)
+            × (budget ≤ BUDGET) × IsSized net.now snapshot.now.rows × HasNoCycle net.now snapshot.now.rows }
+        ensures { IfOk result (λ plan. (plan.entry ≡ snapshot.now.entry)
+            × IsTruePlan (whole_task net.entry.now snapshot.now.rows penalty budget) plan) }
+    {
+        search(
+            means.rt,
+            means.alloc,
+            net,
+            penalty,
+            snapshot,
+            budget,
+            workers,
+            means.gate,
+        )
+    };
+    match go_round(
+        means.rt,
+        watch,
+        journal,
+        &planner,
+        &mut display,
+        boards,
+        pace,
+    ) {
+        Ok(watch) => end_day(watch, display.publisher.notes(), out),
+        Err(stop) => no_day(means.alloc, end_round(stop, out)),
+    }
+}
