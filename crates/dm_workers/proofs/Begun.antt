@@ -1,6 +1,6 @@
 -- A worker that begins.
 use Rattle.std.proofs.Common.{◌≡◌, ◌⊎◌, ℕ, ◌≤◌, Bool, List, [], ◌∷◌, refl, ap, sym, ◌∙◌, subst, arith}
-use Rattle.std.specs.Prelude.{map, All}
+use Rattle.std.specs.Prelude.{map, All, IfSome}
 use Rattle.std.proofs.lemmas.List.Elements.{All-nil}
 use Rattle.atomic_table.specs.Seated.{TableId}
 use Rattle.atomic_blocks.specs.Lent.{RowsId}
@@ -18,6 +18,7 @@ use Rattle.dm_bound.specs.Words.{HandValue, nothing_looked}
 use Rattle.dm_deques.specs.Deques.{TallyValue}
 use Rattle.dm_deques.specs.Rule.{WasEmpty}
 use Rattle.dm_deques.specs.Sharing.{new_tally, deque_of}
+use Rattle.dm_search.specs.Moving.{IsOver}
 use Rattle.dm_ways.specs.Ways.{paths_on, leaves_on}
 use Rattle.dm_workers.specs.Nodes.{GuidedTask}
 use Rattle.dm_workers.specs.declared.working.Worker.{Worker}
@@ -70,17 +71,18 @@ module _ (net : Net) (rows : RowsValue) (penalty : ℕ) (base : List Decision) (
   }
 
   -- a worker that began so and has done its work
-  pub done_from : {F : Type 0} (word : TableId) (start : ℕ) (ds : List RowsId) (self after : Worker F) → IsSameWorker self after → IsNewWorker own word start ds self
-      → WasEmpty after.owner.account
+  pub done_from : {F : Type 0} (word : TableId) (start : ℕ) (ds : List RowsId) (self after : Worker F) → IsSameWorker self after → IsNewWorker task.task own word start ds self
+      → WasEmpty after.owner.account → IfSome after.evaluator (IsOver task.task)
       → ((given : List Bool → ℕ) (from : ℕ) → IsWorking task own word from given nothing self → IsWorking task own word from given nothing after)
       → IsDone task own word start ds self after
-  done_from {F} word start ds self after same new empty works =
+  done_from {F} word start ds self after same new empty evaluator works =
       let put : List Bool → ℕ = λ s. paths_on s self.owner.account.put in
       let at = begun word self.owner self.tallies.items ds self.hand self.leaves.items self.best.choices self.best.cost new.tallies new.leaves new.word_is new.room new.lowered new.choices new.cost in
       record {
         works = works put start
             (subst (λ (from : ℕ). IsAtWork task own word from put nothing self.owner self.tallies.items self.hand self.leaves.items self.best.choices self.best.cost) new.start_is at);
         empty = empty;
+        evaluator = evaluator;
         deque = same.deque;
         lent = same.lent;
         deques = same.deques ∙ (ap (map deque_of) new.tallies ∙ tally_deques ds);

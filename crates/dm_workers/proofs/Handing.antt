@@ -1,6 +1,6 @@
 -- What workers that are done hand in, before it is put together.
 use Rattle.std.proofs.Common.{◌≡◌, ℕ, List, [], ◌∷◌, length, Some, Result, Ok, Err, ap, sym, ◌∙◌, subst, arith, All, slice_get, get_or}
-use Rattle.std.specs.Prelude.{map, IfOk}
+use Rattle.std.specs.Prelude.{map, IfOk, IfSome}
 use Rattle.std.proofs.lemmas.List.Elements.{All-nil, All-cons}
 use Rattle.std.proofs.lemmas.Result.{IfOk-weaker}
 use Rattle.std.proofs.lemmas.Option.{slice_get_within, get_or_from_slice_get}
@@ -13,6 +13,7 @@ use Rattle.dm_rows.specs.declared.messages.Decision.{Decision}
 use Rattle.dm_bound.specs.Words.{HandValue}
 use Rattle.dm_deques.specs.Deques.{TallyValue}
 use Rattle.dm_deques.specs.Sharing.{deque_of}
+use Rattle.dm_search.specs.Moving.{IsOver}
 use Rattle.dm_ways.specs.Ways.{leaves_on}
 use Rattle.dm_workers.specs.Nodes.{GuidedTask}
 use Rattle.dm_workers.specs.declared.gathering.Gathered.{Gathered}
@@ -35,6 +36,16 @@ module _ {F : Type 0} (task : GuidedTask) (own : ℕ) (word : TableId) (start : 
   handed_words {E} (w ∷ ws) (r ∷ rs) h =
       All-cons (λ (r : Result (Worker F) E). IfOk r (λ w. w.hand.word ≡ word)) r rs
       (IfOk-weaker r (HandsIn task own word start theirs w) (λ v. v.hand.word ≡ word) (λ v d. d.works.found.word_is) h.0) (handed_words ws rs h.1)
+
+  -- each evaluator that comes back is one of the task
+  pub handed_evaluators : {E : Type 0} (jobs : List (Worker F)) (worked : List (Result (Worker F) E)) → AreHandedIn task own word start theirs jobs worked
+      → All (λ r. IfOk r (λ w. IfSome w.evaluator (IsOver task.task))) worked
+  handed_evaluators {E} [] [] h = All-nil (λ (r : Result (Worker F) E). IfOk r (λ w. IfSome w.evaluator (IsOver task.task)))
+  handed_evaluators [] (r ∷ rs) h = absurd h
+  handed_evaluators (w ∷ ws) [] h = absurd h
+  handed_evaluators {E} (w ∷ ws) (r ∷ rs) h =
+      All-cons (λ (r : Result (Worker F) E). IfOk r (λ w. IfSome w.evaluator (IsOver task.task))) r rs
+      (IfOk-weaker r (HandsIn task own word start theirs w) (λ v. IfSome v.evaluator (IsOver task.task)) (λ v d. d.evaluator) h.0) (handed_evaluators ws rs h.1)
 
   -- nothing is gathered yet
   pub none_gathered : (g : Gathered F) (hand : HandValue) (choices : List Decision) (best : ℕ)
@@ -71,6 +82,6 @@ module _ {F : Type 0} (task : GuidedTask) (own : ℕ) (word : TableId) (start : 
       → IfOk answer (λ t. length (items t) ≡ length jobs) → IfOk answer (λ t. GivesJobs g f jobs (items t)) → IfOk answer (λ t. AreHandedIn task own word start theirs jobs (items t))
   all_given jobs items (Ok t) each many gives =
       given_at jobs (items t) many
-      (λ x r call. IfOk-weaker r (IsDone task own word start theirs x) (HandsIn task own word start theirs x) (λ w d. record { works = d.works; deque = d.deque; lent = d.lent; deques = d.deques }) (each x r call))
+      (λ x r call. IfOk-weaker r (IsDone task own word start theirs x) (HandsIn task own word start theirs x) (λ w d. record { works = d.works; deque = d.deque; lent = d.lent; deques = d.deques; evaluator = d.evaluator }) (each x r call))
       gives
   all_given jobs items (Err e) each many gives = tt

@@ -1,10 +1,11 @@
 -- What a worker takes.
 use Rattle.std.proofs.Common.{◌≡◌, ℕ, zero, suc, ◌<◌, List, [], ◌∷◌, length, set, get_or, ap, ◌∙◌, arith}
-use Rattle.std.specs.Prelude.{map}
+use Rattle.std.specs.Prelude.{map, Option}
 use Rattle.std.proofs.lemmas.List.Sums.{sum_by-cons, sum_by_push}
 use Rattle.atomic_blocks.specs.Lent.{RowsId}
 use Rattle.dm_deques.specs.Deques.{TallyValue, having_taken}
 use Rattle.dm_deques.specs.Sharing.{deque_of}
+use Rattle.dm_evaluate.specs.Evaluator.{EvaluatorValue}
 use Rattle.dm_ways.specs.Ways.{on_way, paths_on}
 use Rattle.dm_workers.specs.declared.working.Worker.{Worker}
 use Rattle.dm_workers.specs.Inside.Working.{Path}
@@ -59,3 +60,7 @@ module _ {F : Type 0} where
     deques = ap (map deque_of) n.tallies;
     word = ap (λ (w : Worker F). w.hand.word) n.same;
   }
+
+  -- so does one to whom an evaluator is lent, and that gives it back
+  pub same_apart : (a b : Worker F) (d e : Option EvaluatorValue) → IsSameWorker (record a { evaluator = d }) b → IsSameWorker a (record b { evaluator = e })
+  same_apart a b d e s = record { who = s.who; deque = s.deque; lent = s.lent; deques = s.deques; word = s.word }

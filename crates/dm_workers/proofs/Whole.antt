@@ -1,6 +1,6 @@
 -- All that workers have handed in, from what they were given.
 use Rattle.std.proofs.Common.{◌≡◌, ◌⊎◌, ◌++◌, min, ℕ, ◌+◌, ◌-◌, ◌≤◌, Bool, List, [], ◌∷◌, length, map, All, Result, refl, ap, sym, subst, ◌∙◌, arith}
-use Rattle.std.specs.Prelude.{IfOk}
+use Rattle.std.specs.Prelude.{IfOk, IfSome}
 use Rattle.std.proofs.lemmas.List.{length-map}
 use Rattle.std.proofs.lemmas.List.Elements.{All-nil, All-push, All-cons, All-head, All-tail, All-weaker}
 use Rattle.atomic_table.specs.Seated.{TableId}
@@ -11,6 +11,8 @@ use Rattle.dm_rows.specs.Rows.{RowsValue}
 use Rattle.dm_bound.specs.Words.{HandValue, lowest, nothing_looked}
 use Rattle.dm_deques.specs.Deques.{TallyValue}
 use Rattle.dm_deques.specs.Sharing.{deque_of}
+use Rattle.dm_tree.specs.Plans.{Task}
+use Rattle.dm_search.specs.Moving.{IsOver}
 use Rattle.dm_guide.specs.declared.tree.Hint.{Hint}
 use Rattle.dm_guide.specs.Posed.{task_beside}
 use Rattle.dm_workers.specs.Nodes.{GuidedTask}
@@ -22,7 +24,7 @@ use Rattle.dm_workers.specs.Inside.Together.{deque_of_worker, lent_of_worker, Is
 use Rattle.dm_workers.specs.Inside.Workers.{owner_of, IsNewWorker}
 use Rattle.dm_workers.specs.Inside.Working.{Path, AreListed}
 use Rattle.dm_workers.proofs.Ends.{deques_agree, found_of}
-use Rattle.dm_workers.proofs.Handing.{handed_words, none_gathered}
+use Rattle.dm_workers.proofs.Handing.{handed_words, handed_evaluators, none_gathered}
 use Rattle.dm_workers.proofs.Joined.{given_is}
 use Rattle.dm_workers.proofs.Steps.{capped_low}
 
@@ -78,10 +80,10 @@ lent_to_all before owners purses h = subst (λ (n : ℕ). All (HasLentOnly n) ow
 pub none_taken_yet : (n : ℕ) (owners : List (TallyValue Path)) → All (HasLentOnly n) owners → All HasTakenNothing owners
 none_taken_yet n owners all = All-weaker (HasLentOnly n) HasTakenNothing (λ o h. h.taken) owners all
 
-pub new_there : {F : Type 0} (own : ℕ) (word : TableId) (from start : ℕ) (ds theirs : List RowsId) (crew : List (Worker F)) → from ≡ start → ds ≡ theirs
-    → All (IsNewWorker own word from ds) crew → All (IsNewWorker own word start theirs) crew
-new_there own word from start ds theirs crew e d all =
-    subst (λ (n : ℕ). All (IsNewWorker own word n theirs) crew) e (subst (λ (l : List RowsId). All (IsNewWorker own word from l) crew) d all)
+pub new_there : {F : Type 0} (task : Task) (own : ℕ) (word : TableId) (from start : ℕ) (ds theirs : List RowsId) (crew : List (Worker F)) → from ≡ start → ds ≡ theirs
+    → All (IsNewWorker task own word from ds) crew → All (IsNewWorker task own word start theirs) crew
+new_there task own word from start ds theirs crew e d all =
+    subst (λ (n : ℕ). All (IsNewWorker task own word n theirs) crew) e (subst (λ (l : List RowsId). All (IsNewWorker task own word from l) crew) d all)
 
 pub one_given : (before owners : List (TallyValue Path)) → ((s : List Bool) → owners_put s owners ≡ owners_put s before) → ((s : List Bool) → owners_put s before ≤ 1)
     → (s : List Bool) → owners_put s owners ≤ 1
@@ -97,6 +99,10 @@ rooms_are task own word start theirs crew worked owners workers seats first room
 pub all_words : {F E : Type 0} (task : GuidedTask) (own : ℕ) (word : TableId) (start : ℕ) (worked : List (Result (Worker F) E)) → AreDone task own word start worked
     → All (λ r. IfOk r (λ w. w.hand.word ≡ word)) worked
 all_words task own word start worked done = handed_words task own word start (map deque_of_worker done.jobs) done.jobs worked done.handed
+
+pub all_evaluators : {F E : Type 0} (task : GuidedTask) (own : ℕ) (word : TableId) (start : ℕ) (worked : List (Result (Worker F) E)) → AreDone task own word start worked
+    → All (λ r. IfOk r (λ w. IfSome w.evaluator (IsOver task.task))) worked
+all_evaluators task own word start worked done = handed_evaluators task own word start (map deque_of_worker done.jobs) done.jobs worked done.handed
 
 module _ {F E : Type 0} (net : Net) (rows : RowsValue) (penalty : ℕ) (base : List Decision) (budget : ℕ) (hints : List Hint) (own : ℕ)
     (word : TableId) (hand : HandValue) (choices : List Decision) (best : ℕ) (kept : AreKept (task_beside net rows penalty base budget) own choices best) (first : IsFirstHand own best word hand)

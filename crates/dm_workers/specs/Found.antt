@@ -42,8 +42,8 @@ pub record AreKept (task : Task) (own : ℕ) (choices : List Decision) (cost : �
   pub costs : CostsWith task choices cost
   pub no_dearer : cost ≤ own
 
--- Leaves that stand apart, of which each is known, whose bounds are no less than what the kept choices cost. So is the least value of the
--- word that a worker has looked at, and with it each at which one pruned.
+-- Leaves that stand apart, of which each is known, whose bounds are no less than what the kept choices cost. So is a value at which bounds may
+-- have been shown; that it is the least which a worker has looked at is no part of this.
 pub record IsFound (task : GuidedTask) (own : ℕ) (leaves : List Leaf) (choices : List Decision) (cost : ℕ) : Type 0 where
   pub looked : ℕ
   pub pruned : looked < nothing_looked → cost ≤ looked

@@ -1,8 +1,9 @@
 //! What the workers of a search find.
-ghost use Rattle.std.specs.Prelude.{◌≡◌, ◌+◌, ◌≤◌, length, All, IfOk};
+ghost use Rattle.std.specs.Prelude.{◌≡◌, ◌+◌, ◌≤◌, length, All, IfOk, IfSome};
 ghost use Rattle.dm_base.specs.declared.limits.TheConstants.{WORKERS};
 ghost use Rattle.dm_guide.specs.Tasks.{task_of, IsPosedTask};
 ghost use Rattle.dm_rows.specs.Active.{HasNoCycle};
+ghost use Rattle.dm_search.specs.Moving.{IsOver};
 ghost use Rattle.dm_workers.specs.Nodes.{guided_by, PicksNodes};
 ghost use Rattle.dm_workers.specs.Found.{IsOwnCost, AreKept, IsFound, IsDrained};
 ghost use Rattle.dm_workers.specs.Inside.Workers.{IsNewWorker};
@@ -16,6 +17,7 @@ use crate::working::{Best, Path, Team, Worker};
 use dm_base::Cost;
 use dm_deques::{Grown, Owner};
 use dm_desk::Hold;
+use dm_evaluate::Evaluator;
 use dm_guide::Guide;
 use dm_search::{BoundWord, Hand, Task};
 use dm_tree::Leaf;
@@ -24,12 +26,23 @@ use std::sync::Wait;
 use std::thread;
 use std::thread::Threads;
 
-/// The deques, which are empty, the leaves that workers have handed in, and the cheapest choices that were found.
+/// What workers begin with: what the rows cost by themselves, choices that are kept, and evaluators of the task, which are lent to
+/// the workers while there are any. Who has none makes one.
+#[derive(Drop)]
+pub struct Beginning {
+    pub own: Cost,
+    pub best: Best,
+    pub evaluators: Vec<Evaluator>,
+}
+
+/// The deques, which are empty, the leaves that workers have handed in, the cheapest choices that were found, and an evaluator of the
+/// task that comes back from a worker, if any does.
 #[derive(Drop)]
 pub struct Found<F: Grown<Path>> {
     pub owners: Vec<Owner<Path, F>>,
     pub leaves: Vec<Leaf>,
     pub best: Best,
+    pub evaluator: Option<Evaluator>,
 }
 
 /// What workers find of a guide's tree, 1 to 16 of them, each on a deque of its own and on those of the others, which hold nodes. They
@@ -40,8 +53,7 @@ pub fn find<F: Grown<Path> + Send + Sync, R: Threads + Wait + Sync, H: Hold + Sy
     rt: &R,
     task: &Task<'_>,
     guide: &Guide,
-    own: Cost,
-    best: Best,
+    beginning: Beginning,
     workers: u32,
     gate: &H,
 ) -> Result<Found<F>, AllocError>
@@ -49,19 +61,27 @@ pub fn find<F: Grown<Path> + Send + Sync, R: Threads + Wait + Sync, H: Hold + Sy
     requires no_cycle { HasNoCycle task.now.net.now task.now.rows.now }
     requires workers { (1 ≤ workers) × (workers ≤ WORKERS) }
     requires picks { PicksNodes (guided_by task.now guide.now) F.fits }
-    requires own { IsOwnCost (task_of task.now) own }
-    requires kept { AreKept (task_of task.now) own best.choices best.cost }
-    ensures found { IfOk result (λ found. IsFound (guided_by task.now guide.now) own found.leaves.items found.best.choices found.best.cost) }
+    requires own { IsOwnCost (task_of task.now) beginning.own }
+    requires kept { AreKept (task_of task.now) beginning.own beginning.best.choices beginning.best.cost }
+    requires evaluators { All (IsOver (task_of task.now)) beginning.evaluators.items }
+    ensures found { IfOk result (λ found. IsFound (guided_by task.now guide.now) beginning.own
+        found.leaves.items found.best.choices found.best.cost) }
     ensures drained { IfOk result (λ found. All IsDrained found.owners.items) }
+    ensures evaluator { IfOk result (λ found. IfSome found.evaluator (IsOver (task_of task.now))) }
 {
     let alloc = task.alloc;
     task.net.sound();
+    let Beginning {
+        own,
+        best,
+        evaluators,
+    } = beginning;
     let start = capped(own);
     let (word, mut hand) = BoundWord::new(alloc, start, workers + 1)?;
     word.lower(&mut hand, capped(best.cost));
     let (owners, thieves) = enlist::<F>(alloc, workers)?;
     let equipped = equip(alloc, owners)?;
-    let crew = muster(alloc, &word, &mut hand, own, equipped)?;
+    let crew = muster(alloc, &word, &mut hand, own, equipped, evaluators)?;
     let share = task.budget.saturating_sub(1) / (2 * workers as u64);
     let pace = Pace::new(workers);
     let team = Team {
@@ -89,7 +109,7 @@ fn work_all<F: Grown<Path> + Send + Sync, R: Threads + Wait + Sync, H: Hold + Sy
     requires picks { PicksNodes (guided_by team.now.task.now team.now.guide.now) F.fits }
     requires no_cycle { HasNoCycle team.now.task.now.net.now team.now.task.now.rows.now }
     requires own { IsOwnCost (task_of team.now.task.now) team.now.own }
-    requires new { All (IsNewWorker team.now.own team.now.word.now.id team.now.start team.now.thieves.now.items) crew.items }
+    requires new { All (IsNewWorker (task_of team.now.task.now) team.now.own team.now.word.now.id team.now.start team.now.thieves.now.items) crew.items }
     ensures { IfOk result (λ worked. AreHandedIn (guided_by team.now.task.now team.now.guide.now) team.now.own team.now.word.now.id team.now.start
         team.now.thieves.now.items crew.items worked.items) }
 {
@@ -112,6 +132,7 @@ fn put_together<F: Grown<Path>>(
     requires rooms { hand.room + length worked.items ≡ word.seats }
     ensures found { IfOk result (λ found. IsFound (guided_by task.now guide.now) own found.leaves.items found.best.choices found.best.cost) }
     ensures drained { IfOk result (λ found. All IsDrained found.owners.items) }
+    ensures evaluator { IfOk result (λ found. IfSome found.evaluator (IsOver (task_of task.now))) }
 {
     let first = nothing_gathered(task.alloc, best, hand);
     let all = gather(&word, first, worked)?;
@@ -121,6 +142,7 @@ fn put_together<F: Grown<Path>>(
         hand,
         leaves,
         best,
+        evaluator,
     } = all;
     let settled = settle_all(task.alloc, owners, tallies)?;
     let owners = check_empty(task.alloc, settled)?;
@@ -129,5 +151,6 @@ fn put_together<F: Grown<Path>>(
         owners,
         leaves,
         best,
+        evaluator,
     })
 }

@@ -1,8 +1,10 @@
 //! What the workers hand in, put together.
-ghost use Rattle.std.specs.Prelude.{ℕ, ◌≡◌, ◌+◌, ◌<◌, ◌≤◌, ◌⊎◌, Bool, List, [], ◌∷◌, ◌++◌, length, map, All, IfOk, OnOk};
+ghost use Rattle.std.specs.Prelude.{ℕ, ◌≡◌, ◌+◌, ◌<◌, ◌≤◌, ◌⊎◌, Bool, List, [], ◌∷◌, ◌++◌, length, map, All, IfOk, IfSome, None, OnOk};
 ghost use Rattle.atomic_table.specs.Seated.{TableId};
 ghost use Rattle.atomic_blocks.specs.Lent.{RowsId};
 ghost use Rattle.dm_deques.specs.Sharing.{deque_of};
+ghost use Rattle.dm_search.specs.Moving.{IsOver};
+ghost use Rattle.dm_tree.specs.Plans.{Task};
 ghost use Rattle.dm_ways.specs.Ways.{paths_on};
 ghost use Rattle.dm_workers.specs.Nodes.{GuidedTask};
 ghost use Rattle.dm_workers.specs.Found.{IsDrained};
@@ -14,12 +16,13 @@ ghost use Rattle.dm_workers.specs.Inside.Together.{IsGathered, IsGatheredFrom, A
 use crate::working::{Best, Path, Worker};
 use dm_base::{Cost, Items};
 use dm_deques::{Grown, Owner, Tally, settle_each};
+use dm_evaluate::Evaluator;
 use dm_search::{BoundWord, Hand};
 use dm_tree::Leaf;
 use std::alloc::{AllocError, Global};
 
-/// What all workers have: their deques, what each has taken from all of them, their hands made one, their leaves, and the
-/// cheapest of their choices.
+/// What all workers have: their deques, what each has taken from all of them, their hands made one, their leaves, the cheapest of
+/// their choices, and the evaluator of one that has any.
 #[derive(Drop)]
 pub(crate) struct Gathered<F: Grown<Path>> {
     pub(crate) owners: Vec<Owner<Path, F>>,
@@ -27,6 +30,7 @@ pub(crate) struct Gathered<F: Grown<Path>> {
     pub(crate) hand: Hand,
     pub(crate) leaves: Vec<Leaf>,
     pub(crate) best: Best,
+    pub(crate) evaluator: Option<Evaluator>,
 }
 
 impl<F: Grown<Path>> Gathered<F> {
@@ -36,6 +40,8 @@ impl<F: Grown<Path>> Gathered<F> {
         ensures word { IfOk result (λ g. g.hand.word ≡ word.now.id) }
         ensures owners { IfOk result (λ g. g.owners.items ≡ self.owners.items ++ worker.owner ∷ []) }
         ensures tallies { IfOk result (λ g. g.tallies.items ≡ self.tallies.items ++ worker.tallies.items ∷ []) }
+        ensures evaluator { IfOk result (λ g. (task : Task) → IfSome self.evaluator (IsOver task) → IfSome worker.evaluator (IsOver task)
+            → IfSome g.evaluator (IsOver task)) }
         ensures gathered { IfOk result (λ g. (task : GuidedTask) (own start rooms : ℕ) (given more : List Bool → ℕ)
             → IsGathered task own word.now.id start rooms given self
             → IsWorking task own word.now.id start more nothing worker
@@ -47,6 +53,7 @@ impl<F: Grown<Path>> Gathered<F> {
             mut hand,
             mut leaves,
             best,
+            evaluator,
         } = self;
         let Worker {
             who: _,
@@ -56,6 +63,7 @@ impl<F: Grown<Path>> Gathered<F> {
             hand: other,
             leaves: mut more,
             best: found,
+            evaluator: lent,
         } = worker;
         word.join(&mut hand, other);
         owners.push(owner)?;
@@ -68,14 +76,16 @@ impl<F: Grown<Path>> Gathered<F> {
             hand,
             leaves,
             best,
+            evaluator: either(evaluator, lent),
         })
     }
 }
 
 /// What is gathered before any worker's, with a hand and choices that are kept.
 pub(crate) fn nothing_gathered<F: Grown<Path>>(alloc: Global, best: Best, hand: Hand) -> Gathered<F>
-    ensures { (result.owners.items ≡ []) × (result.tallies.items ≡ []) × (result.hand ≡ hand) × (result.leaves.items ≡ [])
+    ensures nothing { (result.owners.items ≡ []) × (result.tallies.items ≡ []) × (result.hand ≡ hand) × (result.leaves.items ≡ [])
         × (result.best.choices ≡ best.choices) × (result.best.cost ≡ best.cost) }
+    ensures evaluator { result.evaluator ≡ None }
 {
     Gathered {
         owners: Vec::new(alloc),
@@ -83,6 +93,7 @@ pub(crate) fn nothing_gathered<F: Grown<Path>>(alloc: Global, best: Best, hand: 
         hand,
         leaves: Vec::new(alloc),
         best,
+        evaluator: None,
     }
 }
 
@@ -94,7 +105,9 @@ pub(crate) fn gather<F: Grown<Path>>(
 ) -> Result<Gathered<F>, AllocError>
     requires word { first.hand.word ≡ word.now.id }
     requires words { All (λ r. IfOk r (λ w. w.hand.word ≡ word.now.id)) worked.items }
-    ensures { IfOk result (λ g. (task : GuidedTask) (own start rooms : ℕ) (theirs : List RowsId) (jobs : List (Worker F))
+    ensures evaluator { IfOk result (λ g. (task : Task) → IfSome first.evaluator (IsOver task)
+        → All (λ r. IfOk r (λ w. IfSome w.evaluator (IsOver task))) worked.items → IfSome g.evaluator (IsOver task)) }
+    ensures gathered { IfOk result (λ g. (task : GuidedTask) (own start rooms : ℕ) (theirs : List RowsId) (jobs : List (Worker F))
         → AreHandedIn task own word.now.id start theirs jobs worked.items
         → IsGatheredFrom task own word.now.id start rooms theirs [] first
         → IsGatheredFrom task own word.now.id start rooms theirs jobs g) }
@@ -105,6 +118,16 @@ pub(crate) fn gather<F: Grown<Path>>(
         gathered = gathered.take_in(word, done)?;
     }
     Ok(gathered)
+}
+
+/// The first of two evaluators, or the second where there is no first.
+fn either(one: Option<Evaluator>, other: Option<Evaluator>) -> Option<Evaluator>
+    ensures { (task : Task) → IfSome one (IsOver task) → IfSome other (IsOver task) → IfSome result (IsOver task) }
+{
+    match one {
+        Some(evaluator) => Some(evaluator),
+        None => other,
+    }
 }
 
 /// The cheaper of two lists of choices.

@@ -2,7 +2,7 @@
 //! workers find; and the plan of it.
 
 pub use crate::expanding::{expand, expand_with};
-pub use crate::finding::{Found, find};
+pub use crate::finding::{Beginning, Found, find};
 pub use crate::searching::plan_of;
 pub use crate::working::{Best, Path};
 pub use dm_deques::{Account, Fair, Grown, Owner, Tally, Thief};

@@ -14,23 +14,24 @@
 //! workers call.
 //!
 //! [`laws::find`] is what all workers do with a guide's tree, from choices that are kept. Each path that was put on a deque was
-//! taken, once: in the end no tally is out, and each deque is empty. No path of a leaf that is handed in is a front of another's.
-//! Each leaf is a cycle, a bound with its relaxed cost, or an open leaf at which some choice is violated. The choices that come out
-//! cost no more than those that went in, and than any bound that is handed in: a worker lowers the word by the costs of choices
-//! that it keeps alone (that none is dearer than a value of the word at which one pruned is proved inside, and is no clause of
-//! `find`). [`laws::plan_of`] gives a true plan of what was found. It
-//! costs no more than these choices; and each choice, cycle and bound of the least tree with the leaves stands in its tree at the
-//! same path, where that tree keeps to the budget. So each bound that is handed in is then a true bound of the plan.
-//! `search_task` is `find` and then `plan_of`.
+//! taken, once: in the end no tally is out, and each deque is empty. No path of a leaf that is handed in is a front of
+//! another's. Each leaf is a cycle, a bound with its relaxed cost, or an open leaf at which some choice is violated. The
+//! choices that come out cost no more than those that went in, and than any bound that is handed in: a worker lowers the word
+//! by the costs of choices that it keeps alone (that none is dearer than a value of the word at which one pruned is proved
+//! inside, and is no clause of `find`). [`laws::plan_of`] gives a true plan of what was found. It costs no more than these
+//! choices; and each choice, cycle and bound of the least tree with the leaves stands in its tree at the same path, where that
+//! tree keeps to the budget. So each bound that is handed in is then a true bound of the plan. `search_task` is `find` and then
+//! `plan_of`.
 //!
 //! # How the workers search
 //!
 //! No clause of a public call says what stands here. A guide is found first, by searchers in threads, and its choices are made
-//! out. Each worker has a deque of its own, takes its last node, or the first of another's, and expands it: it looks at a word that
-//! all lower by the costs that they find, and goes to the node with its evaluator. A node becomes two where the guide's tree goes on
-//! and its choice is violated there, and else a leaf that is handed in. A worker makes at most its share of branchings,
-//! (budget - 1) / (2 * workers), and leaves nodes to the others then; what all leave is a hole. The calling thread puts the leaves
-//! together and goes on from there, so every hole is still searched.
+//! out. Meanwhile other threads make an evaluator for each worker; one of them comes back to the calling thread. Each worker
+//! has a deque of its own, takes its last node, or the first of another's, and expands it: it looks at a word that all lower by
+//! the costs that they find, and goes to the node with its evaluator. A node becomes two where the guide's tree goes on and its
+//! choice is violated there, and else a leaf that is handed in. A worker makes at most its share of branchings, (budget - 1) /
+//! (2 * workers), and leaves nodes to the others then; what all leave is a hole. The calling thread puts the leaves together
+//! and goes on from there, so every hole is still searched.
 //!
 //! `search` waits for its threads, so it promises if it returns. A gate is passed at point 3 when a worker starts, 5 before each
 //! node that it expands, 4 when it ends, with the worker's number from 1.

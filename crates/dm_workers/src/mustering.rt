@@ -2,11 +2,14 @@
 ghost use Rattle.std.specs.Prelude.{ℕ, ◌≡◌, ◌-◌, ◌<◌, ◌≤◌, Bool, List, [], ◌∷◌, map, All, length, IfOk, OnOk};
 ghost use Rattle.dm_deques.specs.Sharing.{deque_of, new_tally};
 ghost use Rattle.dm_workers.specs.Inside.Gathering.{owners_put, HasTakenNothing, HasLentOnly, AreEquipped};
+ghost use Rattle.dm_search.specs.Moving.{IsOver};
+ghost use Rattle.dm_tree.specs.Plans.{Task};
 ghost use Rattle.dm_workers.specs.Inside.Workers.{IsNewWorker, owner_of};
 
-use crate::working::{Best, Path, Worker};
+use crate::working::{Best, Path, Worker, lend};
 use dm_base::{Cost, Items};
 use dm_deques::{Grown, Lent, Owner, Tally, Thief, lend_each};
+use dm_evaluate::Evaluator;
 use dm_search::{BoundWord, Hand};
 use std::alloc::{AllocError, Global};
 
@@ -77,13 +80,15 @@ pub(crate) fn equip<F: Grown<Path>>(
     Ok(Equipped { owners, purses })
 }
 
-/// A worker for each deque, with tallies, a hand that is split from the first one, and the rows' own choices.
+/// A worker for each deque, with tallies, a hand that is split from the first one, the rows' own choices, and one of the evaluators
+/// while there are any.
 pub(crate) fn muster<F: Grown<Path>>(
     alloc: Global,
     word: &BoundWord,
     hand: &mut Hand,
     own: Cost,
     equipped: Equipped<F>,
+    evaluators: Vec<Evaluator>,
 ) -> Result<Vec<Worker<F>>, AllocError>
     requires word { hand.old.word ≡ word.now.id }
     requires room { length equipped.owners.items < hand.old.room }
@@ -92,10 +97,12 @@ pub(crate) fn muster<F: Grown<Path>>(
     requires many { length equipped.purses.items ≡ length equipped.owners.items }
     ensures hand { OnOk result (hand.new ≡ record hand.old { room = hand.old.room - length equipped.owners.items }) }
     ensures owners { IfOk result (λ ws. map owner_of ws.items ≡ equipped.owners.items) }
-    ensures new { IfOk result (λ ws. All (IsNewWorker own word.now.id hand.old.start (map deque_of equipped.owners.items)) ws.items) }
+    ensures new { IfOk result (λ ws. (task : Task) → All (IsOver task) evaluators.items
+        → All (IsNewWorker task own word.now.id hand.old.start (map deque_of equipped.owners.items)) ws.items) }
 {
     let Equipped { owners, purses } = equipped;
     let mut purses = purses;
+    let mut evaluators = evaluators;
     let mut workers = Vec::with_capacity(alloc, owners.len())?;
     let mut who: u32 = 0;
     for owner in owners {
@@ -116,6 +123,7 @@ pub(crate) fn muster<F: Grown<Path>>(
             hand: part,
             leaves: Vec::new(alloc),
             best,
+            evaluator: lend(&mut evaluators),
         })?;
     }
     Ok(workers)

@@ -1,5 +1,5 @@
 //! The rounds of a guide, played by several workers at once.
-ghost use Rattle.std.specs.Prelude.{IfOk};
+ghost use Rattle.std.specs.Prelude.{All, IfOk};
 ghost use Rattle.std.specs.Thread.{IsSync};
 ghost use Rattle.dm_guide.specs.Tasks.{task_of, IsPosedTask};
 ghost use Rattle.dm_search.specs.Moving.{IsOver};
@@ -84,29 +84,80 @@ fn searchers_of<'t, R: Threads + Sync>(
     Ok(all)
 }
 
-/// An evaluator at the base, and a guide that searchers find in rounds, at once where there are several of them.
+/// As many evaluators at the base as there are searchers, and a guide that these find in rounds, at once where there are several of
+/// them.
 pub(crate) fn judge_and_guide<'t, R: Threads + Sync>(
     rt: &R,
     task: &Task<'t>,
     own: Cost,
     searchers: &mut [Searcher<'t>],
-) -> Result<(Evaluator, Guide), AllocError>
+) -> Result<(Vec<Evaluator>, Guide), AllocError>
     requires posed { IsPosedTask task.now }
-    ensures evaluator { IfOk result (λ r. IsOver (task_of task.now) r.0) }
+    ensures evaluators { IfOk result (λ r. All (IsOver (task_of task.now)) r.0.items) }
 {
-    if searchers.len() < 2 {
+    let many = searchers.len();
+    if many < 2 {
         let guide = guided(rt, task, own, searchers)?;
-        return Ok((evaluator_at_base(task)?, guide));
+        return Ok((evaluators_of(rt, task, many)?, guide));
     }
-    let mut judge = || -> Result<Evaluator, AllocError>
-        requires { IsPosedTask task.now }
-        ensures { IfOk result (IsOver (task_of task.entry.now)) }
-    { evaluator_at_base(task) };
+    let mut judge = || -> Result<Vec<Evaluator>, AllocError>
+        requires { IsSync R.row × IsPosedTask task.now }
+        ensures { IfOk result (λ es. All (IsOver (task_of task.entry.now)) es.items) }
+    { evaluators_of(rt, task, many) };
     let mut look = || -> Result<Guide, AllocError>
         requires { IsSync R.row }
     { guided(rt, task, own, searchers) };
-    let (evaluator, guide) = join_mut(rt, &mut judge, &mut look);
-    Ok((evaluator?, guide?))
+    let (evaluators, guide) = join_mut(rt, &mut judge, &mut look);
+    Ok((evaluators?, guide?))
+}
+
+/// So many evaluators at the base, or one, each made in a thread of its own where one can be made.
+#[cycle(ready)]
+fn evaluators_of<R: Threads + Sync>(
+    rt: &R,
+    task: &Task<'_>,
+    count: usize,
+) -> Result<Vec<Evaluator>, AllocError>
+    requires { IsPosedTask task.now }
+    ensures { IfOk result (λ es. All (IsOver (task_of task.now)) es.items) }
+{
+    if count < 2 {
+        return one_evaluator(task);
+    }
+    let last = count - 1;
+    let mut make = || -> Result<Evaluator, AllocError>
+        requires { IsPosedTask task.now }
+        ensures { IfOk result (IsOver (task_of task.entry.now)) }
+    { evaluator_at_base(task) };
+    let mut others = || -> Result<Vec<Evaluator>, AllocError>
+        requires { IsSync R.row × IsPosedTask task.now }
+        ensures { IfOk result (λ es. All (IsOver (task_of task.entry.now)) es.items) }
+    { evaluators_of(rt, task, last) };
+    let (evaluator, before) = join_mut(rt, &mut make, &mut others);
+    with_one_more(task, before?, evaluator?)
+}
+
+fn one_evaluator(task: &Task<'_>) -> Result<Vec<Evaluator>, AllocError>
+    requires { IsPosedTask task.now }
+    ensures { IfOk result (λ es. All (IsOver (task_of task.now)) es.items) }
+{
+    let evaluator = evaluator_at_base(task)?;
+    with_one_more(task, Vec::new(task.alloc), evaluator)
+}
+
+/// Evaluators with one more behind them.
+fn with_one_more(
+    task: &Task<'_>,
+    evaluators: Vec<Evaluator>,
+    evaluator: Evaluator,
+) -> Result<Vec<Evaluator>, AllocError>
+    requires evaluators { All (IsOver (task_of task.now)) evaluators.items }
+    requires evaluator { IsOver (task_of task.now) evaluator }
+    ensures { IfOk result (λ es. All (IsOver (task_of task.now)) es.items) }
+{
+    let mut all = evaluators;
+    all.push(evaluator)?;
+    Ok(all)
 }
 
 /// What guides a search from the root.

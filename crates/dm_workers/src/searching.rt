@@ -1,5 +1,5 @@
 //! A search by several workers that ends with a true plan.
-ghost use Rattle.std.specs.Prelude.{◌≡◌, ◌≤◌, [], ◌∷◌, IfOk};
+ghost use Rattle.std.specs.Prelude.{◌≡◌, ◌≤◌, [], ◌∷◌, All, IfOk, IfSome};
 ghost use Rattle.dm_base.specs.declared.limits.TheConstants.{BUDGET, PENALTY, WORKERS};
 ghost use Rattle.dm_search.specs.Finish.{IsStart};
 ghost use Rattle.dm_search.specs.Moving.{IsOver};
@@ -12,9 +12,9 @@ ghost use Rattle.dm_rows.specs.Rows.{IsSized};
 ghost use Rattle.dm_workers.specs.Nodes.{guided_by, PicksNodes};
 ghost use Rattle.dm_workers.specs.Found.{IsOwnCost, AreKept, IsFound, BeginsFrom, GrowsFrom};
 
-use crate::finding::{Found, find};
+use crate::finding::{Beginning, Found, find};
 use crate::rounds::{begin, judge_and_guide};
-use crate::working::{Best, Path};
+use crate::working::{Best, Path, lend, made};
 use dm_base::{Cost, Items};
 use dm_deques::Grown;
 use dm_desk::Hold;
@@ -73,25 +73,35 @@ pub fn search_task<R: Threads + Wait + Sync, H: Hold + Sync>(
 {
     let (own, searchers) = begin(rt, task, workers)?;
     let mut searchers = searchers;
-    let (evaluator, guide) = judge_and_guide(rt, task, own, searchers.as_mut_slice())?;
-    let mut evaluator = evaluator;
-    let best = choices_of(task, own, &mut evaluator, &guide)?;
-    let beginning = Beginning {
-        own,
-        best,
-        guide,
-        evaluator,
-    };
-    go_on::<Brand, R, H>(rt, task, entry, beginning, workers, gate)
+    let (evaluators, guide) = judge_and_guide(rt, task, own, searchers.as_mut_slice())?;
+    let beginning = begin_with(task, own, evaluators, &guide)?;
+    go_on::<Brand, R, H>(rt, task, entry, guide, beginning, workers, gate)
 }
 
-/// What a search of a task begins with: what the rows cost by themselves, choices, a guide, and an evaluator of the task.
-#[derive(Drop)]
-struct Beginning {
+/// What workers begin with who are led by a guide.
+fn begin_with(
+    task: &Task<'_>,
     own: Cost,
-    best: Best,
-    guide: Guide,
-    evaluator: Evaluator,
+    evaluators: Vec<Evaluator>,
+    guide: &Guide,
+) -> Result<Beginning, AllocError>
+    requires posed { IsPosedTask task.now }
+    requires no_cycle { HasNoCycle task.now.net.now task.now.rows.now }
+    requires own { IsOwnCost (task_of task.now) own }
+    requires evaluators { All (IsOver (task_of task.now)) evaluators.items }
+    ensures own { IfOk result (λ b. b.own ≡ own) }
+    ensures kept { IfOk result (λ b. AreKept (task_of task.now) own b.best.choices b.best.cost) }
+    ensures evaluators { IfOk result (λ b. All (IsOver (task_of task.now)) b.evaluators.items) }
+{
+    let mut evaluators = evaluators;
+    let mut evaluator = made(task, lend(&mut evaluators))?;
+    let best = choices_of(task, own, &mut evaluator, guide)?;
+    evaluators.push(evaluator)?;
+    Ok(Beginning {
+        own,
+        best,
+        evaluators,
+    })
 }
 
 /// What the workers find, and the plan of it.
@@ -99,6 +109,7 @@ fn go_on<F: Grown<Path> + Send + Sync, R: Threads + Wait + Sync, H: Hold + Sync>
     rt: &R,
     task: &Task<'_>,
     entry: u32,
+    guide: Guide,
     beginning: Beginning,
     workers: u32,
     gate: &H,
@@ -107,21 +118,16 @@ fn go_on<F: Grown<Path> + Send + Sync, R: Threads + Wait + Sync, H: Hold + Sync>
     requires no_cycle { HasNoCycle task.now.net.now task.now.rows.now }
     requires some { 1 ≤ task.now.budget }
     requires workers { (1 ≤ workers) × (workers ≤ WORKERS) }
-    requires picks { PicksNodes (guided_by task.now beginning.guide) F.fits }
+    requires picks { PicksNodes (guided_by task.now guide) F.fits }
     requires own { IsOwnCost (task_of task.now) beginning.own }
     requires kept { AreKept (task_of task.now) beginning.own beginning.best.choices beginning.best.cost }
-    requires evaluator { IsOver (task_of task.now) beginning.evaluator }
+    requires evaluators { All (IsOver (task_of task.now)) beginning.evaluators.items }
     ensures plan { IfOk result (IsTruePlan (task_of task.now)) }
     ensures entry { IfOk result (λ plan. plan.entry ≡ entry) }
 {
-    let Beginning {
-        own,
-        best,
-        guide,
-        evaluator,
-    } = beginning;
-    let found = find::<F, R, H>(rt, task, &guide, own, best, workers, gate)?;
-    plan_of(task, entry, own, guide, evaluator, found)
+    let own = beginning.own;
+    let found = find::<F, R, H>(rt, task, &guide, beginning, workers, gate)?;
+    plan_of(task, entry, own, guide, found)
 }
 
 /// The choices to which a guide leads, where they cost less than the rows by themselves, and else the rows' own.
@@ -167,14 +173,13 @@ pub fn plan_of<F: Grown<Path>>(
     entry: u32,
     own: Cost,
     guide: Guide,
-    evaluator: Evaluator,
     found: Found<F>,
 ) -> Result<Plan, AllocError>
     requires posed { IsPosedTask task.now }
     requires no_cycle { HasNoCycle task.now.net.now task.now.rows.now }
     requires some { 1 ≤ task.now.budget }
     requires own { IsOwnCost (task_of task.now) own }
-    requires evaluator { IsOver (task_of task.now) evaluator }
+    requires evaluator { IfSome found.evaluator (IsOver (task_of task.now)) }
     requires found { IsFound (guided_by task.now guide) own found.leaves.items found.best.choices found.best.cost }
     ensures plan { IfOk result (IsTruePlan (task_of task.now)) }
     ensures entry { IfOk result (λ plan. plan.entry ≡ entry) }
@@ -185,11 +190,13 @@ pub fn plan_of<F: Grown<Path>>(
         owners: _owners,
         leaves,
         best,
+        evaluator,
     } = found;
     let partial = begun(task, &guide, own, &best, leaves)?;
     // The guide's choices are the best ones or dearer.
     let mut left = guide;
     left.path.clear();
+    let evaluator = made(task, evaluator)?;
     finish_with(
         task,
         entry,

@@ -1,9 +1,10 @@
 //! What one worker does.
-ghost use Rattle.std.specs.Prelude.{ℕ, ◌≡◌, ◌++◌, Bool, List, [], ◌∷◌, map, IfOk, IfSome, IfNone, OnOk};
+ghost use Rattle.std.specs.Prelude.{ℕ, ◌≡◌, ◌++◌, Bool, List, [], ◌∷◌, map, All, IfOk, IfSome, IfNone, OnOk};
 ghost use Rattle.dm_rows.specs.Active.{HasNoCycle};
 ghost use Rattle.dm_rows.specs.Sides.{first_decision, second_decision};
 ghost use Rattle.dm_guide.specs.Tasks.{task_of, IsPosedTask};
 ghost use Rattle.dm_search.specs.Moving.{IsOver};
+ghost use Rattle.dm_tree.specs.Plans.{Task as PlanTask};
 ghost use Rattle.dm_deques.specs.Rule.{WasEmpty};
 ghost use Rattle.dm_deques.specs.Sharing.{deque_of};
 ghost use Rattle.dm_ways.specs.Ways.{on_way};
@@ -45,7 +46,7 @@ pub struct Best {
 }
 
 /// One worker of a search: its number from 1, how many branchings it has made, its deque, what it has taken from all deques, its
-/// hand of the word, the leaves that it hands in, and its best choices.
+/// hand of the word, the leaves that it hands in, its best choices, and an evaluator of the task that is lent to it, if any is.
 #[derive(Drop)]
 pub(crate) struct Worker<F: Grown<Path>> {
     pub(crate) who: u32,
@@ -55,6 +56,7 @@ pub(crate) struct Worker<F: Grown<Path>> {
     pub(crate) hand: Hand,
     pub(crate) leaves: Vec<Leaf>,
     pub(crate) best: Best,
+    pub(crate) evaluator: Option<Evaluator>,
 }
 
 /// What the workers share: what is searched and by which guide, what the rows cost by themselves, the word, the deques, when they
@@ -224,6 +226,8 @@ impl<F: Grown<Path>> Worker<F> {
         requires own { IsOwnCost (task_of team.now.task.now) team.now.own }
         requires deques { map deque_of self.tallies.items ≡ team.now.thieves.now.items }
         requires word { self.hand.word ≡ team.now.word.now.id }
+        requires evaluator { IfSome self.evaluator (IsOver (task_of team.now.task.now)) }
+        ensures evaluator { IfOk result (λ w. IfSome w.evaluator (IsOver (task_of team.now.task.now))) }
         ensures same { IfOk result (IsSameWorker self) }
         ensures empty { IfOk result (λ w. WasEmpty w.owner.account) }
         ensures works { IfOk result (λ w. (given : List Bool → ℕ) (start : ℕ)
@@ -231,29 +235,33 @@ impl<F: Grown<Path>> Worker<F> {
             → IsWorking (guided_by team.now.task.now team.now.guide.now) team.now.own team.now.word.now.id start given nothing w) }
     {
         let mut worker = self;
-        worker.take_all(rt, team, gate)?;
+        let mut evaluator = made(team.task, worker.evaluator.take())?;
+        worker.take_all(rt, team, &mut evaluator, gate)?;
+        worker.evaluator = Some(evaluator);
         Ok(worker)
     }
 
-    /// Takes nodes until none is left. The evaluator is made at the first that is expanded.
+    /// Takes nodes until none is left.
     fn take_all<R: Wait, H: Hold>(
         &mut self,
         rt: &R,
         team: &Team<'_, '_, F>,
+        evaluator: &mut Evaluator,
         gate: &H,
     ) -> Result<(), AllocError>
         requires posed { IsPosedTask team.now.task.now }
         requires picks { PicksNodes (guided_by team.now.task.now team.now.guide.now) F.fits }
         requires own { IsOwnCost (task_of team.now.task.now) team.now.own }
+        requires evaluator { IsOver (task_of team.now.task.now) evaluator.old }
         requires deques { map deque_of self.old.tallies.items ≡ team.now.thieves.now.items }
         requires word { self.old.hand.word ≡ team.now.word.now.id }
+        ensures evaluator { IsOver (task_of team.now.task.now) evaluator.new }
         ensures same { OnOk result (IsSameWorker self.old self.new) }
         ensures empty { OnOk result (WasEmpty self.new.owner.account) }
         ensures works { OnOk result ((given : List Bool → ℕ) (start : ℕ)
             → IsWorking (guided_by team.now.task.now team.now.guide.now) team.now.own team.now.word.now.id start given nothing self.old
             → IsWorking (guided_by team.now.task.now team.now.guide.now) team.now.own team.now.word.now.id start given nothing self.new) }
     {
-        let mut evaluator: Option<Evaluator> = None;
         if team.share == 0 {
             team.pace.spend();
         }
@@ -264,7 +272,7 @@ impl<F: Grown<Path>> Worker<F> {
                 continue;
             }
             match self.next(team.thieves) {
-                Some(path) => self.take_on(team, &mut evaluator, path, gate)?,
+                Some(path) => self.take_on(team, evaluator, path, gate)?,
                 None => {
                     if team.pace.has_ended() {
                         return Ok(());
@@ -277,11 +285,11 @@ impl<F: Grown<Path>> Worker<F> {
         unreachable!()
     }
 
-    /// Expands a node, or gives it up where no further one is expanded. The evaluator is made at the first that it expands.
+    /// Expands a node, or gives it up where no further one is expanded.
     fn take_on<H: Hold>(
         &mut self,
         team: &Team<'_, '_, F>,
-        evaluator: &mut Option<Evaluator>,
+        evaluator: &mut Evaluator,
         path: Path,
         gate: &H,
     ) -> Result<(), AllocError>
@@ -289,9 +297,9 @@ impl<F: Grown<Path>> Worker<F> {
         requires picks { PicksNodes (guided_by team.now.task.now team.now.guide.now) F.fits }
         requires own { IsOwnCost (task_of team.now.task.now) team.now.own }
         requires fits { F.fits path }
-        requires evaluator { IfSome evaluator.old (IsOver (task_of team.now.task.now)) }
+        requires evaluator { IsOver (task_of team.now.task.now) evaluator.old }
         requires word { self.old.hand.word ≡ team.now.word.now.id }
-        ensures evaluator { IfSome evaluator.new (IsOver (task_of team.now.task.now)) }
+        ensures evaluator { IsOver (task_of team.now.task.now) evaluator.new }
         ensures same { OnOk result (IsSameWorker self.old self.new) }
         ensures works { OnOk result ((given : List Bool → ℕ) (start : ℕ)
             → IsWorking (guided_by team.now.task.now team.now.guide.now) team.now.own team.now.word.now.id start given (λ s. on_way s path) self.old
@@ -302,15 +310,23 @@ impl<F: Grown<Path>> Worker<F> {
             return Ok(());
         }
         gate.hold(self.who, EXPANDS);
-        let mut there = made(team.task, evaluator.take())?;
-        self.expand(team, &mut there, path)?;
-        *evaluator = Some(there);
-        Ok(())
+        self.expand(team, evaluator, path)
+    }
+}
+
+/// The last of some evaluators, if there are any.
+pub(crate) fn lend(evaluators: &mut Vec<Evaluator>) -> Option<Evaluator>
+    ensures { (task : PlanTask) → All (IsOver task) evaluators.old.items
+        → IfSome result (IsOver task) × All (IsOver task) evaluators.new.items }
+{
+    match evaluators.pop() {
+        Some(evaluator) => Some(evaluator),
+        None => None,
     }
 }
 
 /// An evaluator of the task, made where there is none yet.
-fn made(task: &Task<'_>, evaluator: Option<Evaluator>) -> Result<Evaluator, AllocError>
+pub(crate) fn made(task: &Task<'_>, evaluator: Option<Evaluator>) -> Result<Evaluator, AllocError>
     requires posed { IsPosedTask task.now }
     requires evaluator { IfSome evaluator (IsOver (task_of task.now)) }
     ensures { IfOk result (IsOver (task_of task.now)) }
@@ -333,7 +349,7 @@ impl<F: Grown<Path>> Worker<F> {
         requires picks { PicksNodes (guided_by team.now.task.now team.now.guide.now) F.fits }
         requires no_cycle { HasNoCycle team.now.task.now.net.now team.now.task.now.rows.now }
         requires own { IsOwnCost (task_of team.now.task.now) team.now.own }
-        requires new { IsNewWorker team.now.own team.now.word.now.id team.now.start team.now.thieves.now.items self }
+        requires new { IsNewWorker (task_of team.now.task.now) team.now.own team.now.word.now.id team.now.start team.now.thieves.now.items self }
         ensures { IfOk result (IsDone (guided_by team.now.task.now team.now.guide.now) team.now.own team.now.word.now.id team.now.start
             team.now.thieves.now.items self) }
     {
@@ -357,7 +373,7 @@ impl<F: Grown<Path>> Worker<F> {
         requires picks { PicksNodes (guided_by team.now.task.now team.now.guide.now) F.fits }
         requires no_cycle { HasNoCycle team.now.task.now.net.now team.now.task.now.rows.now }
         requires own { IsOwnCost (task_of team.now.task.now) team.now.own }
-        requires new { IsNewWorker team.now.own team.now.word.now.id team.now.start team.now.thieves.now.items self }
+        requires new { IsNewWorker (task_of team.now.task.now) team.now.own team.now.word.now.id team.now.start team.now.thieves.now.items self }
         ensures { IfOk result (IsDone (guided_by team.now.task.now team.now.guide.now) team.now.own team.now.word.now.id team.now.start
             team.now.thieves.now.items self) }
     {

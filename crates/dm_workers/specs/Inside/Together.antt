@@ -1,9 +1,10 @@
 -- Workers that have done their work, and what is put together of them.
-use Rattle.std.specs.Prelude.{ℕ, ◌≡◌, ◌+◌, ◌≤◌, Bool, List, [], ◌∷◌, length, map, min, sum_by, All, Result, IfOk}
+use Rattle.std.specs.Prelude.{ℕ, ◌≡◌, ◌+◌, ◌≤◌, Bool, List, [], ◌∷◌, length, map, min, sum_by, All, Result, IfOk, IfSome}
 use Rattle.atomic_table.specs.Seated.{TableId}
 use Rattle.atomic_blocks.specs.Lent.{RowsId}
 use Rattle.dm_bound.specs.Words.{HandValue, nothing_looked}
 use Rattle.dm_deques.specs.Sharing.{deque_of}
+use Rattle.dm_search.specs.Moving.{IsOver}
 use Rattle.dm_ways.specs.Ways.{paths_on}
 use Rattle.dm_workers.specs.declared.working.Worker.{Worker}
 use Rattle.dm_workers.specs.declared.gathering.Gathered.{Gathered}
@@ -42,6 +43,7 @@ module _ {F : Type 0} where
     pub deque : after.owner.deque ≡ before.owner.deque
     pub lent : after.owner.account.lent ≡ before.owner.account.lent
     pub deques : map deque_of after.tallies.items ≡ theirs
+    pub evaluator : IfSome after.evaluator (IsOver task.task)
 
   -- each worker has done its work, or memory was wanting
   abbrev pub AreHandedIn : {E : Type 0} → GuidedTask → ℕ → TableId → ℕ → List RowsId → List (Worker F) → List (Result (Worker F) E) → Type 0

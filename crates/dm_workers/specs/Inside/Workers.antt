@@ -1,11 +1,13 @@
 -- Workers, and what each of their steps changes.
-use Rattle.std.specs.Prelude.{ℕ, ◌≡◌, ◌+◌, ◌<◌, ◌≤◌, ◌⊎◌, Bool, List, [], ◌∷◌, ◌++◌, map}
+use Rattle.std.specs.Prelude.{ℕ, ◌≡◌, ◌+◌, ◌<◌, ◌≤◌, ◌⊎◌, Bool, List, [], ◌∷◌, ◌++◌, map, IfSome}
 use Rattle.atomic_table.specs.Seated.{TableId}
 use Rattle.atomic_blocks.specs.Lent.{RowsId}
 use Rattle.dm_rows.specs.declared.messages.Choice.{Choice}
 use Rattle.dm_rows.specs.declared.messages.Decision.{Decision}
 use Rattle.dm_rows.specs.Sides.{first_decision, second_decision}
 use Rattle.dm_tree.specs.declared.forms.Node.{Node}
+use Rattle.dm_tree.specs.Plans.{Task}
+use Rattle.dm_search.specs.Moving.{IsOver}
 use Rattle.dm_deques.specs.Deques.{TallyValue, having_put}
 use Rattle.dm_deques.specs.Sharing.{deque_of, new_tally}
 use Rattle.dm_deques.specs.Rule.{WasEmpty}
@@ -68,17 +70,18 @@ module _ {F : Type 0} where
           ((path ++ first_decision choice ∷ []) ∷ []);
     }
 
-  -- it has done its work, and has found its deque empty at the end
+  -- it has done its work, and has found its deque empty at the end; an evaluator that it has is one of the task
   pub record IsDone (task : GuidedTask) (own : ℕ) (word : TableId) (start : ℕ) (theirs : List RowsId) (before after : Worker F) : Type 0 where
     pub works : IsWorking task own word start (λ s. paths_on s before.owner.account.put) nothing after
     pub empty : WasEmpty after.owner.account
+    pub evaluator : IfSome after.evaluator (IsOver task.task)
     pub deque : after.owner.deque ≡ before.owner.deque
     pub lent : after.owner.account.lent ≡ before.owner.account.lent
     pub deques : map deque_of after.tallies.items ≡ theirs
 
-  -- It has taken and handed in nothing, and has a new tally of each deque, a hand of the word that has lowered and looked at nothing, and the
-  -- rows' own choices.
-  pub record IsNewWorker (own : ℕ) (word : TableId) (start : ℕ) (theirs : List RowsId) (w : Worker F) : Type 0 where
+  -- It has taken and handed in nothing, and has a new tally of each deque, a hand of the word that has lowered and looked at nothing, the rows'
+  -- own choices, and no evaluator or one of the task.
+  pub record IsNewWorker (task : Task) (own : ℕ) (word : TableId) (start : ℕ) (theirs : List RowsId) (w : Worker F) : Type 0 where
     pub taken : w.owner.account.taken ≡ []
     pub tallies : w.tallies.items ≡ map new_tally theirs
     pub leaves : w.leaves.items ≡ []
@@ -88,6 +91,7 @@ module _ {F : Type 0} where
     pub lowered : w.hand.lowered ≡ []
     pub choices : w.best.choices ≡ []
     pub cost : w.best.cost ≡ own
+    pub evaluator : IfSome w.evaluator (IsOver task)
 
   abbrev pub owner_of : Worker F → TallyValue Path
   owner_of w = w.owner

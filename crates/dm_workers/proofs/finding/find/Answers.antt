@@ -29,5 +29,5 @@ muster-requires-clause-many g c = c.in_ok-equipped.ensures.many ∙ sym (as_many
 
 pub work_all-requires-clause-new : goal.work_all-requires-clause-new
 work_all-requires-clause-new g c = λ lifetimes bounds.
-    new_there _ _ _ _ _ _ _ (ap (λ (h : HandValue). h.start) c.lower.ensures.lowered ∙ ap (λ (h : HandValue). h.start) c.in_ok-word.ensures.hand)
-    (c.in_ok-equipped.ensures.deques ∙ c.in_ok-owners.ensures.thieves) c.in_ok-crew.ensures.new
+    new_there _ _ _ _ _ _ _ _ (ap (λ (h : HandValue). h.start) c.lower.ensures.lowered ∙ ap (λ (h : HandValue). h.start) c.in_ok-word.ensures.hand)
+    (c.in_ok-equipped.ensures.deques ∙ c.in_ok-owners.ensures.thieves) (c.in_ok-crew.ensures.new _ c.requires.evaluators)

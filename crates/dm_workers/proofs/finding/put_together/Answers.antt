@@ -1,4 +1,8 @@
-use Rattle.dm_workers.proofs.Whole.{all_words, all_agree, all_out, word_there, all_rooms, all_found}
+use Rattle.std.proofs.Common.{Option, sym, subst}
+use Rattle.std.specs.Prelude.{IfSome}
+use Rattle.dm_guide.specs.Tasks.{task_of}
+use Rattle.dm_search.specs.Moving.{IsOver}
+use Rattle.dm_workers.proofs.Whole.{all_evaluators, all_words, all_agree, all_out, word_there, all_rooms, all_found}
 use Rattle.dm_workers.proofs.finding.put_together.Goals as goal
 
 pub gather-requires-clause-words : goal.gather-requires-clause-words
@@ -7,23 +11,29 @@ gather-requires-clause-words g c = all_words _ _ _ _ _ c.requires.worked
 pub settle_all-requires : goal.settle_all-requires
 settle_all-requires g c =
     record {
-      deques = all_agree _ _ _ _ _ _ _ _ _ _ _ c.requires.kept c.requires.hand _ c.requires.worked _ _ c.nothing_gathered-first.ensures c.in_ok-all.ensures;
+      deques = all_agree _ _ _ _ _ _ _ _ _ _ _ c.requires.kept c.requires.hand _ c.requires.worked _ _ c.nothing_gathered-first.ensures.nothing c.in_ok-all.ensures.gathered;
     }
 
 pub check_empty-requires : goal.check_empty-requires
 check_empty-requires g c =
     c.in_ok-settled.ensures.lent 0
-    (all_out _ _ _ _ _ _ _ _ _ _ _ c.requires.kept c.requires.hand _ c.requires.worked _ _ c.nothing_gathered-first.ensures c.in_ok-all.ensures)
+    (all_out _ _ _ _ _ _ _ _ _ _ _ c.requires.kept c.requires.hand _ c.requires.worked _ _ c.nothing_gathered-first.ensures.nothing c.in_ok-all.ensures.gathered)
 
 pub close-least-requires-clause-word : goal.close-least-requires-clause-word
 close-least-requires-clause-word g c =
-    word_there _ _ _ _ _ _ _ _ _ _ _ c.requires.kept c.requires.hand _ c.requires.worked _ _ c.nothing_gathered-first.ensures c.in_ok-all.ensures
+    word_there _ _ _ _ _ _ _ _ _ _ _ c.requires.kept c.requires.hand _ c.requires.worked _ _ c.nothing_gathered-first.ensures.nothing c.in_ok-all.ensures.gathered
 
 pub close-least-requires-clause-alone : goal.close-least-requires-clause-alone
 close-least-requires-clause-alone g c =
-    all_rooms _ _ _ _ _ _ _ _ _ _ _ c.requires.kept c.requires.hand _ c.requires.worked _ _ c.nothing_gathered-first.ensures c.in_ok-all.ensures _ c.requires.rooms
+    all_rooms _ _ _ _ _ _ _ _ _ _ _ c.requires.kept c.requires.hand _ c.requires.worked _ _ c.nothing_gathered-first.ensures.nothing c.in_ok-all.ensures.gathered _ c.requires.rooms
 
 pub returns-clause-found : goal.returns-clause-found
 returns-clause-found g c =
-    all_found _ _ _ _ _ _ _ _ _ _ _ c.requires.kept c.requires.hand _ c.requires.worked _ _ c.nothing_gathered-first.ensures c.in_ok-all.ensures c.in_ok-settled.settled.items
+    all_found _ _ _ _ _ _ _ _ _ _ _ c.requires.kept c.requires.hand _ c.requires.worked _ _ c.nothing_gathered-first.ensures.nothing c.in_ok-all.ensures.gathered c.in_ok-settled.settled.items
     c.in_ok-settled.ensures.put c.in_ok-settled.ensures.taken c.in_ok-owners.ensures.all _ c.close-least.ensures.least c.close-least.ensures.looked
+
+pub returns-clause-evaluator : goal.returns-clause-evaluator
+returns-clause-evaluator g c =
+    c.in_ok-all.ensures.evaluator (task_of c.args.task.now)
+    (subst (λ (e : Option _). IfSome e (IsOver (task_of c.args.task.now))) (sym c.nothing_gathered-first.ensures.evaluator) tt)
+    (all_evaluators _ _ _ _ _ c.requires.worked)

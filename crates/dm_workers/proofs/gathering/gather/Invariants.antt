@@ -1,6 +1,8 @@
 use Rattle.std.proofs.Common.{◌≡◌, ℕ, List, [], All}
-use Rattle.std.specs.Prelude.{IfOk}
+use Rattle.std.specs.Prelude.{IfOk, IfSome}
 use Rattle.atomic_blocks.specs.Lent.{RowsId}
+use Rattle.dm_search.specs.Moving.{IsOver}
+use Rattle.dm_tree.specs.Plans.{Task}
 use Rattle.dm_workers.specs.Nodes.{GuidedTask}
 use Rattle.dm_workers.specs.declared.working.Worker.{Worker}
 use Rattle.dm_workers.specs.Inside.Together.{AreHandedIn, IsGatheredFrom}
@@ -12,6 +14,8 @@ invariant-loop-worker g l =
     record {
       words : All (λ r. IfOk r (λ w. w.hand.word ≡ l.fn.word.id)) l.worker-iterator.rest.items;
       word : l.gathered.hand.word ≡ l.fn.word.id;
+      evaluator : (task : Task) → IfSome l.fn.first.evaluator (IsOver task) → All (λ r. IfOk r (λ w. IfSome w.evaluator (IsOver task))) l.fn.worked.items
+          → IfSome l.gathered.evaluator (IsOver task) × All (λ r. IfOk r (λ w. IfSome w.evaluator (IsOver task))) l.worker-iterator.rest.items;
       going : (task : GuidedTask) (own start rooms : ℕ) (theirs : List RowsId) (jobs : List (Worker _)) → AreHandedIn task own l.fn.word.id start theirs jobs l.fn.worked.items
           → IsGatheredFrom task own l.fn.word.id start rooms theirs [] l.fn.first → Going task own l.fn.word.id start rooms theirs jobs l.gathered l.worker-iterator.rest.items;
     }

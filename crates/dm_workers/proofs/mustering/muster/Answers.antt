@@ -18,17 +18,25 @@ loop-owner-preserved g c =
       purses = front_of_all (IsPurse c.args.equipped.owners.items) c.loop-owner.purses.items _ c.in-Some-pop.tallies c.in-Some-pop.ensures.items inv.purses;
       many = one_fewer c.loop-owner.purses.items _ c.in-Some-pop.tallies c.loop-owner.owner-iterator.rest.items _ c.in-Some.owner c.in-Some-pop.ensures.items rest inv.many;
       hand = one_split c.args.hand.now c.loop-owner.hand _ (length c.loop-owner.workers.items) _ inv.hand c.split-part.ensures.left (ap length is ∙ length-append _ _);
-      new =
-          all_more (IsNewWorker c.args.own c.args.word.now.id c.args.hand.now.start (map deque_of c.args.equipped.owners.items)) _ _ _ is inv.new
-          (record {
-            taken = first_of_all HasTakenNothing c.in-Some.owner _ _ rest inv.left;
-            tallies = c.into_vec.ensures ∙ last_of_all (IsPurse c.args.equipped.owners.items) c.loop-owner.purses.items _ c.in-Some-pop.tallies c.in-Some-pop.ensures.items inv.purses;
-            leaves = search rules;
-            word_is = ap (λ (h : HandValue). h.word) part ∙ (ap (λ (h : HandValue). h.word) inv.hand ∙ c.requires.word);
-            start_is = ap (λ (h : HandValue). h.start) part ∙ ap (λ (h : HandValue). h.start) inv.hand;
-            room = ap (λ (h : HandValue). h.room) part;
-            lowered = ap (λ (h : HandValue). h.lowered) part;
-            choices = search rules;
-            cost = refl;
-          });
+      new = λ task all.
+          let had = inv.new task all in
+          let lent = c.lend.ensures task had.1 in (
+            all_more (IsNewWorker task c.args.own c.args.word.now.id c.args.hand.now.start (map deque_of c.args.equipped.owners.items)) _ _ _ is had.0
+                (record {
+                  taken = first_of_all HasTakenNothing c.in-Some.owner _ _ rest inv.left;
+                  tallies = c.into_vec.ensures ∙ last_of_all (IsPurse c.args.equipped.owners.items) c.loop-owner.purses.items _ c.in-Some-pop.tallies c.in-Some-pop.ensures.items inv.purses;
+                  leaves = search rules;
+                  word_is = ap (λ (h : HandValue). h.word) part ∙ (ap (λ (h : HandValue). h.word) inv.hand ∙ c.requires.word);
+                  start_is = ap (λ (h : HandValue). h.start) part ∙ ap (λ (h : HandValue). h.start) inv.hand;
+                  room = ap (λ (h : HandValue). h.room) part;
+                  lowered = ap (λ (h : HandValue). h.lowered) part;
+                  choices = search rules;
+                  cost = refl;
+                  evaluator = lent.0;
+                }),
+            lent.1,
+          );
     }
+
+pub returns-clause-new : goal.returns-clause-new
+returns-clause-new g c = λ task all. (c.loop-owner.invariant.new task all).0

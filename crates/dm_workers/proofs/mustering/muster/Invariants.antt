@@ -1,5 +1,7 @@
 use Rattle.std.proofs.Common.{◌≡◌, ◌++◌, ◌-◌, map, All, length}
 use Rattle.dm_deques.specs.Sharing.{deque_of}
+use Rattle.dm_search.specs.Moving.{IsOver}
+use Rattle.dm_tree.specs.Plans.{Task}
 use Rattle.dm_workers.specs.Inside.Gathering.{HasTakenNothing}
 use Rattle.dm_workers.specs.Inside.Workers.{IsNewWorker, owner_of}
 use Rattle.dm_workers.proofs.Enlisted.{IsPurse}
@@ -13,5 +15,6 @@ invariant-loop-owner g l =
       purses : All (IsPurse l.fn.equipped.owners.items) l.purses.items;
       many : length l.purses.items ≡ length l.owner-iterator.rest.items;
       hand : l.hand ≡ record l.fn.hand { room = l.fn.hand.room - length l.workers.items };
-      new : All (IsNewWorker l.fn.own l.fn.word.id l.fn.hand.start (map deque_of l.fn.equipped.owners.items)) l.workers.items;
+      new : (task : Task) → All (IsOver task) l.fn.evaluators.items
+          → All (IsNewWorker task l.fn.own l.fn.word.id l.fn.hand.start (map deque_of l.fn.equipped.owners.items)) l.workers.items × All (IsOver task) l.evaluators.items;
     }

@@ -1,5 +1,4 @@
 use Rattle.std.proofs.Common.{ℕ, Bool, List}
-use Rattle.std.specs.Prelude.{IfSome}
 use Rattle.dm_guide.specs.Tasks.{task_of}
 use Rattle.dm_search.specs.Moving.{IsOver}
 use Rattle.dm_workers.specs.Nodes.{guided_by}
@@ -11,7 +10,7 @@ abbrev pub invariant-loop : goal.invariant-loop
 invariant-loop g l =
     record {
       same : IsSameWorker l.initial.self l.self;
-      at : IfSome l.evaluator (IsOver (task_of l.team.task.now));
+      at : IsOver (task_of l.team.task.now) l.evaluator;
       works : (given : List Bool → ℕ) (start : ℕ) → IsWorking (guided_by l.team.task.now l.team.guide.now) l.team.own l.team.word.now.id start given nothing l.initial.self
           → IsWorking (guided_by l.team.task.now l.team.guide.now) l.team.own l.team.word.now.id start given nothing l.self;
     }

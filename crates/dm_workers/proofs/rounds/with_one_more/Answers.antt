@@ -1,0 +1,8 @@
+use Rattle.dm_guide.specs.Tasks.{task_of}
+use Rattle.dm_search.specs.Moving.{IsOver}
+use Rattle.dm_workers.proofs.Enlisted.{all_more}
+use Rattle.dm_workers.proofs.rounds.with_one_more.Goals as goal
+
+pub returns : goal.returns
+returns c =
+    all_more (IsOver (task_of c.args.task.now)) _ _ c.args.evaluator c.in_ok-push.ensures.items c.requires.evaluators c.requires.evaluator

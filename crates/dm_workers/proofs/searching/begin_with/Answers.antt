@@ -1,0 +1,9 @@
+use Rattle.dm_guide.specs.Tasks.{task_of}
+use Rattle.dm_search.specs.Moving.{IsOver}
+use Rattle.dm_workers.proofs.Enlisted.{all_more}
+use Rattle.dm_workers.proofs.searching.begin_with.Goals as goal
+
+pub returns-clause-evaluators : goal.returns-clause-evaluators
+returns-clause-evaluators c =
+    all_more (IsOver (task_of c.args.task.now)) _ _ c.choices_of.new.evaluator c.in_ok-push.ensures.items
+    (c.lend.ensures _ c.requires.evaluators).1 c.choices_of.ensures.evaluator
