@@ -11,7 +11,7 @@ put_together-requires-clause-hand g c =
 
 pub put_together-requires-clause-worked : goal.put_together-requires-clause-worked
 put_together-requires-clause-worked g c =
-    subst (λ (n : ℕ). AreDone (guided_by c.args.task.now c.args.guide.now) c.args.own c.in_ok-word.word.id n c.in_ok-worked.worked.items)
+    subst (λ (n : ℕ). AreDone (guided_by c.args.task.now c.args.guide.now) c.args.beginning.own c.in_ok-word.word.id n c.in_ok-worked.worked.items)
     (sym (ap (λ (h : HandValue). h.start) c.in_ok-crew.ensures.hand ∙ (ap (λ (h : HandValue). h.start) c.lower.ensures.lowered ∙ ap (λ (h : HandValue). h.start) c.in_ok-word.ensures.hand)))
     (are_done _ _ _ _ _ _ _ _ c.in_ok-crew.ensures.owners (c.in_ok-equipped.ensures.deques ∙ c.in_ok-owners.ensures.thieves) (one_given c.in_ok-owners.owners.items c.in_ok-equipped.equipped.owners.items c.in_ok-equipped.ensures.put c.in_ok-owners.ensures.root)
     (lent_to_all _ _ _ c.in_ok-equipped.ensures) c.in_ok-worked.ensures)
