@@ -1,5 +1,5 @@
 -- How the text of a store ends.
-use Rattle.std.proofs.Common.{◌≡◌, ◌≢◌, ℕ, ◌<◌, ◌⊎◌, inl, inr, List, length, Option, None, Some, Ok, refl, sym, subst, ◌∙◌}
+use Rattle.std.proofs.Common.{◌≡◌, ◌≢◌, ℕ, inl, inr, List, length, Option, None, Some, Ok, refl, sym, subst, ◌∙◌}
 use Rattle.std.specs.Io.KnownBytes.{Appends, Keeps}
 use Rattle.dm_cert.specs.Answers.{Setting}
 use Rattle.dm_input.specs.Input.{IsHeld, Opening, OpeningAnswer, Told}

@@ -1,5 +1,5 @@
 -- The numbers of words, and that the files that they name determine rows without a cycle.
-use Rattle.std.proofs.Common.{◌≡◌, ℕ, ◌≤◌, ◌<◌, ◌^◌, List, Option, Some, None, Ok, Result, sym, subst, arith}
+use Rattle.std.proofs.Common.{◌≡◌, ℕ, ◌≤◌, List, Option, Some, None, Ok, Result, sym, subst, arith}
 use Rattle.dm_base.specs.declared.limits.TheConstants.{PENALTY, WORKERS}
 use Rattle.dm_network.specs.Start.{IsNetwork}
 use Rattle.dm_rows.specs.Active.{HasNoCycle}

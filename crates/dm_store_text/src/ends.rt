@@ -1,5 +1,5 @@
 //! The ends that print one line: why nothing else is printed.
-ghost use Rattle.std.specs.Prelude.{◌≡◌, ◌≢◌, ◌≤◌, ◌∷◌, []};
+ghost use Rattle.std.specs.Prelude.{◌≡◌, ◌≢◌, ◌≤◌};
 ghost use Rattle.dm_outside.specs.Printing.{Puts, pieces_text};
 ghost use Rattle.dm_words.specs.Asked.{files_of};
 ghost use Rattle.dm_store_text.specs.Lines.{kind_word, refusal_line, store_line, form_line, bad_line, reply_line, feed_line, unread_line};
