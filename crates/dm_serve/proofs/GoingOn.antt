@@ -1,24 +1,13 @@
 -- Feeds that go on with their logs, one after another.
-use Rattle.std.proofs.Common.{◌≡◌, ◌≢◌, ℕ, ◌+◌, ◌<◌, ◌≤◌, inl, inr, List, [], ◌∷◌, ◌++◌, length, map, set, get_or, Option, Some, Ok, Err, refl, sym, ap, subst, ◌∙◌, arith, slice_get, All, length-append}
-use Rattle.std.specs.Prelude.{Result, IfErr, IfSome, OnOk}
+use Rattle.std.proofs.Common.{◌≡◌, ◌≢◌, ℕ, ◌+◌, ◌<◌, inl, inr, List, [], ◌∷◌, ◌++◌, length, map, set, get_or, Option, Some, refl, sym, ap, subst, ◌∙◌, arith, slice_get, length-append}
 use Rattle.std.specs.Option.{option_map}
-use Rattle.std.proofs.lemmas.Bool.{cases_eq}
 use Rattle.std.proofs.lemmas.List.{length-map, length-set}
-use Rattle.std.proofs.lemmas.Option.{slice_get_within, slice_get-map, slice_get-get_or, get_or_from_slice_get}
+use Rattle.std.proofs.lemmas.Option.{slice_get_within, slice_get-map, slice_get-get_or}
 use Rattle.dm_cert.specs.declared.replies.FeedLog.{FeedLog}
 use Rattle.dm_cert.specs.declared.replies.LogItem.{LogItem}
 use Rattle.dm_cert.proofs.ListsOfLogs.{get_set_same, get_set_other}
-use Rattle.dm_cert.specs.Logs.{IsInOrder}
-use Rattle.dm_cert.specs.RunTexts.{IsSpelledItem}
-use Rattle.dm_desk.specs.Answered.{AreTrueOf}
-use Rattle.dm_desk.specs.Desks.{DeskValue}
-use Rattle.dm_outside.specs.Faults.{HasRisen}
 use Rattle.dm_rounds.proofs.Places.{behind_push, mapped_at, some_is}
-use Rattle.dm_tail.specs.Feeds.{IsReady}
-use Rattle.dm_tail.specs.Watching.{IsWatched}
-use Rattle.dm_tail.specs.declared.tail.Tail.{Tail}
 use Rattle.dm_tail.specs.declared.watched.Watched.{Watched}
-use Rattle.dm_catch_up.specs.Feeds.{IsChanged}
 use Rattle.dm_catch_up.specs.Catching.{RefusesFeed}
 use Rattle.dm_catch_up.specs.declared.catching.CatchUpStop.{CatchUpStop}
 use Rattle.dm_catch_up.specs.declared.catching.CatchUpStop.TheVariants as feed

@@ -18,7 +18,7 @@ use Rattle.dm_book.specs.Books.{Book, reply_text}
 use Rattle.dm_restore.specs.Restoring.{IsRestored, RefusesBook}
 use Rattle.dm_restore.specs.declared.stops.RestoreStop.{RestoreStop}
 use Rattle.dm_restore.specs.declared.stops.RestoreStop.TheVariants as why
-use Rattle.dm_serve.specs.Lives.{IsLeft, IsTakenUp}
+use Rattle.dm_serve.specs.Lives.{IsLeft}
 use Rattle.dm_serve.specs.Inside.Replies.{ShowsMore, StopsComparing}
 use Rattle.dm_serve.specs.Inside.Stages.{FindsBook, HoldsMore, IsWholeEnd, StopsReadingBack}
 use Rattle.dm_serve.specs.Inside.Telling.{stop_of_read, stop_of_restore}

@@ -1,10 +1,9 @@
 //! The ends of a server.
-ghost use Rattle.std.specs.Prelude.{◌≡◌, ◌≤◌, ◌≢◌, ℕ, List, All, IfSome, slice_get, map, IfOk};
-ghost use Rattle.dm_cert.specs.RunTexts.{FitsRun, IsSpelledLog, IsSpelledRun};
+ghost use Rattle.std.specs.Prelude.{◌≡◌, ◌≤◌, All, map, IfOk};
+ghost use Rattle.dm_cert.specs.RunTexts.{IsSpelledLog};
 ghost use Rattle.dm_words.specs.Asked.{names_in};
 ghost use Rattle.dm_words.specs.ServerAsked.{server_of};
 ghost use Rattle.dm_table.specs.Value.{IsTable};
-ghost use Rattle.dm_store_text.specs.Written.{run_in};
 ghost use Rattle.dm_serve.specs.Inside.Stages.{EndsAtFeeds, EndsDay, EndsRound, EndsStart, EndsUnopened, HasReason, log_in, tail_in};
 
 use crate::opening::{Unopened, name_at};
@@ -20,7 +19,8 @@ use dm_watch::{RoundStop, Watch};
 use dm_words::{Names, ServeWords};
 use std::alloc::{AllocError, Global};
 
-/// How a server ended: the status, and its feeds as far as they were read, unless a round stopped it or it did not come to them.
+/// How a server ended: the status, and its feeds as far as they were read, unless it did not come to them, or the store or a round
+/// stopped it.
 #[derive(Drop)]
 pub struct DayEnd<T: Growing + Drop> {
     pub status: Status,

@@ -1,5 +1,5 @@
 //! A server, from its words to its end.
-ghost use Rattle.std.specs.Prelude.{◌≡◌, ◌≤◌, ℕ, List, [], Option, Some, Ok, All, length, map, slice_get, vec_len, IfOk, IfSome};
+ghost use Rattle.std.specs.Prelude.{◌≡◌, ◌≤◌, List, Option, Ok, All, length, map, vec_len, IfOk};
 ghost use Rattle.std.specs.Io.KnownBytes.{Keeps};
 ghost use Rattle.std.specs.Thread.{IsSync};
 ghost use Rattle.dm_base.specs.declared.limits.TheConstants.{BOARDS, BUDGET, PENALTY, WORKERS};

@@ -1,5 +1,5 @@
 //! The start of a server: what its store holds is taken up, and its feeds go on with that.
-ghost use Rattle.std.specs.Prelude.{◌-◌, ◌≡◌, ◌≤◌, ◌<◌, ◌^◌, true, ℕ, List, length, map, All, IfOk, IfErr, OnOk, IsTrue, ◌↔◌};
+ghost use Rattle.std.specs.Prelude.{◌-◌, ◌≡◌, ◌≤◌, ◌<◌, ◌^◌, length, map, All, IfOk, IfErr, OnOk};
 ghost use Rattle.dm_base.specs.declared.limits.TheConstants.{FEEDS, PENALTY};
 ghost use Rattle.dm_cert.specs.declared.limits.TheConstants.{PLANS};
 ghost use Rattle.dm_rows.specs.Active.{HasNoCycle};

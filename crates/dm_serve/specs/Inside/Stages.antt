@@ -1,5 +1,5 @@
 -- Stages of a server: its start, its rounds and its end.
-use Rattle.std.specs.Prelude.{ℕ, ◌≡◌, ◌≢◌, ◌+◌, ◌^◌, ◌<◌, ◌≤◌, ◌↔◌, Bool, List, [], length, map, codes, All, Option, Some, None, slice_get, slice_index_or, Result, IfSome, IfOk, OnOk, IsTrue, ◌⊎◌}
+use Rattle.std.specs.Prelude.{ℕ, ◌≡◌, ◌≢◌, ◌+◌, ◌<◌, ◌≤◌, ◌↔◌, Bool, List, [], length, map, codes, All, Option, Some, None, slice_get, slice_index_or, Result, IfSome, IfOk, OnOk, IsTrue, ◌⊎◌}
 use Rattle.std.specs.List.{flat_map}
 use mathlib.Core.List.{IsPrefix}
 use Rattle.dm_base.specs.declared.limits.TheConstants.{FEEDS}
@@ -15,11 +15,11 @@ use Rattle.dm_cert.specs.Logs.{IsInOrder}
 use Rattle.dm_cert.specs.RunTexts.{FitsRun, IsSpelledItem, run_text}
 use Rattle.dm_desk.specs.Answered.{AreTrueOf}
 use Rattle.dm_desk.specs.Desks.{DeskValue}
-use Rattle.dm_store.specs.Blocks.{at_rest, block, refusal}
-use Rattle.dm_store.specs.Calls.{Image, LeavesJournal, LeavesOnly}
+use Rattle.dm_store.specs.Blocks.{block, refusal}
+use Rattle.dm_store.specs.Calls.{Image, LeavesOnly}
 use Rattle.dm_store.specs.Journals.{IsFound}
 use Rattle.dm_store.specs.declared.journal.Journal.{Journal}
-use Rattle.dm_book.specs.Books.{AreFronts, AreRecorded, Book, IsFrontBook, IsSafe, IsTrueBook, reply_text}
+use Rattle.dm_book.specs.Books.{Book, IsFrontBook, IsSafe, reply_text}
 use Rattle.dm_table.specs.Value.{TableValue}
 use Rattle.dm_table_desk.specs.Tables.{setting_of}
 use Rattle.dm_tail.specs.Feeds.{IsReady}

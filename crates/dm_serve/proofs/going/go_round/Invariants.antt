@@ -1,4 +1,4 @@
-use Rattle.std.proofs.Common.{◌≡◌, ◌≤◌, length, map}
+use Rattle.std.proofs.Common.{◌≡◌, ◌≤◌, length}
 use Rattle.dm_cert.specs.Answers.{Setting}
 use Rattle.dm_book.specs.Books.{Book}
 use Rattle.dm_display.specs.Displays.{AreUp}

@@ -1,4 +1,4 @@
-use Rattle.std.proofs.Common.{◌≡◌, ◌<◌, ◌≤◌, Ok, Err, length, refl, arith}
+use Rattle.std.proofs.Common.{◌<◌, ◌≤◌, Ok, Err, length, refl, arith}
 use Rattle.std.proofs.lemmas.Option.{slice_get_read}
 use Rattle.dm_serve.specs.declared.starting.StartStop.{StartStop}
 use Rattle.dm_serve.proofs.Answering.{all_renewed, renewed_one}

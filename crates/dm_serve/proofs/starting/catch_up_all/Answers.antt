@@ -1,4 +1,4 @@
-use Rattle.std.proofs.Common.{◌≡◌, ◌<◌, List, [], ◌∷◌, length, map, set, Some, refl, sym, ap, subst, ◌∙◌, arith, slice_get, length-append}
+use Rattle.std.proofs.Common.{◌≡◌, ◌<◌, [], ◌∷◌, length, map, set, Some, refl, sym, ap, subst, ◌∙◌, arith, slice_get, length-append}
 use Rattle.std.proofs.lemmas.Option.{slice_get_read}
 use Rattle.dm_tail.proofs.AllFeeds.{all_yielded, one_yielded, some_left, stands_here}
 use Rattle.dm_serve.specs.declared.starting.StartStop.{StartStop}

@@ -1,5 +1,4 @@
-use Rattle.std.proofs.Common.{◌≡◌, Err, sym, ap, subst, ◌∙◌}
-use Rattle.dm_book.specs.Books.{head_text}
+use Rattle.std.proofs.Common.{Err, sym, ap, subst, ◌∙◌}
 use Rattle.dm_serve.specs.Inside.Stages.{StopsPutting}
 use Rattle.dm_serve.proofs.Begun.{begun_new, begun_old, commit_stops_later, head_is, head_leaves, no_blocks, recover_leaves, recover_stops, some_block}
 use Rattle.dm_serve.proofs.starting.put_right.Goals as goal
