@@ -87,7 +87,19 @@ def into_folder(name: str) -> Making:
     return make
 
 
+def serve(words: list[str], then: Making = lambda program: None) -> Making:
+    """Lets a server answer what its feed has, and end, and changes something then."""
+    def make(program: str) -> None:
+        os.mkdir('store')
+        write('store/stop', b'')
+        subprocess.run([program, 'serve', 'net', 'store', 'f', *words], capture_output=True, check=True)
+        then(program)
+    return make
+
+
 RUN = ['run', 'net', 'f']
+SERVE = ['serve', 'net', 'store', 'f']
+TEXT = ['text', 'net', 'store', 'f']
 PAGE = ['...', '  run DIR FEED..', '...', '  check DIR TEXT', '...', '  gen NUMBER TRAINS', '...',
         '  --penalty=3600   seconds for each passenger who misses a change (3600)', '...',
         'at most 64 feeds of 262144 bytes, 100000 events, 500000 activities, 1000000 entries, plans of 16384 nodes', '...',
@@ -121,6 +133,9 @@ USAGE = [
           '--held takes 1 to 4096 different numbers of activities, as --held=5,6', LIST]),
     Case('minimal', ['window', 'net', 'f', '0', '9', '1', '--minimal=-1'], 2, ['word 7: --minimal takes 0 to 18446744073709551615', LIST]),
     Case('boards', [*RUN, '--boards=2,2'], 2, ['--boards takes 1 to 64 different numbers of stops, as --boards=4,2', LIST]),
+    Case('server without a feed', ['serve', 'net', 'store'], 2, ['names are missing: serve DIR STORE FEED..', LIST]),
+    Case('too many feeds of a server', ['serve', 'net', 'store', *['f'] * 65], 2, ['65 feeds, at most 64', LIST]),
+    Case('option that no text of a store has', [*TEXT, '--held=5'], 2, ['word 5: `text` has no option --held', LIST]),
     Case('generated day', ['gen', '1', '2001'], 2,
          ['gen takes a NUMBER of 0 to 18446744073709551615 and 1 to 2000 TRAINS', LIST]),
 ]
@@ -236,6 +251,37 @@ FEEDS = [
     Case('board without events', [*RUN, '--boards=2,9'], 0, ['no event has the stop 9, so its board shows nothing'], feed(b'cost\n')),
 ]
 
+LIVE = [
+    Case('server that is told to end', SERVE, 0, ['...', 'told to end: the run is printed, and the store holds it'], serve([])),
+    Case('text of a store', TEXT, 0, [], serve([])),
+    Case('no folder of a store', SERVE, 4, ['the folder store must be there, and its files be read and written']),
+    Case('no journal', TEXT, 4, ['store/journal: No such file or directory (os error 2)']),
+    Case('another penalty of a store', TEXT, 3,
+         ['the store was begun with another --penalty, other --plans or another number of feeds'], serve(['--penalty=10'])),
+    Case('another number of feeds', [*SERVE, 'f'], 3,
+         ['the store was begun with another --penalty, other --plans or another number of feeds'], serve([])),
+    Case('answered line that was changed', SERVE, 3,
+         ['feed 1 was cut, replaced or changed; `tools/refill.py` puts its lines back from reply-1.txt of the store'],
+         serve([], feed(b'read\n'))),
+    Case('misshapen block', TEXT, 3,
+         ['block 1 of the journal is not as a server writes it: bring the store back from a copy'],
+         serve([], edit('store/journal', b'dm-store 1', b'dm-stone 1'))),
+    Case('reply file with more', SERVE, 3,
+         ['reply-1.txt shows what the journal does not hold: is the journal an older copy?'],
+         serve([], lambda program: write('store/reply-1.txt', read('store/reply-1.txt') + b'2 cost -> 0 cost 0\n'))),
+    Case('store of another network', TEXT, 3,
+         ['line 6 of the text of the journal: the answer is not the one that the rows at its entry give; '
+          'are the network, its columns and the delays at the start those of the store?'],
+         serve([], edit('store/journal', b'0 cost 0', b'0 cost 1'))),
+    Case('feed of a server that cannot be opened', ['serve', 'net', 'store', 'g'], 4,
+         ['g: No such file or directory (os error 2)'], serve([])),
+    Case('network that is refused', SERVE, 3,
+         [f'{EVENTS} begins with a byte order mark (EF BB BF): save it as UTF-8 without one'],
+         serve([], edit(EVENTS, b'# event-id', b'\xef\xbb\xbf# event-id'))),
+    Case('text that is not taken', TEXT, 5,
+         ['the output, the journal, a reply file or a feed could not be written or synced: has the disk room?'], serve([]), out='/dev/full'),
+]
+
 ENDS = [
     Case('output that is full', RUN, 5, ['the output could not be written to its end'], feed(b'cost\n'), out='/dev/full'),
     Case('no memory', ['check', 'net', 'text'], 6,
@@ -280,7 +326,7 @@ def main() -> None:
     add_program(words)
     program = words.parse_args().program
     bad = 0
-    cases = USAGE + TEXTS + FILES + FEEDS + ENDS
+    cases = USAGE + TEXTS + FILES + FEEDS + LIVE + ENDS
     for case in cases:
         with tempfile.TemporaryDirectory() as folder:
             shutil.copytree(NET, os.path.join(folder, 'net'))

@@ -1,17 +1,26 @@
 //! The dispatcher's server: keeps the timetable of a railway network up to date while feeds report delays.
 //!
-//! It makes the real shelf, sink and gate, and a board in the file `DIR/board-S.txt` for each stop S that the words give, calls
-//! `dm_program::dispatch` with the words of the command line, says on the standard error what went amiss, and ends with its
-//! status. It stands on dm_program for `dispatch`, on dm_hints for what is said, on dm_words for the folder and the stops of
-//! the boards, and on dm_boards and dm_outside for the real forms.
+//! It makes the real shelf, sink and gate, and a board in the file `DIR/board-S.txt` for each stop S that the words give. Where the
+//! words ask for the live server it opens the feeds and the folder of the store and calls `dm_serve::serve_day`, or
+//! `dm_store_text::text_of_store`; else it calls `dm_program::dispatch` with the words. It says on the standard error what went amiss,
+//! and of a server what it found as it began, and ends with the status. It stands on dm_program, dm_serve and dm_store_text for these
+//! calls, on dm_store and dm_tail for the real store and feeds, on dm_hints for what is said, on dm_words for what the words name, and
+//! on dm_boards and dm_outside for the other real forms.
 #![tactic(auto)]
 
+ghost use Rattle.std.specs.Prelude.{◌≤◌, vec_len, IfOk};
+ghost use Rattle.dm_base.specs.declared.limits.TheConstants.{BOARDS};
+
+mod live;
+mod pace;
+
+use crate::live::{do_live, is_live};
 use dm_boards::FileBoard;
-use dm_hints::{Listener, tell};
+use dm_hints::{Listener, tell, tell_live};
 use dm_outside::{Board, FolderShelf, OpenGate, StdSink};
 use dm_program::{Status, dispatch};
-use dm_words::{CommandWords, board_words, read_words};
-use std::alloc::AllocError;
+use dm_words::{CommandWords, LiveWords, board_words, read_serve_words, read_words};
+use std::alloc::{AllocError, Global};
 use std::env;
 use std::fs::File;
 use std::io::ErrorKind;
@@ -22,20 +31,25 @@ fn main(rt: HostRuntime) -> ExitCode {
     let Ok(words) = words(&rt) else {
         return end(Status::NoMemory);
     };
-    let Ok(stops) = board_words(rt.alloc(), words.as_slice()) else {
+    let Ok(stops) = stops(rt.alloc(), words.as_slice()) else {
         return end(Status::NoMemory);
     };
     let mut boards: Vec<Box<dyn Board>> = Vec::new(rt.alloc());
     for stop in &stops {
-        let Ok(board) = board_of(rt, words.as_slice(), *stop) else {
+        let Ok(board) = board_in(rt, folder(words.as_slice()), *stop) else {
             return end(Status::NoMemory);
         };
         let Ok(()) = boards.push(board) else {
             return end(Status::NoMemory);
         };
     }
-    let mut shelf = FolderShelf::new(&rt);
     let mut out = Listener::new(StdSink::new(rt.stdout()));
+    if is_live(words.as_slice()) {
+        let status = do_live(&rt, rt, words.as_slice(), &mut boards, &mut out);
+        let _ = tell_live(&rt, words.as_slice(), status as u8, &out);
+        return ExitCode::from(status as u8);
+    }
+    let mut shelf = FolderShelf::new(&rt);
     let status = dispatch(
         &rt,
         rt.alloc(),
@@ -53,22 +67,32 @@ fn end(status: Status) -> ExitCode {
     ExitCode::from(status as u8)
 }
 
-/// The board of a stop, in its file of the folder that the words name.
-fn board_of<R: AllocGlobal + Files<File = File> + Drop>(
+/// The stops of the boards that the words give.
+fn stops(alloc: Global, words: &[String]) -> Result<Vec<u32>, AllocError>
+    ensures { IfOk result (λ stops. vec_len stops ≤ BOARDS) }
+{
+    match read_serve_words(words) {
+        Some(LiveWords::Serve(server)) => server.run.boards.to_vec(alloc),
+        _ => board_words(alloc, words),
+    }
+}
+
+/// The board of a stop, in its file of a folder.
+fn board_in<R: AllocGlobal + Files<File = File> + Drop>(
     rt: R,
-    words: &[String],
+    folder: &str,
     stop: u32,
 ) -> Result<Box<FileBoard<R>>, AllocError> {
     let alloc = rt.alloc();
-    let folder = folder(words);
     let path = format!(in alloc; "{folder}/board-{stop}.txt")?;
     Ok(Box::new(alloc, FileBoard::new(alloc, rt, path, stop))?)
 }
 
-/// The folder that the words of a run name.
+/// The folder that the words of a run or of a server name.
 fn folder(words: &[String]) -> &str {
-    match read_words(words) {
-        Some(CommandWords::Run(run)) => run.files.folder,
+    match (read_words(words), read_serve_words(words)) {
+        (Some(CommandWords::Run(run)), _) => run.files.folder,
+        (_, Some(LiveWords::Serve(server))) => server.run.files.folder,
         _ => "",
     }
 }

@@ -1,0 +1,131 @@
+//! The live server over real feeds, a real store and real boards.
+ghost use Rattle.std.specs.Prelude.{◌≡◌, ◌≤◌, length, vec_len, IfOk};
+ghost use Rattle.dm_base.specs.declared.limits.TheConstants.{BOARDS};
+ghost use Rattle.dm_words.specs.Asked.{names_in};
+ghost use Rattle.dm_words.specs.ServerAsked.{server_of};
+ghost use Rattle.dm_store_text.specs.Asked.{IsAsked};
+
+use crate::pace::FilePace;
+use dm_outside::{Board, FolderShelf, OpenGate, Sink};
+use dm_serve::{Means, Server, serve_day};
+use dm_store::{FileStore, Journal, OpenError};
+use dm_store_text::{Status, end_server_usage, end_store, end_unread, text_of_store};
+use dm_tail::FileFeed;
+use dm_words::{LiveWords, Names, ServeWords, read_serve_words};
+use std::alloc::{AllocError, Global};
+use std::fs::File;
+use std::rt::{Clock, Files};
+use std::sync::Wait;
+use std::thread::Threads;
+use std::time::Instant;
+
+/// Whether the first word is one of the live server's.
+pub fn is_live(words: &[String]) -> bool {
+    match words.first() {
+        Some(word) => word.as_str() == "serve" || word.as_str() == "text",
+        None => false,
+    }
+}
+
+/// Does what words of the live server ask. `files` is the runtime that a store and boards keep.
+pub fn do_live<
+    R: Threads + Wait + Sync + Clock + Eprint + Files<File = File>,
+    Q: AllocGlobal + Files<File = File> + Drop + Copy,
+    K: Sink,
+>(rt: &R, files: Q, words: &[String], boards: &mut Vec<Box<dyn Board>>, out: &mut K) -> Status
+    requires { vec_len boards.old ≤ BOARDS }
+{
+    match read_serve_words(words) {
+        Some(LiveWords::Serve(server)) => serve(rt, files, server, boards, out),
+        Some(LiveWords::Text(server)) => {
+            text_of_store(files.alloc(), &server, &mut FolderShelf::new(rt), out)
+        }
+        None => end_server_usage(out),
+    }
+}
+
+/// Serves until the file `stop` stands in the store.
+fn serve<
+    R: Threads + Wait + Sync + Clock + Eprint + Files<File = File>,
+    Q: AllocGlobal + Files<File = File> + Drop + Copy,
+    K: Sink,
+>(rt: &R, files: Q, words: ServeWords<'_>, boards: &mut Vec<Box<dyn Board>>, out: &mut K) -> Status
+    requires asked { IsAsked (server_of words) }
+    requires few_boards { vec_len boards.old ≤ BOARDS }
+{
+    let alloc = files.alloc();
+    let since = Instant::now(rt).ok();
+    let Ok((path, stop)) = paths(alloc, words.store) else {
+        return Status::NoMemory;
+    };
+    let Ok(feeds) = open_feeds(rt, alloc, words.run.feeds) else {
+        return Status::NoMemory;
+    };
+    let store = match FileStore::open(alloc, files, path, feeds.len() as u32) {
+        Ok(store) => store,
+        Err(stop) => return end_unopened(stop, words.store, out),
+    };
+    let mut journal = Journal::new(store);
+    let mut pace = FilePace {
+        rt,
+        stop,
+        feeds: feeds.len(),
+        since,
+    };
+    let means = Means {
+        rt,
+        alloc,
+        gate: &OpenGate,
+    };
+    let end = serve_day(
+        &means,
+        Server { words, feeds },
+        &mut FolderShelf::new(rt),
+        &mut journal,
+        boards,
+        &mut pace,
+        out,
+    );
+    end.status
+}
+
+/// The end of a server whose store was not opened.
+fn end_unopened<K: Sink>(stop: OpenError, store: &str, out: &mut K) -> Status {
+    match stop {
+        OpenError::OutOfMemory => Status::NoMemory,
+        OpenError::Locked => end_store(out, "locked"),
+        OpenError::Failed => end_unread(out, store),
+    }
+}
+
+/// The folder of a store, and its file `stop`.
+fn paths(alloc: Global, store: &str) -> Result<(String, String), AllocError> {
+    Ok((
+        format!(in alloc; "{store}")?,
+        format!(in alloc; "{store}/stop")?,
+    ))
+}
+
+/// The feeds of these names, each if it could be opened.
+fn open_feeds<R: Files<File = File>>(
+    rt: &R,
+    alloc: Global,
+    names: Names<'_>,
+) -> Result<Vec<Option<FileFeed>>, AllocError>
+    ensures { IfOk result (λ feeds. length feeds.items ≡ length (names_in names.entry)) }
+{
+    let mut feeds = Vec::new(alloc);
+    let mut rest = names;
+    while let Some((name, others)) = rest.split_first() {
+        let feed = match File::open(rt, name) {
+            Ok(file) => Some(FileFeed::new(file)),
+            Err(_) => None,
+        };
+        match feeds.push(feed) {
+            Ok(()) => {}
+            Err(error) => return Err(error.into()),
+        }
+        rest = others;
+    }
+    Ok(feeds)
+}

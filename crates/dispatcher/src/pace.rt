@@ -1,0 +1,75 @@
+//! How a server waits, and when it ends.
+use dm_serve::Pace;
+use std::fs::File;
+use std::rt::{Clock, Files};
+use std::time::{Duration, Instant};
+use std::{fs, io, thread};
+
+/// How many milliseconds a server waits where nothing is new.
+const PAUSE: u64 = 5;
+
+/// So many where it has many feeds, since each is looked at before the next pause.
+const PAUSE_OF_MANY: u64 = 10;
+
+/// How many feeds are not many.
+const FEW: usize = 16;
+
+/// A pace that waits a little where nothing is new, and ends the server where a file of this name is there.
+#[derive(Drop)]
+pub struct FilePace<'r, R> {
+    pub rt: &'r R,
+
+    /// The name of the file.
+    pub stop: String,
+
+    /// How many feeds there are.
+    pub feeds: usize,
+
+    /// When the server began, where the clock told it.
+    pub since: Option<Instant>,
+}
+
+impl<R: Clock + Eprint + Files<File = File>> Pace for FilePace<'_, R> {
+    // Nothing is told of what stands in a folder.
+    ghost told = { λ _. Unit {0} };
+
+    fn begin(&mut self, entries: u32) {
+        let _ = say_begun(
+            self.rt,
+            self.feeds,
+            entries,
+            millis_since(self.rt, self.since),
+        );
+    }
+
+    fn next(&mut self) -> bool {
+        let pause = if self.feeds > FEW {
+            PAUSE_OF_MANY
+        } else {
+            PAUSE
+        };
+        let _ = thread::sleep(self.rt, Duration::from_millis(pause));
+        fs::metadata(self.rt, self.stop.as_str()).is_err()
+    }
+}
+
+/// How many milliseconds went by since then, as the clock tells it.
+fn millis_since<R: Clock>(rt: &R, since: Option<Instant>) -> u64 {
+    let Some(since) = since else {
+        return 0;
+    };
+    match since.elapsed(rt) {
+        Ok(time) => time
+            .as_secs()
+            .saturating_mul(1000)
+            .saturating_add(time.subsec_millis() as u64),
+        Err(_) => 0,
+    }
+}
+
+/// Says what a server found, and how long that took.
+fn say_begun<R: Eprint>(rt: &R, feeds: usize, entries: u32, millis: u64) -> io::Result<()> {
+    eprintln!(rt;
+        "dispatcher: serving {feeds} feeds from entry {entries} on, read back and judged in {millis} ms"
+    )
+}
