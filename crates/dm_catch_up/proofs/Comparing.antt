@@ -37,9 +37,6 @@ fewer_left rest behind heard h = omega (arith, ap length h.cut, length-append (e
 
 module _ (part rest : List ℕ) (passed lines count : ℕ) (items : List LogItem) (same : AreSame part passed items rest lines count)
     (heard : Heard) (behind : List ℕ) (h : HearsFirst rest heard behind) where
-  front_now : List ℕ
-  front_now = same.front ++ ended h.line
-
   cut_now : part ≡ (same.front ++ ended h.line) ++ behind
   cut_now = same.cut ∙ (ap (λ (l : List ℕ). same.front ++ l) h.cut ∙ sym (append_assoc same.front (ended h.line) behind))
 
@@ -137,11 +134,6 @@ compared part rest passed lines count bytes items same size none_left = record {
   size = omega (arith, size, ap length same.cut, length-append same.front rest);
   none_left = none_left;
 }
-
--- no more than there are
-pub within : (answered : LogItem) (line : ℕ) (heard : Heard) (n : ℕ) → IsPassed answered line heard n → n ≤ 1
-within answered line heard n (inl p) = omega (arith, p.0)
-within answered line heard n (inr p) = omega (arith, p.0)
 
 -- a line is heard as what it says
 pub says_same : (heard : Heard) (line said : Line) (same : Bool) → heard ≡ Spoken line → MatchBool same (line ≡ said) (line ≡ said → ⊥) →
