@@ -1,5 +1,5 @@
 -- The book of a run that was read back.
-use Rattle.std.proofs.Common.{◌≡◌, ◌≤◌, inl, [], arith, inr, ℕ, Bool, List, length, map, sym, ap, subst, ◌∙◌}
+use Rattle.std.proofs.Common.{◌≡◌, ◌≤◌, inl, [], arith, inr, ℕ, Bool, List, length, map, sym, subst, ◌∙◌}
 use Rattle.std.specs.Prelude.{◌↔◌, IsTrue}
 use Rattle.std.proofs.lemmas.Bool.{cases_Bool}
 use Rattle.std.proofs.lemmas.List.{length-map}
@@ -16,7 +16,7 @@ use Rattle.dm_check.specs.declared.verdicts.Verdict.TheVariants.{Bad}
 use Rattle.dm_check.specs.FalseRecords.{IsVerdict}
 use Rattle.dm_table.specs.Value.{TableValue, IsTable}
 use Rattle.dm_table_desk.specs.Tables.{setting_of}
-use Rattle.dm_book.specs.Books.{Book, IsTrueBook, log_of}
+use Rattle.dm_book.specs.Books.{Book, IsTrueBook}
 use Rattle.dm_book.proofs.OneBook.{books_are_one}
 use Rattle.dm_book.proofs.Growing.{in_one}
 use Rattle.dm_restore.specs.Restoring.{IsRestored, RefusesBook}

@@ -1,5 +1,5 @@
 -- What the file of a journal records.
-use Rattle.std.proofs.Common.{◌≡◌, ◌≢◌, ◌⊎◌, inl, inr, ℕ, ◌+◌, ◌<◌, ◌≤◌, ◌^◌, Bool, true, false, List, [], ◌∷◌, ◌++◌, length, map, Option, Some, None, Ok, Err, refl, sym, ap, subst, ◌∙◌, arith, append_assoc, length-append, slice_get, All}
+use Rattle.std.proofs.Common.{◌≡◌, ◌⊎◌, inl, inr, ℕ, ◌+◌, ◌<◌, ◌≤◌, ◌^◌, Bool, true, false, List, [], ◌∷◌, ◌++◌, length, map, Some, None, Ok, Err, refl, sym, ap, subst, ◌∙◌, arith, append_assoc, length-append, slice_get, All}
 use Rattle.std.specs.Borrow.{Bor}
 use Rattle.std.specs.List.{flat_map}
 use Rattle.std.proofs.lemmas.List.{length-map}
@@ -15,11 +15,11 @@ use Rattle.dm_store.specs.declared.faults.StoreError.{StoreError}
 use Rattle.dm_store.proofs.Standing.{all_stand, one_list, one_more, front_block}
 use Rattle.dm_tape.specs.Rounds.{round_text, IsTapeRound}
 use Rattle.dm_book.specs.Books.{AreNone, AreRecorded, head_text, log_of, logs_after}
-use Rattle.dm_restore.specs.Restoring.{AreHeadAndRounds, AreInForm, IsMisshapen, HasBrokenEnd, RefusesBook}
+use Rattle.dm_restore.specs.Restoring.{AreInForm, IsMisshapen, RefusesBook}
 use Rattle.dm_restore.specs.declared.heads.Head.{Head}
 use Rattle.dm_restore.specs.declared.stops.RestoreStop.{RestoreStop}
 use Rattle.dm_restore.specs.declared.stops.RestoreStop.TheVariants as stop
-use Rattle.dm_restore.specs.Inside.Logs.{OpensOtherHead, OpensNoHead, IsBehindHead, HasLogs}
+use Rattle.dm_restore.specs.Inside.Logs.{IsBehindHead, HasLogs}
 use Rattle.dm_restore.specs.Inside.Reading.{HasRounds, HasNoRound, StopsReading}
 use Rattle.dm_restore.proofs.ReadRounds.{length-logs_after, spelled_after}
 

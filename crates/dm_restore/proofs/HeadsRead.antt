@@ -1,10 +1,8 @@
 -- A head is read where it stands, and nowhere else.
-use Rattle.std.proofs.Common.{◌≡◌, ℕ, ◌≤◌, List, [], ◌∷◌, ◌++◌, Option, Some, None, refl, sym, ap, subst, ◌∙◌, arith, append-nil, codes}
-use Rattle.std.specs.Prelude.{option_and_then}
-use Rattle.std.specs.Option.{option_map}
+use Rattle.std.proofs.Common.{◌≡◌, ℕ, ◌≤◌, List, [], ◌∷◌, ◌++◌, Option, Some, None, refl, sym, ap, subst, ◌∙◌, arith, codes}
 use Rattle.std.specs.Fmt.{decimal}
 use Rattle.dm_text.specs.Inside.Parts.{behind}
-use Rattle.dm_text.proofs.Reading.{behind_is, behind_back, EndsNumber}
+use Rattle.dm_text.proofs.Reading.{behind_is, behind_back}
 use Rattle.dm_feed.specs.Parts.{largest_id, largest_value}
 use Rattle.dm_cert.specs.Inside.PlanLines.{number_behind}
 use Rattle.dm_cert.proofs.Options.{and_then_some, map_some}

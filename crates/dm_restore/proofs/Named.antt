@@ -1,6 +1,6 @@
 -- The entries that items name, and a history that is entered again.
-use Rattle.std.proofs.Common.{◌≡◌, ◌⊎◌, inl, inr, ℕ, zero, suc, ◌+◌, ◌-◌, ◌<◌, ◌≤◌, Bool, true, false, cond, List, [], ◌∷◌, ◌++◌, length, take, map, fold, get_or, set, Option, Some, None, refl, sym, ap, subst, ◌∙◌, arith, append_assoc, append-nil, length-append, slice_get}
-use Rattle.std.specs.Prelude.{count_by, sum_by}
+use Rattle.std.proofs.Common.{◌≡◌, inl, inr, ℕ, zero, suc, ◌+◌, ◌-◌, ◌<◌, ◌≤◌, Bool, true, false, cond, List, [], ◌∷◌, ◌++◌, length, take, fold, get_or, set, Option, Some, None, refl, sym, ap, subst, ◌∙◌, arith, append_assoc, append-nil, length-append, slice_get}
+use Rattle.std.specs.Prelude.{count_by}
 use Rattle.std.specs.List.{range_with_len}
 use Rattle.std.specs.Option.{IsSomeAnd, option_map}
 use Rattle.std.proofs.lemmas.Bool.{cases_Bool, cases_lt, cases_eq, eqb-true}
@@ -13,7 +13,6 @@ use Rattle.dm_base.specs.declared.limits.TheConstants.{ENTRIES}
 use Rattle.dm_network.specs.Net.{Net}
 use Rattle.dm_rows.specs.Rows.{RowsValue}
 use Rattle.dm_rows.specs.declared.messages.Entry.{Entry}
-use Rattle.dm_rows.specs.declared.messages.Message.{Message}
 use Rattle.dm_rows.specs.declared.messages.Message.TheVariants.{Adopt as AdoptAll}
 use Rattle.dm_rows.specs.declared.messages.Refusal.{Refusal}
 use Rattle.dm_rows.specs.declared.messages.Refusal.TheVariants as refusal
@@ -24,7 +23,6 @@ use Rattle.dm_rows.specs.Refuse.{Refuses}
 use Rattle.dm_feed.specs.declared.grammar.Line.{Line}
 use Rattle.dm_feed.specs.declared.grammar.Line.TheVariants as line
 use Rattle.dm_tree.specs.declared.plans.Plan.{Plan}
-use Rattle.dm_cert.specs.declared.replies.Reply.{Reply}
 use Rattle.dm_cert.specs.declared.replies.Reply.TheVariants.{Ok, Refused, Time, Cost, Read, Planned, Old, NoPlan, Plans, Range}
 use Rattle.dm_cert.specs.declared.replies.LogItem.{LogItem}
 use Rattle.dm_cert.specs.declared.replies.LogItem.TheVariants.{Malformed, Answered}
@@ -33,10 +31,10 @@ use Rattle.dm_cert.specs.Answers.{Setting, IsEntry, IsAdopted, IsTrueAnswer, IsT
 use Rattle.dm_cert.specs.Logs.{AreTrueAnswers, AreTrueLogs, all_items, kind_of, names}
 use Rattle.dm_cert.proofs.Numbers.{count_push, one_name}
 use Rattle.dm_cert.proofs.ListsOfLogs.{get_set_same, get_set_other}
-use Rattle.dm_desk.specs.Desks.{DeskValue, Enters, RefusesEntry}
+use Rattle.dm_desk.specs.Desks.{Enters, RefusesEntry}
 use Rattle.dm_table.specs.Value.{TableValue}
 use Rattle.dm_table_desk.specs.Tables.{setting_of, desk_of}
-use Rattle.dm_restore.specs.Inside.Entering.{message_in, entry_of_reply, entry_in, IsAt, HasAt, KeepsEntries, HasPutOne, HasPut, Agrees, Notes, AreEntries, EntersAll}
+use Rattle.dm_restore.specs.Inside.Entering.{entry_of_reply, entry_in, IsAt, HasAt, KeepsEntries, HasPutOne, HasPut, Agrees, Notes, AreEntries, EntersAll}
 
 -- ---- one item
 

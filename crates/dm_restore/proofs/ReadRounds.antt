@@ -1,5 +1,5 @@
 -- Rounds that are read one after another.
-use Rattle.std.proofs.Common.{◌≡◌, ℕ, suc, ◌+◌, ◌<◌, ◌≤◌, List, [], ◌∷◌, ◌++◌, length, map, fold, get_or, set, refl, sym, ap, subst, ◌∙◌, arith, append_assoc, append-nil, length-append, All, Vec, Global}
+use Rattle.std.proofs.Common.{◌≡◌, ℕ, suc, ◌+◌, ◌<◌, ◌≤◌, List, [], ◌∷◌, ◌++◌, length, map, fold, get_or, set, refl, sym, ap, ◌∙◌, arith, append-nil, length-append, All, Vec, Global}
 use Rattle.std.specs.List.{flat_map}
 use Rattle.std.specs.Fmt.{decimal}
 use Rattle.std.proofs.lemmas.List.{map-append, map-set, get_or-map, length-map, length-replicate}
@@ -8,10 +8,10 @@ use Rattle.std.proofs.lemmas.List.Sums.{fold_push}
 use Rattle.std.proofs.Math.ListN.{replicate}
 use Rattle.dm_cert.specs.declared.replies.LogItem.{LogItem}
 use Rattle.dm_cert.specs.RunTexts.{IsSpelledItem}
-use Rattle.dm_store.specs.Blocks.{block, IsEnd, ReadsBlock}
+use Rattle.dm_store.specs.Blocks.{block, IsEnd}
 use Rattle.dm_store.proofs.Standing.{one_more}
 use Rattle.dm_tape.specs.Laws.{IsKeptPart}
-use Rattle.dm_tape.specs.Rounds.{round_text, IsTapeItem, IsTapeRound}
+use Rattle.dm_tape.specs.Rounds.{round_text, IsTapeRound}
 use Rattle.dm_tape.specs.Told.{BeginsWithRound}
 use Rattle.dm_items.specs.Holding.{IsHeldPart}
 use Rattle.dm_book.specs.Books.{with_round, logs_after}

@@ -1,11 +1,11 @@
-use Rattle.std.proofs.Common.{◌≡◌, ◌<◌, ◌≤◌, ◌+◌, List, [], length, take, refl, sym, subst, arith}
+use Rattle.std.proofs.Common.{◌<◌, ◌≤◌, ◌+◌, List, [], length, take, refl, sym, subst, arith}
 use Rattle.std.proofs.lemmas.List.{take_all}
 use Rattle.std.proofs.lemmas.Option.{slice_get_read}
 use Rattle.dm_cert.specs.declared.replies.LogItem.{LogItem}
 use Rattle.dm_cert.specs.declared.replies.FeedLog.{FeedLog}
 use Rattle.dm_cert.specs.Logs.{AreTrueAnswers}
 use Rattle.dm_restore.specs.Inside.Entering.{Notes}
-use Rattle.dm_restore.proofs.Named.{AreNoted, no_log_noted, one_log_noted, logs_more, all_noted}
+use Rattle.dm_restore.proofs.Named.{AreNoted, one_log_noted, logs_more, all_noted}
 use Rattle.dm_restore.proofs.entries.entries_of.Goals as goal
 
 pub loop-place-preserved : goal.loop-place-preserved

@@ -1,10 +1,9 @@
-use Rattle.std.proofs.Common.{◌≡◌, ◌<◌, List, [], length, take, Option, ap, subst, ◌∙◌, arith}
-use Rattle.std.specs.Option.{option_copied}
+use Rattle.std.proofs.Common.{◌<◌, List, [], length, take, Option, ap, subst, ◌∙◌, arith}
 use Rattle.dm_tree.specs.declared.plans.Plan.{Plan}
 use Rattle.dm_cert.specs.declared.replies.LogItem.{LogItem}
-use Rattle.dm_cert.specs.Answers.{latest_plan, plan_after}
+use Rattle.dm_cert.specs.Answers.{plan_after}
 use Rattle.dm_restore.specs.Inside.Entering.{HasPut, Notes, entry_in}
-use Rattle.dm_restore.proofs.Named.{none_noted, one_noted, true_there, taken_more, latest_more}
+use Rattle.dm_restore.proofs.Named.{one_noted, true_there, taken_more, latest_more}
 use Rattle.dm_restore.proofs.entries.note_log.Goals as goal
 
 pub loop-item-preserved : goal.loop-item-preserved

@@ -1,4 +1,4 @@
-use Rattle.std.proofs.Common.{◌<◌, refl, arith}
+use Rattle.std.proofs.Common.{refl, arith}
 use Rattle.dm_restore.proofs.Named.{put_there}
 use Rattle.dm_restore.proofs.entries.put_entry.Goals as goal
 

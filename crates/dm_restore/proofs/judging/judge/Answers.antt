@@ -1,13 +1,12 @@
-use Rattle.std.proofs.Common.{◌≡◌, ℕ, List, subst, sym, ◌∙◌}
+use Rattle.std.proofs.Common.{subst, sym, ◌∙◌}
 use Rattle.std.specs.Prelude.{◌↔◌}
-use Rattle.dm_network.specs.Net.{Net, IsWithinLimits}
+use Rattle.dm_network.specs.Net.{IsWithinLimits}
 use Rattle.dm_network.specs.Start.{IsNetwork}
-use Rattle.dm_rows.specs.Rows.{RowsValue}
 use Rattle.dm_cert.specs.Runs.{IsRunText}
 use Rattle.dm_check.specs.FalseRecords.{IsVerdict}
 use Rattle.dm_check.specs.Truth.{SaysGood}
 use Rattle.dm_check.specs.declared.verdicts.Verdict.{Verdict}
-use Rattle.dm_check.specs.declared.verdicts.Verdict.TheVariants.{Good, Bad}
+use Rattle.dm_check.specs.declared.verdicts.Verdict.TheVariants.{Bad}
 use Rattle.dm_restore.proofs.Judged.{logs_are_true, text_is_true, carried}
 use Rattle.dm_restore.proofs.judging.judge.Goals as goal
 

@@ -1,4 +1,3 @@
-use Rattle.std.proofs.Common.{arith}
 use Rattle.dm_restore.proofs.Files.{none_counted, one_counted, all_counted}
 use Rattle.dm_restore.proofs.logs.count_blocks.Goals as goal
 

@@ -1,4 +1,4 @@
-use Rattle.std.proofs.Common.{List, inl, subst, sym, ap, length, ◌∙◌, arith, All}
+use Rattle.std.proofs.Common.{List, inl, subst, sym, ap, length, arith, All}
 use Rattle.dm_cert.specs.declared.replies.FeedLog.{FeedLog}
 use Rattle.dm_cert.specs.RunTexts.{IsSpelledLog}
 use Rattle.dm_restore.specs.Inside.Judging.{IsJudged, StopsDesk}

@@ -1,4 +1,4 @@
-use Rattle.std.proofs.Common.{◌≡◌, List, ◌∷◌, [], ◌++◌, sym, ap, ◌∙◌, append_assoc, append-nil}
+use Rattle.std.proofs.Common.{List, ◌∷◌, [], ◌++◌, sym, ap, ◌∙◌, append_assoc, append-nil}
 use Rattle.dm_tail.proofs.AllFeeds.{one_yielded, all_yielded}
 use Rattle.dm_restore.proofs.rounds.add_items.Goals as goal
 

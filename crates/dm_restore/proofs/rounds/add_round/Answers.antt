@@ -1,8 +1,7 @@
-use Rattle.std.proofs.Common.{◌≡◌, ◌<◌, List, [], ◌++◌, length, map, get_or, refl, sym, ap, ◌∙◌, arith, length-set, Vec, Global}
+use Rattle.std.proofs.Common.{◌≡◌, ◌<◌, List, ◌++◌, length, map, get_or, refl, sym, ap, ◌∙◌, arith, length-set, Vec, Global}
 use Rattle.std.proofs.lemmas.List.{length_push, length-map, get_or_read}
 use Rattle.dm_cert.specs.declared.replies.LogItem.{LogItem}
-use Rattle.dm_tail.proofs.AllFeeds.{one_yielded, all_yielded, some_left}
-use Rattle.dm_book.specs.Books.{with_round}
+use Rattle.dm_tail.proofs.AllFeeds.{one_yielded, some_left}
 use Rattle.dm_restore.proofs.ReadRounds.{with_none, part_added}
 use Rattle.dm_restore.proofs.rounds.add_round.Goals as goal
 

@@ -1,5 +1,3 @@
-use Rattle.std.proofs.Common.{subst, Option, List}
-use Rattle.std.specs.Prelude.{MatchOption}
 use Rattle.dm_restore.specs.Restoring.{IsNoRound}
 use Rattle.dm_restore.specs.Inside.Reading.{IsWholeRound}
 use Rattle.std.proofs.lemmas.Option.{MatchOption-at_some}
