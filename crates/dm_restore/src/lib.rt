@@ -8,8 +8,8 @@
 //! `restore`: nothing that is read back is trusted. At `Ok` the book is true (`is_true`), stands in the blocks of the file
 //! (`book`), and no other true book does (`one`). Each refusal has its cause (`refused`): the head of another journal, the first
 //! block that is misshapen, an end that no crash leaves, a text that is told bad, so that no history makes a true book of the logs,
-//! or too many bytes. The file of a journal that holds a true book with such an end is so refused for its size alone. Nothing is
-//! changed. `head_text`: the content of a first block.
+//! or too many bytes. So the file of a journal that holds a true book, with an end that a crash may leave, is refused for its
+//! size alone. Nothing is changed. `head_text`: the content of a first block.
 #![tactic(auto)]
 
 mod entries;
