@@ -1,0 +1,512 @@
+#!/usr/bin/env python3
+"""Does to a live server what disks and people do: python3 bench/hostile.py DISPATCHER
+
+A day of three feeds is answered, and its server is told to end. Each case begins with a copy of that folder, does something to a
+feed, to the store, to the words or to the server, and starts it again. Each has to end with its status and its line, leave what it
+refuses as it was, and lose no line that was answered: whatever a reply file showed is the front of a later log, or the start is
+refused. `--big` tries 64 feeds of 64 MiB and a million lines at one go besides (10 GB of disk, some minutes).
+
+What differs is printed, with the folder, which is left there; the status is then 1.
+"""
+from __future__ import annotations
+
+import argparse
+import os
+import resource
+import shutil
+import signal
+import subprocess
+import sys
+import tempfile
+import time
+from collections.abc import Callable, Iterator
+from pathlib import Path
+from typing import Any, NamedTuple
+
+from here import add_program, command_line
+from kill import Wrong, part_of
+from day import write_day
+
+TRAINS = 20
+PATIENCE = 120
+LONG = 67_108_864
+FAKETIME = Path('/usr/lib/x86_64-linux-gnu/faketime/libfaketime.so.1')
+USAGE = b'usage: serve DIR STORE FEED.. | text DIR STORE FEED..\n'
+
+# What the feeds hold: lines that are answered, and lines that are not.
+FEEDS = (
+    b'# the first feed\ndelay event 1 60\n\ncost\ntime 2\nplan 30\nadopt\nread\nno line\ndelay event 21 120\n',
+    b'cost\n   \ndelay event 41 30\r\n# a word\ndelay event 41 0\npass 1 22000\n',
+    b'read\n',
+)
+
+# The lines of the first feed that are answered.
+DUE = (2, 4, 5, 6, 7, 8, 9, 10)
+
+
+class End(NamedTuple):
+    """How a program ended."""
+    status: int
+    text: bytes
+
+
+class Day:
+    """A day in a folder, and what its server is started with."""
+
+    def __init__(self, program: str, folder: Path) -> None:
+        self.program, self.folder = program, folder
+        self.store = folder / 'store'
+        self.feeds = [folder / f'feed-{number}' for number in range(1, len(FEEDS) + 1)]
+        self.options: list[str] = []
+
+    def words(self, word: str) -> list[str]:
+        return [self.program, word, str(self.folder / 'net'), str(self.store), *map(str, self.feeds), *self.options]
+
+    def ran(self, word: str, **how: Any) -> End:
+        done = subprocess.run(self.words(word), capture_output=True, timeout=PATIENCE, check=False, **how)
+        return End(done.returncode, done.stdout)
+
+    def served(self, **how: Any) -> End:
+        """Serves until all that stands in the feeds is answered."""
+        stop = self.store / 'stop'
+        if self.store.is_dir():
+            stop.touch()
+        end = self.ran('serve', **how)
+        stop.unlink(missing_ok=True)
+        return end
+
+    def begun(self, **how: Any) -> subprocess.Popen[bytes]:
+        """A server that goes on, once it has shown a reply to a line that nobody had asked yet."""
+        server = subprocess.Popen(self.words('serve'), stdout=subprocess.PIPE, stderr=subprocess.DEVNULL, **how)
+        self.ask(server)
+        return server
+
+    def ask(self, server: subprocess.Popen[bytes]) -> None:
+        """Asks a server, and waits for its reply."""
+        before = len(self.reply(2))
+        self.append(2, b'cost\n')
+        ends = time.monotonic() + PATIENCE
+        while len(self.reply(2)) == before:
+            if time.monotonic() > ends or server.poll() is not None:
+                raise Wrong(f'a server did not answer: {server.poll()}')
+            time.sleep(0.01)
+
+    def end(self, server: subprocess.Popen[bytes]) -> None:
+        """Tells a server to end."""
+        (self.store / 'stop').touch()
+        server.communicate(timeout=PATIENCE)
+        (self.store / 'stop').unlink()
+
+    def reply(self, feed: int) -> bytes:
+        path = self.store / f'reply-{feed + 1}.txt'
+        return path.read_bytes() if path.exists() else b''
+
+    def replies(self) -> list[bytes]:
+        return [self.reply(feed) for feed in range(len(FEEDS))]
+
+    def journal(self) -> bytes:
+        return (self.store / 'journal').read_bytes()
+
+    def append(self, feed: int, text: bytes) -> None:
+        with self.feeds[feed].open('ab') as file:
+            file.write(text)
+
+
+def expect(end: End, status: int, line: bytes | None) -> None:
+    """The end has this status, and where there is a line, it is all that was written."""
+    if end.status != status or (line is not None and end.text != line):
+        raise Wrong(f'status {end.status} in place of {status}: {end.text[-200:]!r}, in place of {line!r}')
+
+
+def refused(day: Day, line: bytes) -> None:
+    """A start is refused with this line, and leaves the store as it was."""
+    before = day.journal(), day.replies()
+    expect(day.served(), 3, line)
+    if (day.journal(), day.replies()) != before:
+        raise Wrong('what was refused was changed')
+
+
+def goes_on(day: Day) -> bytes:
+    """A start goes on: its text is good, and each reply that was shown is in it. It answers the text."""
+    before = day.replies()
+    end = day.served()
+    expect(end, 0, None)
+    (day.folder / 'printed').write_bytes(end.text)
+    words = [day.program, 'check', str(day.folder / 'net'), str(day.folder / 'printed')]
+    checked = subprocess.run(words, capture_output=True, timeout=PATIENCE, check=False)
+    if checked.returncode != 0:
+        raise Wrong(f'check: {checked.stdout!r}')
+    for feed, shown in enumerate(before):
+        if not part_of(end.text, feed + 1).startswith(shown):
+            raise Wrong(f'reply-{feed + 1}.txt showed {len(shown)} bytes that the text has not')
+    if day.replies() != [part_of(end.text, feed + 1) for feed in range(len(FEEDS))]:
+        raise Wrong('the reply files are not the logs of the text')
+    if day.ran('text') != End(0, end.text):
+        raise Wrong('`text` prints another text')
+    return end.text
+
+
+# ---- feeds
+
+def as_it_was(day: Day) -> None:
+    goes_on(day)
+
+
+def feed_cut(day: Day) -> None:
+    lines = FEEDS[0].splitlines(keepends=True)
+    for left in range(len(lines)):
+        day.feeds[0].write_bytes(b''.join(lines[:left]))
+        first = next((line for line in DUE if line > left), None)
+        if first is None:
+            goes_on(day)
+        else:
+            refused(day, b'refused feed 1 line %d\n' % first)
+
+
+def feed_cut_within_a_line(day: Day) -> None:
+    day.feeds[0].write_bytes(FEEDS[0][:-1])
+    refused(day, b'refused feed 1 line 10\n')
+
+
+def feed_empty(day: Day) -> None:
+    day.feeds[2].write_bytes(b'')
+    refused(day, b'refused feed 3 line 1\n')
+
+
+def feed_replaced(day: Day) -> None:
+    day.feeds[0].write_bytes(FEEDS[1])
+    refused(day, b'refused feed 1 line 1\n')
+
+
+def answered_line_changed(day: Day) -> None:
+    lines = FEEDS[0].splitlines(keepends=True)
+    for line in DUE:
+        changed = b'no line\n' if lines[line - 1] != b'no line\n' else b'cost\n'
+        day.feeds[0].write_bytes(b''.join(lines[:line - 1]) + changed + b''.join(lines[line:]))
+        refused(day, b'refused feed 1 line %d\n' % line)
+
+
+def line_put_between(day: Day) -> None:
+    day.feeds[0].write_bytes(FEEDS[0].replace(b'\n\n', b'\ncost\n', 1))
+    refused(day, b'refused feed 1 line 3\n')
+
+
+def comment_changed(day: Day) -> None:
+    day.feeds[0].write_bytes(FEEDS[0].replace(b'# the first feed', b'#', 1))
+    goes_on(day)
+
+
+def line_end_changed(day: Day) -> None:
+    day.feeds[1].write_bytes(FEEDS[1].replace(b'\r\n', b'\n'))
+    goes_on(day)
+
+
+def line_in_two(day: Day) -> None:
+    day.append(0, b'delay event 61')
+    before = goes_on(day)
+    day.append(0, b' 90\n')
+    if goes_on(day) == before:
+        raise Wrong('the line was not answered')
+
+
+def feed_gone(day: Day) -> None:
+    day.feeds[1].unlink()
+    expect(day.served(), 4, b'read fault %s\n' % str(day.feeds[1]).encode())
+
+
+def feed_is_a_folder(day: Day) -> None:
+    day.feeds[1].unlink()
+    day.feeds[1].mkdir()
+    expect(day.served(), 4, b'read fault %s\n' % str(day.feeds[1]).encode())
+
+
+# ---- the store
+
+def bytes_changed(day: Day) -> None:
+    """Each byte of the journal: refused and left as it is, or nothing is lost."""
+    whole, replies = day.journal(), day.replies()
+    for place, byte in enumerate(whole):
+        (day.store / 'journal').write_bytes(whole[:place] + bytes([byte ^ 1]) + whole[place + 1:])
+        end = day.ran('text')
+        if end.status not in (0, 3):
+            raise Wrong(f'text at byte {place}: status {end.status}')
+        end = day.served()
+        if end.status == 3:
+            if day.journal() != whole[:place] + bytes([byte ^ 1]) + whole[place + 1:]:
+                raise Wrong(f'byte {place}: the refused journal was changed')
+            if not end.text.startswith((b'refused store ', b'refused feed ')):
+                raise Wrong(f'byte {place}: {end.text[-100:]!r}')
+        else:
+            expect(end, 0, None)
+            for feed, shown in enumerate(replies):
+                if not part_of(end.text, feed + 1).startswith(shown):
+                    raise Wrong(f'byte {place}, {bytes([byte])!r}: reply-{feed + 1}.txt showed what the text has not')
+        for feed, shown in enumerate(replies):
+            (day.store / f'reply-{feed + 1}.txt').write_bytes(shown)
+
+
+def journal_cut(day: Day) -> None:
+    """The journal cut behind each of its bytes: it holds less than was shown."""
+    whole, replies = day.journal(), day.replies()
+    for left in range(0, len(whole) - 1):
+        (day.store / 'journal').write_bytes(whole[:left])
+        end = day.served()
+        if end.status != 3 or not end.text.startswith(b'refused store '):
+            raise Wrong(f'cut to {left} of {len(whole)} bytes: status {end.status}: {end.text[-60:]!r}')
+        for feed, shown in enumerate(replies):
+            (day.store / f'reply-{feed + 1}.txt').write_bytes(shown)
+
+
+def no_gate_behind(day: Day) -> None:
+    (day.store / 'journal').write_bytes(day.journal()[:-1])
+    goes_on(day)
+
+
+def journal_of_another(day: Day) -> None:
+    (day.store / 'journal').write_bytes(b'a letter to nobody\n')
+    refused(day, b'refused store form 1\n')
+
+
+def reply_gone(day: Day) -> None:
+    (day.store / 'reply-1.txt').unlink()
+    goes_on(day)
+
+
+def reply_cut(day: Day) -> None:
+    (day.store / 'reply-1.txt').write_bytes(day.reply(0)[:-5])
+    goes_on(day)
+
+
+def reply_with_more(day: Day) -> None:
+    (day.store / 'reply-2.txt').write_bytes(day.reply(1) + b'9 malformed\n')
+    refused(day, b'refused store reply 2\n')
+
+
+def no_store(day: Day) -> None:
+    shutil.rmtree(day.store)
+    expect(day.served(), 4, b'read fault %s\n' % str(day.store).encode())
+
+
+def store_is_a_file(day: Day) -> None:
+    shutil.rmtree(day.store)
+    day.store.write_bytes(b'')
+    expect(day.ran('serve'), 4, b'read fault %s\n' % str(day.store).encode())
+
+
+def two_servers(day: Day) -> None:
+    server = day.begun()
+    try:
+        expect(day.ran('serve'), 3, b'refused store locked\n')
+        expect(day.ran('text'), 0, None)
+    finally:
+        day.end(server)
+    goes_on(day)
+
+
+def clock_jumps(day: Day) -> None:
+    """The clock jumps by years while a server runs, back and ahead: it answers as before."""
+    if not FAKETIME.exists():
+        print('a clock that jumps is tried where libfaketime is')
+        return
+    clock = day.folder / 'clock'
+    clock.write_text('+0')
+    fake = {**os.environ, 'LD_PRELOAD': str(FAKETIME), 'FAKETIME_TIMESTAMP_FILE': str(clock), 'FAKETIME_NO_CACHE': '1'}
+    server = day.begun(env=fake)
+    try:
+        for days in (-4000, 4000, -4000, 0):
+            clock.write_text(f'{days:+}d')
+            told = int(subprocess.run(['date', '+%s'], env=fake, capture_output=True, check=True).stdout)
+            if abs(told - time.time() - days * 86_400) > 3600:
+                raise Wrong('the clock did not jump')
+            day.ask(server)
+    finally:
+        day.end(server)
+    goes_on(day)
+
+
+def disk_full(day: Day) -> None:
+    """A limit on the size of files: the server ends with 5, and a later one loses nothing."""
+    def limited() -> None:
+        signal.signal(signal.SIGXFSZ, signal.SIG_IGN)
+        resource.setrlimit(resource.RLIMIT_FSIZE, (len(day.journal()) + 200, resource.RLIM_INFINITY))
+    day.append(0, b'cost\n' * 500)
+    expect(day.served(preexec_fn=limited), 5, b'')
+    goes_on(day)
+
+
+def is_noticed(day: Day, take: Callable[[Path], object]) -> None:
+    """What is taken away from a server: it does not go on as if answers were kept."""
+    server = day.begun()
+    take(day.store)
+    day.append(0, b'cost\n')
+    try:
+        server.communicate(timeout=PATIENCE / 6)
+    except subprocess.TimeoutExpired:
+        server.kill()
+        server.communicate()
+        raise Wrong('a server without its store goes on') from None
+    if server.returncode != 5:
+        raise Wrong(f'status {server.returncode}')
+
+
+def store_gone(day: Day) -> None:
+    is_noticed(day, shutil.rmtree)
+
+
+def store_moved(day: Day) -> None:
+    """The store is moved away; back in its place it goes on."""
+    away = day.folder / 'away'
+    is_noticed(day, lambda store: store.rename(away))
+    away.rename(day.store)
+    goes_on(day)
+
+
+def store_put_anew(day: Day) -> None:
+    """Another server begins over a new folder of the same name."""
+    others: list[subprocess.Popen[bytes]] = []
+
+    def put_anew(store: Path) -> None:
+        store.rename(day.folder / 'away')
+        store.mkdir()
+        others.append(day.begun())
+    try:
+        is_noticed(day, put_anew)
+    finally:
+        for other in others:
+            day.end(other)
+    goes_on(day)
+
+
+def lock_gone(day: Day) -> None:
+    is_noticed(day, lambda store: (store / 'lock').unlink())
+    goes_on(day)
+
+
+def journal_gone(day: Day) -> None:
+    """A new journal is refused beside reply files that show more."""
+    is_noticed(day, lambda store: (store / 'journal').unlink())
+    (day.store / 'journal').touch()
+    refused(day, b'refused store reply 1\n')
+
+
+def without_rights(day: Day) -> None:
+    if os.geteuid() != 0:
+        print('a folder without rights is tried by root alone')
+        return
+    for path in (day.folder, day.folder.parent):
+        path.chmod(0o755)
+    expect(day.ran('serve', user='nobody'), 4, b'read fault %s\n' % str(day.store).encode())
+
+
+# ---- words
+
+def other_words(day: Day) -> None:
+    for option in ('--penalty=7', '--plans=3'):
+        day.options = [option]
+        refused(day, b'refused store head\n')
+    day.options = []
+    day.feeds.pop()
+    expect(day.served(), 3, b'refused store head\n')
+
+
+def no_words(day: Day) -> None:
+    for words in ('serve', 'serve DIR STORE', 'text DIR', 'serve DIR STORE FEED --batch=0', 'text  STORE FEED'):
+        done = subprocess.run([day.program, *words.split(' ')], capture_output=True, timeout=PATIENCE, check=False)
+        expect(End(done.returncode, done.stdout), 2, USAGE)
+
+
+def files_refused(day: Day) -> None:
+    """What is told of the files is what `run` tells."""
+    events = day.folder / 'net' / 'Events-expanded.giv'
+    for text in (b'no record\n', None):
+        if text is None:
+            events.unlink()
+        else:
+            events.write_bytes(text)
+        done = subprocess.run([day.program, 'run', str(day.folder / 'net'), str(day.feeds[0])], capture_output=True, check=False)
+        expect(day.served(), done.returncode, done.stdout)
+
+
+# ---- much
+
+def big_feeds(day: Day) -> None:
+    """64 feeds, each longer than one is read: each ends with `long`, and its lines up to there are answered."""
+    line = b'x' * 59_999 + b'\n'
+    lines = (LONG - 5) // len(line)
+    day.feeds = [day.folder / f'big-{number}' for number in range(1, 65)]
+    shutil.rmtree(day.store)
+    day.store.mkdir()
+    for path in day.feeds:
+        path.write_bytes(b'cost\n' + line * (lines + 1))
+    end = day.served()
+    due = [b'\nfeed %d %d\n' % (number, lines + 1) for number in range(1, 65)]
+    if end.status != 0 or end.text.count(b'\nlong\n') != 64 or not all(head in end.text for head in due):
+        raise Wrong(f'status {end.status}, {end.text.count(b"long")} long, {sum(head in end.text for head in due)} whole')
+
+
+def million_lines(day: Day) -> None:
+    day.append(2, b'time 2\n' * 1_000_000)
+    text = goes_on(day)
+    if part_of(text, 3).count(b'\n') != 1_000_001:
+        raise Wrong('not each of a million lines was answered once')
+
+
+CASES: tuple[Callable[[Day], None], ...] = (
+    as_it_was, feed_cut, feed_cut_within_a_line, feed_empty, feed_replaced, answered_line_changed, line_put_between,
+    comment_changed, line_end_changed, line_in_two, feed_gone, feed_is_a_folder, bytes_changed, journal_cut,
+    no_gate_behind, journal_of_another, reply_gone, reply_cut, reply_with_more, no_store, store_is_a_file, two_servers,
+    clock_jumps, disk_full, store_gone, store_moved, store_put_anew, lock_gone, journal_gone, without_rights, other_words,
+    no_words, files_refused,
+)
+BIG: tuple[Callable[[Day], None], ...] = (big_feeds, million_lines)
+
+
+def first_day(program: str, folder: Path) -> Day:
+    """The day that each case begins with."""
+    day = Day(program, folder)
+    write_day(7, TRAINS, str(folder))
+    day.store.mkdir()
+    for path, text in zip(day.feeds, FEEDS):
+        path.write_bytes(text)
+    expect(day.served(), 0, None)
+    return day
+
+
+def wrong_cases(given: argparse.Namespace, top: Path) -> Iterator[str]:
+    first = first_day(given.program, top / 'first')
+    for case in (*CASES, *(BIG if given.big else ())):
+        if given.only and case.__name__ not in given.only:
+            continue
+        day = Day(given.program, top / case.__name__)
+        shutil.copytree(first.folder, day.folder)
+        try:
+            case(day)
+        except (Wrong, subprocess.TimeoutExpired) as wrong:
+            yield f'{case.__name__}: {wrong}'
+        else:
+            shutil.rmtree(day.folder)
+
+
+def arguments() -> argparse.Namespace:
+    words = command_line(__doc__)
+    add_program(words)
+    words.add_argument('--only', metavar='CASE', nargs='*', default=[], help='these cases alone')
+    words.add_argument('--big', action='store_true', help='64 feeds of 64 MiB and a million lines besides')
+    words.add_argument('--disk', metavar='FOLDER', default=None, help='where the folders are made')
+    return words.parse_args()
+
+
+def main() -> int:
+    given = arguments()
+    top = Path(tempfile.mkdtemp(prefix='hostile-', dir=given.disk))
+    wrong = list(wrong_cases(given, top))
+    print(*(wrong or ['all cases end as they should']), sep='\n')
+    if not wrong:
+        shutil.rmtree(top)
+    else:
+        print(top)
+    return 1 if wrong else 0
+
+
+if __name__ == '__main__':
+    sys.exit(main())

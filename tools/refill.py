@@ -1,0 +1,76 @@
+#!/usr/bin/env python3
+"""Puts the lines of a feed back from its reply file: refill.py FEED REPLY
+
+REPLY is the file in which a server shows what it answered FEED, as STORE/reply-1.txt. Where FEED ends before lines that were
+answered, as a power cut may leave it, these are put behind its whole lines, and the server can go on with it. A line that was blank
+or a comment comes back as a blank one, and a line that was malformed as one that says so, since replies tell no more of them.
+
+No server and no source may have FEED open meanwhile. Where a line that is there is not the one that was answered, nothing is written,
+and the status is 1: FEED is another feed, or somebody changed it.
+"""
+from __future__ import annotations
+
+import os
+import sys
+from typing import Iterator
+
+from files import BadFile, speak_utf8
+from runtext import Bad, Item, Text, heard, read_whole_item
+from words import command_line
+
+MALFORMED = 'a line that was malformed'
+
+
+def items_of(reply: bytes) -> Iterator[Item]:
+    """The items of a reply file, up to the first that is not whole."""
+    text = Text(reply)
+    try:
+        while text.has_more():
+            yield read_whole_item(text, 2)
+    except Bad:
+        return
+
+
+def line_of(item: Item) -> str:
+    """A line that an item answers."""
+    return MALFORMED if item.said is None else ' '.join(map(str, item.said))
+
+
+def behind(name: str, feed: bytes, items: list[Item]) -> list[str]:
+    """The lines that are missing behind the whole lines of a feed; BadFile where one that is there was not answered so."""
+    whole = [line.removesuffix(b'\r').decode(errors='replace') for line in feed.split(b'\n')[:-1]]
+    for item in items:
+        if item.line <= len(whole) and heard(whole[item.line - 1]) != item.said:
+            raise BadFile(name, item.line, 'this is not the line that was answered')
+    missing = {item.line: line_of(item) for item in items if item.line > len(whole)}
+    return [missing.get(number, '') for number in range(len(whole) + 1, max(missing, default=0) + 1)]
+
+
+def put_back(name: str, lines: list[str]) -> None:
+    """Puts lines behind the whole lines of a feed, in place of a line that was broken off, and waits until they are on the disk."""
+    with open(name, 'r+b') as file:
+        file.truncate(file.read().rfind(b'\n') + 1)
+        file.seek(0, os.SEEK_END)
+        file.write(''.join(line + '\n' for line in lines).encode())
+        file.flush()
+        os.fsync(file.fileno())
+
+
+def main() -> None:
+    words = command_line(__doc__)
+    words.add_argument('feed', metavar='FEED', help='the feed that ends too early')
+    words.add_argument('reply', metavar='REPLY', help='what its server has shown, as STORE/reply-1.txt')
+    given = words.parse_args()
+    speak_utf8()
+    try:
+        with open(given.feed, 'rb') as feed, open(given.reply, 'rb') as reply:
+            lines = behind(given.feed, feed.read(), list(items_of(reply.read())))
+    except (BadFile, OSError) as fault:
+        sys.exit(f'refill.py: {fault}')
+    if lines:
+        put_back(given.feed, lines)
+    print(f'{len(lines)} lines were put back')
+
+
+if __name__ == '__main__':
+    main()
