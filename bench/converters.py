@@ -24,7 +24,7 @@ sys.path.append(os.path.join(TOP, 'tools', 'tests'))
 
 from feeds import DATE, large_feed, write_feed  # noqa: E402
 from giv import read_network  # noqa: E402
-from gtfs_rt_in import Listener, Said, known_rows  # noqa: E402
+from gtfs_rt_in import Known, Listener, Said  # noqa: E402
 from gtfs_rt_out import Writer  # noqa: E402
 from measured import Measured, measured  # noqa: E402
 from protobuf import Message, decode, encode  # noqa: E402
@@ -60,14 +60,14 @@ def parts_of_in(net: str, feed: str, message: Message) -> None:
 
     def begin() -> Listener:
         network = read_network(net)
-        return Listener(network, read_named(net), known_rows(network, feed, None), Said())
+        return Listener(network, read_named(net), Known(network, feed).now(), Said())
     listener = took('it reads the network and its names', begin)
     took('it reads the first message', lambda: listener.take(first, 'first'))
     took('it reads one a minute later', lambda: listener.take(second, 'second'))
 
 
 def parts_of_out(net: str, text: str, out: str) -> None:
-    writer = took('it reads the names', lambda: Writer(argparse.Namespace(net=net, text=text, out=out, zone=None, now=None)))
+    writer = took('it reads the names', lambda: Writer(argparse.Namespace(net=net, source=text, out=out, zone=None, now=None)))
     took('it writes the first message', writer.write)
     took('it writes it again', writer.write)
 

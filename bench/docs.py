@@ -24,7 +24,7 @@ from here import command_line
 REPOSITORY = Path(__file__).resolve().parent.parent
 PAGES = ["README.md", "docs/OPERATING.md", "docs/TUTORIAL.md", "docs/GTFS.md", "docs/GTFS_RULES.md", "docs/REALTIME.md"]
 STARTS = {"docs/TUTORIAL.md": "crates/dispatcher"}
-LEFT_OUT = re.compile(r"\brt \w|\.ci/run|\b(FOLDER|FILE|DIR|DM_SPEED)\b")
+LEFT_OUT = re.compile(r"\brt \w|\.ci/run|\b(FOLDER|FILE|DIR|DM_SPEED|URL)\b")
 TRIES = 5
 SECONDS = 300
 

@@ -1,7 +1,7 @@
 #!/usr/bin/env python3
 """Plays a morning of three lines with GTFS-Realtime in and out, and compares each minute with the truth:
 
-    python3 bench/morning.py DISPATCHER [--number=S] [--until=10:00] [FOLDER]
+    python3 bench/morning.py DISPATCHER [FOLDER] [--live] [--number=S] [--until=10:00]
 
 A small simulator makes a timetable in GTFS of three lines that meet in one station, with guaranteed connections, and draws source
 delays from --number. Trains run by its own rules, which know neither networks nor the program: a train drives in 93 hundredths of the
@@ -14,6 +14,10 @@ trains of two lines with a delay of their own also with the times that it expect
 vehicles. gtfs_rt_in.py appends that to the feed, the program runs, gtfs_rt_out.py writes TripUpdates, and `protoc --decode` (Debian's
 protobuf-compiler), which shares no code with the tools, reads them by tools/gtfs-realtime.proto. Each call of each train has to be at
 the time that the simulator expects then, and each dropped change is an alert until its train has left.
+
+With --live a server runs all morning: what is told each minute is appended to its first feed, dropped changes to its second one,
+gtfs_rt_in.py takes what is known from its store, and gtfs_rt_out.py reads the store as soon as all lines are answered. Each half an
+hour the server is killed and started again. Its last text is judged by `check`.
 
 The status is 1 where something differs; the first differences of each minute are printed. With a FOLDER the files stay there.
 """
@@ -29,7 +33,7 @@ import sys
 import tempfile
 import time
 from dataclasses import dataclass, field
-from typing import Callable, Iterator, NamedTuple
+from typing import Callable, Iterator, NamedTuple, Optional
 
 from here import TOP, command_line
 import from_gtfs
@@ -39,6 +43,7 @@ from files import write_all
 from gtfs import clock
 from names import read_changes
 from protobuf import Message, encode
+from serving import Server, read
 from words import time_of_day, whole_between
 
 DATE, ZONE = '20261124', 'Europe/Berlin'
@@ -50,8 +55,10 @@ BEGIN, END = 6 * 3600, 9 * 3600
 DWELL, TURN, HEADWAY, CHANGE, LONGEST_CHANGE, PATIENCE = 30, 300, 120, 180, 1800, 300
 DELAYS, CORRECTED = 24, 6
 SHOWN = 5
+STORE = 'store'
 
-Answer = Callable[[str, str, str], None]
+# Has the lines of feeds answered, over a network, and tells gtfs_rt_out.py what to read, with its options; it may write a text.
+Answer = Callable[[str, list[str], str], list[str]]
 
 
 # ---- The timetable
@@ -465,42 +472,94 @@ def world_of(number: int) -> tuple[World, dict[str, str]]:
     return world, feed_files(trains, pairs)
 
 
-def played(answer: Answer, world: World, timetable: dict[str, str], folder: str, until: int, every: int = 60) -> Played:
-    """Plays a morning minute by minute, or in longer steps, each by the tools and an answer to the feed."""
-    source, net, feed, text, heard, out = (os.path.join(folder, name) for name in ('gtfs', 'net', 'feed', 'text', 'in.pb', 'out.pb'))
-    write_all(source, timetable)
-    call(from_gtfs.main, source, DATE, net)
-    numbers = {(change.trip, change.next_trip): change.change for change in read_changes(net)}
-    come = Played()
+class Files:
+    """The files of a morning. Where it is live, dropped changes have a feed of their own, and what is known is asked of the store."""
+
+    def __init__(self, folder: str, timetable: dict[str, str], is_live: bool) -> None:
+        names = 'net', 'feed', 'text', 'in.pb', 'out.pb'
+        self.net, self.feed, self.text, self.heard, self.out = (os.path.join(folder, name) for name in names)
+        self.folder, self.is_live = folder, is_live
+        self.room = os.path.join(folder, 'room') if is_live else self.feed
+        self.feeds = [self.feed, self.room] if is_live else [self.feed]
+        self.known = ['--text', os.path.join(folder, STORE)] if is_live else []
+        source = os.path.join(folder, 'gtfs')
+        write_all(source, timetable)
+        call(from_gtfs.main, source, DATE, self.net)
+        self.numbers = {(change.trip, change.next_trip): change.change for change in read_changes(self.net)}
+        for name in self.feeds:
+            open(name, 'ab').close()
+
+    def drop(self, given_up: list[Connection]) -> None:
+        with open(self.room, 'a', encoding='ascii') as file:
+            file.writelines(f'drop {self.numbers[one.bound.before.train, one.bound.after.train]}\n' for one in given_up)
+
+
+def minute(files: Files, answer: Answer, world: World, come: Played) -> None:
+    """Plays what the world tells now: in, answered, out, and compared."""
+    given_up = world.decide()
+    files.drop(given_up)
+    if files.is_live:
+        answer(files.net, files.feeds, files.text)
+    write_all(files.folder, {'in.pb': encode(message_of(world))})
+    began = time.process_time()
+    said = call(gtfs_rt_in.main, files.net, files.feed, files.heard, *files.known)
+    answered = answer(files.net, files.feeds, files.text)
+    call(gtfs_rt_out.main, files.net, *answered, files.out)
+    come.slowest = max(come.slowest, time.process_time() - began)
+    told = [*([said.strip()] if said else []), *differences(world, seen(files.out))]
+    for line in told[:SHOWN]:
+        print(f'{clock(world.now)}: {line}')
+    come.minutes += 1
+    come.calls += len(world.scheduled)
+    come.differ += len(told)
+    come.dropped += len(given_up)
+
+
+def played(answer: Answer, world: World, timetable: dict[str, str], folder: str, until: int, every: int = 60,
+           is_live: bool = False) -> Played:
+    """Plays a morning minute by minute, or in longer steps, each by the tools and an answer to the feeds."""
+    files, come = Files(folder, timetable, is_live), Played()
     for now in range(BEGIN - 600, until + 1, every):
         world.go_to(now)
-        given_up = world.decide()
-        with open(feed, 'a', encoding='ascii') as file:
-            file.writelines(f'drop {numbers[one.bound.before.train, one.bound.after.train]}\n' for one in given_up)
-        write_all(folder, {'in.pb': encode(message_of(world))})
-        began = time.process_time()
-        said = call(gtfs_rt_in.main, net, feed, heard)
-        answer(net, feed, text)
-        call(gtfs_rt_out.main, net, text, out)
-        come.slowest = max(come.slowest, time.process_time() - began)
-        told = [*([said.strip()] if said else []), *differences(world, seen(out))]
-        for line in told[:SHOWN]:
-            print(f'{clock(now)}: {line}')
-        come.minutes += 1
-        come.calls += len(world.scheduled)
-        come.differ += len(told)
-        come.dropped += len(given_up)
-    with open(feed, encoding='ascii') as file:
-        come.lines = file.read().splitlines()
+        minute(files, answer, world, come)
+    come.lines = [line for name in files.feeds for line in read(name).decode('ascii').splitlines()]
     return come
 
 
 def by_program(name: str) -> Answer:
-    def answer(net: str, feed: str, text: str) -> None:
+    """A run of all lines so far."""
+    def answer(net: str, feeds: list[str], text: str) -> list[str]:
         with open(text, 'wb') as file:
-            subprocess.run([name, 'run', net, feed], stdout=file, stderr=subprocess.DEVNULL, check=True)
+            subprocess.run([name, 'run', net, *feeds], stdout=file, stderr=subprocess.DEVNULL, check=True)
         subprocess.run([name, 'check', net, text], stdout=subprocess.DEVNULL, check=True)
+        return [text]
     return answer
+
+
+class Living:
+    """A server that runs all morning over two feeds, and is killed and started again after so many minutes."""
+
+    def __init__(self, name: str, minutes: int = 30) -> None:
+        self.name, self.minutes = name, minutes
+        self.count = self.starts = 0
+        self.server: Optional[Server] = None
+
+    def answer(self, net: str, feeds: list[str], text: str) -> list[str]:
+        if self.server is None:
+            self.server = Server(self.name, net, os.path.join(os.path.dirname(text), STORE), feeds)
+        if self.count % self.minutes == 0:
+            self.server.kill()
+            self.server.start()
+            self.starts += 1
+        self.count += 1
+        self.server.wait_for([len(read(feed).splitlines()) for feed in feeds])
+        return ['--dispatcher', self.name, self.server.store]
+
+    def end(self) -> None:
+        """Ends the day, whose text is to be good."""
+        if self.server is not None:
+            self.server.stop()
+            subprocess.run([self.name, 'check', self.server.net, self.server.text], stdout=subprocess.DEVNULL, check=True)
 
 
 def report(world: World, come: Played) -> Iterator[str]:
@@ -518,14 +577,25 @@ def main() -> int:
     words = command_line(__doc__)
     words.add_argument('dispatcher', metavar='DISPATCHER', help='the built program')
     words.add_argument('folder', nargs='?', metavar='FOLDER', help='where the files stay')
+    words.add_argument('--live', action='store_true', help='by a server that runs all morning')
     words.add_argument('--number', type=whole_between(0, 999_999_999), default=1, metavar='S', help='from which delays are drawn (1)')
     words.add_argument('--until', type=time_of_day, default=10 * 3600, metavar='TIME', help='the last minute (10:00)')
     given = words.parse_args()
     world, timetable = world_of(given.number)
+    name = os.path.abspath(given.dispatcher)
+    living = Living(name)
     with tempfile.TemporaryDirectory() as other:
-        come = played(by_program(os.path.abspath(given.dispatcher)), world, timetable, given.folder or other, given.until)
+        try:
+            answer = living.answer if given.live else by_program(name)
+            come = played(answer, world, timetable, given.folder or other, given.until, is_live=given.live)
+            living.end()
+        finally:
+            if living.server is not None:
+                living.server.kill()
     for line in report(world, come):
         print(line)
+    if given.live:
+        print(f'the server was started {living.starts} times')
     return 1 if come.differ else 0
 
 

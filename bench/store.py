@@ -26,8 +26,9 @@ from pathlib import Path
 from typing import Any, NamedTuple
 
 from here import command_line
+from journal import VERSION, read_blocks
 from measured import measured
-from store_cases import FILES, VERSION, answer, at_rest, block, read
+from store_cases import FILES, answer, at_rest, block
 
 LARGEST = 134_217_728
 BYTES = 65_536
@@ -61,7 +62,7 @@ def journal_of(blocks: int, size: int) -> bytes:
 
 def is_front(file: bytes, size: int) -> bool:
     """Whether a journal is a head and blocks of this size, with an end that is repaired."""
-    return answer(file) not in WORDS and read(file).contents[1:] == [b'x' * size] * (len(read(file).contents) - 1)
+    return answer(file) not in WORDS and read_blocks(file).contents[1:] == [b'x' * size] * (len(read_blocks(file).contents) - 1)
 
 
 @contextmanager
@@ -95,7 +96,7 @@ def wrong_ends(program: Path, top: Path) -> Iterator[End]:
             if letter in WORDS:
                 right = left == file and said == WORDS[letter]
             else:
-                right = left == at_rest(read(file).contents or [VERSION]) and said.endswith('committed 0, shown')
+                right = left == at_rest(read_blocks(file).contents or [VERSION]) and said.endswith('committed 0, shown')
             yield End(name, right, said)
     with folder_with(journal_of(0, 0)[:-1] + block(bytes(LARGEST - 40)) + b'~', top) as folder:
         file = (folder / 'journal').read_bytes()
@@ -132,7 +133,7 @@ def full_ends(program: Path, top: Path) -> Iterator[End]:
             said = run(program, folder, 9, 1000, preexec_fn=limit_files(3500), restore_signals=stays)
             left = (folder / 'journal').read_bytes()
             again = run(program, folder, 1, 1000)
-            right = is_front(left, 1000) and len(read(left).contents) == 4 and (stays or 'failed' in said)
+            right = is_front(left, 1000) and len(read_blocks(left).contents) == 4 and (stays or 'failed' in said)
             right = right and (folder / 'journal').read_bytes() == journal_of(4, 1000)
             yield End(name, right, f'{said}; then {again}')
 
@@ -149,8 +150,8 @@ def killed_ends(program: Path, top: Path, kills: int) -> Iterator[End]:
             journal = folder / 'journal'
             left = journal.read_bytes() if journal.exists() else b''
             if left:
-                right = right and is_front(left, 1000) and len(read(left).contents) >= least
-                least = len(read(left).contents)
+                right = right and is_front(left, 1000) and len(read_blocks(left).contents) >= least
+                least = len(read_blocks(left).contents)
         yield End(f'killed {kills} times', right, f'{least} blocks')
 
 

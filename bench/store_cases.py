@@ -7,17 +7,13 @@ what a crash makes of the write that no sync followed. tools/tests compares the 
 """
 from __future__ import annotations
 
-import re
 from collections.abc import Callable, Iterable
 from typing import NamedTuple
 
 from here import command_line
+from journal import VERSION, read_blocks
 
-VERSION = b'dm-store 1\n'
 CLOSED = b'~'
-
-# How the front of a block is spelled.
-HEAD = re.compile(rb'\+(0|[1-9][0-9]*)\n')
 
 # A head and two rounds.
 ROUNDS = (VERSION + b'penalty 3600\nplans 16\nfeeds 2\n', b'feed 1 1\n1 delay event 1 60 -> 1 ok\nfeed 2 1\n1 cost -> 1 cost 0\n',
@@ -31,12 +27,6 @@ FILES = {
     'far-too-long': b'+11\ndm-store 1\n+99999999999999999999999\nabc~', 'closed-block': b'+11\ndm-store 1\n~3\nabc~',
     'behind-closed': b'+11\ndm-store 1\n~3\nabc+3\nabc~',
 }
-
-
-class Stands(NamedTuple):
-    """The contents of the blocks of a file, and the end behind them."""
-    contents: list[bytes]
-    end: bytes
 
 
 class Call(NamedTuple):
@@ -67,18 +57,6 @@ def at_rest(contents: Iterable[bytes]) -> bytes:
     return b''.join(map(block, contents)) + CLOSED
 
 
-def read(file: bytes) -> Stands:
-    """What stands in a file."""
-    contents, place = [], 0
-    while head := HEAD.match(file, place):
-        length = int(head[1])
-        if head.end() + length > len(file):
-            break
-        contents.append(file[head.end():head.end() + length])
-        place = head.end() + length
-    return Stands(contents, file[place:])
-
-
 def is_crash_end(is_new: bool, end: bytes) -> bool:
     """Whether a crash may leave this end: in a new journal behind its own gate or a gate before a digit, else behind any that is shut."""
     if len(end) <= 1:
@@ -90,7 +68,7 @@ def is_crash_end(is_new: bool, end: bytes) -> bool:
 
 def answer(file: bytes) -> str:
     """What a recovery comes to: the number of blocks, or the letter of a refusal."""
-    contents, end = read(file)
+    contents, end = read_blocks(file)
     if not contents:
         return '0' if is_crash_end(True, end) else 'n'
     if not contents[0].startswith(VERSION):
@@ -132,7 +110,7 @@ def calls_of_commit(contents: list[bytes], content: bytes) -> list[Call]:
 
 def calls_of_recovery(file: bytes) -> list[Call]:
     """The calls that repair the end of a file, the first of which reads it."""
-    end = len(file) - len(read(file).end)
+    end = len(file) - len(read_blocks(file).end)
     return [Call(), Call(cut=end), Call(syncs=True), Call(end, CLOSED), Call(syncs=True)]
 
 

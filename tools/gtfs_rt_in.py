@@ -1,15 +1,16 @@
 #!/usr/bin/env python3
 """Reads TripUpdates and VehiclePositions of GTFS-Realtime, and appends what they tell to a feed:
 
-    python3 tools/gtfs_rt_in.py NET FEEDFILE SOURCE.. [--text TEXT] [--zone ZONE] [--every SECONDS]
+    python3 tools/gtfs_rt_in.py NET FEEDFILE SOURCE.. [--text KNOWN [--number K]] [--zone ZONE] [--every SECONDS]
 
 NET is a network that from_gtfs.py made. FEEDFILE is a feed of the program, which may be missing; a SOURCE is a file with a FeedMessage,
 or the URL (http, https) of one. Sources are read once, in their order; with --every again and again, so many seconds apart.
 
-What is told is set beside what the network shows after the entries of TEXT, the text of a run, and after the lines of FEEDFILE. A call
-that is told later than it would be by all that stands before it is a source delay, `delay event E S`; so a train that is late at each
-later call has one. A source delay that is larger than what is told now is put down. A call that is past is `pass E T`, and the time of
-the header is `now T`.
+What is told is set beside what the network shows after the entries of KNOWN and after the lines of FEEDFILE. KNOWN is the text of a
+run; or the folder of a live server's store, of which FEEDFILE is feed K: then the entries are those that have come whenever sources are
+read, and the lines those that are not answered yet. A call that is told later than it would be by all that stands before it is a
+source delay, `delay event E S`; so a train that is late at each later call has one. A source delay that is larger than what is told now
+is put down. A call that is past is `pass E T`, and the time of the header is `now T`.
 
 On standard error stands a line for each thing that cannot be said or that is not as it should be: calls that are skipped, trips that
 are cancelled, trips and calls that the network has not, messages that are out of order or come twice, times that fall; and what they
@@ -24,18 +25,21 @@ import time
 import urllib.request
 from collections import Counter
 from dataclasses import dataclass, field
-from typing import Iterator, Optional, Sequence
+from typing import Iterable, Iterator, Optional, Sequence
 
 from gtfs_rt_out import read_text
 from names import EventName
 from protobuf import LONGEST_FILE, BadMessage, Message, Recent, decode
-from files import BadFile, in_one_line
+from files import BadFile, in_one_line, text_of
 from giv import read_network
+from journal import Journal
 from network import Network
-from railway import LARGEST_DELAY, LARGEST_PASSED, Rows, active_activities, apply, push, refusal_at_once, waits_and_spans
+from railway import (
+    LARGEST_DELAY, LARGEST_PASSED, Message as Entered, Rows, active_activities, apply, push, refusal_at_once, waits_and_spans,
+)
 from realtime import NO_DATA, SKIPPED, STOPPED_AT, TRIPS_GONE, TRIPS_TAKEN, Named, by_key, key_of, read_named
-from runtext import due_items
-from words import command_line
+from runtext import MOST_FEEDS, due_items
+from words import command_line, whole_between
 
 TIMEOUT = 30
 QUESTIONS = ('time', 'cost', 'read', 'plan', 'adopt')
@@ -253,18 +257,41 @@ class Listener:
 # ---- Files and sources
 
 
-def known_rows(network: Network, feed: str, text: Optional[str]) -> Rows:
-    """The rows after the entries of a text and the lines of a feed, of which those that are refused say nothing."""
-    rows = Rows(network)
-    messages = [entry.message for entry in read_text(text, len(network.events)).journal] if text else []
-    if os.path.exists(feed):
-        with open(feed, encoding='latin-1', newline='') as file:
-            messages += [said for _, said in due_items(file.read()) if said is not None]
-    for message in messages:
-        is_said = message[0] not in QUESTIONS or message[0] == 'adopt' and len(message) > 1
-        if is_said and refusal_at_once(network, rows, message) is None:
-            apply(network, rows, message)
-    return rows
+class Known:
+    """What is known of a network: the entries of a text, or those of a store as they come, and behind them the lines of a feed; of these
+    the ones that are refused say nothing, and of a store's feed the ones that it has answered stand in its entries."""
+
+    def __init__(self, network: Network, feed: str, source: Optional[str] = None, number: int = 1) -> None:
+        self.network, self.feed, self.number = network, feed, number
+        self.rows = Rows(network)
+        self.journal = Journal(source) if source and os.path.isdir(source) else None
+        if source and not self.journal:
+            self.enter(self.rows, [entry.message for entry in read_text(source, len(network.events)).journal])
+
+    def enter(self, rows: Rows, messages: Iterable[Entered]) -> None:
+        for message in messages:
+            if refusal_at_once(self.network, rows, message) is None:
+                apply(self.network, rows, message)
+
+    def answered(self) -> int:
+        """How many lines of the feed its store has answered."""
+        if self.journal is None:
+            return 0
+        self.enter(self.rows, [entry.message for entry in self.journal.read()])
+        if not 1 <= self.number <= len(self.journal.logs):
+            raise BadFile(self.journal.name, None, f'it is of {len(self.journal.logs)} feeds, and has no feed {self.number}')
+        log = self.journal.logs[self.number - 1]
+        return log[-1].line if log else 0
+
+    def now(self) -> Rows:
+        """The rows by all that is known now."""
+        answered = self.answered()
+        rows = self.rows.copy()
+        if os.path.exists(self.feed):
+            behind = text_of(self.feed).split('\n')[answered:]
+            said = [said for _, said in due_items('\n'.join(behind)) if said is not None]
+            self.enter(rows, [one for one in said if one[0] not in QUESTIONS])
+        return rows
 
 
 def read_source(source: str) -> bytes:
@@ -313,16 +340,20 @@ def main(given: Optional[Sequence[str]] = None) -> int:
     words.add_argument('net', metavar='NET', help='the folder of a network, with its names')
     words.add_argument('feed', metavar='FEEDFILE', help='the feed to which lines are appended')
     words.add_argument('sources', metavar='SOURCE', nargs='+', help='files, or URLs of http and https')
-    words.add_argument('--text', metavar='TEXT', help='the text of a run, which says what is known besides')
+    words.add_argument('--text', metavar='KNOWN', help='the text of a run, or the folder of a store, which says what is known besides')
+    words.add_argument('--number', metavar='K', type=whole_between(1, MOST_FEEDS), default=1, help='which feed of a store FEEDFILE is (1)')
     words.add_argument('--zone', metavar='ZONE', help='the time zone, as Europe/Berlin (that of Day.csv)')
     words.add_argument('--every', metavar='SECONDS', type=int, help='read the sources again, so many seconds apart')
     read = words.parse_args(given)
     try:
         network = read_network(read.net)
-        listener = Listener(network, read_named(read.net, read.zone), known_rows(network, read.feed, read.text), Said())
+        known = Known(network, read.feed, read.text, read.number)
+        listener = Listener(network, read_named(read.net, read.zone), known.now(), Said())
         could = [listen(listener, read.feed, source) for source in read.sources]
         while read.every:
             time.sleep(read.every)
+            if known.journal:
+                listener.rows = known.now()
             for source in read.sources:
                 listen(listener, read.feed, source)
     except BadFile as error:

@@ -1,15 +1,16 @@
 #!/usr/bin/env python3
 """Writes the disposition timetable of a run as GTFS-Realtime:
 
-    python3 tools/gtfs_rt_out.py NET TEXT OUT.pb [--zone ZONE] [--now SECONDS] [--serve PORT] [--every SECONDS]
+    python3 tools/gtfs_rt_out.py NET SOURCE OUT.pb [--zone ZONE] [--now SECONDS] [--serve PORT] [--every SECONDS]
 
-NET is a network that from_gtfs.py made, and TEXT the text of a run over it. OUT.pb gets a FeedMessage, by a rename: a TripUpdate for
-each train, with the delay and the time of each call, or NO_DATA where nothing has been told of the train and no other one holds it up;
-and an Alert for each change that is dropped and whose train has not left. Its time is that of the run's last `now`, or that of --now
-(seconds of the world), or else that of this computer. The status is 0; or 2, and no file is written, where a file is not as it should
-be.
+NET is a network that from_gtfs.py made. SOURCE is the text of a run over it; or the folder in which a live server keeps its store, as
+it stands beside the server: then PROGRAM of --dispatcher prints its text (by default `dispatcher` on the search path). OUT.pb gets a
+FeedMessage, by a rename: a TripUpdate for each train, with the delay and the time of each call, or NO_DATA where nothing has been told
+of the train and no other one holds it up; and an Alert for each change that is dropped and whose train has not left. Its time is that
+of the run's last `now`, or that of --now (seconds of the world), or else that of this computer. The status is 0; or 2, and no file is
+written, where a file is not as it should be.
 
-With --every TEXT is looked at again, so many seconds apart, and where it is another one OUT.pb is written anew; a text that is not
+With --every SOURCE is looked at again, so many seconds apart, and where it is another one OUT.pb is written anew; a text that is not
 whole yet leaves OUT.pb as it is. With --serve OUT.pb is handed out besides over HTTP, on this computer alone (127.0.0.1); every ten
 seconds where --every says nothing else.
 """
@@ -26,18 +27,19 @@ from typing import Iterator, NamedTuple, Optional, Sequence
 from files import BadFile, in_one_line, write_all
 from find import Found, all_changes
 from gtfs import seconds_of
+from journal import journal_of, text_of
 from protobuf import Message, encode
 from giv import read_network
 from names import EventName
 from realtime import NO_DATA, SCHEDULED, Named, descriptor, read_named
 from runtext import Bad, Run, read_run
 from to_gtfs import never_falling
-from words import command_line, whole_between
+from words import add_delays, command_line, whole_between
 
 VERSION, FULL_DATASET = '2.0', 0
 UNKNOWN_CAUSE, OTHER_EFFECT = 1, 7
 
-# How many seconds a text is left alone that is handed out.
+# How many seconds a source is left alone that is handed out.
 USUAL = 10
 
 # When a file was written last, and its length.
@@ -48,9 +50,15 @@ def read_text(name: str, events: int) -> Run:
     """The run of a text; BadFile where it is no whole one."""
     try:
         with open(name, 'rb') as file:
-            return read_run(file.read(), events)
+            return run_in(name, file.read(), events)
     except OSError as error:
         raise BadFile(name, None, error.strerror or 'cannot be read') from error
+
+
+def run_in(name: str, data: bytes, events: int) -> Run:
+    """The run that bytes of this name tell."""
+    try:
+        return read_run(data, events)
     except Bad as error:
         line, kind = error.args
         raise BadFile(name, line, f'this is no text of a run over the network ({kind})') from error
@@ -170,8 +178,14 @@ class Writer:
         self.bodies: dict[int, Body] = {}
 
     def run(self) -> Run:
-        """The run of the text."""
-        run = read_text(self.read.text, len(self.events))
+        """The run of the source: a text, or what the program prints of a store."""
+        source = self.read.source
+        if not os.path.isdir(source):
+            run = read_text(source, len(self.events))
+        else:
+            delays = [('event', self.read.event_delays), ('activity', self.read.activity_delays)]
+            options = [f'--{kind}-delays={name}' for kind, name in delays if name]
+            run = run_in(source, text_of(self.read.dispatcher, self.read.net, source, options), len(self.events))
         if not self.events <= run.times.keys():
             missing = min(self.events - run.times.keys())
             raise BadFile(os.path.join(self.read.net, 'Events.csv'), None, f'event {missing} is not of the text')
@@ -217,8 +231,8 @@ class Writer:
         write_all(os.path.dirname(self.read.out) or '.', {os.path.basename(self.read.out): data})
 
     def write_again(self, seen: Optional[State]) -> Optional[State]:
-        """Writes the message anew where the text is another one than was seen; what is seen now."""
-        now = state_of(self.read.text)
+        """Writes the message anew where the source is another one than was seen; what is seen now."""
+        now = state_of(self.read.source)
         if now != seen:
             try:
                 self.write()
@@ -259,10 +273,10 @@ def serving(out: str, port: int) -> HTTPServer:
     return server
 
 
-def state_of(name: str) -> Optional[State]:
-    """What tells one state of a file from another."""
+def state_of(source: str) -> Optional[State]:
+    """What tells one state of a text, or of a store's journal, from another."""
     try:
-        found = os.stat(name)
+        found = os.stat(journal_of(source) if os.path.isdir(source) else source)
     except OSError:
         return None
     return found.st_mtime_ns, found.st_size
@@ -271,15 +285,17 @@ def state_of(name: str) -> Optional[State]:
 def main(given: Optional[Sequence[str]] = None) -> int:
     words = command_line(__doc__, allow_abbrev=False)
     words.add_argument('net', metavar='NET', help='the folder of a network, with its names')
-    words.add_argument('text', metavar='TEXT', help='the text of a run over it')
+    words.add_argument('source', metavar='SOURCE', help='the text of a run over it, or the folder of a store')
     words.add_argument('out', metavar='OUT.pb', help='the file that is written')
     words.add_argument('--zone', metavar='ZONE', help='the time zone, as Europe/Berlin (that of Day.csv)')
     words.add_argument('--now', metavar='SECONDS', type=int, help='the time of the message')
     words.add_argument('--serve', metavar='PORT', type=whole_between(0, 65_535), help='hand OUT.pb out on this port; 0 for a free one')
-    words.add_argument('--every', metavar='SECONDS', type=whole_between(1, 86_400), help='look at TEXT again, so many seconds apart')
+    words.add_argument('--every', metavar='SECONDS', type=whole_between(1, 86_400), help='look at SOURCE again, so many seconds apart')
+    words.add_argument('--dispatcher', metavar='PROGRAM', default='dispatcher', help='what prints the text of a store (dispatcher)')
+    add_delays(words)
     read = words.parse_args(given)
     try:
-        seen = state_of(read.text)
+        seen = state_of(read.source)
         writer = Writer(read)
         writer.write()
         if read.serve is not None:

@@ -345,11 +345,16 @@ def read_entry(text: Text) -> Entry:
     return Entry(feed, line, text.sure(read_message(words[6:])))
 
 
-def read_log(text: Text, version: int, feed: int) -> FeedLog:
-    """The log of a feed."""
+def read_items(text: Text, version: int, feed: int) -> list[Item]:
+    """The items of a feed, behind the line that tells how many they are."""
     number, count = text.read('feed', NUMBER, NUMBER)
     text.demand(number == feed, 'form')
-    items = [read_whole_item(text, version) for _ in range(count)]
+    return [read_whole_item(text, version) for _ in range(count)]
+
+
+def read_log(text: Text, version: int, feed: int) -> FeedLog:
+    """The log of a feed."""
+    items = read_items(text, version, feed)
     words = text.words()
     text.demand(words in (['end'], ['fault'], ['long']), 'form')
     return FeedLog(items, words[0])

@@ -42,6 +42,12 @@ class Dispatcher(unittest.TestCase):
         ran = self.run_it('run', 'day/net', '--penalty=10', 'a feed')
         self.assertEqual((ran.stdout, ran.stderr, ran.returncode), ('run\nday/net\n--penalty=10\na feed\n', '', 3))
 
+    def test_live_server_is_not_tried_without_the_program(self) -> None:
+        self.echo(self.top / 'bin/rt')
+        ran = self.run_it('serve', 'day/net', 'store', 'day/feed')
+        said = 'dispatcher: `serve` keeps files, and needs the proved program, which is not built here\n'
+        self.assertEqual((ran.stdout, ran.stderr, ran.returncode), ('', said, 127))
+
     def test_link_in_another_folder(self) -> None:
         self.echo(self.top / 'crates/dispatcher/out/dispatcher')
         (self.top / 'links').mkdir()

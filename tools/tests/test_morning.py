@@ -38,13 +38,14 @@ def rows_after(net: Network, feed: str) -> tuple[Any, Rows]:
     return messages, rows
 
 
-def answer(folder: str, feed: str, text: str) -> None:
+def answer(folder: str, feeds: list[str], text: str) -> list[str]:
     """Writes the text of a run of a feed without the program."""
     net = read_network(folder)
-    messages, rows = rows_after(net, feed)
+    messages, rows = rows_after(net, feeds[0])
     times = sound_times(net, rows)
     with open(text, 'w', encoding='ascii') as file:
         file.writelines(f'{line}\n' for line in lines_of_run(net, messages, times, cost_of(net, rows, times, 0)))
+    return [text]
 
 
 class Simulator(unittest.TestCase):
@@ -82,11 +83,11 @@ class Simulator(unittest.TestCase):
     def test_what_differs_is_told(self) -> None:
         world, timetable = morning.world_of(1)
 
-        def forgets(folder: str, feed: str, text: str) -> None:
-            lines = [line for line in read(feed).splitlines() if not line.startswith('delay')]
-            with open(feed, 'w', encoding='ascii') as file:
+        def forgets(folder: str, feeds: list[str], text: str) -> list[str]:
+            lines = [line for line in read(feeds[0]).splitlines() if not line.startswith('delay')]
+            with open(feeds[0], 'w', encoding='ascii') as file:
                 file.writelines(f'{line}\n' for line in lines)
-            answer(folder, feed, text)
+            return answer(folder, feeds, text)
 
         with tempfile.TemporaryDirectory() as folder, open(os.devnull, 'w', encoding='ascii') as nowhere:
             printed, sys.stdout = sys.stdout, nowhere

@@ -251,7 +251,7 @@ class Again(Written):
     def test_what_is_told_again_is_as_a_new_process_tells_it(self) -> None:
         self.written(('delay event', 1, 60), ('now', 28000))
         text, out = os.path.join(self.folder, 'run', 'text'), os.path.join(self.folder, 'out.pb')
-        writer = gtfs_rt_out.Writer(argparse.Namespace(net=self.net, text=text, out=out, zone=None, now=None))
+        writer = gtfs_rt_out.Writer(argparse.Namespace(net=self.net, source=text, out=out, zone=None, now=None))
         writer.write()
         late: Entered = ('delay event', 1, 120)
         days: list[list[Entered]] = [
@@ -266,7 +266,7 @@ class Again(Written):
     def test_is_written_anew_where_the_text_is_another_one(self) -> None:
         self.written(('delay event', 1, 60), ('now', 28000))
         text, out = os.path.join(self.folder, 'run', 'text'), os.path.join(self.folder, 'out.pb')
-        writer = gtfs_rt_out.Writer(argparse.Namespace(net=self.net, text=text, out=out, zone=None, now=None))
+        writer = gtfs_rt_out.Writer(argparse.Namespace(net=self.net, source=text, out=out, zone=None, now=None))
         seen = writer.write_again(None)
         os.remove(out)
         self.assertEqual(writer.write_again(seen), seen)

@@ -10,7 +10,8 @@ from samples import TOP
 
 sys.path.insert(0, os.path.join(TOP, 'bench'))
 
-from store_cases import ROUNDS, VERSION, answer, at_rest, lines, read
+from journal import VERSION, read_blocks
+from store_cases import ROUNDS, answer, at_rest, lines
 
 
 class Journals(unittest.TestCase):
@@ -19,8 +20,8 @@ class Journals(unittest.TestCase):
         self.assertEqual(stored.splitlines(), lines())
 
     def test_blocks_are_read_back(self) -> None:
-        self.assertEqual(read(at_rest(ROUNDS)).contents, list(ROUNDS))
-        self.assertEqual(read(at_rest([b''])).contents, [b''])
+        self.assertEqual(read_blocks(at_rest(ROUNDS)).contents, list(ROUNDS))
+        self.assertEqual(read_blocks(at_rest([b''])).contents, [b''])
 
     def test_block_behind_a_closed_gate_does_not_count(self) -> None:
         journal = at_rest([VERSION])

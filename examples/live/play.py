@@ -1,0 +1,190 @@
+#!/usr/bin/env python3
+"""Plays a morning into a live server: python3 play.py DISPATCHER [FOLDER] [--pace=120]
+
+The railway is that of ../day: forty trains, whose delays two control rooms tell when their events are scheduled. Each minute of the
+morning, from 6:00 to 7:40, the rooms tell what has passed and what time it is; trains run as the server says. A third feed asks for a
+plan each twenty minutes and adopts it. At 7:00 the server is killed, and started again. A minute of the morning takes half a second;
+--pace says how many seconds of the morning go by in one.
+
+Printed is what the server is told, but for what passes, with its answer. At the end the server is told to end, its text is judged by
+`check`, each line must have been answered once, whatever a reply file showed when the server was killed must stand there still, and
+the times are compared with those of a second reading of the rules. The status is 1 where something differs. With a FOLDER, which must
+not be there yet, all files stay there: look into FOLDER/store while the morning goes on.
+"""
+from __future__ import annotations
+
+import os
+import shutil
+import statistics
+import subprocess
+import sys
+import tempfile
+import time
+from typing import Iterator
+
+HERE = os.path.dirname(os.path.abspath(__file__))
+DAY = os.path.join(HERE, '..', 'day')
+sys.path.append(os.path.join(HERE, '..', '..', 'tools'))
+
+from delays import Told  # noqa: E402
+from files import BadFile  # noqa: E402
+from giv import read_network  # noqa: E402
+from journal import Journal  # noqa: E402
+from network import Network  # noqa: E402
+from playing import Played  # noqa: E402
+from railway import Message, Rows, sound_times  # noqa: E402
+from runtext import due_items, heard, read_run  # noqa: E402
+from scene import clock_time  # noqa: E402
+from serving import Server, read  # noqa: E402
+from words import add_program, command_line, whole_between  # noqa: E402
+
+BEGIN, END, KILLED, STEP, BETWEEN_PLANS = 6 * 3600, 7 * 3600 + 2400, 7 * 3600, 60, 1200
+NORTH, SOUTH, PLANS = range(3)
+ROOMS = ['north', 'south', 'plans']
+LAST_STOP_OF_NORTH = 44
+NODES = 4096
+
+
+def event_of(network: Network, message: Message) -> int:
+    """The place of the event that a delay is told of: of an activity that at which it begins."""
+    kind, number = message[:2]
+    return network.event_place[number] if kind == 'delay event' else network.tails[network.activity_place[number]]
+
+
+def delays_told(network: Network) -> list[Told]:
+    """The delays of the two rooms, each when its event is scheduled."""
+    told = []
+    for room in ROOMS[:2]:
+        for line in read(os.path.join(DAY, room)).decode().splitlines():
+            message = heard(line)
+            if message and message[0].startswith('delay'):
+                told.append(Told(network.events[event_of(network, message)].time, message))
+    return sorted(told, key=lambda one: one.time)
+
+
+class Morning:
+    """A morning, the server that answers it, and what the trains do."""
+
+    def __init__(self, program: str, folder: str) -> None:
+        net = os.path.join(folder, 'net')
+        shutil.copytree(os.path.join(DAY, 'net'), net)
+        feeds = [os.path.join(folder, room) for room in ROOMS]
+        self.server = Server(program, net, os.path.join(folder, 'store'), feeds, ['--boards=4,48'])
+        self.network = read_network(net)
+        self.played = Played(self.network, Rows(self.network), clock=True, ahead=delays_told(self.network))
+        self.lines: list[list[str]] = [[], [], []]
+        self.shown: list[bytes] = []
+        self.journal = Journal(self.server.store)
+        self.took: list[float] = []
+
+    def room_of(self, line: str) -> int:
+        """Which room tells a line: that of the event's stop; the north has the clock."""
+        message = heard(line)
+        assert message is not None, line
+        if message[0] == 'now':
+            return NORTH
+        event = message[1] if message[0] == 'pass' else self.network.events[event_of(self.network, message)].id
+        return NORTH if self.network.events[self.network.event_place[event]].stop <= LAST_STOP_OF_NORTH else SOUTH
+
+    def told(self, now: int) -> list[list[str]]:
+        """What is told at a time, by feed."""
+        count, told = len(self.played.lines), [[], [], []]  # type: tuple[int, list[list[str]]]
+        self.played.tell(now)
+        for line in self.played.lines[count:]:
+            told[self.room_of(line)].append(line)
+        if (now - BEGIN) % BETWEEN_PLANS == 0 and now > BEGIN:
+            told[PLANS] = [f'plan {NODES}', 'adopt', 'cost']
+        return told
+
+    def step(self, now: int) -> None:
+        """Tells what is known at a time, and waits for the answers. The trains follow what was adopted."""
+        begun = time.perf_counter()
+        for feed, lines in enumerate(self.told(now)):
+            self.lines[feed] += lines
+            if lines:
+                self.server.append(feed, lines)
+        self.server.wait_for([len(lines) for lines in self.lines])
+        self.took.append(time.perf_counter() - begun)
+        before = [len(log) for log in self.journal.logs] or [0, 0, 0]
+        for entry in self.journal.read():
+            for decision in entry.message[1] if entry.message[0] == 'adopt' else ():
+                self.played.rows.decide(self.network, decision)
+        self.show(now, before)
+
+    def show(self, now: int, before: list[int]) -> None:
+        """Prints the answers behind so many of each feed, but for those to what passes."""
+        for room, log, count in zip(ROOMS, self.journal.logs, before):
+            for item in log[count:]:
+                if item.said and item.answer and item.said[0] not in ('pass', 'now'):
+                    plan = item.answer.value if item.answer.kind == 'plan' else None
+                    value = f' {plan.mark} cost {plan.cost} bound {plan.bound}' if plan else f' {item.answer.value or ""}'.rstrip()
+                    print(f'{clock_time(now)} {room}: {" ".join(map(str, item.said))} -> {item.answer.kind}{value}', flush=True)
+
+    def restart(self, now: int) -> None:
+        """Kills the server, and starts it again."""
+        self.server.kill()
+        self.shown = [read(self.server.reply(feed)) for feed in range(len(ROOMS))]
+        self.server.start()
+        print(f'{clock_time(now)} the server was killed, and started again', flush=True)
+
+    def faults(self) -> Iterator[str]:
+        """What is not as it should be, once the morning has ended."""
+        text = self.server.stop()
+        checked = subprocess.run([self.server.program, 'check', self.server.net, self.server.text], capture_output=True, text=True)
+        print(f'check: {checked.stdout.strip()}')
+        if checked.returncode:
+            yield f'check says: {checked.stdout.strip()}'
+        run = read_run(text, len(self.network.events))
+        for feed, room in enumerate(ROOMS):
+            due = due_items(read(self.server.feeds[feed]).decode())
+            if [(item.line, item.said) for item in run.logs[feed].items] != due:
+                yield f'{room}: {len(due)} lines were told, and {len(run.logs[feed].items)} are answered'
+            if not read(self.server.reply(feed)).startswith(self.shown[feed]):
+                yield f'{room}: a reply that was shown is no longer there'
+        times = dict(zip((event.id for event in self.network.events), sound_times(self.network, self.played.rows)))
+        differing = sum(run.times[event] != at for event, at in times.items())
+        print(f'{sum(map(len, self.lines))} lines, {len(run.journal)} entries, {differing} of {len(times)} times differ')
+        if differing:
+            yield f'{differing} times are not those of the second reading'
+
+
+def played(morning: Morning, pace: int) -> list[str]:
+    """Plays the morning, so many seconds of it in one; what is not as it should be."""
+    morning.server.start()
+    begun = time.monotonic()
+    for now in range(BEGIN, END + 1, STEP):
+        time.sleep(max(0.0, begun + (now - BEGIN) / pace - time.monotonic()))
+        if now == KILLED:
+            morning.restart(now)
+        morning.step(now)
+    faults = list(morning.faults())
+    print(f'what a minute told was answered in {1000 * statistics.median(morning.took):.0f} ms in the middle, '
+          f'{1000 * max(morning.took):.0f} at the worst')
+    return faults
+
+
+def main() -> int:
+    words = command_line(__doc__)
+    add_program(words)
+    words.add_argument('folder', metavar='FOLDER', nargs='?', help='where files go; by default a folder that is taken away at the end')
+    words.add_argument('--pace', type=whole_between(1, 1_000_000), default=120, metavar='N', help='seconds of the morning in one (120)')
+    given = words.parse_args()
+    folder = os.path.abspath(given.folder or tempfile.mkdtemp(prefix='live-'))
+    morning = None
+    try:
+        morning = Morning(given.program, folder)
+        faults = played(morning, given.pace)
+    except BadFile as bad:
+        faults = [str(bad)]
+    finally:
+        if morning is not None:
+            morning.server.kill()
+        if not given.folder:
+            shutil.rmtree(folder)
+    for fault in faults:
+        print(fault)
+    return 1 if faults else 0
+
+
+if __name__ == '__main__':
+    sys.exit(main())
